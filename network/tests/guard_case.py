@@ -38,7 +38,6 @@ class GuardCase(LedgerCase):
         self.gateway = Gateway(self.network, self.folder, Options(challenge=0, probe=60, **options))
         self.addAsyncCleanup(self.gateway.close)
         self.enterContext(mock.patch.object(self.gateway.publisher.writer, "store", self.store))
-        self.enterContext(mock.patch.object(self.gateway.publisher.writer, "store_bundle", self.store_bundle))
         self.enterContext(mock.patch.object(self.gateway.reader, "must_stand", lambda _: None))
         self.enterContext(mock.patch.object(self.gateway.reader, "length_alone", mock.AsyncMock(return_value=None)))
         self.port = await self.gateway.listen(host)
@@ -51,9 +50,6 @@ class GuardCase(LedgerCase):
         self.files[name] = data
         told = {"blobId": name, "size": len(data), "pieces": max(1, -(-len(data) // PIECE)), "endEpoch": epochs}
         return told | {"certificate": {"epoch": 0, "count": 4}, "alreadyCertified": self.was_there}
-
-    async def store_bundle(self, kind: str, stream: AsyncIterator[bytes], epochs: int) -> dict[str, Any]:
-        return await self.store(stream, epochs) | {"members": []}
 
     async def fetch(self, name: bytes) -> bytes:
         return self.files[name.hex()]
@@ -71,6 +67,12 @@ class GuardCase(LedgerCase):
             kind = said.headers.get("Content-Type", "")
             told = await said.json() if kind.startswith("application/json") and body else body
             return said.status, {name.lower(): text for name, text in said.headers.items()}, told
+
+    def form(self, *files: bytes) -> aiohttp.FormData:
+        made = aiohttp.FormData()
+        for data in files:
+            made.add_field("file", data, filename="name")
+        return made
 
     async def put(self, data: bytes = b"data", epochs: int = 1, **words: Any) -> int:
         return (await self.ask("PUT", f"/v1/blobs?epochs={epochs}", data=data, **words))[0]

@@ -12,8 +12,8 @@ from unittest import mock
 
 import aiohttp
 from guard_case import GuardCase, other_address
-from harness import HERE
-from walrus.network import connections, shares, tokens
+from harness import HERE, usage_of
+from walrus.network import chunks, connections, shares, tokens
 from walrus.network.limits import Bucket, Limits, key_of
 from walrus.network.certificates import make_authority
 from walrus.network.local import make_certificate
@@ -63,6 +63,22 @@ class Own(GuardCase):
             self.assertEqual(await self.put(headers={"Host": host, "Origin": "https://blobs.example"}), 201)
         self.assertEqual(len(self.stored), 6)
 
+    async def test_another_name_for_this_machine_reads_files_alone(self) -> None:
+        await self.start(names=["blobs.example"])
+        await self.put()
+        [name] = self.files
+        own = f"127.0.0.1:{self.port}", f"localhost:{self.port}", "blobs.example"
+        other = "evil.example", f"evil.example:{self.port}", ""
+        for path in ("/v1/blobs", "/v1/status", f"/v1/status/{name}", "/metrics"):
+            for method in ("GET", "HEAD"):
+                found = [(await self.ask(method, path, headers={"Host": it}))[0] for it in own + other]
+                self.assertEqual((found[3:], 421 in found[:3]), ([421] * 3, False), path)
+        for path in (f"/v1/blobs/{name}", "/", "/livez"):
+            self.assertEqual((await self.ask("GET", path, headers={"Host": "evil.example"}))[0], 200, path)
+        for headers in (self.token("alice"), self.token("bob", "read")):
+            self.assertEqual((await self.ask("GET", "/v1/blobs", headers=headers | {"Host": "evil.example"}))[0], 200)
+        self.assertEqual((await self.ask("GET", "/v1/blobs", headers={"Host": "evil.example"}))[0], 421)
+
     async def test_what_a_page_from_elsewhere_may_read(self) -> None:
         await self.start()
         await self.put()
@@ -100,6 +116,9 @@ class Own(GuardCase):
         await self.start(proxies=["127.0.0.1"])
         self.assertEqual(await self.put(headers={"X-Forwarded-For": "127.0.0.1, 203.0.113.9"}), 403)
         self.assertEqual(await self.put(headers={"X-Forwarded-For": "203.0.113.9, 127.0.0.1"}), 201)
+        for told, status in ((["127.0.0.1", "203.0.113.9"], 403), (["203.0.113.9", "192.0.2.1, 127.0.0.1"], 201)):
+            headers: Any = [("X-Forwarded-For", it) for it in told]  # a server adds its own behind what came
+            self.assertEqual(await self.put(headers=headers), status)
 
 
 class Customers(GuardCase):
@@ -206,6 +225,31 @@ class Customers(GuardCase):
         self.assertEqual(await self.put(b"", headers=alice), 403)  # a restart forgets nothing
         with mock.patch.object(type(self.network.ledger), "writing_epoch", 1):
             self.assertEqual(await self.put(b"", headers=alice), 201)
+
+    async def test_an_upload_counts_where_it_began(self) -> None:
+        self.token("alice", bytes=1_000)
+        alice, kept = tokens.read_tokens(self.folder / "tokens.json")["alice"], shares.Shares(self.folder / "used")
+        self.addCleanup(kept.close)
+        charge = shares.Charge(kept, alice, 0)
+        for size in (600, 400):
+            charge.add(size)
+            self.assertTrue(kept.take(alice, 1, 1, 1))  # others begin in the next epoch meanwhile
+        for size, epoch in ((1, 0), (999, 1)):
+            self.assertFalse(kept.take(alice, epoch, size, 1))
+        self.assertTrue(kept.take(alice, 5_000, 1, 1))
+        self.assertFalse(kept.take(alice, 0, 1, 1))  # what is dropped does not begin anew
+        self.assertEqual(kept.base.execute("SELECT name, epoch FROM used").fetchall(), [("alice", 5_000)])
+
+    async def test_a_bundle_costs_its_own_length(self) -> None:
+        alice = self.token("alice", bytes=2_500, blobs=9)
+        await self.start()
+        words = {"headers": alice}
+        status, _, told = await self.ask("POST", "/v1/bundles?epochs=1", data=self.form(b"1", bytes(999)), **words)
+        self.assertEqual((status, self.stored, self.used("alice")), (403, [], (0, 0)))  # it has three columns
+        self.assertIn("of 2500 bytes", told["error"]["text"])
+        status, _, told = await self.ask("POST", "/v1/bundles?epochs=1", data=self.form(b"1", bytes(600)), **words)
+        self.assertEqual((status, self.used("alice")), (201, (len(self.stored[0]), 1)))
+        self.assertGreaterEqual(len(self.stored[0]), 3 * 600)
 
     def used(self, name: str) -> tuple[int, int]:
         made = shares.Shares(self.folder / "tokens.used")
@@ -323,6 +367,9 @@ class Impatient(GuardCase):
         self.assertEqual((headers["retry-after"], told["error"]["status"]), ("1", 429))
         await asyncio.sleep(1.1)
         self.assertEqual((await self.ask("GET", "/v1/status", headers=bob))[0], 200)
+        wrong = {"Authorization": "Bearer wrong"}
+        found = [(await self.ask("GET", "/v1/status", headers=wrong))[0] for _ in range(14)]
+        self.assertEqual((found[0], found[-1]), (401, 429))
         limits = Limits(
             5, 0
         )  # a token has its limit whatever addresses it comes from, and an address whatever it shows
@@ -365,6 +412,35 @@ class Impatient(GuardCase):
         self.assertLess(time.monotonic() - begun, 15)
         for _, writer in slow:
             writer.transport.abort()
+
+    async def test_forms_that_come_take_no_memory(self) -> None:
+        await self.start(requests=0)
+        head = b"POST /v1/bundles?epochs=1 HTTP/1.1\r\nHost: localhost:%d\r\nContent-Length: 16000000\r\n" % self.port
+        head += b"Content-Type: multipart/form-data; boundary=x\r\n\r\n"
+        part, moved, (before, _) = bytes(1_000_000), self.gateway.reader.bytes, usage_of(os.getpid())
+        forms = [await asyncio.open_connection("127.0.0.1", self.port) for _ in range(12)]
+        for _, writer in forms:
+            for data in (head, *[part] * 8):
+                writer.write(data)
+                await writer.drain()
+        async with asyncio.timeout(10):
+            while moved['way="in"'] < 12 * 8_000_000:
+                await asyncio.sleep(0.02)
+        self.assertLess(usage_of(os.getpid())[0] - before, 12 * 8_000_000 // 2)
+        for _, writer in forms:
+            writer.transport.abort()
+
+    async def test_a_form_waits_for_memory(self) -> None:
+        await self.start()
+        memory = self.gateway.reader.memory
+        with mock.patch.object(chunks.bundles, "join", mock.AsyncMock(return_value=b"bundle")) as join:
+            async with memory.share(memory.size):
+                sending = asyncio.create_task(self.ask("POST", "/v1/bundles?epochs=1", data=self.form(b"1")))
+                async with asyncio.timeout(10):
+                    while not memory.waiting:
+                        await asyncio.sleep(0.02)
+                self.assertEqual(join.call_count, 0)
+            self.assertEqual(((await sending)[0], self.stored, memory.taken), (201, [b"bundle"], 0))
 
     async def test_one_address_does_not_have_all_connections(self) -> None:
         self.enterContext(mock.patch.object(connections, "EACH", 20))

@@ -18,6 +18,7 @@ import walrus.network  # noqa: E402, F401
 from walrus import client  # noqa: E402
 from walrus.network import chunks, forms, pieces, problems, ranges, transfers  # noqa: E402
 from walrus.network.cache import EXTRA, Cache  # noqa: E402
+from walrus.network.reading import Options, Pace, Reader  # noqa: E402
 
 PIECE = 16_777_216
 
@@ -250,6 +251,27 @@ class Caches(unittest.IsolatedAsyncioTestCase):
             self.assertIn(b"used", self.cache.entries)
             self.assertEqual(blob, b"used" * 1_000)
         self.assertEqual(self.reads.count(b"used"), 1)
+
+
+class Ahead(unittest.IsolatedAsyncioTestCase):
+    async def test_only_a_piece_that_stands_is_read_ahead(self) -> None:
+        first, later = bytes([1] * 32), bytes([2] * 32)
+        for certified, invalid, ahead in ((True, False, True), (False, False, False), (True, True, False)):
+            ledger = mock.Mock(blobs={first, later})
+            ledger.certificate = lambda name: (0, 4) if name == first or certified else None
+            ledger.invalid = lambda name: name == later and invalid
+            network, sent = mock.Mock(ledger=ledger, fetch=mock.AsyncMock(return_value=bytes(7))), list[bool]()
+            reader = Reader(network, Options())
+            self.addAsyncCleanup(reader.cache.close)
+            response = mock.Mock(write=mock.AsyncMock(side_effect=lambda _: sent.append(later in reader.cache.entries)))
+            with mock.patch.object(chunks, "PIECE", 7):
+                sending = reader.send_span(Pace(), response, chunks.File(14, first + later), (6, 8))
+                try:
+                    await sending
+                except problems.Problem as problem:
+                    self.assertIn(problem.status, (404, 410))
+            self.assertEqual((sent[0], len(sent)), (ahead, 1 + ahead), (certified, invalid))
+            self.assertEqual([it.args[0] for it in network.fetch.call_args_list], [first, later][: 1 + ahead])
 
 
 class Commands(unittest.IsolatedAsyncioTestCase):

@@ -91,7 +91,8 @@ class People(UpCase):
         self.local.processes["up"].send_signal(signal.SIGTERM)
         self.assertEqual(await asyncio.wait_for(self.local.processes["up"].wait(), 60), 0, self.log("up"))
         await self.up()  # all of them, with no word about node-4
-        self.assertIn(f"nodes {' '.join(four)} node-4\n", self.log("up"))
+        told = [f"{name} ({self.process_of(folder, name)})" for name in (*four, "node-4")]
+        self.assertIn(f"nodes {' '.join(told)}\n", self.log("up"))
         said = json.loads(await self.words("handover", folder, *four[:3], "node-4", "--yes", "--json"))
         self.assertEqual((said["epoch"], said["ended"]), (2, []))
         self.assertEqual(await self.words("fetch", long), "7")

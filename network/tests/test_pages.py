@@ -68,6 +68,10 @@ class Pages(unittest.TestCase):
                 self.assertEqual("etcd.service of Debian is disabled" in ran.stdout, was or not installed)
                 self.assertFalse((folder / "enabled").exists())
 
+    def test_no_page_ends_processes_by_a_broad_name(self) -> None:
+        pages = [*harness.HERE.parent.glob("*.md"), *(harness.HERE.parents[1] / "docs").glob("*.md")]
+        self.assertEqual([it.name for it in pages if re.search("pkill|killall", it.read_text())], [])
+
     def test_the_code_has_one_form_and_its_types_fit(self) -> None:
         package, tests = str(harness.HERE.parents[1] / "clients" / "python" / "walrus" / "network"), str(harness.HERE)
         checks = [["black", "-q", "-l", "120", "--check", package, tests]]

@@ -7,7 +7,7 @@ import asyncio
 import contextlib
 import dataclasses
 import struct
-from typing import Any, AsyncIterator, Iterator, Union
+from typing import Any, AsyncIterator, Callable, Iterator, Union
 
 from .. import bundles, client
 
@@ -93,24 +93,31 @@ class Writer:
         certificate = {"epoch": found[0], "count": found[1]}
         return told | {"certificate": certificate, "alreadyCertified": all(before for _, before in stored)}
 
-    async def store_bundle(self, kind: str, stream: AsyncIterator[bytes], epochs: int) -> Told:
-        """Stores the files of a form of this media type as one bundle, which is no longer than a piece."""
-        faults = self.network.ledger.faults
-        files = files_of(kind, b"".join([part async for part in stream]), 2 * faults)
+    async def store_bundle(
+        self, kind: str, count: Callable[[int], None], stream: AsyncIterator[bytes], epochs: int
+    ) -> Told:
+        """Stores the files of a form of this media type as one bundle, which is no longer than a piece, once its length
+        was counted."""
+        bundle, members = await self.bundle(kind, await pieces.gathered(stream))
+        count(len(bundle))
 
-        async def bundle() -> AsyncIterator[bytes]:
+        async def stored() -> AsyncIterator[bytes]:
+            yield bundle
+
+        told = await self.store(stored(), epochs)
+        return told | {"members": [{"id": f"{told['blobId']}/{it}", **member} for it, member in enumerate(members)]}
+
+    async def bundle(self, kind: str, form: bytes) -> tuple[bytes, list[Told]]:
+        """The bundle of the files of a form, in a file without a name, and what is told of each."""
+        faults = self.network.ledger.faults
+        async with self.memory.share(pieces.need_of(len(form))):
+            files = files_of(kind, form, 2 * faults)
             try:
                 async with self.turns:
                     made = await bundles.join([data for _, data in files], faults, self.network.walrus)
             except client.Refused as refused:
                 raise Problem(413, UNFIT) if refused.status == 4 else refused from None
-            yield made
-
-        told = await self.store(bundle(), epochs)
-        names = [f"{told['blobId']}/{number}" for number in range(len(files))]
-        return told | {
-            "members": [{"id": it, "name": name, "size": len(data)} for it, (name, data) in zip(names, files)]
-        }
+            return pieces.put_away(made), [{"name": name, "size": len(data)} for name, data in files]
 
     async def store_blob(self, blob: bytes, until: int) -> tuple[bytes, bool]:
         """Stores a blob; its identifier, and whether it was there before."""

@@ -1,7 +1,8 @@
 """Who may ask a gateway for what: by a token, or without a file of tokens whoever is on its own machine.
 
 A browser sends what another page tells it to, and with no token of ours: so what stores and shows no token must be
-asked of the gateway by a name of its own, and by no page but its own."""
+asked of the gateway by a name of its own, and by no page but its own. Over loopback what reads and shows no token must
+be asked by such a name too, unless it is a file: other names may lead there, and the pages under them read it all."""
 from typing import Any, Awaitable, Callable, Optional
 
 from aiohttp import hdrs, web
@@ -33,17 +34,19 @@ class Guard:
     def address(self, request: web.BaseRequest) -> str:
         """Where a request is from: of a server before the gateway what it says, else the connection's other end."""
         peer = request.remote or ""
-        told = request.headers.get("X-Forwarded-For", "").rpartition(",")[2].strip()
+        told = ",".join(request.headers.getall("X-Forwarded-For", [])).rpartition(",")[2].strip()
         return told if told and peer in self.proxies else peer
 
     @web.middleware
     async def check(self, request: web.Request, handler: Callable[..., Awaitable[Any]]) -> web.StreamResponse:
         """Has a request answered if it may be asked; raises what is wrong with it."""
         address = request["address"] = self.address(request)
+        keys = [f"address {key_of(address)}"]
+        self.must_be_few(keys)
         token = request["token"] = self.shown(request)
-        keys = [f"address {key_of(address)}"] + ([f"token {token.name}"] if token else [])
-        if seconds := self.limits.admit(keys):
-            raise Problem(429, f"too much at once: come again in {seconds} s", {"Retry-After": str(seconds)})
+        if token:
+            keys.append(f"token {token.name}")
+            self.must_be_few(keys[1:])
         request["flow"] = Flow(self.limits, keys)
         if request.method == "OPTIONS":
             return self.options(request)
@@ -53,6 +56,11 @@ class Guard:
         if isinstance(response, web.Response) and isinstance(response.body, bytes):
             await request["flow"].spend(len(response.body))  # a stream spends as it goes
         return response
+
+    def must_be_few(self, keys: list[str]) -> None:
+        """Counts a request of a client that is known by these; raises where it is one too many."""
+        if seconds := self.limits.admit(keys):
+            raise Problem(429, f"too much at once: come again in {seconds} s", {"Retry-After": str(seconds)})
 
     def shown(self, request: web.Request) -> Optional[Token]:
         """The token that a request shows, where there are tokens."""
@@ -67,6 +75,9 @@ class Guard:
 
     def must_be_allowed(self, request: web.Request, token: Optional[Token], right: str) -> None:
         known = self.tokens.all()
+        by_name = request.path.startswith(BY_NAME) and right == READ
+        if token is None and (right == STORE or not by_name and is_loopback(self.place(request)[0])):
+            self.must_be_named(request)
         if token is None and right == STORE:
             self.must_be_own(request)
         if known is None:
@@ -81,24 +92,31 @@ class Guard:
         if token is None:
             request["token"] = holder
 
-    def must_be_own(self, request: web.Request) -> None:
-        """Raises where a browser may have been led here by another page, or another name for this machine."""
+    def must_be_named(self, request: web.Request) -> None:
+        """Raises where a browser may have been led here by another name for this machine."""
         host = request.headers.get("Host", "").lower()
         if not self.is_own(request, host):
             raise Problem(421, f"{host[:80]!r} is no name of this gateway: tell it with --names, or show a token")
+
+    def must_be_own(self, request: web.Request) -> None:
+        """Raises where a browser may have been led here by another page."""
         origin, site = request.headers.get("Origin"), request.headers.get("Sec-Fetch-Site", "none")
         scheme, _, name = (origin or "").lower().partition("://")
         own = scheme in ("http", "https") and self.is_own(request, name)
         if origin is not None and not own or site not in ("none", "same-origin"):
             raise Problem(403, "a page from elsewhere may store nothing here: show a token")
 
+    def place(self, request: web.Request) -> tuple[str, int]:
+        """The address and the port of this machine that a request came to."""
+        found = request.transport.get_extra_info("sockname") if request.transport else None
+        host, port = (found or ("", 0))[:2]
+        return host.removeprefix("::ffff:"), port
+
     def is_own(self, request: web.Request, name: str) -> bool:
         """Whether HOST or HOST:PORT is a name of this gateway."""
         if {name, name.rpartition(":")[0] or name} & self.names:
             return True
-        found = request.transport.get_extra_info("sockname") if request.transport else None
-        host, port = (found or ("", 0))[:2]
-        host = host.removeprefix("::ffff:")
+        host, port = self.place(request)
         hosts = [f"[{host}]" if ":" in host else host] + ["localhost"] * is_loopback(host)
         return name in [f"{it}:{port}" for it in hosts] + (hosts if port in (80, 443) else [])
 

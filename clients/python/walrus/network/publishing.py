@@ -2,6 +2,7 @@
 import asyncio
 import base64
 import contextlib
+import functools
 import hashlib
 import pathlib
 import re
@@ -83,11 +84,13 @@ class Publisher:
             raise Problem(400, "the bytes that came have another SHA-256 than the request says: send the file again")
 
     async def put_blob(self, request: web.Request) -> web.Response:
-        return await self.upload(request, min(self.options.most, LONGEST), self.writer.store, True)
+        most = min(self.options.most, LONGEST)
+        return await self.upload(request, most, self.charge(request), self.writer.store, True)
 
     async def post_bundle(self, request: web.Request) -> web.Response:
-        kind = request.headers.get("Content-Type", "")
-        return await self.upload(request, LONGEST_FORM, lambda *words: self.writer.store_bundle(kind, *words))
+        kind, charge = request.headers.get("Content-Type", ""), self.charge(request)
+        store = functools.partial(self.writer.store_bundle, kind, charge.replace)
+        return await self.upload(request, LONGEST_FORM, charge, store)
 
     def epochs(self, request: web.Request) -> int:
         """For how many epochs a file is to be kept."""
@@ -112,7 +115,12 @@ class Publisher:
         return Charge(self.shares, token, self.network.ledger.writing_epoch)
 
     async def upload(
-        self, request: web.Request, most: int, store: Callable[..., Awaitable[Told]], is_file: bool = False
+        self,
+        request: web.Request,
+        most: int,
+        charge: Charge,
+        store: Callable[..., Awaitable[Told]],
+        is_file: bool = False,
     ) -> web.Response:
         """Has an upload of at most so many bytes stored once it is its turn."""
         epochs = self.epochs(request)
@@ -124,7 +132,7 @@ class Publisher:
             raise Problem(413, f"an upload has at most {most} bytes here")
         if not self.network.ledger.now:
             raise client.Failed("the network has no committee yet", {})
-        charge, told, sum = self.charge(request), dict[str, Any](), hashlib.sha256()
+        told, sum = dict[str, Any](), hashlib.sha256()
         charge.announce(request.content_length or 0)
         try:
             charge.add(0)

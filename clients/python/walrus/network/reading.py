@@ -65,6 +65,11 @@ class Reader:
         if not ledger.certificate(identifier):
             raise Problem(404, "the blob is registered, but too few shards have acknowledged it: it may come yet")
 
+    def stands(self, name: bytes) -> bool:
+        """Whether the ledger has a certificate for a blob, which is not invalid."""
+        ledger, identifier = self.network.ledger, name[:NAME]
+        return bool(ledger.certificate(identifier)) and not ledger.invalid(identifier)
+
     async def fetch(self, name: bytes) -> bytes:
         """A blob, or a member of it, as the network has it; in a file, where it is large."""
         number = int.from_bytes(name[NAME:], "big") if name[NAME:] else None
@@ -153,7 +158,7 @@ class Reader:
         following = itertools.islice(file.pieces(*span), 1, None)
         for name, size, start, end in file.pieces(*span):
             async with self.blob(name, size) as blob:
-                if later := next(following, None):
+                if (later := next(following, None)) and self.stands(later[0]):
                     self.cache.find(later[0])  # it is read meanwhile, where there is room
                 for place in range(start, end, SLICE):
                     behind = min(place + SLICE, end)

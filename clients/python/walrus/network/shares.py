@@ -8,8 +8,11 @@ from .problems import Problem
 from .tokens import Token
 
 NO_BOUND = 2**62
+KEPT = 1_000  # epochs behind the newest in which uploads that began there still count
 MADE = """CREATE TABLE IF NOT EXISTS used
 (name TEXT, epoch INTEGER, bytes INTEGER, blobs INTEGER, PRIMARY KEY (name, epoch)) STRICT, WITHOUT ROWID"""
+BEGIN = f"""INSERT OR IGNORE INTO used SELECT ?1, ?2, 0, 0
+WHERE NOT EXISTS (SELECT 1 FROM used WHERE name = ?1 AND epoch > ?2 + {KEPT})"""
 TAKE = """UPDATE used SET bytes = bytes + ?3, blobs = blobs + ?4
 WHERE name = ?1 AND epoch = ?2 AND bytes + ?3 <= ?5 AND blobs + ?4 <= ?6"""
 
@@ -41,8 +44,8 @@ class Shares:
 
     def take_row(self, token: Token, epoch: int, size: int, blobs: int) -> bool:
         most = [NO_BOUND if it is None else it for it in (token.bounds["bytes"], token.bounds["blobs"])]
-        self.base.execute("INSERT OR IGNORE INTO used VALUES (?, ?, 0, 0)", (token.name, epoch))
-        self.base.execute("DELETE FROM used WHERE name = ? AND epoch < ?", (token.name, epoch))
+        self.base.execute(BEGIN, (token.name, epoch))
+        self.base.execute("DELETE FROM used WHERE name = ? AND epoch < ?", (token.name, epoch - KEPT))
         bounds = most if size > 0 or blobs > 0 else [NO_BOUND, NO_BOUND]
         return self.base.execute(TAKE, (token.name, epoch, size, blobs, *bounds)).rowcount == 1
 
@@ -66,6 +69,11 @@ class Charge:
         """Takes what more bytes of the file cost; raises where that is beyond the share."""
         self.size += size
         self.set_to(self.size, count_of(self.size))
+
+    def replace(self, size: int) -> None:
+        """Takes what so many bytes cost that are stored in place of those that came; raises as `add` does."""
+        self.size = size
+        self.set_to(size, count_of(size))
 
     def extend(self, size: int, blobs: int) -> None:
         """Takes what a file of this length costs again, of which so many blobs are kept for longer."""

@@ -41,10 +41,10 @@ async def up(words: argparse.Namespace, options: Options) -> int:
     owners = shards_of(words.nodes.split(",")) if words.nodes else [] if found else fresh
     try:
         await local.up(list(dict.fromkeys([*owners, *found])), words.faults, owners)
-        ran = [name for name in local.processes if name not in (*local.members, *local.recorders)]
-        print(
-            f"the network is up in {folder}: recorders {' '.join(local.recorders)}, nodes {' '.join(ran)}", flush=True
-        )
+        ran = {name: f"{name} ({process.pid})" for name, process in local.processes.items()}
+        recorders = " ".join(ran.pop(name) for name in local.recorders)
+        others = " ".join(told for name, told in ran.items() if name not in local.members)
+        print(f"the network is up in {folder}: recorders {recorders}, nodes {others}", flush=True)
         watching = asyncio.create_task(local.watch())
         watching.add_done_callback(lambda _: told.set())
         status = await gateway.serve(folder, words.host, words.port, options, told)
