@@ -196,7 +196,7 @@ async def serve(
             scheme = "https" if gateway.certificate else "http"
             ready(f"the gateway is at {scheme}://{host}:{port}/\nready")
             waiting = asyncio.create_task(told.wait())
-            tasks = {waiting, gateway.watch.task, *filter(None, [network.task])}
+            tasks: "list[asyncio.Future[Any]]" = [waiting, gateway.watch.task, *filter(None, [network.task])]
             await asyncio.wait(tasks, return_when=asyncio.FIRST_COMPLETED)
             waiting.cancel()
             if network.lost:
