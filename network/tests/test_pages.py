@@ -26,6 +26,9 @@ class Pages(unittest.TestCase):
         page = (harness.HERE.parent / "README.md").read_text()
         bounds = [f"{it:g} s" for it in (node.REQUEST, node.IDLE, node.HANDSHAKE)]
         self.assertIn("; ".join(bounds), page)
+        unit, page = ((harness.HERE.parent / it).read_text() for it in ("units/walrus-node@.service", "OPERATING.md"))
+        [most] = re.findall(r"^LimitNOFILE=(\d+)$", unit, re.MULTILINE)
+        self.assertIn(f"(`LimitNOFILE` of the unit is {int(most):,})", page)
 
     @unittest.skipUnless(
         shutil.which("systemd-analyze") and shutil.which("etcd"), "systemd-analyze or etcd is not here"

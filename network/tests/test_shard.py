@@ -19,7 +19,7 @@ from harness import lacking
 
 from walrus import client
 from walrus.frames import METADATA, PRIMARY, SECONDARY, code_of
-from walrus.network import handover, judge, recovery, shard
+from walrus.network import handover, judge, recovery, scrub, shard
 from walrus.network.judge import Busy, Judges
 from walrus.network.ledger import OPERATOR, Entry, Ledger, entry_key
 from walrus.network.local import find_program
@@ -542,6 +542,31 @@ class Recovery(NodeCase):
         self.assertEqual([self.shard.settled(it) for it in names].count(True), 1)
         node = self.node({0: {0: self.shard}})
         self.assertEqual((await recovery.settle(node, 0, names), node.progress.of, node.progress.blobs), (0, 1, 1))
+
+    async def test_where_the_system_gives_no_descriptor_a_node_goes_on_later(self) -> None:
+        assert self.store
+        name, node = await self.lacks(700), self.node({0: {0: self.shard}})
+        node.caught_up, node.settings, node.wrong = True, types.SimpleNamespace(heal=0.05), asyncio.Queue()
+        self.enterContext(mock.patch.object(handover, "LATEST", 0.05))
+        self.enterContext(mock.patch.object(scrub, "NOTED", 0.05))
+        (self.store.files.folder / "unnamed").write_bytes(b"x")
+        with mock.patch.object(self.store, "path", self.path / "none"):
+            works = handover.heal(node), Node.mend(node), scrub.Scrub(node).sweep_always()
+            tasks = [asyncio.create_task(work) for work in works]
+            node.wrong.put_nowait(name)
+            await asyncio.sleep(0.5)
+            self.assertEqual([it.done() for it in tasks], [False] * 3)
+            with self.assertRaises(sqlite3.OperationalError):
+                self.store.reader()
+        await self.left(0)
+        for _ in range(200):
+            if self.shard.settled(name):
+                break
+            await asyncio.sleep(0.05)
+        self.assertTrue(self.shard.settled(name))
+        for task in tasks:
+            task.cancel()
+        await asyncio.gather(*tasks, return_exceptions=True)
 
     async def test_a_late_node_gives_its_word_for_all_that_it_holds(self) -> None:
         names = [await self.certified(b"held", of="bcd"), await self.certified(b"said"), await self.lacks(700)]

@@ -105,8 +105,11 @@ class Node(View):
             wrong = {await self.wrong.get()}
             while not self.wrong.empty():
                 wrong.add(self.wrong.get_nowait())
-            for epoch in list(self.sides):
-                await settle(self, epoch, wrong)
+            try:
+                for epoch in list(self.sides):
+                    await settle(self, epoch, wrong)
+            except (OSError, sqlite3.OperationalError) as fault:  # `heal` finds it again
+                print(f"{self.name}: what went wrong is recovered later: {fault}", file=sys.stderr, flush=True)
 
     async def apply(self, entries: list[Entry]) -> None:
         """Enters entries in their order."""
