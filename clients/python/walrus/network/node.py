@@ -225,6 +225,8 @@ class Node(View):
         if not await self.durable() or self.store.losses != losses:
             return [answer(FULL)]
         voted = functools.partial(ledger.voted, kind, identifier, self.name)
+        if not self.port.give_way():
+            return [answer(*client.LEDGER_AWAY)]  # many wait for it already
         try:
             await self.recorders.post(entry_key(self.name, kind, shard.epoch, identifier.hex()))
             if not await self.until(lambda _: voted() or ledger.writing_epoch != shard.epoch, 20):
