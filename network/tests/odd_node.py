@@ -1,4 +1,5 @@
-"""A node that lies, or keeps short contents in files, as its environment says."""
+"""A node that lies, keeps short contents in files, or tells odd figures, as its environment says."""
+import json
 import os
 import pathlib
 import random
@@ -6,7 +7,7 @@ import sys
 
 sys.path.insert(0, str(pathlib.Path(__file__).resolve().parents[2] / "clients" / "python"))
 
-from walrus.network import node, shard  # noqa: E402
+from walrus.network import figures, node, shard  # noqa: E402
 
 
 class Liar(node.Node):
@@ -28,4 +29,6 @@ class Liar(node.Node):
 
 
 shard.SMALL = int(os.environ.get("ODD_SMALL", shard.SMALL))  # so that short contents are files too
+if "ODD_FIGURES" in os.environ:
+    figures.NodePort.figures = lambda port: json.loads(os.environ["ODD_FIGURES"])  # type: ignore[method-assign]
 sys.exit(node.main(Liar if "ODD_LIES" in os.environ else node.Node))

@@ -8,13 +8,16 @@ import shutil
 import signal
 import time
 import unittest
+from typing import Any
+from unittest import mock
 
-from harness import FOUR, NetworkCase, faked_clock, usage_of
+from harness import FOUR, ODD, NetworkCase, faked_clock, usage_of
 from http_case import GatewayCase
 
 from walrus import client
-from walrus.network import configuration, local, recording
+from walrus.network import configuration, gateway, local, recording
 from walrus.network.ledger import OPERATOR
+from walrus.network.page import Watch
 from walrus.network.peers import FIGURES, SCRUB
 from walrus.network.settings import Settings
 from walrus.network.staged import TORN
@@ -44,6 +47,36 @@ class Figures(GatewayCase):
                 for what in parts:
                     self.assertIn(f'\nwalrus_node_{group}_{what}{{node="{name}"}} ', metrics)
             self.assertEqual({*groups["recovered"]}, {"epoch", "of", "of_bytes", "blobs", "bytes"})
+
+    async def state(self, name: str, state: str, said: str = "") -> None:
+        """Waits until this is what the gateway tells of a node."""
+        told: dict[str, Any] = {}
+        for _ in range(100):
+            nodes = json.loads((await self.curl("/v1/status"))[2])["nodes"]
+            [told] = [it for it in nodes if it["name"] == name]
+            if told["state"] == state and said in told["said"]:
+                return
+            await asyncio.sleep(0.2)
+        self.fail(f"{told}")
+
+    async def test_a_node_that_tells_no_figures_hides_none_of_the_others(self) -> None:
+        self.options = gateway.Options(seconds=1, challenge=0, patience=60, probe=0.3)
+        await self.start()
+        figures = ("5", "silent", "no figures"), ("[[1, 2]]", "silent", "no figures"), ('{"ledger": {}}', "answers", "")
+        for told, state, said in figures:
+            await self.local.end("node-3")
+            await self.state("node-3", "silent", "refused")
+            await self.local.start_node("node-3", ODD, {"ODD_FIGURES": told})
+            await self.state("node-3", state, said)
+        await self.local.end("node-2")
+        await self.state("node-2", "silent")
+
+    async def test_a_gateway_that_asks_no_node_any_more_ends(self) -> None:
+        await self.local.up(FOUR)
+        self.enterContext(mock.patch.object(Watch, "probe", mock.AsyncMock(side_effect=TypeError("an odd reply"))))
+        with self.assertRaisesRegex(RuntimeError, "it asks the nodes no more: TypeError: an odd reply"):
+            async with asyncio.timeout(30):
+                await gateway.serve(self.folder, "127.0.0.1", 0, gateway.Options(challenge=0), asyncio.Event())
 
 
 class BadDays(NetworkCase):

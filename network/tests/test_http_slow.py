@@ -12,7 +12,8 @@ from unittest import mock
 from harness import usage_of
 from http_case import DRAWN, GatewayCase
 from walrus import client
-from walrus.network import chunks
+from walrus.frames import answer
+from walrus.network import chunks, shard, whole
 
 SLOW, STEP = 16, 4_096  # clients; bytes that each moves in a tenth of a second
 
@@ -130,6 +131,56 @@ class Slow(GatewayCase):
         await self.put(b"before")
         async with self.in_place_of("node-3", True):
             await self.moves_on(4)
+
+    async def stranger(self, number: int, request: bytes) -> bytes:
+        """What a node first replies, for its shard, to who has no certificate."""
+        context = ssl.create_default_context()
+        context.check_hostname, context.verify_mode = False, ssl.CERT_NONE
+        address = self.network.ledger.addresses[f"node-{number}"]
+        reader, writer = await asyncio.open_connection(*address, ssl=context)
+        with contextlib.closing(writer):
+            writer.write(client.envelope(request, number))
+            return (await client.take_envelope(reader, 99_999))[1]
+
+    @contextlib.asynccontextmanager
+    async def waiting(self, number: int, requests: list[bytes]) -> AsyncIterator[None]:
+        """Strangers who ask the node of a shard what waits for the ledger, and wait still at the end."""
+        tasks = [asyncio.create_task(self.stranger(number, request)) for request in requests]
+        try:
+            await asyncio.sleep(1)
+            yield
+            self.assertEqual([task.done() for task in tasks], [False] * len(tasks))
+        finally:
+            for task in tasks:
+                task.cancel()
+            await asyncio.gather(*tasks, return_exceptions=True)
+
+    async def test_strangers_whose_blobs_nobody_registers(self) -> None:
+        name, requests = bytes.fromhex((await self.put(b"before"))["blobId"]), list[bytes]()
+        for _ in range(9):
+            encoded = await self.network.walrus.encode(DRAWN.randbytes(900), 1)
+            requests.append(b"".join(map(bytes, whole.request_of(encoded, 2))))
+        async with self.waiting(2, requests), asyncio.timeout(5):
+            self.assertEqual((await self.stranger(2, client.write_frame(client.Read(name))))[0], client.METADATA)
+        self.assertEqual(await self.stranger(2, requests[0]), answer(shard.UNREGISTERED))
+        encoded = await self.network.walrus.encode(b"registered late", 1)
+        request = b"".join(map(bytes, whole.request_of(encoded, 2)))
+        async with self.waiting(2, requests), asyncio.timeout(5):
+            late = asyncio.create_task(self.stranger(2, request))
+            await self.network.register(encoded.identifier, 3)
+            self.assertEqual(await late, answer(client.DONE))
+
+    async def test_words_that_wait_for_the_ledger(self) -> None:
+        encoded = await self.network.walrus.encode(b"stored while the ledger is away", 1)
+        await self.network.register(encoded.identifier, 3)
+        while await self.stranger(1, bytes(encoded.metadata)) == answer(shard.UNREGISTERED):
+            await asyncio.sleep(0.1)
+        await self.local.end("recorder-0", kill=True)
+        for sliver in encoded.slivers[1]:
+            self.assertEqual(await self.stranger(1, bytes(sliver)), answer(client.DONE))
+        ack, read = (client.write_frame(it(encoded.identifier)) for it in (client.Ack, client.Read))
+        async with self.waiting(1, [ack] * 9), asyncio.timeout(5):
+            self.assertEqual((await self.stranger(1, read))[0], client.METADATA)
 
     async def test_a_large_file_overlaps(self) -> None:
         """A piece is taken while others are stored, and all of it comes back in its order."""

@@ -9,7 +9,8 @@ import tempfile
 import unittest
 
 import harness
-from walrus.network import node
+from walrus import port
+from walrus.network import intake, node
 from walrus.network.checking import KINDS
 
 
@@ -26,6 +27,10 @@ class Pages(unittest.TestCase):
         page = (harness.HERE.parent / "README.md").read_text()
         bounds = [f"{it:g} s" for it in (node.REQUEST, node.IDLE, node.HANDSHAKE)]
         self.assertIn("; ".join(bounds), page)
+        self.assertIn(f"| {intake.HEARD:g} s; {port.ASIDE} |", page)
+        unit, page = ((harness.HERE.parent / it).read_text() for it in ("units/walrus-node@.service", "OPERATING.md"))
+        [most] = re.findall(r"^LimitNOFILE=(\d+)$", unit, re.MULTILINE)
+        self.assertIn(f"(`LimitNOFILE` of the unit is {int(most):,})", page)
 
     @unittest.skipUnless(
         shutil.which("systemd-analyze") and shutil.which("etcd"), "systemd-analyze or etcd is not here"

@@ -19,7 +19,7 @@ from harness import lacking
 
 from walrus import client
 from walrus.frames import METADATA, PRIMARY, SECONDARY, code_of
-from walrus.network import handover, judge, recovery, shard
+from walrus.network import handover, judge, recovery, scrub, shard
 from walrus.network.judge import Busy, Judges
 from walrus.network.ledger import OPERATOR, Entry, Ledger, entry_key
 from walrus.network.local import find_program
@@ -450,12 +450,15 @@ class Other(client.Shard):
 
     def __init__(self, case: NodeCase, number: int):
         super().__init__(number, 1)
-        self.case, self.name, self.fails, self.asked = case, "abcd"[number], False, list[int]()
+        self.case, self.name, self.asked = case, "abcd"[number], list[int]()
+        self.fails = self.clashes = False
 
     async def ask(self, *requests: bytes) -> list[client.Reply]:
         self.asked.append(len(requests))
         if self.fails:
             raise ConnectionError("it is told to fail")
+        if self.clashes:
+            return [client.Reply({}, client.Clash(b"\x31\x01a\x01b"))]  # which ends its reply, whatever was asked
         encoded = self.case.others[requests[0][1:33]]
         told = [client.write_frame(client.RegisterEntry(encoded.identifier, 9)), encoded.metadata]
         told, count = [*told, *encoded.slivers[self.number], *requests], len(requests)
@@ -482,12 +485,13 @@ class Recovery(NodeCase):
         self.assertEqual(progress.of_bytes, progress.bytes)
 
     async def test_where_one_fails_another_is_asked_at_once(self) -> None:
-        for number in (1, 2):
-            name, self.seats[number].fails = await self.lacks(700), True
+        for number, how in ((1, "fails"), (2, "fails"), (1, "clashes"), (2, "clashes")):
+            name = await self.lacks(700)
+            setattr(self.seats[number], how, True)
             async with asyncio.timeout(60):
                 left = await recovery.settle(self.node({0: {0: self.shard}}), 0, [name])
             self.assertEqual((left, self.shard.lacks(name)), (1, [PRIMARY]))  # which takes all three of them
-            self.seats[number].fails = False
+            setattr(self.seats[number], how, False)
 
     async def test_certified_blobs_come_first_and_of_these_large_ones(self) -> None:
         names = [await self.lacks(size, certified) for size, certified in ((900, False), (90, True), (900, True))]
@@ -502,23 +506,32 @@ class Recovery(NodeCase):
         self.assertEqual(order, [names[2], names[1], names[3], names[0]])
 
     async def test_what_fails_with_one_blob_leaves_the_others_alone(self) -> None:
-        names, fill = [await self.lacks(size) for size in (700, 60)], recovery.fill
+        fill = recovery.fill
+        for fault in (sqlite3.OperationalError("disk I/O error"), IndexError("of what another node replied")):
+            names = [await self.lacks(size) for size in (700, 60)]
 
-        async def fail(node: Node, filled: shard.Shard, identifier: bytes) -> None:
-            if identifier == names[0]:
-                raise sqlite3.OperationalError("disk I/O error")
-            await fill(node, filled, identifier)
+            async def fail(node: Node, filled: shard.Shard, identifier: bytes) -> None:
+                if identifier == names[0]:
+                    raise fault
+                await fill(node, filled, identifier)
 
-        with mock.patch.object(recovery, "fill", fail):
-            self.assertEqual(await recovery.settle(self.node({0: {0: self.shard}}), 0, names), 1)
-        self.assertTrue(self.shard.settled(names[1]))
+            with mock.patch.object(recovery, "fill", fail):
+                self.assertEqual(await recovery.settle(self.node({0: {0: self.shard}}), 0, names), 1)
+            self.assertTrue(self.shard.settled(names[1]))
+
+    async def test_a_torn_database_is_not_taken_for_the_fault_of_one_blob(self) -> None:
+        name, torn = await self.lacks(700), sqlite3.DatabaseError("database disk image is malformed")
+        with mock.patch.object(recovery, "fill", mock.AsyncMock(side_effect=torn)):
+            with self.assertRaises(ExceptionGroup) as raised:
+                await recovery.settle(self.node({0: {0: self.shard}}), 0, [name])
+        self.assertEqual(raised.exception.exceptions, (torn,))
 
     async def test_what_was_recovered_before_a_kill_is_not_recovered_again(self) -> None:
         names, fill = [await self.lacks(700) for _ in range(2)], recovery.fill
 
         async def end(node: Node, filled: shard.Shard, identifier: bytes) -> None:
             if node.progress.blobs:
-                raise RuntimeError
+                raise judge.Clash
             await fill(node, filled, identifier)
             await node.durable()
 
@@ -529,6 +542,31 @@ class Recovery(NodeCase):
         self.assertEqual([self.shard.settled(it) for it in names].count(True), 1)
         node = self.node({0: {0: self.shard}})
         self.assertEqual((await recovery.settle(node, 0, names), node.progress.of, node.progress.blobs), (0, 1, 1))
+
+    async def test_where_the_system_gives_no_descriptor_a_node_goes_on_later(self) -> None:
+        assert self.store
+        name, node = await self.lacks(700), self.node({0: {0: self.shard}})
+        node.caught_up, node.settings, node.wrong = True, types.SimpleNamespace(heal=0.05), asyncio.Queue()
+        self.enterContext(mock.patch.object(handover, "LATEST", 0.05))
+        self.enterContext(mock.patch.object(scrub, "NOTED", 0.05))
+        (self.store.files.folder / "unnamed").write_bytes(b"x")
+        with mock.patch.object(self.store, "path", self.path / "none"):
+            works = handover.heal(node), Node.mend(node), scrub.Scrub(node).sweep_always()
+            tasks = [asyncio.create_task(work) for work in works]
+            node.wrong.put_nowait(name)
+            await asyncio.sleep(0.5)
+            self.assertEqual([it.done() for it in tasks], [False] * 3)
+            with self.assertRaises(sqlite3.OperationalError):
+                self.store.reader()
+        await self.left(0)
+        for _ in range(200):
+            if self.shard.settled(name):
+                break
+            await asyncio.sleep(0.05)
+        self.assertTrue(self.shard.settled(name))
+        for task in tasks:
+            task.cancel()
+        await asyncio.gather(*tasks, return_exceptions=True)
 
     async def test_a_late_node_gives_its_word_for_all_that_it_holds(self) -> None:
         names = [await self.certified(b"held", of="bcd"), await self.certified(b"said"), await self.lacks(700)]

@@ -16,6 +16,7 @@ from .frames import refuse
 from .wire import Wire, memory
 
 PIECE, AHEAD, QUIET = 65_536, 64, 60.0  # bytes of one client; replies that wait; seconds between two equal lines
+ASIDE = 256  # requests that wait for others without a turn
 
 
 class Bounds(NamedTuple):
@@ -59,7 +60,7 @@ class Port:
         self.reply, self.shape, self.bounds, self.own = reply, shape, bounds, own
         self.turns = asyncio.Semaphore(max(2, bounds.kept // shape.longest))  # so many requests are answered at once
         self.connections: dict[Connection, None] = {}
-        self.answers: set["asyncio.Task[Said]"] = set()
+        self.answers, self.at_turn = set["asyncio.Task[Said]"](), set["asyncio.Task[Any]"]()  # under way; with a turn
         self.told: dict[tuple[str, str], float] = {}
         self.say: Callable[[str], None] = functools.partial(print, file=sys.stderr, flush=True)  # to an operator
         self.kept = 0
@@ -148,10 +149,13 @@ class Port:
             client.since = time.monotonic()
             async with asyncio.timeout(self.bounds.seconds):
                 sender, payload = await self.take(client, first, reader)
+            await self.expect(payload)
+            async with asyncio.timeout(self.bounds.seconds):
                 await self.turns.acquire()
             client.since = time.monotonic()
             task = asyncio.create_task(self.answer(client, sender, payload))
             self.answers.add(task)
+            self.at_turn.add(task)
             task.add_done_callback(self.answered)
             said = await asyncio.shield(task)  # who is cut off meanwhile does not disturb the shard
             self.keep(client, len(said.data) - len(payload or b""))
@@ -200,9 +204,27 @@ class Port:
         client.had_reply = True
         return await self.reply(number, payload or b"")
 
+    async def expect(self, request: Optional[Data]) -> None:
+        """Waits, before a request has its turn, for what others must do first."""
+
+    def give_way(self) -> bool:
+        """Ends the turn of the request that is being answered, as it waits for others, unless too many do; whether it may
+        wait. What is done unasked has no turn, and may."""
+        task = asyncio.current_task()
+        if task in self.at_turn:
+            if len(self.answers) - len(self.at_turn) >= ASIDE:
+                return False
+            self.end_turn(task)
+        return True
+
+    def end_turn(self, task: "asyncio.Task[Any]") -> None:
+        if task in self.at_turn:
+            self.at_turn.discard(task)
+            self.turns.release()
+
     def answered(self, task: "asyncio.Task[Said]") -> None:
+        self.end_turn(task)
         self.answers.discard(task)
-        self.turns.release()
         if not task.cancelled():
             task.exception()  # which who waits for the reply hears, if anybody does
 

@@ -37,6 +37,10 @@ class NodePort(Port):
         client.had_reply = True
         return Said(joined([FIGURES + json.dumps(self.figures()).encode(), answer(0, 1)], sender))
 
+    async def expect(self, request: Optional[Data]) -> None:
+        if request and request[0] == whole.WHOLE:
+            await self.node.intake.expect(memoryview(request))
+
     def longest(self) -> int:
         return max(self.shape.longest, whole.longest(self.shape))
 

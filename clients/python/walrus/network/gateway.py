@@ -196,10 +196,14 @@ async def serve(
             scheme = "https" if gateway.certificate else "http"
             ready(f"the gateway is at {scheme}://{host}:{port}/\nready")
             waiting = asyncio.create_task(told.wait())
-            await asyncio.wait({waiting, *filter(None, [network.task])}, return_when=asyncio.FIRST_COMPLETED)
+            tasks: "list[asyncio.Future[Any]]" = [waiting, gateway.watch.task, *filter(None, [network.task])]
+            await asyncio.wait(tasks, return_when=asyncio.FIRST_COMPLETED)
             waiting.cancel()
             if network.lost:
                 raise Unreachable(f"the gateway must stop, as it cannot follow the ledger: {network.lost}")
+            if gateway.watch.task.done() and (fault := gateway.watch.task.exception()):
+                said = f"{type(fault).__name__}: {fault}"  # without it a gateway would tell old news of the nodes
+                raise RuntimeError(f"the gateway must stop, as it asks the nodes no more: {said}")
         finally:
             await gateway.close()
     return 0

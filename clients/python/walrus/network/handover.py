@@ -1,6 +1,7 @@
 """What a node owes as the ledger goes on: what its shards must hold, of this committee and the next, and its words."""
 import asyncio
 import gc
+import sqlite3
 import sys
 from typing import TYPE_CHECKING, Any, Iterable, Optional
 
@@ -51,13 +52,18 @@ async def heal(node: "Node") -> None:
     lacked, late = dict[int, dict[bytes, bool]](), list[bytes]()
     while True:
         begun = clock()
-        lacks, unsaid = await survey(node)
-        taken = clock() - begun
-        vouched = [it for blobs in lacks.values() for it, said in blobs.items() if said]
-        urgent = any(map(node.ledger.certificate, vouched))
-        lost = tell_lost(node, vouched, lost, urgent)
-        for epoch, blobs in lacks.items():
-            await settle(node, epoch, [it for it, said in blobs.items() if said or it in lacked.get(epoch, ())])
+        try:
+            lacks, unsaid = await survey(node)
+            taken = clock() - begun
+            vouched = [it for blobs in lacks.values() for it, said in blobs.items() if said]
+            urgent = any(map(node.ledger.certificate, vouched))
+            lost = tell_lost(node, vouched, lost, urgent)
+            for epoch, blobs in lacks.items():
+                await settle(node, epoch, [it for it, said in blobs.items() if said or it in lacked.get(epoch, ())])
+        except (OSError, sqlite3.OperationalError) as fault:  # of the system, as where no descriptor is left
+            print(f"{node.name}: what is lacking is recovered later: {fault}", file=sys.stderr, flush=True)
+            await asyncio.sleep(LATEST)
+            continue
         recovered = lacks.get(node.ledger.writing_epoch, {})
         await acknowledge(node, [*recovered, *(it for it in late if it in unsaid)])
         lacked, late = lacks, unsaid
@@ -117,7 +123,7 @@ async def move(node: "Node") -> None:
                 await node.recorders.post(entry_key(node.name, "ready", epoch))
             if own and ledger.moving and len(ledger.ready) >= ledger.quorum:
                 await node.recorders.post(entry_key(node.name, "finish", epoch))
-        except OSError as fault:
+        except (OSError, sqlite3.OperationalError) as fault:
             print(f"{node.name}: epoch {epoch}: {fault}", file=sys.stderr, flush=True)
         await node.until(lambda it: it.revision != revision, pause)
         pause = min(2 * pause, 5.0)

@@ -23,14 +23,19 @@ class Intake:
     def __init__(self, node: "Node"):
         self.node, self.words = node, set["asyncio.Task[None]"]()  # that are given, and wait for disk and ledger
 
+    async def expect(self, request: memoryview) -> None:
+        """Waits until the registration of a blob is heard, but not for long."""
+        whole = Whole.read(self.node.port.shape, request)
+        if whole and whole.identifier not in self.node.ledger.blobs:
+            identifier = whole.identifier
+            await self.node.until(lambda it: identifier in it.blobs, HEARD)
+
     async def store(self, number: int, request: memoryview) -> list[bytes]:
-        """Stores a blob at a shard, once its registration is heard."""
+        """Stores a blob at a shard."""
         node, ledger = self.node, self.node.ledger
         if not (whole := Whole.read(node.port.shape, request)):
             return [answer(client.MALFORMED, 3)]
         identifier = whole.identifier
-        if identifier not in ledger.blobs:
-            await node.until(lambda it: identifier in it.blobs, HEARD)
         shard = node.sides.get(ledger.writing_epoch, {}).get(number)
         if not shard:
             return [answer(DECLINED)]

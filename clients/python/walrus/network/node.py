@@ -105,8 +105,11 @@ class Node(View):
             wrong = {await self.wrong.get()}
             while not self.wrong.empty():
                 wrong.add(self.wrong.get_nowait())
-            for epoch in list(self.sides):
-                await settle(self, epoch, wrong)
+            try:
+                for epoch in list(self.sides):
+                    await settle(self, epoch, wrong)
+            except (OSError, sqlite3.OperationalError) as fault:  # `heal` finds it again
+                print(f"{self.name}: what went wrong is recovered later: {fault}", file=sys.stderr, flush=True)
 
     async def apply(self, entries: list[Entry]) -> None:
         """Enters entries in their order."""
@@ -222,6 +225,8 @@ class Node(View):
         if not await self.durable() or self.store.losses != losses:
             return [answer(FULL)]
         voted = functools.partial(ledger.voted, kind, identifier, self.name)
+        if not self.port.give_way():
+            return [answer(*client.LEDGER_AWAY)]  # many wait for it already
         try:
             await self.recorders.post(entry_key(self.name, kind, shard.epoch, identifier.hex()))
             if not await self.until(lambda _: voted() or ledger.writing_epoch != shard.epoch, 20):

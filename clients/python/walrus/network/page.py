@@ -102,7 +102,7 @@ class Watch:
             if seat:
                 await seat.ask(client.write_frame(client.Read(bytes(32))))
                 self.figures[name] = told = numbers(await self.peers.told(name, FIGURES))
-                if "ledger" in told:
+                if "place" in told.get("ledger", {}):
                     told["ledger"]["behind"] = max(0, self.place() - told["ledger"]["place"])
             self.faults[name] = ""
         except ConnectionError as fault:

@@ -99,7 +99,9 @@ class Peers:
                 with contextlib.closing(writer):
                     writer.write(client.envelope(request))
                     _, payload = await client.take_envelope(reader, 65_536)
-                    return dict(json.loads(payload[1:]))
+                    if not isinstance(told := json.loads(payload[1:]), dict):
+                        raise ValueError("what it tells are no figures")
+                    return told
         except (OSError, EOFError, ValueError, RecursionError) as fault:
             raise ConnectionError(client.fault_in_words(fault, self.seconds)) from None
 

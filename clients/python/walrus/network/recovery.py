@@ -10,7 +10,7 @@ from typing import TYPE_CHECKING, Awaitable, Callable, Collection, Iterable, Nam
 from .. import client, frames
 from ..frames import METADATA, PRIMARY, SECONDARY, code_of
 
-from .judge import Busy, name_of
+from .judge import Busy, Clash, name_of
 from .ledger import ACK, ATTEST
 from .peers import Seat
 from .shard import Shard
@@ -50,6 +50,8 @@ class Once(client.Shard):
             self.asked.add_done_callback(lambda it: it.cancelled() or it.exception())  # also where nobody waits
         replies = await asyncio.shield(self.asked)
         self.late = False
+        if len(replies) < len(self.sent):
+            raise ConnectionError("its reply ended with a clash")
         return [replies[self.sent.index(it)] for it in requests]  # type: ignore[arg-type]
 
 
@@ -57,12 +59,19 @@ async def by_lanes(node: "Node", lacks: Iterable[Lack], step: Callable[[Lack], A
     """Takes a step for each blob, several at once. What fails comes again."""
     left = iter(lacks)
 
+    def say(lack: Lack, fault: str) -> None:
+        print(f"{lack.shard.title}: {lack.identifier.hex()}: {fault}", file=sys.stderr, flush=True)
+
     async def go_on() -> None:
         for lack in left:
             try:
                 await step(lack)
             except (OSError, Busy, sqlite3.OperationalError) as fault:
-                print(f"{lack.shard.title}: {lack.identifier.hex()}: {fault}", file=sys.stderr, flush=True)
+                say(lack, str(fault))
+            except (Clash, sqlite3.Error):
+                raise  # of digests, or of the disk: the node must not go on
+            except Exception as fault:  # whatever others reply, this node goes on
+                say(lack, f"{type(fault).__name__}: {fault}")
 
     async with asyncio.TaskGroup() as group:
         for _ in range(max(1, min(LANES, SEATS // node.port.shape.shards))):

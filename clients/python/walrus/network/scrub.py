@@ -63,7 +63,7 @@ class Scrub:
             self.now.clear()
             try:
                 await self.scrub()
-            except (OSError, Busy) as fault:
+            except (OSError, Busy, sqlite3.OperationalError) as fault:
                 print(f"{self.node.name}: the scrub goes on later: {fault}", file=sys.stderr, flush=True)
                 await asyncio.sleep(NOTED)
 
@@ -100,7 +100,12 @@ class Scrub:
         while True:
             await self.left.wait()
             self.left.clear()
-            await self.sweep()
+            try:
+                await self.sweep()
+            except (OSError, sqlite3.OperationalError) as fault:  # of the system, as where no descriptor is left
+                print(f"{self.node.name}: what nothing names is swept later: {fault}", file=sys.stderr, flush=True)
+                await asyncio.sleep(NOTED)
+                self.left.set()
 
     async def sweep(self) -> None:
         """Removes what a crash left without a name, and what a shard held that is here no more."""
