@@ -11,6 +11,7 @@ import sys
 import tempfile
 import time
 import unittest
+import zlib
 from unittest import mock
 
 import aiohttp
@@ -139,6 +140,60 @@ class Adversary(LedgerCase):
         self.assertLess(time.monotonic() - begun, 15)
         for writer in opened:
             writer.transport.abort()
+
+    async def opened(self, name: str, count: int) -> list[tuple[asyncio.StreamReader, asyncio.StreamWriter]]:
+        """So many connections with a recorder."""
+        host, _, port = self.local.told()["recorders"][0].rpartition(":")
+        context, opened = self.context(name), list[tuple[asyncio.StreamReader, asyncio.StreamWriter]]()
+        for _ in range(count):
+            with contextlib.suppress(OSError):
+                opened.append(await asyncio.open_connection(host, int(port), ssl=context))
+                self.addCleanup(opened[-1][1].transport.abort)
+        return opened
+
+    async def answered(self, opened: list[tuple[asyncio.StreamReader, asyncio.StreamWriter]], status: int) -> int:
+        """How many of some connections answer so."""
+        found = 0
+        for reader, writer in opened:
+            with contextlib.suppress(OSError, asyncio.IncompleteReadError, TimeoutError):
+                writer.write(b"GET /v1/status HTTP/1.1\r\nHost: x\r\n\r\n")
+                async with asyncio.timeout(5):
+                    head = await reader.readuntil(b"\r\n\r\n")
+                    await reader.readexactly(int(head.lower().partition(b"content-length: ")[2].split()[0]))
+                found += head.startswith(f"HTTP/1.1 {status} ".encode())
+        return found
+
+    async def test_no_name_has_all_connections_and_one_too_many_is_ended(self) -> None:
+        await self.newcomer("mallory")
+        recorder, connected = self.recorders[0], self.services[0].connected
+        await self.user(OPERATOR, 0).post(registration(OPERATOR, 1))
+        many = await self.opened("mallory", recording.OF_NAME + 20)
+        self.assertEqual(await self.answered(many, 200), recording.OF_NAME)
+        self.assertEqual(sum(not reader.at_eof() and not reader.exception() for reader, _ in many), recording.OF_NAME)
+        await self.user(OPERATOR, 0).post(entry_key(OPERATOR, "expel", "mallory"))
+        self.assertIn("mallory", recorder.ledger.expelled)
+        self.assertEqual(await self.answered(many, 403), recording.OF_NAME)
+        async with asyncio.timeout(10):
+            while connected["mallory"]:
+                await asyncio.sleep(0.05)
+        self.assertEqual(await self.answered(await self.opened("mallory", 20), 403), recording.OF_OTHERS)
+
+    async def test_connections_of_many_names_are_bounded_too(self) -> None:
+        with mock.patch.object(recording, "CONNECTIONS", 20):
+            opened = await self.opened("publisher", 30)
+            self.assertLessEqual(await self.answered(opened, 200), 20)
+            async with asyncio.timeout(10):
+                while self.services[0].connected.total() > 20:
+                    await asyncio.sleep(0.05)
+            self.assertGreaterEqual(sum(reader.at_eof() or bool(reader.exception()) for reader, _ in opened), 10)
+
+    async def test_what_is_packed_stays_so(self) -> None:
+        """A body that would be a thousand times longer is no JSON, and no room is taken for it."""
+        for packing in ("deflate", "gzip"):
+            body = zlib.compress(b" " * 400_000 + b"[]", 9, 15 if packing == "deflate" else 31)
+            headers = {"Content-Encoding": packing}
+            said = await self.ask("publisher", "POST", "/v1/entries", data=body, headers=headers)
+            self.assertEqual((said[0], "no JSON" in said[1]["error"]), (400, True))
 
     async def test_who_follows_and_reads_nothing_is_let_go_and_holds_up_nobody(self) -> None:
         for service in self.services:
