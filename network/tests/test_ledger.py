@@ -124,6 +124,25 @@ class Rules(unittest.TestCase):
         self.assertIsNone(ledger.apply(Entry(9 + share, entry_key("x", "register", names[-1], 11))))
         self.assertEqual((ledger.posted["x"], len(ledger.blobs)), (0, share // 2 + 1))
 
+    def test_a_longer_time_counts_on_the_share_of_who_asked_for_it(self) -> None:
+        with tempfile.TemporaryDirectory() as folder:
+            kept = State(f"{folder}/kept")
+            for ledger in (Ledger(), kept.ledger):
+                ledger.apply(Entry(1, entry_key(OPERATOR, "begin", 0, 1, "a,b,c,d")))
+                blob = "11" * 32
+                for poster, until in (("x", 2), ("y", 9), ("z", 9), ("x", 5)):
+                    self.assertIsNotNone(ledger.apply(Entry(2, entry_key(poster, "register", blob, until))))
+                    ledger.blobs.posters()  # it is in the database
+                self.assertEqual(+ledger.posted, {"x": 2, "y": 1, "z": 1})
+                self.turn(ledger, 1)
+                self.assertEqual(+ledger.posted, {"y": 1})
+            kept.save(Chain(1, bytes(32)))
+            taken = State()
+            taken.take([zlib.compress(it) for it in kept.written()])
+            self.same(kept.ledger, taken.ledger)
+            self.assertEqual(taken.ledger.blobs.posters(), {"y": 1})
+            kept.close()
+
     def turn(self, ledger: Ledger, epoch: int) -> None:
         """Has the same committee go on in the next epoch."""
         entries = [entry_key(OPERATOR, "begin", epoch, 1, "a,b,c,d"), *(entry_key(it, "ready", epoch) for it in "abc")]

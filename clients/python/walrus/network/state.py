@@ -29,8 +29,8 @@ INDEXES = {"of_epoch": "until", "of_number": "number"}
 TABLES += "".join(f"CREATE INDEX IF NOT EXISTS {name} ON blobs ({column});" for name, column in INDEXES.items())
 ALL = "SELECT identifier, number, until, poster, votes, certified, invalid FROM blobs ORDER BY identifier"
 INSERT = "INSERT INTO blobs VALUES (?, ?, ?, ?, ?, ?, ?)"
-PUT = f"""{INSERT} ON CONFLICT (identifier) DO UPDATE SET until = excluded.until, votes = excluded.votes,
-    certified = excluded.certified, invalid = excluded.invalid"""
+PUT = f"""{INSERT} ON CONFLICT (identifier) DO UPDATE SET until = excluded.until, poster = excluded.poster,
+    votes = excluded.votes, certified = excluded.certified, invalid = excluded.invalid"""
 
 
 def coded(votes: Mapping[int, frozenset[int]]) -> dict[int, int]:
