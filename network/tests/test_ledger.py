@@ -8,6 +8,7 @@ import random
 import sqlite3
 import subprocess
 import tempfile
+import tracemalloc
 import unittest
 import zlib
 from typing import Any, Optional
@@ -92,6 +93,7 @@ class Rules(unittest.TestCase):
         for text in ("65537", "-1", "01", "", "1 ", "٣"):
             self.assertIsNone(ledger.apply(Entry(5, f"a/register/{'00' * 32}/{text}")))
         self.assertEqual([number(text, 9) for text in ("0", "9", "10", "x")], [0, 9, None, None])
+        self.assertEqual([number(text, 10**12) for text in ("9" * 12, "9" * 5_000)], [10**12 - 1, None])
         for key in ("a/address/::1/7", "a/address/host.example/65535", f"{OPERATOR}/share/b/9", f"{OPERATOR}/expel/a"):
             self.assertEqual(ledger.apply(Entry(6, key)), "entered", key)
         self.assertEqual((ledger.addresses, ledger.shares), ({"a": ("host.example", 65_535)}, {"b": 9}))
@@ -154,6 +156,14 @@ class Rules(unittest.TestCase):
         for last, count in ((17, 5), (18, 0)):
             key = entry_key(OPERATOR, "begin", 0, 1, ",".join(["x" * 60] * 268 + ["x" * last]))
             self.assertEqual((len(key), len(Entry(1, key).words)), (16_367 + last, count))
+
+    def test_long_entries_are_not_kept_as_they_were_read(self) -> None:
+        tracemalloc.start()
+        self.addCleanup(tracemalloc.stop)
+        before = tracemalloc.get_traced_memory()[0]
+        for count in range(1_000):
+            self.assertEqual(Entry(1, f"{count}/" + "x" * 16_000).words, [])
+        self.assertLess(tracemalloc.get_traced_memory()[0] - before, 2**21)
 
     def test_a_fork_says_what_the_ledger_will_say_and_leaves_it_as_it_is(self) -> None:
         owners, words = [list("abcd"), list("abce"), list("aabb")], set[Optional[str]]()

@@ -26,7 +26,7 @@ from .notify import ready
 from .recorder import Broken, Recorder
 from .state import State
 
-MOST_BODY, MOST_ENTRIES, MOST_PLACE = 1_048_576, 4_096, 99_999_999  # bytes and entries of a body; the last place
+MOST_BODY, MOST_ENTRIES, MOST_PLACE = 1_048_576, 4_096, 10**12 - 1  # bytes and entries of a body; the last place
 REQUEST, ANSWER = 30.0, 8.0  # seconds
 CONNECTIONS, OF_NAME, OF_OTHERS = 1_024, 64, 4  # connections, those of one name, and those of a name that may not post
 EACH = 32  # requests of one name that are under way
