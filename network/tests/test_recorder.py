@@ -19,6 +19,7 @@ import harness
 from aiohttp import web
 from ledger_case import FOUNDED, LedgerCase, Memory, registration
 from walrus.network import certificates, follower, recorder, recording
+from walrus.network.etcd import Batch
 from walrus.network.follower import Parted, Recorders, Refused, Unreachable, View
 from walrus.network.entries import ACK, ADDRESS, OPERATOR, Chain, Entry, entry_key
 from walrus.network.local import AUTHORITY, ETCD_AUTHORITY, Local, make_certificate
@@ -187,6 +188,17 @@ class Adversary(LedgerCase):
                 while self.services[0].connected.total() > 20:
                     await asyncio.sleep(0.05)
             self.assertGreaterEqual(sum(reader.at_eof() or bool(reader.exception()) for reader, _ in opened), 10)
+
+    async def test_who_follows_holds_no_more_of_the_ledger_than_is_kept_for_all(self) -> None:
+        asked = self.recorders[0]
+        await asked.refresh()
+        chain = asked.chain
+        for _ in range(20):
+            batch = Batch(chain, ["x" * 16_000] * (recorder.MOST_BATCH // 16_000))
+            self.assertTrue((await asked.etcd.append(asked.head(chain), asked.head(batch.after), batch))[0])
+            chain = batch.after
+        read = await asked.etcd.batches(1)
+        self.assertTrue(0 < sum(it.size for it in read) <= recorder.RECENT)
 
     async def test_what_is_packed_stays_so(self) -> None:
         """A body that would be a thousand times longer is no JSON, and no room is taken for it."""
