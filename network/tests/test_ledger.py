@@ -284,6 +284,31 @@ class Rules(unittest.TestCase):
             self.assertEqual((kept.chain, kept.ledger.now), (Chain(1, bytes(32)), ("a", "b", "c", "d")))
             kept.close()
 
+    def test_a_state_stays_where_the_disk_is_full_at_a_start(self) -> None:
+        """Or where it cannot be read or opened: only what is torn is made anew."""
+        with tempfile.TemporaryDirectory() as folder:
+            path = pathlib.Path(folder) / "kept"
+            kept = State.open(str(path))
+            kept.ledger.apply(Entry(1, entry_key(OPERATOR, "begin", 0, 1, "a,b,c,d")))
+            kept.save(Chain(1, bytes(32)))
+            kept.close()
+            whole = path.read_bytes()
+            base = sqlite3.connect(path)  # another one's, which stands for a disk that takes nothing
+            base.execute("BEGIN EXCLUSIVE")
+            connect = sqlite3.connect
+            with mock.patch.object(state.sqlite3, "connect", lambda *it, **to: connect(*it, **{**to, "timeout": 0})):
+                with self.assertRaisesRegex(OSError, "kept is not opened: database is locked"):
+                    State.open(str(path))
+            base.close()
+            path.with_name("kept-wal").mkdir()  # so that it cannot be opened
+            with self.assertRaisesRegex(OSError, "kept is not opened: unable to open database file"):
+                State.open(str(path))
+            path.with_name("kept-wal").rmdir()
+            self.assertEqual(path.read_bytes(), whole)
+            kept = State.open(str(path))
+            self.assertEqual(kept.chain, Chain(1, bytes(32)))
+            kept.close()
+
     def test_a_full_disk_keeps_nobody_from_hearing_the_ledger(self) -> None:
         class Full(sqlite3.Connection):
             def execute(self, words: str, *values: Any) -> sqlite3.Cursor:

@@ -1,24 +1,28 @@
 """Recorders over a ledger, tried by who posts what it must not, and by what fails around them."""
 import asyncio
 import contextlib
+import dataclasses
+import io
 import json
 import pathlib
 import random
 import shutil
 import socket
+import sqlite3
 import ssl
 import sys
 import tempfile
 import time
 import unittest
 import zlib
+from typing import Any
 from unittest import mock
 
 import aiohttp
 import harness
 from aiohttp import web
 from ledger_case import FOUNDED, LedgerCase, Memory, registration
-from walrus.network import certificates, follower, recorder, recording
+from walrus.network import certificates, follower, keeping, recorder, recording, state
 from walrus.network.etcd import Batch
 from walrus.network.follower import Parted, Recorders, Refused, Unreachable, View
 from walrus.network.entries import ACK, ADDRESS, OPERATOR, Chain, Entry, entry_key
@@ -511,6 +515,58 @@ class Streams(LedgerCase):
         self.posts = [(200, [{"refused": "only operator says that"}])]
         with self.assertRaisesRegex(Refused, "^only operator says that$"):
             await self.recorders.post("publisher/begin/1/1/a,b,c,d")
+
+
+class FullDisk(unittest.IsolatedAsyncioTestCase):
+    async def asyncSetUp(self) -> None:
+        asyncio.get_running_loop().set_debug(False)
+
+    async def test_what_etcd_has_is_told_with_its_place(self) -> None:
+        class Full(sqlite3.Connection):
+            def execute(self, words: str, *values: Any) -> sqlite3.Cursor:
+                if words == "COMMIT" and full:
+                    super().execute("ROLLBACK")
+                    raise sqlite3.OperationalError("database or disk is full")
+                return super().execute(words, *values)
+
+        full, connect = False, sqlite3.connect
+        with tempfile.TemporaryDirectory() as folder, contextlib.redirect_stderr(io.StringIO()) as said:
+            with mock.patch.object(state.sqlite3, "connect", lambda *it, **to: connect(*it, **to, factory=Full)):
+                kept = state.State(f"{folder}/kept")
+            made = recorder.Recorder(Memory(), kept)
+            running = asyncio.create_task(made.run())
+            self.assertEqual(await made.post([FOUNDED]), [1])
+            full = True
+            self.assertEqual(await made.post([registration("x", number) for number in range(3)]), [2, 3, 4])
+            running.cancel()
+            kept.close()
+        self.assertIn("database or disk is full", said.getvalue())
+
+    async def test_a_recorder_whose_state_cannot_be_opened_says_so(self) -> None:
+        with tempfile.TemporaryDirectory() as folder, contextlib.redirect_stderr(io.StringIO()) as said:
+            path = pathlib.Path(folder, "kept")
+            path.mkdir()
+            words = {it.name: "" for it in dataclasses.fields(recording.Settings) if it.default is dataclasses.MISSING}
+            settings = recording.Settings(**{**words, "name": "recorder-0", "state": str(path)})
+            self.assertEqual(await recording.serve(settings), 1)
+            self.assertTrue(path.exists())
+        told = f"recorder-0 cannot start: {path} is not opened: unable to open database file\n"
+        self.assertIn(told, said.getvalue())
+
+    async def test_a_checkpoint_that_cannot_be_written_is_written_later(self) -> None:
+        made, tries = recorder.Recorder(Memory()), list[int]()
+        keeper = keeping.Keeper(made, 0.0)
+
+        async def look() -> None:
+            tries.append(1)
+            if len(tries) < 3:
+                raise sqlite3.OperationalError("unable to open database file")
+            raise asyncio.CancelledError
+
+        with mock.patch.object(keeping, "PAUSE", 0.0), mock.patch.object(keeper, "look", look):
+            with contextlib.redirect_stderr(io.StringIO()) as said, self.assertRaises(asyncio.CancelledError):
+                await keeper.run()
+        self.assertIn("unable to open database file; it is tried again", said.getvalue())
 
 
 class Steps(unittest.IsolatedAsyncioTestCase):

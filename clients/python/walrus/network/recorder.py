@@ -179,6 +179,7 @@ class Recorder:
     async def append(self) -> None:
         """Appends what waits and counts as one batch, and answers, unless another recorder was first."""
         begun, (chosen, refused), others = time.monotonic(), self.judge(), list[Batch]()
+        first = self.chain.place + 1
         if chosen:
             batch = Batch(self.chain, list(chosen))
             won, others = await self.etcd.append(self.head(self.chain), self.head(batch.after), batch)
@@ -194,9 +195,9 @@ class Recorder:
         for taken, reason in refused:
             if not taken.done():
                 taken.set_exception(Refused(reason))
-        for text, taken in chosen.items():
+        for place, taken in enumerate(chosen.values(), first):
             if not taken.done():
-                taken.set_result(self.index.find(text) or 0)
+                taken.set_result(place)
         self.waiting = [it for it in self.waiting if not it[1].done()]
         if self.waiting:
             self.bell.set()

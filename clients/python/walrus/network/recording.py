@@ -7,6 +7,7 @@ import dataclasses
 import json
 import logging
 import pathlib
+import sqlite3
 import ssl
 import sys
 from typing import Any, Awaitable, Callable, ClassVar, Optional
@@ -231,8 +232,12 @@ def etcd_of(settings: Settings) -> Etcd:
 
 async def serve(settings: Settings) -> int:
     """Runs a recorder until it is told to end, or must."""
+    try:
+        state = State.open(settings.state)
+    except OSError as fault:
+        print(f"{settings.name} cannot start: {fault}", file=sys.stderr, flush=True)
+        return 1
     etcd = etcd_of(settings)
-    state = State.open(settings.state)
     service, ended = Service(Recorder(etcd, state), settings), ending()
     running = asyncio.create_task(service.recorder.run())
     keeping = asyncio.create_task(Keeper(service.recorder, settings.patience).run())
@@ -244,7 +249,7 @@ async def serve(settings: Settings) -> int:
             if task.done():
                 task.result()
         return 0
-    except (Broken, OSError) as fault:
+    except (Broken, OSError, sqlite3.OperationalError) as fault:
         told = f": restore it (network/OPERATING.md), or remove {settings.state}" if isinstance(fault, Broken) else ""
         print(f"{settings.name} must stop: {fault}{told}", file=sys.stderr, flush=True)
         return 1

@@ -15,6 +15,7 @@ from .entries import ACK, ATTEST, Chain, Entry
 from .ledger import Ledger
 
 CACHED, LATER = 8_192, 1.0  # blobs that are kept as they were read; seconds until a full disk is tried again
+TORN = sqlite3.SQLITE_CORRUPT, sqlite3.SQLITE_NOTADB, sqlite3.SQLITE_ERROR  # a database that is none, or another's
 TABLES = """
 PRAGMA journal_mode = WAL;
 PRAGMA synchronous = NORMAL;
@@ -199,7 +200,9 @@ class State:
             return cls(path, tail)
         except BlockingIOError:
             return cls()
-        except (sqlite3.DatabaseError, ValueError, KeyError, TypeError):
+        except (sqlite3.DatabaseError, ValueError, KeyError, TypeError) as fault:
+            if getattr(fault, "sqlite_errorcode", sqlite3.SQLITE_CORRUPT) & 0xFF not in TORN:
+                raise OSError(f"{path} is not opened: {fault}") from fault  # such as a disk that is full
             for end in ("", "-wal", "-shm"):
                 pathlib.Path(path + end).unlink(missing_ok=True)
             return cls(path, tail)
