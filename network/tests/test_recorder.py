@@ -537,7 +537,12 @@ class FullDisk(unittest.IsolatedAsyncioTestCase):
             running = asyncio.create_task(made.run())
             self.assertEqual(await made.post([FOUNDED]), [1])
             full = True
-            self.assertEqual(await made.post([registration("x", number) for number in range(3)]), [2, 3, 4])
+            texts = [registration("x", 1), *(entry_key("x", ADDRESS, "127.0.0.1", port) for port in (1, 2))]
+            for _ in range(2):
+                self.assertEqual([*await made.post(texts[:1]), *await made.post(texts[2:])], [2, 3])
+            for _ in range(2):
+                self.assertEqual(await made.post(texts[1:2]), [4])
+            self.assertEqual(await made.post(texts[2:]), [5])  # it was left
             running.cancel()
             kept.close()
         self.assertIn("database or disk is full", said.getvalue())

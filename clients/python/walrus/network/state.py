@@ -7,7 +7,7 @@ import random
 import sqlite3
 import sys
 import time
-from typing import Any, Iterable, Iterator, Mapping, Optional
+from typing import Any, Callable, Iterable, Iterator, Mapping, Optional
 
 from . import checkpoint
 from .blobs import Blob, Blobs
@@ -176,6 +176,7 @@ class State:
         self.blobs, self.identity, self.turns = Kept(self.base), "", list[int]()
         self.ledger, self.saved = Ledger(self.blobs), 0  # the epoch that was saved
         self.chain: Optional[Chain] = None
+        self.apply: Callable[[Entry], Optional[str]] = self.ledger.apply  # enters again what the disk did not take
         self.fresh, self.again = list[Entry](), 0.0  # entries that the disk did not take; when it is tried again
         try:
             self.base.executescript(TABLES + "BEGIN IMMEDIATE;")
@@ -254,7 +255,7 @@ class State:
             self.blobs.forget()
             self.load()
             for entry in self.fresh:
-                self.ledger.apply(entry)
+                self.apply(entry)
             self.chain, self.again = chain, time.monotonic() + LATER
 
     def commit(self) -> None:
