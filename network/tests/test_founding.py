@@ -112,10 +112,16 @@ class Found(FoundingCase):
             (["operator=x:1", "a=y:1", "b=z:1", "c=w:1"], "operator"),
             (["a=x:70000", "a=y:1", "b=z:1", "c=w:1"], "port 70000"),
             (["a=x", "b=y:1", "c=z:1", "d=w:1"], "a=x is not NAME=HOST:PORT"),
+            (["a=recorder:1", "b=y:1", "c=z:1", "d=w:1"], "a machine cannot be called recorder"),
+            (["a=Recorder.:1", "b=y:1", "c=z:1", "d=w:1"], "a machine cannot be called recorder"),
         ):
             words = [str(it) for pair in faults.items() for it in pair]
             with self.subTest(nodes=nodes), self.assertRaisesRegex(Unfounded, text):
                 await self.says("found", self.folder, *words, *nodes)
+            self.assertFalse(self.folder.exists())
+        for words in (["recorder", *THREE], ["alpha", *THREE, "--gateway", "gate=RECORDER"]):
+            with self.subTest(words=words), self.assertRaisesRegex(Unfounded, "a machine cannot be called recorder"):
+                await self.says("found", self.folder, "--faults", 1, "--concentrated", "--ledger", *words)
             self.assertFalse(self.folder.exists())
         long = [f"{it * 64}=h{it}:1*100" for it in "abcdefghij"]
         with self.assertRaisesRegex(Unfounded, "the names of 1000 shards are too long"):

@@ -454,6 +454,20 @@ class Impatient(GuardCase):
         await asyncio.sleep(0.3)
         self.assertEqual(((await self.ask("GET", "/livez"))[0], len(self.gateway.each)), (200, 1))
 
+    async def test_requests_that_wait_on_one_connection_are_bounded(self) -> None:
+        await self.start(requests=0)
+        for count, most in ((50, 50), (5_000, 64)):
+            reader, writer = await asyncio.open_connection("127.0.0.1", self.port)
+            writer.write(b"GET /livez HTTP/1.1\r\nHost: x\r\n\r\n" * count)
+            said = b""
+            with contextlib.suppress(OSError):
+                async with asyncio.timeout(10):
+                    while said.count(b"HTTP/1.1 200 ") < count and (more := await reader.read(65_536)):
+                        said += more
+            found = said.count(b"HTTP/1.1 200 ")
+            self.assertTrue(found == count if count == most else found <= most, f"{found} of {count}")
+            writer.transport.abort()
+
 
 class Logs(GuardCase):
     async def test_the_access_log(self) -> None:

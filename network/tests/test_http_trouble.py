@@ -11,7 +11,7 @@ from unittest import mock
 from harness import FOUR, HERE, ODD
 from http_case import DRAWN, GatewayCase
 from walrus import client
-from walrus.network import chunks, gateway, reading
+from walrus.network import chunks, connections, gateway, reading
 from walrus.network.chunks import File
 from walrus.network.gateway import Options
 from walrus.network.ledger import ATTEST, entry_key
@@ -46,7 +46,7 @@ class Trouble(GatewayCase):
         for first in range(0, 200, 50):
             await asyncio.gather(*(self.strange(number) for number in range(first, first + 50)))
         self.assertTrue((await self.get(self.name))[2] == data)
-        with mock.patch.object(gateway, "FIRST", 0.2):
+        with mock.patch.object(connections, "FIRST", 0.2):
             self.assertEqual(await self.say(b"", wait=True), b"")  # who says nothing is not kept
         served = [await asyncio.open_connection("127.0.0.1", self.port) for _ in range(150)]
         await asyncio.sleep(0.2)

@@ -8,6 +8,7 @@ import random
 import sqlite3
 import subprocess
 import tempfile
+import tracemalloc
 import unittest
 import zlib
 from typing import Any, Optional
@@ -92,6 +93,7 @@ class Rules(unittest.TestCase):
         for text in ("65537", "-1", "01", "", "1 ", "٣"):
             self.assertIsNone(ledger.apply(Entry(5, f"a/register/{'00' * 32}/{text}")))
         self.assertEqual([number(text, 9) for text in ("0", "9", "10", "x")], [0, 9, None, None])
+        self.assertEqual([number(text, 10**12) for text in ("9" * 12, "9" * 5_000)], [10**12 - 1, None])
         for key in ("a/address/::1/7", "a/address/host.example/65535", f"{OPERATOR}/share/b/9", f"{OPERATOR}/expel/a"):
             self.assertEqual(ledger.apply(Entry(6, key)), "entered", key)
         self.assertEqual((ledger.addresses, ledger.shares), ({"a": ("host.example", 65_535)}, {"b": 9}))
@@ -124,6 +126,25 @@ class Rules(unittest.TestCase):
         self.assertIsNone(ledger.apply(Entry(9 + share, entry_key("x", "register", names[-1], 11))))
         self.assertEqual((ledger.posted["x"], len(ledger.blobs)), (0, share // 2 + 1))
 
+    def test_a_longer_time_counts_on_the_share_of_who_asked_for_it(self) -> None:
+        with tempfile.TemporaryDirectory() as folder:
+            kept = State(f"{folder}/kept")
+            for ledger in (Ledger(), kept.ledger):
+                ledger.apply(Entry(1, entry_key(OPERATOR, "begin", 0, 1, "a,b,c,d")))
+                blob = "11" * 32
+                for poster, until in (("x", 2), ("y", 9), ("z", 9), ("x", 5)):
+                    self.assertIsNotNone(ledger.apply(Entry(2, entry_key(poster, "register", blob, until))))
+                    ledger.blobs.posters()  # it is in the database
+                self.assertEqual(+ledger.posted, {"x": 2, "y": 1, "z": 1})
+                self.turn(ledger, 1)
+                self.assertEqual(+ledger.posted, {"y": 1})
+            kept.save(Chain(1, bytes(32)))
+            taken = State()
+            taken.take([zlib.compress(it) for it in kept.written()])
+            self.same(kept.ledger, taken.ledger)
+            self.assertEqual(taken.ledger.blobs.posters(), {"y": 1})
+            kept.close()
+
     def turn(self, ledger: Ledger, epoch: int) -> None:
         """Has the same committee go on in the next epoch."""
         entries = [entry_key(OPERATOR, "begin", epoch, 1, "a,b,c,d"), *(entry_key(it, "ready", epoch) for it in "abc")]
@@ -135,6 +156,14 @@ class Rules(unittest.TestCase):
         for last, count in ((17, 5), (18, 0)):
             key = entry_key(OPERATOR, "begin", 0, 1, ",".join(["x" * 60] * 268 + ["x" * last]))
             self.assertEqual((len(key), len(Entry(1, key).words)), (16_367 + last, count))
+
+    def test_long_entries_are_not_kept_as_they_were_read(self) -> None:
+        tracemalloc.start()
+        self.addCleanup(tracemalloc.stop)
+        before = tracemalloc.get_traced_memory()[0]
+        for count in range(1_000):
+            self.assertEqual(Entry(1, f"{count}/" + "x" * 16_000).words, [])
+        self.assertLess(tracemalloc.get_traced_memory()[0] - before, 2**21)
 
     def test_a_fork_says_what_the_ledger_will_say_and_leaves_it_as_it_is(self) -> None:
         owners, words = [list("abcd"), list("abce"), list("aabb")], set[Optional[str]]()
@@ -253,6 +282,31 @@ class Rules(unittest.TestCase):
             path.write_bytes(whole)
             kept = State.open(str(path))
             self.assertEqual((kept.chain, kept.ledger.now), (Chain(1, bytes(32)), ("a", "b", "c", "d")))
+            kept.close()
+
+    def test_a_state_stays_where_the_disk_is_full_at_a_start(self) -> None:
+        """Or where it cannot be read or opened: only what is torn is made anew."""
+        with tempfile.TemporaryDirectory() as folder:
+            path = pathlib.Path(folder) / "kept"
+            kept = State.open(str(path))
+            kept.ledger.apply(Entry(1, entry_key(OPERATOR, "begin", 0, 1, "a,b,c,d")))
+            kept.save(Chain(1, bytes(32)))
+            kept.close()
+            whole = path.read_bytes()
+            base = sqlite3.connect(path)  # another one's, which stands for a disk that takes nothing
+            base.execute("BEGIN EXCLUSIVE")
+            connect = sqlite3.connect
+            with mock.patch.object(state.sqlite3, "connect", lambda *it, **to: connect(*it, **{**to, "timeout": 0})):
+                with self.assertRaisesRegex(OSError, "kept is not opened: database is locked"):
+                    State.open(str(path))
+            base.close()
+            path.with_name("kept-wal").mkdir()  # so that it cannot be opened
+            with self.assertRaisesRegex(OSError, "kept is not opened: unable to open database file"):
+                State.open(str(path))
+            path.with_name("kept-wal").rmdir()
+            self.assertEqual(path.read_bytes(), whole)
+            kept = State.open(str(path))
+            self.assertEqual(kept.chain, Chain(1, bytes(32)))
             kept.close()
 
     def test_a_full_disk_keeps_nobody_from_hearing_the_ledger(self) -> None:

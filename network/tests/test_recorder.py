@@ -1,23 +1,29 @@
 """Recorders over a ledger, tried by who posts what it must not, and by what fails around them."""
 import asyncio
 import contextlib
+import dataclasses
+import io
 import json
 import pathlib
 import random
 import shutil
 import socket
+import sqlite3
 import ssl
 import sys
 import tempfile
 import time
 import unittest
+import zlib
+from typing import Any
 from unittest import mock
 
 import aiohttp
 import harness
 from aiohttp import web
 from ledger_case import FOUNDED, LedgerCase, Memory, registration
-from walrus.network import certificates, follower, recorder, recording
+from walrus.network import certificates, follower, keeping, recorder, recording, state
+from walrus.network.etcd import Batch
 from walrus.network.follower import Parted, Recorders, Refused, Unreachable, View
 from walrus.network.entries import ACK, ADDRESS, OPERATOR, Chain, Entry, entry_key
 from walrus.network.local import AUTHORITY, ETCD_AUTHORITY, Local, make_certificate
@@ -121,7 +127,8 @@ class Adversary(LedgerCase):
         self.assertEqual((status, {tuple(it) for it in said}), (200, {("refused",)}))
         for after in ("-1", "x", "1e9", "99999999999999999999"):
             self.assertEqual((await self.ask("mallory", "GET", f"/v1/entries?after={after}"))[0], 400)
-        self.assertEqual((await self.ask("mallory", "GET", "/v1/entries?after=9"))[0], 409)
+        for after in (9, 100_000_000, 999_999_999_999):
+            self.assertEqual((await self.ask("mallory", "GET", f"/v1/entries?after={after}"))[0], 409)
         async with self.following(self.user("publisher")) as view:
             self.assertEqual(view.chain.place, 1)
 
@@ -139,6 +146,71 @@ class Adversary(LedgerCase):
         self.assertLess(time.monotonic() - begun, 15)
         for writer in opened:
             writer.transport.abort()
+
+    async def opened(self, name: str, count: int) -> list[tuple[asyncio.StreamReader, asyncio.StreamWriter]]:
+        """So many connections with a recorder."""
+        host, _, port = self.local.told()["recorders"][0].rpartition(":")
+        context, opened = self.context(name), list[tuple[asyncio.StreamReader, asyncio.StreamWriter]]()
+        for _ in range(count):
+            with contextlib.suppress(OSError):
+                opened.append(await asyncio.open_connection(host, int(port), ssl=context))
+                self.addCleanup(opened[-1][1].transport.abort)
+        return opened
+
+    async def answered(self, opened: list[tuple[asyncio.StreamReader, asyncio.StreamWriter]], status: int) -> int:
+        """How many of some connections answer so."""
+        found = 0
+        for reader, writer in opened:
+            with contextlib.suppress(OSError, asyncio.IncompleteReadError, TimeoutError):
+                writer.write(b"GET /v1/status HTTP/1.1\r\nHost: x\r\n\r\n")
+                async with asyncio.timeout(5):
+                    head = await reader.readuntil(b"\r\n\r\n")
+                    await reader.readexactly(int(head.lower().partition(b"content-length: ")[2].split()[0]))
+                found += head.startswith(f"HTTP/1.1 {status} ".encode())
+        return found
+
+    async def test_no_name_has_all_connections_and_one_too_many_is_ended(self) -> None:
+        await self.newcomer("mallory")
+        recorder, connected = self.recorders[0], self.services[0].connected
+        await self.user(OPERATOR, 0).post(registration(OPERATOR, 1))
+        many = await self.opened("mallory", recording.OF_NAME + 20)
+        self.assertEqual(await self.answered(many, 200), recording.OF_NAME)
+        self.assertEqual(sum(not reader.at_eof() and not reader.exception() for reader, _ in many), recording.OF_NAME)
+        await self.user(OPERATOR, 0).post(entry_key(OPERATOR, "expel", "mallory"))
+        self.assertIn("mallory", recorder.ledger.expelled)
+        self.assertEqual(await self.answered(many, 403), recording.OF_NAME)
+        async with asyncio.timeout(10):
+            while connected["mallory"]:
+                await asyncio.sleep(0.05)
+        self.assertEqual(await self.answered(await self.opened("mallory", 20), 403), recording.OF_OTHERS)
+
+    async def test_connections_of_many_names_are_bounded_too(self) -> None:
+        with mock.patch.object(recording, "CONNECTIONS", 20):
+            opened = await self.opened("publisher", 30)
+            self.assertLessEqual(await self.answered(opened, 200), 20)
+            async with asyncio.timeout(10):
+                while self.services[0].connected.total() > 20:
+                    await asyncio.sleep(0.05)
+            self.assertGreaterEqual(sum(reader.at_eof() or bool(reader.exception()) for reader, _ in opened), 10)
+
+    async def test_who_follows_holds_no_more_of_the_ledger_than_is_kept_for_all(self) -> None:
+        asked = self.recorders[0]
+        await asked.refresh()
+        chain = asked.chain
+        for _ in range(20):
+            batch = Batch(chain, ["x" * 16_000] * (recorder.MOST_BATCH // 16_000))
+            self.assertTrue((await asked.etcd.append(asked.head(chain), asked.head(batch.after), batch))[0])
+            chain = batch.after
+        read = await asked.etcd.batches(1)
+        self.assertTrue(0 < sum(it.size for it in read) <= recorder.RECENT)
+
+    async def test_what_is_packed_stays_so(self) -> None:
+        """A body that would be a thousand times longer is no JSON, and no room is taken for it."""
+        for packing in ("deflate", "gzip"):
+            body = zlib.compress(b" " * 400_000 + b"[]", 9, 15 if packing == "deflate" else 31)
+            headers = {"Content-Encoding": packing}
+            said = await self.ask("publisher", "POST", "/v1/entries", data=body, headers=headers)
+            self.assertEqual((said[0], "no JSON" in said[1]["error"]), (400, True))
 
     async def test_who_follows_and_reads_nothing_is_let_go_and_holds_up_nobody(self) -> None:
         for service in self.services:
@@ -443,6 +515,63 @@ class Streams(LedgerCase):
         self.posts = [(200, [{"refused": "only operator says that"}])]
         with self.assertRaisesRegex(Refused, "^only operator says that$"):
             await self.recorders.post("publisher/begin/1/1/a,b,c,d")
+
+
+class FullDisk(unittest.IsolatedAsyncioTestCase):
+    async def asyncSetUp(self) -> None:
+        asyncio.get_running_loop().set_debug(False)
+
+    async def test_what_etcd_has_is_told_with_its_place(self) -> None:
+        class Full(sqlite3.Connection):
+            def execute(self, words: str, *values: Any) -> sqlite3.Cursor:
+                if words == "COMMIT" and full:
+                    super().execute("ROLLBACK")
+                    raise sqlite3.OperationalError("database or disk is full")
+                return super().execute(words, *values)
+
+        full, connect = False, sqlite3.connect
+        with tempfile.TemporaryDirectory() as folder, contextlib.redirect_stderr(io.StringIO()) as said:
+            with mock.patch.object(state.sqlite3, "connect", lambda *it, **to: connect(*it, **to, factory=Full)):
+                kept = state.State(f"{folder}/kept")
+            made = recorder.Recorder(Memory(), kept)
+            running = asyncio.create_task(made.run())
+            self.assertEqual(await made.post([FOUNDED]), [1])
+            full = True
+            texts = [registration("x", 1), *(entry_key("x", ADDRESS, "127.0.0.1", port) for port in (1, 2))]
+            for _ in range(2):
+                self.assertEqual([*await made.post(texts[:1]), *await made.post(texts[2:])], [2, 3])
+            for _ in range(2):
+                self.assertEqual(await made.post(texts[1:2]), [4])
+            self.assertEqual(await made.post(texts[2:]), [5])  # it was left
+            running.cancel()
+            kept.close()
+        self.assertIn("database or disk is full", said.getvalue())
+
+    async def test_a_recorder_whose_state_cannot_be_opened_says_so(self) -> None:
+        with tempfile.TemporaryDirectory() as folder, contextlib.redirect_stderr(io.StringIO()) as said:
+            path = pathlib.Path(folder, "kept")
+            path.mkdir()
+            words = {it.name: "" for it in dataclasses.fields(recording.Settings) if it.default is dataclasses.MISSING}
+            settings = recording.Settings(**{**words, "name": "recorder-0", "state": str(path)})
+            self.assertEqual(await recording.serve(settings), 1)
+            self.assertTrue(path.exists())
+        told = f"recorder-0 cannot start: {path} is not opened: unable to open database file\n"
+        self.assertIn(told, said.getvalue())
+
+    async def test_a_checkpoint_that_cannot_be_written_is_written_later(self) -> None:
+        made, tries = recorder.Recorder(Memory()), list[int]()
+        keeper = keeping.Keeper(made, 0.0)
+
+        async def look() -> None:
+            tries.append(1)
+            if len(tries) < 3:
+                raise sqlite3.OperationalError("unable to open database file")
+            raise asyncio.CancelledError
+
+        with mock.patch.object(keeping, "PAUSE", 0.0), mock.patch.object(keeper, "look", look):
+            with contextlib.redirect_stderr(io.StringIO()) as said, self.assertRaises(asyncio.CancelledError):
+                await keeper.run()
+        self.assertIn("unable to open database file; it is tried again", said.getvalue())
 
 
 class Steps(unittest.IsolatedAsyncioTestCase):

@@ -12,7 +12,7 @@ Votes = Mapping[str, Mapping[int, frozenset[int]]]
 
 @dataclasses.dataclass(frozen=True)
 class Blob:
-    """A live blob: until when, who registered it, and the shards that acknowledged it or attested, for each epoch."""
+    """A live blob: until when, who had it kept so long, and the shards that acknowledged it or attested, by epoch."""
 
     until: int
     poster: str
@@ -59,7 +59,7 @@ class Blobs(MutableMapping[bytes, Blob]):
         self.kept = {identifier: blob for identifier, blob in self.kept.items() if blob.until > epoch}
 
     def posters(self) -> "collections.Counter[str]":
-        """How many blobs each poster has registered."""
+        """How many blobs each poster has kept."""
         return collections.Counter(blob.poster for blob in self.values())
 
     def counts(self) -> dict[str, int]:

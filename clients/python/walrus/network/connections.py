@@ -3,6 +3,7 @@ import asyncio
 import collections
 import contextlib
 import logging
+import math
 import os
 import ssl
 import sys
@@ -11,12 +12,39 @@ from typing import Any, Optional
 from aiohttp import http_exceptions, web
 
 FIRST, HANDSHAKE, EACH = 30.0, 5.0, 300  # seconds for a first request and for TLS; connections of one address
+WAITING = 64  # requests that a client has sent before the first of them is answered
 
 
 class Connection(web.RequestHandler):
-    """A connection with a client; what aiohttp stumbles over, such as some addresses, is malformed too."""
+    """A connection with a client, which counts among all of its server and among those of whom it is from: one too many
+    is ended. What aiohttp stumbles over, such as some addresses, is malformed too."""
 
     first: asyncio.TimerHandle  # ends a connection that brings no request
+
+    def __init__(self, server: web.Server, most: int, each: "collections.Counter[str]", **words: Any):
+        loop = asyncio.get_running_loop()
+        super().__init__(server, loop=loop, keepalive_timeout=30, lingering_time=2, auto_decompress=False, **words)
+        self.server, self.most, self.each, self.peer = server, most, each, ""
+
+    def whom(self, transport: asyncio.BaseTransport) -> tuple[str, float]:
+        """Whom a connection is from, and how many these may have."""
+        raise NotImplementedError
+
+    def connection_made(self, transport: asyncio.BaseTransport) -> None:
+        super().connection_made(transport)
+        self.first = asyncio.get_running_loop().call_later(FIRST, self.force_close)
+        self.peer, most = self.whom(transport)
+        self.each[self.peer] += 1
+        if len(self.server.connections) > self.most or self.each[self.peer] > most:
+            assert isinstance(transport, asyncio.Transport)
+            transport.abort()
+
+    def connection_lost(self, exc: Optional[BaseException]) -> None:
+        super().connection_lost(exc)
+        self.first.cancel()
+        self.each[self.peer] -= 1
+        if self.each[self.peer] <= 0:
+            del self.each[self.peer]  # so that only who is connected is known
 
     def data_received(self, data: bytes) -> None:
         try:
@@ -25,6 +53,8 @@ class Connection(web.RequestHandler):
             assert isinstance(self.transport, asyncio.Transport)
             self.transport.write(b"HTTP/1.1 400 Bad Request\r\nContent-Length: 0\r\nConnection: close\r\n\r\n")
             self.force_close()
+        if len(self._messages) > WAITING and self.transport:  # aiohttp has no bound, and no public way to see them
+            self.transport.abort()
 
     def handle_error(self, request: web.BaseRequest, status: int = 500, exc: Any = None, message: Any = None) -> Any:
         """Text that cannot be encoded again, which aiohttp would answer with, is the client's."""
@@ -34,22 +64,11 @@ class Connection(web.RequestHandler):
 class Counted(Connection):
     """A connection that counts among those of its address, unless that is of a server before the gateway."""
 
-    each: "collections.Counter[str]"
     proxies: set[str]
-    peer = ""
 
-    def connection_made(self, transport: asyncio.BaseTransport) -> None:
-        super().connection_made(transport)
-        self.peer = (transport.get_extra_info("peername") or ("",))[0]
-        self.each[self.peer] += 1
-        if self.each[self.peer] > EACH and self.peer not in self.proxies:
-            self.force_close()
-
-    def connection_lost(self, exc: Optional[BaseException]) -> None:
-        super().connection_lost(exc)
-        self.each[self.peer] -= 1
-        if self.each[self.peer] <= 0:
-            del self.each[self.peer]  # so that only who is connected is known
+    def whom(self, transport: asyncio.BaseTransport) -> tuple[str, float]:
+        peer = str((transport.get_extra_info("peername") or ("",))[0])
+        return peer, math.inf if peer in self.proxies else EACH
 
 
 class Certificate:

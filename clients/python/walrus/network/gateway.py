@@ -12,7 +12,7 @@ from .. import client
 
 from .access import CommonLog, log_to
 from .client import Access, Network
-from .connections import FIRST, HANDSHAKE, Certificate, Connection, Counted, is_own_fault
+from .connections import HANDSHAKE, Certificate, Counted, is_own_fault
 from .follower import Unreachable
 from .guard import Guard
 from .listing import Lister
@@ -23,7 +23,7 @@ from .publishing import Publisher, expected, named
 from .reading import Options, Reader
 from .tokens import Tokens
 
-__all__ = ["Connection", "Gateway", "Options", "ending", "is_own_fault", "serve"]
+__all__ = ["Gateway", "Options", "ending", "serve"]
 FRESH = {**ALONE, "Cache-Control": "no-store"}
 POLICY = "default-src 'none'; style-src 'self'; script-src 'self'; connect-src 'self'; frame-ancestors 'none'"
 OWN = {**ALONE, "Content-Security-Policy": POLICY, "Cache-Control": "no-cache"}
@@ -105,13 +105,11 @@ class Gateway:
     def connect(self) -> Counted:
         """What serves a new connection; one too many is ended, and later one that says nothing."""
         assert self.runner and self.runner.server
-        loop, room = asyncio.get_running_loop(), len(self.runner.server.connections) < self.options.connections
-        words: dict[str, Any] = {"access_log": self.log, "access_log_class": CommonLog, "lingering_time": 2}
-        made = Counted(self.runner.server, loop=loop, **words, auto_decompress=False, keepalive_timeout=30)
-        made.each, made.proxies = self.each, self.guard.proxies
+        words: dict[str, Any] = {"access_log": self.log, "access_log_class": CommonLog}
+        made = Counted(self.runner.server, self.options.connections, self.each, **words)
+        made.proxies = self.guard.proxies
         if self.certificate:
             self.certificate.refresh()
-        made.first = loop.call_later(FIRST * room, made.force_close)
         return made
 
     @web.middleware

@@ -3,6 +3,7 @@
 Several recorders may do so at once: whoever has the same ledger writes the same."""
 import asyncio
 import hashlib
+import sqlite3
 import sys
 import time
 import zlib
@@ -29,7 +30,7 @@ class Keeper:
             try:
                 await self.look()
                 self.said = ""
-            except Failed as fault:
+            except (Failed, sqlite3.OperationalError) as fault:  # or the disk does not take a checkpoint
                 if str(fault) != self.said:
                     print(f"nothing is dropped from etcd: {fault}; it is tried again", file=sys.stderr, flush=True)
                 self.said = str(fault)

@@ -200,7 +200,8 @@ class Ledger:
     def _register(self, poster: str, identifier: bytes, until: int) -> None:
         blob = self.blobs.get(identifier)
         if blob is None or until > blob.until:
-            self.blobs[identifier] = dataclasses.replace(blob, until=until) if blob else Blob(until, poster)
+            named = dataclasses.replace(blob, until=until, poster=poster) if blob else Blob(until, poster)
+            self.blobs[identifier] = named  # it counts on the share of who had it kept for longest
 
     def _voted(self, poster: str, kind: str, epoch: int, identifier: bytes) -> str:
         blob = self.blobs.get(identifier)

@@ -64,6 +64,10 @@ class Place:
         if not found or not (found[1] or name) or not int(found[3] or port):
             raise Unfounded(f"{text} is not NAME=HOST:PORT" + ("" if not name else " or HOST"))
         place = cls(found[1] or name, found[2].strip("[]"), int(found[3] or port), int(found[4] or 1))
+        if place.host.lower().rstrip(".") == RECORDER:
+            raise Unfounded(
+                f"{text}: a machine cannot be called {RECORDER}, as certificates know recorders by that name"
+            )
         if not NAME.fullmatch(place.name) or place.name in KEPT or not 0 < place.port < 65_536 or not place.shards:
             raise Unfounded(f"{text} names nothing that can be: {place.name}, port {place.port}, {place.shards} shards")
         return place

@@ -74,7 +74,7 @@ class Recorder:
     def __init__(self, etcd: Etcd, state: Optional[State] = None) -> None:
         self.etcd, self.state = etcd, state or State()
         self.ledger, self.index, self.identity = self.state.ledger, Index(self.state.base), self.state.identity
-        self.chain = self.state.chain or Chain(0, b"")
+        self.chain, self.state.apply = self.state.chain or Chain(0, b""), self.apply
         self.waiting: list[tuple[str, "asyncio.Future[int]"]] = []
         self.recent, self.size = collections.deque[Batch](), 0  # batches for followers, and their bytes
         self.seen, self.fault = -math.inf, ""  # when etcd was asked last; what it did not do
@@ -164,9 +164,8 @@ class Recorder:
             raise Broken(f"the batch in etcd behind place {batch.before.place} does not follow on what was read")
         entries = [Entry(place, text) for place, text in enumerate(batch.entries, self.chain.place + 1)]
         for entry in entries:
-            stood, epoch, word = standing(entry, self.ledger), self.ledger.epoch, self.ledger.apply(entry)
-            if word and not refusal(word):
-                self.index.enter(entry, stood)
+            epoch = self.ledger.epoch
+            self.apply(entry)
             if self.ledger.epoch != epoch:
                 self.turned = time.monotonic() + (0 if own else GRACE)
         self.chain, self.appended = batch.after, time.monotonic()
@@ -176,9 +175,17 @@ class Recorder:
         while self.size > RECENT:
             self.size -= self.recent.popleft().size
 
+    def apply(self, entry: Entry) -> Optional[str]:
+        """Enters an entry, and notes its place if it counts."""
+        stood, word = standing(entry, self.ledger), self.ledger.apply(entry)
+        if word and not refusal(word):
+            self.index.enter(entry, stood)
+        return word
+
     async def append(self) -> None:
         """Appends what waits and counts as one batch, and answers, unless another recorder was first."""
         begun, (chosen, refused), others = time.monotonic(), self.judge(), list[Batch]()
+        first = self.chain.place + 1
         if chosen:
             batch = Batch(self.chain, list(chosen))
             won, others = await self.etcd.append(self.head(self.chain), self.head(batch.after), batch)
@@ -194,9 +201,9 @@ class Recorder:
         for taken, reason in refused:
             if not taken.done():
                 taken.set_exception(Refused(reason))
-        for text, taken in chosen.items():
+        for place, taken in enumerate(chosen.values(), first):
             if not taken.done():
-                taken.set_result(self.index.find(text) or 0)
+                taken.set_result(place)
         self.waiting = [it for it in self.waiting if not it[1].done()]
         if self.waiting:
             self.bell.set()

@@ -7,6 +7,7 @@ import dataclasses
 import json
 import logging
 import pathlib
+import sqlite3
 import ssl
 import sys
 from typing import Any, Awaitable, Callable, ClassVar, Optional
@@ -15,19 +16,21 @@ from aiohttp import web
 from .. import loop as walrus_loop
 
 from .configuration import settings_of
+from .connections import HANDSHAKE, Connection, is_own_fault
 from .entries import NAME, Chain, number
 from .etcd import Etcd, Failed, Gone
 from .follower import NAME as RECORDER
 from .follower import PARTED
-from .gateway import Connection, ending, is_own_fault
+from .gateway import ending
 from .keeping import Keeper
 from .notify import ready
 from .recorder import Broken, Recorder
 from .state import State
 
-MOST_BODY, MOST_ENTRIES, MOST_PLACE = 1_048_576, 4_096, 99_999_999  # bytes and entries of a body; the last place
-REQUEST, ANSWER, HANDSHAKE, FIRST = 30.0, 8.0, 5.0, 30.0  # seconds
-CONNECTIONS, EACH = 1_024, 32  # connections, and requests of one name that are under way
+MOST_BODY, MOST_ENTRIES, MOST_PLACE = 1_048_576, 4_096, 10**12 - 1  # bytes and entries of a body; the last place
+REQUEST, ANSWER = 30.0, 8.0  # seconds
+CONNECTIONS, OF_NAME, OF_OTHERS = 1_024, 64, 4  # connections, those of one name, and those of a name that may not post
+EACH = 32  # requests of one name that are under way
 MOST_WAITING = 65_536  # entries that wait
 
 
@@ -69,6 +72,7 @@ class Service:
     def __init__(self, recorder: Recorder, settings: Settings):
         self.recorder, self.settings = recorder, settings
         self.busy, self.asked = collections.Counter[str](), collections.Counter[str]()  # requests, and entries, by name
+        self.connected = collections.Counter[str]()  # connections, by name
         self.places: dict[str, int] = {}  # how far each name was told
         self.runner: Optional[web.AppRunner] = None
         self.server: Optional[asyncio.AbstractServer] = None
@@ -99,22 +103,25 @@ class Service:
             await self.runner.server.shutdown(1)
             await self.runner.cleanup()
 
-    def connect(self) -> Connection:
+    def connect(self) -> "Named":
         """What serves a new connection; one too many is ended, and later one that says nothing."""
         assert self.runner and self.runner.server
-        loop, room = asyncio.get_running_loop(), len(self.runner.server.connections) < CONNECTIONS
-        words: dict[str, Any] = {"access_log": None, "keepalive_timeout": 30, "lingering_time": 2}
-        made = Connection(self.runner.server, loop=loop, **words)
-        made.first = loop.call_later(FIRST * room, made.force_close)
+        made = Named(self.runner.server, CONNECTIONS, self.connected, access_log=None)
+        made.service = self
         return made
+
+    def may_post(self, name: str) -> bool:
+        return bool(name) and name not in self.recorder.ledger.expelled
 
     @web.middleware
     async def answer(self, request: web.Request, handler: Callable[..., Awaitable[Any]]) -> web.StreamResponse:
         """Has a request answered under the name in its certificate; what is wrong is told as JSON."""
         request.protocol.first.cancel()  # type: ignore[attr-defined]
-        request["name"] = name = name_of(request)
-        if not name or name in self.recorder.ledger.expelled:
-            return wrong(403, f"{name} is expelled" if name else "the certificate has no name that may post")
+        request["name"] = name = request.protocol.peer  # type: ignore[attr-defined]
+        if not self.may_post(name):
+            refused = wrong(403, f"{name} is expelled" if name else "the certificate has no name that may post")
+            refused.force_close()
+            return refused
         if self.busy[name] >= EACH:
             return wrong(429, f"{name} has {EACH} requests under way")
         self.busy[name] += 1
@@ -207,12 +214,16 @@ def wrong(status: int, text: str) -> web.Response:
     return web.json_response({"error": text}, status=status)
 
 
-def name_of(request: web.Request) -> str:
-    """The name in a client's certificate; nothing where it is none that may post."""
-    certificate = request.transport.get_extra_info("peercert") if request.transport else None
-    subject = (certificate or {}).get("subject", ())
-    names: list[str] = [text for part in subject for kind, text in part if kind == "commonName"]
-    return names[0] if len(names) == 1 and NAME.fullmatch(names[0]) and names[0] != RECORDER else ""
+class Named(Connection):
+    """A connection that counts among those of the name in its certificate, which is none where that may not post."""
+
+    service: Service
+
+    def whom(self, transport: asyncio.BaseTransport) -> tuple[str, float]:
+        subject = (transport.get_extra_info("peercert") or {}).get("subject", ())
+        names: list[str] = [text for part in subject for kind, text in part if kind == "commonName"]
+        name = names[0] if len(names) == 1 and NAME.fullmatch(names[0]) and names[0] != RECORDER else ""
+        return name, OF_NAME if self.service.may_post(name) else OF_OTHERS
 
 
 def etcd_of(settings: Settings) -> Etcd:
@@ -221,8 +232,12 @@ def etcd_of(settings: Settings) -> Etcd:
 
 async def serve(settings: Settings) -> int:
     """Runs a recorder until it is told to end, or must."""
+    try:
+        state = State.open(settings.state)
+    except OSError as fault:
+        print(f"{settings.name} cannot start: {fault}", file=sys.stderr, flush=True)
+        return 1
     etcd = etcd_of(settings)
-    state = State.open(settings.state)
     service, ended = Service(Recorder(etcd, state), settings), ending()
     running = asyncio.create_task(service.recorder.run())
     keeping = asyncio.create_task(Keeper(service.recorder, settings.patience).run())
@@ -234,7 +249,7 @@ async def serve(settings: Settings) -> int:
             if task.done():
                 task.result()
         return 0
-    except (Broken, OSError) as fault:
+    except (Broken, OSError, sqlite3.OperationalError) as fault:
         told = f": restore it (network/OPERATING.md), or remove {settings.state}" if isinstance(fault, Broken) else ""
         print(f"{settings.name} must stop: {fault}{told}", file=sys.stderr, flush=True)
         return 1

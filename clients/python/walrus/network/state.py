@@ -7,7 +7,7 @@ import random
 import sqlite3
 import sys
 import time
-from typing import Any, Iterable, Iterator, Mapping, Optional
+from typing import Any, Callable, Iterable, Iterator, Mapping, Optional
 
 from . import checkpoint
 from .blobs import Blob, Blobs
@@ -15,6 +15,7 @@ from .entries import ACK, ATTEST, Chain, Entry
 from .ledger import Ledger
 
 CACHED, LATER = 8_192, 1.0  # blobs that are kept as they were read; seconds until a full disk is tried again
+TORN = sqlite3.SQLITE_CORRUPT, sqlite3.SQLITE_NOTADB, sqlite3.SQLITE_ERROR  # a database that is none, or another's
 TABLES = """
 PRAGMA journal_mode = WAL;
 PRAGMA synchronous = NORMAL;
@@ -29,8 +30,8 @@ INDEXES = {"of_epoch": "until", "of_number": "number"}
 TABLES += "".join(f"CREATE INDEX IF NOT EXISTS {name} ON blobs ({column});" for name, column in INDEXES.items())
 ALL = "SELECT identifier, number, until, poster, votes, certified, invalid FROM blobs ORDER BY identifier"
 INSERT = "INSERT INTO blobs VALUES (?, ?, ?, ?, ?, ?, ?)"
-PUT = f"""{INSERT} ON CONFLICT (identifier) DO UPDATE SET until = excluded.until, votes = excluded.votes,
-    certified = excluded.certified, invalid = excluded.invalid"""
+PUT = f"""{INSERT} ON CONFLICT (identifier) DO UPDATE SET until = excluded.until, poster = excluded.poster,
+    votes = excluded.votes, certified = excluded.certified, invalid = excluded.invalid"""
 
 
 def coded(votes: Mapping[int, frozenset[int]]) -> dict[int, int]:
@@ -175,6 +176,7 @@ class State:
         self.blobs, self.identity, self.turns = Kept(self.base), "", list[int]()
         self.ledger, self.saved = Ledger(self.blobs), 0  # the epoch that was saved
         self.chain: Optional[Chain] = None
+        self.apply: Callable[[Entry], Optional[str]] = self.ledger.apply  # enters again what the disk did not take
         self.fresh, self.again = list[Entry](), 0.0  # entries that the disk did not take; when it is tried again
         try:
             self.base.executescript(TABLES + "BEGIN IMMEDIATE;")
@@ -199,7 +201,9 @@ class State:
             return cls(path, tail)
         except BlockingIOError:
             return cls()
-        except (sqlite3.DatabaseError, ValueError, KeyError, TypeError):
+        except (sqlite3.DatabaseError, ValueError, KeyError, TypeError) as fault:
+            if getattr(fault, "sqlite_errorcode", sqlite3.SQLITE_CORRUPT) & 0xFF not in TORN:
+                raise OSError(f"{path} is not opened: {fault}") from fault  # such as a disk that is full
             for end in ("", "-wal", "-shm"):
                 pathlib.Path(path + end).unlink(missing_ok=True)
             return cls(path, tail)
@@ -251,7 +255,7 @@ class State:
             self.blobs.forget()
             self.load()
             for entry in self.fresh:
-                self.ledger.apply(entry)
+                self.apply(entry)
             self.chain, self.again = chain, time.monotonic() + LATER
 
     def commit(self) -> None:
