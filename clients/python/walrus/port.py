@@ -208,8 +208,8 @@ class Port:
         """Waits, before a request has its turn, for what others must do first."""
 
     def give_way(self) -> bool:
-        """Ends the turn of the request that is being answered, as it waits for others, unless too many do; whether it may
-        wait. What is done unasked has no turn, and may."""
+        """Ends the turn of the request that is being answered, as it waits for others, unless too many do; whether it
+        may wait. What is done unasked has no turn, and may."""
         task = asyncio.current_task()
         if task in self.at_turn:
             if len(self.answers) - len(self.at_turn) >= ASIDE:
