@@ -4,6 +4,7 @@ import contextlib
 import os
 import signal
 import ssl
+import threading
 import time
 import unittest
 from typing import AsyncIterator
@@ -131,6 +132,17 @@ class Slow(GatewayCase):
         await self.put(b"before")
         async with self.in_place_of("node-3", True):
             await self.moves_on(4)
+
+    async def test_names_that_are_looked_up_for_long_hold_up_no_read(self) -> None:
+        name, ends, loop = (await self.put(bytes(4_000_000)))["blobId"], threading.Event(), asyncio.get_running_loop()
+        self.gateway.reader.cache.entries.clear()
+        lookups = [loop.run_in_executor(None, ends.wait) for _ in range(64)]
+        try:
+            async with asyncio.timeout(20):
+                self.assertEqual(len((await self.get(name))[2]), 4_000_000)
+        finally:
+            ends.set()
+            await asyncio.gather(*lookups)
 
     async def stranger(self, number: int, request: bytes) -> bytes:
         """What a node first replies, for its shard, to who has no certificate."""

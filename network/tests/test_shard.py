@@ -10,6 +10,7 @@ import struct
 import subprocess
 import sys
 import tempfile
+import threading
 import types
 import unittest
 from typing import Any, Optional
@@ -218,6 +219,17 @@ class Disk(ShardCase):
             swept = list(self.store.files.strays(lambda it: base.execute(words, (it,)).fetchone() is not None))
         self.assertEqual(sorted(swept), [("half-written.half", 9), ("unnamed", 1)])
         self.assertEqual({*self.files()}, {*named, self.store.files.path(fresh)})
+
+    async def test_names_that_are_looked_up_for_long_hold_up_nothing_of_the_disk(self) -> None:
+        assert self.store
+        parts, ends, loop = await self.put(b"held"), threading.Event(), asyncio.get_running_loop()
+        lookups = [loop.run_in_executor(None, ends.wait) for _ in range(64)]
+        try:
+            async with asyncio.timeout(10):
+                self.assertEqual(await self.store.settled(self.shard.holding, 0), {parts[1][1:33]})
+        finally:
+            ends.set()
+            await asyncio.gather(*lookups)
 
     async def test_another_process_does_not_get_the_database(self) -> None:
         link = self.path.with_name("b.db")

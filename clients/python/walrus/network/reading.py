@@ -79,7 +79,8 @@ class Reader:
             need = need if length is None else need_of(length)
         async with self.memory.share(need):
             blob = await self.network.fetch(name[:NAME], self.options.seconds, number)
-            return await asyncio.to_thread(put_away, blob) if len(blob) > SLICE else blob
+            pool = self.network.walrus.pool  # and not asyncio's own, which looks names up, perhaps for long
+            return await asyncio.get_running_loop().run_in_executor(pool, put_away, blob) if len(blob) > SLICE else blob
 
     @contextlib.asynccontextmanager
     async def blob(self, identifier: bytes, size: Optional[int] = None) -> AsyncIterator[bytes]:

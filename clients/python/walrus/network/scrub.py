@@ -117,7 +117,7 @@ class Scrub:
                 strays = store.files.strays(lambda name: base.execute(words, (name,)).fetchone() is not None)
                 return sum(1 for _ in strays)
 
-        self.figures.swept += await asyncio.to_thread(sweep_files)
+        self.figures.swept += await asyncio.get_running_loop().run_in_executor(store.pool, sweep_files)
         with contextlib.suppress(sqlite3.OperationalError):
             while store.sweep():
                 await self.node.durable()

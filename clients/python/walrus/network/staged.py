@@ -1,5 +1,6 @@
 """A database in SQLite that has one process, and files beside it that it names."""
 import asyncio
+import concurrent.futures
 import contextlib
 import fcntl
 import functools
@@ -11,6 +12,7 @@ from typing import Callable, Optional
 from .files import Files
 
 TORN = "the database is torn: move it away and start the node without it, and the others fill it (network/OPERATING.md)"
+THREADS = 4  # for what takes long on the disk
 SOON, LATER = 0.002, 0.5  # seconds until what waits is committed: what a reply waits for, and what nobody waits for
 
 
@@ -28,6 +30,7 @@ class Staged:
             raise OSError(f"another process runs over {path}: end that one first, or name another database") from None
         self.pending: Optional["asyncio.Future[bool]"] = None  # whether what is staged came to the disk
         self.files = Files(path.with_suffix(".parts"))
+        self.pool = concurrent.futures.ThreadPoolExecutor(THREADS, "disk")  # asyncio's own looks names up, perhaps long
         self.named, self.dropped = list[str](), list[str]()  # files that what is staged names, and no longer names
         self.base = sqlite3.connect(path, isolation_level=None)
         try:
@@ -83,7 +86,7 @@ class Staged:
         """Has files removed that nothing names."""
         self.files.kept(files)
         if files:
-            asyncio.get_running_loop().run_in_executor(None, self.files.remove, files)
+            asyncio.get_running_loop().run_in_executor(self.pool, self.files.remove, files)
 
     def flush(self) -> bool:
         """Commits what is staged; whether it is on the disk."""
@@ -117,5 +120,6 @@ class Staged:
 
     def close(self) -> None:
         self.flush()
+        self.pool.shutdown()
         self.base.close()
         self.lock.close()

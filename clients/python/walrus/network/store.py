@@ -143,7 +143,7 @@ class Store(Staged):
                 return {row[0] for row in base.execute(words, (holding, first, last, epoch, epoch))}
 
         self.flush()  # so that the thread sees it
-        return await asyncio.to_thread(ask)
+        return await asyncio.get_running_loop().run_in_executor(self.pool, ask)
 
     def wrong(self, holding: int, identifier: bytes) -> set[int]:
         """The parts of a blob that were found to be wrong."""
