@@ -25,6 +25,7 @@ from walrus import loop  # noqa: E402
 
 NODES = ["node-0", "node-1", "node-2", "node-3"]
 SMALL, WIDTH, TICKS = 4_096, 16, os.sysconf("SC_CLK_TCK")
+PART = 16_777_216
 
 
 def roles(local: Local) -> Iterator[tuple[str, int]]:
@@ -55,6 +56,12 @@ def memory(local: Local) -> dict[str, tuple[float, float]]:
     return found
 
 
+def random_bytes(size: int) -> bytes:
+    """So many random bytes, of which Python draws less than 256 MiB at once."""
+    source = random.Random(size)
+    return b"".join(source.randbytes(min(PART, size - place)) for place in range(0, size, PART))
+
+
 class Bench:
     """A gateway over four nodes."""
 
@@ -83,7 +90,7 @@ class Bench:
 
     async def large(self, size: int) -> str:
         """A file of this size in and out; its name."""
-        data, name = random.Random(size).randbytes(size), ""
+        data, name = random_bytes(size), ""
 
         async def store() -> None:
             nonlocal name
@@ -169,7 +176,7 @@ async def peers(session: aiohttp.ClientSession, folder: pathlib.Path, words: arg
         try:
             async with start(local) as url:
                 for size in (16 * 2**20, words.size):
-                    took = await bench_peers.moves(session, url, str(size), random.Random(size).randbytes(size))
+                    took = await bench_peers.moves(session, url, str(size), random_bytes(size))
                     print(f"{name}: {size / 2**20:.0f} MiB in {took[0]:.2f} s, out {took[1]:.2f} s", flush=True)
                 files = [(str(number), random.Random(number).randbytes(SMALL)) for number in range(words.small)]
                 begun = time.monotonic()
