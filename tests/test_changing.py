@@ -11,12 +11,12 @@ FOLDERS = ("crates", "clients", "hostile", "tests", "packaging", "bench", "docs"
 ENDINGS = {".rt", ".antt", ".py", ".rs", ".md", ".1", ".completion", ""}
 # By what a command is named in a source, and the files that are its own, or tell of it for another reason.
 VERIFY = r"WholeTask::Verify|\(Verify |\b[vV]erifying\b|\bverify_answer\b|[\"']verify[\"' ]|verify ID"
-GATEWAY = r"WholeTask::Gateway|\(Gateway |\b[fF]etching\b|\bfetch_ranges\b|[\"']gateway[\"' ]|gateway CAPACITY"
+GATEWAY = r"WholeTask::Gateway|\(Gateway |\b[fF]etching\b|fetch_ranges\b|[\"']gateway[\"' ]|gateway CAPACITY"
 OWN = {
     VERIFY: r"crates/wal_run/proofs/verify/.*|crates/wal_challenge/.*|docs/OPERATING\.md|tests/test_blocks\.py|"
     r"clients/python/walrus/(audit|network/.*)\.py",
-    GATEWAY: r"crates/wal_run/(specs/Fetching\.antt|proofs/(Fetches\.antt|fetch/.*)|src/fetch\.rt)|crates/wal_gateway/.*|"
-    r"crates/wal_words/proofs/task/pair_task/Answers\.antt|"
+    GATEWAY: r"crates/wal_run/(specs/Fetching\.antt|proofs/(Fetches\.antt|fetch/.*)|src/fetch\.rt)|"
+    r"crates/wal_gateway/.*|crates/wal_words/proofs/task/pair_task/Answers\.antt|"
     r"docs/(OPERATING|SPEED)\.md|bench/gets\.py|hostile/(gets|checks|forms)\.py|tests/(test_gateway|gateways)\.py|"
     r"clients/(go/.*|python/walrus/network/.*)|packaging/(build|test)|examples/gateway|tests/test_(style|wheel)\.py",
 }
