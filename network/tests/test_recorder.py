@@ -27,6 +27,7 @@ from walrus.network.etcd import Batch
 from walrus.network.follower import Parted, Recorders, Refused, Unreachable, View
 from walrus.network.entries import ACK, ADDRESS, OPERATOR, Chain, Entry, entry_key
 from walrus.network.local import AUTHORITY, ETCD_AUTHORITY, Local, make_certificate
+from walrus.network.settings import RecorderSettings
 
 
 class Adversary(LedgerCase):
@@ -360,7 +361,7 @@ class Trouble(Loaded):
     async def test_a_clock_that_jumps_loses_nothing(self) -> None:
         async with self.loaded() as acknowledged:
             await self.local.end("recorder-1")
-            clock, words = self.folder / "clock", [sys.executable, "-m", "walrus.network.recording"]
+            clock, words = self.folder / "clock", [sys.executable, "-m", "walrus.network", "recorder"]
             await self.local.start("recorder-1", words, harness.faked_clock(clock))
             for jump in ("+30d", "-1d", "+0"):
                 clock.write_text(jump)
@@ -551,8 +552,8 @@ class FullDisk(unittest.IsolatedAsyncioTestCase):
         with tempfile.TemporaryDirectory() as folder, contextlib.redirect_stderr(io.StringIO()) as said:
             path = pathlib.Path(folder, "kept")
             path.mkdir()
-            words = {it.name: "" for it in dataclasses.fields(recording.Settings) if it.default is dataclasses.MISSING}
-            settings = recording.Settings(**{**words, "name": "recorder-0", "state": str(path)})
+            words = {it.name: "" for it in dataclasses.fields(RecorderSettings) if it.default is dataclasses.MISSING}
+            settings = RecorderSettings(**{**words, "name": "recorder-0", "state": str(path)})
             self.assertEqual(await recording.serve(settings), 1)
             self.assertTrue(path.exists())
         told = f"recorder-0 cannot start: {path} is not opened: unable to open database file\n"

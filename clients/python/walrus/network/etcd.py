@@ -6,7 +6,7 @@ import dataclasses
 import functools
 import json
 import ssl
-from typing import Any, Optional
+from typing import Any, Callable, Optional
 
 import aiohttp
 
@@ -181,13 +181,14 @@ class Etcd:
         """Has that member give back what is not in use. It answers nobody else meanwhile."""
         await self.call("maintenance/defragment", {}, 60)
 
-    async def ring(self, bell: asyncio.Event) -> None:
-        """Rings a bell soon after the head is another one. It is a hint: what is missed, is asked for anyway."""
+    async def watch(self, hear: Callable[[str], None]) -> None:
+        """Tells what stands at the head soon after it is another one: a hint, as what is missed is asked for anyway."""
         limit = aiohttp.ClientTimeout(total=None, sock_connect=5, sock_read=SILENCE)
         while True:
-            with contextlib.suppress(aiohttp.ClientError, OSError, TimeoutError, ValueError):
+            with contextlib.suppress(aiohttp.ClientError, OSError, TimeoutError, ValueError, KeyError):
                 body = {"create_request": {"key": coded(HEAD)}}
                 async with self.session.post(f"{self.url}/v3/watch", json=body, timeout=limit) as said:
-                    while await said.content.readline():
-                        bell.set()
+                    while line := await said.content.readline():
+                        for event in json.loads(line)["result"].get("events", []):
+                            hear(decoded(event["kv"]))
             await asyncio.sleep(1)
