@@ -125,6 +125,7 @@ class Memory(Etcd):
         self.kept, self.top, self.calls = dict[int, Batch](), "", 0
         self.marked, self.pieces = list[Mark](), dict[tuple[int, int], bytes]()
         self.plan: dict[int, str] = {}
+        self.hear = list[Callable[[str], None]]()  # who watches the head
         self.all = list[str]()  # what was ever appended
 
     async def fails(self, when: str) -> None:
@@ -151,6 +152,8 @@ class Memory(Etcd):
         await self.fails("before")
         if won := self.top == head:
             self.top = after
+            for hear in self.hear:
+                hear(after)
             if batch:
                 assert batch.before.place + 1 not in self.kept, "a batch is written twice"
                 self.kept[batch.before.place + 1] = Batch(batch.before, list(batch.entries))
@@ -194,6 +197,7 @@ class Memory(Etcd):
         return 0, 0
 
     async def watch(self, hear: Callable[[str], None]) -> None:
+        self.hear.append(hear)
         await asyncio.Event().wait()
 
     def entries(self) -> list[str]:

@@ -79,9 +79,9 @@ class Etcd:
     def __init__(self, url: str, authority: str, certificate: str, key: str):
         context = ssl.create_default_context(cafile=authority)
         context.load_cert_chain(certificate, key)
-        connector = aiohttp.TCPConnector(ssl=context)
-        self.url, self.session = url, aiohttp.ClientSession(connector=connector, read_bufsize=LONGEST_LINE)
-        self.aclose, self.revision, self.compacted = self.session.close, 0, 0
+        connector, jar = aiohttp.TCPConnector(ssl=context), aiohttp.DummyCookieJar()
+        self.session = aiohttp.ClientSession(connector=connector, cookie_jar=jar, read_bufsize=LONGEST_LINE)
+        self.url, self.aclose, self.revision, self.compacted = url, self.session.close, 0, 0
 
     async def call(self, path: str, body: dict[str, Any], seconds: float = 10) -> dict[str, Any]:
         """One call, in a task of its own, as deadlines of aiohttp 3.8 disturb those of asyncio around them."""

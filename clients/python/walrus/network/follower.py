@@ -71,7 +71,8 @@ class Recorders:
         self.known: list[tuple[str, aiohttp.ClientSession]] = []
         for host, _, port in (it.rpartition(":") for it in addresses):
             connector = aiohttp.TCPConnector(ssl=context, resolver=Resolver(host.strip("[]")), limit=0)
-            session = aiohttp.ClientSession(connector=connector, read_bufsize=LONGEST_LINE)
+            words: dict[str, Any] = {"cookie_jar": aiohttp.DummyCookieJar(), "read_bufsize": LONGEST_LINE}
+            session = aiohttp.ClientSession(connector=connector, **words)
             self.known.append((f"https://{NAME}:{port}/v1/", session))
         self.at, self.said = random.randrange(len(self.known)), "it is too slow"
         self.waiting: list[tuple[str, "asyncio.Future[int]"]] = []
@@ -193,14 +194,6 @@ class Recorders:
         await self.ask("tail", {"after": entries[0].revision - 1 if entries else place, "entries": sent})
 
 
-class Absence(NamedTuple):
-    """For how many seconds no recorder told the ledger, until when, and why."""
-
-    seconds: float
-    end: float
-    said: str
-
-
 class View:
     """The ledger as far as it was heard, and a way to wait for what it will say."""
 
@@ -209,7 +202,7 @@ class View:
         self.ledger, self.chain = self.state.ledger, self.state.chain
         recorders.tail = self.state.entries
         self.head, self.heard_at = -1, time.monotonic()  # where the ledger ended; when a recorder said something
-        self.absence = Absence(0.0, -math.inf, "")  # the last one that was longer than `AWAY`
+        self.absence = 0.0, -math.inf, ""  # the last one longer than `AWAY`: for how long it was, until when, and why
         self.entering, self.lost = False, None  # type: bool, Optional[Exception]  # what has ended following for good
 
     async def follow(self) -> None:
@@ -232,22 +225,22 @@ class View:
 
     def away_since(self, begun: float) -> str:
         """In words, that the ledger is away, or was so at some time since then; nothing where it was heard."""
-        last, now = self.absence, self.silence()
+        (seconds, end, said), now = self.absence, self.silence()
         if now > AWAY:
             return f"the ledger is away for {now:.0f} s ({self.recorders.said})"
-        return f"the ledger was away for {last.seconds:.0f} s ({last.said})" if last.end > begun else ""
+        return f"the ledger was away for {seconds:.0f} s ({said})" if end > begun else ""
 
     async def enter(self, news: News) -> None:
         """Enters new entries in their order, and lets go on who waited for that."""
         if (seconds := self.silence()) > AWAY:
-            self.absence = Absence(seconds, time.monotonic(), self.recorders.said)
+            self.absence = seconds, time.monotonic(), self.recorders.said
         before, self.state.identity, self.entering = self.chain, news.ledger, True
         if news.pieces:
             await self.take(news.pieces)
         await self.apply(news.entries)
         self.chain, self.head, self.heard_at = news.chain, news.head, time.monotonic()
         if self.chain != before or not self.state.whole:
-            self.state.save(self.chain, news.entries)
+            self.state.save(self.chain, news.entries, soon=True)
         self.entering = False
         self.waiting.tell()
 

@@ -151,6 +151,8 @@ class Recorder:
         if self.chain.place == told["place"] and self.chain.digest.hex() != told["digest"]:
             raise Broken(f"the batches in etcd have not the digest of the head: {head}")
         self.seen = begun
+        if not self.state.whole:
+            self.state.save(self.chain)
 
     async def take(self) -> None:
         """Takes what the checkpoint in etcd says."""
@@ -177,7 +179,7 @@ class Recorder:
             if self.ledger.epoch != epoch:
                 self.turned = time.monotonic() + (0 if own else GRACE)
         self.chain, self.appended = batch.after, time.monotonic()
-        self.state.save(self.chain, entries)
+        self.state.save(self.chain, entries, soon=True)
         self.recent += batch.entries
         self.size += batch.size
         while self.size > RECENT:
@@ -195,7 +197,11 @@ class Recorder:
         begun, (places, answers), others = time.monotonic(), self.judge(), list[Batch]()
         if batch := Batch(self.chain, [*places]) if places else None:
             self.own = batch.last
-            won, others = await self.etcd.append(self.head(self.chain), self.head(batch.after), batch)
+            try:
+                won, others = await self.etcd.append(self.head(self.chain), self.head(batch.after), batch)
+            except Failed:
+                await self.catch_up()  # etcd may be full, and tells still what it has
+                raise
         else:
             won = await self.etcd.head() == self.head(self.chain)
         for it in [batch] if won and batch else others:
