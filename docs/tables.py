@@ -72,7 +72,11 @@ def chain_of(crates: dict[str, list[str]]) -> list[str]:
         chains = [upto(other) for other in crates[name] if other in crates]
         return (*max(chains, key=len, default=()), name)
 
-    return list(max(map(upto, crates), key=len))
+    longest: tuple[str, ...] = ()
+    for name in crates:
+        if len(upto(name)) > len(longest):
+            longest = upto(name)
+    return list(longest)
 
 
 def row_of(name: str, note: str, crates: dict[str, list[str]]) -> str:
@@ -98,10 +102,10 @@ def renewed(page: str) -> str:
     crates = read_crates()
     parts = {"crates": tables(crates), "chain": ", ".join(f"`{name}`" for name in chain_of(crates.below)) + "."}
     for name, text in parts.items():
-        found = re.compile(rf"(<!-- {name} -->\n).*?(\n<!-- end of {name} -->)", re.S)
-        page, count = found.subn(lambda it, new=text: it[1] + new + it[2], page)
-        if count != 1:
+        begin, end = f"<!-- {name} -->\n", f"\n<!-- end of {name} -->"
+        if page.count(begin) != 1 or page.count(end) != 1:
             sys.exit(f"{PAGE}: the comments that name {name} must stand once")
+        page = page.partition(begin)[0] + begin + text + end + page.partition(end)[2]
     return page
 
 
