@@ -161,15 +161,20 @@ class Judges:
     async def work(self, step: Callable[..., Result], *words: object, here: bool = False) -> Result:
         """What a step gives that must not hold up all others; it has a thread of its own, unless told otherwise."""
         self.count += 1
-        if here:
-            with contextlib.suppress(MemoryError):
-                return step(*words)
-        return await asyncio.get_running_loop().run_in_executor(self.pool, self.try_twice, step, *words)
-
-    def try_twice(self, step: Callable[..., Result], *words: object) -> Result:
-        """Where memory is wanting, one step after the other has what is kept."""
+        loop = asyncio.get_running_loop()
+        if not here:
+            return await loop.run_in_executor(self.pool, self.try_twice, step, *words)
         with contextlib.suppress(MemoryError):
             return step(*words)
+        return await loop.run_in_executor(self.pool, self.with_kept, step, *words)
+
+    def try_twice(self, step: Callable[..., Result], *words: object) -> Result:
+        with contextlib.suppress(MemoryError):
+            return step(*words)
+        return self.with_kept(step, *words)
+
+    def with_kept(self, step: Callable[..., Result], *words: object) -> Result:
+        """Where memory is wanting, one step after the other has what is kept."""
         with self.alone:
             self.kept = None
             try:
