@@ -87,6 +87,17 @@ class ShardCase(unittest.IsolatedAsyncioTestCase):
         self.assertTrue(self.store.flush())
         return parts
 
+    async def whole(self, size: int) -> Whole:
+        """A registered blob, as it comes whole to the shard."""
+        encoded = await self.walrus.encode(bytes(range(250)) * (size // 250), 1)
+        self.apply("x", "register", encoded.identifier.hex(), 9)
+        data = b"".join(map(bytes, request_of(encoded, 0)))
+        memory = place(client.Shape(1), len(data))
+        memory[:] = data
+        found = Whole.read(client.Shape(1), memory)
+        assert found
+        return found
+
     async def read(self, identifier: bytes) -> list[bytes]:
         return (await self.shard.answer(client.write_frame(client.Read(identifier))))[:-1]
 
@@ -280,17 +291,6 @@ class Trouble(ShardCase):
             self.assertEqual(code_of(await self.shard.put(primary)), shard.FULL)
         self.assertEqual(self.files(), [])
         self.assertEqual(code_of(await self.shard.put(primary)), client.DONE)
-
-    async def whole(self, size: int) -> Whole:
-        """A registered blob, as it comes whole to the shard."""
-        encoded = await self.walrus.encode(bytes(range(250)) * (size // 250), 1)
-        self.apply("x", "register", encoded.identifier.hex(), 9)
-        data = b"".join(map(bytes, request_of(encoded, 0)))
-        memory = place(client.Shape(1), len(data))
-        memory[:] = data
-        found = Whole.read(client.Shape(1), memory)
-        assert found
-        return found
 
     async def test_of_a_blob_that_comes_whole_all_is_stored_or_nothing(self) -> None:
         assert self.store
@@ -614,6 +614,54 @@ class Committees(NodeCase):
         self.assertEqual(({it: it.stat().st_ino for it in self.files()}, len(left)), (left, 2))
         with self.assertRaises(ConnectionError):
             await self.shard.answer(ask)
+
+    async def test_who_asks_while_the_committee_turns_hears_that_of_now(self) -> None:
+        assert self.store
+        parts = await self.put(bytes(LARGE))
+        self.apply(OPERATOR, "begin", 1, 1, "a,b,c,e")
+        node, asked, over = self.node({0: {0: self.shard}, 1: {0: self.side(1)}}), asyncio.Event(), asyncio.Event()
+        node.reply, node.route = types.MethodType(Node.reply, node), types.MethodType(Node.route, node)
+        ask = self.judges.ask
+
+        async def wait(*words: Any) -> Any:
+            asked.set()
+            await over.wait()
+            return await ask(*words)
+
+        with mock.patch.object(self.judges, "ask", wait):
+            reading = asyncio.create_task(node.reply(0, client.write_frame(client.Read(parts[1][1:33]))))
+            await asked.wait()
+            for poster in "abc":
+                self.apply(poster, "ready", 1)
+            self.apply("a", "finish", 1)
+            self.store.turn(1, [])
+            del node.sides[0]
+            over.set()
+            said = [bytes(payload) for _, payload in client.split((await reading).data)]
+        self.assertEqual(said[:2], [bytes(it) for it in parts[:2]])
+
+    async def test_a_blob_that_comes_whole_late_is_not_for_the_committee_before(self) -> None:
+        assert self.store
+        whole = await self.whole(LARGE)
+        async with self.store.alone(self.shard.holding, whole.identifier):
+            storing = asyncio.create_task(self.shard.put_whole(whole))
+            await asyncio.sleep(0)
+            self.apply(OPERATOR, "begin", 1, 1, "a,b,c,e")
+        self.assertEqual(code_of(await storing), shard.DECLINED)
+        later = self.side(1)
+        self.assertEqual([it.lacks(whole.identifier) for it in (self.shard, later)], [[0, 1, 2]] * 2)
+        self.assertEqual(code_of(await later.put_whole(whole)), 13)
+
+    async def test_where_the_ledger_was_saved_before_a_turn_what_is_held_is_held(self) -> None:
+        assert self.store
+        parts = await self.put(b"held")
+        later = self.store.begin(1, 0)
+        self.store.turn(1, [])
+        self.assertIsNone(self.store.holding(0, 0))
+        before = self.side(0)  # as a start has it whose ledger knows of no turn yet
+        self.assertEqual(before.holding, later)
+        said = await before.answer(client.write_frame(client.Read(parts[1][1:33])))
+        self.assertEqual(said[:-1], parts[:2])
 
     async def test_what_the_next_committee_forgets_this_one_has_still(self) -> None:
         assert self.store

@@ -95,11 +95,12 @@ class Store(Staged):
         return int(row[0]) if row else None
 
     def begin(self, epoch: int, shard: int) -> int:
-        """Stages that a shard of an epoch goes on with what the same shard held in the epoch before, if it was here;
-        what it holds."""
+        """Stages that a shard of an epoch goes on with what the same shard held in the epoch before, if it was here, or
+        holds in the next one, of which the ledger knew no more at a start; what it holds."""
         if found := self.holding(epoch, shard):
             return found
-        holding = self.holding(epoch - 1, shard) or self.stage("INSERT INTO holdings VALUES (NULL)").lastrowid or 0
+        holding = self.holding(epoch - 1, shard) or self.holding(epoch + 1, shard)
+        holding = holding or self.stage("INSERT INTO holdings VALUES (NULL)").lastrowid or 0
         self.stage("INSERT INTO sides VALUES (?, ?, ?)", epoch, shard, holding)
         return holding
 
