@@ -133,6 +133,21 @@ class Disk(ShardCase):
             code_of(await self.shard.put((await self.walrus.encode(b"x", 1)).metadata)), shard.UNREGISTERED
         )
 
+    async def test_who_wants_the_metadata_alone_costs_no_sliver(self) -> None:
+        metadata, primary, _ = await self.put(bytes(range(250)) * (LARGE // 250))
+        sizes, ask = list[int](), self.judges.ask
+
+        async def measured(size: int, *words: Any) -> Any:
+            sizes.append(size)
+            return await ask(size, *words)
+
+        with mock.patch.object(self.judges, "ask", measured):
+            for index in (999, 4, 3):
+                symbol = client.write_frame(client.Symbol(primary[1:33], client.PRIMARY, index))
+                said = await self.shard.answer(symbol)
+                self.assertEqual((said[0], len(said)), (metadata, 3 if index == 3 else 2))
+        self.assertEqual([size < SMALL for size in sizes], [True, True, False], sizes)
+
     async def flip(self, spoil: Any) -> None:
         """A part is spoilt behind the node's back: it never leaves, is known then, and another takes its place."""
         metadata, primary, secondary = await self.put(bytes(range(250)) * (LARGE // 250))

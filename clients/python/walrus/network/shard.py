@@ -125,7 +125,8 @@ class Shard:
 
     async def sure(self, identifier: bytes, request: bytes) -> Judged:
         """What the judge says over what is held and is what it should be; the rest is left out from here on."""
-        wanted, step = {*judge.parts_for(request)}, functools.partial(self.over, request)
+        shards, step = client.Shape(self.ledger.faults).shards, functools.partial(self.over, request)
+        wanted = {*judge.parts_for(request, shards)}
         while (judged := await self.judged(identifier, [request], step, wanted)).wrong:
             self.mark(identifier, judged.wrong)
             wanted -= {*judged.wrong, *(ALL if METADATA in judged.wrong else ())}
