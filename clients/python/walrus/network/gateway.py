@@ -12,6 +12,7 @@ from .. import client
 from .access import CommonLog, log_to
 from .client import Access, Network
 from .connections import Certificate, Counted, Server
+from .exposure import Options
 from .follower import Unreachable
 from .guard import Guard
 from .listing import Lister
@@ -19,7 +20,7 @@ from .notify import ready
 from .page import Watch
 from .problems import ALONE, Problem, as_json, ledger_away, problem_of
 from .publishing import Publisher, expected, named
-from .reading import Options, Reader
+from .reading import Reader
 from .tokens import Tokens
 
 __all__ = ["Gateway", "Options", "ending", "serve"]
