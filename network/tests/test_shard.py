@@ -507,6 +507,12 @@ class Recovery(NodeCase):
         self.assertEqual((progress.of, progress.blobs, progress.bytes), (1, 1, 5 * 500), progress)
         self.assertEqual(progress.of_bytes, progress.bytes)
 
+    async def test_who_recovers_the_same_at_once_asks_for_it_once(self) -> None:
+        name, node = await self.lacks(LARGE), self.node({0: {0: self.shard}})
+        left = await asyncio.gather(*(recovery.settle(node, 0, [name]) for _ in range(2)))
+        self.assertEqual(left, [0, 0])
+        self.assertEqual([seat.asked.count(2) for seat in self.seats], [0, 1, 1, 0])  # for openings of both slivers
+
     async def test_where_one_fails_another_is_asked_at_once(self) -> None:
         for number, how in ((1, "fails"), (2, "fails"), (1, "clashes"), (2, "clashes")):
             name = await self.lacks(700)

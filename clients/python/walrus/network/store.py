@@ -68,7 +68,7 @@ class Store(Staged):
     def __init__(self, path: pathlib.Path, recorded: bool = False):
         super().__init__(path)
         self.recorded = recorded
-        self.locks: "weakref.WeakValueDictionary[tuple[int, bytes], asyncio.Lock]" = weakref.WeakValueDictionary()
+        self.locks: "weakref.WeakValueDictionary[tuple[object, ...], asyncio.Lock]" = weakref.WeakValueDictionary()
 
     def open_tables(self) -> None:
         """Finds the tables whole and of this version, or makes them."""
@@ -85,9 +85,9 @@ class Store(Staged):
             with contextlib.suppress(sqlite3.Error):
                 self.stage("INSERT INTO history VALUES (NULL, ?, ?, ?, ?, ?)", revision, epoch, shard, request, reply)
 
-    def alone(self, holding: int, identifier: bytes) -> asyncio.Lock:
-        """Who holds this asks of a blob alone."""
-        return self.locks.setdefault((holding, identifier), asyncio.Lock())
+    def alone(self, holding: int, identifier: bytes, to: str = "ask") -> asyncio.Lock:
+        """Who holds this asks of a blob alone, or does what else is named."""
+        return self.locks.setdefault((holding, identifier, to), asyncio.Lock())
 
     def holding(self, epoch: int, shard: int) -> Optional[int]:
         """What a shard of an epoch holds, by the number under which its parts stand."""
