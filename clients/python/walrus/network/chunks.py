@@ -110,7 +110,7 @@ class Writer:
     async def bundle(self, kind: str, form: bytes) -> tuple[bytes, list[Told]]:
         """The bundle of the files of a form, in a file without a name, and what is told of each."""
         faults = self.network.ledger.faults
-        async with self.memory.share(pieces.need_of(len(form))):
+        async with self.memory.share(pieces.need_of(len(form), faults)):
             files = files_of(kind, form, 2 * faults)
             try:
                 async with self.turns:
@@ -122,7 +122,7 @@ class Writer:
     async def store_blob(self, blob: bytes, until: int) -> tuple[bytes, bool]:
         """Stores a blob; its identifier, and whether it was there before."""
         network, ledger = self.network, self.network.ledger
-        async with self.memory.share(pieces.need_of(len(blob))) as share:
+        async with self.memory.share(pieces.need_of(len(blob), ledger.faults)) as share:
             async with self.turns:
                 encoded = await network.walrus.encode(blob, ledger.faults)
             del blob

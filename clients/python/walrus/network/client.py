@@ -206,10 +206,12 @@ class Network(View):
         task.add_done_callback(arrived)
         asyncio.get_running_loop().call_later(LATE, task.cancel)
 
-    async def fetch(self, identifier: bytes, seconds: float = 30, member: Optional[int] = None) -> bytes:
+    async def fetch(
+        self, identifier: bytes, seconds: float = 30, member: Optional[int] = None, calls: Optional[Calls] = None
+    ) -> bytes:
         """The bytes of a blob, or of a member of a bundle, which is read from its columns; asks again while the blob is
         live and too little is heard. Raises `client.Refused`."""
-        loop, ledger = asyncio.get_running_loop(), self.ledger
+        loop, ledger, walrus = asyncio.get_running_loop(), self.ledger, calls or self.walrus
         end, pause = loop.time() + seconds, 0.1
         while True:
             home = ledger.owners(ledger.home_epoch(identifier))
@@ -217,8 +219,8 @@ class Network(View):
                 seats = self.peers.seats(owners, ledger.faults)
                 try:
                     if member is None:
-                        return await client.fetch(seats, identifier, self.walrus)
-                    return await bundles.fetch_member(seats, identifier, member, self.walrus)
+                        return await client.fetch(seats, identifier, walrus)
+                    return await bundles.fetch_member(seats, identifier, member, walrus)
                 except client.Refused as refused:
                     if refused.status != 4 or refused.text.startswith(b"no member of "):
                         raise
