@@ -162,7 +162,7 @@ class Network(View):
             if self.behind[name] and self.behind[name] + size > BEHIND:
                 said |= {seat.number: "it is behind with what was stored before" for seat in own}
             else:
-                tasks[name] = asyncio.create_task(self.put_at(own, encoded))
+                tasks[name] = asyncio.create_task(self.put_at(own, encoded), name=encoded.identifier.hex())
         prompt = {task for name, task in tasks.items() if not self.behind[name]}
         over, pending = asyncio.create_task(self.until(is_over, None)), {*tasks.values()}
         try:
@@ -205,6 +205,11 @@ class Network(View):
         self.late.add(task)
         task.add_done_callback(arrived)
         asyncio.get_running_loop().call_later(LATE, task.cancel)
+
+    async def left(self, identifier: bytes) -> None:
+        """Waits until no node is left behind with a blob."""
+        if late := [task for task in self.late if task.get_name() == identifier.hex()]:
+            await asyncio.wait(late)
 
     async def fetch(
         self, identifier: bytes, seconds: float = 30, member: Optional[int] = None, calls: Optional[Calls] = None

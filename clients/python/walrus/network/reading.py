@@ -22,7 +22,7 @@ from .pieces import Memory, let_go, put_away, reading_needs
 from .problems import ALONE, BAD, NO_BLOB, Problem
 
 SLICE, KIND = 262_144, "application/octet-stream"
-BARE, READINGS = 67_108_864, 16  # bytes of a gateway that does nothing; blobs that are read at once, if memory allows
+BARE, READINGS = 73_400_320, 16  # bytes of a gateway that does nothing; blobs that are read at once, if memory allows
 AHEAD = 5  # pieces of a file that are read at once for who takes it
 SILENCE, WAITING = 30.0, 60.0  # seconds in which a slice must go out or anything come in; for a turn or for room
 GRACE, LEAST = 60.0, 32_768  # seconds for which a client may be slower than so many bytes a second, in all
