@@ -13,7 +13,8 @@ from . import operators, tokens
 from .checked import written_whole
 from .dates import epochs_for
 from .follower import Refused, Unreachable
-from .transfers import Failure, ask, fetch, listed, store, store_bundle
+from .resuming import store
+from .transfers import Failure, ask, fetch, listed, store_bundle
 
 URL = "http://127.0.0.1:31415"
 STATUSES = """exit status: 0 done; 1 it could not be done; 2 these words ask for nothing; 3 the blob was badly

@@ -6,7 +6,7 @@ import dataclasses
 import itertools
 import secrets
 import sys
-from typing import AsyncIterator, Iterable, Optional, Union
+from typing import AsyncIterator, Callable, Iterable, Optional, Union
 
 from aiohttp import web
 from .. import client
@@ -54,6 +54,7 @@ class Reader:
         self.memory = Memory(max(0, options.memory - BARE))
         self.cache = Cache(self.fetch, options.room, READINGS)
         self.bytes, self.lengths = collections.Counter[str](), Lengths(network)
+        self.rejected: Callable[[bytes], None] = lambda identifier: None  # is told what was badly encoded
 
     def must_stand(self, name: bytes) -> None:
         """Raises where it is known that a blob, or a member of it, cannot be read."""
@@ -78,7 +79,12 @@ class Reader:
             length = await self.lengths.of_blob(name[:NAME])
             need = need if length is None else need_of(length)
         async with self.memory.share(need):
-            blob = await self.network.fetch(name[:NAME], self.options.seconds, number)
+            try:
+                blob = await self.network.fetch(name[:NAME], self.options.seconds, number)
+            except client.Refused as refused:
+                if refused.status == 3 and number is None:
+                    self.rejected(name[:NAME])
+                raise
             pool = self.network.walrus.pool  # and not asyncio's own, which looks names up, perhaps for long
             return await asyncio.get_running_loop().run_in_executor(pool, put_away, blob) if len(blob) > SLICE else blob
 
