@@ -7,6 +7,7 @@ import aiohttp
 from guard_case import GuardCase
 from harness import FOUR, NetworkCase
 from prometheus_client.parser import text_string_to_metric_families
+from walrus.network import checking
 from walrus.network.local import free_port
 from walrus.network.times import BOUNDS, Times
 
@@ -65,6 +66,15 @@ class Gateway(GuardCase):
         with self.assertRaises(ValueError), times.taking("y"):
             raise ValueError
         self.assertEqual(dict(times.buckets("y"))["+Inf"], 1)
+
+
+class Settings(unittest.TestCase):
+    def test_a_place_for_numbers_is_checked(self) -> None:
+        for good in ("", "9100", "0.0.0.0:9100", "[::1]:9100"):
+            self.assertEqual(checking.faults_of_places({"recorders": ["a:1"], "metrics": good}), [], good)
+        for bad in ("x", "host", "host:", "9100 ", "1234567"):
+            [fault] = checking.faults_of_places({"recorders": ["a:1"], "metrics": bad})
+            self.assertIn(f"metrics {bad} is no PORT", fault)
 
 
 class Node(NetworkCase):

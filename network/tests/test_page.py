@@ -155,6 +155,7 @@ class Page(UploadCase):
             _, headers, body = await self.ask("GET", path)
             policy = dict(it.split(" ", 1) for it in headers["content-security-policy"].split("; "))
             self.assertEqual((policy["default-src"], policy["script-src"]), ("'none'", "'self'"), path)
+            self.assertEqual({policy[it] for it in ("form-action", "base-uri", "frame-ancestors")}, {"'none'"})
             self.assertNotIn("unsafe", headers["content-security-policy"])
         page = (pathlib.Path(gateway.__file__).parent / "page" / "page.html").read_text()
         for word in ("<style", "style=", "onclick", "http://", "https://", "javascript:"):

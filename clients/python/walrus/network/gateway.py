@@ -30,6 +30,7 @@ from .uploads import Uploads
 __all__ = ["Gateway", "Options", "ending", "serve"]
 FRESH = {**ALONE, "Cache-Control": "no-store"}
 POLICY = "default-src 'none'; style-src 'self'; script-src 'self'; connect-src 'self'; frame-ancestors 'none'"
+POLICY += "; form-action 'none'; base-uri 'none'"
 OWN = {**ALONE, "Content-Security-Policy": POLICY, "Cache-Control": "no-cache"}
 STORING = (
     ("PUT", "/v1/blobs"),
