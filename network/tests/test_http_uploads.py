@@ -2,14 +2,18 @@
 import asyncio
 import contextlib
 import hashlib
+import json
 import os
 import pathlib
+import re
+import shutil
 import time
 import unittest
 from typing import Any, Optional
 from unittest import mock
 
 from guard_case import GuardCase
+from harness import HERE
 from walrus import client
 from walrus.network import chunks, shares, unfinished
 from walrus.network.blobs import Blob, Blobs
@@ -210,6 +214,41 @@ class Going(UploadCase):
             gate.set()
             self.assertEqual((await sending)[0], 204)
         self.assertEqual((most <= 3_500, self.on_disk(), len(self.blobs)), (True, 0, 10), most)
+
+
+@unittest.skipUnless(shutil.which("curl"), "curl is not here (network/install --tests)")
+class Example(UploadCase):
+    """The commands of HTTP.md."""
+
+    size = 16_777_216
+
+    async def run_line(self, line: str, seconds: float = 60) -> str:
+        """What a command says; it is ended after some seconds."""
+        line = line.replace("http://127.0.0.1:31415", self.url).replace("FILE", str(self.folder / "file"))
+        line = f'curl() {{ command timeout {seconds} curl -q -s -N "$@"; }}; {line}'
+        pipes = {"stdout": asyncio.subprocess.PIPE, "stderr": asyncio.subprocess.STDOUT}
+        process = await asyncio.create_subprocess_exec("bash", "-c", line, **pipes)  # type: ignore[arg-type]
+        return (await process.communicate())[0].decode()
+
+    async def test_curl_goes_on(self) -> None:
+        await self.start()
+        page = (HERE.parent / "HTTP.md").read_text().partition("## Uploads that go on")[2].partition("\n## ")[0]
+        begin, send, look, rest = [it[2:] for it in page.splitlines() if it.startswith("$ ")]
+        data = os.urandom(50_000_000)
+        (self.folder / "file").write_bytes(data)
+        said = await self.run_line(begin)
+        self.assertTrue(said.startswith("HTTP/1.1 201 Created"), said)
+        for name in ("Upload-Offset: 0", "Upload-Complete: ?0", "Upload-Length: 50000000"):
+            self.assertIn(f"\r\n{name}\r\n", said)
+        found = re.search(r"Location: (/v1/uploads/\S+)\r\n", said)
+        assert found
+        send, look, rest = [it.replace("/v1/uploads/5e…c1", found[1]) for it in (send, look, rest)]
+        await self.run_line(send.replace("curl ", "curl --limit-rate 9M "), 3)
+        said = await self.run_line(look)
+        offset = int(re.findall(r"Upload-Offset: (\d+)\r\n", said)[0])
+        self.assertTrue(0 < offset < 50_000_000, said)
+        said = await self.run_line(rest.replace("33685505", str(offset + 1)).replace("33685504", str(offset)))
+        self.assertEqual(json.loads(said)["blobId"], self.name_of(data))
 
 
 class Refused(UploadCase):
