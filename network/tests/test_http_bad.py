@@ -48,6 +48,18 @@ class Bad(GatewayCase):
         self.assertEqual((await self.get(good))[2], b"good")
         self.assertEqual(len(self.gateway.announcer.findings), 1)  # what is good is never announced
 
+    async def test_a_blob_of_an_earlier_committee_is_announced_too(self) -> None:
+        await self.start()
+        encoded = await example_tools.encode_badly(client.Walrus(find_program()))
+        name = (await self.network.publish(encoded, 9)).identifier
+        await self.local.add_node("node-4")
+        await self.local.start_node("node-4")
+        async with self.local.network("operator") as operator:
+            await operator.begin(1, ["node-4", *FOUR[1:]])
+        self.assertTrue(await self.network.until(lambda it: it.epoch == 1 and not it.moving, 90))
+        await self.refused(410, f"/v1/blobs/{name.hex()}")
+        self.assertTrue(await self.network.until(lambda it: it.invalid(name), 90), self.gateway.announcer.findings)
+
     async def test_certified_pieces_are_told_and_taken_up(self) -> None:
         await self.start()
         self.enterContext(mock.patch.object(chunks, "PIECE", 100_000))

@@ -75,6 +75,13 @@ class UploadCase(GuardCase):
         self.assertEqual((status, found["cache-control"]), (200, "no-store"))
         return int(found["upload-offset"])
 
+    async def comes(self, path: str, size: int) -> None:
+        """Waits until so much of an upload has come to the disk."""
+        folder = pathlib.Path(self.folder, "tokens.uploads", path.rpartition("/")[2])
+        async with asyncio.timeout(10):
+            while unfinished.Upload(folder).offset < size:
+                await asyncio.sleep(0.02)
+
     def on_disk(self) -> int:
         return sum(path.stat().st_size for path in self.folder.glob("tokens.uploads/*/*.piece"))
 
@@ -134,13 +141,6 @@ class Going(UploadCase):
         status, _, told = await self.go_on(path, 1_700, data[1_700:], end=True)
         self.assertEqual((status, told["blobId"], self.blobs[0]), (201, self.name_of(data), data[:1_000]))
         self.assertEqual(len(self.blobs), 5)
-
-    async def comes(self, path: str, size: int) -> None:
-        """Waits until so much of an upload has come to the disk."""
-        folder = pathlib.Path(self.folder, "tokens.uploads", path.rpartition("/")[2])
-        async with asyncio.timeout(10):
-            while unfinished.Upload(folder).offset < size:
-                await asyncio.sleep(0.02)
 
     async def test_it_is_told_at_once_where_an_upload_goes_on(self) -> None:
         await self.start()
@@ -222,12 +222,15 @@ class Example(UploadCase):
 
     size = 16_777_216
 
-    async def run_line(self, line: str, seconds: float = 60) -> str:
-        """What a command says; it is ended after some seconds."""
+    async def run_line(self, line: str, breaks: str = "") -> str:
+        """What a command says; it is ended once something of an upload has come, if that is to break."""
         line = line.replace("http://127.0.0.1:31415", self.url).replace("FILE", str(self.folder / "file"))
-        line = f'curl() {{ command timeout {seconds} curl -q -s -N "$@"; }}; {line}'
-        pipes = {"stdout": asyncio.subprocess.PIPE, "stderr": asyncio.subprocess.STDOUT}
-        process = await asyncio.create_subprocess_exec("bash", "-c", line, **pipes)  # type: ignore[arg-type]
+        line = ("exec " if breaks else "") + line.replace("curl ", "curl -q -s ")
+        pipes: Any = {"stdout": asyncio.subprocess.PIPE, "stderr": asyncio.subprocess.STDOUT}
+        process = await asyncio.create_subprocess_shell(line, **pipes)
+        if breaks:
+            await self.comes(breaks, 1)
+            process.kill()
         return (await process.communicate())[0].decode()
 
     async def test_curl_goes_on(self) -> None:
@@ -243,7 +246,7 @@ class Example(UploadCase):
         found = re.search(r"Location: (/v1/uploads/\S+)\r\n", said)
         assert found
         send, look, rest = [it.replace("/v1/uploads/5e…c1", found[1]) for it in (send, look, rest)]
-        await self.run_line(send.replace("curl ", "curl --limit-rate 9M "), 3)
+        await self.run_line(send.replace("curl ", "curl --limit-rate 9M "), found[1])
         said = await self.run_line(look)
         offset = int(re.findall(r"Upload-Offset: (\d+)\r\n", said)[0])
         self.assertTrue(0 < offset < 50_000_000, said)
