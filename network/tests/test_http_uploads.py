@@ -62,6 +62,11 @@ class UploadCase(GuardCase):
         plain = len(names) == 1 and not data.startswith(MARK)
         return (names[0] if plain else hashlib.sha256(listed).digest()).hex()
 
+    def used(self, name: str) -> tuple[int, int]:
+        kept = shares.Shares(self.folder / "tokens.used")
+        self.addCleanup(kept.close)
+        return kept.used(name, 0)
+
     async def begin(self, data: bytes = b"", end: bool = False, **headers: str) -> tuple[int, dict[str, str], Any]:
         words = {"Upload-Complete": f"?{int(end)}", **{name.replace("_", "-"): text for name, text in headers.items()}}
         return await self.ask("POST", "/v1/uploads?epochs=5", data=data, headers=words)
@@ -298,11 +303,12 @@ class Refused(UploadCase):
 
     async def test_what_is_not_finished_is_bounded_and_ends(self) -> None:
         self.token("anyone", "read")
-        alice, bob = ({"Authorization": self.token(name)["Authorization"]} for name in ("alice", "bob"))
+        alice, bob = (self.token(name, blobs=100) for name in ("alice", "bob"))
         await self.start()
         with mock.patch.object(unfinished, "ALL", 10):
             found = [await self.begin(b"x", **alice) for _ in range(9)]
             self.assertEqual([status for status, _, _ in found], [201] * 8 + [429])
+            self.assertEqual(self.used("alice"), (8, 8))  # what was refused costs nothing
             found_ = [(await self.begin(b"x", **bob))[0] for _ in range(3)]
             self.assertEqual(found_, [201, 201, 503])
             path = found[0][1]["location"]
@@ -312,7 +318,8 @@ class Refused(UploadCase):
             self.assertEqual((await self.go_on(path, 1, b"y", **bob))[0], 404)
             self.assertEqual((await self.go_on(path, 1, b"y", end=True, **alice))[0], 201)
             self.assertEqual((await self.begin(b"x", **alice))[0], 201)  # what is finished does not count
-            for it in self.folder.glob("tokens.uploads/*/about"):
+            next(self.folder.glob("tokens.uploads/*/about")).unlink()  # it broke off as it began
+            for it in [*self.folder.glob("tokens.uploads/*/about"), *self.folder.glob("tokens.uploads/*")]:
                 os.utime(it, (time.time() - 86_500, time.time() - 86_500))
             self.assertEqual((await self.begin(b"x", **bob))[0], 201)
             self.assertEqual(len(list(self.folder.glob("tokens.uploads/*"))), 1)
@@ -324,18 +331,16 @@ class Refused(UploadCase):
     async def test_a_share_pays_for_what_came(self) -> None:
         alice = self.token("alice", bytes=3_000, blobs=9)
         await self.start()
-        used = shares.Shares(self.folder / "tokens.used")
-        self.addCleanup(used.close)
         self.assertEqual((await self.begin(Upload_Length="3001", **alice))[0], 403)
         path = (await self.begin(os.urandom(2_100), **alice))[1]["location"]
-        self.assertEqual(used.used("alice", 0), (2_100, 4))
+        self.assertEqual(self.used("alice"), (2_100, 4))
         status, headers, _ = await self.go_on(path, 2_100, bytes(901), **alice)
         self.assertEqual((status, headers["upload-offset"]), (403, "2100"))
         self.assertEqual((await self.ask("DELETE", path, headers=alice))[0], 204)
-        self.assertEqual(used.used("alice", 0), (2_000, 2))  # two pieces are certified
+        self.assertEqual(self.used("alice"), (2_000, 2))  # two pieces are certified
         path = (await self.begin(b"1" * 400, **alice))[1]["location"]
         self.assertEqual((await self.go_on(path, 400, b"2" * 400, end=True, **alice))[0], 201)
-        self.assertEqual(used.used("alice", 0), (2_800, 3))
+        self.assertEqual(self.used("alice"), (2_800, 3))
         self.assertEqual((await self.begin(b"1" * 201, **alice))[0], 403)
         status, _, told = await self.begin(b"1" * 190, **alice)
         self.assertEqual((await self.begin(b"1" * 11, **alice))[0], 403)

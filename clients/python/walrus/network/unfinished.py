@@ -143,7 +143,8 @@ class Unfinished:
         found = list[tuple[float, str, bool]]()
         for path in sorted(self.folder.iterdir()) if self.folder.exists() else []:
             with contextlib.suppress(FileNotFoundError):
-                touched, finished = (path / "about").stat().st_mtime, (path / "told").exists()
+                about, finished = path / "about", (path / "told").exists()
+                touched = (about if about.exists() else path).stat().st_mtime
                 if time.time() > touched + (KNOWN if finished else IDLE):
                     shutil.rmtree(path, ignore_errors=True)
                 else:

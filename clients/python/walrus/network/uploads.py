@@ -62,9 +62,13 @@ class Uploads:
             raise client.Failed("the network has no committee yet", {})
         charge = publisher.charge(request)
         charge.announce(length or 0)
-        charge.add(0)
         until = min(ledger.writing_epoch + epochs, LAST_UNTIL)
         upload = self.kept.create(owner_of(request), {"until": until, "epoch": ledger.writing_epoch, "length": length})
+        try:
+            charge.add(0)
+        except Problem:
+            self.kept.drop(upload)
+            raise
         place = {"Location": f"/v1/uploads/{upload.folder.name}"}
         if hears_early(request):
             told = {**place, "Upload-Draft-Interop-Version": VERSION, **self.limits()}
