@@ -54,6 +54,7 @@ class Storing(unittest.TestCase):
         away = {"stale": False}
         told = health.storing(ledger(), nodes("a", "b", "c"), away)
         self.assertEqual(told, {"possible": True, "why": "", "shards": 3})
+        self.assertTrue(health.storing(ledger(), Nodes({}, {}), away)["possible"])  # nobody was asked yet
         told = health.storing(ledger(), nodes("a", "b", "c", b=(5, 5), a=(6, 5)), away)
         self.assertEqual((told["possible"], told["shards"]), (False, 2))
         text = "2 of 4 shards take files, and 3 must: d does not answer; b has no room on the disk"

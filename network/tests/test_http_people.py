@@ -43,7 +43,9 @@ class People(UpCase):
         await self.words("fetch", name, "--output", self.folder / "out")
         self.assertEqual((self.folder / "out").read_bytes(), file.read_bytes())
         self.assertIn("node-2: shards 2, ", await self.words("status"))
-        self.assertIn("acknowledged it in epoch 0", await self.words("status", name))
+        self.assertRegex(
+            await self.words("status", name), "[34] shards acknowledged it in epoch 0, [34] shards are there"
+        )
         self.assertIn("node-1 holds it", await self.words("challenge", name, "node-1"))
         await self.bundles(file)
         await self.encrypted(file)

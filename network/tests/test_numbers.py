@@ -43,7 +43,7 @@ class Gateway(GuardCase):
             ("walrus_http_bytes_total", (("way", "out"),)): 15,
             ("walrus_blobs_read_total", ()): 1,
             ("walrus_ledger_stale", ()): 0,
-            ("walrus_storing", ()): 0,
+            ("walrus_node_answers", (("node", "node-1"),)): 0,
             ("walrus_node_answers", (("node", "node-0"),)): 0,
             ("walrus_bad_encodings_total", (("came", "declared"),)): 0,
         }.items():
@@ -53,6 +53,7 @@ class Gateway(GuardCase):
         self.assertEqual(found["walrus_http_seconds_bucket", (("le", "+Inf"), *where)], 3)
         self.assertEqual(found["walrus_http_seconds_count", (("method", "GET"), ("path", "other"))], 1)
         self.assertGreater(found["walrus_ledger_place", ()], 0)
+        self.assertLessEqual(found["walrus_storing", ()], 4)
         self.assertGreater(found["process_resident_memory_bytes", ()], 1_000_000)
 
     def test_times_fall_into_their_buckets(self) -> None:

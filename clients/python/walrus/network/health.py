@@ -17,6 +17,10 @@ class Nodes(NamedTuple):
     def answers(self, name: str) -> bool:
         return self.faults.get(name) == ""
 
+    def is_silent(self, name: str) -> bool:
+        """Whether a node was asked and did not answer."""
+        return bool(self.faults.get(name))
+
     def has_room(self, name: str) -> bool:
         """Whether a node's disk takes more, as far as it tells."""
         disk = self.figures.get(name, {}).get("disk", {})
@@ -45,15 +49,15 @@ def shards_of(ledger: Ledger, identifier: bytes, nodes: Nodes, findings: Iterabl
 def storing(ledger: Ledger, nodes: Nodes, away: Mapping[str, Any]) -> dict[str, Any]:
     """Whether anything can be stored now, and why not."""
     names, why = dict.fromkeys(ledger.writing), list[str]()
-    takes = {it for it in names if nodes.answers(it) and nodes.has_room(it)}
+    takes = {it for it in names if not nodes.is_silent(it) and nodes.has_room(it)}
     count = sum(it in takes for it in ledger.writing)
     if away["stale"]:
         why.append("the ledger is away")
     if not ledger.now:
         why.append("the network has no committee yet")
     elif count < ledger.quorum:
-        silent = [it for it in names if not nodes.answers(it)]
-        full = [it for it in names if nodes.answers(it) and not nodes.has_room(it)]
+        silent = [it for it in names if nodes.is_silent(it)]
+        full = [it for it in names if it not in silent and not nodes.has_room(it)]
         said = [f"{' '.join(silent)} {'do' if len(silent) > 1 else 'does'} not answer"] if silent else []
         said += [f"{' '.join(full)} {'have' if len(full) > 1 else 'has'} no room on the disk"] if full else []
         why.append(f"{count} of {len(ledger.writing)} shards take files, and {ledger.quorum} must: {'; '.join(said)}")
