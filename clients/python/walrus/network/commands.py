@@ -13,7 +13,8 @@ from . import operators, tokens
 from .checked import written_whole
 from .dates import epochs_for
 from .follower import Refused, Unreachable
-from .transfers import Failure, ask, fetch, listed, store, store_bundle
+from .resuming import store
+from .transfers import Failure, ask, fetch, listed, store_bundle
 
 URL = "http://127.0.0.1:31415"
 STATUSES = """exit status: 0 done; 1 it could not be done; 2 these words ask for nothing; 3 the blob was badly
@@ -36,7 +37,8 @@ def tell_blob(told: dict[str, Any]) -> str:
     found, names = told["certificate"], {it: " ".join(told.get(it, [])) for it in ("acknowledged", "lacking")}
     state = f"{found['count']} shards acknowledged it in epoch {found['epoch']}" if found else "not certified"
     state = "declared invalid" if told.get("invalid") else state
-    more = [f"{it}: {text}" for it, text in names.items() if text]
+    more = [f"{told['live']} shards are there now"] if found and "live" in told else []
+    more += [f"{it}: {text}" for it, text in names.items() if text]
     until = f"{told['endEpoch']} ({told['ends']})" if told.get("ends") else told["endEpoch"]
     return ", ".join([f"{told['blobId']} until epoch {until}", state, *more])
 
@@ -66,6 +68,8 @@ def tell_status(told: dict[str, Any]) -> str:
         words = [f"{at} {' '.join(map(str, it[at]))}" for at in ("shards", "next") if it[at]] + [it["state"]]
         words += tell_figures(it.get("figures", {}))
         lines.append(f"{it['name']}: {', '.join(words)}" + (f" ({it['said']})" if it["said"] else ""))
+    if why := told.get("storing", {}).get("why"):
+        lines.append(f"nothing can be stored now: {why}")
     return "\n".join(lines + [tell_blob(it) for it in told["recent"][:10]])
 
 

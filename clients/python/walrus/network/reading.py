@@ -6,7 +6,7 @@ import dataclasses
 import itertools
 import secrets
 import sys
-from typing import AsyncIterator, Iterable, Optional, Union
+from typing import AsyncIterator, Callable, Iterable, Optional, Union
 
 from aiohttp import web
 from .. import client
@@ -55,6 +55,7 @@ class Reader:
         self.memory = Memory(max(0, options.memory - BARE))
         self.cache = Cache(self.fetch, options.room, READINGS)
         self.bytes, self.lengths = collections.Counter[str](), Lengths(network)
+        self.rejected: Callable[[bytes], None] = lambda identifier: None  # is told what was badly encoded
 
     def must_stand(self, name: bytes) -> None:
         """Raises where it is known that a blob, or a member of it, cannot be read."""
@@ -81,7 +82,12 @@ class Reader:
         first, later = reading_needs(client.LARGEST_BLOB if length is None else length)
         async with self.memory.share(first, later) as share:
             calls = self.network.walrus.within(lambda: share.more(later))
-            blob = await self.network.fetch(name[:NAME], self.options.seconds, number, calls)
+            try:
+                blob = await self.network.fetch(name[:NAME], self.options.seconds, number, calls)
+            except client.Refused as refused:
+                if refused.status == 3 and number is None:
+                    self.rejected(name[:NAME])
+                raise
             pool = self.network.walrus.pool  # and not asyncio's own, which looks names up, perhaps for long
             return await asyncio.get_running_loop().run_in_executor(pool, put_away, blob) if len(blob) > SLICE else blob
 
