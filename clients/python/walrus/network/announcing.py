@@ -11,7 +11,7 @@ from .. import client, frames
 
 from .client import Network
 from .peers import Seat
-from .pieces import Memory, need_of
+from .pieces import Memory, reading_needs
 from .problems import Problem
 
 TRIES, PAUSE = 5, 10.0  # how often a blob is tried, and seconds between two tries
@@ -62,7 +62,7 @@ class Announcer:
     async def declare(self, identifier: bytes) -> str:
         """Gives a proof to shards, and waits until the ledger says what they attest; what they say in words."""
         network, ledger = self.network, self.network.ledger
-        async with self.memory.share(need_of(client.LARGEST_BLOB)):
+        async with self.memory.share(sum(reading_needs(client.LARGEST_BLOB))):
             proof = await self.prove(identifier)
         if not proof:
             return "too little is heard for a proof"

@@ -1,7 +1,8 @@
 """Blobs over HTTP: a publisher and an aggregator of a network, with its page and its numbers."""
 import asyncio
 import collections
-import logging
+import contextlib
+import ctypes
 import mimetypes
 import pathlib
 import signal
@@ -13,7 +14,7 @@ from .. import client
 from .access import CommonLog, log_to
 from .announcing import Announcer
 from .client import Access, Network
-from .connections import HANDSHAKE, Certificate, Counted, is_own_fault
+from .connections import Certificate, Counted, Server
 from .follower import Unreachable
 from .guard import Guard
 from .listing import Lister
@@ -28,6 +29,7 @@ from .tokens import STORE, Tokens
 from .uploads import Uploads
 
 __all__ = ["Gateway", "Options", "ending", "serve"]
+MMAP_THRESHOLD = -3  # an option of the C library's mallopt
 FRESH = {**ALONE, "Cache-Control": "no-store"}
 POLICY = "default-src 'none'; style-src 'self'; script-src 'self'; connect-src 'self'; frame-ancestors 'none'"
 POLICY += "; form-action 'none'; base-uri 'none'"
@@ -64,7 +66,7 @@ def must_be_known(request: web.Request) -> None:
         raise Problem(400, "a word of the query stands twice")
 
 
-class Gateway:
+class Gateway(Server):
     """The HTTP service over one user's view of the network in a folder."""
 
     def __init__(self, network: Network, folder: pathlib.Path, options: Optional[Options] = None):
@@ -85,8 +87,6 @@ class Gateway:
         self.publisher.used = options.used or str(tokens.with_suffix(".used"))
         self.certificate = Certificate(options.tls_certificate, options.tls_key) if options.tls_certificate else None
         self.log, self.each = log_to(options.log), collections.Counter[str]()
-        self.runner: Optional[web.AppRunner] = None
-        self.server: Optional[asyncio.AbstractServer] = None
 
     async def listen(self, host: str = "127.0.0.1", port: int = 0) -> int:
         """Answers from here on; the port."""
@@ -107,31 +107,18 @@ class Gateway:
         app.add_routes([web.get("/livez", self.livez), web.get("/readyz", self.readyz)])
         app.add_routes([web.get("/v1/rights", self.rights)])
         app.add_routes([web.get(path, self.page) for path in PAGES])
-        logging.getLogger("aiohttp.server").addFilter(is_own_fault)
-        self.runner = web.AppRunner(app)
-        await self.runner.setup()
-        words: dict[str, Any] = {"backlog": 1024}
-        if self.certificate:
-            words |= {"ssl": self.certificate.context, "ssl_handshake_timeout": HANDSHAKE}
-        self.server = await asyncio.get_running_loop().create_server(self.connect, host, port, **words)
-        return int(self.server.sockets[0].getsockname()[1])
+        return await self.serve(app, host, port, self.certificate.context if self.certificate else None)
 
     async def close(self) -> None:
-        if self.server:
-            self.server.close()
-        if self.runner and self.runner.server:
-            await self.runner.server.shutdown(5)
-            await self.runner.cleanup()
+        await self.end(5)
         await self.watch.close()
         await self.announcer.close()
         await self.reader.cache.close()
         self.publisher.close()
 
-    def connect(self) -> Counted:
-        """What serves a new connection; one too many is ended, and later one that says nothing."""
-        assert self.runner and self.runner.server
+    def connect(self, server: web.Server) -> Counted:
         words: dict[str, Any] = {"access_log": self.log, "access_log_class": CommonLog}
-        made = Counted(self.runner.server, self.options.connections, self.each, **words)
+        made = Counted(server, self.options.connections, self.each, **words)
         made.proxies = self.guard.proxies
         if self.certificate:
             self.certificate.refresh()
@@ -212,6 +199,13 @@ class Gateway:
         return web.Response(text=path.read_text(), content_type=kind, headers=OWN)
 
 
+def keep_buffers() -> None:
+    """Has what comes and goes in parts of 256 KiB take memory that was used before. `walrus-net` has malloc map what is
+    64 KiB and more, which for 16 MiB that came took 43 ms of a processor, and 35 for all else."""
+    with contextlib.suppress(AttributeError):  # of a system with another C library
+        ctypes.CDLL(None).mallopt(MMAP_THRESHOLD, 524_288)
+
+
 def ending() -> asyncio.Event:
     """What is set once a signal asks for an end."""
     told = asyncio.Event()
@@ -224,6 +218,7 @@ async def serve(
     access: Union[pathlib.Path, Access], host: str, port: int, options: Options, told: asyncio.Event
 ) -> int:
     """Runs a gateway until it is told to end."""
+    keep_buffers()
     async with Network(access, seconds=options.patience, kept=True) as network:
         gateway = Gateway(network, network.authority.parent, options)
         try:
