@@ -62,7 +62,7 @@ class Stops(GatewayCase):
                     if away and status == 503:
                         self.assertIn(b"the ledger is away", body)
                     else:
-                        self.assertEqual((status, body), (200, data))
+                        self.assertEqual((status, body), (200, data), body[:400])
 
         tasks = [asyncio.create_task(it) for it in (write(), write(), read())]
         try:

@@ -82,7 +82,7 @@ class Publisher:
             yield part
         if request.content_length not in (None, size):
             raise Problem(400, f"the upload broke off after {size} bytes: send the file again")
-        if promised and sum and promised != sum.digest():
+        if sum and promised not in (None, sum.digest()):
             raise Problem(400, "the bytes that came have another SHA-256 than the request says: send the file again")
 
     async def put_blob(self, request: web.Request) -> web.Response:

@@ -17,6 +17,7 @@ import time
 from typing import IO, Any, Optional
 
 from .chunks import MARK, NAME, PIECE
+from .pieces import Mapped, write
 from .problems import Problem
 
 ALL, OF_ONE, FINISHED = (
@@ -81,10 +82,10 @@ class Upload:
         number = self.count + len(self.sizes) - 1
         with open(self.path(number), "r+b" if self.sizes[-1] else "wb", buffering=0) as file:
             file.seek(self.sizes[-1])
-            while data:
-                done = file.write(data)
-                self.sizes[-1] += done
-                data = data[done:]
+            try:
+                write(file, data)
+            finally:
+                self.sizes[-1] = os.fstat(file.fileno()).st_size  # also where the disk took a part
         return number if self.sizes[-1] == PIECE else None
 
     def room(self) -> int:
@@ -101,7 +102,7 @@ class Upload:
             return b""
         with open(self.path(number), "rb") as file:
             size = os.fstat(file.fileno()).st_size
-            return memoryview(mmap.mmap(file.fileno(), size, access=mmap.ACCESS_READ)) if size else b""
+            return memoryview(Mapped(file.fileno(), size, access=mmap.ACCESS_READ)) if size else b""
 
     def record(self, name: bytes, was_there: bool) -> None:
         """The first piece that was not certified is so, and goes from the disk."""
