@@ -259,9 +259,8 @@ class Folders(GuardCase):
             some = bytearray(drawn.choice([whole, form]))
             for _ in range(drawn.randrange(1, 5)):
                 place = drawn.randrange(min(len(some), 1_200))
-                some[place : place + drawn.randrange(9)] = drawn.choice(
-                    [b"", b"\0", b"\xff\xff", b"/", b"--", b"9"]
-                )  # noqa: E203
+                behind = place + drawn.randrange(9)
+                some[place:behind] = drawn.choice([b"", b"\0", b"\xff\xff", b"/", b"--", b"9"])
             kinds = drawn.choice([TAR["Content-Type"], kind])
             found, _, told = await self.ask(
                 "PUT", "/v1/folders?epochs=5", data=bytes(some), headers={"Content-Type": kinds}

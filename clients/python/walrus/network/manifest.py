@@ -6,7 +6,7 @@ import array
 import re
 from typing import Container, Iterator, NamedTuple, Optional, Union
 
-from .chunks import LONGEST
+from .chunks import LONGEST, PIECE
 
 MARK = b"\x00walrus folder\x00\x01"
 MOST_FILES, MOST_BYTES = 262_144, 67_108_864  # files of a folder, and bytes of a manifest
@@ -209,5 +209,6 @@ def check(before: bytes, path: bytes, above: Container[bytes], found: "re.Match[
         raise Wrong(f"{shown(path)} is too long, is no UTF-8 or has a control character")
     if not is_beside and any(path[: it.start()] in above for it in re.finditer(b"/", path)):
         raise Wrong(f"{shown(path)} is in a folder that is a file, too")
-    if (length == 0) != (file is None) or offset + length > LONGEST:
+    most = LONGEST if found[5] is None else PIECE
+    if (length == 0) != (file is None) or offset + length > most:
         raise Wrong(f"{shown(path)} has a length that does not fit its place")

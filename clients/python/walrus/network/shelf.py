@@ -93,7 +93,7 @@ class Shelf:
         async with self.reader.blob(place.file) as blob:
             file = File.of(place.file, blob)
         end = (place.offset or 0) + place.length
-        if end > file.length or place.offset is None and end < file.length:
+        if end > file.length or file.length > (place.length if place.offset is None else PIECE):
             raise Problem(410, "the folder's manifest is false: this file has another length")
         return file if place.offset is None else Part(place.length, b"", file, place.offset)
 
