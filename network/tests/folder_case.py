@@ -7,7 +7,6 @@ from typing import Iterable, Union
 import harness  # noqa: F401  # which says where walrus is
 from walrus.network.manifest import MARK, Place
 
-DRAWN = random.Random(53)
 Files = dict[str, bytes]
 HOSTILE: dict[str, tuple[str, str]] = {  # what cannot be in a folder: its name in a tar, and what is said of it
     "leaves": ("../out", "no path within the folder"),
@@ -69,7 +68,7 @@ def site() -> Files:
         "style.css": b"h1 { color: rgb(1, 2, 3) }",
         "pictures/one.svg": b'<svg xmlns="http://www.w3.org/2000/svg" width="40" height="30"></svg>',
         "pictures/\u00fc ber.txt": "\u00fcber\n".encode(),
-        "film.webm": DRAWN.randbytes(700_000),
+        "film.webm": random.Random(53).randbytes(700_000),
         "empty": b"",
         "sub/index.html": b"<p>below",
         "copy of one.svg": b'<svg xmlns="http://www.w3.org/2000/svg" width="40" height="30"></svg>',

@@ -1,8 +1,10 @@
 """Folders over HTTP: what comes as a tar or a form, how it is served, and what liars and strangers get."""
+import base64
 import hashlib
 import io
 import random
 import re
+import sqlite3
 import tarfile
 import time
 import unittest
@@ -12,8 +14,7 @@ from typing import Any
 from folder_case import HOSTILE, Files, form_of, manifest_of, odd_tar, site, tar_of
 from guard_case import GuardCase
 from harness import HERE
-from walrus.network import gathering, manifest, shelf
-from walrus.network.folders import label_of
+from walrus.network import archives, gathering, manifest, problems, shelf
 from walrus.network.manifest import MARK, Manifest, Place, Wrong
 
 TAR = {"Content-Type": "application/x-tar"}
@@ -245,6 +246,20 @@ class Folders(GuardCase):
             told.pax_headers = {"comment": "x" * 70_000}
             made.addfile(told)
         self.assertIn("65536", (await self.put_folder(long.getvalue(), 400))["error"]["text"])
+        many = b"".join(b"%d %06d=\n" % (11, number) for number in range(5_900))
+        self.assertEqual(len(archives.fields_of(many)), 5_900)
+        for bad in (
+            b"9 a=b\n",
+            b"5 a=b\n",
+            b"6 a=b\n6 a=b",
+            b"6 a-b\n",
+            b"06 a=b\n",
+            b"a=b\n",
+            b"6 a=b\n ",
+            b"-6 a=b\n",
+        ):
+            with self.assertRaises(problems.Problem, msg=bad):
+                archives.fields_of(bad)
         kind, form = form_of({"a": b"1"})
         for bad in (form[:-4], form[:40], b"", form.replace(b"filename", b"file"), form.replace(b'"a"', b'""')):
             await self.put_folder(bad, 400, kind)
@@ -320,8 +335,9 @@ class Folders(GuardCase):
     async def test_each_folder_has_a_host_of_its_own(self) -> None:
         await self.start(sites="sites.example")
         name = (await self.put_folder(tar_of(site())))["blobId"]
-        label = label_of(bytes.fromhex(name))
+        label = base64.b32encode(bytes.fromhex(name)).decode().lower().rstrip("=")
         self.assertRegex(label, "^[a-z2-7]{52}$")
+        self.assertEqual((await self.put_folder(tar_of(site())))["folder"]["site"], f"{label}.sites.example")
 
         async def at(host: str, path: str, method: str = "GET", **headers: str) -> tuple[int, dict[str, str], Any]:
             return await self.ask(method, path, headers={"Host": host, **headers}, allow_redirects=False)
@@ -390,6 +406,9 @@ class Folders(GuardCase):
         await self.holds(told["blobId"], files)
         kind, form = form_of(files)
         self.assertEqual((await self.put_folder(form, kind=kind))["blobId"], told["blobId"])
+        broken = unittest.mock.Mock(side_effect=sqlite3.OperationalError("database or disk is full"))
+        with unittest.mock.patch.object(gathering.Folder, "begin", broken):
+            self.assertIn("disk is full", (await self.put_folder(tar_of(files), 503))["error"]["text"])
         self.gateway.options.room = 7_000
         self.assertIn(
             "parts", (await self.put_folder(tar_of({"a": b"a" * 4_000, "b": b"b" * 4_000}), 413))["error"]["text"]

@@ -10,12 +10,12 @@ from typing import Any
 
 import aiohttp
 from browser import PROGRAM, Browser
-from folder_case import Files, site, tar_of
+from folder_case import Files, manifest_of, site, tar_of
 from harness import HERE, usage_of
 from http_case import GatewayCase, UpCase
-from walrus.network.folders import label_of
 from walrus.network.gateway import Options
 from walrus.network.local import find_program
+from walrus.network.manifest import Place, label_of
 
 PAGE = b"""<!DOCTYPE html><title>A site</title><link rel=stylesheet href="style.css"><h1>Here</h1>
 <img id=picture src="pictures/one.svg"><video id=film src="film.webm" muted></video>
@@ -100,6 +100,14 @@ class Story(GatewayCase):
         status, _, body = await self.curl(f"/v1/extend/{name}?epochs=7", "-X", "POST")
         self.assertEqual((status, json.loads(body)["endEpoch"]), (200, 7))
         self.assertEqual({blobs[it].until for it in blobs}, {7})  # packs, files, pieces, their list and the manifest
+        lie = manifest_of(Place("a", "a/b", 9, bytes(32)))  # of what nobody has stored
+        lied = (await self.put(lie))["blobId"]
+        await self.refused(404, f"/v1/extend/{lied}?epochs=7", "-X", "POST")
+        await self.refused(404, f"/v1/folders/{lied}/a")
+        broken = (await self.put(lie + b"x", 3))["blobId"]  # no folder, and an ordinary file
+        self.assertEqual((await self.curl(f"/v1/extend/{broken}?epochs=7", "-X", "POST"))[0], 200)
+        await self.refused(410, f"/v1/folders/{broken}/a")
+        count = len(blobs)
         if not PROGRAM:
             self.skipTest("chromium is not here")
         own = f"http://{label_of(bytes.fromhex(name))}.sites.localhost:{self.port}/"

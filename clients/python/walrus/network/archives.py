@@ -166,15 +166,15 @@ def decimal(text: bytes) -> int:
 
 def fields_of(text: bytes) -> dict[str, bytes]:
     """The fields of a pax header, each of which begins with its length."""
-    found = dict[str, bytes]()
-    while text:
-        size, _, _ = text[:8].partition(b" ")
-        line = text[: int(size) if re.fullmatch(b"[1-9][0-9]{0,5}", size) else 0]
+    found, start = dict[str, bytes](), 0
+    while start < len(text):
+        size, end = text[start : start + 8].partition(b" ")[0], start  # noqa: E203
+        end += int(size) if re.fullmatch(b"[1-9][0-9]{0,5}", size) else 0
+        line = text[start:end]
         key, equals, value = line[len(size) + 1 : -1].partition(b"=")  # noqa: E203
         if not equals or line[-1:] != b"\n" or len(line) != int(size):
             raise Problem(400, BROKEN)
-        found[key.decode("utf-8", "replace")] = value
-        text = text[len(line) :]  # noqa: E203
+        found[key.decode("utf-8", "replace")], start = value, end
     return found
 
 

@@ -6,14 +6,14 @@ import html
 import json
 import re
 import urllib.parse
-from typing import Any, Iterable, Optional, Union
+from typing import Any, AsyncIterator, Iterable, Optional, Union
 
 from aiohttp import web
 
-from .chunks import LONGEST, File
+from .chunks import LONGEST, File, Told
 from .gathering import AT_ONCE, Costs, store_folder
 from .guard import SAFE
-from .manifest import Manifest, Place
+from .manifest import Manifest, Place, label_of
 from .problems import Problem
 from .publishing import Publisher, named
 from .reading import FOREVER, WAITING, Reader
@@ -32,11 +32,6 @@ td {{ padding: 0.1em 1em 0.1em 0 }} td + td {{ text-align: right }}</style></hea
 """
 
 
-def label_of(name: bytes) -> str:
-    """The label of a folder's own host."""
-    return base64.b32encode(name).decode().lower().rstrip("=")
-
-
 class Folders:
     """The folders of a gateway. `site` is the host below which each has one of its own."""
 
@@ -47,7 +42,7 @@ class Folders:
     async def put(self, request: web.Request) -> web.Response:
         options, publisher = self.publisher.options, self.publisher
         kind, costs = request.headers.get("Content-Type", ""), Costs(publisher.charge(request))
-        store = functools.partial(store_folder, publisher.writer, kind, costs, options.room)
+        store = functools.partial(self.store, kind, costs)
         async with asyncio.timeout(WAITING):
             await self.turns.acquire()
         try:
@@ -57,6 +52,13 @@ class Folders:
         name = response.headers["Location"].rpartition("/")[2]
         response.headers["Location"] = f"{PATHS}{name}/"
         return response
+
+    async def store(self, kind: str, costs: Costs, stream: AsyncIterator[bytes], epochs: int) -> Told:
+        """Stores what comes as a folder of this media type; what is told of it, with its own host."""
+        publisher = self.publisher
+        told = await store_folder(publisher.writer, kind, costs, publisher.options.room, stream, epochs)
+        site = {"site": f"{label_of(bytes.fromhex(told['blobId']))}.{self.site}"} if self.site else {}
+        return {**told, "folder": {**told["folder"], **site}}
 
     def at_site(self, request: web.BaseRequest) -> Optional[bytes]:
         """The folder whose own host a request names; none where it names no such host."""

@@ -3,6 +3,7 @@ import asyncio
 import contextlib
 import hashlib
 import os
+import sqlite3
 import tempfile
 from typing import Any, AsyncIterator
 
@@ -152,6 +153,8 @@ async def store_folder(
             async for coming in files:
                 await upload.take(coming)
         return await upload.finish()
+    except sqlite3.Error as fault:
+        raise Problem(503, f"the gateway cannot keep what it knows of the folder: {fault}; try again later") from None
     finally:
         await upload.close()
 

@@ -3,6 +3,7 @@
 A manifest is a mark, and for each file a line: its path, media type and length, and its place, with tabs between. The
 lines ascend byte by byte. docs: network/HTTP.md, "Folders"."""
 import array
+import base64
 import re
 from typing import Container, Iterator, NamedTuple, Optional, Union
 
@@ -120,6 +121,11 @@ def kind_of(path: str) -> str:
     """The media type of a file, by the ending of its name."""
     name = path.rpartition("/")[2]
     return BY_ENDING.get(name.rpartition(".")[2].lower(), OTHER) if "." in name[1:] else OTHER
+
+
+def label_of(name: bytes) -> str:
+    """A folder's name in DNS, which is that of its own host below others: its identifier in base32."""
+    return base64.b32encode(name).decode().lower().rstrip("=")
 
 
 class Manifest:

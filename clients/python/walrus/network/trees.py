@@ -9,7 +9,7 @@ from typing import Any, AsyncIterator, Awaitable, Callable, Iterable, Iterator
 import aiohttp
 
 from .checked import Naming
-from .manifest import Wrong, as_path, shown
+from .manifest import Wrong, as_path, label_of, shown
 from .packing import SMALL, Folder
 from .transfers import PART, Bar, Failure, ask, must_name, naming_of
 
@@ -143,8 +143,9 @@ class Sending:
         await several(functools.partial(self.send_large, *it) for it in large)
         await several(functools.partial(self.send_pack, number, it) for number, it in enumerate(self.folder.packs()))
         lines = b"".join(self.folder.manifest())
-        _, told = await self.send(lambda: iter([lines]), "the folder", always=True)
-        return {**told, "folder": {"files": self.folder.count, "bytes": self.folder.bytes, "sent": self.sent}}
+        name, told = await self.send(lambda: iter([lines]), "the folder", always=True)
+        found = {"files": self.folder.count, "bytes": self.folder.bytes, "sent": self.sent, "label": label_of(name)}
+        return {**told, "folder": found}
 
 
 async def store_folder(session: aiohttp.ClientSession, path: str, epochs: int) -> Any:
