@@ -83,6 +83,7 @@ class Trees(unittest.IsolatedAsyncioTestCase):
         self.tree, self.out, self.walrus = self.top / "tree", self.top / "out", client.Walrus(find_program())
         self.files, self.asked, self.puts, self.lie = dict[str, bytes](), list[str](), list[str](), None
         self.lie: Optional[bytes]
+        self.pause = 0.0
         app = web.Application(client_max_size=2**30)
         app.add_routes([web.get("/v1/status", self.status), web.get("/v1/blobs/{name}", self.give)])
         app.add_routes([web.put("/v1/blobs", self.take), web.get("/v1/status/{name}", self.status_of)])
@@ -109,6 +110,7 @@ class Trees(unittest.IsolatedAsyncioTestCase):
 
     async def take(self, request: web.Request) -> web.Response:
         body = await request.read()
+        await asyncio.sleep(self.pause)
         name = (await self.add(body)) if self.lie is None else self.lie.hex()
         self.puts.append(name)
         told = {"blobId": name, "size": len(body), "pieces": 1, "endEpoch": 8, "alreadyCertified": False}
@@ -173,6 +175,18 @@ class Trees(unittest.IsolatedAsyncioTestCase):
         self.assertNotEqual(await self.store(), name)
         self.assertEqual(len(self.puts), puts + 3)  # a pack and a manifest
         self.assertNotIn(hash(files["film.webm"]), [hash(self.files[it]) for it in self.puts[puts:]])
+
+    async def test_a_terminal_shows_how_far_it_is(self) -> None:
+        self.write(site())
+        self.pause = 1.5
+        outer, inner = os.openpty()
+        environment = {**os.environ, "WALRUS_GATEWAY": self.url, "WALRUS": find_program()}
+        line = [str(HERE.parent / "walrus-net"), "store", str(self.tree), "--epochs", "5"]
+        process = await asyncio.create_subprocess_exec(*line, env=environment, stdout=-1, stderr=inner)
+        self.assertEqual(await process.wait(), 0)
+        os.close(inner)
+        self.assertRegex(os.read(outer, 65_536), rb"tree \[#+ *\] 0\.\d MB, ")
+        os.close(outer)
 
     async def test_what_no_folder_has_is_named_and_nothing_is_sent(self) -> None:
         odd = {b"a\xff": "no UTF-8", b"a\nb": "control", b"a\\b": "backslash"}

@@ -14,7 +14,7 @@ from typing import Any
 from folder_case import HOSTILE, Files, form_of, manifest_of, odd_tar, site, tar_of
 from guard_case import GuardCase
 from harness import HERE
-from walrus.network import archives, gathering, manifest, problems, shelf
+from walrus.network import archives, folders, gathering, manifest, problems, shelf
 from walrus.network.manifest import MARK, Manifest, Place, Wrong
 
 TAR = {"Content-Type": "application/x-tar"}
@@ -395,6 +395,17 @@ class Folders(GuardCase):
         used = self.gateway.publisher.shares.used("one", 0)
         await self.put_folder(tar_of({"a": b"x" * 30_000}), 200, headers=shown)
         self.assertEqual(self.gateway.publisher.shares.used("one", 0), used)
+
+    async def test_a_few_folders_come_at_once(self) -> None:
+        await self.start()
+        turns = self.gateway.folders.turns
+        for _ in range(gathering.AT_ONCE):
+            await self.put_folder(b"no tar", 400)  # which gives its turn back
+            await turns.acquire()
+        with unittest.mock.patch.object(folders, "WAITING", 0.1):
+            self.assertIn("too much to do", (await self.put_folder(tar_of(site()), 503))["error"]["text"])
+        turns.release()
+        await self.put_folder(tar_of(site()))
 
     async def test_large_files_and_small_ones_have_bounds(self) -> None:
         await self.start(room=40_000_000)
