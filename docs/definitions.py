@@ -1,12 +1,15 @@
 #!/usr/bin/env python3
-"""Writes the tables of docs/DEFINITIONS.md: python3 docs/definitions.py, or with --check compares alone.
+"""Writes all definitions that claims rest on into docs/out/DEFINITIONS.md: python3 docs/definitions.py.
 
-A table stands between a comment that begins with `definitions` and has a line `FILE: SOURCE` for each file of specs/,
-and one `end of definitions`. It has a row for each definition of these files that a clause of an exported function
-names, or, where there is none or the line has a * behind the file, for each that such a clause reaches. The row is the
-name, and what the comment above the definition says. --check also tells which files lack a table, which definitions
-lack a comment, and which stand on the wrong side: what no clause of an exported function reaches belongs into
-specs/inside/, and all else outside of it."""
+With --check nothing is written. docs/definitions.txt is the source: its text is kept, and each run of lines
+`FILE: SOURCE`, with a file of specs/, becomes a table. The table has a row for each definition of these files that a
+clause of an exported function names, or, if there is none or the line has a * behind the file, for each that such a
+clause reaches. The row is the name, and what the comment above the definition says.
+
+Both tell which files lack a table, which definitions lack a comment, and which are in the wrong place: what no clause
+of an exported function reaches belongs into specs/inside/, and all else outside of it. They also compare
+docs/DEFINITIONS.md, the reading order: each file of specs/ that it names exists, and each block `antt FILE` has lines
+of that file, word for word."""
 import dataclasses
 import pathlib
 import re
@@ -15,6 +18,9 @@ from collections.abc import Iterator
 
 TOP = pathlib.Path(__file__).resolve().parents[1]
 PAGE = TOP / "docs" / "DEFINITIONS.md"
+SOURCE = TOP / "docs" / "definitions.txt"
+MADE = TOP / "docs" / "out" / "DEFINITIONS.md"
+ROWS = re.compile(r"(?:^wal\w*/[\w/]+(?: \*)?: .+\n)+", re.M)
 CRATES = TOP / "crates"
 WORD = re.compile(r"[^\W\d][\w]*")
 TOKEN = re.compile(r"[\w.]+|[^\w\s(){}\[\],;.]+")  # a word, as NAME or MODULE.NAME, or a sign
@@ -149,7 +155,7 @@ def type_of(header: str) -> str:
 
 
 def contract_words(path: pathlib.Path, exported: set[str]) -> set[str]:
-    """The words of the contracts of a source file that callers of the crate see, of the values of its types, and of what a digest is."""
+    """The words of a source file's contracts that callers of the crate see, of its types' values, and of digests."""
     words: set[str] = set()
     owner, seen, inside = "", False, False
     for line in path.read_text().splitlines():
@@ -193,7 +199,7 @@ def rows_of(definitions: list[Definition]) -> Iterator[str]:
 
 
 class Page:
-    """The page, and what is wrong with it or with the specs."""
+    """The page of all definitions, and what is wrong with it, with the specs or with the reading order."""
 
     def __init__(self, specs: Specs) -> None:
         self.specs = specs
@@ -209,23 +215,24 @@ class Page:
         return [it for it in told if f"{it.file}.{it.name}" in self.reached] if whole or not own else own
 
     def table(self, found: re.Match[str]) -> str:
-        """A table of the page, made again."""
+        """The table that stands for lines of the source."""
         lines = ["| Definition | What it says |", "|---|---|"]
-        for line in found[1].strip().splitlines():
+        for line in found[0].splitlines():
             told, _, source = line.partition(": ")
             file = told.removesuffix(" *")
             if file not in self.specs.files:
-                self.faults.append(f"{PAGE.name} names {file}, which is not there")
+                self.faults.append(f"{SOURCE.name} names {file}, which is not there")
                 continue
             self.shown.add(file)
             lines.append(f"| **`{file.replace('/', '/specs/', 1)}`** | *{source}* |")
             shown = self.shown_of(file, told != file)
             self.faults.extend(f"{file}.{it.name} has no comment above it" for it in shown if not it.comment)
             lines.extend(rows_of(shown))
-        return f"<!-- definitions\n{found[1]}-->\n" + "\n".join(lines) + "\n<!-- end of definitions -->"
+        return "\n".join(lines) + "\n"
 
-    def renewed(self, page: str) -> str:
-        new = re.sub(r"<!-- definitions\n(.*?)-->\n.*?<!-- end of definitions -->", self.table, page, flags=re.S)
+    def made(self, source: str) -> str:
+        """The page of all definitions."""
+        new = ROWS.sub(self.table, source)
         self.judge()
         return new
 
@@ -236,19 +243,32 @@ class Page:
                 side = "out of specs/inside/" if name in self.reached else "into specs/inside/"
                 self.faults.append(f"{name} belongs {side}")
         for file in sorted({self.specs.all[name].file for name in self.roots} - self.shown):
-            self.faults.append(f"{PAGE.name} has no table with {file}")
+            self.faults.append(f"{SOURCE.name} has no line with {file}")
+
+    def compare(self, page: str) -> None:
+        """Notes what the reading order names that is not there, or spells otherwise than the specs."""
+        for file in sorted(set(re.findall(r"`(wal\w*/specs/[\w/]+)`", page))):
+            if not (CRATES / f"{file}.antt").exists():
+                self.faults.append(f"{PAGE.name} names {file}, which is not there")
+        blocks = re.findall(r"^```antt (\S+)\n(.*?)^```$", page, re.M | re.S)
+        if not blocks:
+            self.faults.append(f"{PAGE.name} has no definition")
+        for file, text in blocks:
+            path = CRATES / f"{file}.antt"
+            if not path.exists() or f"\n{text}" not in path.read_text():
+                self.faults.append(f"{PAGE.name}: {file} does not have these lines: {text.splitlines()[0]} ..")
 
 
 def main(words: list[str]) -> int:
-    made = Page(Specs())
-    page = PAGE.read_text()
-    new = made.renewed(page)
+    page = Page(Specs())
+    new = page.made(SOURCE.read_text())
+    page.compare(PAGE.read_text())
     if words != ["--check"]:
-        PAGE.write_text(new)
-    elif page != new:
-        made.faults.append(f"{PAGE} is not what the specs say: run docs/definitions.py")
-    print("\n".join(made.faults))
-    return int(bool(made.faults))
+        MADE.parent.mkdir(exist_ok=True)
+        MADE.write_text(new)
+        print(f"{MADE}: {len(page.shown)} files of definitions")
+    print("\n".join(page.faults))
+    return int(bool(page.faults))
 
 
 if __name__ == "__main__":

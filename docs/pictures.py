@@ -17,6 +17,7 @@ TOP = pathlib.Path(__file__).resolve().parents[1]
 FOLDER, SCHEDULES = TOP / "docs" / "pictures", TOP / "examples" / "schedules"
 sys.dont_write_bytecode = True
 sys.path.insert(0, str(TOP / "clients" / "python"))
+import tables  # noqa: E402
 import walrus_timeline  # noqa: E402
 from walrus_sample import sample_schedule  # noqa: E402
 from walrus_timeline_report import read_report  # noqa: E402
@@ -210,6 +211,28 @@ def time_line(picture, y):
     picture.text(60, y + 162, "At finish the shards of Next serve alone, and drop every blob that is no longer live.", 13.5)
 
 
+def layers():
+    """The layers of crates.txt, the lowest at the bottom."""
+    crates = tables.read_crates()
+    chain = tables.chain_of(crates.below)
+    across, wide, high = 5, 104, 28
+    heights = [20 + 36 * -(-len(layer.notes) // across) for layer in crates.layers]
+    height = 110 + sum(heights) + 10 * len(heights)
+    picture = Picture("layers", "The layers of crates, the lowest at the bottom", 820, height)
+    picture.text(30, 36, "The crates in layers: each stands on crates of its own layer and of those below", 17, bold=True)
+    y = height - 46
+    for layer, tall in zip(crates.layers, heights):
+        y -= tall + 10
+        picture.box(30, y, 760, tall)
+        picture.text(42, y + tall / 2 + 5, layer.title, 13, bold=True)
+        for place, name in enumerate(layer.notes):
+            left, top = 264 + wide * (place % across), y + 14 + 36 * (place // across)
+            picture.label(left, top, wide - 7, high, name, SOURCE if name in chain else PLAIN, 11, True)
+    picture.box(30, height - 40, 26, 20, SOURCE)
+    picture.text(64, height - 25, "on the longest chain of crates, each of which waits for the one before", 13)
+    return picture
+
+
 class Timeline(collections.namedtuple("Timeline", "name content report")):
     """The picture of a schedule and its report."""
 
@@ -235,7 +258,7 @@ def timelines():
 
 
 def main(words):
-    pictures = [matrix(), identifier(), handover(), *timelines()]
+    pictures = [matrix(), identifier(), handover(), layers(), *timelines()]
     if words == ["--check"]:
         files = {path.stem: path.read_text(encoding="utf-8") for path in FOLDER.glob("*.svg")}
         differing = [each.name for each in pictures if files.get(each.name) != each.whole()]

@@ -1,8 +1,10 @@
 #!/usr/bin/env python3
 """Writes the tables of the pages that follow from the crates: python3 docs/tables.py, or with --check compares alone.
 
-The table of crates in ARCHITECTURE.md comes from crates.txt and from the first line of each crate, and the longest chain
-of crates from crates.txt. Each stands between two comments that name it."""
+The tables of crates in ARCHITECTURE.md, one for each layer, come from crates.txt and from the first line of each crate,
+and the longest chain of crates from crates.txt. Each stands between two comments that name it. In crates.txt a layer
+begins with a line `## TITLE: WHAT IT IS.`, and a comment right above a crate belongs to that crate."""
+import dataclasses
 import functools
 import pathlib
 import re
@@ -12,11 +14,43 @@ TOP = pathlib.Path(__file__).resolve().parents[1]
 PAGE = TOP / "docs" / "ARCHITECTURE.md"
 
 
-def read_crates() -> dict[str, list[str]]:
-    """What each crate stands on, in the order of crates.txt."""
+@dataclasses.dataclass
+class Layer:
+    """A layer of crates: its title, what it is, and the note on each crate, which may be empty."""
+
+    title: str
+    told: str
+    notes: dict[str, str]
+
+
+@dataclasses.dataclass
+class Crates:
+    """The layers of crates.txt, and what each crate stands on, in the order of the file."""
+
+    layers: list[Layer]
+    below: dict[str, list[str]]
+
+
+def read_crates() -> Crates:
+    """Reads crates.txt, and checks that each crate is in a layer, behind all of ours that it stands on."""
+    made = Crates([], {})
+    note = ""
     lines = (TOP / "crates.txt").read_text().splitlines()
-    rows = (line.split(":") for line in lines if line and not line.startswith("#"))
-    return {name.split()[0]: below.split() for name, below in rows}
+    ours = {line.split(":")[0].split()[0] for line in lines if line and not line.startswith("#")}
+    for line in lines:
+        if line.startswith("## "):
+            title, _, told = line.removeprefix("## ").partition(": ")
+            made.layers.append(Layer(title, told, {}))
+        elif line and not line.startswith("#"):
+            head, _, stands = line.partition(":")
+            name = head.split()[0]
+            early = [other for other in stands.split() if other in ours and other not in made.below]
+            if early or not made.layers:
+                sys.exit(f"crates.txt: {name} is in no layer, or before {' '.join(early)}, on which it stands")
+            made.layers[-1].notes[name] = note
+            made.below[name] = stands.split()
+        note = line.removeprefix("# ") if line.startswith("# ") else ""
+    return made
 
 
 def first_line(name: str) -> str:
@@ -38,28 +72,40 @@ def chain_of(crates: dict[str, list[str]]) -> list[str]:
         chains = [upto(other) for other in crates[name] if other in crates]
         return (*max(chains, key=len, default=()), name)
 
-    return list(max(map(upto, crates), key=len))
+    longest: tuple[str, ...] = ()
+    for name in crates:
+        if len(upto(name)) > len(longest):
+            longest = upto(name)
+    return list(longest)
 
 
-def table(crates: dict[str, list[str]]) -> str:
-    rows = ["| Crate | What it is | Stands on |", "|---|---|---|"]
-    for name, below in crates.items():
-        own = " ".join(f"`{it}`" for it in below if it in crates)
-        kit = " ".join(f"`{it}`" for it in below if it not in crates)
-        stands = "; ".join(part for part in (own, kit and f"the kit's {kit}") if part) or "nothing"
-        rows.append(f"| `{name}` | {first_line(name)} | {stands} |")
-    return "\n".join(rows)
+def row_of(name: str, note: str, crates: dict[str, list[str]]) -> str:
+    own = " ".join(f"`{it}`" for it in crates[name] if it in crates)
+    kit = " ".join(f"`{it}`" for it in crates[name] if it not in crates)
+    stands = "; ".join(part for part in (own, kit and f"the kit's {kit}") if part) or "nothing"
+    told = f"*{note}* {first_line(name)}" if note else first_line(name)
+    return f"| `{name}` | {told} | {stands} |"
+
+
+def tables(crates: Crates) -> str:
+    """A heading, a sentence and a table for each layer."""
+    parts = []
+    for layer in crates.layers:
+        rows = [row_of(name, note, crates.below) for name, note in layer.notes.items()]
+        head = [f"### {layer.title}", "", layer.told[:1].upper() + layer.told[1:], ""]
+        parts.append("\n".join([*head, "| Crate | What it is | Stands on |", "|---|---|---|", *rows]))
+    return "\n\n".join(parts)
 
 
 def renewed(page: str) -> str:
     """The page with its tables as the crates have them."""
     crates = read_crates()
-    parts = {"crates": table(crates), "chain": ", ".join(f"`{name}`" for name in chain_of(crates)) + "."}
+    parts = {"crates": tables(crates), "chain": ", ".join(f"`{name}`" for name in chain_of(crates.below)) + "."}
     for name, text in parts.items():
-        found = re.compile(rf"(<!-- {name} -->\n).*?(\n<!-- end of {name} -->)", re.S)
-        page, count = found.subn(lambda it, new=text: it[1] + new + it[2], page)
-        if count != 1:
+        begin, end = f"<!-- {name} -->\n", f"\n<!-- end of {name} -->"
+        if page.count(begin) != 1 or page.count(end) != 1:
             sys.exit(f"{PAGE}: the comments that name {name} must stand once")
+        page = page.partition(begin)[0] + begin + text + end + page.partition(end)[2]
     return page
 
 

@@ -1,4 +1,4 @@
-"""Checks of the client and the examples by mypy, black and flake8, where Debian's are here: python3 -m unittest."""
+"""Checks of the client, the examples and scripts of docs/ by Debian's mypy, black and flake8: python3 -m unittest."""
 import os
 import pathlib
 import subprocess
@@ -11,6 +11,7 @@ MODULES = sorted(file for file in CLIENT.glob("*.py") if not file.name.startswit
 MODULES += sorted((CLIENT / "walrus").glob("*.py"))
 NAMES = ("network", "spread", "bad_encoding", "one_shard", "bundle", "journal", "challenge", "gateway")
 EXAMPLES = [TOP / "examples" / name for name in NAMES]
+DOCS = [TOP / "docs" / f"{name}.py" for name in ("clauses", "definitions", "tables")]
 MOST_LINES = 400
 
 
@@ -27,13 +28,13 @@ def says(name, *words):
 class Style(unittest.TestCase):
     def test_types(self):
         words = "--strict", "--no-error-summary", "--scripts-are-modules", "--cache-dir", os.devnull
-        self.assertEqual(says("mypy", *words, *MODULES, *EXAMPLES), "")
+        self.assertEqual(says("mypy", *words, *MODULES, *EXAMPLES, *DOCS), "")
 
     def test_forms(self):
-        self.assertEqual(says("black", "--quiet", "--diff", "--check", "-l", "120", CLIENT, *EXAMPLES), "")
+        self.assertEqual(says("black", "--quiet", "--diff", "--check", "-l", "120", CLIENT, *EXAMPLES, *DOCS), "")
 
     def test_faults(self):
-        self.assertEqual(says("flake8", "--max-line-length", "120", CLIENT, *EXAMPLES), "")
+        self.assertEqual(says("flake8", "--max-line-length", "120", CLIENT, *EXAMPLES, *DOCS), "")
 
     def test_modules_are_small(self):
         """The client, its frames, its command and the front have fewer lines than this."""

@@ -1,4 +1,4 @@
-"""Measures nodes on this machine: memory, disk, rates, starts, what a repair moves, and gigabytes in and out.
+"""Measures nodes on this machine: memory, disk, rates, starts, and what a repair moves.
 
 Each part can be chosen alone, and begins nothing new once its minutes are over. What it writes goes to a folder of its
 own, which is removed. Figures of speed count on a quiet machine only."""
@@ -27,7 +27,6 @@ from walrus import client, loop  # noqa: E402
 
 NODES = ["node-0", "node-1", "node-2", "node-3"]
 SMALL, LARGE = 4_096, 16_777_216
-MOST_MEMORY, LONGEST_START = 256e6, 2.0  # bytes and seconds of a node, which `--large` compares
 
 
 class Over(Exception):
@@ -174,26 +173,6 @@ class Bench:
         await self.get(network, self.names[:1_000], 16)
         await self.mend(network, NODES[0], blobs, size)
 
-    async def large(self, network: Network, amount: float) -> None:
-        """Gigabytes in and out: one node is killed and back on the way in, one is replaced by an empty one while all is
-        read. Says whether each kept its bounds."""
-        free_for(self.local.folder, amount * 1e9)
-        count = max(2, round(amount * 1e9 / LARGE))
-        await self.put(network, count // 2, LARGE, 2)
-        start = await self.start_again("node-1")
-        print(f"node-1 was killed, and answers after {start:.2f} s", flush=True)
-        await self.put(network, count - count // 2, LARGE, 2)
-        size = (await self.holds(network, "node-3"))[1]
-        async with asyncio.TaskGroup() as group:
-            group.create_task(self.refill(network, "node-2", count, size))
-            group.create_task(self.get(network, self.names, 2))
-        for name in NODES:
-            self.memory(name)
-        fine = max(self.peaks.values()) < MOST_MEMORY / 1e6 and start < LONGEST_START
-        print(f"peak resident: {', '.join(f'{name} {it:.0f} MB' for name, it in sorted(self.peaks.items()))}")
-        bounds = f"{MOST_MEMORY / 1e6:.0f} MB a node and {LONGEST_START:g} s for a start"
-        print(f"{amount:g} GB in and out: {'within' if fine else 'beyond'} {bounds}")
-
 
 async def contents(folder: pathlib.Path) -> None:
     """What storing parts costs whose contents stand in SQLite or in files, eight of them under way at once."""
@@ -205,8 +184,8 @@ async def contents(folder: pathlib.Path) -> None:
             for first in range(0, count, 8):
                 keys = [number.to_bytes(32, "big") for number in range(first, first + 8)]
                 write = [asyncio.to_thread(store.files.write, it, payload) for it in keys if way == "in files"]
-                names = await asyncio.gather(*write) or [None] * 8
-                for key, name in zip(keys, names):
+                names = await asyncio.gather(*write) or [[None]] * 8
+                for key, [name] in zip(keys, names):
                     store.put(1, 0, key, 1, payload, name)
                 await (store.written() or asyncio.sleep(0))
             tell(f"{count} contents of {size} bytes {way}", time.monotonic() - start, count * size, count)
@@ -281,8 +260,6 @@ async def run(words: argparse.Namespace) -> None:
         await part(words, lambda bench, network: bench.held(network, words.held))
     if words.small:
         await part(words, lambda bench, network: bench.small(network, words.small))
-    if words.large:
-        await part(words, lambda bench, network: bench.large(network, words.large))
 
 
 def main() -> int:
@@ -292,11 +269,10 @@ def main() -> int:
     parser.add_argument("--contents", action="store_true", help="what contents cost in SQLite and in files")
     parser.add_argument("--held", type=int, nargs="+", metavar="MB", help="memory and a start with these held; rates")
     parser.add_argument("--small", type=int, metavar="N", help="the same with so many blobs of 4 KiB")
-    parser.add_argument("--large", type=float, metavar="GB", help="in and out, with a node killed and one replaced")
     parser.add_argument("--minutes", type=float, default=15, help="of each part with a network; 15")
     parser.add_argument("--folder", help="where it is tried: a folder on the disk in question")
     words = parser.parse_args()
-    if not any((words.judges, words.repair, words.contents, words.held, words.small, words.large)):
+    if not any((words.judges, words.repair, words.contents, words.held, words.small)):
         words.judges, words.repair, words.held, words.small = True, True, [100], 500
     print(f"program {find_program()}, {os.cpu_count()} processors, load {os.getloadavg()[0]:.1f}")
     loop.run(run(words))

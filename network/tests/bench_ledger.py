@@ -22,6 +22,7 @@ from walrus.network.checkpoint import Mark, Row  # noqa: E402
 from walrus.network.entries import ACK, OPERATOR, REGISTER, Chain, Entry, entry_key  # noqa: E402
 from walrus.network.follower import Recorders  # noqa: E402
 from walrus.network.local import Local, free_port  # noqa: E402
+from walrus.network.settings import RecorderSettings  # noqa: E402
 from walrus.network.state import State  # noqa: E402
 from walrus.network.store import Store  # noqa: E402
 from walrus import loop  # noqa: E402
@@ -48,7 +49,7 @@ def resident(process: int) -> str:
 
 async def syncs(local: Local) -> tuple[int, float]:
     """How often etcd has synced its log, and the seconds that this took."""
-    settings = recording.Settings.read(local.folder / "recorder-0.toml")
+    settings = RecorderSettings.read(local.folder / "recorder-0.toml")
     etcd = recording.etcd_of(settings)
     async with etcd.session.get(f"{etcd.url}/metrics") as said:
         text = await said.text()
@@ -58,7 +59,7 @@ async def syncs(local: Local) -> tuple[int, float]:
 
 
 async def sizes(local: Local) -> tuple[int, int]:
-    etcd = recording.etcd_of(recording.Settings.read(local.folder / "recorder-0.toml"))
+    etcd = recording.etcd_of(RecorderSettings.read(local.folder / "recorder-0.toml"))
     try:
         return await etcd.sizes()
     finally:
@@ -136,7 +137,7 @@ def hold(local: Local, name: str, count: int) -> None:
 
 async def write(local: Local, made: State) -> None:
     """Puts a checkpoint of a state to etcd, as if all before was dropped."""
-    etcd = recording.etcd_of(recording.Settings.read(local.folder / "recorder-0.toml"))
+    etcd = recording.etcd_of(RecorderSettings.read(local.folder / "recorder-0.toml"))
     digest, place = hashlib.sha256(), made.chain.place if made.chain else 0
     for number, piece in enumerate(made.written()):
         digest.update(piece)

@@ -22,7 +22,7 @@ async def put(store: Store, blob: int, part: int, size: int, again: int) -> None
     """Puts a part, in a file where it is long; a second one in place of one that went wrong."""
     payload, identifier, holding = content(blob, part, size, again), bytes([blob]) * 32, store.holding(0, 0) or 0
     try:
-        file = store.files.write(identifier, payload) if size > 1_000 else None
+        file = store.files.write(identifier, payload)[0] if size > 1_000 else None
         if again:
             store.mark(holding, identifier, part, True)
         store.put(holding, 0, identifier, part, payload, file)

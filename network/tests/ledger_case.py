@@ -7,7 +7,7 @@ import shutil
 import ssl
 import tempfile
 import unittest
-from typing import Any, Optional
+from typing import Any, Callable, Optional
 
 import aiohttp
 import harness
@@ -17,6 +17,7 @@ from walrus.network.etcd import Batch, Etcd, Failed, Gone
 from walrus.network.entries import Chain
 from walrus.network.follower import Recorders, View
 from walrus.network.keeping import Keeper
+from walrus.network.settings import RecorderSettings
 from walrus.network.state import State
 from walrus.network.ledger import OPERATOR, REGISTER, entry_key
 from walrus.network.local import Local, make_certificate
@@ -50,7 +51,7 @@ class LedgerCase(unittest.IsolatedAsyncioTestCase):
         else:
             await self.local.start_etcd()
             for name in self.local.recorders:
-                await self.record(recording.Settings.read(self.folder / f"{name}.toml"))
+                await self.record(RecorderSettings.read(self.folder / f"{name}.toml"))
         self.operator, self.publisher = self.user(OPERATOR), self.user("publisher")
         await self.operator.post(FOUNDED)
 
@@ -65,7 +66,7 @@ class LedgerCase(unittest.IsolatedAsyncioTestCase):
             await local.found()
         shutil.copytree(self.made[count], self.folder, dirs_exist_ok=True)
 
-    async def record(self, settings: recording.Settings) -> None:
+    async def record(self, settings: RecorderSettings) -> None:
         """Runs a recorder in this process."""
         state = State.open(settings.state)
         self.addCleanup(state.close)
@@ -73,7 +74,7 @@ class LedgerCase(unittest.IsolatedAsyncioTestCase):
         self.recorders.append(service.recorder)
         self.services.append(service)
         self.addAsyncCleanup(service.recorder.etcd.aclose)
-        self.addAsyncCleanup(service.close)
+        self.addAsyncCleanup(service.end, 1)
         for work in (service.recorder.run(), Keeper(service.recorder, self.patience).run()):
             self.addCleanup(asyncio.create_task(work).cancel)
         await service.listen()
@@ -124,6 +125,7 @@ class Memory(Etcd):
         self.kept, self.top, self.calls = dict[int, Batch](), "", 0
         self.marked, self.pieces = list[Mark](), dict[tuple[int, int], bytes]()
         self.plan: dict[int, str] = {}
+        self.hear = list[Callable[[str], None]]()  # who watches the head
         self.all = list[str]()  # what was ever appended
 
     async def fails(self, when: str) -> None:
@@ -150,6 +152,8 @@ class Memory(Etcd):
         await self.fails("before")
         if won := self.top == head:
             self.top = after
+            for hear in self.hear:
+                hear(after)
             if batch:
                 assert batch.before.place + 1 not in self.kept, "a batch is written twice"
                 self.kept[batch.before.place + 1] = Batch(batch.before, list(batch.entries))
@@ -192,7 +196,8 @@ class Memory(Etcd):
     async def sizes(self) -> tuple[int, int]:
         return 0, 0
 
-    async def ring(self, bell: asyncio.Event) -> None:
+    async def watch(self, hear: Callable[[str], None]) -> None:
+        self.hear.append(hear)
         await asyncio.Event().wait()
 
     def entries(self) -> list[str]:

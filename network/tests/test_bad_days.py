@@ -15,11 +15,11 @@ from harness import FOUR, ODD, NetworkCase, faked_clock, usage_of
 from http_case import GatewayCase
 
 from walrus import client
-from walrus.network import configuration, gateway, local, recording
+from walrus.network import configuration, gateway, local
 from walrus.network.ledger import OPERATOR
 from walrus.network.page import Watch
 from walrus.network.peers import FIGURES, SCRUB
-from walrus.network.settings import Settings
+from walrus.network.settings import RecorderSettings, Settings
 from walrus.network.staged import TORN
 
 
@@ -245,7 +245,7 @@ class BadDays(NetworkCase):
         self.local.options["heal"] = 1
         await self.local.found()
         path = self.folder / "recorder-0.toml"
-        configuration.write(recording.Settings, path, configuration.values_of(path) | {"patience": 0})
+        configuration.write(RecorderSettings, path, configuration.values_of(path) | {"patience": 0})
         await self.local.up(FOUR)
         self.faulty = {"node-3"}  # it forgets what its shard held before the epoch that it misses
         async with self.local.network() as network, self.local.network(OPERATOR) as operator:

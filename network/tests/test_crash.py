@@ -15,7 +15,7 @@ from trace_run import parts_on_disk
 from walrus.network.files import HALF
 from walrus.network.store import Store
 
-CALLS = {"fsync": 1, "fdatasync": 3, "rename": 1, "unlink": 1, "mkdir": 1, "ftruncate": 1, "pwrite64": 9, "write": 7}
+CALLS = {"fsync": 1, "fdatasync": 3, "rename": 1, "unlink": 1, "mkdir": 60, "ftruncate": 1, "pwrite64": 9, "write": 7}
 QUICK = "/dev/shm" if os.access("/dev/shm", os.W_OK) else None  # the calls are the same there
 ALL = bool(os.environ.get("CRASH_ALL"))  # else only some of the calls of which there are many
 

@@ -18,7 +18,7 @@ import harness
 from walrus.network import checkpoint
 from walrus.network import ledger as rules
 from walrus.network import state
-from walrus.network.entries import OPERATOR, Chain, Entry, entry_key, number
+from walrus.network.entries import OPERATOR, Chain, Entry, entry_key, fitting, number
 from walrus.network.ledger import Ledger, Void, refusal
 from walrus.network.local import find_program
 from walrus.network.state import State
@@ -72,6 +72,15 @@ class Rules(unittest.TestCase):
         words = {word for line in seen for word in line}
         wanted = {"certified", "invalid", "already", "expires", "unregistered", "moving", "past", "waiting", "counted"}
         self.assertLessEqual(wanted, words)
+
+    def test_as_many_as_fit_are_taken_and_one_at_least(self) -> None:
+        for texts, most, taken in (
+            ("aa bb cc", 4, "aa bb"),
+            ("aa bb cc", 5, "aa bb"),
+            ("aaaa b", 3, "aaaa"),
+            ("", 3, ""),
+        ):
+            self.assertEqual(fitting(texts.split(), most), taken.split())
 
     def test_what_is_no_entry_is_void(self) -> None:
         ledger = Ledger()
@@ -307,6 +316,34 @@ class Rules(unittest.TestCase):
             self.assertEqual(path.read_bytes(), whole)
             kept = State.open(str(path))
             self.assertEqual(kept.chain, Chain(1, bytes(32)))
+            kept.close()
+
+    def test_what_is_kept_soon_is_kept_with_what_comes_meanwhile(self) -> None:
+        with tempfile.TemporaryDirectory() as folder, mock.patch.object(state, "EACH", 3600.0):
+            kept, chain = State(f"{folder}/kept", 2), Chain(0, bytes(32))
+
+            def enter(*texts: str) -> int:
+                """The place up to which another process reads it, once these are entered."""
+                nonlocal chain
+                for text in texts:
+                    kept.ledger.apply(Entry(chain.place + 1, text))
+                    chain = chain.behind([text])
+                    kept.save(chain, [Entry(chain.place, text)], soon=True)
+                with contextlib.closing(sqlite3.connect(f"{folder}/kept")) as base:
+                    return int(json.loads(base.execute("SELECT value FROM told").fetchone()[0])["place"])
+
+            owners, blobs = ",".join("abcd"), [entry_key("x", "register", f"{it:064}", 5) for it in range(3)]
+            self.assertEqual(enter(entry_key(OPERATOR, "begin", 0, 1, owners)), 1)
+            self.assertEqual((enter(*blobs), kept.whole), (1, False))
+            self.assertEqual([it.key for it in kept.entries(1)], blobs)  # and is there for who asks for it
+            self.assertEqual((enter(), kept.whole), (4, True))
+            turn = [entry_key(OPERATOR, "begin", 1, 1, owners), *(entry_key(it, "ready", 1) for it in "abc")]
+            self.assertEqual(enter(*turn), 4)
+            self.assertEqual((enter(entry_key("a", "finish", 1)), kept.ledger.epoch), (9, 1))
+            enter(entry_key("a", "past", 1))
+            kept.close()
+            kept = State(f"{folder}/kept", 2)
+            self.assertEqual((kept.chain, kept.ledger.past), (chain, {"a": 1}))
             kept.close()
 
     def test_a_full_disk_keeps_nobody_from_hearing_the_ledger(self) -> None:

@@ -1,6 +1,6 @@
 """Many shards a node: 100 of them on ten nodes and then on eleven, within the bounds of a node.
 
-MANY_BYTES says how long the largest blob is, 1 MiB where it is not set."""
+MANY_BYTES says how long the largest blob is, 16 MiB where it is not set."""
 import os
 import unittest
 
@@ -9,7 +9,7 @@ from harness import NetworkCase, usage_of
 from walrus.network import ledger
 
 FAULTS, TEN = 33, [f"node-{number}" for number in range(10)]
-SIZE = int(os.environ.get("MANY_BYTES", "1048576"))
+SIZE = int(os.environ.get("MANY_BYTES", "16777216"))
 MOST_MEMORY, MOST_DESCRIPTORS = 300_000_000, 1_024
 
 

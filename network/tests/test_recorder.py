@@ -6,6 +6,7 @@ import io
 import json
 import pathlib
 import random
+import re
 import shutil
 import socket
 import sqlite3
@@ -23,10 +24,12 @@ import harness
 from aiohttp import web
 from ledger_case import FOUNDED, LedgerCase, Memory, registration
 from walrus.network import certificates, follower, keeping, recorder, recording, state
-from walrus.network.etcd import Batch
+from walrus.network.etcd import Batch, Failed
 from walrus.network.follower import Parted, Recorders, Refused, Unreachable, View
 from walrus.network.entries import ACK, ADDRESS, OPERATOR, Chain, Entry, entry_key
 from walrus.network.local import AUTHORITY, ETCD_AUTHORITY, Local, make_certificate
+from walrus.network.settings import RecorderSettings
+from walrus.network.waiting import Waiting
 
 
 class Adversary(LedgerCase):
@@ -360,7 +363,7 @@ class Trouble(Loaded):
     async def test_a_clock_that_jumps_loses_nothing(self) -> None:
         async with self.loaded() as acknowledged:
             await self.local.end("recorder-1")
-            clock, words = self.folder / "clock", [sys.executable, "-m", "walrus.network.recording"]
+            clock, words = self.folder / "clock", [sys.executable, "-m", "walrus.network", "recorder"]
             await self.local.start("recorder-1", words, harness.faked_clock(clock))
             for jump in ("+30d", "-1d", "+0"):
                 clock.write_text(jump)
@@ -434,6 +437,54 @@ class ThreeMembers(Loaded):
                     while len(acknowledged) < before + 20:
                         await asyncio.sleep(0.05)
                 await (self.local.start_etcd(name) if "etcd" in name else self.local.start_recorder(name))
+
+
+class Quota(LedgerCase):
+    """An etcd that has room for few entries."""
+
+    async def copy_certificates(self) -> None:
+        await super().copy_certificates()
+        self.allow(3_000_000)
+
+    def allow(self, size: int) -> None:
+        path = self.folder / "etcd.env"
+        text, count = re.subn("(?m)^ETCD_QUOTA_BACKEND_BYTES=.*$", f"ETCD_QUOTA_BACKEND_BYTES={size}", path.read_text())
+        self.assertEqual(count, 1)
+        path.write_text(text)
+
+    async def disarm(self) -> None:
+        """Does what `etcdctl alarm disarm` does, once etcd answers."""
+        call, alarms = self.recorders[0].etcd.call, list[dict[str, Any]]()
+        while not alarms:
+            with contextlib.suppress(Failed):
+                alarms = (await call("maintenance/alarm", {"action": "GET"})).get("alarms", [])
+            await asyncio.sleep(0.2)
+        for alarm in alarms:
+            await call("maintenance/alarm", {"action": "DEACTIVATE", **alarm})
+
+    async def test_where_etcd_is_full_posts_are_refused_and_the_ledger_is_told_still(self) -> None:
+        await self.operator.post(entry_key(OPERATOR, "share", "publisher", 10**6))
+        said, number = list[object](), 0
+        async with asyncio.timeout(120):
+            while not said or isinstance(said[-1], int):
+                texts = [registration("publisher", number + it) for it in range(1_000)]
+                number += 1_000
+                said += await asyncio.gather(*(self.publisher.post(it, 12) for it in texts), return_exceptions=True)
+        self.assertRegex(str(said[-1]), "no recorder took .*: it is not appended yet: .*space exceeded; post it again")
+        waits = asyncio.create_task(self.publisher.post(registration("publisher", 10**7), None))
+        async with self.following(self.user(OPERATOR)) as view:
+            self.assertEqual(len(view.ledger.blobs), sum(isinstance(it, int) for it in said))
+            await asyncio.sleep(recorder.FRESH + 2)
+            self.assertEqual([it.fresh for it in self.recorders], [True, True])
+            self.assertLess(view.silence(), 5)
+            self.assertIn("space exceeded", "".join(it.fault for it in self.recorders))
+            self.assertFalse(waits.done())
+            await self.local.end("etcd")
+            self.allow(10**9)
+            await self.local.start_etcd()
+            await self.disarm()
+            place = await asyncio.wait_for(waits, 60)
+            self.assertTrue(await view.until(lambda _: view.chain.place >= place, 20))
 
 
 class Streams(LedgerCase):
@@ -530,7 +581,8 @@ class FullDisk(unittest.IsolatedAsyncioTestCase):
                 return super().execute(words, *values)
 
         full, connect = False, sqlite3.connect
-        with tempfile.TemporaryDirectory() as folder, contextlib.redirect_stderr(io.StringIO()) as said:
+        each = mock.patch.object(state, "EACH", 0.0)
+        with tempfile.TemporaryDirectory() as folder, contextlib.redirect_stderr(io.StringIO()) as said, each:
             with mock.patch.object(state.sqlite3, "connect", lambda *it, **to: connect(*it, **to, factory=Full)):
                 kept = state.State(f"{folder}/kept")
             made = recorder.Recorder(Memory(), kept)
@@ -551,8 +603,8 @@ class FullDisk(unittest.IsolatedAsyncioTestCase):
         with tempfile.TemporaryDirectory() as folder, contextlib.redirect_stderr(io.StringIO()) as said:
             path = pathlib.Path(folder, "kept")
             path.mkdir()
-            words = {it.name: "" for it in dataclasses.fields(recording.Settings) if it.default is dataclasses.MISSING}
-            settings = recording.Settings(**{**words, "name": "recorder-0", "state": str(path)})
+            words = {it.name: "" for it in dataclasses.fields(RecorderSettings) if it.default is dataclasses.MISSING}
+            settings = RecorderSettings(**{**words, "name": "recorder-0", "state": str(path)})
             self.assertEqual(await recording.serve(settings), 1)
             self.assertTrue(path.exists())
         told = f"recorder-0 cannot start: {path} is not opened: unable to open database file\n"
@@ -572,6 +624,90 @@ class FullDisk(unittest.IsolatedAsyncioTestCase):
             with contextlib.redirect_stderr(io.StringIO()) as said, self.assertRaises(asyncio.CancelledError):
                 await keeper.run()
         self.assertIn("unable to open database file; it is tried again", said.getvalue())
+
+
+class Heads(unittest.IsolatedAsyncioTestCase):
+    """What recorders over one etcd ask it for."""
+
+    async def asyncSetUp(self) -> None:
+        asyncio.get_running_loop().set_debug(False)
+        self.etcd = Memory()
+        self.recorders = [recorder.Recorder(self.etcd) for _ in range(2)]
+        self.tasks = list["asyncio.Task[None]"]()
+        with mock.patch.object(recorder, "POLL", 0.01):
+            for made in self.recorders:
+                self.tasks.append(asyncio.create_task(made.run()))
+                self.addCleanup(self.tasks[-1].cancel)
+                self.assertTrue(await made.news.until(lambda made=made: made.identity, 10))
+            self.assertEqual(await self.recorders[0].post([FOUNDED]), [1])
+        for made in self.recorders:
+            self.assertTrue(await made.news.until(lambda made=made: made.chain.place == 1, 10))
+
+    async def test_what_a_recorder_appends_is_not_read_again_and_others_read_it_at_once(self) -> None:
+        one, other = self.recorders
+        with mock.patch.object(recorder, "POLL", 3600.0):
+            await asyncio.gather(
+                *(it.refresh() for it in self.recorders)
+            )  # who waits from now on has the long deadline
+            self.tasks[1].cancel()
+            await asyncio.sleep(0.1)
+            calls = self.etcd.calls
+            for number in range(20):
+                self.assertEqual(await one.post([registration("x", number)]), [number + 2])
+                await asyncio.sleep(0)
+            await asyncio.sleep(0.1)
+            self.assertEqual(self.etcd.calls - calls, 20)
+            self.addCleanup(asyncio.create_task(other.run()).cancel)
+            await other.refresh()
+            self.assertEqual(await one.post([registration("x", 20)]), [22])
+            self.assertTrue(await other.news.until(lambda: other.chain.place == 22, 10))
+
+    async def test_followers_are_told_the_same_from_memory_and_from_etcd(self) -> None:
+        one, other = self.recorders
+        texts = [FOUNDED, *(registration("x", number) for number in range(60))]
+        with mock.patch.multiple(recorder, POLL=0.01, RECENT=1_000):
+            for first in range(1, len(texts), 4):
+                await one.post(texts[first:][:4])
+            self.assertTrue(await other.news.until(lambda: other.chain.place == len(texts), 10))
+        self.assertTrue(0 < one.size <= 1_000 and one.size == sum(map(len, one.recent)))
+        for made in self.recorders:
+            for place in range(len(texts)):
+                found = await made.entries(place)
+                self.assertEqual(found, texts[place:][: len(found)])
+                self.assertGreater(len(found), 0)
+                self.assertEqual(
+                    await made.chain_at(place), Chain(0, bytes.fromhex(made.identity)).behind(texts[:place])
+                )
+            self.assertEqual(await made.entries(len(texts)), [])
+            self.assertEqual(await made.chain_at(len(texts)), made.chain)
+
+
+class Waits(unittest.IsolatedAsyncioTestCase):
+    async def test_nobody_is_woken_for_whom_it_does_not_hold(self) -> None:
+        waiting, said = Waiting(), set[int]()
+        tasks = [asyncio.create_task(waiting.until(lambda it=it: it in said, None)) for it in range(3)]
+        await asyncio.sleep(0)
+        for number in range(3):
+            said.add(number)
+            await asyncio.sleep(0)
+            self.assertFalse(tasks[number].done())
+            waiting.tell()
+            self.assertTrue(await tasks[number])
+            self.assertEqual([it.done() for it in tasks], [it <= number for it in range(3)])
+        self.assertTrue(await waiting.until(lambda: 2 in said, 0))
+        self.assertFalse(await waiting.until(lambda: 3 in said, 0.01))
+        self.assertEqual(waiting.waiting, {})
+
+    async def test_what_fails_is_heard_by_who_asked_for_it_alone(self) -> None:
+        waiting, said = Waiting(), dict[str, bool]()
+        bad = asyncio.create_task(waiting.until(lambda: said and said["b"], None))
+        good = asyncio.create_task(waiting.until(lambda: said, None))
+        await asyncio.sleep(0)
+        said["a"] = True
+        waiting.tell()
+        self.assertTrue(await good)
+        with self.assertRaises(KeyError):
+            await bad
 
 
 class Steps(unittest.IsolatedAsyncioTestCase):

@@ -56,10 +56,8 @@ class ShardCase(unittest.IsolatedAsyncioTestCase):
     def open(self) -> None:
         """Opens the disk, as a start does."""
         self.close()
-        self.store = Store(self.path)
+        self.store, self.damaged = Store(self.path), list[bytes]()
         self.shard = self.side(0)
-        self.damaged = list[bytes]()
-        self.shard.damaged = self.damaged.append
 
     def close(self) -> None:
         if self.store:
@@ -68,11 +66,9 @@ class ShardCase(unittest.IsolatedAsyncioTestCase):
 
     def side(self, epoch: int) -> shard.Shard:
         assert self.store
-        self.store.begin(epoch, 0)
+        holding = self.store.begin(epoch, 0)
         self.store.flush()
-        holding = self.store.holding(epoch, 0)
-        assert holding
-        return shard.Shard(0, epoch, holding, self.ledger, self.store, self.judges)
+        return shard.Shard(0, epoch, holding, self.ledger, self.store, self.judges, self.damaged.append)
 
     def apply(self, poster: str, kind: str, *fields: object) -> None:
         self.assertTrue(self.ledger.apply(Entry(self.ledger.revision + 1, entry_key(poster, kind, *fields))))
@@ -213,7 +209,7 @@ class Disk(ShardCase):
         folder = named[0].parent
         (folder / "half-written.half").write_bytes(b"x" * 9)
         (folder / "unnamed").write_bytes(b"x")
-        fresh = self.store.files.write(bytes(32), bytes(100))  # its name is about to be committed
+        [fresh] = self.store.files.write(bytes(32), bytes(100))  # its name is about to be committed
         with contextlib.closing(self.store.reader()) as base:
             words = "SELECT 1 FROM contents WHERE file = ?"
             swept = list(self.store.files.strays(lambda it: base.execute(words, (it,)).fetchone() is not None))
@@ -298,7 +294,7 @@ class Trouble(ShardCase):
 
     async def test_of_a_blob_that_comes_whole_all_is_stored_or_nothing(self) -> None:
         assert self.store
-        sync, left = os.fsync, [4]  # of the second file the folder is not synced
+        sync, left = os.fsync, [3]  # the folder of both files is not synced
 
         def full(file: int) -> None:
             left[0] -= 1
@@ -310,7 +306,7 @@ class Trouble(ShardCase):
         with mock.patch("os.fsync", full):
             self.assertEqual(code_of(await self.shard.put_whole(whole)), shard.FULL)
         await self.left(0)
-        self.assertEqual((self.store.files.fresh, self.shard.lacks(whole.identifier)), (set(), [0, 1, 2]))
+        self.assertEqual(self.shard.lacks(whole.identifier), [0, 1, 2])
         with mock.patch.object(self.store, "note", lambda *_: self.lose()):
             self.store.recorded = True
             self.assertEqual(code_of(await self.shard.put_whole(whole)), shard.FULL)
@@ -327,8 +323,8 @@ class Trouble(ShardCase):
             self.assertEqual(code_of(await self.shard.put(metadata)), client.DONE)
             work = self.judges.work
 
-            async def lose(step: Any, *words: Any) -> Any:
-                said = await work(step, *words)
+            async def lose(step: Any, *words: Any, **more: Any) -> Any:
+                said = await work(step, *words, **more)
                 self.lose()
                 return said
 
@@ -699,7 +695,7 @@ class Much(unittest.IsolatedAsyncioTestCase):
             for number in range(count):
                 name = number.to_bytes(32, "big")
                 for part, size in enumerate((300, 50_000, 30_000)):
-                    file = store.files.write(name, bytes(1_000_000)) if number < 50 and part == 1 else None
+                    file = store.files.write(name, bytes(1_000_000))[0] if number < 50 and part == 1 else None
                     store.put(1, 0, name, part, bytes(1_000_000 if file else size), file)
             self.assertTrue(store.flush())
             store.close()

@@ -6,9 +6,9 @@ from collections.abc import Callable
 from typing import Any, NamedTuple, Optional
 
 from . import kinds
+from .envelopes import stream
 from .kinds import LARGEST_BLOB, MALFORMED, MOST_FAULTS, MOST_UNTIL, UNVERIFIED, Answer, Fault
 from .shapes import Shape
-from .streams import envelope
 
 Body = NamedTuple("Body", [("cross", int), ("symbol", bytes), ("path", tuple[bytes, ...])])  # what an opening says
 Pairs = tuple[tuple[bytes, bytes], ...]
@@ -165,7 +165,7 @@ def code_of(reply: list[bytes]) -> int:
 
 def joined(reply: list[bytes], shard: int) -> bytes:
     """The envelopes of a reply."""
-    return b"".join(envelope(payload, shard) for payload in reply)
+    return stream(reply, shard)
 
 
 def part_of(payload: bytes) -> int:

@@ -2,6 +2,7 @@
 import collections
 import dataclasses
 import heapq
+import json
 import random
 from typing import Iterator, Mapping, MutableMapping, Optional
 
@@ -26,6 +27,22 @@ class Blob:
         """This blob once a shard said so too."""
         said = self.votes[kind].get(epoch, frozenset()) | {shard}
         return dataclasses.replace(self, votes={**self.votes, kind: {**self.votes[kind], epoch: said}})
+
+
+def coded(votes: Mapping[int, frozenset[int]]) -> dict[int, int]:
+    """The shards that have spoken, as bits of a number for each epoch."""
+    return {epoch: sum(1 << shard for shard in shards) for epoch, shards in sorted(votes.items())}
+
+
+def decoded(votes: dict[str, int]) -> dict[int, frozenset[int]]:
+    """The shards that such numbers tell."""
+    shards = {int(epoch): range(bits.bit_length()) for epoch, bits in votes.items()}
+    return {epoch: frozenset(it for it in shards[epoch] if votes[str(epoch)] >> it & 1) for epoch in shards}
+
+
+def blob_of(until: int, poster: str, votes: str) -> Blob:
+    acks, attests = map(decoded, json.loads(votes))
+    return Blob(until, poster, {ACK: acks, ATTEST: attests})
 
 
 class Blobs(MutableMapping[bytes, Blob]):

@@ -4,11 +4,11 @@ import pathlib
 import re
 from typing import Any
 
-from . import certificates, recording
+from . import certificates
 from .configuration import Role, Wrong, faults_in, located, values_of
-from .settings import GatewaySettings, Settings
+from .settings import GatewaySettings, RecorderSettings, Settings
 
-KINDS: tuple[type[Role], ...] = (Settings, recording.Settings, GatewaySettings)
+KINDS: tuple[type[Role], ...] = (Settings, RecorderSettings, GatewaySettings)
 ROLES = {it.role: it for it in KINDS}
 SOON = 30.0  # days before the end of a certificate in which that is told
 

@@ -8,6 +8,8 @@ import json
 import zlib
 from typing import Any, Iterable, Iterator, NamedTuple, Optional
 
+from .entries import Chain
+
 LONGEST = 1_048_576  # bytes of a piece before it is packed
 # Of a blob: identifier, number, until, poster, votes, and in which epochs it was certified and declared invalid.
 Row = tuple[bytes, int, int, str, str, Optional[int], Optional[int]]
@@ -23,6 +25,10 @@ class Mark(NamedTuple):
     pieces: int
     time: float  # when it was written
     dropped: bool = False  # whether the entries up to its place are no more
+
+    @property
+    def chain(self) -> Chain:
+        return Chain(self.place, bytes.fromhex(self.digest))
 
 
 class Torn(ValueError):

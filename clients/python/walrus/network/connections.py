@@ -2,14 +2,17 @@
 import asyncio
 import collections
 import contextlib
+import functools
 import logging
 import math
 import os
 import ssl
 import sys
-from typing import Any, Optional
+from typing import Any, Callable, Optional
 
 from aiohttp import http_exceptions, web
+
+from .entries import NAME
 
 FIRST, HANDSHAKE, EACH = 30.0, 5.0, 300  # seconds for a first request and for TLS; connections of one address
 WAITING = 64  # requests that a client has sent before the first of them is answered
@@ -69,6 +72,53 @@ class Counted(Connection):
     def whom(self, transport: asyncio.BaseTransport) -> tuple[str, float]:
         peer = str((transport.get_extra_info("peername") or ("",))[0])
         return peer, math.inf if peer in self.proxies else EACH
+
+
+class Named(Connection):
+    """A connection that counts among those of the name in its certificate; `bound` says how many that may have."""
+
+    def __init__(self, *words: Any, bound: Callable[[str], float]):
+        super().__init__(*words, access_log=None)
+        self.bound = bound
+
+    def whom(self, transport: asyncio.BaseTransport) -> tuple[str, float]:
+        subject = (transport.get_extra_info("peercert") or {}).get("subject", ())
+        names: list[str] = [text for part in subject for kind, text in part if kind == "commonName"]
+        name = names[0] if len(names) == 1 and NAME.fullmatch(names[0]) else ""
+        return name, self.bound(name)
+
+
+class Server:
+    """A service over HTTP, whose connections count as `connect` makes them."""
+
+    runner: Optional[web.AppRunner] = None
+    server: Optional[asyncio.AbstractServer] = None
+
+    def connect(self, server: web.Server) -> Connection:
+        """What serves a new connection; one too many is ended, and later one that says nothing."""
+        raise NotImplementedError
+
+    async def serve(self, app: web.Application, host: str, port: int, context: Optional[ssl.SSLContext]) -> int:
+        """Answers from here on; the port."""
+        logging.getLogger("aiohttp.server").addFilter(is_own_fault)
+        self.runner = web.AppRunner(app)
+        await self.runner.setup()
+        assert self.runner.server
+        made, words = functools.partial(self.connect, self.runner.server), {
+            "backlog": 1024
+        }  # type: Any, dict[str, Any]
+        if context:
+            words |= {"ssl": context, "ssl_handshake_timeout": HANDSHAKE}
+        self.server = await asyncio.get_running_loop().create_server(made, host, port, **words)
+        return int(self.server.sockets[0].getsockname()[1])
+
+    async def end(self, seconds: float) -> None:
+        """Answers no more; what is under way has so long."""
+        if self.server:
+            self.server.close()
+        if self.runner and self.runner.server:
+            await self.runner.server.shutdown(seconds)
+            await self.runner.cleanup()
 
 
 class Certificate:

@@ -100,6 +100,17 @@ def entry_key(poster: str, kind: str, *fields: object) -> str:
     return "/".join([poster, kind, *map(str, fields)])
 
 
+def fitting(texts: Iterable[str], most: int) -> list[str]:
+    """The first of these texts that have at most so many characters together, one of them at least."""
+    found, size = list[str](), 0
+    for text in texts:
+        size += len(text)
+        if found and size > most:
+            break
+        found.append(text)
+    return found
+
+
 @dataclasses.dataclass(frozen=True)
 class Chain:
     """How far a ledger was heard: the place of the last entry, and the digest of all up to it.

@@ -6,7 +6,7 @@ import dataclasses
 import functools
 import json
 import ssl
-from typing import Any, Optional
+from typing import Any, Callable, Optional
 
 import aiohttp
 
@@ -79,9 +79,9 @@ class Etcd:
     def __init__(self, url: str, authority: str, certificate: str, key: str):
         context = ssl.create_default_context(cafile=authority)
         context.load_cert_chain(certificate, key)
-        connector = aiohttp.TCPConnector(ssl=context)
-        self.url, self.session = url, aiohttp.ClientSession(connector=connector, read_bufsize=LONGEST_LINE)
-        self.aclose, self.revision, self.compacted = self.session.close, 0, 0
+        connector, jar = aiohttp.TCPConnector(ssl=context), aiohttp.DummyCookieJar()
+        self.session = aiohttp.ClientSession(connector=connector, cookie_jar=jar, read_bufsize=LONGEST_LINE)
+        self.url, self.aclose, self.revision, self.compacted = url, self.session.close, 0, 0
 
     async def call(self, path: str, body: dict[str, Any], seconds: float = 10) -> dict[str, Any]:
         """One call, in a task of its own, as deadlines of aiohttp 3.8 disturb those of asyncio around them."""
@@ -181,13 +181,14 @@ class Etcd:
         """Has that member give back what is not in use. It answers nobody else meanwhile."""
         await self.call("maintenance/defragment", {}, 60)
 
-    async def ring(self, bell: asyncio.Event) -> None:
-        """Rings a bell soon after the head is another one. It is a hint: what is missed, is asked for anyway."""
+    async def watch(self, hear: Callable[[str], None]) -> None:
+        """Tells what stands at the head soon after it is another one: a hint, as what is missed is asked for anyway."""
         limit = aiohttp.ClientTimeout(total=None, sock_connect=5, sock_read=SILENCE)
         while True:
-            with contextlib.suppress(aiohttp.ClientError, OSError, TimeoutError, ValueError):
+            with contextlib.suppress(aiohttp.ClientError, OSError, TimeoutError, ValueError, KeyError):
                 body = {"create_request": {"key": coded(HEAD)}}
                 async with self.session.post(f"{self.url}/v3/watch", json=body, timeout=limit) as said:
-                    while await said.content.readline():
-                        bell.set()
+                    while line := await said.content.readline():
+                        for event in json.loads(line)["result"].get("events", []):
+                            hear(decoded(event["kv"]))
             await asyncio.sleep(1)

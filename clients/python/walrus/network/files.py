@@ -4,10 +4,10 @@ What a crash leaves without a name in the database, or half written, is swept: n
 changed."""
 import contextlib
 import errno
+import itertools
 import os
 import pathlib
 import secrets
-import threading
 from typing import Callable, Iterable, Iterator
 
 from .. import client
@@ -20,38 +20,32 @@ class Files:
     """A folder of files, in folders by the first digits of what they are named for. Its calls hold up who calls."""
 
     def __init__(self, folder: pathlib.Path):
-        self.folder, self.fresh, self.lock = folder, set[str](), threading.Lock()  # files that nothing names yet
-        self.folder.mkdir(exist_ok=True)
+        self.folder, self.own, self.numbers = folder, secrets.token_hex(8), itertools.count()
+        for place in (folder, *(folder / f"{number:02x}" for number in range(256))):
+            place.mkdir(exist_ok=True)
+        self.sync(folder)
 
     def path(self, name: str) -> pathlib.Path:
         return self.folder / name[:2] / name
 
-    def write(self, identifier: bytes, payload: client.Data) -> str:
-        """Puts a content on the disk; its name, which it keeps once `kept` was told so."""
-        name = f"{identifier.hex()}-{secrets.token_hex(8)}"
-        path = self.path(name)
-        with self.lock:
-            self.fresh |= {name, name + HALF}
-        half = path.with_name(name + HALF)
+    def write(self, identifier: bytes, *payloads: client.Data) -> list[str]:
+        """Puts contents of a blob on the disk; their names."""
+        paths = [self.path(f"{identifier.hex()}-{self.own}-{next(self.numbers)}") for _ in payloads]
+        halves = [path.with_name(path.name + HALF) for path in paths]
         try:
-            if not path.parent.exists():
-                path.parent.mkdir(exist_ok=True)
-                self.sync(self.folder)
-            with open(half, "xb", buffering=0) as file:
-                view = memoryview(payload)
-                while view:
-                    done = file.write(view)
-                    view = view[done:]
-                os.fsync(file.fileno())
-            half.rename(path)
-            self.sync(path.parent)
+            for path, half, payload in zip(paths, halves, payloads):
+                with open(half, "xb", buffering=0) as file:
+                    view = memoryview(payload)
+                    while view:
+                        view = view[file.write(view) :]  # noqa: E203
+                    os.fsync(file.fileno())
+                half.rename(path)
+            for folder in {path.parent for path in paths}:
+                self.sync(folder)
         except BaseException:
-            for left in (half, path):
-                with contextlib.suppress(OSError):
-                    left.unlink()
-            self.kept([name])
+            self.remove(path.name for path in (*halves, *paths))
             raise
-        return name
+        return [path.name for path in paths]
 
     @staticmethod
     def sync(folder: pathlib.Path) -> None:
@@ -71,26 +65,20 @@ class Files:
                 raise
             return b""
 
-    def kept(self, names: Iterable[str]) -> None:
-        """The database has these names, or will never have them."""
-        with self.lock:
-            self.fresh -= {name + end for name in names for end in ("", HALF)}
-
     def remove(self, names: Iterable[str]) -> None:
         for name in names:
-            with contextlib.suppress(OSError):  # what stays is swept
+            with contextlib.suppress(OSError):  # what stays is swept after the next start
                 self.path(name).unlink()
 
     def strays(self, is_named: Callable[[str], bool]) -> Iterator[tuple[str, int]]:
-        """Removes what nothing names, step by step; the name and the size of each file that is removed."""
+        """Removes what nothing names, but for what this process wrote, which names or removes it; step by step, the
+        name and the size of each file that is removed."""
         for folder in sorted(self.folder.iterdir()):
             entries = list[os.DirEntry[str]]()
             with contextlib.suppress(OSError):  # it is no folder, or one of the system
                 entries += os.scandir(folder)
             for entry in entries:
-                with self.lock:
-                    fresh = entry.name in self.fresh
-                if not fresh and not is_named(entry.name):
+                if self.own not in entry.name and not is_named(entry.name):
                     with contextlib.suppress(OSError):
                         size = entry.stat().st_size
                         os.unlink(entry.path)

@@ -1,7 +1,6 @@
 """How posters and followers reach the ledger: entries that are posted to a recorder, and heard in their order."""
 import asyncio
 import base64
-import itertools
 import json
 import math
 import random
@@ -13,9 +12,10 @@ from typing import Any, AsyncIterator, Callable, NamedTuple, Optional, Sequence
 import aiohttp
 
 from .checkpoint import state_of
-from .entries import Chain, Entry
+from .entries import Chain, Entry, fitting
 from .ledger import Ledger
 from .state import State
+from .waiting import Waiting
 
 NAME = "recorder"  # which every recorder has in its certificate, and nobody else
 SILENCE, LONGEST_LINE = 10.0, 2**20  # seconds without a word of a recorder; bytes
@@ -49,8 +49,7 @@ class Resolver(aiohttp.ThreadedResolver):
         self.host = host
 
     async def resolve(self, hostname: str, port: int = 0, family: int = socket.AF_INET) -> list[dict[str, Any]]:
-        found = await super().resolve(self.host, port, family)
-        return [{**it, "hostname": hostname} for it in found]
+        return [{**it, "hostname": hostname} for it in await super().resolve(self.host, port, family)]
 
 
 class News(NamedTuple):
@@ -72,8 +71,9 @@ class Recorders:
         self.known: list[tuple[str, aiohttp.ClientSession]] = []
         for host, _, port in (it.rpartition(":") for it in addresses):
             connector = aiohttp.TCPConnector(ssl=context, resolver=Resolver(host.strip("[]")), limit=0)
-            session = aiohttp.ClientSession(connector=connector, read_bufsize=LONGEST_LINE)
-            self.known.append((f"https://{NAME}:{port}/v1/entries", session))
+            words: dict[str, Any] = {"cookie_jar": aiohttp.DummyCookieJar(), "read_bufsize": LONGEST_LINE}
+            session = aiohttp.ClientSession(connector=connector, **words)
+            self.known.append((f"https://{NAME}:{port}/v1/", session))
         self.at, self.said = random.randrange(len(self.known)), "it is too slow"
         self.waiting: list[tuple[str, "asyncio.Future[int]"]] = []
         self.sending: Optional["asyncio.Task[None]"] = None
@@ -103,38 +103,41 @@ class Recorders:
         pause = 0.1
         while waiting := [(text, taken) for text, taken in self.waiting if not taken.done()]:
             self.waiting, at = waiting, self.at
-            sizes = itertools.accumulate(len(text) for text, _ in waiting[:MOST])
-            sent = waiting[: max(1, sum(size <= MOST_BYTES for size in sizes))]
+            texts = fitting((text for text, _ in waiting[:MOST]), MOST_BYTES)
             try:
-                answers = await asyncio.create_task(self.once([text for text, _ in sent]))
-                pause = 0.1
+                answers = await asyncio.create_task(self.once(texts))
             except PASSING as fault:
-                self.mind(fault, at)
-                await asyncio.sleep(pause)
-                pause = min(2 * pause, 2.0)
+                pause = await self.mind(fault, at, pause)
                 continue
-            for (_, taken), answer in zip(sent, answers):
+            pause = 0.1
+            for (_, taken), answer in zip(waiting, answers):
                 if not taken.done():
                     place, reason = answer.get("place"), answer.get("refused")
                     taken.set_result(place) if place else taken.set_exception(Refused(reason))
 
+    async def ask(self, path: str, body: object) -> tuple[int, Any]:
+        """Posts to a recorder; the status of its answer, and what it says."""
+        url, session = self.known[self.at]
+        async with session.post(url + path, json=body, timeout=aiohttp.ClientTimeout(total=30)) as said:
+            return said.status, await said.json(content_type=None)
+
     async def once(self, texts: list[str]) -> list[dict[str, Any]]:
         """What a recorder answers to entries; of one that it does not hear at all the same for each."""
-        url, session = self.known[self.at]
-        async with session.post(url, json=texts, timeout=aiohttp.ClientTimeout(total=30)) as said:
-            answer = await said.json(content_type=None)
-        if said.status in (400, 403, 413):
+        status, answer = await self.ask("entries", texts)
+        if status in (400, 403, 413):
             return [{"refused": answer["error"]}] * len(texts)
-        if said.status != 200 or len(answer) != len(texts) or not all({*it} & {"place", "refused"} for it in answer):
-            raise ConnectionError(f"a recorder answers with status {said.status}: {answer['error']}")
+        if status != 200 or len(answer) != len(texts) or not all({*it} & {"place", "refused"} for it in answer):
+            raise ConnectionError(f"a recorder answers with status {status}: {answer['error']}")
         return list(answer)
 
-    def mind(self, fault: BaseException, at: int) -> None:
-        """Turns to the next recorder where one failed."""
+    async def mind(self, fault: BaseException, at: int, pause: float) -> float:
+        """Turns to the next recorder where one failed, and pauses; for how long the next time."""
         ended = isinstance(fault, aiohttp.ServerDisconnectedError)
         self.said = "a recorder takes no such certificate, or ended" if ended else str(fault) or "it is too slow"
         if self.at == at:
             self.at = (at + 1) % len(self.known)
+        await asyncio.sleep(pause)
+        return min(2 * pause, 2.0)
 
     async def follow(self, chain: Optional[Chain], ledger: str = "") -> AsyncIterator[News]:
         """What a ledger says from there on, without end, at whichever recorder answers; raises `Parted`."""
@@ -145,40 +148,36 @@ class Recorders:
                 async for news in self.stream(chain, ledger):
                     pause, chain, ledger = 0.1, news.chain, news.ledger
                     yield news
-                self.mind(ConnectionError("the recorder ended"), at)
+                raise ConnectionError("the recorder ended")
             except Restored as fault:
-                pause, self.said = 0.1, str(fault)
+                self.said = str(fault)
+                await asyncio.sleep(0.1)
             except PASSING as fault:
-                self.mind(fault, at)
-            await asyncio.sleep(pause)
-            pause = min(2 * pause, 2.0)
+                pause = await self.mind(fault, at, pause)
 
     async def stream(self, chain: Optional[Chain], ledger: str) -> AsyncIterator[News]:
         """What one recorder says, until it is silent for too long."""
-        url, session = self.known[self.at]
-        place = chain.place if chain else 0
+        (url, session), place = self.known[self.at], chain.place if chain else 0
         limit = aiohttp.ClientTimeout(total=None, sock_connect=5, sock_read=SILENCE)
-        async with session.get(url, params={"after": str(place)}, timeout=limit) as said:
-            told = json.loads(await said.content.readline())
-            if said.status == 409 and "tail" not in told:
-                raise Parted(told["error"])
-            if said.status == 403:
-                raise Refused(told["error"])
-            if said.status == 409:
-                await self.tell(int(told["tail"]))
+        async with session.get(f"{url}entries", params={"after": str(place)}, timeout=limit) as said:
+            read = said.content.readline
+            told = json.loads(await read())
+            if "tail" in told:
+                await self.tell(told["tail"])
                 raise Restored(told["error"])
             if said.status != 200:
-                raise ConnectionError(f"a recorder answers with status {said.status}: {told['error']}")
-            head, begun, pieces = int(told["head"]), Chain(told.get("place", place), bytes.fromhex(told["digest"])), []
+                kind = {403: Refused, 409: Parted}.get(said.status, ConnectionError)
+                raise kind(told["error"])
+            head, begun = int(told["head"]), Chain(told.get("place", place), bytes.fromhex(told["digest"]))
             if ledger not in ("", told["ledger"]) or chain and begun.place == place and chain != begun:
                 raise Parted(f"the ledger's first {place} entries are others than were heard before: {PARTED}")
-            for _ in range(told.get("pieces", 0)):
-                pieces.append(base64.b64decode(json.loads(await said.content.readline())["piece"]))
+            count = told.get("pieces", 0)
+            pieces = [base64.b64decode(json.loads(await read())["piece"]) for _ in range(count)]
             if pieces and state_of(pieces) != told["state"]:
                 raise ConnectionError("a recorder's checkpoint is not what was written")
             chain, ledger = begun, told["ledger"]
             yield News(chain, [], head, ledger, pieces)
-            while line := await said.content.readline():
+            while line := await read():
                 told = json.loads(line)
                 if "error" in told:
                     raise ConnectionError(f"a recorder sees the ledger no more: {told['error']}")
@@ -190,45 +189,29 @@ class Recorders:
 
     async def tell(self, place: int) -> None:
         """Tells what is kept of a ledger behind a place, or a piece of it, to who restores it."""
-        url, session = self.known[self.at]
-        entries, size, sent = self.tail(place, 4 * MOST), 0, list[str]()
-        for entry in entries:
-            size += len(entry.key)
-            if size > MOST_BYTES:
-                break
-            sent.append(entry.key)
-        told = {"after": entries[0].revision - 1 if entries else place, "entries": sent}
-        async with session.post(url.replace("entries", "tail"), json=told, timeout=aiohttp.ClientTimeout(total=30)):
-            pass
-
-
-class Absence(NamedTuple):
-    """For how many seconds no recorder told the ledger, until when, and why."""
-
-    seconds: float
-    end: float
-    said: str
+        entries = self.tail(place, 4 * MOST)
+        sent = fitting((it.key for it in entries), MOST_BYTES)
+        await self.ask("tail", {"after": entries[0].revision - 1 if entries else place, "entries": sent})
 
 
 class View:
     """The ledger as far as it was heard, and a way to wait for what it will say."""
 
     def __init__(self, recorders: Recorders, state: Optional[State] = None):
-        self.recorders, self.state, self.heard = recorders, state or State(), asyncio.Condition()
+        self.recorders, self.state, self.waiting = recorders, state or State(), Waiting()
         self.ledger, self.chain = self.state.ledger, self.state.chain
         recorders.tail = self.state.entries
         self.head, self.heard_at = -1, time.monotonic()  # where the ledger ended; when a recorder said something
-        self.absence = Absence(0.0, -math.inf, "")  # the last one that was longer than `AWAY`
-        self.lost: Optional[Exception] = None  # what has ended following for good
+        self.absence = 0.0, -math.inf, ""  # the last one longer than `AWAY`: for how long it was, until when, and why
+        self.entering, self.lost = False, None  # type: bool, Optional[Exception]  # what has ended following for good
 
     async def follow(self) -> None:
         try:
             async for news in self.recorders.follow(self.chain, self.state.identity):
                 await self.enter(news)
         except Exception as fault:
-            async with self.heard:
-                self.lost = fault
-                self.heard.notify_all()
+            self.lost, self.entering = fault, False
+            self.waiting.tell()
             raise
 
     @property
@@ -242,24 +225,24 @@ class View:
 
     def away_since(self, begun: float) -> str:
         """In words, that the ledger is away, or was so at some time since then; nothing where it was heard."""
-        last, now = self.absence, self.silence()
+        (seconds, end, said), now = self.absence, self.silence()
         if now > AWAY:
             return f"the ledger is away for {now:.0f} s ({self.recorders.said})"
-        return f"the ledger was away for {last.seconds:.0f} s ({last.said})" if last.end > begun else ""
+        return f"the ledger was away for {seconds:.0f} s ({said})" if end > begun else ""
 
     async def enter(self, news: News) -> None:
         """Enters new entries in their order, and lets go on who waited for that."""
-        async with self.heard:
-            if (seconds := self.silence()) > AWAY:
-                self.absence = Absence(seconds, time.monotonic(), self.recorders.said)
-            before, self.state.identity = self.chain, news.ledger
-            if news.pieces:
-                await self.take(news.pieces)
-            await self.apply(news.entries)
-            self.chain, self.head, self.heard_at = news.chain, news.head, time.monotonic()
-            if self.chain != before or not self.state.whole:
-                self.state.save(self.chain, news.entries)
-            self.heard.notify_all()
+        if (seconds := self.silence()) > AWAY:
+            self.absence = seconds, time.monotonic(), self.recorders.said
+        before, self.state.identity, self.entering = self.chain, news.ledger, True
+        if news.pieces:
+            await self.take(news.pieces)
+        await self.apply(news.entries)
+        self.chain, self.head, self.heard_at = news.chain, news.head, time.monotonic()
+        if self.chain != before or not self.state.whole:
+            self.state.save(self.chain, news.entries, soon=True)
+        self.entering = False
+        self.waiting.tell()
 
     async def take(self, pieces: list[bytes]) -> None:
         """Has what a checkpoint says in place of what was heard."""
@@ -271,11 +254,7 @@ class View:
 
     async def until(self, holds: Callable[[Ledger], object], seconds: Optional[float] = 30) -> bool:
         """Waits until something holds of the ledger; whether it did in time. Raises where following has ended."""
-        try:
-            async with asyncio.timeout(seconds), self.heard:
-                await self.heard.wait_for(lambda: bool(self.lost or holds(self.ledger)))
-        except TimeoutError:
-            return False
+        known = await self.waiting.until(lambda: self.lost or not self.entering and holds(self.ledger), seconds)
         if self.lost:
             raise Unreachable(f"the ledger is not followed any more: {self.lost}")
-        return True
+        return known

@@ -1,7 +1,6 @@
 """Blobs over HTTP: a publisher and an aggregator of a network, with its page and its numbers."""
 import asyncio
 import collections
-import logging
 import mimetypes
 import pathlib
 import signal
@@ -12,7 +11,7 @@ from .. import client
 
 from .access import CommonLog, log_to
 from .client import Access, Network
-from .connections import HANDSHAKE, Certificate, Counted, is_own_fault
+from .connections import Certificate, Counted, Server
 from .folders import PATHS, Folders
 from .follower import Unreachable
 from .guard import Guard
@@ -57,7 +56,7 @@ def must_be_known(request: web.Request) -> None:
         raise Problem(400, "a word of the query stands twice")
 
 
-class Gateway:
+class Gateway(Server):
     """The HTTP service over one user's view of the network in a folder."""
 
     def __init__(self, network: Network, folder: pathlib.Path, options: Optional[Options] = None):
@@ -75,8 +74,6 @@ class Gateway:
         self.publisher.used = options.used or str(tokens.with_suffix(".used"))
         self.certificate = Certificate(options.tls_certificate, options.tls_key) if options.tls_certificate else None
         self.log, self.each = log_to(options.log), collections.Counter[str]()
-        self.runner: Optional[web.AppRunner] = None
-        self.server: Optional[asyncio.AbstractServer] = None
 
     async def listen(self, host: str = "127.0.0.1", port: int = 0) -> int:
         """Answers from here on; the port."""
@@ -97,31 +94,18 @@ class Gateway:
         app.add_routes([web.put("/v1/challenges/{name}/{node}", self.challenge), web.get("/metrics", self.metrics)])
         app.add_routes([web.get("/livez", self.livez), web.get("/readyz", self.readyz)])
         app.add_routes([web.get(path, self.page) for path in PAGES])
-        logging.getLogger("aiohttp.server").addFilter(is_own_fault)
-        self.runner = web.AppRunner(app)
-        await self.runner.setup()
-        words: dict[str, Any] = {"backlog": 1024}
-        if self.certificate:
-            words |= {"ssl": self.certificate.context, "ssl_handshake_timeout": HANDSHAKE}
-        self.server = await asyncio.get_running_loop().create_server(self.connect, host, port, **words)
-        return int(self.server.sockets[0].getsockname()[1])
+        return await self.serve(app, host, port, self.certificate.context if self.certificate else None)
 
     async def close(self) -> None:
-        if self.server:
-            self.server.close()
-        if self.runner and self.runner.server:
-            await self.runner.server.shutdown(5)
-            await self.runner.cleanup()
+        await self.end(5)
         await self.watch.close()
         await self.shelf.close()
         await self.reader.cache.close()
         self.publisher.close()
 
-    def connect(self) -> Counted:
-        """What serves a new connection; one too many is ended, and later one that says nothing."""
-        assert self.runner and self.runner.server
+    def connect(self, server: web.Server) -> Counted:
         words: dict[str, Any] = {"access_log": self.log, "access_log_class": CommonLog}
-        made = Counted(self.runner.server, self.options.connections, self.each, **words)
+        made = Counted(server, self.options.connections, self.each, **words)
         made.proxies = self.guard.proxies
         if self.certificate:
             self.certificate.refresh()

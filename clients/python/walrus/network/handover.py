@@ -1,14 +1,13 @@
 """What a node owes as the ledger goes on: what its shards must hold, of this committee and the next, and its words."""
 import asyncio
 import gc
-import sqlite3
 import sys
 from typing import TYPE_CHECKING, Any, Iterable, Optional
 
 from .. import client
 
 from .ledger import ACK, ATTEST, entry_key
-from .recovery import Lack, by_lanes, settle
+from .recovery import Lack, by_lanes, passing, settle
 
 if TYPE_CHECKING:
     from .node import Node
@@ -51,8 +50,8 @@ async def heal(node: "Node") -> None:
     clock, pause, lost = asyncio.get_running_loop().time, 0.0, None  # type: Any, float, Optional[int]
     lacked, late = dict[int, dict[bytes, bool]](), list[bytes]()
     while True:
-        begun = clock()
-        try:
+        async with passing(node.name, "what is lacking is recovered later", LATEST):
+            begun = clock()
             lacks, unsaid = await survey(node)
             taken = clock() - begun
             vouched = [it for blobs in lacks.values() for it, said in blobs.items() if said]
@@ -60,16 +59,12 @@ async def heal(node: "Node") -> None:
             lost = tell_lost(node, vouched, lost, urgent)
             for epoch, blobs in lacks.items():
                 await settle(node, epoch, [it for it, said in blobs.items() if said or it in lacked.get(epoch, ())])
-        except (OSError, sqlite3.OperationalError) as fault:  # of the system, as where no descriptor is left
-            print(f"{node.name}: what is lacking is recovered later: {fault}", file=sys.stderr, flush=True)
-            await asyncio.sleep(LATEST)
-            continue
-        recovered = lacks.get(node.ledger.writing_epoch, {})
-        await acknowledge(node, [*recovered, *(it for it in late if it in unsaid)])
-        lacked, late = lacks, unsaid
-        gc.collect()  # connections whose handshake did not come, which Python would keep for long
-        await asyncio.sleep(max(pause if urgent else node.settings.heal, 20 * taken))
-        pause = min(max(2 * pause, SOON), LATEST) if urgent else 0.0
+            recovered = lacks.get(node.ledger.writing_epoch, {})
+            await acknowledge(node, [*recovered, *(it for it in late if it in unsaid)])
+            lacked, late = lacks, unsaid
+            gc.collect()  # connections whose handshake did not come, which Python would keep for long
+            await asyncio.sleep(max(pause if urgent else node.settings.heal, 20 * taken))
+            pause = min(max(2 * pause, SOON), LATEST) if urgent else 0.0
 
 
 def tell_lost(node: "Node", vouched: list[bytes], lost: Optional[int], urgent: bool) -> int:
@@ -114,7 +109,7 @@ async def move(node: "Node") -> None:
     epoch = ledger.epoch + 1
     while ledger.moving and ledger.epoch + 1 == epoch:
         own, revision = set(node.sides.get(epoch, ())), ledger.revision  # none until the begin is on the disk
-        try:
+        async with passing(node.name, f"epoch {epoch}"):
             left = 0 if own <= ledger.ready else await settle(node, epoch, ledger.must_hold())
             if left and left != said:
                 print(f"{node.name}: epoch {epoch}: {left} blobs are lacking still", file=sys.stderr, flush=True)
@@ -123,7 +118,5 @@ async def move(node: "Node") -> None:
                 await node.recorders.post(entry_key(node.name, "ready", epoch))
             if own and ledger.moving and len(ledger.ready) >= ledger.quorum:
                 await node.recorders.post(entry_key(node.name, "finish", epoch))
-        except (OSError, sqlite3.OperationalError) as fault:
-            print(f"{node.name}: epoch {epoch}: {fault}", file=sys.stderr, flush=True)
         await node.until(lambda it: it.revision != revision, pause)
         pause = min(2 * pause, 5.0)

@@ -12,9 +12,10 @@ import os
 import pathlib
 import struct
 import threading
-from typing import AsyncIterator, Callable, Iterator, Optional, Sequence, TypeVar, Union
+from typing import AsyncIterator, Callable, Optional, Sequence, TypeVar, Union
 
 from .. import client
+from ..envelopes import stream
 from walrus.engines import BUILT, Engine, Library, Program
 from ..frames import METADATA, PRIMARY, PROOF, SECONDARY, pages_of
 from ..serving import status_in_words
@@ -24,6 +25,8 @@ Result = TypeVar("Result")
 PARTS = client.METADATA, client.SECOND_METADATA, client.SLIVER, client.PROOF
 NO_MEMORY, PATIENCE = 5, 20.0  # a status of the program; seconds until who finds no memory is told to come again
 BESIDE, TIMES = 8_388_608, 6  # memory of a judge: so much, and so many times the bytes that it is told and asked
+SHORT = 65_536  # bytes over which the library judges faster than another thread would begin to
+TRIM_THRESHOLD, MMAP_THRESHOLD, ARENA_MAX = -1, -3, -8  # options of `mallopt`
 
 
 class Unjudged(ConnectionError):
@@ -50,8 +53,7 @@ def keep_memory() -> None:
     """Has the memory of one call of the library serve the next one. A call has 45 MB, of which it writes little; where
     they are given back in between, the system maps and clears them anew: 3.8 ms of a processor in place of 0.4."""
     with contextlib.suppress(AttributeError):  # of a system with another C library
-        options = {"M_TRIM_THRESHOLD": (-1, 67_108_864), "M_MMAP_THRESHOLD": (-3, 33_554_432), "M_ARENA_MAX": (-8, 1)}
-        for option, value in options.values():
+        for option, value in ((TRIM_THRESHOLD, 67_108_864), (MMAP_THRESHOLD, 33_554_432), (ARENA_MAX, 1)):
             ctypes.CDLL(None).mallopt(option, value)
 
 
@@ -71,11 +73,7 @@ def name_of(payload: bytes) -> bytes:
 def judge(engine: Engine, faults: int, shard: int, requests: list[bytes]) -> list[list[bytes]]:
     """What a shard that holds nothing replies to these requests, which it takes one after the other. The list is left
     empty, so that they are there once."""
-    pages = sum(pages_of(it) for it in requests if it[0] in PARTS)
-    count, data = len(requests), bytearray()
-    for payload in requests:
-        data += client.HEAD.pack(client.MARK, 0, len(payload))
-        data += payload
+    pages, count, data = sum(pages_of(it) for it in requests if it[0] in PARTS), len(requests), stream(requests)
     requests.clear()
     return serve(engine, faults, shard, pages, data, count, len(data) + 512 * count)
 
@@ -83,13 +81,15 @@ def judge(engine: Engine, faults: int, shard: int, requests: list[bytes]) -> lis
 def serve(
     engine: Engine, faults: int, shard: int, pages: int, data: client.Data, count: int, room: int
 ) -> list[list[bytes]]:
-    """The replies to so many requests in envelopes, which are of so many pages."""
+    """The replies to so many requests in envelopes, which are of so many pages; they stay where they were written."""
     words = ["serve", faults, shard, "--pages", pages + 1, "--blobs", count // 2 + 1]
     status, text = engine.run([*map(str, words)], data, room)
     if status == NO_MEMORY:
         raise MemoryError("walrus serve wants memory")
     replies: list[list[bytes]] = [[]]
-    for payload in payloads(text):
+    while text:
+        end = client.HEAD.size + client.HEAD.unpack_from(text)[2]
+        payload, text = text[client.HEAD.size : end], text[end:]  # noqa: E203
         replies[-1].append(payload)
         if payload[0] == client.CLASH:
             raise Clash(f"two texts with one digest, keep them: {payload.hex()}")
@@ -98,15 +98,6 @@ def serve(
     if status or len(replies) != count + 1 or replies.pop():
         raise Unjudged(f"walrus serve ended with {status_in_words(status)}")
     return replies
-
-
-def payloads(text: memoryview) -> Iterator[bytes]:
-    """The payloads of envelopes that the program wrote."""
-    head = client.HEAD.size
-    while text:
-        end = head + client.HEAD.unpack_from(text)[2]
-        yield bytes(text[head:end])
-        text = text[end:]
 
 
 class Room:
@@ -167,18 +158,24 @@ class Judges:
             self.room.grow(self.least)
             self.kept = mmap.mmap(-1, self.least)
 
-    async def work(self, step: Callable[..., Result], *words: object) -> Result:
-        """What a step gives that must not hold up all others; it has a thread of its own."""
+    async def work(self, step: Callable[..., Result], *words: object, here: bool = False) -> Result:
+        """What a step gives that must not hold up all others; it has a thread of its own, unless told otherwise."""
         self.count += 1
-        return await asyncio.get_running_loop().run_in_executor(self.pool, self.try_twice, step, *words)
-
-    def try_twice(self, step: Callable[..., Result], *words: object) -> Result:
-        """Where memory is wanting, one step after the other has what is kept."""
+        loop = asyncio.get_running_loop()
+        if not here:
+            return await loop.run_in_executor(self.pool, self.try_twice, step, *words)
         with contextlib.suppress(MemoryError):
             return step(*words)
+        return await loop.run_in_executor(self.pool, self.with_kept, step, *words)
+
+    def try_twice(self, step: Callable[..., Result], *words: object) -> Result:
+        with contextlib.suppress(MemoryError):
+            return step(*words)
+        return self.with_kept(step, *words)
+
+    def with_kept(self, step: Callable[..., Result], *words: object) -> Result:
+        """Where memory is wanting, one step after the other has what is kept."""
         with self.alone:
-            if self.kept:
-                self.kept.close()
             self.kept = None
             try:
                 return step(*words)
@@ -188,12 +185,16 @@ class Judges:
                 with contextlib.suppress(OSError):
                     self.kept = mmap.mmap(-1, self.least) if self.least else None
 
+    async def ask(self, size: int, step: Callable[..., Result], *words: object) -> Result:
+        """What a judge gives who is told and asked so many bytes."""
+        async with self.room.take(need_of(size)):
+            return await self.work(step, *words, here=size < SHORT and isinstance(self.engine, Library))
+
     async def run(self, *words: object, data: Union[client.Data, Sequence[client.Data]] = b"") -> tuple[int, bytes]:
         """The status and the output of the program, as `client.Walrus` has them."""
         whole = wire.joined(data) if isinstance(data, list) else data
-        async with self.room.take(need_of(len(whole))):
-            status, text = await self.work(self.engine.run, [*map(str, words)], whole, len(whole) + 4_096)
-            return status, bytes(text)
+        status, text = await self.ask(len(whole), self.engine.run, [*map(str, words)], whole, len(whole) + 4_096)
+        return status, bytes(text)
 
     def close(self) -> None:
         self.pool.shutdown(wait=False, cancel_futures=True)

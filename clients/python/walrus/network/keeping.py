@@ -39,12 +39,12 @@ class Keeper:
         """Does what is to be done now."""
         recorder, mark = self.recorder, await self.etcd.mark()
         now = time.monotonic()
-        if recorder.ledger.epoch > (mark.epoch if mark else 0) and now > recorder.turned and recorder.state.whole:
+        if recorder.ledger.epoch > (mark.epoch if mark else 0) and now > recorder.turned and recorder.state.settle():
             await self.write(mark)
         elif mark and not mark.dropped and not self.awaited(mark):
-            if await self.etcd.put_mark(mark._replace(dropped=True), mark):
-                await self.etcd.drop(mark)
+            await self.etcd.put_mark(mark._replace(dropped=True), mark)
         if mark and mark.dropped and mark.place > self.dropped:
+            await self.etcd.drop(mark)  # each recorder does so, as who has put the mark may have ended behind it
             recorder.index.drop(mark.place)
             self.dropped = mark.place
         if now > recorder.appended + IDLE:

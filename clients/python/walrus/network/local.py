@@ -123,7 +123,7 @@ class Local:
             self.machine().node(Place(name, HOST, free_port()), **self.options)
 
     async def start_recorder(self, name: str) -> None:
-        await self.start(name, [sys.executable, "-m", "walrus.network.recording"])
+        await self.start(name, [sys.executable, "-m", "walrus.network", "recorder"])
 
     async def start_node(self, name: str, words: Sequence[str] = (), environment: Mapping[str, str] = {}) -> None:
         await self.start(name, [*words] or [sys.executable, "-m", "walrus.network.node"], environment)

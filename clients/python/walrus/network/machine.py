@@ -10,8 +10,7 @@ from . import certificates
 from .configuration import write
 from .entries import NAME, OPERATOR
 from .follower import NAME as RECORDER
-from .recording import Settings as RecorderSettings
-from .settings import GatewaySettings, Settings
+from .settings import GatewaySettings, RecorderSettings, Settings
 
 AUTHORITY, ETCD_AUTHORITY = "authority", "etcd-authority"
 KEPT = {OPERATOR, RECORDER, AUTHORITY, ETCD_AUTHORITY, "etcd", "units"}  # names that are no node's

@@ -23,7 +23,7 @@ from .entries import LAST_EPOCH
 from .ledger import ACK, ADDRESS, ATTEST, OPERATOR, PAST, Entry, entry_key
 from .notify import ready
 from .peers import Peers
-from .recovery import Progress, settle
+from .recovery import Progress, passing, settle
 from .scrub import Scrub
 from .settings import Settings
 from .shard import DECLINED, FULL, NO_MEMORY, Shard
@@ -60,7 +60,7 @@ class Node(View):
 
     async def open(self) -> int:
         """Takes what the disk has, catches up with the ledger, and listens; the port."""
-        self.arrange()
+        await self.turn([])
         self.tasks.append(asyncio.create_task(self.watched(self.follow())))
         if not await self.until(lambda _: self.caught_up or self.failed.done(), 5):
             print(f"{self.name}: the ledger is away; this serves what is on the disk", file=sys.stderr, flush=True)
@@ -105,69 +105,52 @@ class Node(View):
             wrong = {await self.wrong.get()}
             while not self.wrong.empty():
                 wrong.add(self.wrong.get_nowait())
-            try:
+            async with passing(self.name, "what went wrong is recovered later"):  # `heal` finds it again
                 for epoch in list(self.sides):
                     await settle(self, epoch, wrong)
-            except (OSError, sqlite3.OperationalError) as fault:  # `heal` finds it again
-                print(f"{self.name}: what went wrong is recovered later: {fault}", file=sys.stderr, flush=True)
 
     async def apply(self, entries: list[Entry]) -> None:
         """Enters entries in their order."""
+        ledger = self.ledger
         for entry in entries:
-            if entry.words[1:2] == ["finish"] if self.ledger.moving else entry.words[:2] == [OPERATOR, "begin"]:
-                await self.turn(entry)
-            else:
-                self.ledger.apply(entry)
+            turns = entry.words[1:2] == ["finish"] if ledger.moving else entry.words[:2] == [OPERATOR, "begin"]
+            ending = ledger.blobs.ending(b"", ledger.writing_epoch, len(ledger.blobs)) if turns else []
+            if ledger.apply(entry) and turns:
+                await self.turn([it for it in ending if it not in ledger.blobs])
 
     async def take(self, pieces: list[bytes]) -> None:
         """Takes a checkpoint of the ledger, where it is too far ahead to be heard entry by entry."""
-        async with self.store.turning():
-            gone = self.state.take(pieces)
-            await self.store.persist(lambda: self.stage_sides(gone))
-            self.arrange()
-        self.scrub.left.set()
+        await self.turn(self.state.take(pieces))
 
-    def stage_sides(self, expired: Sequence[bytes]) -> None:
-        """Stages that the shards of the committees that there are go on, and that those before hold nothing more."""
-        for side in self.epochs():
-            for number in self.ledger.shards_of(self.name, side):
-                self.store.begin(side, number)
-        self.store.turn(self.ledger.epoch, expired)
+    async def turn(self, expired: Sequence[bytes]) -> None:
+        """Has the shards of the committees that there are go on once that is on the disk: what stays is a row, and no
+        part is touched. Those before hold nothing more."""
 
-    async def turn(self, entry: Entry) -> None:
-        """Enters a begin or a finish while no shard is asked anything; what stays is a row, and no part is touched."""
+        def stage() -> None:
+            for epoch in self.epochs():
+                for number in self.ledger.shards_of(self.name, epoch):
+                    self.store.begin(epoch, number)
+            self.store.turn(self.ledger.epoch, expired)
+
         ledger = self.ledger
-        async with self.store.turning():
-            epoch, ending = ledger.epoch, ledger.blobs.ending(b"", ledger.writing_epoch, len(ledger.blobs))
-            if not ledger.apply(entry):
-                return
-            expired = [it for it in ending if it not in ledger.blobs]
-            await self.store.persist(lambda: self.stage_sides(expired))
-            self.arrange()
-        if ledger.epoch != epoch:
-            self.scrub.left.set()
+        await self.store.persist(stage)
+        if ledger.faults and not self.judges.least:
+            self.port.shape = client.Shape(ledger.faults)
+            self.judges.keep(ledger.faults)
+            self.repairs.grow(self.judges.room.size // 2)
+        self.sides = {epoch: self.sides.get(epoch) or self.shards(epoch) for epoch in self.epochs()}
+        self.scrub.left.set()
 
     def epochs(self) -> list[int]:
         """The epochs whose committees there are."""
         ledger = self.ledger
         return [ledger.epoch, ledger.epoch + 1][: 1 + ledger.moving] if ledger.now else []
 
-    def arrange(self) -> None:
-        """Has the shards that this node owns in the committees of the ledger."""
-        ledger, reserve = self.ledger, self.settings.reserve
-        if ledger.faults and not self.judges.least:
-            self.port.shape = client.Shape(ledger.faults)
-            self.judges.keep(ledger.faults)
-            self.repairs.grow(self.judges.room.size // 2)
-        for epoch in set(self.sides) - set(self.epochs()):
-            self.sides.pop(epoch)
-        for epoch in self.epochs():
-            for number in ledger.shards_of(self.name, epoch) if epoch not in self.sides else ():
-                self.store.begin(epoch, number)
-                holding = self.store.holding(epoch, number) or 0
-                shard = Shard(number, epoch, holding, ledger, self.store, self.judges, reserve)
-                shard.damaged = self.wrong.put_nowait
-                self.sides.setdefault(epoch, {})[number] = shard
+    def shards(self, epoch: int) -> dict[int, Shard]:
+        """The shards that this node owns in an epoch."""
+        rest = self.ledger, self.store, self.judges, self.wrong.put_nowait, self.settings.reserve
+        own = self.ledger.shards_of(self.name, epoch)
+        return {number: Shard(number, epoch, self.store.begin(epoch, number), *rest) for number in own}
 
     async def reply(self, shard: int, request: bytes) -> Said:
         """The reply to a client's request to a shard, and the one where the disk does not take what it rests on."""

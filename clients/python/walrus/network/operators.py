@@ -9,7 +9,7 @@ from .client import Access
 from .founding import GATEWAY_PORT, Founding, found
 from .machine import Place
 from .reading import Options
-from .settings import GatewaySettings, Settings
+from .settings import GatewaySettings, RecorderSettings, Settings
 from .transfers import Failure
 
 Add = Callable[..., argparse.ArgumentParser]
@@ -80,11 +80,11 @@ async def run_node(words: argparse.Namespace) -> int:
 
 
 async def run_recorder(words: argparse.Namespace) -> int:
-    return await recording.serve(recording.Settings.read(words.settings))
+    return await recording.serve(RecorderSettings.read(words.settings))
 
 
 async def restore(words: argparse.Namespace) -> int:
-    return await restoring.serve(recording.Settings.read(words.settings), words.seconds)
+    return await restoring.serve(RecorderSettings.read(words.settings), words.seconds)
 
 
 async def run_up(words: argparse.Namespace) -> int:

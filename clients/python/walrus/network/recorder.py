@@ -6,24 +6,27 @@ import asyncio
 import collections
 import contextlib
 import hashlib
+import itertools
 import json
 import math
 import secrets
 import sqlite3
 import sys
 import time
-from typing import Callable, Optional, Union
+from typing import Optional, Union
 
 from .checkpoint import state_of
-from .entries import ADDRESS, REGISTER, Chain, Entry, entry_key
+from .entries import Chain, Entry, fitting
 from .etcd import Batch, Etcd, Failed, Gone
 from .follower import Refused
 from .ledger import Ledger, Void, refusal
 from .state import State
+from .waiting import Waiting
 
 MOST_BATCH, RECENT = 262_144, 4_194_304  # bytes of a batch, and of batches kept for followers
 BEAT, POLL, FRESH = 1.0, 1.0, 5.0  # seconds
 GRACE = 60.0  # seconds in which a checkpoint is left to the recorder that has appended the turn of the epoch
+Taken = asyncio.Future[int]  # the place of an entry that was posted
 
 
 class Broken(Exception):
@@ -37,35 +40,35 @@ class Index:
         self.base = base
         base.execute("CREATE TABLE IF NOT EXISTS places (digest BLOB PRIMARY KEY, place INTEGER) WITHOUT ROWID")
 
-    def find(self, text: str) -> Optional[int]:
-        row = self.base.execute("SELECT place FROM places WHERE digest = ?", (digest(text),)).fetchone()
-        return int(row[0]) if row else None
+    def find(self, entry: Entry, ledger: Ledger) -> Optional[int]:
+        """The place of an entry that was said before, and stands still."""
+        row = self.base.execute("SELECT place FROM places WHERE digest = ?", (digest(entry.key),)).fetchone()
+        return int(row[0]) if row and stands(entry, ledger) else None
 
-    def enter(self, entry: Entry, stood: str) -> None:
-        """Notes the place of an entry, in place of what stood till then."""
-        if stood:
-            self.base.execute("DELETE FROM places WHERE digest = ?", (digest(stood),))
-        self.base.execute("INSERT OR IGNORE INTO places VALUES (?, ?)", (digest(entry.key), entry.revision))
+    def enter(self, entry: Entry) -> None:
+        self.base.execute("INSERT OR REPLACE INTO places VALUES (?, ?)", (digest(entry.key), entry.revision))
 
     def drop(self, place: int) -> None:
         """Forgets the places up to one."""
         self.base.execute("DELETE FROM places WHERE place <= ?", (place,))
 
 
-def standing(entry: Entry, ledger: Ledger) -> str:
-    """The entry that does not stand any more once this one comes, so that it may be posted again."""
-    poster, kind, *fields = entry.words or ("", "")
-    if kind == ADDRESS and poster in ledger.addresses:
-        return entry_key(poster, kind, *ledger.addresses[poster])
-    if kind == "calendar":
-        return entry_key(poster, kind, *ledger.calendar)
-    if kind == "share" and fields[0] in ledger.shares:
-        return entry_key(poster, kind, fields[0], ledger.shares[fields[0]])
-    return ""
-
-
 def digest(text: str) -> bytes:
     return hashlib.sha256(text.encode()).digest()[:16]
+
+
+def stands(entry: Entry, ledger: Ledger) -> bool:
+    """Whether an entry that was said says so still: what it said is not over, and no later one says otherwise."""
+    match [*entry.words[:2], *entry.values]:
+        case _, "register", _, until:
+            return bool(until > ledger.epoch)
+        case poster, "address", host, port:
+            return ledger.addresses.get(poster) == (host, port)
+        case _, "share", name, count:
+            return bool(ledger.shares.get(name) == count)
+        case _, "calendar", *plan:
+            return ledger.calendar == tuple(plan)
+    return True
 
 
 class Recorder:
@@ -75,11 +78,11 @@ class Recorder:
         self.etcd, self.state = etcd, state or State()
         self.ledger, self.index, self.identity = self.state.ledger, Index(self.state.base), self.state.identity
         self.chain, self.state.apply = self.state.chain or Chain(0, b""), self.apply
-        self.waiting: list[tuple[str, "asyncio.Future[int]"]] = []
-        self.recent, self.size = collections.deque[Batch](), 0  # batches for followers, and their bytes
+        self.waiting: list[tuple[str, Taken]] = []
+        self.recent, self.size = collections.deque[str](), 0  # entries for followers, and their bytes
         self.seen, self.fault = -math.inf, ""  # when etcd was asked last; what it did not do
         self.appended, self.turned = 0.0, 0.0  # when something was; from when on a checkpoint is this recorder's work
-        self.bell, self.news = asyncio.Event(), asyncio.Condition()
+        self.bell, self.news, self.own = asyncio.Event(), Waiting(), 0  # the place up to which it appends just now
 
     @property
     def fresh(self) -> bool:
@@ -88,7 +91,7 @@ class Recorder:
 
     async def run(self) -> None:
         """Appends what waits, one transaction behind the other, and reads what other recorders append."""
-        pause, ringing = 0.1, asyncio.create_task(self.etcd.ring(self.bell))
+        pause, watching = 0.1, asyncio.create_task(self.etcd.watch(self.hear))
         try:
             while True:
                 with contextlib.suppress(TimeoutError):
@@ -105,14 +108,19 @@ class Recorder:
                     self.fault = str(fault)
                     await asyncio.sleep(pause)
                     pause = min(2 * pause, 2.0)
-                async with self.news:
-                    self.news.notify_all()
+                    self.bell.set()
+                self.news.tell()
         finally:
-            ringing.cancel()
+            watching.cancel()
+
+    def hear(self, head: str) -> None:
+        """Has what another recorder has appended read soon."""
+        if json.loads(head)["place"] > max(self.own, self.chain.place):
+            self.bell.set()
 
     async def post(self, texts: list[str]) -> list[Union[int, Refused]]:
         """The places of entries, once they are appended; of one that is not taken, why."""
-        taken: list["asyncio.Future[int]"] = [asyncio.get_running_loop().create_future() for _ in texts]
+        taken: list[Taken] = [asyncio.get_running_loop().create_future() for _ in texts]
         self.waiting += zip(texts, taken)
         self.bell.set()
         return await asyncio.gather(*taken, return_exceptions=True)
@@ -143,6 +151,8 @@ class Recorder:
         if self.chain.place == told["place"] and self.chain.digest.hex() != told["digest"]:
             raise Broken(f"the batches in etcd have not the digest of the head: {head}")
         self.seen = begun
+        if not self.state.whole:
+            self.state.save(self.chain)
 
     async def take(self) -> None:
         """Takes what the checkpoint in etcd says."""
@@ -156,7 +166,7 @@ class Recorder:
             self.state.take(pieces)
             self.index.drop(mark.place)
             self.recent.clear()
-            self.size, self.chain = 0, Chain(mark.place, bytes.fromhex(mark.digest))
+            self.size, self.chain = 0, mark.chain
 
     def enter(self, batch: Batch, own: bool = False) -> None:
         """Enters a batch that etcd has, or that this recorder has just appended itself."""
@@ -169,100 +179,90 @@ class Recorder:
             if self.ledger.epoch != epoch:
                 self.turned = time.monotonic() + (0 if own else GRACE)
         self.chain, self.appended = batch.after, time.monotonic()
-        self.state.save(self.chain, entries)
-        self.recent.append(batch)
+        self.state.save(self.chain, entries, soon=True)
+        self.recent += batch.entries
         self.size += batch.size
         while self.size > RECENT:
-            self.size -= self.recent.popleft().size
+            self.size -= len(self.recent.popleft())
 
     def apply(self, entry: Entry) -> Optional[str]:
         """Enters an entry, and notes its place if it counts."""
-        stood, word = standing(entry, self.ledger), self.ledger.apply(entry)
+        word = self.ledger.apply(entry)
         if word and not refusal(word):
-            self.index.enter(entry, stood)
+            self.index.enter(entry)
         return word
 
     async def append(self) -> None:
         """Appends what waits and counts as one batch, and answers, unless another recorder was first."""
-        begun, (chosen, refused), others = time.monotonic(), self.judge(), list[Batch]()
-        first = self.chain.place + 1
-        if chosen:
-            batch = Batch(self.chain, list(chosen))
-            won, others = await self.etcd.append(self.head(self.chain), self.head(batch.after), batch)
-            for it in [batch] if won else others:
-                self.enter(it, own=won)
+        begun, (places, answers), others = time.monotonic(), self.judge(), list[Batch]()
+        if batch := Batch(self.chain, [*places]) if places else None:
+            self.own = batch.last
+            try:
+                won, others = await self.etcd.append(self.head(self.chain), self.head(batch.after), batch)
+            except Failed:
+                await self.catch_up()  # etcd may be full, and tells still what it has
+                raise
         else:
             won = await self.etcd.head() == self.head(self.chain)
-        if not won:  # so what was refused was perhaps judged by what is no more
-            if not others:
-                await self.catch_up()
-            begun, chosen, refused = self.seen, {}, []
-        self.seen = max(self.seen, begun)
-        for taken, reason in refused:
-            if not taken.done():
-                taken.set_exception(Refused(reason))
-        for place, taken in enumerate(chosen.values(), first):
-            if not taken.done():
-                taken.set_result(place)
+        for it in [batch] if won and batch else others:
+            self.enter(it, own=won)
+        if won:
+            self.seen = max(self.seen, begun)
+            for taken, answer in answers.items():
+                if not taken.done():
+                    taken.set_exception(answer) if isinstance(answer, Refused) else taken.set_result(answer)
+        elif not others:  # as elsewhere where it was not won, what was refused was perhaps judged by what is no more
+            await self.catch_up()
         self.waiting = [it for it in self.waiting if not it[1].done()]
         if self.waiting:
             self.bell.set()
 
-    def judge(self) -> tuple[dict[str, "asyncio.Future[int]"], list[tuple["asyncio.Future[int]", str]]]:
-        """What waits and would count if it were appended now, and what would not, and why; of a batch's size."""
-        fork, size = self.ledger.fork(), 0
-        chosen = dict[str, "asyncio.Future[int]"]()
-        refused: list[tuple["asyncio.Future[int]", str]] = []
-        for text, taken in self.waiting:
-            size += len(text)
-            if size > MOST_BATCH and (chosen or refused):
-                break
-            if taken.done() or text in chosen:
+    def judge(self) -> tuple[dict[str, int], dict[Taken, Union[int, Refused]]]:
+        """What waits and would count if it were appended now, of a batch's size, with the places that it would have;
+        and what is answered then. What has its place already is answered at once."""
+        fork, places, answers = self.ledger.fork(), dict[str, int](), dict[Taken, Union[int, Refused]]()
+        for text, taken in zip(fitting((text for text, _ in self.waiting), MOST_BATCH), [it for _, it in self.waiting]):
+            entry = Entry(self.chain.place + len(places) + 1, text)
+            if taken.done():
                 continue
-            entry = Entry(self.chain.place + len(chosen) + 1, text)
-            over = entry.words[1:2] == [REGISTER] and entry.values[1] <= self.ledger.epoch
-            if place := entry.words and not over and self.index.find(text):  # what has no form may have no bytes either
+            if place := entry.words and self.index.find(
+                entry, self.ledger
+            ):  # what has no form may have no bytes either
                 taken.set_result(place)
+                continue
+            if text in places:
+                answers[taken] = places[text]
                 continue
             try:
                 if reason := refusal(fork.judge(entry)):
                     raise Void(reason)
             except Void as void:
-                refused.append((taken, str(void)))
+                answers[taken] = Refused(str(void))
                 continue
-            chosen[text] = taken
+            answers[taken] = places[text] = entry.revision
             if entry.words[1] in ("begin", "finish"):
                 break  # what comes behind a turn of the epoch is tried on what it comes to
             fork.enter(entry)
-        return chosen, refused
+        return places, answers
 
-    async def batches(self, after: int) -> list[Batch]:
-        """Some of the batches from the one on that has the entry behind a place, if there is one; or raises `Gone`."""
-        if after >= self.chain.place:
-            return []
-        if self.recent and self.recent[0].before.place <= after:
-            return [it for it in self.recent if it.last > after]
-        return await self.etcd.batches(after)
+    async def entries(self, after: int) -> list[str]:
+        """Some of the entries behind a place, from the next one on, if there is one; or raises `Gone`."""
+        count = max(0, self.chain.place - after)
+        if count <= len(self.recent):
+            return [*itertools.islice(reversed(self.recent), count)][::-1]
+        batches = await self.etcd.batches(after)
+        return [text for it in batches for text in it.entries][after - batches[0].before.place :]  # noqa: E203
 
     async def chain_at(self, place: int) -> Chain:
         """What the ledger was behind a place."""
-        for batch in await self.batches(place):
-            return batch.before.behind(batch.entries[: place - batch.before.place])
-        return self.chain
-
-    async def further(self, place: int) -> bool:
-        """Waits for entries behind a place, a few seconds at most; whether there are."""
-        return await self.hears(lambda: self.chain.place > place, BEAT)
+        if place >= self.chain.place:
+            return self.chain
+        batch = (await self.etcd.batches(place))[0]
+        return batch.before.behind(batch.entries[: place - batch.before.place])
 
     async def refresh(self) -> None:
         """Waits until this has all that the ledger has now."""
         begun = time.monotonic()
         self.bell.set()
-        if not await self.hears(lambda: self.seen > begun, FRESH):
+        if not await self.news.until(lambda: self.seen > begun, FRESH):
             raise Failed(self.fault or f"etcd at {self.etcd.url} is slow")
-
-    async def hears(self, holds: Callable[[], bool], seconds: float) -> bool:
-        with contextlib.suppress(TimeoutError):
-            async with asyncio.timeout(seconds), self.news:
-                return await self.news.wait_for(holds)
-        return False

@@ -5,7 +5,17 @@ import dataclasses
 import itertools
 import sqlite3
 import sys
-from typing import TYPE_CHECKING, Awaitable, Callable, Collection, Iterable, NamedTuple, Optional, Sequence
+from typing import (
+    TYPE_CHECKING,
+    AsyncIterator,
+    Awaitable,
+    Callable,
+    Collection,
+    Iterable,
+    NamedTuple,
+    Optional,
+    Sequence,
+)
 
 from .. import client, frames
 from ..frames import METADATA, PRIMARY, SECONDARY, code_of
@@ -55,23 +65,31 @@ class Once(client.Shard):
         return [replies[self.sent.index(it)] for it in requests]  # type: ignore[arg-type]
 
 
+@contextlib.asynccontextmanager
+async def passing(who: str, what: str, seconds: float = 0) -> AsyncIterator[None]:
+    """Says what the system or others let fail, such as where no descriptor is left, and waits: it is tried again. What
+    must end the node goes through."""
+    try:
+        yield
+    except (OSError, Busy, sqlite3.OperationalError) as fault:
+        print(f"{who}: {what}: {fault}", file=sys.stderr, flush=True)
+        await asyncio.sleep(seconds)
+
+
 async def by_lanes(node: "Node", lacks: Iterable[Lack], step: Callable[[Lack], Awaitable[None]]) -> None:
     """Takes a step for each blob, several at once. What fails comes again."""
     left = iter(lacks)
 
-    def say(lack: Lack, fault: str) -> None:
-        print(f"{lack.shard.title}: {lack.identifier.hex()}: {fault}", file=sys.stderr, flush=True)
-
     async def go_on() -> None:
         for lack in left:
             try:
-                await step(lack)
-            except (OSError, Busy, sqlite3.OperationalError) as fault:
-                say(lack, str(fault))
+                async with passing(lack.shard.title, lack.identifier.hex()):
+                    await step(lack)
             except (Clash, sqlite3.Error):
                 raise  # of digests, or of the disk: the node must not go on
             except Exception as fault:  # whatever others reply, this node goes on
-                say(lack, f"{type(fault).__name__}: {fault}")
+                said = f"{lack.identifier.hex()}: {type(fault).__name__}: {fault}"
+                print(f"{lack.shard.title}: {said}", file=sys.stderr, flush=True)
 
     async with asyncio.TaskGroup() as group:
         for _ in range(max(1, min(LANES, SEATS // node.port.shape.shards))):
@@ -81,11 +99,13 @@ async def by_lanes(node: "Node", lacks: Iterable[Lack], step: Callable[[Lack], A
 async def settle(node: "Node", epoch: int, owed: Iterable[bytes]) -> int:
     """Fills the node's shards of an epoch with what they owe, certified blobs first, and of these large ones, several
     at once; how many they lack still."""
-    owed, work, sizes = [*owed], list[Lack](), dict[Lack, int]()
-    for shard in list(node.sides.get(epoch, {}).values()) if owed else ():
-        work += [Lack(shard, it) for it in await unsettled(shard, owed)]
-    later = {it for it in owed if not node.ledger.certificate(it)}
-    progress = Progress(epoch, len(work))
+    owed, work, sizes = sorted(owed), list[Lack](), dict[Lack, int]()
+    for shard in node.sides.get(epoch, {}).values():
+        for place in range(0, len(owed), PAGE):
+            some = owed[place : place + PAGE]  # noqa: E203
+            held = await node.store.settled(shard.holding, epoch, some[0], some[-1])
+            work += [Lack(shard, it) for it in some if it not in held and not shard.settled(it)]
+    later, progress = {it for it in owed if not node.ledger.certificate(it)}, Progress(epoch, len(work))
 
     async def measure(lack: Lack) -> None:
         if metadata := await find_metadata(node, *lack):
@@ -104,16 +124,6 @@ async def settle(node: "Node", epoch: int, owed: Iterable[bytes]) -> int:
     await by_lanes(node, sorted(work, key=lambda it: (it.identifier in later, -sizes.get(it, 0))), recover)
     left = sum(not shard.settled(it) for shard, it in work)  # what the disk lost meanwhile, too
     return left if await node.durable() else len(work)
-
-
-async def unsettled(shard: Shard, owed: Iterable[bytes]) -> list[bytes]:
-    """The blobs among these for which a shard is not settled."""
-    left, found = sorted(owed), list[bytes]()
-    while left:
-        some, left = left[:PAGE], left[PAGE:]
-        held = await shard.store.settled(shard.holding, shard.epoch, some[0], some[-1])
-        found += [it for it in some if it not in held and not shard.settled(it)]
-    return found
 
 
 def sides(node: "Node") -> list[Sequence[Seat]]:
@@ -167,9 +177,7 @@ async def fill(node: "Node", shard: Shard, identifier: bytes) -> None:
         for side in sides(node) if targets else ():
             wanted = {part: client.write_frame(it) for part, it in targets.items()}
             others = [Once(it, wanted.values()) for it in side if (it.name, it.number) != (node.name, own)]
-            for part in sorted(
-                targets, reverse=True
-            ):  # of the secondary sliver, which comes first, few symbols will do
+            for part in sorted(targets, reverse=True):  # the secondary sliver first, for which few symbols will do
                 with contextlib.suppress(client.Refused):
                     if not shard.settled(identifier):
                         _, frame = await client.recover(others, targets[part], node.judges)  # type: ignore[arg-type]

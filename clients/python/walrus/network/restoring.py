@@ -11,7 +11,8 @@ from aiohttp import web
 from .etcd import Batch, Failed
 from .gateway import ending
 from .recorder import MOST_BATCH, Broken, Recorder
-from .recording import Service, Settings, etcd_of, wrong
+from .recording import Service, etcd_of, wrong
+from .settings import RecorderSettings
 
 NOTHING = "the ledger is being restored: nothing is taken, and nothing told"
 
@@ -19,7 +20,7 @@ NOTHING = "the ledger is being restored: nothing is taken, and nothing told"
 class Restoring(Service):
     """A service where a recorder's was, which is told tails of the ledger."""
 
-    def __init__(self, recorder: Recorder, settings: Settings):
+    def __init__(self, recorder: Recorder, settings: RecorderSettings):
         super().__init__(recorder, settings)
         self.tails: dict[str, list[str]] = {}  # what each node has behind the ledger's end, or a piece of it
         self.short: dict[str, int] = {}  # nodes that have not kept what comes next, and from where on they have
@@ -102,7 +103,7 @@ class Restoring(Service):
         return count
 
 
-async def serve(settings: Settings, seconds: float) -> int:
+async def serve(settings: RecorderSettings, seconds: float) -> int:
     """Runs until the ledger is whole, or nobody tells more."""
     etcd = etcd_of(settings)
     service, told = Restoring(Recorder(etcd), settings), ending()
@@ -125,6 +126,6 @@ async def serve(settings: Settings, seconds: float) -> int:
         print(f"the ledger is not restored: {fault}", file=sys.stderr)
         return 1
     finally:
-        await service.close()
+        await service.end(1)
         await etcd.aclose()
         service.recorder.state.close()

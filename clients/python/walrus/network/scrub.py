@@ -4,18 +4,19 @@ import asyncio
 import contextlib
 import dataclasses
 import json
+import math
 import sqlite3
 import sys
 import time
 from typing import TYPE_CHECKING, Optional
 
-from .judge import Busy
+from .recovery import passing
 from .shard import Shard
 
 if TYPE_CHECKING:
     from .node import Node
 
-DAY, NOTED, LONGEST_WAIT = 86_400.0, 2.0, 3_600.0  # seconds: until where it stands is noted again; of one sleep
+DAY, NOTED, LOOKED = 86_400.0, 2.0, 60.0  # seconds: until where it stands is noted; until the clock is looked at
 
 
 @dataclasses.dataclass
@@ -39,7 +40,7 @@ class Scrub:
     def __init__(self, node: "Node"):
         self.node, self.now, self.left, self.noted = node, asyncio.Event(), asyncio.Event(), 0.0
         told = node.store.state("scrub")
-        self.figures = Figures(**json.loads(told)) if told else Figures(ended=time.time())
+        self.figures: Figures = Figures(**json.loads(told)) if told else Figures(ended=time.time())
         if not told:
             self.note()
         self.left.set()  # there may be something without a name
@@ -52,20 +53,15 @@ class Scrub:
     async def run(self) -> None:
         """Scrubs when told so, and whenever it is time to: never of itself where no days are set."""
         while True:
-            if not self.figures.running and not self.now.is_set():
-                days = self.node.settings.scrub or float("inf")
-                left = self.figures.ended + days * DAY - time.time()
+            due = self.figures.ended + (self.node.settings.scrub or math.inf) * DAY
+            if not self.figures.running and not self.now.is_set() and time.time() < due:
                 with contextlib.suppress(TimeoutError):
-                    async with asyncio.timeout(min(max(left, 0), LONGEST_WAIT)):
+                    async with asyncio.timeout(LOOKED):
                         await self.now.wait()
-                if left > LONGEST_WAIT and not self.now.is_set():
-                    continue
+                continue
             self.now.clear()
-            try:
+            async with passing(self.node.name, "the scrub goes on later", NOTED):
                 await self.scrub()
-            except (OSError, Busy, sqlite3.OperationalError) as fault:
-                print(f"{self.node.name}: the scrub goes on later: {fault}", file=sys.stderr, flush=True)
-                await asyncio.sleep(NOTED)
 
     def shard(self, holding: int) -> Optional[Shard]:
         """The shard of the latest committee whose parts these are."""
@@ -100,12 +96,10 @@ class Scrub:
         while True:
             await self.left.wait()
             self.left.clear()
-            try:
+            async with passing(self.node.name, "what nothing names is swept later", NOTED):
                 await self.sweep()
-            except (OSError, sqlite3.OperationalError) as fault:  # of the system, as where no descriptor is left
-                print(f"{self.node.name}: what nothing names is swept later: {fault}", file=sys.stderr, flush=True)
-                await asyncio.sleep(NOTED)
-                self.left.set()
+                continue
+            self.left.set()
 
     async def sweep(self) -> None:
         """Removes what a crash left without a name, and what a shard held that is here no more."""

@@ -1,4 +1,4 @@
-"""What a node and a gateway are told at their start."""
+"""What a node, a recorder and a gateway are told at their start."""
 import dataclasses
 import pathlib
 from typing import ClassVar
@@ -34,6 +34,38 @@ class Settings:
 
     @classmethod
     def read(cls, path: pathlib.Path) -> "Settings":
+        return settings_of(cls, path)
+
+
+@dataclasses.dataclass
+class RecorderSettings:
+    """What a recorder is told at its start."""
+
+    role: ClassVar[str] = "recorder"
+    paths: ClassVar[tuple[str, ...]] = (
+        "etcd_authority",
+        "etcd_certificate",
+        "etcd_key",
+        "authority",
+        "certificate",
+        "key",
+        "state",
+    )
+    name: str
+    etcd: str
+    etcd_authority: str
+    etcd_certificate: str
+    etcd_key: str
+    authority: str
+    certificate: str
+    key: str
+    state: str  # a file with what it has read, which may be removed while it does not run
+    host: str = "127.0.0.1"
+    port: int = 0
+    patience: float = 604_800.0  # seconds for which the entries of an epoch that is over wait for nodes that are away
+
+    @classmethod
+    def read(cls, path: pathlib.Path) -> "RecorderSettings":
         return settings_of(cls, path)
 
 

@@ -7,7 +7,7 @@ import functools
 import pathlib
 import sqlite3
 import sys
-from typing import Callable, Optional
+from typing import Callable, Iterable, Optional
 
 from .files import Files
 
@@ -76,17 +76,15 @@ class Staged:
 
     def settle(self, written: bool) -> None:
         pending, self.pending = self.pending, None
-        named, dropped, self.named, self.dropped = self.named, self.dropped, [], []
-        self.files.kept(named)
-        self.abandon(dropped if written else named)
+        self.abandon(self.dropped if written else self.named)
+        self.named, self.dropped = [], []
         if pending:
             pending.set_result(written)
 
-    def abandon(self, files: list[str]) -> None:
+    def abandon(self, files: Iterable[str]) -> None:
         """Has files removed that nothing names."""
-        self.files.kept(files)
-        if files:
-            asyncio.get_running_loop().run_in_executor(self.pool, self.files.remove, files)
+        if found := [*files]:
+            asyncio.get_running_loop().run_in_executor(self.pool, self.files.remove, found)
 
     def flush(self) -> bool:
         """Commits what is staged; whether it is on the disk."""

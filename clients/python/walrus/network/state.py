@@ -1,5 +1,7 @@
 """What a ledger has come to, in SQLite: its blobs by identifier, and how far it was heard; a start goes on there."""
 import collections
+import contextlib
+import copy
 import fcntl
 import json
 import pathlib
@@ -7,14 +9,14 @@ import random
 import sqlite3
 import sys
 import time
-from typing import Any, Callable, Iterable, Iterator, Mapping, Optional
+from typing import Any, Callable, Iterable, Iterator, Optional
 
 from . import checkpoint
-from .blobs import Blob, Blobs
+from .blobs import Blob, Blobs, blob_of, coded
 from .entries import ACK, ATTEST, Chain, Entry
 from .ledger import Ledger
 
-CACHED, LATER = 8_192, 1.0  # blobs that are kept as they were read; seconds until a full disk is tried again
+CACHED, EACH, LATER = 8_192, 0.1, 1.0  # blobs kept as read; seconds between two commits, and if the disk is full
 TORN = sqlite3.SQLITE_CORRUPT, sqlite3.SQLITE_NOTADB, sqlite3.SQLITE_ERROR  # a database that is none, or another's
 TABLES = """
 PRAGMA journal_mode = WAL;
@@ -32,21 +34,11 @@ ALL = "SELECT identifier, number, until, poster, votes, certified, invalid FROM 
 INSERT = "INSERT INTO blobs VALUES (?, ?, ?, ?, ?, ?, ?)"
 PUT = f"""{INSERT} ON CONFLICT (identifier) DO UPDATE SET until = excluded.until, poster = excluded.poster,
     votes = excluded.votes, certified = excluded.certified, invalid = excluded.invalid"""
-
-
-def coded(votes: Mapping[int, frozenset[int]]) -> dict[int, int]:
-    """The shards that have spoken, as bits of a number for each epoch."""
-    return {epoch: sum(1 << shard for shard in shards) for epoch, shards in sorted(votes.items())}
-
-
-def decoded(votes: dict[str, int]) -> dict[int, frozenset[int]]:
-    shards = {int(epoch): range(bits.bit_length()) for epoch, bits in votes.items()}
-    return {epoch: frozenset(it for it in shards[epoch] if votes[str(epoch)] >> it & 1) for epoch in shards}
-
-
-def blob_of(until: int, poster: str, votes: str) -> Blob:
-    acks, attests = map(decoded, json.loads(votes))
-    return Blob(until, poster, {ACK: acks, ATTEST: attests})
+# What a ledger says beside its blobs, and how that is made of what a file says.
+FORMS: dict[str, Callable[[Any], Any]] = dict.fromkeys(("faults", "epoch", "revision", "concentrated"), int)
+FORMS |= {"now": tuple, "next": tuple, "calendar": tuple, "ready": frozenset, "expelled": frozenset}
+FORMS |= {"posted": collections.Counter, "shares": dict}
+FORMS |= {"addresses": lambda told: {name: (host, port) for name, (host, port) in dict(told).items()}, "past": dict}
 
 
 class Kept(Blobs):
@@ -177,7 +169,8 @@ class State:
         self.ledger, self.saved = Ledger(self.blobs), 0  # the epoch that was saved
         self.chain: Optional[Chain] = None
         self.apply: Callable[[Entry], Optional[str]] = self.ledger.apply  # enters again what the disk did not take
-        self.fresh, self.again = list[Entry](), 0.0  # entries that the disk did not take; when it is tried again
+        self.fresh = list[Entry]()  # entries that the disk does not have yet
+        self.again = self.due = 0.0  # when a full disk is tried again, and when what is to be kept soon is saved
         try:
             self.base.executescript(TABLES + "BEGIN IMMEDIATE;")
             self.load()
@@ -210,34 +203,31 @@ class State:
 
     def fields(self) -> dict[str, Any]:
         """All that the ledger says beside its blobs, and how far it was heard."""
-        ledger, chain = self.ledger, self.chain or Chain(0, b"")
+        chain, said = self.chain or Chain(0, b""), {name: getattr(self.ledger, name) for name in FORMS}
         told = {"ledger": self.identity, "place": chain.place, "digest": chain.digest.hex()}
-        told |= {
-            it: getattr(ledger, it) for it in ("faults", "epoch", "revision", "concentrated", "now", "next", "calendar")
-        }
-        told |= {"ready": sorted(ledger.ready), "expelled": sorted(ledger.expelled)}
-        told |= {it: dict(getattr(ledger, it)) for it in ("posted", "shares", "addresses", "past")}
+        told |= {name: sorted(it) if isinstance(it, frozenset) else copy.copy(it) for name, it in said.items()}
         return told | {"sizes": dict(self.blobs.sizes)}
 
     def put(self, told: dict[str, Any]) -> None:
         """Has the ledger say this beside its blobs."""
-        ledger = self.ledger
         self.identity, self.chain = told["ledger"], Chain(told["place"], bytes.fromhex(told["digest"]))
-        for name in ("faults", "epoch", "revision", "concentrated"):
-            setattr(ledger, name, told[name])
-        ledger.now, ledger.next = tuple(told["now"]), tuple(told["next"])
-        ledger.ready, ledger.expelled = frozenset(told["ready"]), frozenset(told["expelled"])
-        ledger.posted, ledger.shares = collections.Counter(told.get("posted")), told.get("shares", {})
-        ledger.addresses = {name: (host, port) for name, (host, port) in told.get("addresses", {}).items()}
-        ledger.calendar = told["calendar"][0], told["calendar"][1], told["calendar"][2]
-        ledger.past, self.blobs.sizes, self.blobs.needed = told.get("past", {}), told["sizes"], ledger.quorum
+        told = {"posted": {}, "shares": {}, "addresses": {}, "past": {}} | told  # a checkpoint leaves out what is empty
+        for name, form in FORMS.items():
+            setattr(self.ledger, name, form(told[name]))
+        self.blobs.sizes, self.blobs.needed = told["sizes"], self.ledger.quorum
 
-    def save(self, chain: Chain, entries: Iterable[Entry] = ()) -> None:
-        """Keeps what these entries came to, the last ones up to there; with the next ones, if the disk is full."""
+    def save(self, chain: Chain, entries: Iterable[Entry] = (), soon: bool = False) -> None:
+        """Keeps what these entries came to, the last ones up to there; with the next ones, if the disk is full, or if
+        soon will do. A turn of the epoch is kept at once, and what is not is heard again."""
         self.chain = chain
         self.fresh += entries
-        if time.monotonic() < self.again:
-            return
+        if not soon or time.monotonic() >= self.due or self.ledger.epoch != self.saved:
+            self.settle()
+
+    def settle(self) -> bool:
+        """Saves what was noted; whether the disk has all that was entered."""
+        if time.monotonic() < self.again or not (chain := self.chain):
+            return self.whole
         if self.tail:
             rows = [(it.revision, it.key) for it in self.fresh]
             self.base.executemany("INSERT OR REPLACE INTO entries VALUES (?, ?)", rows)
@@ -246,7 +236,7 @@ class State:
                 self.base.execute("DELETE FROM entries WHERE place <= ?", (self.turns.pop(0),))
         try:
             self.commit()
-            self.again = 0.0
+            self.again, self.due = 0.0, time.monotonic() + EACH
             self.fresh.clear()
         except sqlite3.OperationalError as fault:  # SQLite has rolled back what came since it last took something
             if not self.again:
@@ -257,6 +247,7 @@ class State:
             for entry in self.fresh:
                 self.apply(entry)
             self.chain, self.again = chain, time.monotonic() + LATER
+        return self.whole
 
     def commit(self) -> None:
         told = json.dumps({**self.fields(), "turns": self.turns})
@@ -278,13 +269,15 @@ class State:
         return gone
 
     def written(self) -> Iterator[bytes]:
-        """A checkpoint of what was saved last, piece by piece, whatever is saved meanwhile."""
+        """A checkpoint of what was entered, piece by piece, whatever is saved meanwhile."""
+        self.settle()
         base = sqlite3.connect(self.path, check_same_thread=False) if self.path else self.base
         rows = base.execute(ALL)
         return checkpoint.written(self.fields(), rows if self.path else rows.fetchall())
 
     def entries(self, after: int = -1, count: int = -1) -> list[Entry]:
         """The tail behind a place, or so many entries of it."""
+        self.settle()
         words = "SELECT place, text FROM entries WHERE place > ? ORDER BY place LIMIT ?"
         rows = self.base.execute(words, (after, count))
         return [Entry(*row) for row in rows]
@@ -295,6 +288,8 @@ class State:
         return not self.fresh
 
     def close(self) -> None:
+        with contextlib.suppress(sqlite3.Error):
+            self.settle()
         self.base.close()
         if self.lock:
             self.lock.close()

@@ -9,7 +9,7 @@ import errno
 import pathlib
 import sqlite3
 import weakref
-from typing import AsyncIterator, Iterable, NamedTuple, Optional, Sequence
+from typing import Iterable, NamedTuple, Optional, Sequence
 
 from ..client import Data
 from ..frames import METADATA, PRIMARY, PROOF, SECONDARY
@@ -69,8 +69,6 @@ class Store(Staged):
         super().__init__(path)
         self.recorded = recorded
         self.locks: "weakref.WeakValueDictionary[tuple[int, bytes], asyncio.Lock]" = weakref.WeakValueDictionary()
-        self.door, self.empty, self.inside = asyncio.Lock(), asyncio.Event(), 0  # how many ask just now
-        self.empty.set()
 
     def open_tables(self) -> None:
         """Finds the tables whole and of this version, or makes them."""
@@ -87,39 +85,23 @@ class Store(Staged):
             with contextlib.suppress(sqlite3.Error):
                 self.stage("INSERT INTO history VALUES (NULL, ?, ?, ?, ?, ?)", revision, epoch, shard, request, reply)
 
-    @contextlib.asynccontextmanager
-    async def asking(self, holding: int, identifier: bytes) -> AsyncIterator[None]:
-        """One asks of a blob at a time, and nobody while the committee turns."""
-        async with self.door:
-            self.inside += 1
-            self.empty.clear()
-        try:
-            async with self.locks.setdefault((holding, identifier), asyncio.Lock()):
-                yield
-        finally:
-            self.inside -= 1
-            if not self.inside:
-                self.empty.set()
-
-    @contextlib.asynccontextmanager
-    async def turning(self) -> AsyncIterator[None]:
-        """Nothing is asked of any blob."""
-        async with self.door:
-            await self.empty.wait()
-            yield
+    def alone(self, holding: int, identifier: bytes) -> asyncio.Lock:
+        """Who holds this asks of a blob alone."""
+        return self.locks.setdefault((holding, identifier), asyncio.Lock())
 
     def holding(self, epoch: int, shard: int) -> Optional[int]:
         """What a shard of an epoch holds, by the number under which its parts stand."""
         row = self.base.execute("SELECT holding FROM sides WHERE epoch = ? AND shard = ?", (epoch, shard)).fetchone()
         return int(row[0]) if row else None
 
-    def begin(self, epoch: int, shard: int) -> None:
-        """Stages that a shard of an epoch goes on with what the same shard held in the epoch before, if it was here."""
-        if self.holding(epoch, shard) is None:
-            before = self.holding(epoch - 1, shard)
-            if before is None:
-                before = self.stage("INSERT INTO holdings VALUES (NULL)").lastrowid
-            self.stage("INSERT INTO sides VALUES (?, ?, ?)", epoch, shard, before)
+    def begin(self, epoch: int, shard: int) -> int:
+        """Stages that a shard of an epoch goes on with what the same shard held in the epoch before, if it was here;
+        what it holds."""
+        if found := self.holding(epoch, shard):
+            return found
+        holding = self.holding(epoch - 1, shard) or self.stage("INSERT INTO holdings VALUES (NULL)").lastrowid or 0
+        self.stage("INSERT INTO sides VALUES (?, ?, ?)", epoch, shard, holding)
+        return holding
 
     def parts(self, holding: int, epoch: int, identifier: bytes, wanted: Iterable[int], wrong: int = 0) -> list[Part]:
         """What a shard of an epoch holds of these parts of a blob; of nothing, where its metadata is lacking."""
@@ -152,15 +134,12 @@ class Store(Staged):
 
     def put(self, holding: int, epoch: int, identifier: bytes, part: int, payload: Data, file: Optional[str]) -> None:
         """Stages a part that a shard said it stored, whose content may be in a file; in place of a wrong one."""
-        if file:
-            self.named.append(file)
-        wrong = "holding = ? AND identifier = ? AND part = ? AND wrong", holding, identifier, part
-        [(first,)] = self.stage(f"SELECT min(epoch) FROM held WHERE {wrong[0]}", *wrong[1:])
-        self.drop(*wrong)
-        values = b"" if file else bytes(payload), file
-        content = self.stage("INSERT INTO contents (payload, file) VALUES (?, ?)", *values).lastrowid
+        self.named += [file] if file else []
+        since = self.drop("holding = ? AND identifier = ? AND part = ? AND wrong", holding, identifier, part)
+        words = "INSERT INTO contents (payload, file) VALUES (?, ?)"
+        content = self.stage(words, b"" if file else payload, file).lastrowid
         words = "INSERT INTO held VALUES (?, ?, ?, ?, NULL, 0, ?, ?)"
-        self.stage(words, holding, identifier, part, epoch if first is None else first, len(payload), content)
+        self.stage(words, holding, identifier, part, min(since, default=epoch), len(payload), content)
 
     def mark(self, holding: int, identifier: bytes, part: int, wrong: bool) -> None:
         """Stages that a part was found to be wrong, or is right again; it stays until another stands in its place."""
@@ -174,16 +153,13 @@ class Store(Staged):
         self.stage(f"UPDATE held SET gone = ? WHERE {slivers} AND {earlier}", epoch, holding, identifier, epoch)
         self.drop(f"{slivers} AND gone IS NULL", holding, identifier)
 
-    def drop(self, where: str, *values: object) -> int:
-        """Stages that parts go with their contents; how many."""
-        rows = self.stage(f"SELECT content, file FROM held JOIN contents USING (content) WHERE {where}", *values)
-        contents = rows.fetchall()
-        if contents:
-            self.stage(f"DELETE FROM held WHERE {where}", *values)
-            for content, file in contents:
-                self.stage("DELETE FROM contents WHERE content = ?", content)
-                self.dropped += [file] if file else []
-        return len(contents)
+    def drop(self, where: str, *values: object) -> list[int]:
+        """Stages that parts go with their contents; the epochs from which on they were held."""
+        rows = self.stage(f"DELETE FROM held WHERE {where} RETURNING epoch, content", *values).fetchall()
+        for _, content in rows:
+            gone = self.stage("DELETE FROM contents WHERE content = ? RETURNING file", content)
+            self.dropped += [file for file, in gone.fetchall() if file]
+        return [epoch for epoch, _ in rows]
 
     def turn(self, epoch: int, expired: Sequence[bytes]) -> None:
         """Stages that the committees before an epoch hold nothing more; what was theirs alone goes by and by."""
