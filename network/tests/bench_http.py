@@ -28,10 +28,11 @@ from walrus import loop  # noqa: E402
 NODES = ["node-0", "node-1", "node-2", "node-3"]
 SMALL, WIDTH, TICKS = 4_096, 16, os.sysconf("SC_CLK_TCK")
 PART = 16_777_216
+PARTS = ["piece", "large", "small", "folders", "syncs", "killed"]
 
 
 def roles(local: Local) -> Iterator[tuple[str, int]]:
-    """What each process is, with those that it started."""
+    """What each process is."""
     for name, process in local.processes.items():
         yield name.partition("-")[0].replace("node", "nodes"), process.pid
 
@@ -238,34 +239,46 @@ async def network(folder: pathlib.Path, session: aiohttp.ClientSession) -> Async
         await local.close()
 
 
+async def syncs(bench: Bench) -> None:
+    drawn = random.Random(6)
+    await bench.syncs("a file of 16 MiB", 1, lambda: bench.put(drawn.randbytes(PART)))
+    files = [drawn.randbytes(SMALL) for _ in range(4 * WIDTH)]
+    what = f"each of {WIDTH} files of 4 KiB at once"
+    await bench.syncs(what, len(files), lambda: asyncio.gather(*map(bench.put, files)))
+
+
+async def killed(bench: Bench, name: str, size: int) -> None:
+    """Reads a large file once a node is gone."""
+    await drained(bench)
+    await bench.local.end("node-1", kill=True)
+
+    async def read() -> None:
+        await bench.get(name)
+
+    await bench.row(f"{size / 2**20:.0f} MiB out with a node killed", size, 1, read)
+
+
 async def measure(words: argparse.Namespace) -> None:
-    folder = pathlib.Path(tempfile.mkdtemp(prefix="walrus-bench-", dir=words.folder))
+    folder, parts = pathlib.Path(tempfile.mkdtemp(prefix="walrus-bench-", dir=words.folder)), words.parts or PARTS
     try:
         async with aiohttp.ClientSession(timeout=aiohttp.ClientTimeout(total=None)) as session:
             async with network(folder, session) as bench:
-                await bench.put(b"first")
-                await bench.large(16 * 2**20)
-                name = await bench.large(words.size)
-                await bench.small(words.small)
-                await bench.folders(words.folders)
-                drawn = random.Random(6)
-                await bench.syncs("a file of 16 MiB", 1, lambda: bench.put(drawn.randbytes(16 * 2**20)))
-                files = [drawn.randbytes(SMALL) for _ in range(4 * WIDTH)]
-                await bench.syncs(
-                    f"each of {WIDTH} files of 4 KiB at once",
-                    len(files),
-                    lambda: asyncio.gather(*map(bench.put, files)),
-                )
+                name = await bench.put(b"first")
+                if "piece" in parts:
+                    name = await bench.large(PART)
+                if "large" in parts:
+                    name = await bench.large(words.size)
+                if "small" in parts:
+                    await bench.small(words.small)
+                if "folders" in parts:
+                    await bench.folders(words.folders)
+                if "syncs" in parts:
+                    await syncs(bench)
                 told = memory(bench.local)
                 rows = ", ".join(f"{role} {now:.0f} ({most:.0f})" for role, (now, most) in sorted(told.items()))
                 print(f"MB resident, and at most: {rows}; in all {sum(now for now, _ in told.values()):.0f}")
-                await drained(bench)
-                await bench.local.end("node-1", kill=True)
-
-                async def read() -> None:
-                    await bench.get(name)
-
-                await bench.row(f"{words.size / 2**20:.0f} MiB out with a node killed", words.size, 1, read)
+                if "killed" in parts and "large" in parts:
+                    await killed(bench, name, words.size)
             await peers(session, folder, words)
     finally:
         shutil.rmtree(folder)
@@ -276,10 +289,13 @@ def main() -> int:
     parser.add_argument("--size", type=int, default=256 * 2**20, help="bytes of the large file")
     parser.add_argument("--small", type=int, default=300, help="files of 4 KiB")
     parser.add_argument("--folders", type=int, default=10_000, help="files of a folder")
+    parser.add_argument("--parts", nargs="+", choices=PARTS, help="what is measured; all, if it is left out")
+    parser.add_argument("--uvloop", action="store_true", help="have gateway, nodes and recorder run on uvloop")
     parser.add_argument("--nginx", action="store_true", help="measure nginx as well: dav, one copy")
     parser.add_argument("--swift", action="store_true", help="measure OpenStack Swift as well: erasure coding 2+2")
     parser.add_argument("--folder", help="where it is tried: a folder on the disk in question")
     words = parser.parse_args()
+    os.environ |= {"WALRUS_LOOP": "uvloop"} if words.uvloop else {}
     print(f"program {find_program()}, {os.cpu_count()} processors, load {os.getloadavg()[0]:.1f}")
     loop.run(measure(words))
     return 0

@@ -51,7 +51,7 @@ class GuardCase(LedgerCase):
         told = {"blobId": name, "size": len(data), "pieces": max(1, -(-len(data) // PIECE)), "endEpoch": epochs}
         return told | {"certificate": {"epoch": 0, "count": 4}, "alreadyCertified": self.was_there}
 
-    async def fetch(self, name: bytes) -> bytes:
+    async def fetch(self, name: bytes, size: int) -> bytes:
         return self.files[name.hex()]
 
     def token(self, name: str, rights: str = "read,store", **bounds: int) -> dict[str, str]:

@@ -62,6 +62,7 @@ class Writer:
 
     def __init__(self, network: Network, memory: Memory, turns: int):
         self.network, self.memory, self.turns = network, memory, asyncio.Semaphore(turns)
+        self.giving = set["asyncio.Task[None]"]()  # memory back, where nodes are left behind
 
     async def store(self, stream: AsyncIterator[bytes], epochs: int) -> Told:
         """Stores a file for so many epochs, and tells what came of it. Of its pieces one comes while one is encoded and
@@ -110,7 +111,7 @@ class Writer:
     async def bundle(self, kind: str, form: bytes) -> tuple[bytes, list[Told]]:
         """The bundle of the files of a form, in a file without a name, and what is told of each."""
         faults = self.network.ledger.faults
-        async with self.memory.share(pieces.need_of(len(form))):
+        async with self.memory.share(pieces.need_of(len(form), faults)):
             files = files_of(kind, form, 2 * faults)
             try:
                 async with self.turns:
@@ -120,16 +121,31 @@ class Writer:
             return pieces.put_away(made), [{"name": name, "size": len(data)} for name, data in files]
 
     async def store_blob(self, blob: bytes, until: int) -> tuple[bytes, bool]:
-        """Stores a blob; its identifier, and whether it was there before."""
-        network, ledger = self.network, self.network.ledger
-        async with self.memory.share(pieces.need_of(len(blob))) as share:
+        """Stores a blob; its identifier, and whether it was there before. Its memory is given back once no node is left
+        behind with it."""
+        stack, identifier, faults = contextlib.AsyncExitStack(), b"", self.network.ledger.faults
+        share = await stack.enter_async_context(self.memory.share(pieces.need_of(len(blob), faults)))
+        try:
             async with self.turns:
-                encoded = await network.walrus.encode(blob, ledger.faults)
+                encoded = await self.network.walrus.encode(blob, faults)
             del blob
             share.shrink(sum(len(part) for parts in encoded.slivers for part in parts))
             identifier = encoded.identifier
-            found = ledger.blobs.get(identifier) if ledger.certificate(identifier) else None
-            if found and found.until >= until:
-                return identifier, True
-            await (network.register(identifier, until) if found else network.publish(encoded, until))
-            return identifier, False
+            return identifier, await self.store_encoded(encoded, until)
+        finally:
+            task = asyncio.create_task(self.give_back(identifier, stack))
+            self.giving.add(task)
+            task.add_done_callback(self.giving.discard)
+
+    async def store_encoded(self, encoded: client.Encoded, until: int) -> bool:
+        """Stores an encoded blob; whether it was there before."""
+        network, ledger, identifier = self.network, self.network.ledger, encoded.identifier
+        found = ledger.blobs.get(identifier) if ledger.certificate(identifier) else None
+        if found and found.until >= until:
+            return True
+        await (network.register(identifier, until) if found else network.publish(encoded, until))
+        return False
+
+    async def give_back(self, identifier: bytes, stack: contextlib.AsyncExitStack) -> None:
+        async with stack:
+            await self.network.left(identifier)

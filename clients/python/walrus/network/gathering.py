@@ -11,7 +11,7 @@ from .archives import Coming, Source, opened
 from .chunks import PIECE, Told, Writer
 from .manifest import TooMany, Wrong
 from .packing import SMALL, WRITTEN, Folder
-from .pieces import Spool
+from .pieces import Spool, write
 from .problems import Problem
 from .shares import Charge, count_of
 
@@ -74,7 +74,7 @@ class Upload:
                     break
             size, data = held.size, held.whole() if held.size else b""
         finally:
-            held.file.close()
+            held.close()
         if size > PIECE:
             await self.store_long(path, data, parts)
         elif size > SMALL:
@@ -88,7 +88,7 @@ class Upload:
         if not self.folder.knows(digest):
             if self.end + len(data) > self.most:
                 raise Problem(413, FULL)
-            write(self.spool, data)
+            write(self.spool, memoryview(data))
             self.end += len(data)
         self.folder.add_small(path, len(data), digest, self.end - len(data))
 
@@ -157,12 +157,6 @@ async def store_folder(
         raise Problem(503, f"the gateway cannot keep what it knows of the folder: {fault}; try again later") from None
     finally:
         await upload.close()
-
-
-def write(file: Any, data: bytes) -> None:
-    view = memoryview(data)
-    while view:
-        view = view[file.write(view) :]  # noqa: E203
 
 
 async def once(data: bytes) -> AsyncIterator[bytes]:

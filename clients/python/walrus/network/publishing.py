@@ -75,12 +75,13 @@ class Publisher:
                 raise Problem(413, f"an upload has at most {most} bytes here")
             self.reader.bytes['way="in"'] += len(part)
             charge.add(len(part))
-            sum.update(part)
+            if sum:
+                sum.update(part)
             await request["flow"].spend(len(part))
             yield part
         if request.content_length not in (None, size):
             raise Problem(400, f"the upload broke off after {size} bytes: send the file again")
-        if promised not in (None, sum.digest()):
+        if sum and promised not in (None, sum.digest()):
             raise Problem(400, "the bytes that came have another SHA-256 than the request says: send the file again")
 
     async def put_blob(self, request: web.Request) -> web.Response:
@@ -132,7 +133,7 @@ class Publisher:
             raise Problem(413, f"an upload has at most {most} bytes here")
         if not self.network.ledger.now:
             raise client.Failed("the network has no committee yet", {})
-        told, sum = dict[str, Any](), hashlib.sha256()
+        told, sum = dict[str, Any](), hashlib.sha256() if digests.is_asked(request) else None
         charge.announce(request.content_length or 0)
         try:
             charge.add(0)
@@ -143,7 +144,8 @@ class Publisher:
         finally:
             charge.settle(bool(told), not told.get("alreadyCertified"))
         headers = {"Location": f"/v1/blobs/{told['blobId']}"}
-        is_new, headers = not told["alreadyCertified"], headers | (digests.fields(sum.digest()) if is_file else {})
+        headers |= digests.fields(sum.digest()) if sum and is_file else {}
+        is_new = not told["alreadyCertified"]
         return as_json(as_known(told), 201 if is_new else 200, headers)
 
 

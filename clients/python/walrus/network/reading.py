@@ -18,11 +18,12 @@ from .client import Network
 from .exposure import Exposure
 from .heads import Lengths
 from .limits import Flow
-from .pieces import Memory, let_go, need_of, put_away
+from .pieces import Memory, let_go, put_away, reading_needs
 from .problems import ALONE, BAD, NO_BLOB, Problem
 
 SLICE, KIND = 262_144, "application/octet-stream"
-BARE, READINGS = 67_108_864, 16  # bytes of a gateway that does nothing; blobs that are read at once, if memory allows
+BARE, READINGS = 73_400_320, 16  # bytes of a gateway that does nothing; blobs that are read at once, if memory allows
+AHEAD = 5  # pieces of a file that are read at once for who takes it
 SILENCE, WAITING = 30.0, 60.0  # seconds in which a slice must go out or anything come in; for a turn or for room
 GRACE, LEAST = 60.0, 32_768  # seconds for which a client may be slower than so many bytes a second, in all
 FOREVER = {"Cache-Control": "public, max-age=31536000, immutable", "Accept-Ranges": "bytes"}
@@ -70,15 +71,17 @@ class Reader:
         ledger, identifier = self.network.ledger, name[:NAME]
         return bool(ledger.certificate(identifier)) and not ledger.invalid(identifier)
 
-    async def fetch(self, name: bytes) -> bytes:
-        """A blob, or a member of it, as the network has it; in a file, where it is large."""
+    async def fetch(self, name: bytes, size: int) -> bytes:
+        """A blob, or a member of it, as the network has it; in a file, where it is large. Who says that it is less than
+        the largest is not believed."""
         number = int.from_bytes(name[NAME:], "big") if name[NAME:] else None
-        need = need_of(client.LARGEST_BLOB)
-        if self.memory.is_short(need):
+        length: Optional[int] = client.LARGEST_BLOB
+        if size != length and self.memory.is_short(sum(reading_needs(client.LARGEST_BLOB))):
             length = await self.lengths.of_blob(name[:NAME])
-            need = need if length is None else need_of(length)
-        async with self.memory.share(need):
-            blob = await self.network.fetch(name[:NAME], self.options.seconds, number)
+        first, later = reading_needs(client.LARGEST_BLOB if length is None else length)
+        async with self.memory.share(first, later) as share:
+            calls = self.network.walrus.within(lambda: share.more(later))
+            blob = await self.network.fetch(name[:NAME], self.options.seconds, number, calls)
             pool = self.network.walrus.pool  # and not asyncio's own, which looks names up, perhaps for long
             return await asyncio.get_running_loop().run_in_executor(pool, put_away, blob) if len(blob) > SLICE else blob
 
@@ -88,7 +91,7 @@ class Reader:
         self.must_stand(identifier)
         async with contextlib.AsyncExitStack() as stack:
             async with asyncio.timeout(WAITING):
-                found = await stack.enter_async_context(self.cache.use(identifier))
+                found = await stack.enter_async_context(self.cache.use(identifier, size or 0))
             if size not in (None, len(found)):
                 raise Problem(410, "the file's list is false: a piece of it has another length", invalid=True)
             yield found
@@ -157,6 +160,7 @@ class Reader:
         if request.method == "HEAD":
             await response.prepare(request)
             return response
+        self.read_ahead(itertools.islice(file.pieces(*spans[0]), AHEAD))
         for name, length, _, _ in file.pieces(*spans[0]):  # the first piece is there before anything is said
             async with self.blob(name, length):
                 break
@@ -173,12 +177,18 @@ class Reader:
                 request.transport.abort()
         return response
 
+    def read_ahead(self, pieces: Iterable[tuple[bytes, int, int, int]]) -> None:
+        """Has pieces read, where there is room."""
+        for name, size, _, _ in pieces:
+            if self.stands(name):
+                self.cache.find(name, size)
+
     async def send_span(self, pace: "Pace", response: web.StreamResponse, file: File, span: ranges.Span) -> None:
-        following = itertools.islice(file.pieces(*span), 1, None)
+        self.read_ahead(itertools.islice(file.pieces(*span), AHEAD))
+        following = itertools.islice(file.pieces(*span), AHEAD, None)
         for name, size, start, end in file.pieces(*span):
             async with self.blob(name, size) as blob:
-                if (later := next(following, None)) and self.stands(later[0]):
-                    self.cache.find(later[0])  # it is read meanwhile, where there is room
+                self.read_ahead(itertools.islice(following, 1))
                 for place in range(start, end, SLICE):
                     behind = min(place + SLICE, end)
                     await self.write(pace, response, memoryview(blob)[place:behind])
