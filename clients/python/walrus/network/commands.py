@@ -10,11 +10,12 @@ import aiohttp
 from .. import client, loop
 
 from . import operators, tokens
-from .checked import written_whole
 from .dates import epochs_for
+from .fetching import fetch_any
 from .follower import Refused, Unreachable
 from .resuming import store
-from .transfers import Failure, ask, fetch, listed, store_bundle
+from .transfers import Failure, ask, listed, store_bundle
+from .trees import store_folder
 
 URL = "http://127.0.0.1:31415"
 STATUSES = """exit status: 0 done; 1 it could not be done; 2 these words ask for nothing; 3 the blob was badly
@@ -76,10 +77,9 @@ def tell_status(told: dict[str, Any]) -> str:
 async def remotely(words: argparse.Namespace, session: aiohttp.ClientSession) -> int:
     """Does a command that a gateway answers."""
     if words.command == "fetch":
-        with written_whole(words.output) as out:
-            size = await fetch(session, words.id, out)
+        told = await fetch_any(session, words.id, words.output, words.only)
         if words.json:
-            print(json.dumps({"blobId": words.id, "size": size}), file=sys.stderr)
+            print(json.dumps({"blobId": words.id, **told}), file=sys.stderr)
         return 0
     if words.command in ("list", "expiring"):
         async for told in listed(session, words.within):
@@ -97,7 +97,8 @@ async def remotely(words: argparse.Namespace, session: aiohttp.ClientSession) ->
             told = await store_bundle(session, words.file, words.epochs)
             text = "\n".join([tell_blob(told), *(f"{it['id']} {it['name']}" for it in told["members"])])
         elif words.command == "store":
-            told = {"file": path, **await store(session, path, words.epochs)}
+            way = store_folder if os.path.isdir(path) else store
+            told = {"file": path, **await way(session, path, words.epochs)}
             text = f"{tell_blob(told)} {path}"
         elif words.command == "status":
             told = await ask(session, "GET", f"/v1/status/{words.id}".rstrip("/"))
@@ -137,10 +138,10 @@ def parse() -> argparse.Namespace:
     remote = {"gateway": (os.environ.get("WALRUS_GATEWAY", URL), "its URL, or the variable WALRUS_GATEWAY")}
     plain = {"json": (False, "say what came of it as JSON")}
     bundle = {"bundle": (False, "store small files together, as one bundle")}
-    sub = add("store", "store files; - is standard input", "file+", **bundle, **remote, **plain)
+    sub = add("store", "store files and folders; - is standard input", "file+", **bundle, **remote, **plain)
     add_epochs(sub)
-    out = {"output": ("-", "where it goes")}
-    add("fetch", "get a file back, which in a bundle is ID/NUMBER", "id", **out, **remote, **plain)
+    out = {"output": ("-", "where it goes"), "only": ("", "the path of a file or a folder in it, of a folder")}
+    add("fetch", "get a file back, which in a bundle is ID/NUMBER, or a folder", "id", **out, **remote, **plain)
     within = {"within": (65_536, "that end in so many epochs at most, now being one")}
     add("list", "list the blobs", **within, **remote, **plain)
     within = {"within": (1, "that end in so many epochs at most, now being one")}

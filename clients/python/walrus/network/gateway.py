@@ -15,6 +15,7 @@ from .access import CommonLog, log_to
 from .announcing import Announcer
 from .client import Access, Network
 from .connections import Certificate, Counted, Server
+from .folders import PATHS, Folders
 from .follower import Unreachable
 from .guard import Guard
 from .listing import Lister
@@ -23,6 +24,7 @@ from .page import Watch
 from .problems import ALONE, Problem, as_json, ledger_away, problem_of
 from .publishing import Publisher, expected, named
 from .reading import Options, Reader
+from .shelf import Shelf
 from .sorting import Sorter
 from .times import HEADERS, Times
 from .tokens import STORE, Tokens
@@ -41,10 +43,12 @@ STORING = (
     ("POST", "/v1/bundles"),
     ("POST", "/v1/uploads"),
 )
-TAKEN = dict.fromkeys(STORING, ["epochs"]) | {("GET", "/v1/blobs"): ["within", "after"]}  # the words of queries
+TAKEN = dict.fromkeys([*STORING, ("PUT", "/v1/folders")], ["epochs"])  # the words of queries
+TAKEN |= {("GET", "/v1/blobs"): ["within", "after"]}
 RESTING = (
     "/v1/blobs",
     "/v1/bundles",
+    "/v1/folders",
     "/v1/uploads",
     "/v1/extend",
     "/v1/challenges",
@@ -56,6 +60,8 @@ PAGES = {"/": "page/page.html", "/v1/api": "openapi.yaml"} | {f"/{it}": f"page/{
 
 def must_be_known(request: web.Request) -> None:
     """Raises where the query of a request has a word that it does not take, or one twice."""
+    if request.path.startswith(PATHS) and request.method in ("GET", "HEAD"):
+        return  # pages have words for themselves, such as app.js?version=3
     resource = request.match_info.route.resource
     taken = TAKEN.get((request.method, resource.canonical if resource else ""), [])
     unknown = [word for word in request.query if word not in taken]
@@ -73,8 +79,10 @@ class Gateway(Server):
         self.network, self.options = network, options or Options()
         options = self.options
         self.reader = Reader(network, options)
-        self.lister = Lister(network, self.reader)
+        self.shelf = Shelf(self.reader)
+        self.lister = Lister(network, self.reader, self.shelf)
         self.publisher = Publisher(network, self.reader, self.lister, options)
+        self.folders = Folders(self.reader, self.publisher, self.shelf, options.sites)
         self.uploads = Uploads(self.publisher)
         self.announcer = Announcer(network, self.reader.memory)
         self.reader.rejected = self.announcer.hear
@@ -90,7 +98,10 @@ class Gateway(Server):
 
     async def listen(self, host: str = "127.0.0.1", port: int = 0) -> int:
         """Answers from here on; the port."""
-        app, publisher = web.Application(middlewares=[self.answer, self.guard.check, self.sort]), self.publisher
+        app, publisher = (
+            web.Application(middlewares=[self.answer, self.place, self.guard.check, self.sort]),
+            self.publisher,
+        )
         app.on_response_prepare.append(self.guard.share)
         app.add_routes([web.put("/v1/blobs", publisher.put_blob, expect_handler=expected)])
         app.add_routes([web.post("/v1/bundles", publisher.post_bundle, expect_handler=expected)])
@@ -102,6 +113,9 @@ class Gateway(Server):
         app.add_routes([web.put("/v1/blobs/{name}", publisher.extend), web.post("/v1/extend/{name}", publisher.extend)])
         app.add_routes([web.get("/v1/blobs", self.lister.list), web.get("/v1/blobs/{name}", self.get_blob)])
         app.add_routes([web.get("/v1/bundles/{name}/{number}", self.get_blob)])
+        app.add_routes([web.put("/v1/folders", self.folders.put, expect_handler=expected)])
+        app.add_routes([web.get("/v1/folders/{name}", self.folders.get)])
+        app.add_routes([web.get("/v1/folders/{name}/{path:.*}", self.folders.get)])
         app.add_routes([web.get("/v1/status", self.status), web.get("/v1/status/{name}", self.status_of)])
         app.add_routes([web.put("/v1/challenges/{name}/{node}", self.challenge), web.get("/metrics", self.metrics)])
         app.add_routes([web.get("/livez", self.livez), web.get("/readyz", self.readyz)])
@@ -113,6 +127,7 @@ class Gateway(Server):
         await self.end(5)
         await self.watch.close()
         await self.announcer.close()
+        await self.shelf.close()
         await self.reader.cache.close()
         self.publisher.close()
 
@@ -140,8 +155,19 @@ class Gateway(Server):
         return response
 
     @web.middleware
+    async def place(self, request: web.Request, handler: Callable[..., Awaitable[Any]]) -> web.StreamResponse:
+        """Knows what is asked of a folder's own host, at which there is nothing else."""
+        if name := self.folders.at_site(request):
+            request["site"] = name
+        response: web.StreamResponse = await handler(request)
+        return response
+
+    @web.middleware
     async def sort(self, request: web.Request, handler: Callable[..., Awaitable[Any]]) -> web.StreamResponse:
         """Has a request answered that has no unknown words, and for which the ledger is heard if it rests on that."""
+        if "site" in request:
+            self.must_follow()
+            return await self.folders.get_site(request)
         must_be_known(request)
         if request.path.startswith(RESTING):
             self.must_follow()
