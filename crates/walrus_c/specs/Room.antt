@@ -41,7 +41,7 @@ member_most = most_bytes + 2 * cell_count 333
 abbrev pub opening_most : ℕ → ℕ
 opening_most count = 50 + 320 + min (count / 5) 2796204
 
--- a room below 2^31, and none where more is needed
+-- a room below 2^31, and none if this bound is more
 abbrev pub or_none : ℕ → ℕ
 or_none room = if nat_lt room (2 ^ 31) then room else none_given
 
