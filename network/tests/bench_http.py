@@ -3,6 +3,7 @@ import argparse
 import asyncio
 import collections
 import contextlib
+import io
 import os
 import pathlib
 import random
@@ -11,6 +12,7 @@ import shutil
 import signal
 import subprocess
 import sys
+import tarfile
 import tempfile
 import time
 from typing import Any, AsyncIterator, Awaitable, Callable, Iterator
@@ -26,10 +28,11 @@ from walrus import loop  # noqa: E402
 NODES = ["node-0", "node-1", "node-2", "node-3"]
 SMALL, WIDTH, TICKS = 4_096, 16, os.sysconf("SC_CLK_TCK")
 PART = 16_777_216
+PARTS = ["piece", "large", "small", "folders", "syncs", "killed"]
 
 
 def roles(local: Local) -> Iterator[tuple[str, int]]:
-    """What each process is, with those that it started."""
+    """What each process is."""
     for name, process in local.processes.items():
         yield name.partition("-")[0].replace("node", "nodes"), process.pid
 
@@ -126,6 +129,33 @@ class Bench:
         await self.row(f"4 KiB in, {WIDTH} at once", SMALL * count, count, lambda: store(WIDTH))
         await self.row("4 KiB out", SMALL * count, count, read)
 
+    async def folders(self, count: int) -> None:
+        """A folder of small files in, in again, and some of its files out."""
+        drawn, out = random.Random(7), io.BytesIO()
+        with tarfile.open(fileobj=out, mode="w") as made:
+            for number in range(count):
+                told = tarfile.TarInfo(f"{number % 97}/{number}.html")
+                told.size = drawn.randrange(1, 2 * SMALL)
+                made.addfile(told, io.BytesIO(drawn.randbytes(told.size)))
+        data, name, some = out.getvalue(), "", min(200, count)
+
+        async def store() -> None:
+            nonlocal name
+            kind = {"Content-Type": "application/x-tar"}
+            async with self.session.put(f"{self.url}/v1/folders?epochs=9", data=data, headers=kind) as response:
+                response.raise_for_status()
+                name = str((await response.json())["blobId"])
+
+        async def read() -> None:
+            for number in drawn.sample(range(count), some):
+                async with self.session.get(f"{self.url}/v1/folders/{name}/{number % 97}/{number}.html") as response:
+                    response.raise_for_status()
+                    await response.read()
+
+        await self.row(f"a folder of {count} files in, each", len(data), count, store)
+        await self.row("the same again, each", len(data), count, store)
+        await self.row(f"{some} files of it out, each", some * SMALL, some, read)
+
     async def syncs(self, what: str, count: int, step: Callable[[], Awaitable[object]]) -> None:
         """Tells how many syncs each kind of process makes for a file."""
         strace = shutil.which("strace")
@@ -209,33 +239,46 @@ async def network(folder: pathlib.Path, session: aiohttp.ClientSession) -> Async
         await local.close()
 
 
+async def syncs(bench: Bench) -> None:
+    drawn = random.Random(6)
+    await bench.syncs("a file of 16 MiB", 1, lambda: bench.put(drawn.randbytes(PART)))
+    files = [drawn.randbytes(SMALL) for _ in range(4 * WIDTH)]
+    what = f"each of {WIDTH} files of 4 KiB at once"
+    await bench.syncs(what, len(files), lambda: asyncio.gather(*map(bench.put, files)))
+
+
+async def killed(bench: Bench, name: str, size: int) -> None:
+    """Reads a large file once a node is gone."""
+    await drained(bench)
+    await bench.local.end("node-1", kill=True)
+
+    async def read() -> None:
+        await bench.get(name)
+
+    await bench.row(f"{size / 2**20:.0f} MiB out with a node killed", size, 1, read)
+
+
 async def measure(words: argparse.Namespace) -> None:
-    folder = pathlib.Path(tempfile.mkdtemp(prefix="walrus-bench-", dir=words.folder))
+    folder, parts = pathlib.Path(tempfile.mkdtemp(prefix="walrus-bench-", dir=words.folder)), words.parts or PARTS
     try:
         async with aiohttp.ClientSession(timeout=aiohttp.ClientTimeout(total=None)) as session:
             async with network(folder, session) as bench:
-                await bench.put(b"first")
-                await bench.large(16 * 2**20)
-                name = await bench.large(words.size)
-                await bench.small(words.small)
-                drawn = random.Random(6)
-                await bench.syncs("a file of 16 MiB", 1, lambda: bench.put(drawn.randbytes(16 * 2**20)))
-                files = [drawn.randbytes(SMALL) for _ in range(4 * WIDTH)]
-                await bench.syncs(
-                    f"each of {WIDTH} files of 4 KiB at once",
-                    len(files),
-                    lambda: asyncio.gather(*map(bench.put, files)),
-                )
+                name = await bench.put(b"first")
+                if "piece" in parts:
+                    name = await bench.large(PART)
+                if "large" in parts:
+                    name = await bench.large(words.size)
+                if "small" in parts:
+                    await bench.small(words.small)
+                if "folders" in parts:
+                    await bench.folders(words.folders)
+                if "syncs" in parts:
+                    await syncs(bench)
                 told = memory(bench.local)
                 rows = ", ".join(f"{role} {now:.0f} ({most:.0f})" for role, (now, most) in sorted(told.items()))
                 print(f"MB resident, and at most: {rows}; in all {sum(now for now, _ in told.values()):.0f}")
-                await drained(bench)
-                await bench.local.end("node-1", kill=True)
-
-                async def read() -> None:
-                    await bench.get(name)
-
-                await bench.row(f"{words.size / 2**20:.0f} MiB out with a node killed", words.size, 1, read)
+                if "killed" in parts and "large" in parts:
+                    await killed(bench, name, words.size)
             await peers(session, folder, words)
     finally:
         shutil.rmtree(folder)
@@ -245,10 +288,14 @@ def main() -> int:
     parser = argparse.ArgumentParser(description="Measures a gateway over four nodes on this machine.")
     parser.add_argument("--size", type=int, default=256 * 2**20, help="bytes of the large file")
     parser.add_argument("--small", type=int, default=300, help="files of 4 KiB")
+    parser.add_argument("--folders", type=int, default=10_000, help="files of a folder")
+    parser.add_argument("--parts", nargs="+", choices=PARTS, help="what is measured; all, if it is left out")
+    parser.add_argument("--uvloop", action="store_true", help="have gateway, nodes and recorder run on uvloop")
     parser.add_argument("--nginx", action="store_true", help="measure nginx as well: dav, one copy")
     parser.add_argument("--swift", action="store_true", help="measure OpenStack Swift as well: erasure coding 2+2")
     parser.add_argument("--folder", help="where it is tried: a folder on the disk in question")
     words = parser.parse_args()
+    os.environ |= {"WALRUS_LOOP": "uvloop"} if words.uvloop else {}
     print(f"program {find_program()}, {os.cpu_count()} processors, load {os.getloadavg()[0]:.1f}")
     loop.run(measure(words))
     return 0

@@ -43,7 +43,7 @@ class GuardCase(LedgerCase):
         self.port = await self.gateway.listen(host)
         self.url = f"http{'s' * bool(self.gateway.certificate)}://{host}:{self.port}"
 
-    async def store(self, stream: AsyncIterator[bytes], epochs: int) -> dict[str, Any]:
+    async def store(self, stream: AsyncIterator[bytes], epochs: int, _: object = None) -> dict[str, Any]:
         data = b"".join([part async for part in stream])
         self.stored.append(data)
         name = hashlib.sha256(data).hexdigest()
@@ -51,7 +51,7 @@ class GuardCase(LedgerCase):
         told = {"blobId": name, "size": len(data), "pieces": max(1, -(-len(data) // PIECE)), "endEpoch": epochs}
         return told | {"certificate": {"epoch": 0, "count": 4}, "alreadyCertified": self.was_there}
 
-    async def fetch(self, name: bytes) -> bytes:
+    async def fetch(self, name: bytes, size: int) -> bytes:
         return self.files[name.hex()]
 
     def token(self, name: str, rights: str = "read,store", **bounds: int) -> dict[str, str]:

@@ -70,6 +70,8 @@ class Known(GuardCase):
             self.assertEqual(
                 (status, found["repr-digest"], found["digest"]), (201, f"sha-256=:{text}:", f"sha-256={text}")
             )
+        _, found, _ = await self.ask("PUT", "/v1/blobs?epochs=1", data=b"data")
+        self.assertNotIn("repr-digest", found)  # nobody asks, and a digest takes time
         stored = len(self.stored)
         bad = [
             {"Digest": f"sha-256={wrong}"},

@@ -192,7 +192,7 @@ class Caches(unittest.IsolatedAsyncioTestCase):
         self.gate.set()
         self.cache = Cache(self.read, 2 * (PIECE + EXTRA), 4)
 
-    async def read(self, identifier: bytes) -> bytes:
+    async def read(self, identifier: bytes, size: int) -> bytes:
         self.reads.append(identifier)
         await self.gate.wait()
         if identifier == b"bad":
@@ -273,6 +273,21 @@ class Ahead(unittest.IsolatedAsyncioTestCase):
                     self.assertIn(problem.status, (404, 410))
             self.assertEqual((sent[0], len(sent)), (ahead, 1 + ahead), (certified, invalid))
             self.assertEqual([it.args[0] for it in network.fetch.call_args_list], [first, later][: 1 + ahead])
+
+    async def test_a_length_is_asked_for_where_memory_is_short(self) -> None:
+        """What a list says of its last piece is not believed. Of the largest blob nobody need be asked."""
+        network = mock.Mock(fetch=mock.AsyncMock(return_value=bytes(7)))
+        reader = Reader(network, Options())
+        with mock.patch.object(reader.lengths, "of_blob", mock.AsyncMock(return_value=7)) as asked:
+            async with reader.memory.share(reader.memory.size - PIECE):
+                whole = asyncio.create_task(reader.fetch(bytes([1] * 32), PIECE))
+                await asyncio.sleep(0.05)
+                self.assertEqual((asked.call_count, network.fetch.call_count, whole.done()), (0, 0, False))
+                whole.cancel()
+                self.assertEqual(await reader.fetch(bytes([2] * 32), 1), bytes(7))
+                asked.assert_awaited_once_with(bytes([2] * 32))
+            self.assertEqual(await reader.fetch(bytes([1] * 32), PIECE), bytes(7))
+            self.assertEqual((asked.call_count, reader.memory.taken), (1, 0))
 
 
 class Commands(unittest.IsolatedAsyncioTestCase):

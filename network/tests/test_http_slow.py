@@ -1,5 +1,6 @@
 """Who is slow holds up nobody: clients that drip, nodes that hang, drip or take nothing, and what a read moves."""
 import asyncio
+import collections
 import contextlib
 import os
 import signal
@@ -7,14 +8,14 @@ import ssl
 import threading
 import time
 import unittest
-from typing import AsyncIterator
+from typing import AsyncIterator, Sequence
 from unittest import mock
 
 from harness import usage_of
 from http_case import DRAWN, GatewayCase
 from walrus import client
 from walrus.frames import answer
-from walrus.network import chunks, shard, whole
+from walrus.network import chunks, peers, reading, shard, whole
 
 SLOW, STEP = 16, 4_096  # clients; bytes that each moves in a tenth of a second
 
@@ -102,6 +103,27 @@ class Slow(GatewayCase):
                 await asyncio.sleep(0.1)
         name = (await self.network.store(b"after", 5)).identifier
         self.assertTrue(await self.network.until(lambda it: it.certificate(name) == (0, 4)))
+
+    async def test_a_node_that_hangs_is_waited_for_once(self) -> None:
+        """Those pieces of a file that were asked of it when it was found out are late, and no others."""
+        self.enterContext(mock.patch("walrus.shards.LEAST", 5.0))  # so that no other node is taken for late
+        self.enterContext(mock.patch("walrus.shards.MOST", 5.0))
+        self.enterContext(mock.patch.object(chunks, "PIECE", 100_000))
+        data = DRAWN.randbytes(4_000_000)
+        name = (await self.put(data))["blobId"]
+        hung, asked, exchange = self.local.processes["node-2"], collections.Counter[str](), peers.Seat.exchange
+        self.addCleanup(lambda: hung.returncode is None and hung.send_signal(signal.SIGCONT))
+        hung.send_signal(signal.SIGSTOP)
+
+        async def counted(seat: peers.Seat, requests: Sequence[client.Request]) -> list[client.Reply]:
+            asked[seat.name] += 1
+            return await exchange(seat, requests)
+
+        self.enterContext(mock.patch.object(peers.Seat, "exchange", counted))
+        self.gateway.reader.cache.entries.clear()
+        self.assertTrue((await self.get(name))[2] == data)
+        self.assertGreaterEqual(asked.total(), 2 * 41)  # f+1 shards for each of 40 pieces and their list
+        self.assertLessEqual(asked["node-2"], 1 + reading.AHEAD)
 
     @contextlib.asynccontextmanager
     async def in_place_of(self, node: str, drips: bool) -> AsyncIterator[None]:

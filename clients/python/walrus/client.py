@@ -47,6 +47,7 @@ from .kinds import (
 )
 from .shapes import Shape
 from .shards import (
+    Asked,
     Failed,
     Reply,
     Request,
@@ -216,7 +217,8 @@ async def collect(shards: Shards, request: Union[Read, Symbol], walrus: Walrus, 
     and again once more can be enough. Where all of it is too little, a proof of bad encoding will do: status 3, and the
     proof in an envelope."""
     needed = shape_of(shards).symbols[getattr(request, "axis", SECONDARY)]
-    count, patience, said, listening = 0, 1, dict[int, str](), Listening(shards, write_frame(request))
+    asked = Asked.of(write_frame(request), needed)
+    count, patience, said, listening = 0, 1, dict[int, str](), Listening(shards, asked)
     heard, proofs = list[bytes](), dict[bytes, bytes]()  # each once, in order; a proof with its metadata
     listening.ask(needed)
     try:
@@ -228,9 +230,9 @@ async def collect(shards: Shards, request: Union[Read, Symbol], walrus: Walrus, 
                 heard += [it for it in kept.values() if it not in heard]
                 count += len(kept.keys() - {METADATA})
             if count >= needed or listening.is_over():
-                data = [part for it in heard for part in (HEAD.pack(MARK, 0, len(it)), it)]
-                status, text = await walrus.run(*words, data=data)
+                status, text = await walrus.run(*words, data=asked.basket.stream(heard))
                 if status in (0, 3):
+                    asked.basket.close()
                     return status, text
                 if status != 4:
                     raise Refused(status, text, said)

@@ -1,6 +1,7 @@
 """How the client, the front and the examples run: on asyncio, and in one thread."""
 import asyncio
 import contextlib
+import importlib
 import os
 import sys
 from collections.abc import Coroutine
@@ -18,6 +19,9 @@ def wait_without_threads() -> None:
 
 
 def run(main: Coroutine[Any, Any, Result]) -> Result:
-    """What `main` returns."""
+    """What `main` returns. It runs on uvloop if the variable WALRUS_LOOP says so."""
+    if os.environ.get("WALRUS_LOOP") == "uvloop":
+        with asyncio.Runner(loop_factory=importlib.import_module("uvloop").new_event_loop) as runner:
+            return runner.run(main)
     wait_without_threads()
     return asyncio.run(main)

@@ -13,9 +13,10 @@ from typing import Any, NamedTuple, Optional
 
 from .client import HEAD, MARK, SLICE, Data, Fault, Shape, envelope, in_words, write_frame
 from .frames import refuse
-from .wire import Wire, memory
+from .wire import Wire, filling, memory
 
 PIECE, AHEAD, QUIET = 65_536, 64, 60.0  # bytes of one client; replies that wait; seconds between two equal lines
+LARGE_PAGE = 2_097_152  # bytes
 ASIDE = 256  # requests that wait for others without a turn
 
 
@@ -186,6 +187,8 @@ class Port:
             if fits:
                 self.keep(client, len(piece))  # what came, and not what was announced
                 kept += len(piece)
+                if kept == LARGE_PAGE:  # who has sent so much may take as much ahead
+                    filling(place)
         return sender, place if fits else None
 
     def longest(self) -> int:

@@ -10,7 +10,7 @@ from typing import NamedTuple, Optional, Union
 
 from .kinds import DONE, KINDS, Answer, Clash, Fault, in_words
 from .shapes import Shape
-from .streams import Data, Sink, Source, Streams, take_envelope, write_in_slices
+from .streams import Basket, Data, Sink, Source, Streams, take_envelope, write_in_slices
 
 SECONDS = 10.0  # a deadline for what is asked at once
 LONGEST_REPLY = 4  # the frames of a reply, with the last answer
@@ -21,6 +21,19 @@ USUAL = 0.2  # seconds for which a shard is taken to need first
 Request = Union[bytes, list[Data]]  # a payload, which may come in parts
 Step = tuple[str, bytes, Sequence[int]]  # a request in words and as a payload, and the codes of answers that will do
 Reply = NamedTuple("Reply", [("kept", dict[int, bytes]), ("end", Union[Answer, Clash])])  # what is of use, by its kind
+
+
+class Asked(bytes):
+    """The payload of a request to several shards, whose replies are wanted together."""
+
+    basket: Basket
+
+    @classmethod
+    def of(cls, payload: bytes, count: int) -> "Asked":
+        """A request of which so many replies are needed."""
+        made = cls(payload)
+        made.basket = Basket(count)
+        return made
 
 
 class Failed(Exception):
@@ -93,7 +106,8 @@ class Shard(contextlib.AbstractAsyncContextManager["Shard"]):
     async def hear_one(self, reader: Source, request: Request) -> Reply:
         kept: dict[int, bytes] = {}
         for _ in range(LONGEST_REPLY):
-            sender, payload = await take_envelope(reader, self.shape.longest)
+            basket = request.basket if isinstance(request, Asked) else None
+            sender, payload = await take_envelope(reader, self.shape.longest, basket)
             if sender != self.number:
                 raise Fault(f"it says that it is shard {sender}: are the shards in their order?")
             if payload[:1] == b"\x31":

@@ -4,21 +4,30 @@ import asyncio
 import collections
 import mmap
 from collections.abc import Callable, Coroutine, Sequence
-from typing import Any, Optional, Union
+from typing import Any, Optional, Union, cast
+
+from . import buffers
 
 LANDING, LARGE = 16_384, 65_536  # bytes that come ahead of who reads; of what has a memory of its own
 Data = Union[bytes, bytearray, memoryview]
 
 
 def memory(size: int) -> memoryview:
-    """Memory for so many bytes, which takes none before they come."""
-    return memoryview(bytearray(size) if size < LARGE else mmap.mmap(-1, size))[:size]
+    """Memory for so many bytes, which takes little before they come."""
+    return memoryview(bytearray(size) if size < LARGE else buffers.mapped(size))[:size]
+
+
+def filling(place: memoryview) -> memoryview:
+    """Has memory of which the rest comes now, or soon, take large pages from here on."""
+    if isinstance(place.obj, mmap.mmap):
+        buffers.in_large_pages(place.obj)
+    return place
 
 
 def joined(parts: Sequence[Data]) -> Data:
     """Parts one behind the other."""
     size, place = sum(map(len, parts)), 0
-    data = memory(size)
+    data = filling(memory(size))
     for part in parts:
         data[place:][: len(part)] = part
         place += len(part)
@@ -40,8 +49,7 @@ class Wire(asyncio.BufferedProtocol):
         self.draining: "collections.deque[asyncio.Future[None]]" = collections.deque()
 
     def connection_made(self, transport: asyncio.BaseTransport) -> None:
-        assert isinstance(transport, asyncio.Transport)
-        self.transport = transport
+        self.transport = cast(asyncio.Transport, transport)  # uvloop's, over TLS, are of no class of asyncio's
         if self.accept:
             self.task = asyncio.get_running_loop().create_task(self.accept(self))
 
@@ -126,7 +134,7 @@ class Wire(asyncio.BufferedProtocol):
 
     async def readexactly(self, size: int) -> Data:
         """So many bytes; a large number of them in a memory of their own."""
-        target = memory(size)
+        target = filling(memory(size))
         await self.readinto(target)
         return bytes(target) if size < LARGE else target.toreadonly()
 

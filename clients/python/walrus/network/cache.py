@@ -29,7 +29,7 @@ class Entry:
 class Cache:
     """Blobs by identifier, of `room` bytes together with what is being read and what is being sent."""
 
-    def __init__(self, read: Callable[[bytes], Awaitable[bytes]], room: int, turns: int):
+    def __init__(self, read: Callable[[bytes, int], Awaitable[bytes]], room: int, turns: int):
         self.read, self.room = read, max(room, client.LARGEST_BLOB + EXTRA)
         self.turns = asyncio.Semaphore(turns)
         self.entries: "collections.OrderedDict[bytes, Entry]" = collections.OrderedDict()
@@ -37,9 +37,10 @@ class Cache:
         self.size = self.hits = self.reads = 0
 
     @contextlib.asynccontextmanager
-    async def use(self, identifier: bytes) -> AsyncIterator[bytes]:
-        """A blob, which stays while it is used. Raises what reading it raises."""
-        while not (entry := self.find(identifier)):
+    async def use(self, identifier: bytes, size: int = 0) -> AsyncIterator[bytes]:
+        """A blob, which stays while it is used; it is said to have this size, if somebody says one. Raises what reading
+        it raises."""
+        while not (entry := self.find(identifier, size)):
             self.freed.clear()
             await self.freed.wait()
         entry.users += 1
@@ -49,14 +50,14 @@ class Cache:
             entry.users -= 1
             self.freed.set()
 
-    def find(self, identifier: bytes) -> "Entry | None":
+    def find(self, identifier: bytes, size: int = 0) -> "Entry | None":
         """The entry of a blob, begun where there is none; nothing where there is no room for it."""
         entry = self.entries.get(identifier)
         if entry:
             self.hits += 1
             self.entries.move_to_end(identifier)
         elif self.make_room():
-            entry = self.entries[identifier] = Entry(asyncio.create_task(self.load(identifier)))
+            entry = self.entries[identifier] = Entry(asyncio.create_task(self.load(identifier, size)))
             self.size += entry.size
             entry.task.add_done_callback(lambda task: self.loaded(identifier, task))
         return entry
@@ -70,10 +71,10 @@ class Cache:
             self.size -= self.entries.pop(unused).size
         return True
 
-    async def load(self, identifier: bytes) -> bytes:
+    async def load(self, identifier: bytes, size: int) -> bytes:
         async with self.turns:
             self.reads += 1
-            return await self.read(identifier)
+            return await self.read(identifier, size)
 
     def loaded(self, identifier: bytes, task: "asyncio.Task[bytes]") -> None:
         entry, fault = self.entries[identifier], None if task.cancelled() else task.exception()

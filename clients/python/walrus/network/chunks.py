@@ -7,7 +7,7 @@ import asyncio
 import contextlib
 import dataclasses
 import struct
-from typing import Any, AsyncIterator, Callable, Iterator, Union
+from typing import Any, AsyncIterator, Callable, Iterator, Optional, Union
 
 from .. import bundles, client
 
@@ -62,12 +62,14 @@ class Writer:
 
     def __init__(self, network: Network, memory: Memory, turns: int):
         self.network, self.memory, self.turns = network, memory, asyncio.Semaphore(turns)
+        self.giving = set["asyncio.Task[None]"]()  # memory back, where nodes are left behind
 
-    async def store(self, stream: AsyncIterator[bytes], epochs: int) -> Told:
+    async def store(self, stream: AsyncIterator[bytes], epochs: int, stored: Optional[list[bytes]] = None) -> Told:
         """Stores a file for so many epochs, and tells what came of it. Of its pieces one comes while one is encoded and
-        others are certified."""
+        others are certified; where it fails, those that are certified come to `stored`."""
         ledger = self.network.ledger
         until, size, first = min(ledger.writing_epoch + epochs, LAST_UNTIL), 0, b""
+        stored = [] if stored is None else stored
         tasks: list["asyncio.Task[tuple[bytes, bool]]"] = []
         try:
             async with contextlib.aclosing(pieces.split(stream, PIECE)) as parts:
@@ -77,40 +79,46 @@ class Writer:
                         await tasks[-AHEAD]
                     tasks.append(asyncio.create_task(self.store_blob(piece, until)))
                     del piece
-            stored = await asyncio.gather(*tasks)
+            done = await asyncio.gather(*tasks)
+            identifier, count = b"".join(name for name, _ in done), len(done)
+            if count > 1 or first == MARK:
+                done.append(await self.store_blob(File(size, identifier).listed(), until))
+                identifier = done[-1][0]
         finally:
             for task in tasks:
                 task.cancel()
-            await asyncio.gather(*tasks, return_exceptions=True)
-        identifier, count = b"".join(name for name, _ in stored), len(stored)
-        if count > 1 or first == MARK:
-            stored.append(await self.store_blob(File(size, identifier).listed(), until))
-            identifier = stored[-1][0]
+            said = await asyncio.gather(*tasks, return_exceptions=True)
+            stored += [it[0] for it in said if isinstance(it, tuple)]
         found, blob = ledger.certificate(identifier), ledger.blobs.get(identifier)
         if not found or not blob:
             raise client.Failed("its time ended while it was stored: store it for more epochs", {})
         told = {"blobId": identifier.hex(), "size": size, "pieces": count, "endEpoch": blob.until}
         certificate = {"epoch": found[0], "count": found[1]}
-        return told | {"certificate": certificate, "alreadyCertified": all(before for _, before in stored)}
+        return told | {"certificate": certificate, "alreadyCertified": all(before for _, before in done)}
 
     async def store_bundle(
-        self, kind: str, count: Callable[[int], None], stream: AsyncIterator[bytes], epochs: int
+        self,
+        kind: str,
+        count: Callable[[int], None],
+        stream: AsyncIterator[bytes],
+        epochs: int,
+        stored: Optional[list[bytes]] = None,
     ) -> Told:
         """Stores the files of a form of this media type as one bundle, which is no longer than a piece, once its length
         was counted."""
         bundle, members = await self.bundle(kind, await pieces.gathered(stream))
         count(len(bundle))
 
-        async def stored() -> AsyncIterator[bytes]:
+        async def whole() -> AsyncIterator[bytes]:
             yield bundle
 
-        told = await self.store(stored(), epochs)
+        told = await self.store(whole(), epochs, stored)
         return told | {"members": [{"id": f"{told['blobId']}/{it}", **member} for it, member in enumerate(members)]}
 
     async def bundle(self, kind: str, form: bytes) -> tuple[bytes, list[Told]]:
         """The bundle of the files of a form, in a file without a name, and what is told of each."""
         faults = self.network.ledger.faults
-        async with self.memory.share(pieces.need_of(len(form))):
+        async with self.memory.share(pieces.need_of(len(form), faults)):
             files = files_of(kind, form, 2 * faults)
             try:
                 async with self.turns:
@@ -120,16 +128,31 @@ class Writer:
             return pieces.put_away(made), [{"name": name, "size": len(data)} for name, data in files]
 
     async def store_blob(self, blob: bytes, until: int) -> tuple[bytes, bool]:
-        """Stores a blob; its identifier, and whether it was there before."""
-        network, ledger = self.network, self.network.ledger
-        async with self.memory.share(pieces.need_of(len(blob))) as share:
+        """Stores a blob; its identifier, and whether it was there before. Its memory is given back once no node is left
+        behind with it."""
+        stack, identifier, faults = contextlib.AsyncExitStack(), b"", self.network.ledger.faults
+        share = await stack.enter_async_context(self.memory.share(pieces.need_of(len(blob), faults)))
+        try:
             async with self.turns:
-                encoded = await network.walrus.encode(blob, ledger.faults)
+                encoded = await self.network.walrus.encode(blob, faults)
             del blob
             share.shrink(sum(len(part) for parts in encoded.slivers for part in parts))
             identifier = encoded.identifier
-            found = ledger.blobs.get(identifier) if ledger.certificate(identifier) else None
-            if found and found.until >= until:
-                return identifier, True
-            await (network.register(identifier, until) if found else network.publish(encoded, until))
-            return identifier, False
+            return identifier, await self.store_encoded(encoded, until)
+        finally:
+            task = asyncio.create_task(self.give_back(identifier, stack))
+            self.giving.add(task)
+            task.add_done_callback(self.giving.discard)
+
+    async def store_encoded(self, encoded: client.Encoded, until: int) -> bool:
+        """Stores an encoded blob; whether it was there before."""
+        network, ledger, identifier = self.network, self.network.ledger, encoded.identifier
+        found = ledger.blobs.get(identifier) if ledger.certificate(identifier) else None
+        if found and found.until >= until:
+            return True
+        await (network.register(identifier, until) if found else network.publish(encoded, until))
+        return False
+
+    async def give_back(self, identifier: bytes, stack: contextlib.AsyncExitStack) -> None:
+        async with stack:
+            await self.network.left(identifier)

@@ -162,7 +162,7 @@ class Network(View):
             if self.behind[name] and self.behind[name] + size > BEHIND:
                 said |= {seat.number: "it is behind with what was stored before" for seat in own}
             else:
-                tasks[name] = asyncio.create_task(self.put_at(own, encoded))
+                tasks[name] = asyncio.create_task(self.put_at(own, encoded), name=encoded.identifier.hex())
         prompt = {task for name, task in tasks.items() if not self.behind[name]}
         over, pending = asyncio.create_task(self.until(is_over, None)), {*tasks.values()}
         try:
@@ -206,10 +206,17 @@ class Network(View):
         task.add_done_callback(arrived)
         asyncio.get_running_loop().call_later(LATE, task.cancel)
 
-    async def fetch(self, identifier: bytes, seconds: float = 30, member: Optional[int] = None) -> bytes:
+    async def left(self, identifier: bytes) -> None:
+        """Waits until no node is left behind with a blob."""
+        if late := [task for task in self.late if task.get_name() == identifier.hex()]:
+            await asyncio.wait(late)
+
+    async def fetch(
+        self, identifier: bytes, seconds: float = 30, member: Optional[int] = None, calls: Optional[Calls] = None
+    ) -> bytes:
         """The bytes of a blob, or of a member of a bundle, which is read from its columns; asks again while the blob is
         live and too little is heard. Raises `client.Refused`."""
-        loop, ledger = asyncio.get_running_loop(), self.ledger
+        loop, ledger, walrus = asyncio.get_running_loop(), self.ledger, calls or self.walrus
         end, pause = loop.time() + seconds, 0.1
         while True:
             home = ledger.owners(ledger.home_epoch(identifier))
@@ -217,8 +224,8 @@ class Network(View):
                 seats = self.peers.seats(owners, ledger.faults)
                 try:
                     if member is None:
-                        return await client.fetch(seats, identifier, self.walrus)
-                    return await bundles.fetch_member(seats, identifier, member, self.walrus)
+                        return await client.fetch(seats, identifier, walrus)
+                    return await bundles.fetch_member(seats, identifier, member, walrus)
                 except client.Refused as refused:
                     if refused.status != 4 or refused.text.startswith(b"no member of "):
                         raise

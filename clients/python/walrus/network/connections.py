@@ -8,13 +8,14 @@ import math
 import os
 import ssl
 import sys
-from typing import Any, Callable, Optional
+from typing import Any, Callable, Optional, cast
 
 from aiohttp import http_exceptions, web
 
 from .entries import NAME
 
 FIRST, HANDSHAKE, EACH = 30.0, 5.0, 300  # seconds for a first request and for TLS; connections of one address
+MALFORMED = b"HTTP/1.1 400 Bad Request\r\nContent-Length: 0\r\nConnection: close\r\n\r\n"
 WAITING = 64  # requests that a client has sent before the first of them is answered
 
 
@@ -39,8 +40,7 @@ class Connection(web.RequestHandler):
         self.peer, most = self.whom(transport)
         self.each[self.peer] += 1
         if len(self.server.connections) > self.most or self.each[self.peer] > most:
-            assert isinstance(transport, asyncio.Transport)
-            transport.abort()
+            cast(asyncio.Transport, transport).abort()
 
     def connection_lost(self, exc: Optional[BaseException]) -> None:
         super().connection_lost(exc)
@@ -53,8 +53,7 @@ class Connection(web.RequestHandler):
         try:
             super().data_received(data)
         except ValueError:
-            assert isinstance(self.transport, asyncio.Transport)
-            self.transport.write(b"HTTP/1.1 400 Bad Request\r\nContent-Length: 0\r\nConnection: close\r\n\r\n")
+            cast(asyncio.Transport, self.transport).write(MALFORMED)
             self.force_close()
         if len(self._messages) > WAITING and self.transport:  # aiohttp has no bound, and no public way to see them
             self.transport.abort()

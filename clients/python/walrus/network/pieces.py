@@ -5,12 +5,24 @@ read from there when it is its turn. So is a piece that was read, until it is se
 import asyncio
 import collections
 import contextlib
+import dataclasses
 import mmap
 import tempfile
-from typing import AsyncGenerator, AsyncIterator
+from typing import IO, AsyncGenerator, AsyncIterator, Optional
 
 AHEAD = 131_072  # bytes of a piece that are in memory while it comes
-TIMES, LEAST = 7, 1_048_576  # what a piece takes while it is encoded, in its bytes; what is counted at least
+LEAST, LATER = 1_048_576, 3.25  # what a piece takes at least; what it takes to be decoded, in its bytes
+TIMES, MORE = 8, 11  # what it takes to be encoded, in its bytes, at f = 1 and beyond
+
+
+class Mapped(mmap.mmap):
+    """The memory of a file, of which parts may be given back at any time."""
+
+
+def write(file: IO[bytes], data: memoryview) -> None:
+    """Writes all of this to a file, of which one call may take a part."""
+    while data:
+        data = data[file.write(data) :]  # noqa: E203
 
 
 class Spool:
@@ -18,31 +30,33 @@ class Spool:
 
     def __init__(self) -> None:
         self.kept, self.size = bytearray(), 0
-        self.file = contextlib.ExitStack()
+        self.file: Optional[IO[bytes]] = None
 
     def add(self, data: memoryview) -> None:
-        self.kept += data
         self.size += len(data)
-        if len(self.kept) > AHEAD:
-            self.flush()
+        if len(self.kept) + len(data) <= AHEAD:
+            self.kept += data
+        else:
+            write(self.flushed(), data)
 
-    def flush(self) -> None:
-        if self.size == len(self.kept):  # nothing of it is in a file yet
-            self.out = self.file.enter_context(tempfile.TemporaryFile(buffering=0))
-        view = memoryview(self.kept)
-        while view:
-            done = self.out.write(view)
-            view = view[done:]
+    def flushed(self) -> IO[bytes]:
+        """The file, which has all that came so far."""
+        self.file = self.file or tempfile.TemporaryFile(buffering=0)
+        write(self.file, memoryview(self.kept))
         self.kept = bytearray()
+        return self.file
 
     def whole(self) -> bytes:
         """The piece; its memory is that of the file."""
-        if self.size == len(self.kept):
+        if not self.file:
             return bytes(self.kept)
-        self.flush()
-        mapped = mmap.mmap(self.out.fileno(), self.size, access=mmap.ACCESS_READ)
-        self.file.close()
+        mapped = Mapped(self.flushed().fileno(), self.size, access=mmap.ACCESS_READ)
+        self.close()
         return memoryview(mapped)
+
+    def close(self) -> None:
+        if self.file:
+            self.file.close()
 
 
 async def split(stream: AsyncIterator[bytes], size: int) -> AsyncGenerator[bytes, None]:
@@ -59,7 +73,7 @@ async def split(stream: AsyncIterator[bytes], size: int) -> AsyncGenerator[bytes
             spool.add(view)
         yield spool.whole()
     finally:
-        spool.file.close()
+        spool.close()
 
 
 async def gathered(stream: AsyncIterator[bytes]) -> bytes:
@@ -70,27 +84,24 @@ async def gathered(stream: AsyncIterator[bytes]) -> bytes:
             spool.add(memoryview(part))
         return spool.whole()
     finally:
-        spool.file.close()
+        spool.close()
 
 
 def put_away(blob: bytes) -> bytes:
     """A blob whose memory is that of a file without a name."""
     with tempfile.TemporaryFile(buffering=0) as file:
-        view = memoryview(blob)
-        while view:
-            done = file.write(view)
-            view = view[done:]
-        return memoryview(mmap.mmap(file.fileno(), len(blob), access=mmap.ACCESS_READ))
+        write(file, memoryview(blob))
+        return memoryview(Mapped(file.fileno(), len(blob), access=mmap.ACCESS_READ))
 
 
 def is_away(blob: bytes) -> bool:
     """Whether a blob is in a file."""
-    return isinstance(blob, memoryview) and isinstance(blob.obj, mmap.mmap)
+    return isinstance(blob, memoryview) and isinstance(blob.obj, Mapped)
 
 
 def let_go(blob: bytes, start: int, end: int) -> None:
     """Gives back the memory of a span of a blob that is in a file."""
-    if isinstance(blob, memoryview) and isinstance(blob.obj, mmap.mmap):
+    if isinstance(blob, memoryview) and isinstance(blob.obj, Mapped):
         first = start // mmap.PAGESIZE * mmap.PAGESIZE
         blob.obj.madvise(mmap.MADV_DONTNEED, first, end - first)
 
@@ -108,52 +119,94 @@ class Share:
             self.size = size
             self.memory.serve()
 
+    @contextlib.asynccontextmanager
+    async def more(self, size: int) -> AsyncIterator[None]:
+        """Has so much more while it runs."""
+        await self.memory.wait(Wish(size, 0, self))
+        try:
+            yield
+        finally:
+            self.memory.grown -= size
+            self.shrink(self.size - size)
+
+
+@dataclasses.dataclass(eq=False)
+class Wish:
+    """Who waits for so much memory, will want so much more later, and has a share already if it wants more now."""
+
+    size: int
+    later: int
+    share: Share
+    granted: "asyncio.Future[None]" = dataclasses.field(default_factory=lambda: asyncio.Future())
+
 
 class Memory:
-    """So many bytes for all that a gateway does. Who finds too little waits, behind who came before."""
+    """So many bytes for all that a gateway does. Who finds too little waits, behind who came before.
+
+    Who will want more begins only if that is there too once others have given back what they have more, and nobody
+    begins while one waits for more. So one of those who wait for more always finds it, once the others have ended."""
 
     def __init__(self, size: int):
-        self.size, self.taken = size, 0
-        self.waiting: "collections.deque[tuple[int, asyncio.Future[None]]]" = collections.deque()
+        self.size, self.taken, self.grown = size, 0, 0  # what is taken, and what of it is more that was wanted later
+        self.waiting, self.growing = collections.deque[Wish](), list[Wish]()
 
     def is_short(self, size: int) -> bool:
         """Whether who wants so much has to wait."""
-        return bool(self.waiting) or self.taken + size > self.size
+        return bool(self.waiting or self.growing) or self.taken + size > self.size
 
     def serve(self) -> None:
         """Lets those go on for whom there is room now, one at least."""
-        while self.waiting:
-            size, waiting = self.waiting[0]
-            if self.taken and self.taken + size > self.size and not waiting.done():
+        for wish in [*self.growing]:
+            if self.taken + wish.size <= self.size:
+                self.growing.remove(wish)
+                self.grant(wish)
+        if self.growing and self.taken == sum(it.share.size for it in self.growing):  # he wants more than there is
+            self.grant(self.growing.pop(0))
+        while self.waiting and not self.growing:
+            wish = self.waiting[0]
+            if self.taken and self.taken + wish.size + max(0, wish.later - self.grown) > self.size:
                 return
-            self.waiting.popleft()
-            if not waiting.done():
-                self.taken += size
-                waiting.set_result(None)
+            self.grant(self.waiting.popleft())
 
-    async def take(self, size: int) -> Share:
-        waiting: "asyncio.Future[None]" = asyncio.get_running_loop().create_future()
-        self.waiting.append((size, waiting))
+    def grant(self, wish: Wish) -> None:
+        self.taken += wish.size
+        self.grown += wish.size if wish.share.size else 0
+        wish.share.size += wish.size
+        wish.granted.set_result(None)
+
+    async def wait(self, wish: Wish) -> None:
+        """Waits until a wish is granted."""
+        (self.growing if wish.share.size else self.waiting).append(wish)
         self.serve()
         try:
-            await waiting
+            await asyncio.shield(wish.granted)
         except asyncio.CancelledError:
-            if waiting.done() and not waiting.cancelled():
-                self.taken -= size
+            if wish.granted.done():
+                self.grown -= wish.size if wish.share.size > wish.size else 0
+                wish.share.shrink(wish.share.size - wish.size)
+            elif wish in self.growing:
+                self.growing.remove(wish)
+            else:
+                self.waiting.remove(wish)
             self.serve()
             raise
-        return Share(self, size)
 
     @contextlib.asynccontextmanager
-    async def share(self, size: int) -> AsyncIterator[Share]:
-        """Has so much while it runs, or less from some time on."""
-        share = await self.take(size)
+    async def share(self, size: int, later: int = 0) -> AsyncIterator[Share]:
+        """Has so much while it runs, or less from some time on; `later` is what it will take beside that."""
+        share = Share(self, 0)
+        await self.wait(Wish(size, later, share))
         try:
             yield share
         finally:
             share.shrink(0)
 
 
-def need_of(size: int) -> int:
-    """The memory that a piece takes while it is encoded or decoded."""
-    return LEAST + TIMES * size
+def need_of(size: int, faults: int) -> int:
+    """The memory that a piece takes while it is encoded, or that becomes a bundle, as it was measured."""
+    return LEAST + (TIMES if faults == 1 else MORE) * size
+
+
+def reading_needs(size: int) -> tuple[int, int]:
+    """The memory that a piece takes while it comes, and what it takes beside that while it is decoded."""
+    return LEAST + size, int(LATER * size)

@@ -1,8 +1,10 @@
 """The program walrus for a gateway: calls in threads, of the library where that is there, which hold up nobody."""
 import asyncio
 import concurrent.futures
+import contextlib
 import os
-from typing import Sequence, Union
+from contextlib import AbstractAsyncContextManager
+from typing import Callable, Sequence, Union
 
 from walrus.engines import Library, Program
 from .. import client
@@ -17,6 +19,7 @@ class Calls(client.Walrus):
 
     engine: Union[Library, Program]
     pool: concurrent.futures.ThreadPoolExecutor
+    turn: Callable[[], AbstractAsyncContextManager[None]] = contextlib.nullcontext  # what a call waits for
 
     @classmethod
     def of(cls, path: str) -> "Calls":
@@ -25,8 +28,15 @@ class Calls(client.Walrus):
         made.pool = concurrent.futures.ThreadPoolExecutor(len(os.sched_getaffinity(0)), "walrus")
         return made
 
+    def within(self, turn: Callable[[], AbstractAsyncContextManager[None]]) -> "Calls":
+        """The same, of which each call waits for a turn, and has it while it runs."""
+        made = type(self)(self.path)
+        made.engine, made.pool, made.turn = self.engine, self.pool, turn
+        return made
+
     async def run(self, *words: object, data: Union[Data, Sequence[Data]] = b"") -> tuple[int, bytes]:
-        status, text = await asyncio.get_running_loop().run_in_executor(self.pool, self.call, words, data)
+        async with self.turn():
+            status, text = await asyncio.get_running_loop().run_in_executor(self.pool, self.call, words, data)
         return status, bytes(text) if status or len(text) < wire.LARGE else text
 
     def call(self, words: Sequence[object], data: Union[Data, Sequence[Data]]) -> tuple[int, memoryview]:

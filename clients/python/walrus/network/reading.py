@@ -5,7 +5,7 @@ import contextlib
 import itertools
 import secrets
 import sys
-from typing import AsyncIterator, Iterable, Optional, Union
+from typing import AsyncIterator, Callable, Iterable, Optional, Union
 
 from aiohttp import web
 from .. import client
@@ -17,11 +17,12 @@ from .client import Network
 from .exposure import Options
 from .heads import Lengths
 from .limits import Flow
-from .pieces import Memory, let_go, need_of, put_away
+from .pieces import Memory, let_go, put_away, reading_needs
 from .problems import ALONE, BAD, NO_BLOB, Problem
 
 SLICE, KIND = 262_144, "application/octet-stream"
-BARE, READINGS = 67_108_864, 16  # bytes of a gateway that does nothing; blobs that are read at once, if memory allows
+BARE, READINGS = 73_400_320, 16  # bytes of a gateway that does nothing; blobs that are read at once, if memory allows
+AHEAD = 5  # pieces of a file that are read at once for who takes it
 SILENCE, WAITING = 30.0, 60.0  # seconds in which a slice must go out or anything come in; for a turn or for room
 GRACE, LEAST = 60.0, 32_768  # seconds for which a client may be slower than so many bytes a second, in all
 FOREVER = {"Cache-Control": "public, max-age=31536000, immutable", "Accept-Ranges": "bytes"}
@@ -35,6 +36,7 @@ class Reader:
         self.memory = Memory(max(0, options.memory - BARE))
         self.cache = Cache(self.fetch, options.room, READINGS)
         self.bytes, self.lengths = collections.Counter[str](), Lengths(network)
+        self.rejected: Callable[[bytes], None] = lambda identifier: None  # is told what was badly encoded
 
     def must_stand(self, name: bytes) -> None:
         """Raises where it is known that a blob, or a member of it, cannot be read."""
@@ -51,15 +53,22 @@ class Reader:
         ledger, identifier = self.network.ledger, name[:NAME]
         return bool(ledger.certificate(identifier)) and not ledger.invalid(identifier)
 
-    async def fetch(self, name: bytes) -> bytes:
-        """A blob, or a member of it, as the network has it; in a file, where it is large."""
+    async def fetch(self, name: bytes, size: int) -> bytes:
+        """A blob, or a member of it, as the network has it; in a file, where it is large. Who says that it is less than
+        the largest is not believed."""
         number = int.from_bytes(name[NAME:], "big") if name[NAME:] else None
-        need = need_of(client.LARGEST_BLOB)
-        if self.memory.is_short(need):
+        length: Optional[int] = client.LARGEST_BLOB
+        if size != length and self.memory.is_short(sum(reading_needs(client.LARGEST_BLOB))):
             length = await self.lengths.of_blob(name[:NAME])
-            need = need if length is None else need_of(length)
-        async with self.memory.share(need):
-            blob = await self.network.fetch(name[:NAME], self.options.seconds, number)
+        first, later = reading_needs(client.LARGEST_BLOB if length is None else length)
+        async with self.memory.share(first, later) as share:
+            calls = self.network.walrus.within(lambda: share.more(later))
+            try:
+                blob = await self.network.fetch(name[:NAME], self.options.seconds, number, calls)
+            except client.Refused as refused:
+                if refused.status == 3 and number is None:
+                    self.rejected(name[:NAME])
+                raise
             pool = self.network.walrus.pool  # and not asyncio's own, which looks names up, perhaps for long
             return await asyncio.get_running_loop().run_in_executor(pool, put_away, blob) if len(blob) > SLICE else blob
 
@@ -69,7 +78,7 @@ class Reader:
         self.must_stand(identifier)
         async with contextlib.AsyncExitStack() as stack:
             async with asyncio.timeout(WAITING):
-                found = await stack.enter_async_context(self.cache.use(identifier))
+                found = await stack.enter_async_context(self.cache.use(identifier, size or 0))
             if size not in (None, len(found)):
                 raise Problem(410, "the file's list is false: a piece of it has another length", invalid=True)
             yield found
@@ -78,12 +87,10 @@ class Reader:
         """The response to a GET or a HEAD of a file."""
         self.must_stand(name)
         number = f"/{int.from_bytes(name[NAME:], 'big')}" if name[NAME:] else ""
-        tag, asked = f'"{name[:NAME].hex()}{number}"', None
+        tag = f'"{name[:NAME].hex()}{number}"'
         headers = {**ALONE, **FOREVER, "ETag": tag}
-        if "If-Match" in request.headers and not tagged(request.headers.getall("If-Match"), tag):
-            raise Problem(412, "the only tag of this file is its identifier", headers)
-        if tagged([it.replace("W/", "") for it in request.headers.getall("If-None-Match", [])], tag):
-            return web.Response(status=304, headers=headers)
+        if (found := self.condition(request, tag, headers)) is not None:
+            return found
         length = await self.length_alone(request, name)
         if length is not None:
             file = File(length, name)
@@ -91,12 +98,27 @@ class Reader:
             async with self.blob(name) as blob:
                 file = File.of(name, blob)
                 headers |= digests.of(blob) if digests.wanted(request) and file.names == name else {}
+        return await self.give(request, file, tag, headers)
+
+    def condition(self, request: web.Request, tag: str, headers: dict[str, str]) -> Optional[web.Response]:
+        """What is answered to a condition, where it does not ask for the file of this tag."""
+        if "If-Match" in request.headers and not tagged(request.headers.getall("If-Match"), tag):
+            raise Problem(412, "the only tag of this file is its identifier", headers)
+        if tagged([it.replace("W/", "") for it in request.headers.getall("If-None-Match", [])], tag):
+            return web.Response(status=304, headers=headers)
+        return None
+
+    async def give(
+        self, request: web.Request, file: File, tag: str, headers: dict[str, str], kind: str = KIND
+    ) -> web.StreamResponse:
+        """Sends a file of this tag and media type, or the ranges of it that are asked for."""
+        asked = None
         if request.method == "GET" and "Range" in request.headers and request.headers.get("If-Range", tag) == tag:
             asked = ranges.spans(",".join(request.headers.getall("Range")), file.length)
         if asked == []:
             headers["Content-Range"] = f"bytes */{file.length}"
             raise Problem(416, f"the file has {file.length} bytes, and none of these", headers)
-        return await self.send(request, file, asked, headers)
+        return await self.send(request, file, asked, headers, kind)
 
     async def length_alone(self, request: web.Request, name: bytes) -> Optional[int]:
         """The length of a file that is not read for it; None where a request needs more, or its metadata tells less."""
@@ -105,12 +127,17 @@ class Reader:
         return await self.lengths.of_file(name)
 
     async def send(
-        self, request: web.Request, file: File, asked: Optional[list[ranges.Span]], headers: dict[str, str]
+        self,
+        request: web.Request,
+        file: File,
+        asked: Optional[list[ranges.Span]],
+        headers: dict[str, str],
+        kind: str = KIND,
     ) -> web.StreamResponse:
         """Sends a file, or spans of it; where it cannot go on, the connection ends before the length is reached."""
         spans, bound = asked or [(0, file.length)], secrets.token_hex(16)
-        heads = ranges.heads(spans, file.length, KIND, bound) if len(spans) > 1 else [b"", b""]
-        size, kind = sum(end - start for start, end in spans) + sum(map(len, heads)), KIND
+        heads = ranges.heads(spans, file.length, kind, bound) if len(spans) > 1 else [b"", b""]
+        size = sum(end - start for start, end in spans) + sum(map(len, heads))
         if len(spans) > 1:
             kind = f"multipart/byteranges; boundary={bound}"
         elif asked:
@@ -120,6 +147,7 @@ class Reader:
         if request.method == "HEAD":
             await response.prepare(request)
             return response
+        self.read_ahead(itertools.islice(file.pieces(*spans[0]), AHEAD))
         for name, length, _, _ in file.pieces(*spans[0]):  # the first piece is there before anything is said
             async with self.blob(name, length):
                 break
@@ -136,12 +164,18 @@ class Reader:
                 request.transport.abort()
         return response
 
+    def read_ahead(self, pieces: Iterable[tuple[bytes, int, int, int]]) -> None:
+        """Has pieces read, where there is room."""
+        for name, size, _, _ in pieces:
+            if self.stands(name):
+                self.cache.find(name, size)
+
     async def send_span(self, pace: "Pace", response: web.StreamResponse, file: File, span: ranges.Span) -> None:
-        following = itertools.islice(file.pieces(*span), 1, None)
+        self.read_ahead(itertools.islice(file.pieces(*span), AHEAD))
+        following = itertools.islice(file.pieces(*span), AHEAD, None)
         for name, size, start, end in file.pieces(*span):
             async with self.blob(name, size) as blob:
-                if (later := next(following, None)) and self.stands(later[0]):
-                    self.cache.find(later[0])  # it is read meanwhile, where there is room
+                self.read_ahead(itertools.islice(following, 1))
                 for place in range(start, end, SLICE):
                     behind = min(place + SLICE, end)
                     await self.write(pace, response, memoryview(blob)[place:behind])

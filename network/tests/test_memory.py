@@ -1,0 +1,238 @@
+"""The memory of a gateway: shares of it, and baskets into which slivers come, on each loop that is here."""
+import asyncio
+import contextlib
+import pathlib
+import random
+import ssl
+import sys
+import tempfile
+import unittest
+
+sys.path.insert(0, str(pathlib.Path(__file__).resolve().parents[2] / "clients" / "python"))
+
+from walrus import client, wire  # noqa: E402
+from walrus.network import certificates  # noqa: E402
+from walrus.network.pieces import Memory  # noqa: E402
+from walrus.streams import Basket, take_envelope, write_in_slices  # noqa: E402
+
+try:
+    import uvloop
+except ImportError:
+    uvloop = None
+
+
+async def settled() -> None:
+    """Lets all tasks go on as far as they can."""
+    for _ in range(20):
+        await asyncio.sleep(0)
+
+
+class Shares(unittest.IsolatedAsyncioTestCase):
+    async def asyncSetUp(self) -> None:
+        asyncio.get_running_loop().set_debug(False)
+        self.memory, self.steps = Memory(10), list[str]()
+        self.tasks = dict[str, "asyncio.Task[None]"]()
+        self.ends = dict[str, asyncio.Event]()
+
+    async def begin(self, name: str, size: int, later: int = 0) -> None:
+        """Has somebody take a share, and as much more as he said, until the event `ends` of his name."""
+
+        async def work() -> None:
+            async with self.memory.share(size, later) as share:
+                self.steps.append(name)
+                if later:
+                    async with share.more(later):
+                        self.steps.append(f"{name} more")
+                        await self.ends[name].wait()
+                else:
+                    await self.ends[name].wait()
+
+        self.ends[name] = asyncio.Event()
+        self.tasks[name] = asyncio.create_task(work())
+        await settled()
+
+    async def end(self, name: str) -> list[str]:
+        """Ends what somebody does; what went on by that."""
+        before = len(self.steps)
+        self.ends[name].set()
+        await self.tasks.pop(name)
+        await settled()
+        return self.steps[before:]
+
+    async def test_who_comes_while_another_uses_more(self) -> None:
+        await self.begin("a", 2, 6)
+        self.assertEqual((self.steps, self.memory.taken), (["a", "a more"], 8))
+        await self.begin("b", 2, 6)  # he finds more once the first has ended
+        await self.begin("c", 1)
+        self.assertEqual((self.steps, self.memory.taken), (["a", "a more", "b"], 10))
+        self.assertEqual(await self.end("a"), ["b more", "c"])
+        await self.begin("d", 2, 6)  # nothing is left for him to come
+        self.assertEqual((len(self.steps), self.memory.taken), (5, 9))
+        await self.end("c")
+        self.assertEqual((self.steps[5:], self.memory.taken, self.memory.grown), (["d"], 10, 6))
+        self.assertEqual(await self.end("b"), ["d more"])
+        await self.end("d")
+        self.assertEqual((self.memory.taken, self.memory.grown), (0, 0))
+
+    async def test_nobody_begins_while_one_waits_for_more(self) -> None:
+        share = self.memory.share(2, 6)
+        first = await share.__aenter__()
+        await self.begin("whole", 7)
+        more = first.more(6)
+        grown = asyncio.create_task(more.__aenter__())
+        await self.begin("small", 1)
+        self.assertEqual((self.steps, self.memory.taken), (["whole"], 9))
+        self.assertEqual(await self.end("whole"), ["small"])
+        await grown
+        self.assertEqual(self.memory.taken, 9)
+        await more.__aexit__(None, None, None)
+        await share.__aexit__(None, None, None)
+        await self.end("small")
+        self.assertEqual(self.memory.taken, 0)
+
+    async def test_who_wants_more_than_there_is_has_it_alone(self) -> None:
+        await self.begin("a", 8, 9)
+        await self.begin("b", 8, 9)
+        self.assertEqual((self.steps, self.memory.taken), (["a", "a more"], 17))
+        self.assertEqual(await self.end("a"), ["b", "b more"])
+        await self.end("b")
+
+    async def test_who_gives_up_leaves_nothing_behind(self) -> None:
+        await self.begin("a", 6)
+        await self.begin("b", 5)
+        self.tasks.pop("b").cancel()
+        await settled()
+        self.assertEqual((len(self.memory.waiting), self.memory.taken), (0, 6))
+        await self.end("a")
+        share = self.memory.share(1, 4)
+        first = await share.__aenter__()
+        await self.begin("c", 9)
+        more = first.more(4)
+        growing = asyncio.create_task(more.__aenter__())
+        await settled()
+        growing.cancel()
+        await settled()
+        self.assertEqual((self.memory.growing, self.memory.taken), ([], 10))
+        await self.end("c")
+        await share.__aexit__(None, None, None)
+        self.assertEqual(self.memory.taken, 0)
+
+    async def test_many_of_all_sizes_all_end(self) -> None:
+        drawn, most = random.Random(7), 0
+
+        async def work() -> None:
+            nonlocal most
+            size, later = drawn.randrange(1, 6), drawn.choice((0, drawn.randrange(1, 6)))
+            with contextlib.suppress(TimeoutError):
+                async with asyncio.timeout(drawn.choice((0.002, None))):
+                    async with self.memory.share(size, later) as share:
+                        await asyncio.sleep(drawn.random() / 1_000)
+                        async with share.more(later) if later else contextlib.nullcontext():
+                            most = max(most, self.memory.taken)
+                            await asyncio.sleep(drawn.random() / 1_000)
+                        share.shrink(size // 2)
+
+        async with asyncio.timeout(300):  # for ever, if one waits for what nobody gives back
+            await asyncio.gather(*(work() for _ in range(500)))
+        self.assertEqual((self.memory.taken, self.memory.grown, self.memory.growing), (0, 0, []))
+        self.assertEqual(list(self.memory.waiting), [])
+        self.assertIn(most, (9, 10))
+
+
+class Baskets(unittest.IsolatedAsyncioTestCase):
+    async def asyncSetUp(self) -> None:
+        accepted: "asyncio.Queue[wire.Wire]" = asyncio.Queue()
+
+        async def accept(other: wire.Wire) -> None:
+            accepted.put_nowait(other)
+
+        loop = asyncio.get_running_loop()
+        server = await loop.create_server(lambda: wire.Wire(accept), "127.0.0.1", 0)
+        self.addCleanup(server.close)
+        self.ends = list[tuple[wire.Wire, wire.Wire]]()
+        for _ in range(3):
+            own = await wire.connect(*server.sockets[0].getsockname())
+            self.ends.append((own, await accepted.get()))
+            self.addCleanup(own.transport.abort)
+            self.addCleanup(self.ends[-1][1].transport.abort)
+        drawn = random.Random(8)
+        self.large, self.small = [drawn.randbytes(400_000) for _ in range(3)], b"\x10 a metadata"
+
+    async def take(self, number: int, basket: Basket) -> bytes:
+        return (await take_envelope(self.ends[number][0], 999_999, basket))[1]
+
+    async def test_payloads_that_come_at_once_are_one_stream(self) -> None:
+        basket = Basket(2)
+        tasks = [asyncio.create_task(self.take(number, basket)) for number in (0, 1)]
+        for number in (0, 1):
+            self.ends[number][1].write(client.envelope(self.large[number])[:100_000])
+        while basket.places < 2:
+            await asyncio.sleep(0.01)
+        for number in (1, 0):
+            self.ends[number][1].write(client.envelope(self.large[number])[100_000:])
+        heard = [self.small, *await asyncio.gather(*tasks)]
+        stream = basket.stream(heard)
+        self.assertIsInstance(stream, memoryview)
+        self.assertIs(memoryview(stream).obj, basket.memory.obj)
+        self.assertEqual(bytes(stream), b"".join(map(client.envelope, [self.small, *self.large[:2]])))
+
+    async def test_a_payload_that_still_comes_is_no_part_of_it(self) -> None:
+        """What the program reads must not change meanwhile."""
+        basket = Basket(2)
+        late = asyncio.create_task(self.take(0, basket))
+        self.ends[0][1].write(client.envelope(self.large[0])[:-1])
+        while not basket.places:
+            await asyncio.sleep(0.01)
+        tasks = [asyncio.create_task(self.take(number, basket)) for number in (1, 2)]
+        for number in (1, 2):
+            self.ends[number][1].write(client.envelope(self.large[number]))
+        heard = [*await asyncio.gather(*tasks), self.small]
+        joined = basket.stream(heard)
+        self.assertIsInstance(joined, list)
+        self.assertEqual(b"".join(joined), b"".join(map(client.envelope, [*self.large[1:], self.small])))
+        basket.close()
+        self.assertIsNone(basket.place(400_000))
+        self.ends[0][1].write(self.large[0][-1:])
+        self.assertEqual(len(await late), 400_000)  # nothing is out of step
+
+    async def test_small_payloads_take_no_place(self) -> None:
+        basket = Basket(2)
+        self.ends[0][1].write(client.envelope(self.small))
+        self.assertEqual(await self.take(0, basket), self.small)
+        self.assertEqual((basket.places, len(basket.memory)), (0, 0))
+        self.assertEqual(b"".join(basket.stream([self.small])), client.envelope(self.small))
+
+
+class Loops(unittest.TestCase):
+    def test_wires_over_tls(self) -> None:
+        """uvloop has transports of classes of its own."""
+        folder = pathlib.Path(self.enterContext(tempfile.TemporaryDirectory()))
+        certificates.make_authority(folder / "authority")
+        certificates.make(folder / "node-0", folder / "authority", "node-0", ["node-0"])
+        for make in [asyncio.new_event_loop, *([uvloop.new_event_loop] if uvloop else [])]:
+            with asyncio.Runner(loop_factory=make) as runner:
+                runner.run(self.converse(folder))
+
+    async def converse(self, folder: pathlib.Path) -> None:
+        """Has a request answered by what a basket takes."""
+        own = ssl.create_default_context(ssl.Purpose.CLIENT_AUTH)
+        own.load_cert_chain(folder / "node-0.crt", folder / "node-0.key")
+        others, large = ssl.create_default_context(cafile=str(folder / "authority.crt")), bytes(range(250)) * 4_000
+
+        async def accept(other: wire.Wire) -> None:
+            _, request = await take_envelope(other, 999)
+            await write_in_slices(other, [request, large], 0)
+
+        loop, basket = asyncio.get_running_loop(), Basket(1)
+        server = await loop.create_server(lambda: wire.Wire(accept), "127.0.0.1", 0, ssl=own)
+        ours = await wire.connect(*server.sockets[0].getsockname(), ssl=others, server_hostname="node-0")
+        ours.write(client.envelope(b"ask"))
+        _, heard = await take_envelope(ours, 1_000_003, basket)
+        self.assertEqual(bytes(basket.stream([heard])), client.envelope(b"ask" + large))
+        ours.close()
+        server.close()
+        await asyncio.sleep(0.05)
+
+
+if __name__ == "__main__":
+    unittest.main()
