@@ -9,6 +9,7 @@ from unittest import mock
 
 from ledger_case import FOUNDED, FOUR, Chain, LedgerCase, Memory, registration
 from walrus.network import etcd, keeping, recorder
+from walrus.network.blobs import Blob
 from walrus.network.entries import OPERATOR, entry_key
 from walrus.network.etcd import FIRST, LAST, PIECES, coded
 from walrus.network.follower import Parted, View
@@ -65,6 +66,16 @@ class KeptCase(LedgerCase):
 
 @mock.patch.multiple(keeping, PAUSE=0.1, IDLE=2.0, SLACK=0)
 class Kept(KeptCase):
+    def test_a_blob_that_was_asked_for_in_vain_is_found_once_it_is_there(self) -> None:
+        blobs, name = State().blobs, bytes(32)
+        self.assertNotIn(name, blobs)
+        blobs[name] = Blob(3, "x")
+        self.assertIn(name, blobs)
+        blobs.expire(3)
+        self.assertNotIn(name, blobs)
+        blobs.take(iter([(name, 1, 9, "x", "[{},{}]", None, None)]))
+        self.assertIn(name, blobs)
+
     async def test_what_all_nodes_are_past_is_dropped_and_newcomers_hear_the_same(self) -> None:
         await self.say(*(registration("publisher", number, 2 + number % 3) for number in range(40)))
         async with self.following(self.user("publisher")) as early:

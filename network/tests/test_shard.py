@@ -18,10 +18,10 @@ from unittest import mock
 
 from harness import lacking
 
-from walrus import client
+from walrus import client, engines, kinds
 from walrus.frames import METADATA, PRIMARY, SECONDARY, code_of
 from walrus.network import handover, judge, recovery, scrub, shard
-from walrus.network.judge import Busy, Judges
+from walrus.network.judge import Busy, Judges, Unjudged
 from walrus.network.ledger import OPERATOR, Entry, Ledger, entry_key
 from walrus.network.local import find_program
 from walrus.network.node import Node
@@ -331,6 +331,42 @@ class Trouble(ShardCase):
         self.open()
         self.assertEqual(await self.read(whole.identifier), [bytes(it) for it in whole.parts[:2]])
         self.assertEqual(await self.shard.put_whole(whole), [])  # it is there already
+
+    async def test_small_blobs_that_come_at_once_are_judged_in_one_call(self) -> None:
+        assert self.store
+        if not isinstance(self.judges.engine, engines.Library):
+            self.skipTest("a process judges one blob at a time")
+        wholes, count = [await self.whole(250 * size) for size in (1, 2, 3, 4)], self.judges.count
+        wholes[1].parts[2][-1] ^= 1
+        self.ledger.blobs.expire(9)
+        for whole in wholes[:3]:
+            self.apply("x", "register", whole.identifier.hex(), 9)
+        said = await asyncio.gather(*map(self.shard.put_whole, wholes))
+        self.assertEqual([*map(code_of, said)], [13, kinds.UNVERIFIED, 13, shard.UNREGISTERED])
+        self.assertEqual(self.judges.count - count, 1)
+        self.assertTrue(self.store.flush())
+        self.open()
+        for whole in (wholes[0], wholes[2]):
+            self.assertEqual(await self.read(whole.identifier), [bytes(it) for it in whole.parts[:2]])
+        for whole in (wholes[1], wholes[3]):
+            self.assertEqual(self.shard.lacks(whole.identifier), [0, 1, 2])
+
+    async def test_a_blob_over_which_no_judgement_comes_spoils_no_other(self) -> None:
+        assert self.store
+        if not isinstance(self.judges.engine, engines.Library):
+            self.skipTest("a process judges one blob at a time")
+        wholes, all_of = [await self.whole(250 * size) for size in (1, 2, 3)], shard.judge_all
+
+        def judge_all(engine: Any, faults: int, number: int, some: Any, told: Any) -> Any:
+            if wholes[1] in some:
+                raise Unjudged("walrus serve ended")
+            return all_of(engine, faults, number, some, told)
+
+        with mock.patch("walrus.network.shard.judge_all", judge_all):
+            said = await asyncio.gather(*map(self.shard.put_whole, wholes), return_exceptions=True)
+        self.assertIsInstance(said[1], Unjudged)
+        self.assertEqual([code_of(it) for it in said[::2] if isinstance(it, list)], [13, 13])
+        self.assertEqual(code_of(await self.shard.put_whole(wholes[1])), 13)
 
     async def test_a_part_is_not_stored_where_what_it_rests_on_is_lost(self) -> None:
         for blob in (b"lost", bytes(LARGE)):

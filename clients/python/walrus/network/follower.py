@@ -88,15 +88,21 @@ class Recorders:
 
     async def post(self, key: str, seconds: Optional[float] = 20) -> int:
         """Posts an entry under the own name; its place, once the ledger has it, which is the first where it had it."""
-        taken: "asyncio.Future[int]" = asyncio.get_running_loop().create_future()
-        self.waiting.append((key.partition("/")[2], taken))
-        if self.sending is None or self.sending.done():
-            self.sending = asyncio.create_task(self.send())
+        taken = self.leave(key)
         try:
             async with asyncio.timeout(seconds):
                 return await taken
         except TimeoutError:
             raise Unreachable(f"no recorder took {key[:100]} within {seconds:g} s: {self.said}") from None
+
+    def leave(self, key: str) -> "asyncio.Future[int]":
+        """Has an entry posted under the own name, for which nobody need wait; its place."""
+        taken: "asyncio.Future[int]" = asyncio.get_running_loop().create_future()
+        taken.add_done_callback(lambda it: it.cancelled() or it.exception())  # which nobody need hear
+        self.waiting.append((key.partition("/")[2], taken))
+        if self.sending is None or self.sending.done():
+            self.sending = asyncio.create_task(self.send())
+        return taken
 
     async def send(self) -> None:
         """Posts what waits: what comes while a recorder is asked goes with the next request."""

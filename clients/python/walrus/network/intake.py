@@ -1,12 +1,10 @@
 """Blobs that come whole to a node: they are stored by one judgement, and the node's word for them follows by itself."""
 import asyncio
-import contextlib
-from typing import TYPE_CHECKING
+from typing import TYPE_CHECKING, Optional
 
 from .. import client
 from ..frames import answer, code_of
 
-from .follower import Refused
 from .ledger import ACK, entry_key
 from .shard import DECLINED, Shard
 from .whole import Whole
@@ -21,7 +19,8 @@ class Intake:
     """What comes whole to a node."""
 
     def __init__(self, node: "Node"):
-        self.node, self.words = node, set["asyncio.Task[None]"]()  # that are given, and wait for disk and ledger
+        self.node, self.words = node, list[tuple[int, str]]()  # that wait for the disk; what was lost before them
+        self.giving: Optional["asyncio.Task[None]"] = None
 
     async def expect(self, request: memoryview) -> None:
         """Waits until the registration of a blob is heard, but not for long."""
@@ -46,20 +45,29 @@ class Intake:
             said = await shard.answer(whole.wish)
         if code_of(said) not in client.COUNTS:
             return said
-        task = asyncio.create_task(self.give_word(shard, identifier))
-        self.words.add(task)
-        task.add_done_callback(self.words.discard)
+        self.give_word(shard, identifier)
         return [answer(client.DONE)]
 
-    async def give_word(self, shard: Shard, identifier: bytes) -> None:
-        """Posts the node's word once what it rests on is on the disk, and all its other shards hold as much."""
-        node, losses = self.node, self.node.store.losses
-        holds = all(it.vouches(ACK, identifier) for it in node.sides.get(shard.epoch, {}).values())
-        if holds and await node.durable() and node.store.losses == losses:
-            with contextlib.suppress(Refused):  # the epoch is another one meanwhile, or the blob's time is over
-                await node.recorders.post(entry_key(node.name, ACK, shard.epoch, identifier.hex()), None)
+    def give_word(self, shard: Shard, identifier: bytes) -> None:
+        """Has the node's word given for what a shard holds, where all its other shards hold as much."""
+        node, others = self.node, self.node.sides.get(shard.epoch, {}).values()
+        if all(it is shard or it.vouches(ACK, identifier) for it in others):
+            self.words.append((node.store.losses, entry_key(node.name, ACK, shard.epoch, identifier.hex())))
+            if self.giving is None or self.giving.done():
+                self.giving = asyncio.create_task(self.give_words())
+
+    async def give_words(self) -> None:
+        """Posts words once what they rest on is on the disk. One is refused where the epoch is another one meanwhile,
+        or the blob's time is over."""
+        node = self.node
+        while self.words:
+            words, self.words = self.words, []
+            if await node.durable():
+                for losses, word in words:
+                    if node.store.losses == losses:
+                        node.recorders.leave(word)
 
     async def close(self) -> None:
-        for task in self.words:
-            task.cancel()
-        await asyncio.gather(*self.words, return_exceptions=True)
+        if self.giving:
+            self.giving.cancel()
+            await asyncio.gather(self.giving, return_exceptions=True)

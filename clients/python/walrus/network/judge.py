@@ -188,7 +188,11 @@ class Judges:
     async def ask(self, size: int, step: Callable[..., Result], *words: object) -> Result:
         """What a judge gives who is told and asked so many bytes."""
         async with self.room.take(need_of(size)):
-            return await self.work(step, *words, here=size < SHORT and isinstance(self.engine, Library))
+            return await self.work(step, *words, here=self.here(size))
+
+    def here(self, size: int) -> bool:
+        """Whether so many bytes are judged in place, as that is faster than another thread would begin to."""
+        return size < SHORT and isinstance(self.engine, Library)
 
     async def run(self, *words: object, data: Union[client.Data, Sequence[client.Data]] = b"") -> tuple[int, bytes]:
         """The status and the output of the program, as `client.Walrus` has them."""

@@ -16,7 +16,8 @@ from . import judge
 from .judge import Judges
 from .ledger import ACK, ATTEST, Ledger
 from .store import Part, Store
-from .whole import Whole
+from .together import Together
+from .whole import Whole, judge_all
 
 SMALL = 65_536  # bytes of the longest content that SQLite has
 UNREGISTERED, DECLINED, FULL, NO_MEMORY = 1, 5, 6, 7
@@ -67,6 +68,9 @@ class Shard:
     damaged: Callable[[bytes], None]
     reserve: float = 0
 
+    def __post_init__(self) -> None:
+        self.together = Together(self.judged_together)
+
     @property
     def title(self) -> str:
         return f"shard {self.number} of epoch {self.epoch}"
@@ -107,6 +111,18 @@ class Shard:
         found = await self.judges.ask(size, step, told, held)
         self.must_serve()
         return Judged(requests, *found, revision, losses, size)
+
+    async def judged_together(self, wholes: Sequence[Whole]) -> list[Judged]:
+        """What one call of the judge gives over blobs of which nothing is held. Who asks has them for himself."""
+        self.must_serve()
+        ledger, losses = self.ledger, self.store.losses
+        revision, told = ledger.revision, [entries_of(ledger, self.epoch, it.identifier) for it in wholes]
+        requests = [[*it.parts, it.wish] for it in wholes]
+        sizes = [sum(map(len, it)) for it in requests]
+        step = functools.partial(judge_all, self.judges.engine, ledger.faults, self.number, wholes, told)
+        found = await self.judges.ask(sum(sizes), step)
+        self.must_serve()
+        return [Judged(*it, [], revision, losses, size) for it, size in zip(zip(requests, found), sizes)]
 
     def over(self, request: bytes, told: list[bytes], held: Sequence[Part]) -> Found:
         """The judge's reply to a request over these entries and parts, and which parts are not what they should be."""
@@ -176,7 +192,10 @@ class Shard:
                 return [answer(DECLINED)]  # the next committee has begun with what was held then
             if self.store.sizes(self.holding, self.epoch, identifier) or self.store.wrong(self.holding, identifier):
                 return []
-            judged = await self.judged(identifier, [*whole.parts, whole.wish], step)
+            if self.judges.here(whole.end - whole.start):
+                judged = await self.together.judged(whole)
+            else:
+                judged = await self.judged(identifier, [*whole.parts, whole.wish], step)
             for reply in judged.replies[:3]:
                 if code_of(reply) != client.DONE:
                     return reply

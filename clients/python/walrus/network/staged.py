@@ -29,6 +29,7 @@ class Staged:
             self.lock.close()
             raise OSError(f"another process runs over {path}: end that one first, or name another database") from None
         self.pending: Optional["asyncio.Future[bool]"] = None  # whether what is staged came to the disk
+        self.flushed: Optional[asyncio.TimerHandle] = None  # when that is tried
         self.files = Files(path.with_suffix(".parts"))
         self.pool = concurrent.futures.ThreadPoolExecutor(THREADS, "disk")  # asyncio's own looks names up, perhaps long
         self.named, self.dropped = list[str](), list[str]()  # files that what is staged names, and no longer names
@@ -54,7 +55,7 @@ class Staged:
                 self.base.execute("BEGIN IMMEDIATE")
                 loop = asyncio.get_running_loop()
                 self.pending = loop.create_future()
-                loop.call_later(LATER, self.flush)
+                self.flushed = loop.call_later(LATER, self.flush)
             return self.base.execute(words, values)
         except sqlite3.Error as fault:
             self.lose(fault)
@@ -76,6 +77,9 @@ class Staged:
 
     def settle(self, written: bool) -> None:
         pending, self.pending = self.pending, None
+        if self.flushed:
+            self.flushed.cancel()
+            self.flushed = None
         self.abandon(self.dropped if written else self.named)
         self.named, self.dropped = [], []
         if pending:
@@ -98,10 +102,14 @@ class Staged:
         self.settle(True)
         return True
 
-    def written(self) -> Optional["asyncio.Future[bool]"]:
-        """Whether what is staged now comes to the disk, which is tried soon; nothing where nothing is staged."""
-        if self.pending:
-            asyncio.get_running_loop().call_later(SOON, self.flush)
+    def written(self, seconds: float = SOON) -> Optional["asyncio.Future[bool]"]:
+        """Whether what is staged now comes to the disk, which is tried in so many seconds at the latest; nothing where
+        nothing is staged."""
+        loop = asyncio.get_running_loop()
+        if self.pending and (not self.flushed or self.flushed.when() > loop.time() + seconds):
+            if self.flushed:
+                self.flushed.cancel()
+            self.flushed = loop.call_later(seconds, self.flush)
         return self.pending
 
     async def persist(self, stage: Callable[[], None]) -> None:

@@ -47,13 +47,15 @@ class Kept(Blobs):
     def __init__(self, base: sqlite3.Connection, sizes: Optional[dict[str, int]] = None):
         super().__init__()
         self.base, self.numbers = base, dict[bytes, int]()  # of the blobs that were set since
+        self.absent = set[bytes]()  # some that are not there
         self.sizes = {"registered": 0, "certified": 0, "invalid": 0, "number": 0} | (sizes or {})
 
     def __getitem__(self, identifier: bytes) -> Blob:
         if identifier not in self.kept:
             words = "SELECT until, poster, votes FROM blobs WHERE identifier = ?"
-            row = self.base.execute(words, (identifier,)).fetchone()
+            row = None if identifier in self.absent else self.base.execute(words, (identifier,)).fetchone()
             if row is None:
+                self.absent.add(identifier) if len(self.absent) < CACHED else self.absent.clear()
                 raise KeyError(identifier)
             self.keep(identifier, blob_of(*row))
         return self.kept[identifier]
@@ -64,6 +66,7 @@ class Kept(Blobs):
             for some in [*self.kept][: CACHED // 4 + 1]:
                 del self.kept[some]
         self.kept[identifier] = blob
+        self.absent.discard(identifier)
 
     def flush(self) -> sqlite3.Connection:
         """The database once it has all that was set."""
@@ -81,8 +84,9 @@ class Kept(Blobs):
     def __setitem__(self, identifier: bytes, blob: Blob) -> None:
         old = self.get(identifier)
         for name, kind in (("certified", ACK), ("invalid", ATTEST)):
-            was = bool(old and old.quorum(kind, self.needed))
-            self.sizes[name] += bool(blob.quorum(kind, self.needed)) - was
+            if not old or old.votes[kind] is not blob.votes[kind]:
+                was = bool(old and old.quorum(kind, self.needed))
+                self.sizes[name] += bool(blob.quorum(kind, self.needed)) - was
         self.keep(identifier, blob)
         if not old:
             self.sizes["registered"] += 1
@@ -138,12 +142,13 @@ class Kept(Blobs):
     def forget(self) -> None:
         """Forgets what was set and is not in the database."""
         self.kept.clear()
+        self.absent.clear()
         self.numbers.clear()
 
     def take(self, rows: Iterator[checkpoint.Row]) -> list[bytes]:
         """Has these blobs alone; those that were here and are no more."""
         self.flush().execute("CREATE TEMP TABLE before AS SELECT identifier FROM blobs")
-        self.kept.clear()
+        self.forget()
         self.base.execute("DELETE FROM blobs")
         for name in INDEXES:  # made at once they cost less
             self.base.execute(f"DROP INDEX {name}")

@@ -2,6 +2,7 @@
 
 The judge is given the request where it lies: what the ledger says is written before the parts, and the wish behind."""
 import dataclasses
+import functools
 from typing import Optional, Sequence
 
 from walrus.engines import Engine
@@ -75,6 +76,26 @@ class Whole:
         data, count = self.memory[begin:][: len(words) + self.end - self.start - 1 + WISH], len(told) + 4
         return judge.serve(engine, faults, shard, pages, data, count, 512 * count)[len(told) :]  # noqa: E203
 
-    @property
+    @functools.cached_property
     def wish(self) -> bytes:
         return client.write_frame(client.Ack(self.identifier))
+
+
+def judge_all(
+    engine: Engine, faults: int, shard: int, wholes: Sequence[Whole], told: Sequence[Sequence[bytes]]
+) -> list[list[list[bytes]]]:
+    """What a shard that holds nothing replies to the parts of several blobs and the wish for each, after what it is
+    told of that blob."""
+    stream, pages, count = bytearray(), 0, 0
+    for whole, words in zip(wholes, told):
+        stream += b"".join(map(client.envelope, words))
+        stream += whole.memory[whole.start + 1 : whole.end]  # noqa: E203
+        stream += client.envelope(whole.wish)
+        pages += sum(pages_of(part) for part in whole.parts)
+        count += len(words) + 4
+    replies = judge.serve(engine, faults, shard, pages, stream, count, 512 * count)
+    found, place = list[list[list[bytes]]](), 0
+    for words in told:
+        place += len(words) + 4
+        found.append(replies[place - 4 : place])  # noqa: E203
+    return found
