@@ -8,9 +8,11 @@ import time
 from collections.abc import Iterable, Sequence
 from typing import NamedTuple, Optional, Union
 
+from .baskets import Basket
 from .kinds import DONE, KINDS, Answer, Clash, Fault, in_words
 from .shapes import Shape
-from .streams import Basket, Data, Sink, Source, Streams, take_envelope, write_in_slices
+from .streams import Sink, Source, Streams, take_envelope, write_in_slices
+from .wire import Data
 
 SECONDS = 10.0  # a deadline for what is asked at once
 LONGEST_REPLY = 4  # the frames of a reply, with the last answer
@@ -29,10 +31,10 @@ class Asked(bytes):
     basket: Basket
 
     @classmethod
-    def of(cls, payload: bytes, count: int) -> "Asked":
-        """A request of which so many replies are needed."""
+    def of(cls, payload: bytes, count: int, most: int) -> "Asked":
+        """A request of which so many replies are needed, of at most so many."""
         made = cls(payload)
-        made.basket = Basket(count)
+        made.basket = Basket(count, most)
         return made
 
 
