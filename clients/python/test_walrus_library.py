@@ -13,6 +13,7 @@ import sys
 import tempfile
 import threading
 import unittest
+from unittest import mock
 
 TOP = pathlib.Path(__file__).resolve().parents[2]
 sys.path[:0] = [str(TOP / "tests"), str(TOP / "clients" / "python")]
@@ -149,6 +150,20 @@ class Calls:
         self.assertEqual(caught.exception.words, "missing column 2")
         with self.assertRaisesRegex(walrus.Lacking, "too many members"):
             walrus.bundle([b"", b"", b""], 1)
+
+    def test_one_call_is_enough(self) -> None:
+        """The library says the room of an answer to many draws, which is longer than the input, and of a bundle."""
+        engine = walrus.engine()
+        if not isinstance(engine, walrus.Library):
+            self.skipTest("a process needs no room")
+        made = walrus.encode(bytes(3_000), 1)
+        held = [made.metadata, *made.slivers[1]]
+        with mock.patch.object(engine, "call", wraps=engine.call) as called:
+            answer = walrus.challenge(made.identifier, 1, BEACON, 60, held)
+            self.assertEqual((called.call_count, len(list(walrus.split(answer)))), (1, 60))
+            self.assertGreater(len(answer), sum(map(len, held)) + 4_096)
+            walrus.bundle([bytes(9_000)], 1)
+            self.assertEqual(called.call_count, 2)
 
     def test_challenges(self) -> None:
         made = walrus.encode(SIX_WORDS, 1)

@@ -3,6 +3,7 @@ import argparse
 import asyncio
 import collections
 import contextlib
+import io
 import os
 import pathlib
 import random
@@ -11,6 +12,7 @@ import shutil
 import signal
 import subprocess
 import sys
+import tarfile
 import tempfile
 import time
 from typing import Any, AsyncIterator, Awaitable, Callable, Iterator
@@ -26,7 +28,7 @@ from walrus import loop  # noqa: E402
 NODES = ["node-0", "node-1", "node-2", "node-3"]
 SMALL, WIDTH, TICKS = 4_096, 16, os.sysconf("SC_CLK_TCK")
 PART = 16_777_216
-PARTS = ["piece", "large", "small", "syncs", "killed"]
+PARTS = ["piece", "large", "small", "folders", "syncs", "killed"]
 
 
 def roles(local: Local) -> Iterator[tuple[str, int]]:
@@ -126,6 +128,33 @@ class Bench:
         await self.row("4 KiB in, one after the other", SMALL * count, count, lambda: store(1))
         await self.row(f"4 KiB in, {WIDTH} at once", SMALL * count, count, lambda: store(WIDTH))
         await self.row("4 KiB out", SMALL * count, count, read)
+
+    async def folders(self, count: int) -> None:
+        """A folder of small files in, in again, and some of its files out."""
+        drawn, out = random.Random(7), io.BytesIO()
+        with tarfile.open(fileobj=out, mode="w") as made:
+            for number in range(count):
+                told = tarfile.TarInfo(f"{number % 97}/{number}.html")
+                told.size = drawn.randrange(1, 2 * SMALL)
+                made.addfile(told, io.BytesIO(drawn.randbytes(told.size)))
+        data, name, some = out.getvalue(), "", min(200, count)
+
+        async def store() -> None:
+            nonlocal name
+            kind = {"Content-Type": "application/x-tar"}
+            async with self.session.put(f"{self.url}/v1/folders?epochs=9", data=data, headers=kind) as response:
+                response.raise_for_status()
+                name = str((await response.json())["blobId"])
+
+        async def read() -> None:
+            for number in drawn.sample(range(count), some):
+                async with self.session.get(f"{self.url}/v1/folders/{name}/{number % 97}/{number}.html") as response:
+                    response.raise_for_status()
+                    await response.read()
+
+        await self.row(f"a folder of {count} files in, each", len(data), count, store)
+        await self.row("the same again, each", len(data), count, store)
+        await self.row(f"{some} files of it out, each", some * SMALL, some, read)
 
     async def syncs(self, what: str, count: int, step: Callable[[], Awaitable[object]]) -> None:
         """Tells how many syncs each kind of process makes for a file."""
@@ -241,6 +270,8 @@ async def measure(words: argparse.Namespace) -> None:
                     name = await bench.large(words.size)
                 if "small" in parts:
                     await bench.small(words.small)
+                if "folders" in parts:
+                    await bench.folders(words.folders)
                 if "syncs" in parts:
                     await syncs(bench)
                 told = memory(bench.local)
@@ -257,6 +288,7 @@ def main() -> int:
     parser = argparse.ArgumentParser(description="Measures a gateway over four nodes on this machine.")
     parser.add_argument("--size", type=int, default=256 * 2**20, help="bytes of the large file")
     parser.add_argument("--small", type=int, default=300, help="files of 4 KiB")
+    parser.add_argument("--folders", type=int, default=10_000, help="files of a folder")
     parser.add_argument("--parts", nargs="+", choices=PARTS, help="what is measured; all, if it is left out")
     parser.add_argument("--uvloop", action="store_true", help="have gateway, nodes and recorder run on uvloop")
     parser.add_argument("--nginx", action="store_true", help="measure nginx as well: dav, one copy")

@@ -89,6 +89,24 @@ class Browser(contextlib.AbstractAsyncContextManager["Browser"]):
         path.write_bytes(base64.b64decode((await self.call("Page.captureScreenshot"))["data"]))
 
     async def press(self, key: str) -> None:
-        codes = {"Tab": 9, "Enter": 13}
+        words: dict[str, object] = {"key": key, "windowsVirtualKeyCode": {"Tab": 9, "Enter": 13}[key]}
+        words |= {"text": "\r"} if key == "Enter" else {}
         for kind in ("keyDown", "keyUp"):
-            await self.call("Input.dispatchKeyEvent", type=kind, key=key, windowsVirtualKeyCode=codes[key])
+            await self.call("Input.dispatchKeyEvent", type=kind, **words)
+
+    async def type(self, text: str) -> None:
+        await self.call("Input.insertText", text=text)
+
+    async def choose(self, name: str, *paths: pathlib.Path) -> None:
+        """Has a field take files."""
+        said = await self.call("Runtime.evaluate", expression=f"document.getElementById('{name}')")
+        place = said["result"]["objectId"]
+        await self.call("DOM.setFileInputFiles", files=[str(it) for it in paths], objectId=place)
+
+    async def drop(self, name: str, *paths: pathlib.Path) -> None:
+        """Drags files over an element, and lets them go there."""
+        middle = f"(it => [it.x + it.width / 2, it.y + it.height / 2])({name}.getBoundingClientRect())"
+        x, y = await self.evaluate(middle)
+        data = {"items": [], "files": [str(it) for it in paths], "dragOperationsMask": 1}
+        for kind in ("dragEnter", "dragOver", "drop"):
+            await self.call("Input.dispatchDragEvent", type=kind, x=x, y=y, data=data)

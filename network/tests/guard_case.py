@@ -43,7 +43,7 @@ class GuardCase(LedgerCase):
         self.port = await self.gateway.listen(host)
         self.url = f"http{'s' * bool(self.gateway.certificate)}://{host}:{self.port}"
 
-    async def store(self, stream: AsyncIterator[bytes], epochs: int) -> dict[str, Any]:
+    async def store(self, stream: AsyncIterator[bytes], epochs: int, _: object = None) -> dict[str, Any]:
         data = b"".join([part async for part in stream])
         self.stored.append(data)
         name = hashlib.sha256(data).hexdigest()

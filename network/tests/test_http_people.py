@@ -5,6 +5,8 @@ import os
 import pathlib
 import random
 import re
+import shlex
+import shutil
 import signal
 import unittest
 from typing import Union
@@ -41,9 +43,12 @@ class People(UpCase):
         await self.words("fetch", name, "--output", self.folder / "out")
         self.assertEqual((self.folder / "out").read_bytes(), file.read_bytes())
         self.assertIn("node-2: shards 2, ", await self.words("status"))
-        self.assertIn("acknowledged it in epoch 0", await self.words("status", name))
+        self.assertRegex(
+            await self.words("status", name), "[34] shards acknowledged it in epoch 0, [34] shards are there"
+        )
         self.assertIn("node-1 holds it", await self.words("challenge", name, "node-1"))
         await self.bundles(file)
+        await self.encrypted(file)
         self.assertIn("no such blob", await self.words("fetch", "0" * 64, status=4))
         self.assertIn("No such file", await self.words("store", self.folder / "none", *once, status=1))
         self.assertIn("is the gateway running", await self.words("status", "--gateway", "http://127.0.0.1:1", status=1))
@@ -155,6 +160,30 @@ class People(UpCase):
         )
         self.assertIn("has 2 members", await self.words("fetch", f"{said[0].split()[0]}/2", status=4))
 
+    async def encrypted(self, file: pathlib.Path) -> None:
+        """The example with age in HTTP.md: what is stored is no longer the file, and comes back as it."""
+        if not shutil.which("age"):
+            return
+        page = (HERE.parent / "HTTP.md").read_text()
+        lines = [it[2:] for it in page.splitlines() if it.startswith("$ age") or "| age -d" in it]
+        self.assertEqual(len(lines), 3)
+        net, key = str(HERE.parent / "walrus-net"), "$(sed -n 's/^# public key: //p' key.txt)"
+        words = [lines[0], f"name=$({lines[1]} | cut -d' ' -f1)", lines[2], 'walrus-net fetch "$name" --output stored']
+        script = "\n".join(["set -e", f'walrus-net() {{ {shlex.quote(net)} "$@"; }}', *words])
+        script = script.replace("age1…", key).replace("ID", '"$name"').replace("> FILE", "> back")
+        script = script.replace("FILE", shlex.quote(str(file)))
+        pipes = {"stdout": asyncio.subprocess.PIPE, "stderr": asyncio.subprocess.STDOUT}
+        environment = {**os.environ, "WALRUS_GATEWAY": self.url}
+        folder = self.folder / "encrypted"
+        folder.mkdir()
+        process = await asyncio.create_subprocess_exec(
+            "bash", "-c", script, cwd=folder, env=environment, **pipes  # type: ignore[arg-type]
+        )
+        said, _ = await process.communicate()
+        self.assertEqual(process.returncode, 0, said)
+        self.assertEqual((folder / "back").read_bytes(), file.read_bytes())
+        self.assertTrue((folder / "stored").read_bytes().startswith(b"age-encryption.org/v1\n"))
+
     async def page(self, name: str, folder: pathlib.Path) -> None:
         if not PROGRAM:
             self.skipTest("chromium is not here (apt-get install chromium)")
@@ -168,8 +197,11 @@ class People(UpCase):
             date = json.loads(await self.words("status", "--json"))["calendar"]["next"][:10]
             wanted = f"Epoch 1, planned until {date}, 4 shards of which 1 may fail; 4 of 4 nodes answer."
             self.assertTrue(await browser.until(f"{text} === '{wanted}'"))
+            planned = "document.getElementById('epoch-text').textContent"
+            self.assertTrue(await browser.until(f"{planned} === 'Epoch 1: 0 % of its planned time is over'"))
             os.kill(self.process_of(folder, "node-2"), signal.SIGKILL)
             self.assertTrue(await browser.until(f"{text}.includes('3 of 4 nodes')"))
+            await self.shards(browser, name)
             etcd, fault = self.etcd_of(folder), "document.getElementById('fault')"
             os.kill(etcd, signal.SIGSTOP)
             try:
@@ -178,7 +210,7 @@ class People(UpCase):
             finally:
                 os.kill(etcd, signal.SIGCONT)
             self.assertTrue(await browser.until(f"{fault}.hidden"))
-            for width, dark in ((1_100, False), (390, True)):
+            for width, dark in ((1_100, False), (390, True), (320, False)):
                 await browser.look(width, 900, dark)
                 self.assertLessEqual(await browser.evaluate("document.documentElement.scrollWidth"), width)
                 colors = await browser.evaluate(
@@ -187,7 +219,24 @@ class People(UpCase):
                 bright = [sum(map(int, re.findall(r"\d+", it))) > 382 for it in colors]
                 self.assertEqual(bright, [dark, not dark], colors)
             await browser.press("Tab")
-            self.assertTrue(await browser.evaluate("document.activeElement.matches('a:focus-visible')"))
+            self.assertTrue(await browser.evaluate("document.activeElement.matches(':focus-visible')"))
+
+    async def shards(self, browser: Browser, name: str) -> None:
+        """What the page tells of nodes, and of a blob's shards while a node is away."""
+        rows = "[...document.querySelectorAll('#{} tr')].map(it => it.textContent)"
+        nodes, files = rows.format("nodes"), rows.format("blobs")
+        for word in (r"\\d blobs, \\S+ [kM]?B", r"free of \\S+ [GT]B", "up to date"):
+            self.assertTrue(await browser.until(f"{nodes}.some(it => new RegExp('{word}').test(it))"), word)
+        own = f"{files}.find(it => it.startsWith('{name[:16]}'))"
+        self.assertTrue(await browser.until(f"/50.0 kB.*3 of 4/.test({own})"), await browser.evaluate(files))
+        await browser.evaluate(f"document.querySelector('button[title$=\"{name}\"]').click()")
+        grid = "[...document.querySelectorAll('#grid li')].map(it => [it.className, it.textContent])"
+        self.assertTrue(await browser.until(f"{grid}.length === 4"))
+        found = await browser.evaluate(grid)
+        self.assertEqual([kind for kind, _ in found], ["good", "good", "bad", "good"], found)
+        self.assertIn("2: node-2its node does not answer", found[2][1])
+        said = await browser.evaluate("document.getElementById('blob-said').textContent")
+        self.assertIn("3 of 4 shards are there now, 2 are needed", said)
 
 
 if __name__ == "__main__":

@@ -1,4 +1,4 @@
-"""A gateway as others meet it: behind the nginx of network/OPERATING.md, and in a browser that is led to it."""
+"""A gateway as others meet it: behind nginx and haproxy as OPERATING.md has them, and in a browser led to it."""
 import asyncio
 import contextlib
 import hashlib
@@ -17,31 +17,24 @@ from walrus.network import certificates
 from walrus.network.follower import Resolver
 from walrus.network.local import free_port
 
-NGINX = shutil.which("nginx") or shutil.which("nginx", path="/usr/sbin")
+NGINX, HAPROXY = (shutil.which(it) or shutil.which(it, path="/usr/sbin") for it in ("nginx", "haproxy"))
 
 
-@unittest.skipUnless(NGINX and other_address(), "nginx, or an address that others reach, is not here")
 class Proxied(GuardCase):
+    """A gateway behind a server that the page tells of, at an address that others reach."""
+
     async def asyncSetUp(self) -> None:
         await super().asyncSetUp()
         log = self.folder / "access.log"
         await self.start(proxies=["127.0.0.1"], names=["blobs.example"], log=str(log))
         certificates.make(self.folder / "blobs.example", self.folder / "authority", "blobs.example", ["blobs.example"])
+        both = [(self.folder / f"blobs.example.{it}").read_text() for it in ("crt", "key")]
+        (self.folder / "blobs.example.pem").write_text("".join(both))
         self.context = ssl.create_default_context(cafile=self.folder / "authority.crt")
         self.place, self.log = (other_address(), free_port()), log
-        told = (HERE.parent / "OPERATING.md").read_text()
-        found = re.search(r"```nginx\n(.*?)```", told, re.DOTALL)
-        assert found
-        text = found[1].replace("127.0.0.1:31415", f"127.0.0.1:{self.port}").replace("/etc/ssl", str(self.folder))
-        text = text.replace("listen 443 ssl", f"listen {self.place[0]}:{self.place[1]} ssl")
-        kinds = "client_body", "proxy", "fastcgi", "uwsgi", "scgi"
-        words = "".join(f"{it}_temp_path {self.folder}/{it};" for it in kinds) + "access_log off;"
-        frame = f"daemon off; pid {self.folder}/pid; error_log {self.folder}/nginx.log; events {{}}"
-        (self.folder / "nginx.conf").write_text(f"{frame}\nhttp {{ {words}\n{text}}}\n")
         os.chmod(self.folder, 0o755)
-        line = [str(NGINX), "-p", str(self.folder), "-c", str(self.folder / "nginx.conf")]
-        with open(self.folder / "nginx.log", "wb") as said:
-            process = await asyncio.create_subprocess_exec(*line, stderr=said)
+        with open(self.folder / "server.log", "wb") as said:
+            process = await asyncio.create_subprocess_exec(*self.line(), stdout=said, stderr=said)
         self.addAsyncCleanup(process.wait)
         self.addCleanup(lambda: process.returncode is None and process.terminate())
         async with asyncio.timeout(30):
@@ -50,13 +43,24 @@ class Proxied(GuardCase):
                     _, writer = await asyncio.open_connection(*self.place)
                     writer.close()
                     break
-                self.assertIsNone(process.returncode, (self.folder / "nginx.log").read_text())
+                self.assertIsNone(process.returncode, (self.folder / "server.log").read_text())
                 await asyncio.sleep(0.05)
         self.url = f"https://blobs.example:{self.place[1]}"
         connector = aiohttp.TCPConnector(resolver=Resolver(self.place[0]), ssl=self.context)
         self.session = await self.enterAsyncContext(aiohttp.ClientSession(connector=connector))
 
-    async def test_strangers_and_customers(self) -> None:
+    def line(self) -> list[str]:
+        """The command that runs the server."""
+        raise NotImplementedError
+
+    def told(self, kind: str) -> str:
+        """What the page says, for this place."""
+        page = (HERE.parent / "OPERATING.md").read_text()
+        found = re.search(f"```{kind}\n(.*?)```", page, re.DOTALL)
+        assert found
+        return found[1].replace("127.0.0.1:31415", f"127.0.0.1:{self.port}").replace("/etc/ssl", str(self.folder))
+
+    async def strangers_and_customers(self) -> None:
         forged = {"X-Forwarded-For": "127.0.0.1"}
         for headers in ({}, forged, {**forged, "Origin": "https://blobs.example"}):
             self.assertEqual(await self.put(headers=headers), 403)
@@ -74,11 +78,42 @@ class Proxied(GuardCase):
         lines = self.log.read_text().splitlines()
         self.assertEqual({line.split()[0] for line in lines}, {self.place[0]})
         self.assertIn("alice", {line.split()[2] for line in lines})
+        begun = {**alice, "Upload-Complete": "?0", "Upload-Draft-Interop-Version": "6"}
+        status, headers, _ = await self.ask("POST", "/v1/uploads?epochs=1", data=b"12345", headers=begun)
+        self.assertEqual((status, headers["upload-offset"]), (201, "5"))
+        more = {**alice, "Upload-Offset": "5", "Upload-Complete": "?0", "Content-Type": "application/partial-upload"}
+        status, headers, _ = await self.ask("PATCH", headers["location"], data=bytes(9_000_000), headers=more)
+        self.assertEqual((status, headers["upload-offset"]), (204, "9000005"))
+
+
+@unittest.skipUnless(NGINX and other_address(), "nginx, or an address that others reach, is not here")
+class Nginx(Proxied):
+    def line(self) -> list[str]:
+        text = self.told("nginx").replace("listen 443 ssl", f"listen {self.place[0]}:{self.place[1]} ssl")
+        kinds = "client_body", "proxy", "fastcgi", "uwsgi", "scgi"
+        words = "".join(f"{it}_temp_path {self.folder}/{it};" for it in kinds) + "access_log off;"
+        frame = f"daemon off; pid {self.folder}/pid; error_log {self.folder}/nginx.log; events {{}}"
+        (self.folder / "nginx.conf").write_text(f"{frame}\nhttp {{ {words}\n{text}}}\n")
+        return [str(NGINX), "-p", str(self.folder), "-c", str(self.folder / "nginx.conf")]
+
+    async def test_strangers_and_customers(self) -> None:
+        await self.strangers_and_customers()
 
     async def test_who_goes_round_it_is_a_stranger(self) -> None:
         """What another server passes on without being told of, or nobody, does not come from this machine."""
         self.gateway.guard.proxies.clear()
         self.assertEqual((await self.put(), self.stored), (403, []))
+
+
+@unittest.skipUnless(HAPROXY and other_address(), "haproxy, or an address that others reach, is not here")
+class Haproxy(Proxied):
+    def line(self) -> list[str]:
+        text = self.told("haproxy").replace("bind :443", f"bind {self.place[0]}:{self.place[1]}")
+        (self.folder / "haproxy.cfg").write_text(text)
+        return [str(HAPROXY), "-db", "-f", str(self.folder / "haproxy.cfg")]
+
+    async def test_strangers_and_customers(self) -> None:
+        await self.strangers_and_customers()
 
 
 @unittest.skipUnless(PROGRAM, "chromium is not here (apt-get install chromium)")
@@ -127,7 +162,7 @@ class InABrowser(GuardCase):
             await browser.evaluate(f"document.getElementById('token-text').value = '{alice}'")
             await browser.evaluate("document.querySelector('#token button').click()")
             self.assertTrue(await browser.until("document.getElementById('summary').textContent.startsWith('Epoch 0')"))
-            self.assertTrue(await browser.evaluate("document.getElementById('token').hidden"))
+            self.assertTrue(await browser.until("document.getElementById('token').hidden"))
             self.assertEqual(await browser.evaluate("location.search"), "")  # it stands in no address
 
 

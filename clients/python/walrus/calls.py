@@ -96,7 +96,7 @@ def check(identifier: bytes, payloads: Payloads) -> Verdict:
 
 def bundle(members: Iterable[Buffer], faults: int) -> memoryview:
     """One blob of small ones, at most 2f; raises `Lacking` where they do not fit."""
-    return result("bundle", faults, data=stream(members), room=LARGEST_BLOB + ROOM)
+    return result("bundle", faults, data=stream(members))
 
 
 def member(identifier: bytes, number: int, payloads: Payloads) -> memoryview:
@@ -107,8 +107,7 @@ def member(identifier: bytes, number: int, payloads: Payloads) -> memoryview:
 
 def challenge(identifier: bytes, shard: int, beacon: bytes, count: int, payloads: Payloads) -> memoryview:
     """The envelopes with which a shard that holds its slivers answers so many draws by a beacon."""
-    data, room = given(payloads)
-    return result("challenge", identifier.hex(), shard, beacon.hex(), count, data=data, room=room)
+    return result("challenge", identifier.hex(), shard, beacon.hex(), count, data=streamed(payloads))
 
 
 def verify(identifier: bytes, shard: int, beacon: bytes, count: int, payloads: Payloads) -> Verdict:

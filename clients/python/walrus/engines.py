@@ -15,7 +15,8 @@ HERE = pathlib.Path(__file__).resolve().parent
 BUILT = pathlib.Path("clients", "c", "out", "libwalrus.so"), pathlib.Path("crates", "walrus_c", "out", "libwalrus.so")
 PROGRAM = pathlib.Path("crates", "walrus", "out", "walrus")
 NO_ROOM, ROOM = 7, 4_096  # the status of a call whose output has too little room; room where no more is known
-MOST_ROOM = 134_217_728  # bytes of room that are had at once where the library says that they are enough
+MOST_ROOM = 134_217_728  # bytes of room that are had at once where the library says how many are enough
+UNKNOWN = 2**64 - 1  # what the library says where it knows no room that is enough
 
 
 class Ran(NamedTuple):
@@ -59,7 +60,7 @@ class Library:
         with pinned(data) as (address, size):
             if room is None:
                 enough = int(self.room(told, len(told), size))
-                room = enough if enough <= MOST_ROOM else ROOM
+                room = ROOM if enough == UNKNOWN else min(enough, MOST_ROOM)
             while True:
                 output = Room(room)
                 ends = output.address, output.size, ctypes.byref(written), ctypes.byref(needed)

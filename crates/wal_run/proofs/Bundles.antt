@@ -1,13 +1,10 @@
 -- What members come to is one result of the command that bundles.
-use Rattle.std.proofs.Common.{◌≡◌, inl, inr, ⊎_elim, ℕ, List, codes, Ok, Err, refl, sym, subst, ◌∙◌, arith}
+use Rattle.std.proofs.Common.{◌≡◌, ⊎_elim, ℕ, List, codes, Ok, Err, refl, sym, ◌∙◌, arith}
 use Rattle.wal_bundle.specs.declared.answer.BundleError.TheVariants.{TooLong, TooMany}
 use Rattle.wal_bundle.specs.Layout.{Bundles}
 use Rattle.wal_bundle.proofs.Bundled.{one_bundle, not_too_long}
-use Rattle.wal_frame.specs.Stream.{IsMalformed}
 use Rattle.wal_run.specs.Bundling.{bundling}
-use Rattle.wal_run.specs.Command.{IsResult, unreadable}
 use Rattle.wal_run.specs.inside.Command.{Told, collides, lacks, misreads, rejects, succeeds}
-use Rattle.wal_run.specs.Lines.{malformed_text}
 use Rattle.wal_run.proofs.CommandLaws.{Determined, Same, same}
 
 -- ---- a result is a bundle, or one of two errors
@@ -40,22 +37,3 @@ one_comes f members s x t y (long a over line) (long b also other) = same _ _ _ 
 
 pub bundled_once : (digest : List ℕ → List ℕ) (f : ℕ) → Determined digest (bundling f)
 bundled_once digest f input members spells s x t y a b = one_comes f members s x t y (comes_of digest f members s x a) (comes_of digest f members t y b)
-
--- ---- the command
-
-pub made_as : (digest : List ℕ → List ℕ) (f : ℕ) (members : List (List ℕ)) (bytes text : List ℕ) → Bundles f members (Ok bytes) → text ≡ bytes
-    → Told digest (bundling f) members 0 text
-made_as digest f members bytes text is line = succeeds text (subst (λ (x : List ℕ). Bundles f members (Ok x)) (sym line) is)
-
-pub many_as : (digest : List ℕ → List ℕ) (f : ℕ) (members : List (List ℕ)) (text : List ℕ) → Bundles f members (Err TooMany) → text ≡ codes "too many members\n"
-    → Told digest (bundling f) members 4 text
-many_as digest f members text over line = lacks text (inl (over, line))
-
-pub long_as : (digest : List ℕ → List ℕ) (f : ℕ) (members : List (List ℕ)) (text : List ℕ) → Bundles f members (Err TooLong) → text ≡ codes "bundle too long\n"
-    → Told digest (bundling f) members 4 text
-long_as digest f members text over line = lacks text (inr (over, line))
-
-pub unbundled_as : (digest : List ℕ → List ℕ) (f : ℕ) (input : List ℕ) (place s : ℕ) (text : List ℕ) → IsMalformed place input → s ≡ 8 → text ≡ malformed_text place
-    → IsResult digest (bundling f) input s text
-unbundled_as digest f input place s text is status line =
-    subst (λ (t : ℕ). IsResult digest (bundling f) input t text) (sym status) (unreadable text (inl (place, is, line)))

@@ -9,6 +9,7 @@ use Rattle.wal_shape.specs.declared.axis.Axis.{Axis}
 use Rattle.wal_shape.specs.declared.axis.Axis.TheVariants.{Primary, Secondary}
 use Rattle.wal_shape.specs.declared.opening.Opening.{Opening}
 use Rattle.wal_shape.specs.Metadata.{BlobMetadata, held_index}
+use Rattle.wal_shape.specs.Shape.{shard_count}
 use Rattle.wal_frame.specs.Frame.{Frame, Sliver}
 use Rattle.wal_frame.specs.Reading.{read_of}
 use Rattle.wal_frame.specs.declared.frame.FrameError.{FrameError}
@@ -165,15 +166,15 @@ module _ (digest : List ℕ → List ℕ) (a : Audit) (r : Recorded) where
       (λ text left. (left.0, left.1, (has, primary, first, secondary, second, left.2)))
       (λ text owed. (owed.0, owed.1, (has, primary, first, secondary, second, owed.2)))
 
-  pub shardless_as : (text : List ℕ) → LacksShard a r text → Told digest (challenging digest a) r 4 text
-  shardless_as text none = lacks text (inl none)
+  pub shardless_is : shard_count r.metadata.f ≤ a.shard → Told digest (challenging digest a) r 4 (codes "no shard\n")
+  shardless_is none = lacks _ (inl (none, refl))
 
-  pub primeless_as : (text : List ℕ) → HasShard a r → HasNoSliver digest a r Primary → text ≡ codes "no primary\n" → Told digest (challenging digest a) r 4 text
-  primeless_as text has none line = lacks text (inr (inl (has, none, line)))
+  pub primeless_is : HasShard a r → HasNoSliver digest a r Primary → Told digest (challenging digest a) r 4 (codes "no primary\n")
+  primeless_is has none = lacks _ (inr (inl (has, none, refl)))
 
-  pub secondless_as : (primary text : List ℕ) → HasShard a r → IsOwnSliver digest a r Primary primary → HasNoSliver digest a r Secondary → text ≡ codes "no secondary\n"
-      → Told digest (challenging digest a) r 4 text
-  secondless_as primary text has own none line = lacks text (inr (inr (has, (primary, own), none, line)))
+  pub secondless_is : (primary : List ℕ) → HasShard a r → IsOwnSliver digest a r Primary primary → HasNoSliver digest a r Secondary
+      → Told digest (challenging digest a) r 4 (codes "no secondary\n")
+  secondless_is primary has own none = lacks _ (inr (inr (has, (primary, own), none, refl)))
 
   -- and by the input
   pub answered_so : (input : List ℕ) (old new : Option (List ℕ)) (SinkRose : Type 0) (s : ℕ) → Spells digest (envelopes_of a.id) input r

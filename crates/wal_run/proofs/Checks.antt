@@ -26,7 +26,7 @@ module _ (digest : List ℕ → List ℕ) (id : BlobId) (r : Recorded) where
       → Told digest (checking digest id) r 4 (verdict_text v)
   shows_nothing p v first is four = lacks (verdict_text v) (inr (p, first, v, is, apart v four, refl))
 
-  judged_is : (p : EncodingProof) → IsFirstProof id.0 r.payloads p → (v : ProofVerdict) → evidence.Checks digest r.metadata p v
+  pub judged_is : (p : EncodingProof) → IsFirstProof id.0 r.payloads p → (v : ProofVerdict) → evidence.Checks digest r.metadata p v
       → Told digest (checking digest id) r (verdict_status v) (verdict_text v)
   judged_is p first WrongCount is = shows_nothing p WrongCount first is refl
   judged_is p first Repeated is = shows_nothing p Repeated first is refl
@@ -34,12 +34,8 @@ module _ (digest : List ℕ → List ℕ) (id : BlobId) (r : Recorded) where
   judged_is p first Consistent is = shows_nothing p Consistent first is refl
   judged_is p first Inconsistent is = rejects (codes "inconsistent\n") (p, first, is, refl)
 
-  pub judged_as : (p : EncodingProof) (v : ProofVerdict) (s : ℕ) (text : List ℕ) → IsFirstProof id.0 r.payloads p → evidence.Checks digest r.metadata p v
-      → s ≡ verdict_status v → text ≡ verdict_text v → Told digest (checking digest id) r s text
-  judged_as p v s text first is status line = rw (status, line) (judged_is p first v is)
-
-  pub unproved_as : (text : List ℕ) → NoProof id.0 r.payloads → text ≡ codes "no proof\n" → Told digest (checking digest id) r 4 text
-  unproved_as text none line = lacks text (inl (none, line))
+  pub unproved_is : NoProof id.0 r.payloads → Told digest (checking digest id) r 4 (codes "no proof\n")
+  unproved_is none = lacks (codes "no proof\n") (inl (none, refl))
 
   -- a result is that there is no proof, or a verdict
   abbrev Unproved : ℕ → List ℕ → Type 0

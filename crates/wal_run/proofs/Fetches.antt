@@ -238,10 +238,8 @@ module _ (digest : List ℕ → List ℕ) where
       ends_piece new LineRose SinkRose since Memory kept = no_memory new SinkRose kept
       ends_piece new LineRose SinkRose since WriteFault p = loses new SinkRose p.0 p.1 (since p.2) p.3 (is_collision answer.found) refl
 
-  pub malformed_told : (capacity : ℕ) (input : List ℕ) (place s : ℕ) (text : List ℕ) → IsMalformed place input → s ≡ 8 → text ≡ malformed_text place
-      → IsResult digest (fetching digest capacity) input s text
-  malformed_told capacity input place s text broken status line =
-      subst (λ (t : ℕ). IsResult digest (fetching digest capacity) input t text) (sym status) (unreadable text (inl (place, broken, line)))
+  pub malformed_is : (capacity : ℕ) (input : List ℕ) (place : ℕ) → IsMalformed place input → IsResult digest (fetching digest capacity) input 8 (malformed_text place)
+  malformed_is capacity input place broken = unreadable (malformed_text place) (inl (place, broken, refl))
 
   -- ---- one result
 

@@ -1,20 +1,17 @@
 -- The image of the puts of payloads: a disk holds it, or the first record that does not fit is told.
-use Rattle.std.proofs.Common.{◌≡◌, inl, ℕ, zero, suc, ◌+◌, ◌-◌, ◌<◌, ◌≤◌, Bool, true, false, List, [], ◌∷◌, ◌++◌, length, take, get_or, replicate, Result, Ok, Err, refl, sym, ap, ◌∙◌, subst, arith, length-append}
+use Rattle.std.proofs.Common.{◌≡◌, ℕ, zero, suc, ◌+◌, ◌-◌, ◌<◌, ◌≤◌, Bool, true, false, List, [], ◌∷◌, ◌++◌, length, take, get_or, replicate, Result, Ok, Err, refl, sym, ap, ◌∙◌, subst, arith, length-append}
 use Rattle.std.specs.Prelude.{if◌then◌else◌, nat_lt}
 use Rattle.std.proofs.lemmas.Bool.{le-ltb, lt-ltb}
 use Rattle.std.proofs.lemmas.List.{append_assoc, append-nil, take_at, take_more, length-replicate}
 use Rattle.wal_shape.specs.declared.metadata.BlobId.{BlobId}
 use Rattle.wal_shape.specs.declared.part.Part.{Part}
-use Rattle.wal_frame.specs.Stream.{IsMalformed}
 use Rattle.wal_store.specs.Contents.{Contents}
 use Rattle.wal_store.specs.Calls.{Call, Put, no_contents}
 use Rattle.wal_journal.specs.Held.{IsJournal}
 use Rattle.wal_journal.specs.Record.{spelling, records, Accepts}
 use Rattle.wal_journal.specs.Packing.{puts_of}
 use Rattle.wal_journal.proofs.Records.{records-append, spelling_size}
-use Rattle.wal_run.specs.Command.{IsResult, unreadable}
 use Rattle.wal_run.specs.inside.Command.{Told, collides, lacks, misreads, rejects, succeeds}
-use Rattle.wal_run.specs.Lines.{malformed_text}
 use Rattle.wal_run.specs.Imaging.{room_of, room_behind, image_from, image_of, imaging, disk_full_text}
 use Rattle.wal_run.proofs.CommandLaws.{Determined, Same, same}
 
@@ -129,9 +126,3 @@ module _ (digest : List ℕ → List ℕ) (size : ℕ) (payloads : List (List �
         ap (λ (m : Contents). image_of size (puts_of digest m payloads)) (sym blank.holds)
         ∙ image_refused new size now needed free (puts_of digest held payloads) first (Put id part bytes) rest (accepts [] blank.accepts) (long ∙ ap length zeros ∙ length-replicate size 0) (omega (arith, moved, none)) are
         (omega (arith, needs, spelling_size (Put id part bytes) wide)) left full
-
-  pub full_told : (needed free s : ℕ) (text : List ℕ) → image_of size (puts_of digest no_contents payloads) ≡ Err (needed, free) → s ≡ 4 → text ≡ disk_full_text needed free → Told digest (imaging digest size) payloads s text
-  full_told needed free s text full status line = subst (λ (t : ℕ). Told digest (imaging digest size) payloads t text) (sym status) (lacks text (needed, free, full, line))
-
-pub broken_told : (digest : List ℕ → List ℕ) (size : ℕ) (input : List ℕ) (place s : ℕ) (text : List ℕ) → IsMalformed place input → s ≡ 8 → text ≡ malformed_text place → IsResult digest (imaging digest size) input s text
-broken_told digest size input place s text is status line = subst (λ (t : ℕ). IsResult digest (imaging digest size) input t text) (sym status) (unreadable text (inl (place, is, line)))

@@ -21,11 +21,11 @@ mod Only
 mod Parts
 mod PieceLaws
 mod Readings
-mod Recorded
 mod Recoveries
 mod Replays
 mod RunCollisions
 mod Samples
+mod Says
 mod Schedules
 mod ServiceClashes
 mod ServiceEnds

@@ -202,17 +202,18 @@ pub no_bytes : (image : List ℕ) → length image ≡ 0 → image ≡ []
 no_bytes [] none = refl
 no_bytes (x ∷ image) none = absurd (omega (arith, none))
 
-module _ (digest : List ℕ → List ℕ) (image : List ℕ) (s : ℕ) (text : List ℕ) where
-  pub listed_told : (shown : List ℕ) (tail : ℕ) (held kept : Contents) (changes : List Call) → shown ≡ image → IsJournal shown tail held changes → kept ≡ held → s ≡ 0 → text ≡ contents_text kept → IsResult digest unpacking image s text
-  listed_told shown tail held kept changes same journal own status line =
+module _ (digest : List ℕ → List ℕ) (image : List ℕ) where
+  pub listed_is : (shown : List ℕ) (tail : ℕ) (held kept : Contents) (changes : List Call) (text : List ℕ) → shown ≡ image → IsJournal shown tail held changes → kept ≡ held → text ≡ contents_text kept
+      → IsResult digest unpacking image 0 text
+  listed_is shown tail held kept changes text same journal own line =
       let accepts : Accepts image changes = subst (λ (b : List ℕ). Accepts b changes) same journal.accepts in
-      subst (λ (t : ℕ). IsResult digest unpacking image t text) (sym status) (success text (image, refl, (changes, accepts, line ∙ ap contents_text (own ∙ journal.holds))))
+      success text (image, refl, (changes, accepts, line ∙ ap contents_text (own ∙ journal.holds)))
 
-  pub empty_told : image ≡ [] → s ≡ 8 → text ≡ malformed_text 0 → IsResult digest unpacking image s text
-  empty_told none status line = subst (λ (t : ℕ). IsResult digest unpacking image t text) (sym status) (unreadable text (inr (image, refl, (0, inl (none, refl), line))))
+  pub empty_is : image ≡ [] → IsResult digest unpacking image 8 (malformed_text 0)
+  empty_is none = unreadable _ (inr (image, refl, (0, inl (none, refl), refl)))
 
-  pub broken_told : (shown : List ℕ) (at : ℕ) (held : Contents) (changes : List Call) → shown ≡ image → ReadTo shown at held changes → get_or shown at 0 ≡ 1 → IsBad held (drop (at + 1) shown) → s ≡ 8 → text ≡ malformed_text at
-      → IsResult digest unpacking image s text
-  broken_told shown at held changes same so_far gate bad status line =
+  pub broken_is : (shown : List ℕ) (at : ℕ) (held : Contents) (changes : List Call) → shown ≡ image → ReadTo shown at held changes → get_or shown at 0 ≡ 1 → IsBad held (drop (at + 1) shown)
+      → IsResult digest unpacking image 8 (malformed_text at)
+  broken_is shown at held changes same so_far gate bad =
       let broken : IsBrokenAt image at = subst (λ (b : List ℕ). IsBrokenAt b at) same (inr (changes, held, so_far, gate, bad)) in
-      subst (λ (t : ℕ). IsResult digest unpacking image t text) (sym status) (unreadable text (inr (image, refl, (at, broken, line))))
+      unreadable _ (inr (image, refl, (at, broken, refl)))

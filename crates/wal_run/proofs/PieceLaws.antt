@@ -120,9 +120,6 @@ answer_refused digest id stream given e is finishes = (let P : Result ReadAnswer
 pub refused_malformed : (digest : List ℕ → List ℕ) (id stream : List ℕ) (e : FinishError) (place : ℕ) → e ≡ finish.Malformed place → FinishesStream digest id stream (Err e) → IsMalformed place stream
 refused_malformed digest id stream e place is finishes = (let P : FinishError → Type 0 = λ x. FinishesStream digest id stream (Err x) in subst P is finishes)
 
-pub refused_long : (digest : List ℕ → List ℕ) (id stream : List ℕ) (e : FinishError) → e ≡ finish.TooLong → FinishesStream digest id stream (Err e) → ⊥
-refused_long digest id stream e is finishes = (let P : FinishError → Type 0 = λ x. FinishesStream digest id stream (Err x) in subst P is finishes)
-
 pub found_wrong : (digest : List ℕ → List ℕ) (id : List ℕ) (r : ReaderState) (wrong : Option ℕ) (place : ℕ) (stream : List ℕ) → wrong ≡ Some place → Stands digest id r wrong stream → IsWrongAt place stream
 found_wrong digest id r wrong place stream is stands = (let P : Option ℕ → Type 0 = λ w. Stands digest id r w stream in subst P is stands)
 

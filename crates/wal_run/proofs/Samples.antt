@@ -1,6 +1,5 @@
 -- The sample of a number has one schedule, whose run has one summary, or ends in a collision: one result of the command on it.
-use Rattle.std.proofs.Common.{◌≡◌, ◌⊎◌, inl, inr, ⊎_elim, ◌%◌, ℕ, List, [], ◌∷◌, ◌++◌, map, Result, Ok, Err, IfOk, refl, sym, ap, subst, ◌∙◌}
-use Rattle.std.specs.declared.alloc.AllocError.{AllocError}
+use Rattle.std.proofs.Common.{◌≡◌, ◌⊎◌, inl, inr, ⊎_elim, ◌%◌, ℕ, List, [], ◌∷◌, ◌++◌, map, refl, sym, ap, subst, ◌∙◌}
 use Rattle.std.specs.List.{AllByRecursion}
 use Rattle.wal_shape.specs.declared.metadata.BlobId.{BlobId}
 use Rattle.wal_shape.specs.declared.shape.Format.TheVariants.{One}
@@ -8,47 +7,36 @@ use Rattle.wal_tree.specs.Collision.{IsCollision}
 use Rattle.wal_commit.specs.Identifier.{IsIdentifierOf}
 use Rattle.wal_event.specs.declared.event.Schedule.{Schedule}
 use Rattle.wal_event.specs.declared.line.Line.{Line}
-use Rattle.wal_event.specs.declared.line.Line.TheVariants as line
-use Rattle.wal_event.specs.Report.{line_text}
 use Rattle.wal_schedule.specs.Sample.{IsSample, drawn, sample_with, state_after, state_before}
 use Rattle.wal_protocol.specs.Run.{GoesOn}
 use Rattle.wal_protocol.proofs.OneStep.{apart_left, apart_right}
 use Rattle.wal_world.specs.declared.summary.Summary.{Summary}
 use Rattle.wal_world.specs.declared.summary.Summed.{Summed}
 use Rattle.wal_world.specs.declared.summary.Summed.TheVariants as summed
-use Rattle.wal_world.specs.Summary.{IsSummary, IsSummed}
+use Rattle.wal_world.specs.Summary.{IsSummary}
 use Rattle.wal_run.specs.Command.{Content, IsResult, collision, success}
 use Rattle.wal_run.specs.inside.Command.{Told, collides, lacks, misreads, rejects, succeeds}
 use Rattle.wal_run.specs.Lines.{collision_text}
 use Rattle.wal_run.specs.Sampling.{SumsUp, sampling, summary_text}
+use Rattle.wal_run.specs.inside.Sampling.{IsSumText}
 use Rattle.wal_run.proofs.Blobs.{one_identifier}
 use Rattle.wal_run.proofs.CommandLaws.{Determined, Same, both_collide, same}
-use Rattle.wal_run.proofs.RunCollisions.{clash_line, collides_not, ends_with, same_lines}
+use Rattle.wal_run.proofs.RunCollisions.{collides_not, ends_with, same_lines}
 
 -- ---- what the code sums up
-
-pub sums_up : (digest : List ℕ → List ℕ) (number : ℕ) (s : Schedule) (r : Result Summed AllocError) → IsSample digest number s → IfOk r (IsSummed digest s)
-    → IfOk r (SumsUp digest number)
-sums_up digest number s (Ok sum) is summed = (s, is, summed)
-sums_up digest number s (Err e) is summed = tt
-
-pub summary_is : (digest : List ℕ → List ℕ) (number s : ℕ) (text : List ℕ) (summary : Summary) → SumsUp digest number (summed.Whole summary) → s ≡ 0
-    → text ≡ summary_text summary → IsResult digest (sampling digest number) [] s text
-summary_is digest number s text summary comes status line =
-    subst (λ (t : ℕ). IsResult digest (sampling digest number) [] t text) (sym status) (success text (tt, refl, (summary, comes, line)))
 
 -- the two texts with which the run ends have one digest
 sum_collides : (digest : List ℕ → List ℕ) (number : ℕ) (left right : List ℕ) → SumsUp digest number (summed.Collision (record { left = left; right = right }))
     → IsCollision digest left right
 sum_collides digest number left right comes = ends_with digest comes.0 comes.2.0 left right comes.2.1 comes.2.2 comes.2.3
 
-pub clash_is : (digest : List ℕ → List ℕ) (number s : ℕ) (text left right : List ℕ)
-    → SumsUp digest number (summed.Collision (record { left = left; right = right })) → s ≡ 10 → text ≡ line_text (line.Collision left right)
-    → IsResult digest (sampling digest number) [] s text
-clash_is digest number s text left right comes status line =
-    subst (λ (t : ℕ). IsResult digest (sampling digest number) [] t text) (sym status)
-    (collision left right text (sum_collides digest number left right comes)
-    (record { front = []; clashes = inr (tt, refl, (comes, refl)); whole = line ∙ clash_line left right }))
+-- what the run comes to is the result
+pub sum_is : (digest : List ℕ → List ℕ) (number : ℕ) (sum : Summed) → SumsUp digest number sum → (status : ℕ) (text : List ℕ) → IsSumText sum status text
+    → IsResult digest (sampling digest number) [] status text
+sum_is digest number (summed.Whole summary) comes status text is = rw is.0 (success text (tt, refl, (summary, comes, is.1)))
+sum_is digest number (summed.Collision clash) comes status text is =
+    rw is.0 (collision clash.left clash.right text (sum_collides digest number clash.left clash.right comes)
+    (record { front = []; clashes = inr (tt, refl, (comes, refl)); whole = is.1 }))
 
 -- ---- one result
 

@@ -1,9 +1,10 @@
 -- The verdict on claims in answer to a challenge is one result of the command that verifies.
-use Rattle.std.proofs.Common.{◌≡◌, ◌⊎◌, inl, inr, ⊎_elim, ℕ, List, refl, sym, ap, ◌∙◌, arith}
+use Rattle.std.proofs.Common.{◌≡◌, ◌⊎◌, inl, inr, ⊎_elim, ℕ, ◌≤◌, List, codes, refl, sym, ap, ◌∙◌, arith}
 use Rattle.wal_challenge.specs.declared.checking.AnswerVerdict.{AnswerVerdict}
 use Rattle.wal_challenge.specs.declared.checking.AnswerVerdict.TheVariants.{Accepted, Wrong, WrongCount}
 use Rattle.wal_challenge.proofs.VerdictLaws.{one_verdict}
 use Rattle.wal_reader.specs.Carried.{claims_in}
+use Rattle.wal_shape.specs.Shape.{shard_count}
 use Rattle.wal_words.specs.declared.task.Audit.{Audit}
 use Rattle.wal_run.specs.Command.{Recorded}
 use Rattle.wal_run.specs.inside.Command.{Told, collides, lacks, misreads, rejects, succeeds}
@@ -23,8 +24,8 @@ module _ (digest : List ℕ → List ℕ) (a : Audit) (r : Recorded) where
       → Told digest (verifying digest a) r s text
   verdict_as has v s text come status line = rw (status, line) (verdict_is has v come)
 
-  pub shardless_as : (text : List ℕ) → LacksShard a r text → Told digest (verifying digest a) r 4 text
-  shardless_as text none = lacks text (inl none)
+  pub shardless_is : shard_count r.metadata.f ≤ a.shard → Told digest (verifying digest a) r 4 (codes "no shard\n")
+  shardless_is none = lacks (codes "no shard\n") (inl (none, refl))
 
   -- a result is that there is no such shard, or a verdict
   abbrev Shardless : ℕ → List ℕ → Type 0

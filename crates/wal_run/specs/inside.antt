@@ -1,11 +1,13 @@
+pub mod Answers
 pub mod Challenging
 pub mod Checking
 pub mod Command
 pub mod Commands
-pub mod Imaging
 pub mod Pieces
 pub mod Reading
 pub mod Recovering
+pub mod Refusals
+pub mod Sampling
 pub mod Serving
 pub mod Unbundling
 pub mod Verifying

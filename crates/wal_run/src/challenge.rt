@@ -1,29 +1,31 @@
 //! The command that answers a storage challenge from recorded slivers.
 
-ghost use Rattle.std.specs.Prelude.{◌≡◌, ◌+◌, ◌<◌, ◌≤◌, ℕ, List, IfOk, length};
+ghost use Rattle.std.specs.Prelude.{◌≡◌, ◌+◌, ◌<◌, ◌≤◌, ℕ, List, IfErr, IfNone, IfOk, IfSome, length};
 ghost use Rattle.wal_port.specs.Faults.{Rose};
-ghost use Rattle.wal_shape.specs.declared.axis.Axis.TheVariants.{Primary};
 ghost use Rattle.wal_shape.specs.MetaRef.{metadata_shown};
 ghost use Rattle.wal_shape.specs.Shape.{shard_count, symbol_size};
 ghost use Rattle.wal_commit.specs.Identifier.{identifier_of};
 ghost use Rattle.wal_frame.specs.Stream.{IsStream};
 ghost use Rattle.wal_challenge.specs.Answer.{AreWordsOf, HoldsBoth};
-ghost use Rattle.wal_run.specs.Challenging.{IsOwnSliver, challenging};
+ghost use Rattle.wal_run.specs.Challenging.{HasNoSliver, IsOwnSliver, challenging};
 ghost use Rattle.wal_run.specs.Command.{IsResult, MayLeave, MayOwe};
-ghost use Rattle.wal_run.specs.inside.Challenging.{DoesAnswer, IsAnswer};
-ghost use Rattle.wal_run.specs.inside.Command.{recorded};
+ghost use Rattle.wal_run.specs.inside.Challenging.{DoesAnswer, IsAnswer, IsReady};
+ghost use Rattle.wal_run.specs.inside.Answers.{Refuses};
+ghost use Rattle.wal_run.specs.inside.Command.{Told, recorded};
 ghost use Rattle.wal_run.specs.inside.Writing.{Does, DoesTold, PutsPiece};
 
+use crate::answer::refuse;
 use crate::envelope::put_opening;
-use crate::finish::{MALFORMED, NO_MEMORY, PutError, SHORT, finish, status_of};
-use crate::lines::{malformed_line, put_clash, put_line};
-use std::alloc::{AllocError, Global};
+use crate::finish::{PutError, status_of};
+use crate::recorded::{metadata_of, payloads_of};
+use crate::refusal::Refusal;
+use std::alloc::Global;
 use wal_challenge::{Answerer, draw};
 use wal_commit::identify;
-use wal_frame::{OutBuf, SplitError, split};
+use wal_frame::OutBuf;
 use wal_matrix::Work;
 use wal_port::Sink;
-use wal_reader::{FoundMetadata, metadata_in, sliver_in};
+use wal_reader::sliver_in;
 use wal_shape::{Axis, BlobId, MetaRef, Payloads};
 use wal_tree::Hash32;
 use wal_words::Audit;
@@ -100,131 +102,83 @@ struct Ready<H: Hash32> {
     out: OutBuf,
 }
 
-/// Takes the memory of all that is written, but for the openings.
+/// The first sliver of this axis that the payloads carry and the metadata commits for the shard.
+fn own_sliver<'a, H: Hash32>(
+    work: &mut Work,
+    m: MetaRef<'_>,
+    audit: &Audit,
+    axis: Axis,
+    payloads: &'a Payloads,
+) -> Option<&'a [u8]>
+    requires f { work.old.f ≡ (metadata_shown m).f }
+    requires shard { audit.now.shard < shard_count (metadata_shown m).f }
+    ensures own { IfSome result (λ bytes. IsOwnSliver H.digest audit.now (recorded payloads.now (metadata_shown m.entry)) axis bytes.now) }
+    ensures none { IfNone result (HasNoSliver H.digest audit.now (recorded payloads.now (metadata_shown m.entry)) axis) }
+    ensures f { work.new.f ≡ work.old.f }
+{
+    let index = m.held(axis, audit.shard);
+    match sliver_in::<H>(work, &audit.id, m, axis, index, payloads) {
+        Some(sliver) => Some(sliver.bytes),
+        None => None,
+    }
+}
+
+/// Takes the memory of all that is written, but for the openings, or says which sliver is lacking.
 fn make_ready<H: Hash32>(
     alloc: Global,
     work: &mut Work,
     m: MetaRef<'_>,
-    shard: u16,
-    primary: &[u8],
-    secondary: &[u8],
-) -> Result<Ready<H>, AllocError>
+    audit: &Audit,
+    payloads: &Payloads,
+) -> Result<Ready<H>, Refusal>
     requires f { work.old.f ≡ (metadata_shown m).f }
-    requires slivers { HoldsBoth H.digest (metadata_shown m) shard primary.now secondary.now }
-    ensures words { IfOk result (λ r. AreWordsOf (metadata_shown m.entry) primary.now secondary.now r.answerer) }
-    ensures room { IfOk result (λ r. 370 + symbol_size (metadata_shown m.entry).f (metadata_shown m.entry).length ≤ r.out.spare + length r.out.bytes) }
+    requires shard { audit.now.shard < shard_count (metadata_shown m).f }
+    ensures ready { IfOk result (λ r. IsReady H.digest audit.now (recorded payloads.now (metadata_shown m.entry)) r.answerer r.out) }
+    ensures refusal { IfErr result (λ refusal. Refuses refusal (Told H.digest (challenging H.digest audit.now) (recorded payloads.now (metadata_shown m.entry)))) }
 {
+    let Some(primary) = own_sliver::<H>(work, m, audit, Axis::Primary, payloads) else {
+        return Err(Refusal::NoPrimary);
+    };
+    let Some(secondary) = own_sliver::<H>(work, m, audit, Axis::Secondary, payloads) else {
+        return Err(Refusal::NoSecondary);
+    };
     Ok(Ready {
-        answerer: Answerer::create(alloc, work, m, shard, primary, secondary)?,
+        answerer: Answerer::create(alloc, work, m, audit.shard, primary, secondary)?,
         out: OutBuf::create(alloc, OPENING_EXTRA + m.shape().symbol_size())?,
     })
 }
 
-/// Writes the answer of the shard from its two slivers.
-fn answer_from<H: Hash32, K: Sink>(
+/// The same of a shard that may be none of the blob's.
+fn ready_under<H: Hash32>(
     alloc: Global,
-    work: &mut Work,
-    m: MetaRef<'_>,
-    audit: &Audit,
-    primary: &[u8],
-    secondary: &[u8],
-    sink: &mut K,
-) -> u8
-    requires f { work.old.f ≡ (metadata_shown m).f }
-    requires shard { audit.now.shard < shard_count (metadata_shown m).f }
-    requires slivers { HoldsBoth H.digest (metadata_shown m) audit.now.shard primary.now secondary.now }
-    ensures does { DoesAnswer H.digest audit.now (metadata_shown m.entry) primary.now secondary.now (K.written sink.old) (K.written sink.new) (Rose (K.faults sink.old) (K.faults sink.new)) result }
-    ensures later { K.faults sink.old ≤ K.faults sink.new }
-{
-    match make_ready::<H>(alloc, work, m, audit.shard, primary, secondary) {
-        Ok(mut ready) => put_answers(alloc, &ready.answerer, m, audit, &mut ready.out, sink),
-        Err(_) => NO_MEMORY,
-    }
-}
-
-/// Writes the answer of the shard from this primary sliver and the first secondary one among the payloads.
-fn answer_with<H: Hash32, K: Sink>(
-    alloc: Global,
-    work: &mut Work,
     m: MetaRef<'_>,
     audit: &Audit,
     payloads: &Payloads,
-    primary: &[u8],
-    sink: &mut K,
-) -> u8
-    requires f { work.old.f ≡ (metadata_shown m).f }
-    requires shard { audit.now.shard < shard_count (metadata_shown m).f }
-    requires primary { IsOwnSliver H.digest audit.now (recorded payloads.now (metadata_shown m)) Primary primary.now }
-    ensures does { DoesTold H.digest (challenging H.digest audit.now) (recorded payloads.now (metadata_shown m.entry)) (K.written sink.old) (K.written sink.new) (Rose (K.faults sink.old) (K.faults sink.new)) result }
-    ensures later { K.faults sink.old ≤ K.faults sink.new }
+) -> Result<Ready<H>, Refusal>
+    ensures ready { IfOk result (λ r. IsReady H.digest audit.now (recorded payloads.now (metadata_shown m.entry)) r.answerer r.out) }
+    ensures refusal { IfErr result (λ refusal. Refuses refusal (Told H.digest (challenging H.digest audit.now) (recorded payloads.now (metadata_shown m.entry)))) }
 {
-    let axis = Axis::Secondary;
-    match sliver_in::<H>(
-        work,
-        &audit.id,
-        m,
-        axis,
-        m.held(axis, audit.shard),
-        payloads,
-    ) {
-        Some(secondary) => answer_from::<H, K>(
-            alloc,
-            work,
-            m,
-            audit,
-            primary,
-            secondary.bytes,
-            sink,
-        ),
-        None => finish(sink, b"no secondary\n", SHORT),
+    if u32::from(audit.shard) >= m.shape().n() {
+        return Err(Refusal::NoShard);
     }
-}
-
-/// Writes the answer of the shard from its slivers among the payloads.
-fn answer_slivers<H: Hash32, K: Sink>(
-    alloc: Global,
-    work: &mut Work,
-    m: MetaRef<'_>,
-    audit: &Audit,
-    payloads: &Payloads,
-    sink: &mut K,
-) -> u8
-    requires f { work.old.f ≡ (metadata_shown m).f }
-    requires shard { audit.now.shard < shard_count (metadata_shown m).f }
-    ensures does { DoesTold H.digest (challenging H.digest audit.now) (recorded payloads.now (metadata_shown m.entry)) (K.written sink.old) (K.written sink.new) (Rose (K.faults sink.old) (K.faults sink.new)) result }
-    ensures later { K.faults sink.old ≤ K.faults sink.new }
-{
-    let axis = Axis::Primary;
-    match sliver_in::<H>(
-        work,
-        &audit.id,
-        m,
-        axis,
-        m.held(axis, audit.shard),
-        payloads,
-    ) {
-        Some(primary) => answer_with::<H, K>(alloc, work, m, audit, payloads, primary.bytes, sink),
-        None => finish(sink, b"no primary\n", SHORT),
-    }
+    let mut work = Work::create(alloc, m.f())?;
+    make_ready::<H>(alloc, &mut work, m, audit, payloads)
 }
 
 /// Writes the answer of the shard under this metadata.
 fn challenge_under<H: Hash32, K: Sink>(
     alloc: Global,
+    m: MetaRef<'_>,
     audit: &Audit,
     payloads: &Payloads,
-    m: MetaRef<'_>,
     sink: &mut K,
 ) -> u8
     ensures does { DoesTold H.digest (challenging H.digest audit.now) (recorded payloads.now (metadata_shown m.entry)) (K.written sink.old) (K.written sink.new) (Rose (K.faults sink.old) (K.faults sink.new)) result }
     ensures later { K.faults sink.old ≤ K.faults sink.new }
 {
-    if u32::from(audit.shard) >= m.shape().n() {
-        return finish(sink, b"no shard\n", SHORT);
-    }
-    match Work::create(alloc, m.f()) {
-        Ok(mut work) => answer_slivers::<H, K>(alloc, &mut work, m, audit, payloads, sink),
-        Err(_) => NO_MEMORY,
+    match ready_under::<H>(alloc, m, audit, payloads) {
+        Ok(mut ready) => put_answers(alloc, &ready.answerer, m, audit, &mut ready.out, sink),
+        Err(refusal) => refuse(alloc, &refusal, sink),
     }
 }
 
@@ -238,10 +192,9 @@ fn challenge_in<H: Hash32, K: Sink>(
     ensures does { (input : List ℕ) → IsStream payloads.now input → Does (IsResult H.digest (challenging H.digest audit.now) input) (MayLeave H.digest (challenging H.digest audit.now) input) (MayOwe H.digest (challenging H.digest audit.now) input) (K.written sink.old) (K.written sink.new) (Rose (K.faults sink.old) (K.faults sink.new)) result }
     ensures later { K.faults sink.old ≤ K.faults sink.new }
 {
-    match metadata_in::<H>(&audit.id, payloads) {
-        FoundMetadata::Absent => finish(sink, b"no metadata\n", SHORT),
-        FoundMetadata::One(m) => challenge_under::<H, K>(alloc, audit, payloads, m, sink),
-        FoundMetadata::Two(first, second) => put_clash::<H, K>(alloc, first, second, sink),
+    match metadata_of::<H>(&audit.id, payloads) {
+        Ok(m) => challenge_under::<H, K>(alloc, m, audit, payloads, sink),
+        Err(refusal) => refuse(alloc, &refusal, sink),
     }
 }
 
@@ -255,13 +208,8 @@ pub fn challenge_shard<H: Hash32, K: Sink>(
     ensures does { Does (IsResult H.digest (challenging H.digest audit.now) stream.now) (MayLeave H.digest (challenging H.digest audit.now) stream.now) (MayOwe H.digest (challenging H.digest audit.now) stream.now) (K.written sink.old) (K.written sink.new) (Rose (K.faults sink.old) (K.faults sink.new)) result }
     ensures later { K.faults sink.old ≤ K.faults sink.new }
 {
-    match split(alloc, stream) {
+    match payloads_of(alloc, stream) {
         Ok(payloads) => challenge_in::<H, K>(alloc, audit, &payloads, sink),
-        Err(SplitError::Malformed(place)) => put_line(
-            sink,
-            malformed_line(alloc, place),
-            MALFORMED,
-        ),
-        Err(SplitError::Memory) => NO_MEMORY,
+        Err(refusal) => refuse(alloc, &refusal, sink),
     }
 }

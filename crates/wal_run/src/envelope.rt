@@ -1,7 +1,7 @@
 //! The envelopes in which a blob's metadata and slivers are written: each is made in one buffer, or only its front, where
 //! the bytes of a sliver are written from where they lie.
 
-ghost use Rattle.std.specs.Prelude.{◌≡◌, ◌≤◌, ◌<◌, ◌+◌, ◌*◌, ◌∷◌, ◌++◌, List, ℕ, length, min, OnOk, OnErr};
+ghost use Rattle.std.specs.Prelude.{◌≡◌, ◌≤◌, ◌<◌, ◌+◌, ◌*◌, ◌∷◌, ◌++◌, List, ℕ, length, min, IfOk, OnOk, OnErr};
 ghost use Rattle.std.specs.Int.{w16, w32};
 ghost use Rattle.std.specs.Io.KnownBytes.{Appends};
 ghost use Rattle.wal_port.specs.Faults.{Rose};
@@ -11,15 +11,13 @@ ghost use Rattle.wal_shape.specs.Metadata.{IsMetadata};
 ghost use Rattle.wal_shape.specs.MetaRef.{metadata_shown};
 ghost use Rattle.wal_shape.specs.Spelling.{metadata_text, number_text};
 ghost use Rattle.wal_shape.specs.Opening.{IsBody, opening_shown};
-ghost use Rattle.wal_shape.specs.EncodingProof.{IsProof};
-ghost use Rattle.wal_shape.specs.ProofRef.{proof_shown};
-ghost use Rattle.wal_shape.specs.Spelling.{proof_text};
-ghost use Rattle.wal_frame.specs.Frame.{IsFrame, Metadata, Opening, Proof, envelope, frame_text, metadata_frame, sliver_frame};
+ghost use Rattle.wal_frame.specs.Frame.{IsFrame, Metadata, Opening, envelope, frame_text, metadata_frame, sliver_frame};
 ghost use Rattle.wal_frame.specs.Shown.{IsLentKind, frame_shown};
 
+use std::alloc::{AllocError, Global};
 use wal_frame::{FrameRef, OutBuf, sliver_head, write_frame};
 use wal_port::{Sink, WriteFault, put_all};
-use wal_shape::{Axis, BlobId, Format, MetaRef, OpeningRef, ProofRef, Shape, SliverRef};
+use wal_shape::{Axis, BlobId, Format, MetaRef, OpeningRef, Shape};
 
 /// How many bytes an envelope has more than the metadata that it carries.
 const METADATA_EXTRA: u32 = 8;
@@ -58,6 +56,23 @@ pub fn room_for(shape: &Shape, metadata: MetaRef<'_>) -> u32
     let of_metadata = METADATA_EXTRA + metadata.bytes().len() as u32;
     let of_column = SLIVER_EXTRA + laid_room(shape);
     of_metadata.max(of_column)
+}
+
+/// The envelope of a frame, for which there is so much room.
+pub fn frame_envelope(
+    alloc: Global,
+    room: u32,
+    sender: u16,
+    frame: &FrameRef<'_>,
+) -> Result<OutBuf, AllocError>
+    requires frame { IsFrame (frame_shown frame.now) }
+    requires kind { IsLentKind frame.now }
+    requires room { length (envelope sender (frame_text (frame_shown frame.now))) ≤ room }
+    ensures { IfOk result (λ out. out.bytes ≡ envelope sender (frame_text (frame_shown frame.now))) }
+{
+    let mut out = OutBuf::create(alloc, room)?;
+    write_frame(&mut out, sender, frame);
+    Ok(out)
 }
 
 /// Writes the envelope of a frame, for which the emptied buffer has room.
@@ -132,44 +147,6 @@ pub fn begin_sliver(out: &mut OutBuf, shard: u16, id: BlobId, axis: Axis, index:
 {
     begin(out, shard, FRAME_EXTRA + size);
     out.put(&sliver_head(&id, axis, index, size));
-}
-
-/// Writes the envelope of a sliver from the shard that holds it.
-pub fn put_sliver<K: Sink>(
-    sink: &mut K,
-    out: &mut OutBuf,
-    shard: u16,
-    id: BlobId,
-    sliver: SliverRef<'_>,
-) -> Result<(), WriteFault>
-    requires index { sliver.index ≤ 999 }
-    requires size { length sliver.bytes.now ≤ most_bytes }
-    requires buffer { 47 + length sliver.bytes.now ≤ out.old.spare + length out.old.bytes }
-    ensures whole { OnOk result (Appends (K.written sink.old) (K.written sink.new) (envelope shard (sliver_frame id.0 sliver.entry.axis sliver.entry.index sliver.entry.bytes.now))) }
-    ensures part { OnErr result (AppendsPart (K.written sink.old) (K.written sink.new) (envelope shard (sliver_frame id.0 sliver.entry.axis sliver.entry.index sliver.entry.bytes.now))) }
-    ensures fault { OnErr result (Rose (K.faults sink.old) (K.faults sink.new)) }
-    ensures later { K.faults sink.old ≤ K.faults sink.new }
-    ensures buffer { out.new.spare + length out.new.bytes ≡ out.old.spare + length out.old.bytes }
-{
-    put_frame(sink, out, shard, &FrameRef::Sliver { id, sliver })
-}
-
-/// Writes the envelope of a proof of bad encoding.
-pub fn put_proof<K: Sink>(
-    sink: &mut K,
-    out: &mut OutBuf,
-    sender: u16,
-    id: BlobId,
-    proof: ProofRef<'_>,
-) -> Result<(), WriteFault>
-    requires proof { IsProof (proof_shown proof) }
-    requires buffer { 40 + length (proof_text (proof_shown proof)) ≤ out.old.spare + length out.old.bytes }
-    ensures whole { OnOk result (Appends (K.written sink.old) (K.written sink.new) (envelope sender (frame_text (Proof id.0 (proof_shown proof.entry))))) }
-    ensures part { OnErr result (AppendsPart (K.written sink.old) (K.written sink.new) (envelope sender (frame_text (Proof id.0 (proof_shown proof.entry))))) }
-    ensures fault { OnErr result (Rose (K.faults sink.old) (K.faults sink.new)) }
-    ensures later { K.faults sink.old ≤ K.faults sink.new }
-{
-    put_frame(sink, out, sender, &FrameRef::Proof { id, body: proof })
 }
 
 /// Writes the envelope of an opening with its target.

@@ -8,8 +8,10 @@ ghost use Rattle.wal_run.specs.Command.{IsResult, MayLeave, MayOwe};
 ghost use Rattle.wal_run.specs.inside.Writing.{Does, DoesTold, PutsPiece};
 ghost use Rattle.wal_run.specs.Fetching.{answer_text, fetching, found_text, is_collision};
 
-use crate::finish::{COLLISION, MALFORMED, NO_MEMORY, PutError, status_of};
-use crate::lines::{add_digits, add_number, add_short, collision_line, malformed_line, put_line};
+use crate::answer::refuse;
+use crate::finish::{COLLISION, NO_MEMORY, PutError, status_of};
+use crate::lines::{add_collision, add_digits, add_number, add_short};
+use crate::refusal::Refusal;
 use std::alloc::{AllocError, Global};
 use wal_frame::{Envelope, envelope};
 use wal_gateway::{Found, Gateway, GetAnswer, first_request};
@@ -30,7 +32,12 @@ fn add_found(alloc: Global, text: &mut Vec<u8>, found: &Found) -> Result<(), All
         Found::Reject => text.extend_from_slice(b"reject\n"),
         Found::Short { have, need } => add_short(text, *have, *need),
         Found::NoMetadata => text.extend_from_slice(b"no metadata\n"),
-        Found::Collision(clash) => text.extend_from_slice(&collision_line(alloc, clash)?),
+        Found::Collision(clash) => add_collision(
+            alloc,
+            text,
+            clash.left.bytes(),
+            clash.right.bytes(),
+        ),
     }
 }
 
@@ -153,6 +160,6 @@ pub fn fetch_ranges<H: Hash32, K: Sink>(
 {
     match malformed_at(stream) {
         None => put_fetched::<H, K>(alloc, capacity, stream, sink),
-        Some(place) => put_line(sink, malformed_line(alloc, place), MALFORMED),
+        Some(place) => refuse(alloc, &Refusal::Malformed(place), sink),
     }
 }

@@ -1,6 +1,7 @@
 //! All that the program does: what the words of a command line ask for, over a source and a sink.
 #![tactic(auto)]
 
+mod answer;
 mod bundle;
 mod challenge;
 mod check;
@@ -8,6 +9,7 @@ mod encode;
 mod envelope;
 mod fetch;
 mod finish;
+mod front;
 mod identify;
 mod image;
 mod law;
@@ -15,7 +17,9 @@ mod lines;
 mod member;
 mod pieces;
 mod read;
+mod recorded;
 mod recover;
+mod refusal;
 mod replay;
 mod sample;
 mod serve;

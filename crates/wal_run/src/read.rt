@@ -1,66 +1,57 @@
 //! The command that reads a blob back from recorded envelopes.
 
 ghost use Rattle.std.specs.Prelude.{◌≡◌, ℕ, ◌≤◌, List, [], Err};
-ghost use Rattle.wal_port.specs.Faults.{Rose};
 ghost use Rattle.wal_reader.specs.Standing.{FinishesStream, StandsFor};
 ghost use Rattle.wal_words.specs.declared.task.Task.TheVariants.{Read};
 ghost use Rattle.wal_words.specs.Task.{IsTask};
 ghost use Rattle.wal_run.specs.Answers.{Ends};
-ghost use Rattle.wal_run.specs.inside.Writing.{Performs};
 ghost use Rattle.wal_run.specs.Command.{IsResult};
 ghost use Rattle.wal_run.specs.Around.{seen};
 ghost use Rattle.wal_run.specs.Reading.{reading};
+ghost use Rattle.wal_run.specs.inside.Answers.{Refuses, Says};
 ghost use Rattle.wal_run.specs.inside.Reading.{outcome_status, outcome_text};
 
-use crate::finish::{
-    COLLISION, MALFORMED, NO_MEMORY, REJECTED, SHORT, SOURCE_FAILED, TOO_LONG, finish,
-};
-use crate::lines::{collision_line, malformed_line, put_line, short_line};
+use crate::answer::{Answer, write_answer};
+use crate::finish::{NO_MEMORY, SOURCE_FAILED, TOO_LONG, finish};
 use crate::pieces::{finish_stream, take_stream};
+use crate::refusal::Refusal;
 use std::alloc::Global;
 use wal_port::{Sink, Source, TakeError};
 use wal_reader::{FinishError, Outcome, ReadAnswer, Reader};
 use wal_shape::BlobId;
 use wal_tree::Hash32;
 
-/// Writes what the payloads came to, and gives its status.
-fn put_outcome<K: Sink>(alloc: Global, outcome: &Outcome, sink: &mut K) -> u8
-    ensures performs { Performs (λ s text. (s ≡ outcome_status outcome.now) × (text ≡ outcome_text outcome.now)) (K.written sink.old) (K.written sink.new) (Rose (K.faults sink.old) (K.faults sink.new)) result }
-    ensures later { K.faults sink.old ≤ K.faults sink.new }
+/// What the payloads came to.
+fn outcome_answer(outcome: Outcome) -> Result<Answer, Refusal>
+    ensures { Says result (λ s text. (s ≡ outcome_status outcome) × (text ≡ outcome_text outcome)) }
 {
     match outcome {
-        Outcome::Bytes(bytes) => finish(sink, bytes.as_slice(), 0),
-        Outcome::Reject => finish(sink, b"reject\n", REJECTED),
-        Outcome::Short { have, need } => put_line(sink, short_line(alloc, *have, *need), SHORT),
-        Outcome::NoMetadata => finish(sink, b"no metadata\n", SHORT),
-        Outcome::Collision(clash) => put_line(sink, collision_line(alloc, clash), COLLISION),
+        Outcome::Bytes(bytes) => Ok(Answer::Bytes(bytes)),
+        Outcome::Reject => Err(Refusal::Reject),
+        Outcome::Short { have, need } => Err(Refusal::Short { have, need }),
+        Outcome::NoMetadata => Err(Refusal::NoMetadata),
+        Outcome::Collision(clash) => Err(Refusal::MetadataClash(clash)),
     }
 }
 
-/// Writes why the whole stream has no answer.
-fn put_refusal<H: Hash32, K: Sink>(alloc: Global, error: FinishError, sink: &mut K) -> u8
-    ensures performs { (id : BlobId) (stream : List ℕ) → FinishesStream H.digest id.0 stream (Err error) → Performs (IsResult H.digest (reading H.digest id) stream) (K.written sink.old) (K.written sink.new) (Rose (K.faults sink.old) (K.faults sink.new)) result }
-    ensures later { K.faults sink.old ≤ K.faults sink.new }
+/// Why the whole stream has no answer.
+fn refusal_of<H: Hash32>(error: FinishError) -> Refusal
+    ensures { (id : BlobId) (stream : List ℕ) → FinishesStream H.digest id.0 stream (Err error) → Refuses result (IsResult H.digest (reading H.digest id) stream) }
 {
     match error {
-        FinishError::Malformed(place) => put_line(sink, malformed_line(alloc, place), MALFORMED),
-        FinishError::TooLong => finish(sink, b"too long\n", TOO_LONG),
-        FinishError::Memory => NO_MEMORY,
+        FinishError::Malformed(place) => Refusal::Malformed(place),
+        // What was taken is within the limit, so that it is memory.
+        FinishError::TooLong | FinishError::Memory => Refusal::Memory,
     }
 }
 
-/// Writes what came of the whole stream.
-fn put_answer<H: Hash32, K: Sink>(
-    alloc: Global,
-    answer: Result<ReadAnswer, FinishError>,
-    sink: &mut K,
-) -> u8
-    ensures performs { (id : BlobId) (stream : List ℕ) → FinishesStream H.digest id.0 stream answer → Performs (IsResult H.digest (reading H.digest id) stream) (K.written sink.old) (K.written sink.new) (Rose (K.faults sink.old) (K.faults sink.new)) result }
-    ensures later { K.faults sink.old ≤ K.faults sink.new }
+/// What came of the whole stream.
+fn stream_answer<H: Hash32>(answer: Result<ReadAnswer, FinishError>) -> Result<Answer, Refusal>
+    ensures { (id : BlobId) (stream : List ℕ) → FinishesStream H.digest id.0 stream answer → Says result (IsResult H.digest (reading H.digest id) stream) }
 {
     match answer {
-        Ok(answer) => put_outcome(alloc, &answer.outcome, sink),
-        Err(error) => put_refusal::<H, K>(alloc, error, sink),
+        Ok(answer) => outcome_answer(answer.outcome),
+        Err(error) => Err(refusal_of::<H>(error)),
     }
 }
 
@@ -79,7 +70,7 @@ fn read_with<H: Hash32, S: Source, K: Sink>(
     match take_stream::<H, S>(alloc, &mut reader, source) {
         Ok(wrong) => {
             let answer = finish_stream::<H>(alloc, reader, wrong);
-            put_answer::<H, K>(alloc, answer, sink)
+            write_answer(alloc, stream_answer::<H>(answer), sink)
         }
         Err(TakeError::ReadFault) => SOURCE_FAILED,
         Err(TakeError::TooLong) => finish(sink, b"too long\n", TOO_LONG),

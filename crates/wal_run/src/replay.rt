@@ -1,41 +1,34 @@
 //! The command that replays a schedule.
 
-ghost use Rattle.std.specs.Prelude.{◌≡◌, ℕ, ◌≤◌, List, IfOk, Ok, codes};
+ghost use Rattle.std.specs.Prelude.{◌≡◌, ℕ, ◌≤◌, List, Ok};
 ghost use Rattle.wal_event.specs.Event.{IsSchedule};
 ghost use Rattle.wal_port.specs.Faults.{Rose};
 ghost use Rattle.wal_schedule.specs.Grammar.{IsRead};
-ghost use Rattle.wal_run.specs.inside.Writing.{Does, Performs};
+ghost use Rattle.wal_run.specs.inside.Writing.{Does};
 ghost use Rattle.wal_run.specs.Command.{IsFault, IsResult, MayLeave, MayOwe};
-ghost use Rattle.wal_run.specs.Lines.{number_text};
 ghost use Rattle.wal_run.specs.Replaying.{replaying};
+ghost use Rattle.wal_run.specs.inside.Answers.{Refuses};
 
-use crate::finish::{COLLISION, MALFORMED, NO_MEMORY, SINK_FAILED, finish};
-use crate::lines::{number_line, put_line};
-use std::alloc::{AllocError, Global};
+use crate::answer::refuse;
+use crate::finish::{COLLISION, NO_MEMORY, SINK_FAILED};
+use crate::refusal::Refusal;
+use std::alloc::Global;
 use wal_event::Schedule;
 use wal_port::Sink;
 use wal_schedule::{ScheduleError, read_schedule};
 use wal_tree::Hash32;
 use wal_world::{ReplayEnd, ReplayError, replay};
 
-/// Which event is none.
-fn bad_event_line(alloc: Global, number: u32) -> Result<Vec<u8>, AllocError>
-    ensures { IfOk result (λ line. line.items ≡ number_text (codes "bad event ") number) }
-{
-    number_line(alloc, b"bad event ", u64::from(number))
-}
-
-/// Writes what is wrong with an input that is no schedule.
-fn put_fault<K: Sink>(alloc: Global, error: ScheduleError, sink: &mut K) -> u8
-    ensures performs { Performs (λ s text. (s ≡ 8) × IsFault error text) (K.written sink.old) (K.written sink.new) (Rose (K.faults sink.old) (K.faults sink.new)) result }
-    ensures later { K.faults sink.old ≤ K.faults sink.new }
+/// What is wrong with an input that is no schedule.
+fn refusal_of(error: ScheduleError) -> Refusal
+    ensures { Refuses result (λ s text. (s ≡ 8) × IsFault error text) }
 {
     match error {
-        ScheduleError::NotJson => finish(sink, b"not json\n", MALFORMED),
-        ScheduleError::BadSchedule => finish(sink, b"bad schedule\n", MALFORMED),
-        ScheduleError::TooMany => finish(sink, b"too many events\n", MALFORMED),
-        ScheduleError::BadEvent(number) => put_line(sink, bad_event_line(alloc, number), MALFORMED),
-        ScheduleError::Memory => NO_MEMORY,
+        ScheduleError::NotJson => Refusal::NotJson,
+        ScheduleError::BadSchedule => Refusal::BadSchedule,
+        ScheduleError::TooMany => Refusal::TooManyEvents,
+        ScheduleError::BadEvent(number) => Refusal::BadEvent(number),
+        ScheduleError::Memory => Refusal::Memory,
     }
 }
 
@@ -60,6 +53,6 @@ pub fn replay_schedule<H: Hash32, K: Sink>(alloc: Global, input: &[u8], sink: &m
 {
     match read_schedule(alloc, input) {
         Ok(schedule) => put_lines::<H, K>(alloc, &schedule, sink),
-        Err(error) => put_fault(alloc, error, sink),
+        Err(error) => refuse(alloc, &refusal_of(error), sink),
     }
 }

@@ -13,6 +13,7 @@ ghost use Rattle.wal_run.specs.Commands.{whole_command};
 ghost use Rattle.wal_run.specs.inside.Commands.{IsInRange, IsWholeInRange};
 ghost use Rattle.wal_run.specs.inside.Writing.{Does};
 
+use crate::answer::write_answer;
 use crate::bundle::bundle_members;
 use crate::challenge::challenge_shard;
 use crate::check::check_proof;
@@ -20,12 +21,12 @@ use crate::encode::encode;
 use crate::fetch::fetch_ranges;
 use crate::finish::{NO_MEMORY, SOURCE_FAILED, TOO_LONG, USAGE, finish};
 use crate::identify::identify;
-use crate::image::write_image;
+use crate::image::image_parts;
 use crate::member::read_member;
 use crate::read::read_stream;
 use crate::recover::recover_sliver;
 use crate::replay::replay_schedule;
-use crate::sample::put_sample;
+use crate::sample::sum_up;
 use crate::serve::serve_shard;
 use crate::unpack::unpack_image;
 use crate::verify::verify_answer;
@@ -136,7 +137,7 @@ fn answer_task<H: Hash32, S: Source, K: Sink>(
         Task::Whole(task) => answer_input::<H, S, K>(alloc, task, source, sink),
         Task::Read(id) => read_stream::<H, S, K>(alloc, id, source, sink),
         Task::Serve(service) => serve_shard::<H, S, K>(alloc, service, source, sink),
-        Task::Sample(number) => put_sample::<H, K>(alloc, *number, sink),
+        Task::Sample(number) => write_answer(alloc, sum_up::<H>(alloc, *number), sink),
     }
 }
 
@@ -173,21 +174,37 @@ fn perform<H: Hash32, K: Sink>(alloc: Global, task: &WholeTask, input: &[u8], si
     ensures later { K.faults sink.old ≤ K.faults sink.new }
 {
     match task {
-        WholeTask::Identify(faults, format) => identify::<H, K>(
-            alloc, *faults, *format, input, sink,
+        WholeTask::Identify(faults, format) => write_answer(
+            alloc,
+            identify::<H>(alloc, *faults, *format, input),
+            sink,
         ),
         WholeTask::Encode(faults, format) => encode::<H, K>(alloc, *faults, *format, input, sink),
-        WholeTask::Recover(id, axis, index) => recover_sliver::<H, K>(
-            alloc, id, *axis, *index, input, sink,
+        WholeTask::Recover(id, axis, index) => write_answer(
+            alloc,
+            recover_sliver::<H>(alloc, id, *axis, *index, input),
+            sink,
         ),
-        WholeTask::Check(id) => check_proof::<H, K>(alloc, id, input, sink),
+        WholeTask::Check(id) => write_answer(alloc, check_proof::<H>(alloc, id, input), sink),
         WholeTask::Replay => replay_schedule::<H, K>(alloc, input, sink),
-        WholeTask::Image(size) => write_image::<H, K>(alloc, *size, input, sink),
-        WholeTask::Unpack => unpack_image::<H, K>(alloc, input, sink),
-        WholeTask::Bundle(faults) => bundle_members::<H, K>(alloc, *faults, input, sink),
-        WholeTask::Member(id, k) => read_member::<H, K>(alloc, id, *k, input, sink),
+        WholeTask::Image(size) => write_answer(alloc, image_parts::<H>(alloc, *size, input), sink),
+        WholeTask::Unpack => write_answer(alloc, unpack_image::<H>(alloc, input), sink),
+        WholeTask::Bundle(faults) => write_answer(
+            alloc,
+            bundle_members::<H>(alloc, *faults, input),
+            sink,
+        ),
+        WholeTask::Member(id, k) => write_answer(
+            alloc,
+            read_member::<H>(alloc, id, *k, input),
+            sink,
+        ),
         WholeTask::Challenge(audit) => challenge_shard::<H, K>(alloc, audit, input, sink),
-        WholeTask::Verify(audit) => verify_answer::<H, K>(alloc, audit, input, sink),
+        WholeTask::Verify(audit) => write_answer(
+            alloc,
+            verify_answer::<H>(alloc, audit, input),
+            sink,
+        ),
         WholeTask::Gateway(capacity) => fetch_ranges::<H, K>(alloc, *capacity, input, sink),
     }
 }

@@ -1,18 +1,17 @@
 //! The command that lists the parts that an image holds.
 
-ghost use Rattle.std.specs.Prelude.{◌≡◌, ◌≤◌, ◌++◌, ℕ, List, [], IfOk, OnOk};
-ghost use Rattle.wal_port.specs.Faults.{Rose};
+ghost use Rattle.std.specs.Prelude.{◌≡◌, ◌++◌, IfOk, OnOk};
 ghost use Rattle.wal_store.specs.Contents.{parts_at, part_at};
-ghost use Rattle.wal_run.specs.inside.Writing.{Performs};
 ghost use Rattle.wal_run.specs.Command.{IsResult};
 ghost use Rattle.wal_run.specs.Unpacking.{part_word, part_line, part_text, holding_text, contents_text, unpacking};
+ghost use Rattle.wal_run.specs.inside.Answers.{Says};
 
-use crate::finish::{MALFORMED, NO_MEMORY};
-use crate::lines::{add_number, malformed_line, put_line};
+use crate::answer::Answer;
+use crate::lines::add_number;
+use crate::refusal::Refusal;
 use std::alloc::{AllocError, Global};
 use wal_journal::{FlatDisk, Journal, OpenFault, OpenRefusal};
-use wal_port::Sink;
-use wal_shape::{BlobId, Part};
+use wal_shape::{BlobId, Bytes, Part};
 use wal_store::{Keep, MapKeep};
 use wal_tree::Hash32;
 
@@ -80,34 +79,32 @@ fn contents_lines<K: Keep>(alloc: Global, keep: &K) -> Result<Vec<u8>, AllocErro
     Ok(text)
 }
 
-/// Writes the lines of the parts that an image holds, or where it is malformed.
-pub fn unpack_image<H: Hash32, K: Sink>(alloc: Global, image: &[u8], sink: &mut K) -> u8
-    ensures performs { Performs (IsResult H.digest unpacking image.now) (K.written sink.old) (K.written sink.new) (Rose (K.faults sink.old) (K.faults sink.new)) result }
-    ensures later { K.faults sink.old ≤ K.faults sink.new }
+/// The lines of the parts that an image holds, or where it is malformed.
+pub fn unpack_image<H: Hash32>(alloc: Global, image: &[u8]) -> Result<Answer, Refusal>
+    ensures { Says result (IsResult H.digest unpacking image.now) }
 {
     if image.is_empty() {
-        return put_line(sink, malformed_line(alloc, 0), MALFORMED);
+        return Err(Refusal::Malformed(0));
     }
-    let Ok(bytes) = Vec::from_slice(alloc, image) else {
-        return NO_MEMORY;
-    };
-    let Ok(keep) = MapKeep::create(alloc, None) else {
-        return NO_MEMORY;
-    };
+    let bytes = Vec::from_slice(alloc, image)?;
+    let keep = MapKeep::create(alloc, None)?;
     match Journal::open(alloc, FlatDisk::create(bytes), keep) {
-        Ok(journal) => put_line(sink, contents_lines(alloc, journal.keep()), 0),
+        Ok(journal) => {
+            let text = contents_lines(alloc, journal.keep())?;
+            Ok(Answer::Bytes(Bytes::from_vec(text)))
+        }
         Err(
             OpenRefusal {
                 why: OpenFault::BadRecord(at),
                 ..
             },
-        ) => put_line(sink, malformed_line(alloc, at), MALFORMED),
+        ) => Err(Refusal::Malformed(at)),
         Err(
             OpenRefusal {
                 why: OpenFault::Memory,
                 ..
             },
-        ) => NO_MEMORY,
+        ) => Err(Refusal::Memory),
         // A keep without a limit is never full, and this disk never fails.
         Err(
             OpenRefusal {

@@ -6,15 +6,16 @@ use Rattle.wal_words.specs.declared.task.Task.{Task}
 use Rattle.wal_words.specs.declared.task.Task.TheVariants.{Serve}
 use Rattle.wal_words.specs.Task.{IsTask, NoTask}
 use Rattle.wal_run.specs.Answers.{Answers, Ends, usage, too_long, done, whole, no_memory_for_words, no_memory, broke_off, source_failed, sink_failed, cut_off, serving_ended, usage_text}
-use Rattle.wal_run.specs.Command.{Command, Content, Grammar, IsResult, IsTakenWhole, TakenBy, TakesInput, bytes, envelopes, envelopes_of, nothing, schedule}
+use Rattle.wal_run.specs.Command.{Command, Grammar, IsResult, IsTakenWhole, Spelled, TakenBy, TakesInput, bytes, envelopes, envelopes_of, nothing, schedule}
 use Rattle.wal_run.specs.Commands.{command_of}
 use Rattle.walrus_c.specs.Call.{around}
 
--- a command that takes its input, leaves nothing behind when memory runs out, and whose every result for an input of so many bytes has room
+-- a command that takes its input, and whose every result for an input of so many bytes has room, as has whatever it leaves behind when memory runs out
 pub record HasRoom (digest : List ℕ → List ℕ) (c : Command) (count room : ℕ) : Type 0 where
   pub takes : TakesInput c.grammar
   pub least : 9 ≤ room
-  pub leaves : (content : Content c.grammar) (text : List ℕ) → c.Leaves content text → ⊥
+  pub leaves : (input : List ℕ) → length input ≡ count → length input ≤ c.limit → (text : List ℕ) → Spelled digest c input (λ content. c.Leaves content text)
+      → length text ≤ room
   pub results : (input : List ℕ) → length input ≡ count → length input ≤ c.limit → (status : ℕ) (text : List ℕ) → IsResult digest c input status text
       → length text ≤ room
 
@@ -61,7 +62,8 @@ end_short digest words input rest before text task room _ asked only has (no_mem
 end_short digest words input rest before text task room _ asked only has (broke_off other is given taken all may wrote) =
     let here : HasRoom digest (command_of digest other) (length input) room =
     subst (λ t. HasRoom digest (command_of digest t) (length input) room) (sym (only other is)) has in
-    absurd (here.leaves may.0.0 all may.0.2)
+    let whole_input = taken_whole _ _ _ _ given here.takes taken in
+    behind before text all room wrote (here.leaves given (ap length whole_input.told) whole_input.within all may.0)
 end_short digest words input rest before text task room _ asked only has (source_failed other is takes most rose keeps) = absurd (never rose)
 end_short digest words input rest before text task room _ asked only has (sink_failed status all is rose part) = absurd (never rose)
 end_short digest words input rest before text task room _ asked only has (cut_off other is given taken all may rose part) = absurd (never rose)

@@ -2,8 +2,13 @@ mod Calls
 mod Clashes
 mod Encodes
 mod Ends
+mod Images
 mod Lengths
 mod Lines
+mod Listings
+mod MemberTexts
+mod OpeningTexts
+mod Payloads
 mod Ranges
 mod ReadTexts
 mod RecoverTexts

@@ -15,11 +15,11 @@ in_range words task asked =
       | serve word place f shard is_f is_shard ↦ tt
       | replay ↦ tt
       | sample word number is ↦ tt
-      | image word size is ↦ tt
+      | image word size is ↦ is.2
       | unpack ↦ tt
       | bundle word f is ↦ tt
       | member word place id number is_id is_number ↦ tt
-      | challenge word place beacon amount audit is ↦ tt
+      | challenge word place beacon amount audit is ↦ is.symbol_count.1
       | verify word place beacon amount audit is ↦ is.symbol_count.2
       | gateway word capacity is ↦ tt
     ]

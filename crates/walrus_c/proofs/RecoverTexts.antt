@@ -70,7 +70,7 @@ module _ (digest : List ℕ → List ℕ) (size_is : (text : List ℕ) → lengt
       let parts : count * (327 + s) ≡ 327 * count + count * s = omega arith in
       omega (arith, bodies, same, parts, sliver_fits axis m.f m.length shape, symbols_few axis m.f, shape.1)
 
-  id_long : (id : List ℕ) (payloads : List (List ℕ)) (m : BlobMetadata) → IsMetadataIn digest id payloads m → length id ≡ 32
+  pub id_long : (id : List ℕ) (payloads : List (List ℕ)) (m : BlobMetadata) → IsMetadataIn digest id payloads m → length id ≡ 32
   unfolding identifier_of
   id_long id payloads m is = ap length is.0.4.1.identifier ∙ size_is _
 

@@ -1,6 +1,6 @@
 -- THE ROOM of a call: so many bytes suffice for whatever text a run of the words writes, by the task and by how many bytes the input has.
-use Rattle.std.specs.Prelude.{◌≡◌, ℕ, ◌*◌, ◌+◌, ◌-◌, ◌^◌, ◌<◌, ◌≤◌, min, List, length}
-use Rattle.wal_shape.specs.Shape.{most_bytes}
+use Rattle.std.specs.Prelude.{◌≡◌, ℕ, ◌*◌, ◌+◌, ◌-◌, ◌/◌, ◌^◌, ◌<◌, ◌≤◌, min, max, List, length, nat_lt, if◌then◌else◌}
+use Rattle.wal_shape.specs.Shape.{cell_count, most_bytes}
 use Rattle.wal_words.specs.declared.task.Task.{Task}
 use Rattle.wal_words.specs.declared.task.Task.TheVariants.{Whole, Read, Serve, Sample}
 use Rattle.wal_words.specs.declared.task.WholeTask.{WholeTask}
@@ -28,6 +28,23 @@ one_line = 272
 abbrev pub recovered_most : ℕ
 recovered_most = 45 + 667 * 327 + most_bytes
 
+-- the most bytes of an image, and of envelopes that are read at once: of more only a line is written
+abbrev pub most_taken : ℕ
+most_taken = 134217728
+
+-- the most bytes of a member, whose columns are some of those of a source block: each of its symbols is filled but for less than a word
+abbrev pub member_most : ℕ
+member_most = most_bytes + 2 * cell_count 333
+
+-- the most bytes of the envelope of an opening, with a path of ten digests and a symbol: five of its size stand in the two slivers that are
+-- read, and 2,796,204 bytes are the symbol of the longest blob at one fault
+abbrev pub opening_most : ℕ → ℕ
+opening_most count = 50 + 320 + min (count / 5) 2796204
+
+-- a room below 2^31, and none if this bound is more
+abbrev pub or_none : ℕ → ℕ
+or_none room = if nat_lt room (2 ^ 31) then room else none_given
+
 -- by the command of a task that takes its whole input at once, and how many bytes the input has
 abbrev pub whole_room : WholeTask → ℕ → ℕ
 whole_room (Identify f format) count = name_line
@@ -35,11 +52,11 @@ whole_room (Encode f format) count = encoded_bytes f format (min count most_byte
 whole_room (Recover id axis index) count = recovered_most
 whole_room (Check id) count = one_line
 whole_room Replay count = none_given
-whole_room (Image size) count = none_given
-whole_room Unpack count = none_given
-whole_room (Bundle f) count = none_given
-whole_room (Member id k) count = none_given
-whole_room (Challenge audit) count = none_given
+whole_room (Image size) count = max size one_line
+whole_room Unpack count = max (2 * min count most_taken) one_line
+whole_room (Bundle f) count = most_bytes
+whole_room (Member id k) count = member_most
+whole_room (Challenge audit) count = or_none (audit.count * opening_most count)
 whole_room (Verify audit) count = one_line
 whole_room (Gateway capacity) count = none_given
 

@@ -4,7 +4,7 @@ ghost use Rattle.std.specs.Prelude.{◌≡◌, ℕ, ◌+◌, ◌*◌, ◌≤◌,
 ghost use Rattle.wal_shape.specs.Shape.{most_bytes, shard_count};
 ghost use Rattle.wal_shape.specs.Spelling.{text_size};
 ghost use Rattle.walrus_c.specs.Encoded.{encoded_bytes};
-ghost use Rattle.walrus_c.specs.Room.{room_of, whole_room};
+ghost use Rattle.walrus_c.specs.Room.{opening_most, or_none, room_of, whole_room};
 ghost use Rattle.walrus_c.specs.inside.Ranges.{InRange, WholeInRange};
 ghost use Rattle.walrus_c.specs.inside.Rooming.{IsTold};
 
@@ -26,6 +26,18 @@ const ONE_LINE: u64 = 272;
 
 /// The most bytes of what `recover` writes.
 const RECOVERED_MOST: u64 = 16_995_370;
+
+/// The most bytes of an image.
+const MOST_TAKEN: u64 = 134_217_728;
+
+/// The most bytes of a member.
+const MEMBER_MOST: u64 = 17_222_772;
+
+/// The most bytes of a symbol.
+const SYMBOL_MOST: u64 = 2_796_204;
+
+/// The bytes around the symbol in the envelope of an opening.
+const AROUND_SYMBOL: u64 = 50 + 320;
 
 /// What is told for words and an input of so many bytes.
 pub fn room_for(alloc: Global, words: &Vec<String>, count: u64) -> u64
@@ -58,14 +70,22 @@ fn whole_task_room(task: &WholeTask, count: u64) -> u64
         WholeTask::Encode(faults, format) => encoded_room(*faults, *format, count.min(MOST_BYTES)),
         WholeTask::Check(_) | WholeTask::Verify(_) => ONE_LINE,
         WholeTask::Recover(..) => RECOVERED_MOST,
-        WholeTask::Replay
-        | WholeTask::Image(_)
-        | WholeTask::Unpack
-        | WholeTask::Bundle(_)
-        | WholeTask::Member(..)
-        | WholeTask::Challenge(_)
-        | WholeTask::Gateway(_) => NONE_GIVEN,
+        WholeTask::Image(size) => u64::from(*size).max(ONE_LINE),
+        WholeTask::Unpack => (2 * count.min(MOST_TAKEN)).max(ONE_LINE),
+        WholeTask::Bundle(_) => MOST_BYTES,
+        WholeTask::Member(..) => MEMBER_MOST,
+        WholeTask::Challenge(audit) => answer_room(audit.count, count),
+        WholeTask::Replay | WholeTask::Gateway(_) => NONE_GIVEN,
     }
+}
+
+// That of the envelopes of so many openings.
+fn answer_room(openings: u16, count: u64) -> u64
+    ensures { result ≡ or_none (openings * opening_most count) }
+{
+    let opening = AROUND_SYMBOL + (count / 5).min(SYMBOL_MOST);
+    let room = u64::from(openings) * opening;
+    if room < 1 << 31 { room } else { NONE_GIVEN }
 }
 
 // That of all envelopes of a blob of so many bytes.

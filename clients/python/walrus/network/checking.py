@@ -53,6 +53,8 @@ def faults_of_places(told: dict[str, Any]) -> list[str]:
     faults = [f"{it} is not HOST:PORT" for it in places if not re.fullmatch(r"(\[[0-9A-Fa-f:.]+\]|[^:]+):\d{1,5}", it)]
     faults += ["recorders is empty"] if told.get("recorders") == [] else []
     faults += [f"port {told['port']} is none"] if not 0 <= told.get("port", 0) < 65_536 else []
+    if not re.fullmatch(r"(.*:)?\d{1,5}|", told.get("metrics", "")):
+        faults.append(f"metrics {told['metrics']} is no PORT, and not HOST:PORT")
     if "etcd" in told and not told["etcd"].startswith("https://"):
         faults.append("etcd is a URL with https")
     return faults

@@ -7,7 +7,7 @@ import asyncio
 import contextlib
 import dataclasses
 import struct
-from typing import Any, AsyncIterator, Callable, Iterator, Union
+from typing import Any, AsyncIterator, Callable, Iterator, Optional, Union
 
 from .. import bundles, client
 
@@ -64,11 +64,12 @@ class Writer:
         self.network, self.memory, self.turns = network, memory, asyncio.Semaphore(turns)
         self.giving = set["asyncio.Task[None]"]()  # memory back, where nodes are left behind
 
-    async def store(self, stream: AsyncIterator[bytes], epochs: int) -> Told:
+    async def store(self, stream: AsyncIterator[bytes], epochs: int, stored: Optional[list[bytes]] = None) -> Told:
         """Stores a file for so many epochs, and tells what came of it. Of its pieces one comes while one is encoded and
-        others are certified."""
+        others are certified; where it fails, those that are certified come to `stored`."""
         ledger = self.network.ledger
         until, size, first = min(ledger.writing_epoch + epochs, LAST_UNTIL), 0, b""
+        stored = [] if stored is None else stored
         tasks: list["asyncio.Task[tuple[bytes, bool]]"] = []
         try:
             async with contextlib.aclosing(pieces.split(stream, PIECE)) as parts:
@@ -78,34 +79,40 @@ class Writer:
                         await tasks[-AHEAD]
                     tasks.append(asyncio.create_task(self.store_blob(piece, until)))
                     del piece
-            stored = await asyncio.gather(*tasks)
+            done = await asyncio.gather(*tasks)
+            identifier, count = b"".join(name for name, _ in done), len(done)
+            if count > 1 or first == MARK:
+                done.append(await self.store_blob(File(size, identifier).listed(), until))
+                identifier = done[-1][0]
         finally:
             for task in tasks:
                 task.cancel()
-            await asyncio.gather(*tasks, return_exceptions=True)
-        identifier, count = b"".join(name for name, _ in stored), len(stored)
-        if count > 1 or first == MARK:
-            stored.append(await self.store_blob(File(size, identifier).listed(), until))
-            identifier = stored[-1][0]
+            said = await asyncio.gather(*tasks, return_exceptions=True)
+            stored += [it[0] for it in said if isinstance(it, tuple)]
         found, blob = ledger.certificate(identifier), ledger.blobs.get(identifier)
         if not found or not blob:
             raise client.Failed("its time ended while it was stored: store it for more epochs", {})
         told = {"blobId": identifier.hex(), "size": size, "pieces": count, "endEpoch": blob.until}
         certificate = {"epoch": found[0], "count": found[1]}
-        return told | {"certificate": certificate, "alreadyCertified": all(before for _, before in stored)}
+        return told | {"certificate": certificate, "alreadyCertified": all(before for _, before in done)}
 
     async def store_bundle(
-        self, kind: str, count: Callable[[int], None], stream: AsyncIterator[bytes], epochs: int
+        self,
+        kind: str,
+        count: Callable[[int], None],
+        stream: AsyncIterator[bytes],
+        epochs: int,
+        stored: Optional[list[bytes]] = None,
     ) -> Told:
         """Stores the files of a form of this media type as one bundle, which is no longer than a piece, once its length
         was counted."""
         bundle, members = await self.bundle(kind, await pieces.gathered(stream))
         count(len(bundle))
 
-        async def stored() -> AsyncIterator[bytes]:
+        async def whole() -> AsyncIterator[bytes]:
             yield bundle
 
-        told = await self.store(stored(), epochs)
+        told = await self.store(whole(), epochs, stored)
         return told | {"members": [{"id": f"{told['blobId']}/{it}", **member} for it, member in enumerate(members)]}
 
     async def bundle(self, kind: str, form: bytes) -> tuple[bytes, list[Told]]:

@@ -10,10 +10,12 @@ import aiohttp
 from .. import client, loop
 
 from . import operators, tokens
-from .checked import written_whole
 from .dates import epochs_for
+from .fetching import fetch_any
 from .follower import Refused, Unreachable
-from .transfers import Failure, ask, fetch, listed, store, store_bundle
+from .resuming import store
+from .transfers import Failure, ask, listed, store_bundle
+from .trees import store_folder
 
 URL = "http://127.0.0.1:31415"
 STATUSES = """exit status: 0 done; 1 it could not be done; 2 these words ask for nothing; 3 the blob was badly
@@ -36,7 +38,8 @@ def tell_blob(told: dict[str, Any]) -> str:
     found, names = told["certificate"], {it: " ".join(told.get(it, [])) for it in ("acknowledged", "lacking")}
     state = f"{found['count']} shards acknowledged it in epoch {found['epoch']}" if found else "not certified"
     state = "declared invalid" if told.get("invalid") else state
-    more = [f"{it}: {text}" for it, text in names.items() if text]
+    more = [f"{told['live']} shards are there now"] if found and "live" in told else []
+    more += [f"{it}: {text}" for it, text in names.items() if text]
     until = f"{told['endEpoch']} ({told['ends']})" if told.get("ends") else told["endEpoch"]
     return ", ".join([f"{told['blobId']} until epoch {until}", state, *more])
 
@@ -66,16 +69,17 @@ def tell_status(told: dict[str, Any]) -> str:
         words = [f"{at} {' '.join(map(str, it[at]))}" for at in ("shards", "next") if it[at]] + [it["state"]]
         words += tell_figures(it.get("figures", {}))
         lines.append(f"{it['name']}: {', '.join(words)}" + (f" ({it['said']})" if it["said"] else ""))
+    if why := told.get("storing", {}).get("why"):
+        lines.append(f"nothing can be stored now: {why}")
     return "\n".join(lines + [tell_blob(it) for it in told["recent"][:10]])
 
 
 async def remotely(words: argparse.Namespace, session: aiohttp.ClientSession) -> int:
     """Does a command that a gateway answers."""
     if words.command == "fetch":
-        with written_whole(words.output) as out:
-            size = await fetch(session, words.id, out)
+        told = await fetch_any(session, words.id, words.output, words.only)
         if words.json:
-            print(json.dumps({"blobId": words.id, "size": size}), file=sys.stderr)
+            print(json.dumps({"blobId": words.id, **told}), file=sys.stderr)
         return 0
     if words.command in ("list", "expiring"):
         async for told in listed(session, words.within):
@@ -93,7 +97,8 @@ async def remotely(words: argparse.Namespace, session: aiohttp.ClientSession) ->
             told = await store_bundle(session, words.file, words.epochs)
             text = "\n".join([tell_blob(told), *(f"{it['id']} {it['name']}" for it in told["members"])])
         elif words.command == "store":
-            told = {"file": path, **await store(session, path, words.epochs)}
+            way = store_folder if os.path.isdir(path) else store
+            told = {"file": path, **await way(session, path, words.epochs)}
             text = f"{tell_blob(told)} {path}"
         elif words.command == "status":
             told = await ask(session, "GET", f"/v1/status/{words.id}".rstrip("/"))
@@ -133,10 +138,10 @@ def parse() -> argparse.Namespace:
     remote = {"gateway": (os.environ.get("WALRUS_GATEWAY", URL), "its URL, or the variable WALRUS_GATEWAY")}
     plain = {"json": (False, "say what came of it as JSON")}
     bundle = {"bundle": (False, "store small files together, as one bundle")}
-    sub = add("store", "store files; - is standard input", "file+", **bundle, **remote, **plain)
+    sub = add("store", "store files and folders; - is standard input", "file+", **bundle, **remote, **plain)
     add_epochs(sub)
-    out = {"output": ("-", "where it goes")}
-    add("fetch", "get a file back, which in a bundle is ID/NUMBER", "id", **out, **remote, **plain)
+    out = {"output": ("-", "where it goes"), "only": ("", "the path of a file or a folder in it, of a folder")}
+    add("fetch", "get a file back, which in a bundle is ID/NUMBER, or a folder", "id", **out, **remote, **plain)
     within = {"within": (65_536, "that end in so many epochs at most, now being one")}
     add("list", "list the blobs", **within, **remote, **plain)
     within = {"within": (1, "that end in so many epochs at most, now being one")}

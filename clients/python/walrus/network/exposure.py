@@ -14,6 +14,7 @@ class Exposure:
     proxies: list[str] = dataclasses.field(default_factory=list)  # addresses whose X-Forwarded-For is believed
     tls_certificate: str = ""
     tls_key: str = ""
+    sites: str = ""  # the host below which each folder has one of its own; none, where it is empty
     log: str = ""  # a file for a line for each request; - is standard output
     requests: float = 1_000.0  # a second, of a token and of an address; any number, where it is 0
     rate: float = 0.0  # bytes a second, of a token and of an address; any number, where it is 0
@@ -25,6 +26,7 @@ WORDS: dict[str, tuple[Any, str]] = {
     "proxies": ("", "addresses of servers before it, with commas between, whose X-Forwarded-For is believed"),
     "certificate": ("", "a file with the certificate for HTTPS, and those between it and its root"),
     "key": ("", "the file with its key"),
+    "sites": ("", "HOST, of which each folder has a name below, ID.HOST"),
     "log": ("", "a file for a line for each request; - is standard output"),
     "requests": (Exposure.requests, "that a token and an address may make a second, or 0"),
     "rate": (Exposure.rate, "bytes that a token and an address may move a second, or 0"),
@@ -37,4 +39,5 @@ def chosen(words: argparse.Namespace) -> dict[str, Any]:
         raise ValueError("--certificate and --key go together")
     lists = {name: [it for it in getattr(words, name).split(",") if it] for name in ("names", "proxies")}
     files = {"tls_certificate": words.certificate, "tls_key": words.key, "tokens": words.tokens, "log": words.log}
+    files["sites"] = words.sites
     return {**lists, **files, "requests": words.requests, "rate": words.rate}

@@ -1,4 +1,5 @@
 """What an operator sees of a node: its figures, which its port tells whoever asks; and a scrub begins when asked."""
+import collections
 import dataclasses
 import json
 import shutil
@@ -12,10 +13,23 @@ from ..port import Bounds, Connection, Port, Said
 
 from . import whole
 from .peers import FIGURES, SCRUB
+from .times import Times
 
 if TYPE_CHECKING:
     from .node import Node
 
+NAMES = {  # of requests, as they are told
+    client.METADATA: "metadata",
+    client.SECOND_METADATA: "metadata",
+    client.SLIVER: "sliver",
+    client.PROOF: "proof",
+    client.READ: "read",
+    client.SYMBOL: "symbol",
+    client.ACK: "acknowledge",
+    client.ATTEST: "attest",
+    client.FORGET: "forget",
+    whole.WHOLE: "store",
+}
 FRESH = 10.0  # seconds for which what is held is not counted anew
 
 
@@ -25,8 +39,17 @@ class NodePort(Port):
     def __init__(self, node: "Node", bounds: Bounds):
         super().__init__(node.reply, client.Shape(1), bounds)
         self.node, self.counted = node, (-FRESH, dict[str, int]())
+        self.times, self.moved = Times(), collections.Counter[str]()
 
     async def answer(self, client: Connection, sender: int, payload: Optional[Data]) -> Said:
+        """Has a request answered, and counts it by its kind, its time and its bytes."""
+        with self.times.taking(f'kind="{NAMES.get(payload[0] if payload else 0, "other")}"'):
+            said = await self.answer_one(client, sender, payload)
+        self.moved['way="in"'] += len(payload or b"")
+        self.moved['way="out"'] += len(said.data)
+        return said
+
+    async def answer_one(self, client: Connection, sender: int, payload: Optional[Data]) -> Said:
         if payload and payload[0] == whole.WHOLE:
             client.had_reply = True
             return await self.node.reply(sender, payload)
@@ -67,3 +90,18 @@ class NodePort(Port):
             "recovered": dataclasses.asdict(node.progress),
             "scrub": dataclasses.asdict(node.scrub.figures),
         }
+
+    def numbers(self) -> bytes:
+        """The same in the text format of Prometheus, with what was asked."""
+        from . import metrics  # here alone: who is not asked for it does not load it
+
+        gauges: dict[str, Any] = {
+            f"{group}_{name}": it
+            for group, parts in self.figures().items()
+            if isinstance(parts, dict)
+            for name, it in parts.items()
+            if isinstance(it, (int, float))
+        }
+        gauges |= {"epoch": self.node.ledger.epoch, "ledger_away_seconds": self.node.silence()}
+        counters: dict[str, Any] = {"judged": self.node.judges.count, "request_bytes": self.moved}
+        return metrics.told(counters, gauges, {"request_seconds": self.times})

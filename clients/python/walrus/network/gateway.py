@@ -12,8 +12,10 @@ from aiohttp import hdrs, web
 from .. import client
 
 from .access import CommonLog, log_to
+from .announcing import Announcer
 from .client import Access, Network
 from .connections import Certificate, Counted, Server
+from .folders import PATHS, Folders
 from .follower import Unreachable
 from .guard import Guard
 from .listing import Lister
@@ -22,27 +24,44 @@ from .page import Watch
 from .problems import ALONE, Problem, as_json, ledger_away, problem_of
 from .publishing import Publisher, expected, named
 from .reading import Options, Reader
-from .tokens import Tokens
+from .shelf import Shelf
+from .sorting import Sorter
+from .times import HEADERS, Times
+from .tokens import STORE, Tokens
+from .uploads import Uploads
 
 __all__ = ["Gateway", "Options", "ending", "serve"]
 MMAP_THRESHOLD = -3  # an option of the C library's mallopt
 FRESH = {**ALONE, "Cache-Control": "no-store"}
 POLICY = "default-src 'none'; style-src 'self'; script-src 'self'; connect-src 'self'; frame-ancestors 'none'"
+POLICY += "; form-action 'none'; base-uri 'none'"
 OWN = {**ALONE, "Content-Security-Policy": POLICY, "Cache-Control": "no-cache"}
-STORING = ("PUT", "/v1/blobs"), ("PUT", "/v1/blobs/{name}"), ("POST", "/v1/extend/{name}"), ("POST", "/v1/bundles")
-TAKEN = dict.fromkeys(STORING, ["epochs"]) | {("GET", "/v1/blobs"): ["within", "after"]}  # the words of queries
+STORING = (
+    ("PUT", "/v1/blobs"),
+    ("PUT", "/v1/blobs/{name}"),
+    ("POST", "/v1/extend/{name}"),
+    ("POST", "/v1/bundles"),
+    ("POST", "/v1/uploads"),
+)
+TAKEN = dict.fromkeys([*STORING, ("PUT", "/v1/folders")], ["epochs"])  # the words of queries
+TAKEN |= {("GET", "/v1/blobs"): ["within", "after"]}
 RESTING = (
     "/v1/blobs",
     "/v1/bundles",
+    "/v1/folders",
+    "/v1/uploads",
     "/v1/extend",
     "/v1/challenges",
     "/v1/status/",
 )  # what rests on what the ledger says now
-PAGES = {"/": "page/page.html", "/page.css": "page/page.css", "/page.js": "page/page.js", "/v1/api": "openapi.yaml"}
+PARTS = "page.css", "page.js", "store.js"
+PAGES = {"/": "page/page.html", "/v1/api": "openapi.yaml"} | {f"/{it}": f"page/{it}" for it in PARTS}
 
 
 def must_be_known(request: web.Request) -> None:
     """Raises where the query of a request has a word that it does not take, or one twice."""
+    if request.path.startswith(PATHS) and request.method in ("GET", "HEAD"):
+        return  # pages have words for themselves, such as app.js?version=3
     resource = request.match_info.route.resource
     taken = TAKEN.get((request.method, resource.canonical if resource else ""), [])
     unknown = [word for word in request.query if word not in taken]
@@ -60,9 +79,16 @@ class Gateway(Server):
         self.network, self.options = network, options or Options()
         options = self.options
         self.reader = Reader(network, options)
-        self.lister = Lister(network, self.reader)
+        self.shelf = Shelf(self.reader)
+        self.lister = Lister(network, self.reader, self.shelf)
         self.publisher = Publisher(network, self.reader, self.lister, options)
-        self.watch = Watch(network, network.authority, options.probe, options.challenge, options.stale)
+        self.folders = Folders(self.reader, self.publisher, self.shelf, options.sites)
+        self.uploads = Uploads(self.publisher)
+        self.announcer = Announcer(network, self.reader.memory)
+        self.reader.rejected = self.announcer.hear
+        sorter = Sorter(self.reader)
+        self.watch = Watch(network, network.authority, options.probe, options.challenge, options.stale, sorter)
+        self.watch.announced, self.times = self.announcer.findings, Times()
         self.requests: "collections.Counter[str]" = collections.Counter()
         tokens = pathlib.Path(options.tokens or folder / "tokens.json")
         self.guard = Guard(options, Tokens(tokens))
@@ -72,22 +98,36 @@ class Gateway(Server):
 
     async def listen(self, host: str = "127.0.0.1", port: int = 0) -> int:
         """Answers from here on; the port."""
-        app, publisher = web.Application(middlewares=[self.answer, self.guard.check, self.sort]), self.publisher
+        app, publisher = (
+            web.Application(middlewares=[self.answer, self.place, self.guard.check, self.sort]),
+            self.publisher,
+        )
         app.on_response_prepare.append(self.guard.share)
         app.add_routes([web.put("/v1/blobs", publisher.put_blob, expect_handler=expected)])
         app.add_routes([web.post("/v1/bundles", publisher.post_bundle, expect_handler=expected)])
+        uploads = self.uploads
+        app.on_response_prepare.append(uploads.share)
+        app.add_routes([web.post("/v1/uploads", uploads.create, expect_handler=expected)])
+        app.add_routes([web.get("/v1/uploads/{upload}", uploads.look), web.delete("/v1/uploads/{upload}", uploads.end)])
+        app.add_routes([web.patch("/v1/uploads/{upload}", uploads.patch, expect_handler=expected)])
         app.add_routes([web.put("/v1/blobs/{name}", publisher.extend), web.post("/v1/extend/{name}", publisher.extend)])
         app.add_routes([web.get("/v1/blobs", self.lister.list), web.get("/v1/blobs/{name}", self.get_blob)])
         app.add_routes([web.get("/v1/bundles/{name}/{number}", self.get_blob)])
+        app.add_routes([web.put("/v1/folders", self.folders.put, expect_handler=expected)])
+        app.add_routes([web.get("/v1/folders/{name}", self.folders.get)])
+        app.add_routes([web.get("/v1/folders/{name}/{path:.*}", self.folders.get)])
         app.add_routes([web.get("/v1/status", self.status), web.get("/v1/status/{name}", self.status_of)])
         app.add_routes([web.put("/v1/challenges/{name}/{node}", self.challenge), web.get("/metrics", self.metrics)])
         app.add_routes([web.get("/livez", self.livez), web.get("/readyz", self.readyz)])
+        app.add_routes([web.get("/v1/rights", self.rights)])
         app.add_routes([web.get(path, self.page) for path in PAGES])
         return await self.serve(app, host, port, self.certificate.context if self.certificate else None)
 
     async def close(self) -> None:
         await self.end(5)
         await self.watch.close()
+        await self.announcer.close()
+        await self.shelf.close()
         await self.reader.cache.close()
         self.publisher.close()
 
@@ -104,17 +144,30 @@ class Gateway(Server):
         """Has a request answered; what is wrong is told as JSON."""
         request.protocol.first.cancel()  # type: ignore[attr-defined]
         faults = Problem, client.Failed, OSError, web.HTTPException
-        try:
-            response: web.StreamResponse = await handler(request)
-        except faults as fault:
-            response = problem_of(fault).response()
         method = request.method if request.method in hdrs.METH_ALL else "other"
+        resource = request.match_info.route.resource
+        with self.times.taking(f'method="{method}",path="{resource.canonical if resource else "other"}"'):
+            try:
+                response: web.StreamResponse = await handler(request)
+            except faults as fault:
+                response = problem_of(fault).response()
         self.requests[f'method="{method}",status="{response.status}"'] += 1
+        return response
+
+    @web.middleware
+    async def place(self, request: web.Request, handler: Callable[..., Awaitable[Any]]) -> web.StreamResponse:
+        """Knows what is asked of a folder's own host, at which there is nothing else."""
+        if name := self.folders.at_site(request):
+            request["site"] = name
+        response: web.StreamResponse = await handler(request)
         return response
 
     @web.middleware
     async def sort(self, request: web.Request, handler: Callable[..., Awaitable[Any]]) -> web.StreamResponse:
         """Has a request answered that has no unknown words, and for which the ledger is heard if it rests on that."""
+        if "site" in request:
+            self.must_follow()
+            return await self.folders.get_site(request)
         must_be_known(request)
         if request.path.startswith(RESTING):
             self.must_follow()
@@ -129,7 +182,7 @@ class Gateway(Server):
         return web.Response(text=text, content_type="application/json", headers=FRESH)
 
     async def status_of(self, request: web.Request) -> web.Response:
-        return as_json(self.watch.blob(named(request)))
+        return as_json(self.watch.with_shards(named(request)))
 
     async def challenge(self, request: web.Request) -> web.Response:
         """Has a node show that it holds its part of a blob."""
@@ -153,8 +206,18 @@ class Gateway(Server):
         cache = self.reader.cache
         counts: dict[str, Any] = {"http_requests": self.requests, "http_bytes": self.reader.bytes}
         counts |= {"cache_hits": cache.hits, "blobs_read": cache.reads}
-        headers = {**FRESH, "Content-Type": "text/plain; version=0.0.4; charset=utf-8"}
-        return web.Response(text=self.watch.metrics(counts, {"cache_bytes": cache.size}), headers=headers)
+        found = self.announcer.counts
+        counts |= {"bad_encodings": {f'came="{it}"': found[it] for it in ("declared", "not declared")}}
+        try:
+            told = self.watch.metrics(counts, {"cache_bytes": cache.size}, {"http_seconds": self.times})
+        except ModuleNotFoundError as fault:
+            raise Problem(501, f"{fault.name} is not here: install python3-prometheus-client") from None
+        return web.Response(body=told, headers=FRESH | HEADERS)
+
+    async def rights(self, request: web.Request) -> web.Response:
+        """What whoever asks may do here: for the page, which shows what can be done."""
+        told = self.publisher.rights(request, self.guard.refusal(request, STORE))
+        return as_json(told | {"token": self.guard.tokens.all() is not None and "Authorization" not in request.headers})
 
     async def page(self, request: web.Request) -> web.Response:
         path = pathlib.Path(__file__).parent / PAGES[request.path]

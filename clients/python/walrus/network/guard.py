@@ -14,10 +14,12 @@ from .tokens import ANYONE, READ, STORE, Token, Tokens
 
 SAFE = "GET", "HEAD", "OPTIONS"
 PASSED_ON = "x-forwarded-for", "forwarded", "via", "x-real-ip"
-FREE = "/", "/page.css", "/page.js", "/v1/api", "/livez", "/readyz"
-BY_NAME = "/v1/blobs/", "/v1/bundles/"  # what is read here nobody finds who does not know its name
-EXPOSED = "ETag, Content-Range, Location, Repr-Digest, Retry-After"
+FREE = "/", "/page.css", "/page.js", "/store.js", "/v1/api", "/v1/rights", "/livez", "/readyz"
+UPLOADS = "/v1/uploads"  # which are for whoever may store, whatever is asked of them
+BY_NAME = "/v1/blobs/", "/v1/bundles/", "/v1/folders/"  # what is read here nobody finds who does not know its name
+EXPOSED = "ETag, Content-Range, Location, Repr-Digest, Retry-After, Upload-Offset, Upload-Complete, Upload-Limit"
 SENT = "Authorization, Content-Type, Range, If-Match, If-None-Match, If-Range, Digest, Repr-Digest, Want-Repr-Digest"
+SENT += ", Upload-Offset, Upload-Complete, Upload-Length, Upload-Draft-Interop-Version"
 ASKED = {"WWW-Authenticate": 'Bearer realm="walrus"'}
 INVALID = {"WWW-Authenticate": 'Bearer realm="walrus", error="invalid_token"'}
 NO_TOKEN = "only its own machine may store here, unless there are tokens (walrus-net token)"
@@ -50,8 +52,8 @@ class Guard:
         request["flow"] = Flow(self.limits, keys)
         if request.method == "OPTIONS":
             return self.options(request)
-        if request.match_info.http_exception is None and request.path not in FREE:
-            self.must_be_allowed(request, token, READ if request.method in SAFE else STORE)
+        if "site" in request or request.match_info.http_exception is None and request.path not in FREE:
+            self.must_be_allowed(request, token, READ if is_read(request) else STORE)
         response: web.StreamResponse = await handler(request)
         if isinstance(response, web.Response) and isinstance(response.body, bytes):
             await request["flow"].spend(len(response.body))  # a stream spends as it goes
@@ -75,7 +77,7 @@ class Guard:
 
     def must_be_allowed(self, request: web.Request, token: Optional[Token], right: str) -> None:
         known = self.tokens.all()
-        by_name = request.path.startswith(BY_NAME) and right == READ
+        by_name = is_by_name(request) and right == READ
         if token is None and (right == STORE or not by_name and is_loopback(self.place(request)[0])):
             self.must_be_named(request)
         if token is None and right == STORE:
@@ -91,6 +93,14 @@ class Guard:
             raise Problem(403 if token else 401, f"{who} may not {right} here", asked)
         if token is None:
             request["token"] = holder
+
+    def refusal(self, request: web.Request, right: str) -> str:
+        """Why who makes a request may not do what needs a right; empty where they may."""
+        try:
+            self.must_be_allowed(request, request["token"], right)
+        except Problem as problem:
+            return str(problem)
+        return ""
 
     def must_be_named(self, request: web.Request) -> None:
         """Raises where a browser may have been led here by another name for this machine."""
@@ -123,6 +133,8 @@ class Guard:
     def options(self, request: web.Request) -> web.Response:
         """What can be asked of a path, also by pages from elsewhere."""
         fault = request.match_info.http_exception
+        if "site" in request:
+            return web.Response(status=204, headers={"Allow": "GET, HEAD, OPTIONS"})
         if not isinstance(fault, web.HTTPMethodNotAllowed):
             raise fault or web.HTTPNotFound()
         methods = ", ".join(sorted({*fault.allowed_methods, "OPTIONS"}))
@@ -130,7 +142,7 @@ class Guard:
 
     async def share(self, request: web.Request, response: web.StreamResponse) -> None:
         """Lets pages from elsewhere have a response: what is read by its name, and what a token was shown for."""
-        by_name = request.path.startswith(BY_NAME) and request.method in SAFE
+        by_name = is_by_name(request) and request.method in SAFE
         asks = request.method == "OPTIONS" and response.status == 204
         if asks and (by_name or self.tokens.all() is not None):
             wanted = request.headers.get("Access-Control-Request-Method", "GET")
@@ -143,3 +155,13 @@ class Guard:
             return
         response.headers["Access-Control-Allow-Origin"] = "*"
         response.headers["Access-Control-Expose-Headers"] = EXPOSED
+
+
+def is_read(request: web.Request) -> bool:
+    """Whether a request asks for what may be read."""
+    return request.method in SAFE and not request.path.startswith(UPLOADS)
+
+
+def is_by_name(request: web.BaseRequest) -> bool:
+    """Whether a request is for what nobody finds who does not know its name."""
+    return "site" in request or request.path.startswith(BY_NAME)

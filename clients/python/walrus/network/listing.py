@@ -5,12 +5,12 @@ import re
 from aiohttp import web
 
 from .blobs import Blob
-from .chunks import NAME, File
 from .client import Network
 from .dates import date_of
 from .problems import Problem, as_json
 from .reading import Reader
 from .shares import Charge
+from .shelf import Shelf
 
 PAGE = 1_000  # blobs of a list that are told at once
 
@@ -18,8 +18,8 @@ PAGE = 1_000  # blobs of a list that are told at once
 class Lister:
     """Tells which blobs there are, and keeps files for longer."""
 
-    def __init__(self, network: Network, reader: Reader):
-        self.network, self.reader = network, reader
+    def __init__(self, network: Network, reader: Reader, shelf: Shelf):
+        self.network, self.reader, self.shelf = network, reader, shelf
 
     async def list(self, request: web.Request) -> web.Response:
         """Blobs in the order of their identifiers, behind one of them, that end within so many epochs."""
@@ -45,18 +45,16 @@ class Lister:
         return {**told, "certificate": certificate, "invalid": self.network.ledger.invalid(name)}
 
     async def extend(self, name: bytes, epochs: int, charge: Charge) -> dict[str, object]:
-        """Keeps a file, with all blobs of which it consists, for so many epochs from the writing one on, or longer."""
+        """Keeps a file or all of a folder, with all blobs of which it consists, for so many epochs from the writing one
+        on, or longer."""
         network, until = self.network, self.network.ledger.writing_epoch + epochs
         self.reader.must_stand(name)
-        async with self.reader.blob(name) as blob:
-            file = File.of(name, blob)
-        pieces = (piece for piece, _, _, _ in file.pieces(0, file.length))
-        names = dict.fromkeys([name]) | dict.fromkeys(piece for piece in pieces if len(piece) == NAME)
+        size, names = await self.shelf.consists(name)
         for piece in names:
             self.reader.must_stand(piece)
         short = [piece for piece in names if network.ledger.blobs[piece].until < until]
         if short:
-            charge.extend(file.length, len(short))
+            charge.extend(size, len(short))
         while short:
             await asyncio.gather(*(network.register(piece, until) for piece in short[:PAGE]))
             del short[:PAGE]

@@ -56,6 +56,7 @@ class Node(View):
         self.port = NodePort(self, Bounds(settings.connections, REQUEST, IDLE, settings.kept))
         self.scrub, self.intake, self.progress = Scrub(self), Intake(self), Progress()
         self.tasks: list["asyncio.Task[None]"] = []
+        self.numbers: Any = None  # what tells Prometheus
         self.wrong: "asyncio.Queue[bytes]" = asyncio.Queue()  # blobs of which something went wrong on the disk
 
     async def open(self) -> int:
@@ -73,6 +74,10 @@ class Node(View):
         owed = handover.hand_over(self), handover.heal(self), self.mend(), self.tell_past()
         for work in (*owed, self.scrub.run(), self.scrub.sweep_always(), tell):
             self.tasks.append(asyncio.create_task(self.watched(work)))
+        if self.settings.metrics:
+            from . import metrics  # here alone: other nodes do not load it
+
+            self.numbers = await metrics.serve(self.settings.metrics, self.port.numbers)
         return port
 
     async def watched(self, work: Coroutine[Any, Any, object]) -> None:
@@ -226,6 +231,8 @@ class Node(View):
 
     async def close(self) -> None:
         await self.port.close_port()
+        if self.numbers:
+            await self.numbers.cleanup()
         for task in self.tasks:
             task.cancel()
         await asyncio.gather(*self.tasks, return_exceptions=True)

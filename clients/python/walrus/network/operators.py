@@ -47,13 +47,15 @@ def add_words(add: Add) -> None:
     add("renew", "make certificates anew: those named, or those that end soon", "folder", "names*", **ending)
     add("remove", "forget nodes, gateways and users, and their keys", "folder", "names+")
 
+    more: dict[str, Any]
     quiet = {"seconds": (60.0, "how long to wait for a node that tells nothing")}
     add("restore", "make a ledger whole that was restored from a snapshot", "settings", **quiet)
     add("check", "say what is wrong with files of settings", "settings+")
-    add("node", "run a node", "settings")
+    more = {"metrics": ("", "PORT of this machine alone, or HOST:PORT, where Prometheus reads its numbers")}
+    add("node", "run a node", "settings", **more)
     add("recorder", "run a recorder", "settings")
     add("gateway", "run a gateway over its settings, or over a network's folder", "place", **port, **told)
-    more: dict[str, Any] = {"faults": (1, "of a fresh network, which has 3 FAULTS + 1 nodes")}
+    more = {"faults": (1, "of a fresh network, which has 3 FAULTS + 1 nodes")}
     more |= {"nodes": ("", "NODE or NODE*SHARDS, with commas between, beside those that are there")}
     more |= {"add": ("", "only makes the settings of further nodes")}
     more |= {"detach": (False, "go on in the background once all is ready")}
@@ -76,7 +78,9 @@ async def run_gateway(words: argparse.Namespace) -> int:
 
 
 async def run_node(words: argparse.Namespace) -> int:
-    return await node.serve(Settings.read(words.settings))
+    settings = Settings.read(words.settings)
+    settings.metrics = words.metrics or settings.metrics
+    return await node.serve(settings)
 
 
 async def run_recorder(words: argparse.Namespace) -> int:

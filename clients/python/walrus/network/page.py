@@ -6,19 +6,24 @@ import itertools
 import json
 import pathlib
 import random
+import sys
 import time
-from typing import Any, Iterable, Optional
+from typing import Any, Iterable, Mapping, Optional
 
 from .. import audit, client
 
+from . import health
 from .client import Network
 from .dates import calendar_of, date_of
 from .follower import AWAY
 from .ledger import ACK, ATTEST
 from .peers import FIGURES, Peers, Seat
 from .problems import NO_BLOB, Problem
+from .sorting import Sorter
+from .times import Times
 
-RECENT, FINDINGS, FRESH = 100, 10, 0.5  # blobs and challenges that are told; seconds for which what is told will do
+RECENT, FINDINGS, FRESH, LOOKED = 100, 10, 0.5, 2_000  # files and challenges that are told; seconds
+# for which what is told will do; blobs among which files are looked for
 DRAWS = 4  # symbols that a challenge draws
 FIGURE_NAMES = {  # of a node, as they are told
     "held": ("blobs", "bytes", "wrong"),
@@ -53,12 +58,21 @@ def numbers(told: dict[str, Any]) -> Figures:
 class Watch:
     """Asks nodes whether they answer, and challenges one now and then to show some of what it should hold."""
 
-    def __init__(self, network: Network, authority: pathlib.Path, pause: float, challenges: float, stale: float):
-        self.network, self.pause, self.between, self.stale = network, pause, challenges, stale
+    def __init__(
+        self,
+        network: Network,
+        authority: pathlib.Path,
+        pause: float,
+        challenges: float,
+        stale: float,
+        sorter: Optional[Sorter] = None,
+    ):
+        self.network, self.pause, self.between, self.stale, self.sorter = network, pause, challenges, stale, sorter
         self.peers = Peers(network.ledger, authority, 10)  # so that no long transfer stands before what is asked here
         self.faults, self.figures = dict[str, str](), dict[str, Figures]()
         self.findings: "collections.deque[Finding]" = collections.deque(maxlen=FINDINGS)
         self.held: "collections.Counter[str]" = collections.Counter()
+        self.announced: Iterable[dict[str, Any]] = ()  # badly encoded blobs that were found, and what came of it
         self.told: tuple[float, bytes] = (-FRESH, b"")  # when the status was told last, and what it was
         self.task = asyncio.gather(self.probe(), self.challenge_some())
 
@@ -79,8 +93,24 @@ class Watch:
 
     async def probe(self) -> None:
         while True:
-            await asyncio.gather(*map(self.ask, self.nodes()))
+            await asyncio.gather(*map(self.ask, self.nodes()), self.learn())
             await asyncio.sleep(self.pause)
+
+    async def learn(self) -> None:
+        """Finds out which of the last blobs are files."""
+        try:
+            if self.sorter:
+                await self.sorter.learn(self.last())
+        except (Problem, client.Failed, client.Refused, OSError) as fault:
+            print(f"a blob's length is not known: {fault}", file=sys.stderr, flush=True)
+
+    def last(self) -> list[bytes]:
+        """The last blobs, without pieces of files."""
+        some = itertools.islice(reversed(self.network.ledger.blobs), LOOKED)
+        return [*itertools.islice(self.sorter.files(some) if self.sorter else some, RECENT)]
+
+    def known(self) -> health.Nodes:
+        return health.Nodes(self.faults, self.figures)
 
     def away(self) -> dict[str, Any]:
         """For how long the ledger was not heard, and why where that is long."""
@@ -142,7 +172,7 @@ class Watch:
         return client.PROOF in kept and (await self.network.walrus.run("check", identifier.hex(), data=data))[0] == 3
 
     def blob(self, identifier: bytes) -> dict[str, Any]:
-        """What the ledger says of a blob."""
+        """What the ledger says of a blob, and how many of its shards are there now."""
         ledger = self.network.ledger
         blob, found = ledger.blobs.get(identifier), ledger.certificate(identifier)
         if blob is None:
@@ -156,7 +186,10 @@ class Watch:
             known = owners.get(of, ())
             return list(dict.fromkeys(known[it] if known else f"shard {it}" for it in sorted(shards)))
 
+        states = health.shards_of(ledger, identifier, self.known(), self.findings)
         return {
+            **(self.sorter.told(identifier) if self.sorter else {}),
+            "live": sum(it in health.LIVE for it in states),
             "blobId": identifier.hex(),
             "endEpoch": blob.until,
             "ends": date_of(ledger, blob.until),
@@ -168,19 +201,31 @@ class Watch:
             "attested": names(attests, ledger.writing_epoch),
         }
 
+    def with_shards(self, identifier: bytes) -> dict[str, Any]:
+        """What is known of a blob, with each of its shards."""
+        ledger, told = self.network.ledger, self.blob(identifier)
+        states = health.shards_of(ledger, identifier, self.known(), self.findings)
+        shown = {it["node"]: it for it in reversed(self.findings) if it["blob"] == identifier.hex()}
+        owners = ledger.owners(ledger.home_epoch(identifier))
+        each = zip(itertools.count(), owners, states)
+        shards = [{"shard": it, "node": name, "state": state, "challenge": shown.get(name)} for it, name, state in each]
+        return {**told, "faults": ledger.faults, "quorum": ledger.quorum, "shards": shards}
+
     def status(self) -> dict[str, Any]:
         """What is known of the network; of its blobs the last ones."""
         ledger = self.network.ledger
         told = {name: getattr(ledger, name) for name in ("epoch", "moving", "faults", "quorum")}
         return told | {
-            "ledger": self.away(),
+            "ledger": (away := self.away()),
+            "storing": health.storing(ledger, self.known(), away),
             "calendar": calendar_of(ledger),
             "shards": len(ledger.now),
             "ready": len(ledger.ready) if ledger.moving else 0,
             "nodes": [self.node(name) for name in self.nodes()],
             "blobs": ledger.blobs.counts(),
-            "recent": [self.blob(it) for it in itertools.islice(reversed(ledger.blobs), RECENT)],
+            "recent": [self.blob(it) for it in self.last()],
             "challenges": list(self.findings),
+            "announced": list(self.announced),
         }
 
     def node(self, name: str) -> dict[str, Any]:
@@ -197,24 +242,21 @@ class Watch:
             self.told = now, json.dumps(self.status()).encode()
         return self.told[1]
 
-    def metrics(self, counts: dict[str, Any], sizes: dict[str, Any]) -> str:
-        """Prometheus' text of the status and of more by name: what only grows and the rest, or dicts of it by label."""
+    def metrics(self, counts: Mapping[str, Any], sizes: Mapping[str, Any], times: Mapping[str, Times]) -> bytes:
+        """Prometheus' text of the status and of more by name: what only grows, the rest, and how long things take."""
+        from . import metrics  # here alone: it takes a while to load
+
         status = json.loads(self.status_text())
-        nodes = {f"node={json.dumps(it['name'])}": int(it["state"] == "answers") for it in status["nodes"]}
+        nodes = {f'node="{it["name"]}"': int(it["state"] == "answers") for it in status["nodes"]}
         blobs = {f'state="{it}"': count for it, count in status["blobs"].items()}
-        sizes = sizes | {it: int(status[it]) for it in ("epoch", "moving", "ready", "shards", "faults")}
-        sizes |= {"ledger_stale": int(status["ledger"]["stale"]), "ledger_away_seconds": status["ledger"]["away"]}
-        counts = counts | {"challenges": {f'found="{it}"': self.held[it] for it in ("held", "lacking")}}
-        values = [(f"{name}_total", "counter", it) for name, it in counts.items()]
-        values += [(name, "gauge", it) for name, it in {**sizes, "blobs": blobs, "node_answers": nodes}.items()]
+        gauges = {**sizes, **{it: int(status[it]) for it in ("epoch", "moving", "ready", "shards", "faults")}}
+        away = status["ledger"]
+        gauges |= {"ledger_stale": int(away["stale"]), "ledger_away_seconds": away["away"]}
+        gauges |= {"ledger_place": away["place"], "storing": status["storing"]["shards"]}
+        counts = {**counts, "challenges": {f'found="{it}"': self.held[it] for it in ("held", "lacking")}}
         figures: dict[str, dict[str, float]] = collections.defaultdict(dict)
         for it in status["nodes"]:
             for group, parts in it["figures"].items():
                 for name, value in parts.items():
-                    figures[f"node_{group}_{name}"][f"node={json.dumps(it['name'])}"] = value
-        values += [(name, "gauge", it) for name, it in figures.items()]
-        lines: list[str] = []
-        for name, kind, value in values:
-            pairs = {f"{{{labels}}}": it for labels, it in value.items()} if isinstance(value, dict) else {"": value}
-            lines += [f"# TYPE walrus_{name} {kind}", *(f"walrus_{name}{labels} {it}" for labels, it in pairs.items())]
-        return "\n".join(lines) + "\n"
+                    figures[f"node_{group}_{name}"][f'node="{it["name"]}"'] = value
+        return metrics.told(counts, {**gauges, "blobs": blobs, "node_answers": nodes, **figures}, times)

@@ -18,10 +18,11 @@ from .client import Network
 from .forms import HEAD
 from .entries import LAST_EPOCH, LAST_UNTIL
 from .listing import Lister
-from .problems import Problem, as_json
+from .problems import Problem, as_json, problem_of
 from .reading import LEAST, WAITING, Options, Pace, Reader
 from .shares import Charge, Shares
 
+LISTED = 1_000  # pieces that are named at most where a file was not stored
 LONGEST_FORM = client.LARGEST_BLOB + (1 + 2 * client.MOST_FAULTS) * HEAD
 
 
@@ -55,7 +56,7 @@ class Publisher:
         if self.shares:
             self.shares.close()
 
-    async def body(self, request: web.Request, most: int, charge: Charge, sum: Any) -> AsyncIterator[bytes]:
+    async def body(self, request: web.Request, most: int, charge: Charge, sum: Optional[Any]) -> AsyncIterator[bytes]:
         """The bytes of an upload, at most so many, whole or not at all."""
         size, pace, promised = 0, Pace(), digests.promised(request)
         if "Expect" in request.headers and request.version == aiohttp.HttpVersion11:
@@ -93,11 +94,27 @@ class Publisher:
         store = functools.partial(self.writer.store_bundle, kind, charge.replace)
         return await self.upload(request, LONGEST_FORM, charge, store)
 
+    def rights(self, request: web.Request, refusal: str) -> dict[str, Any]:
+        """What whoever asks may store, unless that is refused: for how long, how large a file, and how much is left."""
+        token, epoch = request["token"], self.network.ledger.writing_epoch
+        told = {"name": token.name if token else None, "store": not refusal, "why": refusal}
+        told |= {"epochs": self.longest(request), "most": min(self.options.most, LONGEST), "share": {}}
+        if token and not refusal:
+            self.charge(request)
+            used = self.shares.used(token.name, epoch) if self.shares else (0, 0)
+            bounds = {it: token.bounds[it] for it in ("bytes", "blobs")}
+            told["share"] = {it: {"used": count, "of": bounds[it]} for it, count in zip(bounds, used)}
+        return told
+
+    def longest(self, request: web.Request) -> int:
+        """For how many epochs whoever asks may have a file kept."""
+        token = request["token"]
+        bound: Optional[int] = token.bounds["epochs"] if token else None
+        return self.options.epochs if bound is None else min(bound, self.options.epochs)
+
     def epochs(self, request: web.Request) -> int:
         """For how many epochs a file is to be kept."""
-        epochs, token = request.query.get("epochs", ""), request["token"]
-        bounds = [self.options.epochs, token.bounds["epochs"] if token else None]
-        longest = min(it for it in bounds if it is not None)
+        epochs, longest = request.query.get("epochs", ""), self.longest(request)
         if not re.fullmatch("[1-9][0-9]{0,4}", epochs) or int(epochs) > longest:
             raise Problem(400, f"say for how many epochs the file is kept, as ?epochs=N, 1 to {longest}")
         if self.network.ledger.writing_epoch + int(epochs) > LAST_UNTIL:
@@ -133,20 +150,32 @@ class Publisher:
             raise Problem(413, f"an upload has at most {most} bytes here")
         if not self.network.ledger.now:
             raise client.Failed("the network has no committee yet", {})
-        told, sum = dict[str, Any](), hashlib.sha256() if digests.is_asked(request) else None
+        told, stored = dict[str, Any](), list[bytes]()
+        sum = hashlib.sha256() if digests.is_asked(request) else None
         charge.announce(request.content_length or 0)
         try:
             charge.add(0)
             async with contextlib.AsyncExitStack() as stack:
                 async with asyncio.timeout(WAITING):
                     await stack.enter_async_context(self.uploads)
-                told = await store(self.body(request, most, charge, sum), epochs)
+                told = await store(self.body(request, most, charge, sum), epochs, stored)
+        except (Problem, client.Failed, client.Refused, OSError) as fault:
+            raise failed_with(fault, [name.hex() for name in stored]) from None
         finally:
             charge.settle(bool(told), not told.get("alreadyCertified"))
         headers = {"Location": f"/v1/blobs/{told['blobId']}"}
         headers |= digests.fields(sum.digest()) if sum and is_file else {}
         is_new = not told["alreadyCertified"]
         return as_json(as_known(told), 201 if is_new else 200, headers)
+
+
+def failed_with(fault: Exception, stored: list[str], headers: Optional[dict[str, str]] = None) -> Problem:
+    """Why a file was not stored, and which of its pieces are certified: the next try does not store these again."""
+    problem = problem_of(fault)
+    problem.headers = {**problem.headers, **(headers or {})}
+    if stored:
+        problem.more |= {"stored": stored[:LISTED], "storedPieces": len(stored)}
+    return problem
 
 
 def as_known(told: Told) -> Told:

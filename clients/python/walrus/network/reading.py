@@ -6,7 +6,7 @@ import dataclasses
 import itertools
 import secrets
 import sys
-from typing import AsyncIterator, Iterable, Optional, Union
+from typing import AsyncIterator, Callable, Iterable, Optional, Union
 
 from aiohttp import web
 from .. import client
@@ -55,6 +55,7 @@ class Reader:
         self.memory = Memory(max(0, options.memory - BARE))
         self.cache = Cache(self.fetch, options.room, READINGS)
         self.bytes, self.lengths = collections.Counter[str](), Lengths(network)
+        self.rejected: Callable[[bytes], None] = lambda identifier: None  # is told what was badly encoded
 
     def must_stand(self, name: bytes) -> None:
         """Raises where it is known that a blob, or a member of it, cannot be read."""
@@ -81,7 +82,12 @@ class Reader:
         first, later = reading_needs(client.LARGEST_BLOB if length is None else length)
         async with self.memory.share(first, later) as share:
             calls = self.network.walrus.within(lambda: share.more(later))
-            blob = await self.network.fetch(name[:NAME], self.options.seconds, number, calls)
+            try:
+                blob = await self.network.fetch(name[:NAME], self.options.seconds, number, calls)
+            except client.Refused as refused:
+                if refused.status == 3 and number is None:
+                    self.rejected(name[:NAME])
+                raise
             pool = self.network.walrus.pool  # and not asyncio's own, which looks names up, perhaps for long
             return await asyncio.get_running_loop().run_in_executor(pool, put_away, blob) if len(blob) > SLICE else blob
 
@@ -100,12 +106,10 @@ class Reader:
         """The response to a GET or a HEAD of a file."""
         self.must_stand(name)
         number = f"/{int.from_bytes(name[NAME:], 'big')}" if name[NAME:] else ""
-        tag, asked = f'"{name[:NAME].hex()}{number}"', None
+        tag = f'"{name[:NAME].hex()}{number}"'
         headers = {**ALONE, **FOREVER, "ETag": tag}
-        if "If-Match" in request.headers and not tagged(request.headers.getall("If-Match"), tag):
-            raise Problem(412, "the only tag of this file is its identifier", headers)
-        if tagged([it.replace("W/", "") for it in request.headers.getall("If-None-Match", [])], tag):
-            return web.Response(status=304, headers=headers)
+        if (found := self.condition(request, tag, headers)) is not None:
+            return found
         length = await self.length_alone(request, name)
         if length is not None:
             file = File(length, name)
@@ -113,12 +117,27 @@ class Reader:
             async with self.blob(name) as blob:
                 file = File.of(name, blob)
                 headers |= digests.of(blob) if digests.wanted(request) and file.names == name else {}
+        return await self.give(request, file, tag, headers)
+
+    def condition(self, request: web.Request, tag: str, headers: dict[str, str]) -> Optional[web.Response]:
+        """What is answered to a condition, where it does not ask for the file of this tag."""
+        if "If-Match" in request.headers and not tagged(request.headers.getall("If-Match"), tag):
+            raise Problem(412, "the only tag of this file is its identifier", headers)
+        if tagged([it.replace("W/", "") for it in request.headers.getall("If-None-Match", [])], tag):
+            return web.Response(status=304, headers=headers)
+        return None
+
+    async def give(
+        self, request: web.Request, file: File, tag: str, headers: dict[str, str], kind: str = KIND
+    ) -> web.StreamResponse:
+        """Sends a file of this tag and media type, or the ranges of it that are asked for."""
+        asked = None
         if request.method == "GET" and "Range" in request.headers and request.headers.get("If-Range", tag) == tag:
             asked = ranges.spans(",".join(request.headers.getall("Range")), file.length)
         if asked == []:
             headers["Content-Range"] = f"bytes */{file.length}"
             raise Problem(416, f"the file has {file.length} bytes, and none of these", headers)
-        return await self.send(request, file, asked, headers)
+        return await self.send(request, file, asked, headers, kind)
 
     async def length_alone(self, request: web.Request, name: bytes) -> Optional[int]:
         """The length of a file that is not read for it; None where a request needs more, or its metadata tells less."""
@@ -127,12 +146,17 @@ class Reader:
         return await self.lengths.of_file(name)
 
     async def send(
-        self, request: web.Request, file: File, asked: Optional[list[ranges.Span]], headers: dict[str, str]
+        self,
+        request: web.Request,
+        file: File,
+        asked: Optional[list[ranges.Span]],
+        headers: dict[str, str],
+        kind: str = KIND,
     ) -> web.StreamResponse:
         """Sends a file, or spans of it; where it cannot go on, the connection ends before the length is reached."""
         spans, bound = asked or [(0, file.length)], secrets.token_hex(16)
-        heads = ranges.heads(spans, file.length, KIND, bound) if len(spans) > 1 else [b"", b""]
-        size, kind = sum(end - start for start, end in spans) + sum(map(len, heads)), KIND
+        heads = ranges.heads(spans, file.length, kind, bound) if len(spans) > 1 else [b"", b""]
+        size = sum(end - start for start, end in spans) + sum(map(len, heads))
         if len(spans) > 1:
             kind = f"multipart/byteranges; boundary={bound}"
         elif asked:

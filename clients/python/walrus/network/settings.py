@@ -30,6 +30,7 @@ class Settings:
     reserve: float = 0.05  # of the disk, which is kept free
     scrub: float = 30.0  # days in which all that is held is read and judged once; never, where it is 0
     scrub_rate: int = 20_000_000  # bytes a second that a scrub reads at most
+    metrics: str = ""  # PORT of this machine alone, or HOST:PORT, where Prometheus reads its numbers
     recorded: bool = False  # keep all that was answered, for network/trace
 
     @classmethod

@@ -75,6 +75,14 @@ class Charge:
         self.size = size
         self.set_to(size, count_of(size))
 
+    def go_on(self, size: int) -> None:
+        """What came before, and was taken then."""
+        self.size, self.bytes, self.blobs = size, size, count_of(size)
+
+    def settle_at(self, pieces: int) -> None:
+        """Gives back what is more than so many pieces."""
+        self.set_to(pieces * PIECE, pieces)
+
     def extend(self, size: int, blobs: int) -> None:
         """Takes what a file of this length costs again, of which so many blobs are kept for longer."""
         self.set_to(size, blobs)

@@ -6,7 +6,7 @@ import pathlib
 import re
 import sys
 import time
-from typing import IO, Any, AsyncIterator
+from typing import IO, Any, AsyncIterator, Optional
 
 import aiohttp
 from .. import bundles, client
@@ -142,17 +142,19 @@ async def fetch(session: aiohttp.ClientSession, name: str, out: IO[bytes]) -> in
     return out.write(members[int(number)])
 
 
-async def receive(session: aiohttp.ClientSession, name: str, out: IO[bytes], naming: Naming) -> int:
+async def receive(
+    session: aiohttp.ClientSession, name: str, out: IO[bytes], naming: Naming, shared: Optional[Bar] = None
+) -> int:
     """Writes what a gateway gives for a name, and goes on where a connection broke; its length."""
     done, tries = 0, 0
-    with Bar(name[:16]) as bar:
+    with contextlib.nullcontext(shared) if shared else Bar(name[:16]) as bar:
         while True:
             try:
                 async with session.get(f"/v1/blobs/{name}", headers={"Range": f"bytes={done}-"} if done else {}) as it:
                     await check(it)
                     if it.status != (206 if done else 200):
                         raise Failure("the gateway does not give the rest of the file: fetch it again", 4)
-                    bar.size = done + (it.content_length or 0)
+                    bar.size = bar.size if shared else done + (it.content_length or 0)
                     async for part in it.content.iter_any():
                         done += out.write(part)
                         await naming.add(part)

@@ -1,23 +1,10 @@
-use Rattle.std.proofs.Common.{ℕ, Vec, Global}
-use Rattle.std.proofs.KnownBytes.{Keeps-refl}
 use Rattle.wal_run.specs.Bundling.{bundling}
-use Rattle.wal_run.specs.inside.Writing.{out_of_memory}
-use Rattle.wal_run.proofs.Bundles.{unbundled_as}
-use Rattle.wal_run.proofs.CommandLaws.{of_told}
-use Rattle.wal_run.proofs.Endings.{performs_as}
-use Rattle.wal_run.proofs.LinesOfText.{line_is}
+use Rattle.wal_run.proofs.Says.{broken, passed, says_told}
 use Rattle.wal_run.proofs.bundle.bundle_members.Goals as goal
 
-pub returns-in-Ok-clause-performs : goal.returns-in-Ok-clause-performs
-returns-in-Ok-clause-performs g c =
-    performs_as c.put_bundle.ensures.performs (λ s text p.
-    of_told g.H.Hash32.digest (bundling c.args.faults) c.args.stream.now c.in-Ok.members c.in-Ok.ensures.payloads s text p)
+pub returns-in_err-members : goal.returns-in_err-members
+returns-in_err-members g c =
+    passed _ _ _ c.from_residual.ensures.1 (broken g.H.Hash32.digest (bundling c.args.faults) c.args.stream.now _ (λ text is. is) c.in_err-members.ensures.refusal)
 
-pub returns-in-Err-Malformed-clause-performs : goal.returns-in-Err-Malformed-clause-performs
-returns-in-Err-Malformed-clause-performs g c =
-    let broken = rw c.in-Err-Malformed.field-0-is at c.in-Err-Malformed.ensures.malformed in
-    performs_as c.put_line.ensures.performs (λ s text p.
-    unbundled_as g.H.Hash32.digest c.args.faults c.args.stream.now _ s text broken p.0 (line_is _ (λ (l : Vec ℕ Global). l.items) _ _ p.1 c.malformed_line.ensures))
-
-pub returns-in-Err-Memory-clause-performs : goal.returns-in-Err-Memory-clause-performs
-returns-in-Err-Memory-clause-performs g c = out_of_memory (Keeps-refl _)
+pub returns : goal.returns
+returns g c = says_told g.H.Hash32.digest (bundling c.args.faults) c.args.stream.now c.in_ok-members.members _ c.in_ok-members.ensures.payloads c.bundled.ensures

@@ -1,19 +1,28 @@
-use Rattle.std.proofs.Common.{◌≡◌, ap, ◌∙◌, arith}
-use Rattle.std.proofs.KnownBytes.{Keeps-refl}
 use Rattle.wal_shape.specs.MetaRef.{metadata_shown}
-use Rattle.wal_shape.specs.Shape.{BlobShape, shard_count}
 use Rattle.wal_run.specs.inside.Command.{recorded}
-use Rattle.wal_run.specs.inside.Writing.{finished, out_of_memory, performed}
-use Rattle.wal_run.proofs.Challenges.{shardless_as}
-use Rattle.wal_run.proofs.Endings.{finishes_as}
+use Rattle.wal_run.specs.inside.Writing.{performed}
+use Rattle.wal_run.proofs.Challenges.{answered_as, own_held}
+use Rattle.wal_run.proofs.Says.{performs_refused}
 use Rattle.wal_run.proofs.challenge.challenge_under.Goals as goal
 
-pub returns-then-from-n-clause-does : goal.returns-then-from-n-clause-does
-returns-then-from-n-clause-does g c =
+pub put_answers-requires-clause-shard : goal.put_answers-requires-clause-shard
+put_answers-requires-clause-shard g c = c.in-Ok.ensures.ready.shard
+
+pub put_answers-requires-clause-words : goal.put_answers-requires-clause-words
+put_answers-requires-clause-words g c =
+    let ready = c.in-Ok.ensures.ready in
     let r = recorded c.args.payloads.now (metadata_shown c.args.m) in
-    let count : c.n.result ≡ shard_count (metadata_shown c.args.m).f = c.n.ensures.value ∙ ap (λ (s : BlobShape). shard_count s.f) c.shape.ensures.value in
-    performed _ (finished 4 _ (finishes_as c.finish.ensures.finishes (λ text line.
-    shardless_as g.H.Hash32.digest c.args.audit.now r text (omega (arith, count, c.from.ensures, c.if-from-n.true), line))))
+    (ready.primary, ready.secondary, own_held g.H.Hash32.digest c.args.audit.now r ready.primary ready.secondary ready.primary_own ready.secondary_own, ready.words_of)
+
+pub put_answers-requires-clause-room : goal.put_answers-requires-clause-room
+put_answers-requires-clause-room g c = c.in-Ok.ensures.ready.room
+
+pub returns-in-Ok-clause-does : goal.returns-in-Ok-clause-does
+returns-in-Ok-clause-does g c =
+    let ready = c.in-Ok.ensures.ready in
+    let r = recorded c.args.payloads.now (metadata_shown c.args.m) in
+    answered_as g.H.Hash32.digest c.args.audit.now r ready.primary ready.secondary _ _ _ _ ready.shard ready.primary_own ready.secondary_own
+    (c.put_answers.ensures.does ready.primary ready.secondary ready.words_of)
 
 pub returns-in-Err-clause-does : goal.returns-in-Err-clause-does
-returns-in-Err-clause-does g c = performed _ (out_of_memory (Keeps-refl _))
+returns-in-Err-clause-does g c = performed _ (performs_refused _ _ c.in-Err.ensures.refusal c.refuse.ensures.performs)

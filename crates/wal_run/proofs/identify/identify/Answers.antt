@@ -1,18 +1,18 @@
-use Rattle.std.proofs.Common.{◌∙◌, subst}
-use Rattle.std.proofs.KnownBytes.{Keeps-refl}
+use Rattle.std.proofs.Common.{subst, ◌∙◌}
 use Rattle.wal_shape.specs.Shape.{BlobShape}
 use Rattle.wal_commit.specs.Identifier.{IsIdentifierOf}
-use Rattle.wal_run.specs.inside.Writing.{finished, out_of_memory}
 use Rattle.wal_run.proofs.Blobs.{identified_is}
-use Rattle.wal_run.proofs.Endings.{finishes_as}
+use Rattle.wal_run.proofs.Says.{no_memory}
 use Rattle.wal_run.proofs.identify.identify.Goals as goal
 
-pub returns-in-Ok-clause-performs : goal.returns-in-Ok-clause-performs
-returns-in-Ok-clause-performs g c =
-    let IsOf : BlobShape → Type 0 = λ shape. IsIdentifierOf g.H.Hash32.digest shape.format shape.f c.args.blob.now c.in-Ok.id.0 in
-    let id = subst IsOf c.shape_of-shape.ensures c.in-Ok.ensures.identifier in
-    finished 0 _ (finishes_as c.finish.ensures.finishes (λ text is.
-    identified_is g.H.Hash32.digest c.args.faults c.args.format c.args.blob.now c.in-Ok.id.0 text id (is ∙ c.identifier_line.ensures)))
+pub returns-in_err-id : goal.returns-in_err-id
+returns-in_err-id g c = no_memory _ _ c.from_residual.ensures.1
 
-pub returns-in-Err-clause-performs : goal.returns-in-Err-clause-performs
-returns-in-Err-clause-performs g c = out_of_memory (Keeps-refl _)
+pub returns-in_err-line : goal.returns-in_err-line
+returns-in_err-line g c = no_memory _ _ c.from_residual-in_err-line.ensures.1
+
+pub returns : goal.returns
+returns g c =
+    let IsOf : BlobShape → Type 0 = λ shape. IsIdentifierOf g.H.Hash32.digest shape.format shape.f c.args.blob.now c.in_ok-id.id.0 in
+    let id = subst IsOf c.shape_of-shape.ensures c.in_ok-id.ensures.identifier in
+    identified_is g.H.Hash32.digest c.args.faults c.args.format c.args.blob.now c.in_ok-id.id.0 _ id (c.from_vec.ensures ∙ c.in_ok-line.ensures.items ∙ c.identifier_line.ensures)

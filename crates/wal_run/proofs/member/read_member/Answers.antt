@@ -1,21 +1,23 @@
-use Rattle.std.proofs.Common.{ℕ, Vec, Global, refl}
-use Rattle.std.proofs.KnownBytes.{Keeps-refl}
+use Rattle.std.proofs.Common.{ℕ, subst}
+use Rattle.wal_bundle.specs.Member.{IsMember}
 use Rattle.wal_run.specs.Unbundling.{unbundling}
-use Rattle.wal_run.specs.inside.Writing.{out_of_memory}
-use Rattle.wal_run.proofs.Endings.{performs_as}
-use Rattle.wal_run.proofs.LinesOfText.{line_is}
-use Rattle.wal_run.proofs.Recorded.{malformed_as}
+use Rattle.wal_run.proofs.Members.{member_as}
+use Rattle.wal_run.proofs.Says.{broken, no_memory, passed, says_as}
 use Rattle.wal_run.proofs.member.read_member.Goals as goal
 
-pub returns-in-Ok-clause-performs : goal.returns-in-Ok-clause-performs
-returns-in-Ok-clause-performs g c = c.member_in.ensures.performs c.args.stream.now c.in-Ok.ensures.payloads
+pub returns-in_err-payloads : goal.returns-in_err-payloads
+returns-in_err-payloads g c =
+    passed _ _ _ c.from_residual.ensures.1
+    (broken g.H.Hash32.digest (unbundling g.H.Hash32.digest c.args.id.now c.args.k) c.args.stream.now _ (λ text is. is) c.in_err-payloads.ensures.refusal)
 
-pub returns-in-Err-Malformed-clause-performs : goal.returns-in-Err-Malformed-clause-performs
-returns-in-Err-Malformed-clause-performs g c =
-    let broken = rw c.in-Err-Malformed.field-0-is at c.in-Err-Malformed.ensures.malformed in
-    performs_as c.put_line.ensures.performs (λ s text p.
-    malformed_as g.H.Hash32.digest c.args.id.now (unbundling g.H.Hash32.digest c.args.id.now c.args.k) refl c.args.stream.now _ s text broken p.0
-    (line_is _ (λ (l : Vec ℕ Global). l.items) _ _ p.1 c.malformed_line.ensures))
+pub returns-in_err-answer : goal.returns-in_err-answer
+returns-in_err-answer g c = no_memory _ _ c.from_residual-in_err-answer.ensures.1
 
-pub returns-in-Err-Memory-clause-performs : goal.returns-in-Err-Memory-clause-performs
-returns-in-Err-Memory-clause-performs g c = out_of_memory (Keeps-refl _)
+pub returns : goal.returns
+returns g c =
+    let digest = g.H.Hash32.digest in
+    let id = c.args.id.now in
+    let payloads = c.in_ok-payloads.payloads in
+    let told = subst (λ (k : ℕ). IsMember digest id.0 k payloads c.in_ok-answer.answer) c.from.ensures c.in_ok-answer.ensures.told in
+    says_as _ _ _ c.member_answer.ensures (λ s text p.
+    member_as digest id c.args.k c.args.stream.now payloads s text c.in_ok-payloads.ensures.payloads c.in_ok-answer.answer told p.0 p.1)

@@ -4,13 +4,14 @@ use Rattle.wal_words.specs.declared.task.Task.TheVariants.{Read}
 use Rattle.wal_run.specs.Answers.{no_memory, source_failed, too_long}
 use Rattle.wal_run.proofs.Endings.{ends_finished, ends_performed, long_input}
 use Rattle.wal_run.proofs.PieceLaws.{taken_few, taken_fault, taken_long, tells_all, tells_more}
+use Rattle.wal_run.proofs.Says.{performs_said}
 use Rattle.wal_run.proofs.read.read_with.Goals as goal
 
 pub returns-in-Ok-clause-ends : goal.returns-in-Ok-clause-ends
 returns-in-Ok-clause-ends g c = λ id stands words asked.
     let t = c.in-Ok.ensures.takes id.0 stands in
     ends_performed _ _ _ (Read id) _ t.0 asked (record { told = tells_all _ _ t.0 t.1 t.2; within = t.3; consumed = t.1; ended = t.2 })
-    (c.put_answer.ensures.performs id t.0 (c.finish_stream-answer.ensures.finishes id.0 t.0 t.4))
+    (performs_said _ _ (c.stream_answer.ensures id t.0 (c.finish_stream-answer.ensures.finishes id.0 t.0 t.4)) c.write_answer.ensures.performs)
 
 pub returns-in-Err-ReadFault-clause-ends : goal.returns-in-Err-ReadFault-clause-ends
 returns-in-Err-ReadFault-clause-ends g c = λ id stands words asked.

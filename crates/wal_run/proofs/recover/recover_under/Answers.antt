@@ -1,20 +1,18 @@
 use Rattle.std.proofs.Common.{◌≡◌, ap, ◌∙◌}
-use Rattle.std.proofs.KnownBytes.{Keeps-refl}
 use Rattle.wal_shape.specs.MetaRef.{metadata_shown}
 use Rattle.wal_shape.specs.Shape.{BlobShape, sliver_symbols}
-use Rattle.wal_run.specs.inside.Writing.{out_of_memory}
 use Rattle.wal_run.specs.inside.Command.{recorded}
-use Rattle.wal_run.proofs.Endings.{performs_as}
 use Rattle.wal_run.proofs.Recoveries.{recovered_as}
+use Rattle.wal_run.proofs.Says.{no_memory, says_as}
 use Rattle.wal_run.proofs.recover.recover_under.Goals as goal
 
-pub returns-in-Ok-clause-performs : goal.returns-in-Ok-clause-performs
-returns-in-Ok-clause-performs g c =
-    let need : c.symbol_count-count.result ≡ sliver_symbols c.args.axis (metadata_shown c.args.m).f =
-    c.symbol_count-count.ensures.value ∙ ap (λ (s : BlobShape). sliver_symbols c.args.axis s.f) c.shape.ensures.value in
-    performs_as (c.put_recovered.ensures.performs (metadata_shown c.args.m).f need) (λ s text p.
-    recovered_as g.H.Hash32.digest c.args.id.now c.args.axis c.args.index (recorded c.args.payloads.now (metadata_shown c.args.m)) c.in-Ok.outcome
-    c.in-Ok.ensures.recovery s text p.0 p.1)
+pub returns-in_err-outcome : goal.returns-in_err-outcome
+returns-in_err-outcome g c = no_memory _ _ c.from_residual.ensures.1
 
-pub returns-in-Err-clause-performs : goal.returns-in-Err-clause-performs
-returns-in-Err-clause-performs g c = out_of_memory (Keeps-refl _)
+pub returns : goal.returns
+returns g c =
+    let f = (metadata_shown c.args.m).f in
+    let need : c.symbol_count-need.result ≡ sliver_symbols c.args.axis f = c.symbol_count-need.ensures.value ∙ ap (λ (s : BlobShape). sliver_symbols c.args.axis s.f) c.shape.ensures.value in
+    says_as _ _ _ (c.recovered_answer.ensures f need) (λ s text p.
+    recovered_as g.H.Hash32.digest c.args.id.now c.args.axis c.args.index (recorded c.args.payloads.now (metadata_shown c.args.m)) c.in_ok-outcome.outcome
+    c.in_ok-outcome.ensures.recovery s text p.0 p.1)

@@ -3,6 +3,7 @@ use Rattle.std.proofs.KnownBytes.{Keeps-refl}
 use Rattle.wal_words.specs.declared.task.Task.{Task}
 use Rattle.wal_words.specs.Task.{IsTask}
 use Rattle.wal_run.proofs.Endings.{ends_performed}
+use Rattle.wal_run.proofs.Says.{performs_said}
 use Rattle.wal_run.proofs.top.answer_task.Goals as goal
 
 pub returns-in-Whole-clause-ends : goal.returns-in-Whole-clause-ends
@@ -23,4 +24,4 @@ returns-in-Serve-clause-ends g c = λ words asked.
 pub returns-in-Sample-clause-ends : goal.returns-in-Sample-clause-ends
 returns-in-Sample-clause-ends g c = λ words asked.
     let Asked : Task → Type 0 = λ t. IsTask words t in
-    ends_performed _ words _ _ _ _ (subst Asked c.in-Sample.is asked) (Keeps-refl _, refl) c.put_sample.ensures.performs
+    ends_performed _ words _ _ _ _ (subst Asked c.in-Sample.is asked) (Keeps-refl _, refl) (performs_said _ _ c.sum_up.ensures c.write_answer.ensures.performs)

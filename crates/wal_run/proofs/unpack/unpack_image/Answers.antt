@@ -1,40 +1,38 @@
-use Rattle.std.proofs.Common.{rules, ◌≡◌, ℕ, Vec, Global, length, ap, ◌∙◌}
-use Rattle.std.proofs.KnownBytes.{Keeps-refl}
+use Rattle.std.proofs.Common.{rules, ◌≡◌, ℕ, length, sym, ap, subst, ◌∙◌}
 use Rattle.wal_journal.specs.declared.open.OpenFault.TheVariants.{BadRecord}
 use Rattle.wal_journal.specs.FlatDisk.{flat_bytes}
-use Rattle.wal_run.specs.inside.Writing.{out_of_memory}
-use Rattle.wal_run.proofs.Endings.{performs_as}
-use Rattle.wal_run.proofs.LinesOfText.{line_is}
-use Rattle.wal_run.proofs.ListingLaws.{no_bytes, listed_told, empty_told, broken_told}
+use Rattle.wal_run.specs.Command.{IsResult}
+use Rattle.wal_run.specs.Lines.{malformed_text}
+use Rattle.wal_run.specs.Unpacking.{unpacking}
+use Rattle.wal_run.proofs.ListingLaws.{no_bytes, listed_is, empty_is, broken_is}
+use Rattle.wal_run.proofs.Says.{no_memory}
 use Rattle.wal_run.proofs.unpack.unpack_image.Goals as goal
 
-pub returns-then-is_empty-clause-performs : goal.returns-then-is_empty-clause-performs
-returns-then-is_empty-clause-performs g c =
+pub returns-then-is_empty : goal.returns-then-is_empty
+returns-then-is_empty g c = λ other.
     let none : length c.args.image.now ≡ 0 = search rules in
-    performs_as c.put_line.ensures.performs (λ s text p.
-    empty_told g.H.Hash32.digest c.args.image.now s text (no_bytes c.args.image.now none) p.0 (line_is _ (λ (l : Vec ℕ Global). l.items) _ _ p.1 c.malformed_line.ensures))
+    empty_is g.H.Hash32.digest c.args.image.now (no_bytes c.args.image.now none)
 
-pub returns-in_default-clause-performs : goal.returns-in_default-clause-performs
-returns-in_default-clause-performs g c = out_of_memory (Keeps-refl _)
+pub returns-in_err-bytes : goal.returns-in_err-bytes
+returns-in_err-bytes g c = no_memory _ _ c.from_residual.ensures.1
 
-pub returns-in_default-create-clause-performs : goal.returns-in_default-create-clause-performs
-returns-in_default-create-clause-performs g c = out_of_memory (Keeps-refl _)
+pub returns-in_err-keep : goal.returns-in_err-keep
+returns-in_err-keep g c = no_memory _ _ c.from_residual-in_err-keep.ensures.1
 
-pub returns-in-Err-Memory-clause-performs : goal.returns-in-Err-Memory-clause-performs
-returns-in-Err-Memory-clause-performs g c = out_of_memory (Keeps-refl _)
+pub returns-in_err-text-in-Ok : goal.returns-in_err-text-in-Ok
+returns-in_err-text-in-Ok g c = no_memory _ _ c.from_residual-in_err-text-in-Ok.ensures.1
 
-pub returns-in-Ok-open-clause-performs : goal.returns-in-Ok-open-clause-performs
-returns-in-Ok-open-clause-performs g c =
-    let journal = c.in-Ok-open.journal in
-    let opened = c.in-Ok-open.ensures.opened in
-    performs_as c.put_line-in-Ok-open.ensures.performs (λ s text p.
-    listed_told g.H.Hash32.digest c.args.image.now s text (flat_bytes journal.disk) journal.tail journal.keep.contents c.keep.result.now.contents opened.0 (c.in-Ok-open.ensures.same ∙ c.create-2.ensures ∙ c.in-Ok.ensures.items) opened.1
-    (ap (λ k. k.contents) c.keep.ensures.value) p.0 (line_is _ (λ (l : Vec ℕ Global). l.items) _ _ p.1 c.contents_lines.ensures))
+pub returns-in-Ok : goal.returns-in-Ok
+returns-in-Ok g c =
+    let journal = c.in-Ok.journal in
+    let opened = c.in-Ok.ensures.opened in
+    listed_is g.H.Hash32.digest c.args.image.now (flat_bytes journal.disk) journal.tail journal.keep.contents c.keep.result.now.contents opened.0 _ (c.in-Ok.ensures.same ∙ c.create-2.ensures ∙ c.in_ok-bytes.ensures.items) opened.1
+    (ap (λ k. k.contents) c.keep.ensures.value) (c.from_vec.ensures ∙ c.in_ok-text-in-Ok.ensures)
 
-pub returns-in-Err-BadRecord-clause-performs : goal.returns-in-Err-BadRecord-clause-performs
-returns-in-Err-BadRecord-clause-performs g c =
+pub returns-in-Err-BadRecord : goal.returns-in-Err-BadRecord
+returns-in-Err-BadRecord g c = λ other.
     let why : c.in-Err-BadRecord.field-0.why ≡ BadRecord c.in-Err-BadRecord.at = search rules in
     let opening = rw why at c.in-Err-BadRecord.ensures.opening in
-    performs_as c.put_line-in-Err-BadRecord.ensures.performs (λ s text p.
-    broken_told g.H.Hash32.digest c.args.image.now s text (flat_bytes c.create-2.result) c.in-Err-BadRecord.at c.in-Err-BadRecord.field-0.keep.contents opening.0 (c.create-2.ensures ∙ c.in-Ok.ensures.items) opening.1 opening.2 opening.3
-    p.0 (line_is _ (λ (l : Vec ℕ Global). l.items) _ _ p.1 c.malformed_line-in-Err-BadRecord.ensures))
+    let at = c.in-Err-BadRecord.at in
+    let told = broken_is g.H.Hash32.digest c.args.image.now (flat_bytes c.create-2.result) at c.in-Err-BadRecord.field-0.keep.contents opening.0 (c.create-2.ensures ∙ c.in_ok-bytes.ensures.items) opening.1 opening.2 opening.3 in
+    subst (λ (k : ℕ). IsResult g.H.Hash32.digest unpacking c.args.image.now 8 (malformed_text k)) (sym c.in-Err-BadRecord.at-is) told

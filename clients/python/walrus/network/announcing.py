@@ -1,0 +1,100 @@
+"""A blob that was badly encoded is announced: a gateway whose read of it ends in a rejection recovers a proof, gives it
+to the shards that answer for the blob and has them attest, so that the ledger says that the blob is invalid."""
+import asyncio
+import collections
+import random
+import sys
+import time
+from typing import Any, Optional, Sequence
+
+from .. import client, frames
+
+from .client import Network
+from .peers import Seat
+from .pieces import Memory, reading_needs
+from .problems import Problem
+
+TRIES, PAUSE = 5, 10.0  # how often a blob is tried, and seconds between two tries
+WAITING, TOLD = 64, 10  # blobs that wait for their turn at most; findings that are told
+HEARD = 20.0  # seconds in which the ledger shows what was attested
+
+
+class Announcer:
+    """Announces blobs, one at a time. `findings` has what came of the last ones."""
+
+    def __init__(self, network: Network, memory: Memory):
+        self.network, self.memory, self.turn = network, memory, asyncio.Lock()
+        self.tasks, self.findings = dict[bytes, "asyncio.Task[None]"](), collections.deque[dict[str, Any]](maxlen=TOLD)
+        self.counts: "collections.Counter[str]" = collections.Counter()
+
+    def hear(self, identifier: bytes) -> None:
+        """A read of a blob ended in a rejection."""
+        if identifier in self.tasks or self.network.ledger.invalid(identifier) or len(self.tasks) >= WAITING:
+            return
+        task = self.tasks[identifier] = asyncio.create_task(self.announce(identifier))
+        task.add_done_callback(lambda _: self.tasks.pop(identifier, None))
+
+    async def close(self) -> None:
+        tasks = [*self.tasks.values()]
+        for task in tasks:
+            task.cancel()
+        await asyncio.gather(*tasks, return_exceptions=True)
+
+    async def announce(self, identifier: bytes) -> None:
+        """Has a blob declared invalid, and says what came of it."""
+        said = ""
+        for number in range(TRIES):
+            await asyncio.sleep(PAUSE * bool(number))
+            try:
+                async with self.turn:
+                    said = await self.declare(identifier)
+            except (client.Refused, client.Failed, OSError, Problem) as fault:
+                said = str(fault)
+            if self.network.ledger.invalid(identifier) or identifier not in self.network.ledger.blobs:
+                break
+        invalid = self.network.ledger.invalid(identifier)
+        self.counts["declared" if invalid else "not declared"] += 1
+        told = {"blob": identifier.hex(), "invalid": invalid, "said": said, "time": round(time.time(), 3)}
+        self.findings.appendleft(told)
+        outcome = "the ledger declares it invalid" if invalid else "it is not declared invalid"
+        print(f"{identifier.hex()} was badly encoded, and {outcome}: {said}", file=sys.stderr, flush=True)
+
+    async def declare(self, identifier: bytes) -> str:
+        """Gives a proof to shards, and waits until the ledger says what they attest; what they say in words."""
+        network, ledger = self.network, self.network.ledger
+        async with self.memory.share(sum(reading_needs(client.LARGEST_BLOB))):
+            proof = await self.prove(identifier)
+        if not proof:
+            return "too little is heard for a proof"
+        seats = self.seats(ledger.writing)
+        attest = frames.write_frame(frames.Attest(identifier))
+        words = dict[int, str]()
+        for step in (("store the proof", proof, (client.DONE, client.HELD)), ("attest", attest, client.COUNTS)):
+            said = await asyncio.gather(*(client.take_steps(seat, [step]) for seat in seats))
+            words = {it.number: words.get(it.number) or text for it, (_, text) in zip(seats, said)}  # one word a node
+        await network.until(lambda it: it.invalid(identifier), HEARD)
+        attested = [str(number) for number, text in words.items() if not text]
+        refused = [f"shard {number}: {text}" for number, text in words.items() if text]
+        return "; ".join([f"shards {' '.join(attested) or 'none'} attest it", *refused])
+
+    async def prove(self, identifier: bytes) -> bytes:
+        """A proof, from symbols of a sliver that others give; which sliver was badly encoded is not known before."""
+        ledger = self.network.ledger
+        for owners in dict.fromkeys((ledger.owners(ledger.home_epoch(identifier)), ledger.now, ledger.writing)):
+            seats = self.seats(owners)
+            targets = [client.Symbol(identifier, axis, it.number) for axis in (1, 0) for it in seats]
+            for target in random.sample(targets, len(targets)):
+                if proof := await self.recover(seats, target):
+                    return proof
+        return b""
+
+    async def recover(self, seats: Sequence[Seat], target: client.Symbol) -> Optional[bytes]:
+        """A proof, where the symbols of this sliver show that it was badly encoded."""
+        try:
+            status, frame = await client.recover(seats, target, self.network.walrus)
+        except client.Refused:  # of this sliver too little is heard
+            return None
+        return frame if status == 3 else None
+
+    def seats(self, owners: Sequence[str]) -> list[Seat]:
+        return self.network.peers.seats(owners, self.network.ledger.faults)

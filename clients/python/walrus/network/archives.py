@@ -1,0 +1,202 @@
+"""The files of a folder as they come: in a tar (ustar, with headers of pax and GNU), or in a form.
+
+Both come from anybody: what is read ahead has a bound, names are checked, what is no file is refused by its name."""
+import array
+import email
+import re
+from typing import AsyncGenerator, AsyncIterator, Callable, NamedTuple, Optional
+
+from .manifest import Wrong, as_path, shown
+from .problems import Problem
+
+BLOCK, MOST_FIELDS = 512, 65_536  # bytes of a block of a tar, and of what it tells of one of its files
+MOST_HEAD = 4_096  # bytes of the head of a file in a form
+OTHERS = {b"1": "a link", b"2": "a link", b"3": "a device", b"4": "a device", b"6": "a pipe", b"S": "a sparse file"}
+BROKEN = "the tar breaks off, or is none: make it with tar --create, without compression"
+ASKED = "send a tar, or the files as multipart/form-data with a path as file name, as curl -F 'a=@FILE;filename=PATH'"
+Parts = AsyncIterator[bytes]
+# A file that comes: its path, its length as far as that is known before, and its bytes, which are read before the next.
+Coming = NamedTuple("Coming", [("path", str), ("length", Optional[int]), ("parts", Parts)])
+
+
+class Source:
+    """A stream, of which it can be said how much of it is read."""
+
+    def __init__(self, stream: Parts):
+        self.stream, self.kept = stream, bytearray()
+
+    async def fill(self) -> bool:
+        """Takes the next part of the stream; whether there was one."""
+        async for part in self.stream:
+            self.kept += part
+            return True
+        return False
+
+    def take(self, size: int) -> bytes:
+        taken = bytes(self.kept[:size])
+        del self.kept[:size]
+        return taken
+
+    async def exactly(self, size: int) -> bytes:
+        """So many bytes, or fewer where the stream ends."""
+        while len(self.kept) < size and await self.fill():
+            pass
+        return self.take(size)
+
+    async def parts(self, size: int) -> AsyncGenerator[bytes, None]:
+        """So many bytes in parts; raises where the stream ends before."""
+        while size:
+            if not self.kept and not await self.fill():
+                raise Problem(400, BROKEN)
+            part = self.take(size)
+            size -= len(part)
+            yield part
+
+    async def until(self, mark: bytes) -> AsyncGenerator[bytes, None]:
+        """The bytes before a mark, which is read too; raises where it does not come."""
+        while (place := self.kept.find(mark)) < 0:
+            if sure := self.take(max(0, len(self.kept) - len(mark) + 1)):
+                yield sure
+            if not await self.fill():
+                raise Problem(400, f"the form breaks off: {ASKED}")
+        if place:
+            yield self.take(place)
+        self.take(len(mark))
+
+    async def short(self, mark: bytes) -> bytes:
+        """The same at once, where it is no more than the head of a file."""
+        text = b""
+        async for part in self.until(mark):
+            text += part
+            if len(text) > MOST_HEAD:
+                raise Problem(400, f"the head of a file is too long: {ASKED}")
+        return text
+
+    async def rest(self) -> None:
+        """Reads what is left, which must be zeros."""
+        while self.kept or await self.fill():
+            if self.take(len(self.kept)).strip(b"\0"):
+                raise Problem(400, "something follows the end of the tar: store one tar at a time")
+
+
+def opened(kind: str) -> Callable[[Source], AsyncGenerator[Coming, None]]:
+    """What reads the files of a body of this media type."""
+    told = email.message_from_string(f"Content-Type: {kind}\n\n")
+    if not kind or told.get_content_type() in ("application/x-tar", "application/tar", "application/octet-stream"):
+        return files_of_tar
+    bound = (told.get_boundary() or "").encode("utf-8", "surrogateescape")
+    if told.get_content_type() != "multipart/form-data" or not 1 <= len(bound) <= 70:
+        raise Problem(415, ASKED)
+    return lambda source: files_of_form(source, bound)
+
+
+def checked(name: bytes) -> str:
+    """A path in the folder; raises 400 where it is none."""
+    try:
+        return as_path(name)
+    except Wrong as fault:
+        raise Problem(400, f"{fault}; no folder is stored") from None
+
+
+async def files_of_tar(source: Source) -> AsyncGenerator[Coming, None]:
+    """The files of a tar. Its folders count only by the files in them."""
+    long, told = b"", dict[str, bytes]()  # what stands before a file: its name as GNU has it, its fields as pax
+    while (head := await source.exactly(BLOCK)).strip(b"\0"):
+        if len(head) < BLOCK or not is_sum(head):
+            raise Problem(400, BROKEN)
+        kind, size, name = head[156:157], number_of(head[124:136]), name_in(head)
+        if kind in (b"x", b"g", b"L", b"K"):
+            if size > MOST_FIELDS:
+                raise Problem(400, f"what the tar tells of a file has more than {MOST_FIELDS} bytes")
+            data = (await source.exactly(size + -size % BLOCK))[:size]
+            if kind == b"L":
+                long = data.rstrip(b"\0")
+            elif kind in (b"x", b"g"):
+                fields = fields_of(data)
+                if kind == b"g" and {"path", "size"} & {*fields}:
+                    raise Problem(400, "the tar gives all files one name or length: make it with tar --create")
+                told |= fields if kind == b"x" else {}
+            continue
+        name, size = told.get("path", long or name), decimal(told["size"]) if "size" in told else size
+        is_sparse = any(it.startswith("GNU.sparse.") for it in told)
+        long, told = b"", {}
+        if kind == b"5" or kind in (b"0", b"\0") and name.endswith(b"/"):
+            if name.rstrip(b"/") not in (b"", b"."):
+                checked(name.rstrip(b"/"))
+        elif kind in (b"0", b"\0", b"7") and not is_sparse:
+            path, parts = checked(name), source.parts(size)
+            yield Coming(path, size, parts)
+        else:
+            text = "a sparse file" if is_sparse else OTHERS.get(kind, "no file")
+            raise Problem(400, f"{shown(name)} is {text}: a folder has files alone; leave it out, or tar with -h")
+        if len(await source.exactly(-size % BLOCK)) != -size % BLOCK:
+            raise Problem(400, BROKEN)
+    if len(head) < BLOCK:
+        raise Problem(400, BROKEN)
+    await source.rest()
+
+
+def is_sum(head: bytes) -> bool:
+    """Whether the sum in a header is that of its bytes."""
+    text, blank = head[148:156].strip(b" \0"), head[:148] + 8 * b" " + head[156:]
+    return bool(re.fullmatch(b"[0-7]{1,7}", text)) and int(text, 8) in (sum(blank), sum(array.array("b", blank)))
+
+
+def name_in(head: bytes) -> bytes:
+    """The name that a header itself has."""
+    name, prefix = (text.partition(b"\0")[0] for text in (head[:100], head[345:500]))
+    return prefix + b"/" + name if head[257:263] == b"ustar\0" and prefix else name
+
+
+def number_of(text: bytes) -> int:
+    """A length in octal digits, or as GNU writes long ones."""
+    if text[:1] == b"\x80":
+        return int.from_bytes(text[1:], "big")
+    text = text.strip(b" \0")
+    if not re.fullmatch(b"[0-7]{0,12}", text):
+        raise Problem(400, BROKEN)
+    return int(text or b"0", 8)
+
+
+def decimal(text: bytes) -> int:
+    if not re.fullmatch(b"[0-9]{1,20}", text):
+        raise Problem(400, BROKEN)
+    return int(text)
+
+
+def fields_of(text: bytes) -> dict[str, bytes]:
+    """The fields of a pax header, each of which begins with its length."""
+    found, start = dict[str, bytes](), 0
+    while start < len(text):
+        size, end = text[start : start + 8].partition(b" ")[0], start  # noqa: E203
+        end += int(size) if re.fullmatch(b"[1-9][0-9]{0,5}", size) else 0
+        line = text[start:end]
+        key, equals, value = line[len(size) + 1 : -1].partition(b"=")  # noqa: E203
+        if not equals or line[-1:] != b"\n" or len(line) != int(size):
+            raise Problem(400, BROKEN)
+        found[key.decode("utf-8", "replace")], start = value, end
+    return found
+
+
+async def files_of_form(source: Source, bound: bytes) -> AsyncGenerator[Coming, None]:
+    """The files of a form."""
+    source.kept[:0] = b"\r\n"
+    await source.short(b"\r\n--" + bound)
+    while (end := await source.exactly(2)) == b"\r\n":
+        path = checked(file_name(await source.short(b"\r\n\r\n")))
+        yield Coming(path, None, source.until(b"\r\n--" + bound))
+    if end != b"--":
+        raise Problem(400, f"the form breaks off: {ASKED}")
+    while source.kept or await source.fill():
+        source.kept.clear()
+
+
+def file_name(head: bytes) -> bytes:
+    """The name of the file in the part of a form with these headers."""
+    try:
+        name = email.message_from_string(head.decode().strip() + "\n\n").get_filename()
+    except (ValueError, TypeError, LookupError) as fault:
+        raise Problem(400, f"the name of a file cannot be read: {fault}") from None
+    if not name:
+        raise Problem(400, f"a part of the form is no file: {ASKED}")
+    return name.encode("utf-8", "surrogateescape")

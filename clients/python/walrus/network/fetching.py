@@ -1,0 +1,167 @@
+"""Folders from a gateway, which is not believed: all that is fetched is named here before it takes its place."""
+import errno
+import functools
+import os
+import pathlib
+import tempfile
+from typing import IO, Any
+
+import aiohttp
+
+from .checked import Naming, is_named, written_whole
+from .chunks import PIECE
+from .manifest import MARK, MOST_BYTES, Manifest, Place, Wrong, shown
+from .places import Root, is_equal
+from .transfers import PART, Bar, Failure, fetch, naming_of, receive
+from .trees import Work, several
+
+
+class Fetching:
+    """A folder that is fetched into one of this machine."""
+
+    def __init__(self, session: aiohttp.ClientSession, naming: Naming, root: Root, bar: Bar):
+        self.session, self.root, self.bar = session, root, bar
+        self.walrus, self.faults, self.written = naming.walrus, naming.faults, 0
+
+    async def named(self, file: IO[bytes], name: bytes) -> bool:
+        """Whether what is in a file is what an identifier names."""
+        naming = Naming(self.walrus, self.faults)
+        file.seek(0)
+        while part := file.read(PART):
+            await naming.add(part)
+        return await is_named(file, name, naming)
+
+    async def receive(self, name: bytes, most: int, out: IO[bytes]) -> int:
+        """Writes what is named so, of so many bytes at most."""
+        naming, limited = Naming(self.walrus, self.faults), Limited(out, most)
+        size = await receive(self.session, name.hex(), limited, naming, self.bar)  # type: ignore[arg-type]
+        if not await is_named(out, name, naming):
+            raise Failure(f"what the gateway gives is not {name.hex()}, and is dropped: this gateway lies", 1)
+        return size
+
+    async def fetch_whole(self, place: Place) -> None:
+        """Fetches a file that lies on its own, unless it is there."""
+        with self.root.opened(place.path, place.length) as there:
+            if there and await self.named(there, place.file):
+                return
+        with self.root.written(place.path) as out:
+            if await self.receive(place.file, place.length, out) != place.length:
+                raise Failure(f"{shown(place.path)} has another length than the folder's manifest says", 3)
+        self.written += 1
+
+    async def fetch_pack(self, name: bytes, places: list[Place]) -> None:
+        """Fetches what lies in a pack, unless all of the pack is there."""
+        if await self.is_there(name, places):
+            return
+        with tempfile.TemporaryFile() as pack:
+            size = await self.receive(name, PIECE, pack)
+            pack.flush()
+            for place in places:
+                start = place.offset or 0
+                if start + place.length > size:
+                    raise Failure(f"{shown(place.path)} has another length than the folder's manifest says", 3)
+                self.write(place.path, os.pread(pack.fileno(), place.length, start))
+
+    async def is_there(self, name: bytes, places: list[Place]) -> bool:
+        """Whether the files that are there make up the pack of this name."""
+        with tempfile.TemporaryFile() as made:
+            end = 0
+            for place in sorted(places, key=lambda it: it.offset or 0):
+                start = place.offset or 0
+                with self.root.opened(place.path, place.length) as there:
+                    if not there or start > end:
+                        return False
+                    if start == end:
+                        end += made.write(there.read())
+                    elif not is_equal(made, start, there.read()):
+                        return False
+            return await self.named(made, name)
+
+    def write(self, path: str, data: bytes) -> None:
+        """Writes a file, unless it is there and equal."""
+        with self.root.opened(path, len(data)) as there:
+            if there and there.read() == data:
+                return
+        with self.root.written(path) as out:
+            out.write(data)
+        self.written += 1
+
+    async def fetch_all(self, places: list[Place]) -> None:
+        packs, works = dict[bytes, list[Place]](), list[Work]()
+        for place in places:
+            if not place.length:
+                self.write(place.path, b"")
+            elif place.offset is None:
+                works.append(functools.partial(self.fetch_whole, place))
+            else:
+                packs.setdefault(place.file, []).append(place)
+        works += [functools.partial(self.fetch_pack, name, some) for name, some in packs.items()]
+        await several(works)
+
+
+class Limited:
+    """A file that takes so many bytes at most, in case that a gateway gives without end."""
+
+    def __init__(self, file: IO[bytes], most: int):
+        self.file, self.left = file, most
+
+    def write(self, data: bytes) -> int:
+        self.left -= len(data)
+        if self.left < 0:
+            raise Failure("the gateway gives more bytes than the folder's manifest says", 3)
+        return self.file.write(data)
+
+
+def wanted(manifest: Manifest, only: str) -> list[Place]:
+    """The files of a folder that are asked for: one, or those in a folder of it."""
+    only = only.strip("/")
+    front = f"{only}/" if only else ""
+    found = [it for it in manifest if it.path == only or it.path.startswith(front)]
+    if not found and only:
+        raise Failure(f"the folder has no {shown(only)}", 4)
+    return found
+
+
+async def fetch_folder(session: aiohttp.ClientSession, data: bytes, output: str, only: str) -> dict[str, Any]:
+    """Fetches the folder of this manifest, or a part of it, into a folder of this machine."""
+    try:
+        manifest = Manifest(data)
+    except Wrong as fault:
+        raise Failure(f"the folder's manifest is malformed: {fault}; --output - gives its bytes", 3) from None
+    places = wanted(manifest, only)
+    size = sum(it.length for it in places)
+    try:
+        pathlib.Path(output).mkdir(parents=True, exist_ok=True)
+        with Root(output) as root, Bar(os.path.basename(output.rstrip("/")), size) as bar:
+            root.must_keep_apart([it.path for it in places])
+            fetching = Fetching(session, await naming_of(session), root, bar)
+            await fetching.fetch_all(places)
+    except OSError as fault:
+        if fault.errno not in (errno.ELOOP, errno.ENOTDIR, errno.EISDIR, errno.EEXIST):
+            raise
+        raise Failure(f"{fault.filename or output} is in the way in {output}: move it away", 1) from None
+    return {"files": len(places), "bytes": size, "written": fetching.written}
+
+
+class IsFolder(Exception):
+    """What was fetched is the manifest of a folder."""
+
+
+async def fetch_any(session: aiohttp.ClientSession, name: str, output: str, only: str) -> dict[str, Any]:
+    """Fetches a file, or a folder unless it goes to standard output, where its manifest goes."""
+    if only and output == "-":
+        raise Failure("--only is for a folder, which goes into a folder: name it with --output", 2)
+    data = b""
+    try:
+        with written_whole(output) as out:
+            size = await fetch(session, name, out)
+            out.seek(0)
+            if output != "-" and "/" not in name and size <= MOST_BYTES and out.read(len(MARK)) == MARK:
+                data = MARK + out.read()
+                raise IsFolder()
+            if only:
+                raise Failure(f"{name} is no folder: leave out --only", 4)
+            out.seek(0, os.SEEK_END)
+    except IsFolder:
+        return await fetch_folder(session, data, output, only)
+    return {"size": size}

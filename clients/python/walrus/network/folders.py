@@ -1,0 +1,157 @@
+"""Folders over HTTP: a tar or a form goes in, and each file comes out under its path, as from a server of a site."""
+import asyncio
+import base64
+import functools
+import html
+import json
+import re
+import urllib.parse
+from typing import Any, AsyncIterator, Iterable, Optional, Union
+
+from aiohttp import web
+
+from .chunks import LONGEST, File, Told
+from .gathering import AT_ONCE, Costs, store_folder
+from .guard import SAFE
+from .manifest import Manifest, Place, label_of
+from .problems import Problem
+from .publishing import Publisher, named
+from .reading import FOREVER, WAITING, Reader
+from .shelf import Shelf
+
+OPEN = {"X-Content-Type-Options": "nosniff", "Referrer-Policy": "no-referrer"}
+SANDBOX = {**OPEN, "Content-Security-Policy": "sandbox allow-scripts allow-popups"}  # no page of the gateway's own
+OWN_HOST = {**OPEN, "Origin-Agent-Cluster": "?1"}  # nor does a site reach another one that is beside it
+PATHS = "/v1/folders/"
+MOST = 10_000  # lines of a listing
+PAGE = """<!DOCTYPE html><html lang="en"><head><meta charset="utf-8"><title>{title}</title>
+<meta name="viewport" content="width=device-width"><style>body {{ font-family: sans-serif; margin: 2em }}
+td {{ padding: 0.1em 1em 0.1em 0 }} td + td {{ text-align: right }}</style></head>
+<body><h1>{title}</h1><table>
+{rows}</table>{more}</body></html>
+"""
+
+
+class Folders:
+    """The folders of a gateway. `site` is the host below which each has one of its own."""
+
+    def __init__(self, reader: Reader, publisher: Publisher, shelf: Shelf, site: str):
+        self.reader, self.publisher, self.shelf = reader, publisher, shelf
+        self.site, self.turns = site.lower().strip("."), asyncio.Semaphore(AT_ONCE)
+
+    async def put(self, request: web.Request) -> web.Response:
+        options, publisher = self.publisher.options, self.publisher
+        kind, costs = request.headers.get("Content-Type", ""), Costs(publisher.charge(request))
+        store = functools.partial(self.store, kind, costs)
+        async with asyncio.timeout(WAITING):
+            await self.turns.acquire()
+        try:
+            response = await publisher.upload(request, min(options.most, LONGEST), costs, store)
+        finally:
+            self.turns.release()
+        name = response.headers["Location"].rpartition("/")[2]
+        response.headers["Location"] = f"{PATHS}{name}/"
+        return response
+
+    async def store(self, kind: str, costs: Costs, stream: AsyncIterator[bytes], epochs: int) -> Told:
+        """Stores what comes as a folder of this media type; what is told of it, with its own host."""
+        publisher = self.publisher
+        told = await store_folder(publisher.writer, kind, costs, publisher.options.room, stream, epochs)
+        site = {"site": f"{label_of(bytes.fromhex(told['blobId']))}.{self.site}"} if self.site else {}
+        return {**told, "folder": {**told["folder"], **site}}
+
+    def at_site(self, request: web.BaseRequest) -> Optional[bytes]:
+        """The folder whose own host a request names; none where it names no such host."""
+        host = re.sub(r"\.?(:[0-9]*)?$", "", request.headers.get("Host", "").lower())
+        if not self.site or not host.endswith(f".{self.site}"):
+            return None
+        label = host.removesuffix(f".{self.site}")
+        try:
+            name = base64.b32decode(label.upper() + "====")
+        except ValueError:
+            name = b""
+        if len(name) != 32 or label_of(name) != label:
+            raise Problem(404, f"no folder is at {host[:80]!r}")
+        if request.method not in SAFE:
+            raise Problem(405, "a site can only be read", {"Allow": ", ".join(SAFE)})
+        return name
+
+    async def get(self, request: web.Request) -> web.StreamResponse:
+        """A file or a folder below /v1/folders/ID."""
+        front, slash, path = request.rel_url.raw_path.removeprefix(PATHS).partition("/")
+        name = named(request)
+        return await self.answer(request, name, path, SANDBOX) if slash else moved(front, request)
+
+    async def get_site(self, request: web.Request) -> web.StreamResponse:
+        """The same at a folder's own host."""
+        return await self.answer(request, request["site"], request.rel_url.raw_path.removeprefix("/"), OWN_HOST)
+
+    async def answer(self, request: web.Request, name: bytes, raw: str, headers: dict[str, str]) -> web.StreamResponse:
+        manifest = await self.shelf.manifest(name)
+        try:
+            path = urllib.parse.unquote_to_bytes(raw).decode()
+        except UnicodeDecodeError:
+            raise Problem(404, "the folder has no such file: its names are UTF-8") from None
+        is_folder = not path or path.endswith("/")
+        if place := manifest.find(f"{path}index.html" if is_folder else path):
+            return await self.send(request, place, headers)
+        if is_folder and manifest.has(path):
+            return listing(request, name, manifest, path, headers)
+        if manifest.has(f"{path}/") and not is_folder:
+            return moved(raw.rpartition("/")[2], request)
+        raise Problem(404, "the folder has no such file")
+
+    async def send(self, request: web.Request, place: Place, headers: dict[str, str]) -> web.StreamResponse:
+        at = "" if place.offset is None else f"/{place.offset}-{place.length}"
+        tag, charset = f'"{place.file.hex()}{at}"', "; charset=utf-8" if place.kind.startswith("text/") else ""
+        headers = {**FOREVER, **headers, "ETag": tag}
+        if (found := self.reader.condition(request, tag, headers)) is not None:
+            return found
+        is_head = request.method == "HEAD"  # for which the manifest says enough
+        file = File(place.length, b"") if is_head else await self.shelf.file(place)
+        return await self.reader.give(request, file, tag, headers, place.kind + charset)
+
+
+def moved(name: str, request: web.Request) -> web.Response:
+    """That what is asked for is a folder, whose path ends with a slash."""
+    query = f"?{request.rel_url.raw_query_string}" if request.rel_url.raw_query_string else ""
+    place = f"./{urllib.parse.quote(urllib.parse.unquote_to_bytes(name))}/{query}"
+    return web.Response(status=301, headers={**SANDBOX, "Location": place, "Cache-Control": "public, max-age=86400"})
+
+
+def listing(
+    request: web.Request, name: bytes, manifest: Manifest, folder: str, headers: dict[str, str]
+) -> web.Response:
+    """What is in a folder, as a page, or as JSON for who asks for that and for no page."""
+    found, is_whole = list[Union[str, Place]](), True
+    for it in manifest.within(folder):
+        if len(found) == MOST:
+            is_whole = False
+            break
+        found.append(it)
+    accepted = ",".join(request.headers.getall("Accept", []))
+    headers = {**headers, "Cache-Control": "no-cache", "Vary": "Accept"}
+    if "application/json" in accepted and "text/html" not in accepted:
+        entries = [entry(it, folder) for it in found]
+        told = {"blobId": name.hex(), "folder": folder, "entries": entries, "complete": is_whole}
+        return web.Response(text=json.dumps(told) + "\n", content_type="application/json", headers=headers)
+    more = "" if is_whole else f"<p>The first {MOST} alone: the manifest names all.</p>"
+    text = PAGE.format(title=html.escape(f"/{folder}"), rows="".join(rows(found, folder)), more=more)
+    return web.Response(text=text, content_type="text/html", charset="utf-8", headers=headers)
+
+
+def entry(it: Union[str, Place], folder: str) -> dict[str, Any]:
+    if isinstance(it, str):
+        return {"name": f"{it}/"}
+    told: dict[str, Any] = {"name": it.path[len(folder) :], "type": it.kind, "size": it.length}  # noqa: E203
+    told |= {"blobId": it.file.hex()} if it.file else {}
+    return told | ({"offset": it.offset} if it.offset is not None else {})
+
+
+def rows(found: Iterable[Union[str, Place]], folder: str) -> Iterable[str]:
+    if folder:
+        yield '<tr><td><a href="../">..</a></td><td></td></tr>\n'
+    for it in found:
+        name = f"{it}/" if isinstance(it, str) else it.path[len(folder) :]  # noqa: E203
+        size = "" if isinstance(it, str) else f"{it.length:,}"
+        yield f'<tr><td><a href="./{urllib.parse.quote(name)}">{html.escape(name)}</a></td><td>{size}</td></tr>\n'

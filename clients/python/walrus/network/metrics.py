@@ -1,0 +1,100 @@
+"""Numbers in the text format of Prometheus, of a gateway and of a node, by Debian's python3-prometheus-client.
+
+It is loaded once somebody asks for numbers: commands and other services do without."""
+import re
+from typing import Any, Iterable, Mapping, Union
+
+from aiohttp import web
+from prometheus_client import CollectorRegistry, ProcessCollector, generate_latest
+from prometheus_client.core import CounterMetricFamily, GaugeMetricFamily, HistogramMetricFamily, Metric
+from prometheus_client.registry import Collector
+
+from .times import HEADERS, Times
+
+Value = Union[float, Mapping[str, float]]  # a number, or numbers by labels such as `way="in"`
+PROCESS = ProcessCollector(registry=CollectorRegistry(auto_describe=False))  # of this process: memory, descriptors
+MEANT = {
+    "bad_encodings": "Blobs that were found to be badly encoded, by what came of announcing them",
+    "blobs": "Blobs that are registered, certified, or declared invalid",
+    "blobs_read": "Blobs that were read from the network",
+    "cache_bytes": "Bytes that the cache takes",
+    "cache_hits": "Readings that found a blob in the cache, or on its way there",
+    "challenges": "Challenges, by what was found",
+    "epoch": "The epoch",
+    "http_bytes": "Bytes of files, in and out",
+    "http_requests": "Requests, by method and status",
+    "http_seconds": "Seconds from a request to the end of its reply, by method and path",
+    "ledger_away_seconds": "Seconds since the ledger was heard, 0 while it is heard",
+    "ledger_place": "The last entry of the ledger that was heard",
+    "ledger_stale": "Whether the ledger was not heard for too long",
+    "node_answers": "Whether a node answers",
+    "request_seconds": "Seconds for which a request waited for its reply, by kind",
+    "request_bytes": "Bytes of requests and of replies",
+    "shards": "Shards of the committee",
+    "storing": "Shards that take what is stored: their nodes answer, and have room on the disk",
+}
+
+
+class Told(Collector):
+    """What is told once."""
+
+    def __init__(self, families: Iterable[Metric]):
+        self.families = families
+
+    def collect(self) -> Iterable[Metric]:
+        return self.families
+
+
+def labels_of(text: str) -> dict[str, str]:
+    """The labels in a text such as `method="GET",status="200"`."""
+    return dict(re.findall(r'(\w+)="([^"]*)"', text))
+
+
+def family(name: str, kind: str, value: Value) -> Metric:
+    """A counter or a gauge, of one number or of several by their labels."""
+    values = value if isinstance(value, Mapping) else {"": value}
+    labels = [*labels_of(next(iter(values), ""))]
+    made: Union[CounterMetricFamily, GaugeMetricFamily] = (
+        CounterMetricFamily(f"walrus_{name}", meaning(name), labels=labels)
+        if kind == "counter"
+        else GaugeMetricFamily(f"walrus_{name}", meaning(name), labels=labels)
+    )
+    for text, number in values.items():
+        made.add_metric([*labels_of(text).values()], number)
+    return made
+
+
+def histogram(name: str, times: Times) -> Metric:
+    """How long things took, by their labels."""
+    labels = [*labels_of(next(iter(times.counts), ""))]
+    made = HistogramMetricFamily(f"walrus_{name}", meaning(name), labels=labels)
+    for text in times.counts:
+        made.add_metric([*labels_of(text).values()], times.buckets(text), times.sums[text])
+    return made
+
+
+def meaning(name: str) -> str:
+    return MEANT.get(name, name.replace("_", " "))
+
+
+def told(counters: Mapping[str, Value], gauges: Mapping[str, Value], times: Mapping[str, Times]) -> bytes:
+    """The text of all of it, with what this process takes."""
+    families = [family(name, "counter", it) for name, it in counters.items()]
+    families += [family(name, "gauge", it) for name, it in gauges.items()]
+    families += [histogram(name, it) for name, it in times.items() if it.counts]
+    return generate_latest(Told([*families, *PROCESS.collect()]))  # type: ignore[arg-type]
+
+
+async def serve(place: str, tell: Any) -> web.AppRunner:
+    """Answers GET /metrics at PORT of this machine alone, or at HOST:PORT, with what `tell` gives."""
+    host, _, port = place.rpartition(":")
+
+    async def answer(_: web.Request) -> web.Response:
+        return web.Response(body=tell(), headers=HEADERS)
+
+    app = web.Application()
+    app.router.add_get("/metrics", answer)
+    runner = web.AppRunner(app, access_log=None)
+    await runner.setup()
+    await web.TCPSite(runner, host.strip("[]") or "127.0.0.1", int(port)).start()
+    return runner

@@ -1,0 +1,112 @@
+"""The files of a folder while they come, in any order, until its manifest can be made. Small ones share packs.
+
+What is known of them is in a database of SQLite without a name, so that a long folder takes no memory."""
+import sqlite3
+from typing import Iterator, Optional
+
+from .chunks import LONGEST
+from .manifest import MARK, MOST_BYTES, MOST_FILES, Place, TooMany, Wrong, kind_of, shown
+
+SMALL, PACK, MANY = 524_288, 1_048_576, 1_024  # bytes of a file that lies in a pack, and bytes and files of a pack
+WRITTEN = 131_072  # bytes of a manifest that are made at once
+MADE = """
+CREATE TABLE files (path BLOB PRIMARY KEY, length INTEGER, file BLOB, digest BLOB) WITHOUT ROWID;
+CREATE TABLE contents (digest BLOB PRIMARY KEY, length INTEGER, at) WITHOUT ROWID;
+CREATE TABLE packed (digest BLOB PRIMARY KEY, pack INTEGER, offset INTEGER) WITHOUT ROWID;
+CREATE TABLE packs (pack INTEGER PRIMARY KEY, file BLOB);
+"""
+SMALLS = "SELECT digest, contents.length, at FROM files JOIN contents USING (digest) ORDER BY path"
+LINES = """SELECT path, length, files.file, packs.file, offset FROM files
+LEFT JOIN packed USING (digest) LEFT JOIN packs USING (pack) ORDER BY path"""
+
+
+class Folder:
+    """The files of a folder. `at` is where whoever gathers them finds a small one again."""
+
+    def __init__(self) -> None:
+        self.base = sqlite3.connect("", isolation_level=None)
+        self.base.executescript(
+            f"PRAGMA journal_mode=OFF; PRAGMA synchronous=OFF; PRAGMA cache_size=-8000; {MADE} BEGIN;"
+        )
+        self.count = self.bytes = self.room = 0  # files and their bytes, and those of the manifest at least
+
+    def close(self) -> None:
+        self.base.close()
+
+    def begin(self, path: str) -> None:
+        """Takes the path of a file, whose bytes are told later; raises `Wrong` where it cannot be beside the others."""
+        key, folders = path.encode(), path.split("/")[:-1]
+        above = ["/".join(folders[:end]).encode() for end in range(1, len(folders) + 1)]
+        if self.base.execute("SELECT 1 FROM files WHERE path = ?", (key,)).fetchone():
+            raise Wrong(f"{shown(path)} comes twice")
+        is_folder = self.base.execute("SELECT 1 FROM files WHERE path > ? AND path < ?", (key + b"/", key + b"0"))
+        is_within = (self.base.execute("SELECT 1 FROM files WHERE path = ?", (it,)).fetchone() for it in above)
+        if is_folder.fetchone() or any(is_within):
+            raise Wrong(f"{shown(path)} cannot be there: it is a folder as well as a file, or is in a file")
+        self.room += len(Place(path, kind_of(path), LONGEST, bytes(32), PACK).line())
+        if self.count == MOST_FILES or len(MARK) + self.room > MOST_BYTES:
+            raise TooMany(f"these are too many files for one folder: {self.count} came before; store it in parts")
+        self.base.execute("INSERT INTO files VALUES (?, 0, x'', NULL)", (key,))
+        self.count += 1
+
+    def add(self, path: str, length: int, file: bytes) -> None:
+        """Tells of a file that is stored on its own, or is empty."""
+        self.tell(path, length, file, None)
+
+    def add_small(self, path: str, length: int, digest: bytes, at: object) -> None:
+        """Tells of a file that will be in a pack; `digest` is the SHA-256 of its bytes."""
+        self.base.execute("INSERT OR IGNORE INTO contents VALUES (?, ?, ?)", (digest, length, at))
+        self.tell(path, length, None, digest)
+
+    def tell(self, path: str, length: int, file: Optional[bytes], digest: Optional[bytes]) -> None:
+        row = length, file, digest, path.encode()
+        self.base.execute("UPDATE files SET length = ?, file = ?, digest = ? WHERE path = ?", row)
+        self.bytes += length
+
+    def knows(self, digest: bytes) -> bool:
+        """Whether a small file with these bytes came before."""
+        return bool(self.base.execute("SELECT 1 FROM contents WHERE digest = ?", (digest,)).fetchone())
+
+    def packs(self) -> Iterator[list[tuple[int, int, object]]]:
+        """For each pack what lies in it: offsets, lengths, and where the bytes are. Packs are numbered from 0 on."""
+        pack, size, number = list[tuple[int, int, object]](), 0, 0
+        for digest, length, at in self.base.execute(SMALLS):
+            if self.base.execute("SELECT 1 FROM packed WHERE digest = ?", (digest,)).fetchone():
+                continue
+            if size + length > PACK or len(pack) == MANY:
+                yield pack
+                pack, size, number = [], 0, number + 1
+            self.base.execute("INSERT INTO packed VALUES (?, ?, ?)", (digest, number, size))
+            pack.append((size, length, at))
+            size += length
+            if ends_pack(digest, length):
+                yield pack
+                pack, size, number = [], 0, number + 1
+        if pack:
+            yield pack
+
+    def place(self, pack: int, file: bytes) -> None:
+        """Says as what a pack is stored."""
+        self.base.execute("INSERT INTO packs VALUES (?, ?)", (pack, file))
+
+    def places(self) -> Iterator[Place]:
+        """The files, in the order of the manifest, once all packs have their place."""
+        for key, length, own, packed, offset in self.base.execute(LINES):
+            path = key.decode()
+            yield Place(path, kind_of(path), length, packed if own is None else own, offset)
+
+    def manifest(self) -> Iterator[bytes]:
+        """The bytes of the manifest, in parts."""
+        part = bytearray(MARK)
+        for place in self.places():
+            part += place.line()
+            if len(part) > WRITTEN:
+                yield bytes(part)
+                part.clear()
+        yield bytes(part)
+
+
+def ends_pack(digest: bytes, length: int) -> bool:
+    """Whether a pack ends behind a file of this SHA-256: the longer, the likelier, whatever is before it. So a change
+    of one file leaves most packs as they were."""
+    return int.from_bytes(digest[:8], "big") % SMALL < length

@@ -1,0 +1,141 @@
+"""Manifests that were read and checked, kept for who asks next. What a liar wrote costs its reading once."""
+import asyncio
+import collections
+import dataclasses
+import mmap
+import tempfile
+from typing import Iterator, Optional, Union
+
+from .chunks import NAME, PIECE, File
+from .manifest import MARK, MOST_BYTES, Foreign, Manifest, Place, Wrong
+from .problems import Problem
+from .reading import Reader
+
+MOST, ROOM, SLIGHT = 128, 67_108_864, 65_536  # manifests that are kept, their bytes, and those that memory holds
+NO_FOLDER = "the blob is no folder: read it under /v1/blobs"
+
+
+@dataclasses.dataclass(frozen=True)
+class Part(File):
+    """A file that lies in another one."""
+
+    file: File
+    offset: int
+
+    def pieces(self, start: int, end: int) -> Iterator[tuple[bytes, int, int, int]]:
+        return self.file.pieces(start + self.offset, end + self.offset)
+
+
+class Shelf:
+    """The manifests of folders by their identifiers."""
+
+    def __init__(self, reader: Reader):
+        self.reader, self.turn, self.size = reader, asyncio.Semaphore(1), 0
+        self.kept: "collections.OrderedDict[bytes, asyncio.Task[Manifest]]" = collections.OrderedDict()
+
+    async def manifest(self, name: bytes) -> Manifest:
+        """The manifest of a folder; raises `Problem` where it is none."""
+        self.reader.must_stand(name)
+        task = self.kept.get(name)
+        if not task:
+            task = self.kept[name] = asyncio.create_task(self.load(name))
+            task.add_done_callback(lambda done: self.loaded(name, done))
+        self.kept.move_to_end(name)
+        return await asyncio.shield(task)
+
+    def loaded(self, name: bytes, task: "asyncio.Task[Manifest]") -> None:
+        fault = None if task.cancelled() else task.exception()
+        if task.cancelled() or fault and not (isinstance(fault, Problem) and "manifest" in fault.more):
+            self.kept.pop(name, None)  # it may come another time
+        self.size += 0 if fault or task.cancelled() else len(task.result().data)
+        while len(self.kept) > MOST or self.size > ROOM:
+            oldest = next((it for it, other in self.kept.items() if other.done() and it != name), None)
+            if oldest is None:
+                break
+            dropped = self.kept.pop(oldest)
+            self.size -= 0 if dropped.exception() else len(dropped.result().data)
+
+    async def load(self, name: bytes) -> Manifest:
+        async with self.turn:
+            data = await self.read(name)
+            try:
+                pool = self.reader.network.walrus.pool
+                return await asyncio.get_running_loop().run_in_executor(pool, Manifest, data)
+            except Foreign:
+                raise Problem(404, NO_FOLDER, manifest=False) from None
+            except Wrong as fault:
+                raise Problem(410, f"the folder's manifest is malformed: {fault}", manifest=False) from None
+
+    async def read(self, name: bytes) -> Union[bytes, memoryview]:
+        """The bytes of what may be a manifest, in a file without a name where they are many."""
+        async with self.reader.blob(name) as blob:
+            file = File.of(name, blob)
+            if file.length <= PIECE and file.names == name and bytes(blob[: len(MARK)]) != MARK:
+                raise Problem(404, NO_FOLDER, manifest=False)
+            if file.length <= SLIGHT and file.names == name:
+                return bytes(blob)
+        with tempfile.TemporaryFile(buffering=0) as out:
+            for piece, size, _, _ in file.pieces(0, file.length):
+                async with self.reader.blob(piece, size) as blob:
+                    if not out.tell() and bytes(blob[: len(MARK)]) != MARK:
+                        raise Problem(404, NO_FOLDER, manifest=False)
+                    if file.length > MOST_BYTES:
+                        raise Problem(410, f"the folder's manifest has more than {MOST_BYTES} bytes", manifest=False)
+                    view = memoryview(blob)
+                    while view:
+                        view = view[out.write(view) :]  # noqa: E203
+            return memoryview(mmap.mmap(out.fileno(), file.length, access=mmap.ACCESS_READ))
+
+    async def file(self, place: Place) -> File:
+        """The file at a place; raises where it is not as its manifest says."""
+        if not place.length:
+            return File(0, b"")
+        async with self.reader.blob(place.file) as blob:
+            file = File.of(place.file, blob)
+        end = (place.offset or 0) + place.length
+        if end > file.length or file.length > (place.length if place.offset is None else PIECE):
+            raise Problem(410, "the folder's manifest is false: this file has another length")
+        return file if place.offset is None else Part(place.length, b"", file, place.offset)
+
+    async def consists(self, name: bytes) -> tuple[int, dict[bytes, None]]:
+        """The bytes of a file, or of all of a folder, and the blobs of which it consists."""
+        async with self.reader.blob(name) as blob:
+            file, front = File.of(name, blob), bytes(blob[: len(MARK)])
+        found = dict.fromkeys([name]) | blobs_of(file)
+        if file.names != name and file.length <= MOST_BYTES:
+            async with self.reader.blob(next(file.pieces(0, 1))[0]) as blob:
+                front = bytes(blob[: len(MARK)])
+        manifest = await self.folder_at(name) if front == MARK else None
+        if manifest is None:
+            return file.length, found
+        sizes = dict[bytes, int]()
+        for number, place in enumerate(manifest):
+            if place.length:
+                sizes[place.file] = max(sizes.get(place.file, 0), (place.offset or 0) + place.length)
+            if number % 1_024 == 0:
+                await asyncio.sleep(0)
+        for other, size in sizes.items():
+            found[other] = None
+            self.reader.must_stand(other)
+            if size > PIECE or await self.reader.lengths.of_file(other) is None:
+                async with self.reader.blob(other) as blob:
+                    found |= blobs_of(File.of(other, blob))
+        return file.length + sum(sizes.values()), found
+
+    async def folder_at(self, name: bytes) -> Optional[Manifest]:
+        """The manifest of what begins as one; nothing where it is none, and so an ordinary file."""
+        try:
+            return await self.manifest(name)
+        except Problem as fault:
+            if "manifest" in fault.more:
+                return None
+            raise
+
+    async def close(self) -> None:
+        for task in self.kept.values():
+            task.cancel()
+        await asyncio.gather(*self.kept.values(), return_exceptions=True)
+
+
+def blobs_of(file: File) -> dict[bytes, None]:
+    return dict.fromkeys(piece for piece, _, _, _ in file.pieces(0, file.length) if len(piece) == NAME)

@@ -1,0 +1,159 @@
+"""Folders of this machine to a gateway, which is not believed: all that is stored is named here, too."""
+import asyncio
+import functools
+import hashlib
+import os
+import stat
+from typing import Any, AsyncIterator, Awaitable, Callable, Iterable, Iterator
+
+import aiohttp
+
+from .checked import Naming
+from .manifest import Wrong, as_path, label_of, shown
+from .packing import SMALL, Folder
+from .transfers import PART, Bar, Failure, ask, must_name, naming_of
+
+WIDTH = 4  # parts of a folder that are on their way at once
+Work = Callable[[], Awaitable[None]]
+KINDS = {stat.S_IFLNK: "a link", stat.S_IFSOCK: "a socket", stat.S_IFIFO: "a pipe"}
+
+
+async def several(works: Iterable[Work]) -> None:
+    """Does some of these at once, until all are done or one fails; what is under way then is still done."""
+    left, faults = iter(works), list[Exception]()
+
+    async def go_on() -> None:
+        for work in left:
+            try:
+                await work()
+            except Exception as fault:
+                faults.append(fault)
+            if faults:
+                return
+
+    tasks = [asyncio.create_task(go_on()) for _ in range(WIDTH)]
+    try:
+        await asyncio.gather(*tasks)
+    finally:
+        for task in tasks:
+            task.cancel()
+        await asyncio.gather(*tasks, return_exceptions=True)
+    if faults:
+        raise faults[0]
+
+
+def files_below(top: bytes, front: bytes = b"") -> Iterator[tuple[str, bytes]]:
+    """The files of a folder: the path of each in it, and where it is; raises `Failure` at what no folder has."""
+    with os.scandir(os.path.join(top, front)) as found:
+        entries = sorted(found, key=lambda it: it.name)
+    for entry in entries:
+        name, kind = front + entry.name, stat.S_IFMT(entry.stat(follow_symlinks=False).st_mode)
+        if kind == stat.S_IFDIR:
+            yield from files_below(top, name + b"/")
+        elif kind == stat.S_IFREG:
+            try:
+                yield as_path(name), entry.path
+            except Wrong as fault:
+                raise Failure(f"{fault}; nothing is stored", 1) from None
+        else:
+            text = KINDS.get(kind, "a device")
+            raise Failure(f"{shown(name)} is {text}, and a folder has files alone; nothing is stored", 1)
+
+
+class Sending:
+    """A folder that is stored: what the gateway's network lacks of it is sent."""
+
+    def __init__(self, session: aiohttp.ClientSession, naming: Naming, epochs: int, until: int, bar: Bar):
+        self.session, self.epochs, self.until, self.bar = session, epochs, until, bar
+        self.walrus, self.faults, self.folder, self.sent = naming.walrus, naming.faults, Folder(), 0
+
+    async def send(self, parts: Callable[[], Iterator[bytes]], what: str, always: bool = False) -> tuple[bytes, Any]:
+        """Sends a file that is not there for so long; its identifier, and what the gateway tells if it was sent."""
+        naming = Naming(self.walrus, self.faults)
+        for part in parts():
+            await naming.add(part)
+        names = await naming.identifiers()
+        pieces = [naming.names[at : at + 32] for at in range(0, len(naming.names), 32)]  # noqa: E203
+        if not always and all([await self.is_kept(it) for it in dict.fromkeys([names[0], *pieces])]):
+            self.bar.add(naming.size)
+            return names[0], None
+
+        async def stream() -> AsyncIterator[bytes]:
+            for part in parts():
+                yield part
+                self.bar.add(len(part))
+
+        told = await ask(self.session, "PUT", "/v1/blobs", params={"epochs": self.epochs}, data=stream())
+        self.sent += naming.size
+        must_name(told, names, what)
+        return names[0], told
+
+    async def is_kept(self, name: bytes) -> bool:
+        """Whether a blob is certified, and kept for so long; not where the gateway does not tell."""
+        try:
+            told = await ask(self.session, "GET", f"/v1/status/{name.hex()}")
+        except Failure:
+            return False
+        return bool(told["certificate"]) and not told["invalid"] and told["endEpoch"] >= self.until
+
+    def look(self, top: bytes) -> list[tuple[str, bytes]]:
+        """Checks the names of all files, and reads the small ones; the large ones."""
+        large = list[tuple[str, bytes]]()
+        for path, place in [*files_below(top)]:
+            try:
+                self.folder.begin(path)
+            except Wrong as fault:
+                raise Failure(f"{fault}; nothing is stored", 1) from None
+            with open(place, "rb") as file:
+                data = file.read(SMALL + 1)
+                self.bar.size += os.fstat(file.fileno()).st_size
+            if len(data) > SMALL:
+                large.append((path, place))
+            elif data:
+                self.folder.add_small(path, len(data), hashlib.sha256(data).digest(), place)
+        return large
+
+    async def send_large(self, path: str, place: bytes) -> None:
+        size = 0
+
+        def parts() -> Iterator[bytes]:
+            nonlocal size
+            size = 0
+            with open(place, "rb") as file:
+                while part := file.read(PART):
+                    size += len(part)
+                    yield part
+
+        name, _ = await self.send(parts, shown(path))
+        self.folder.add(path, size, name)
+
+    async def send_pack(self, number: int, pack: list[tuple[int, int, Any]]) -> None:
+        data = b""
+        for _, length, place in pack:
+            with open(place, "rb") as file:
+                found = file.read(SMALL + 1)
+            if len(found) != length:
+                raise Failure(f"{shown(place)} changed while it was stored: store the folder again", 1)
+            data += found
+        name, _ = await self.send(lambda: iter([data]), "a pack of small files")
+        self.folder.place(number, name)
+
+    async def send_all(self, top: bytes) -> Any:
+        large = self.look(top)
+        await several(functools.partial(self.send_large, *it) for it in large)
+        await several(functools.partial(self.send_pack, number, it) for number, it in enumerate(self.folder.packs()))
+        lines = b"".join(self.folder.manifest())
+        name, told = await self.send(lambda: iter([lines]), "the folder", always=True)
+        found = {"files": self.folder.count, "bytes": self.folder.bytes, "sent": self.sent, "label": label_of(name)}
+        return {**told, "folder": found}
+
+
+async def store_folder(session: aiohttp.ClientSession, path: str, epochs: int) -> Any:
+    """Stores a folder, whose manifest comes last."""
+    naming, status = await naming_of(session), await ask(session, "GET", "/v1/status")
+    with Bar(os.path.basename(os.path.abspath(path))) as bar:
+        sending = Sending(session, naming, epochs, status["epoch"] + bool(status["moving"]) + epochs, bar)
+        try:
+            return await sending.send_all(os.fsencode(path))
+        finally:
+            sending.folder.close()

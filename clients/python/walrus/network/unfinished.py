@@ -1,0 +1,203 @@
+"""Uploads that are not finished: what has come of each is in a folder of its own, so that it goes on after a break.
+
+A folder has `about` (for how long the file is kept, and in which epoch it began), `names` (33 bytes for each piece that
+is certified: its identifier, and 1 where it was there before), the pieces behind these in files by their numbers, of
+which the last one grows, and `told` once the upload is finished. Its own name begins with who began it."""
+import contextlib
+import fcntl
+import hashlib
+import json
+import mmap
+import os
+import pathlib
+import re
+import secrets
+import shutil
+import time
+from typing import IO, Any, Optional
+
+from .chunks import MARK, NAME, PIECE
+from .pieces import Mapped, write
+from .problems import Problem
+
+ALL, OF_ONE, FINISHED = (
+    64,
+    8,
+    1_000,
+)  # uploads that are not finished, and of one who sends; that are known once they are
+IDLE, KNOWN = 86_400, 3_600  # seconds without a byte until an upload is dropped; for which a finished one is known
+RECORD = NAME + 1
+GONE = "there is no such upload, or it was dropped: begin it again, and what is certified is not stored again"
+
+
+class Upload:
+    """An upload, as its folder has it."""
+
+    def __init__(self, folder: pathlib.Path):
+        try:
+            self.folder, self.about = folder, json.loads((folder / "about").read_text())
+            self.told: Optional[dict[str, Any]] = None
+            if (folder / "told").exists():
+                self.told = json.loads((folder / "told").read_text())
+            records = b"" if self.told else (folder / "names").read_bytes()
+        except FileNotFoundError:
+            raise Problem(404, GONE) from None
+        self.records = records[: len(records) // RECORD * RECORD]
+        self.sizes = list[int]()  # of the pieces that are not certified
+        while self.sizes[-1:] in ([], [PIECE]) and (path := self.path(self.count + len(self.sizes))).exists():
+            self.sizes.append(path.stat().st_size)
+
+    @property
+    def count(self) -> int:
+        """The pieces that are certified."""
+        return len(self.records) // RECORD
+
+    @property
+    def offset(self) -> int:
+        """The bytes that have come."""
+        return int(self.told["size"]) if self.told else self.count * PIECE + sum(self.sizes)
+
+    @property
+    def names(self) -> list[bytes]:
+        """The identifiers of the certified pieces."""
+        return [self.records[place:][:NAME] for place in range(0, len(self.records), RECORD)]
+
+    @property
+    def was_there(self) -> bool:
+        """Whether all certified pieces were there before."""
+        return not self.records[NAME::RECORD].strip(b"\1")
+
+    @property
+    def is_marked(self) -> bool:
+        """Whether the file begins with the mark of a list."""
+        return (self.folder / "marked").exists()
+
+    def path(self, number: int) -> pathlib.Path:
+        return self.folder / f"{number}.piece"
+
+    def add(self, data: memoryview) -> Optional[int]:
+        """Keeps bytes that came, which fit into the piece that grows; its number once it is full."""
+        if not self.sizes or self.sizes[-1] == PIECE:
+            self.sizes.append(0)
+        number = self.count + len(self.sizes) - 1
+        with open(self.path(number), "r+b" if self.sizes[-1] else "wb", buffering=0) as file:
+            file.seek(self.sizes[-1])
+            try:
+                write(file, data)
+            finally:
+                self.sizes[-1] = os.fstat(file.fileno()).st_size  # also where the disk took a part
+        return number if self.sizes[-1] == PIECE else None
+
+    def room(self) -> int:
+        """The bytes that the piece which grows still takes."""
+        return PIECE - (self.sizes[-1] if self.sizes and self.sizes[-1] < PIECE else 0)
+
+    def whole(self) -> range:
+        """The pieces that are whole and not certified."""
+        return range(self.count, self.count + sum(size == PIECE for size in self.sizes))
+
+    def piece(self, number: int) -> bytes:
+        """A piece that is not certified; its memory is that of its file."""
+        if not self.path(number).exists():
+            return b""
+        with open(self.path(number), "rb") as file:
+            size = os.fstat(file.fileno()).st_size
+            return memoryview(Mapped(file.fileno(), size, access=mmap.ACCESS_READ)) if size else b""
+
+    def record(self, name: bytes, was_there: bool) -> None:
+        """The first piece that was not certified is so, and goes from the disk."""
+        if not self.count:
+            with open(self.path(0), "rb") as file:
+                if file.read(len(MARK)) == MARK:
+                    (self.folder / "marked").touch()
+        with open(self.folder / "names", "r+b", buffering=0) as out:
+            out.seek(len(self.records))
+            out.write(name + bytes([was_there]))
+        self.path(self.count).unlink()
+        self.records += name + bytes([was_there])
+        del self.sizes[:1]
+        self.touch()
+
+    def finish(self, told: dict[str, Any]) -> None:
+        """Keeps what is answered, for whoever did not hear it."""
+        half = self.folder / "told.half"
+        half.write_text(json.dumps(told))
+        half.rename(self.folder / "told")
+        for path in [self.folder / "names", *self.folder.glob("*.piece")]:
+            path.unlink()
+        self.told, self.records = told, b""
+
+    def touch(self) -> None:
+        """Has it be kept for as long again."""
+        os.utime(self.folder / "about")
+
+
+class Unfinished:
+    """The uploads in a folder, which gateways over one folder may share."""
+
+    def __init__(self, folder: pathlib.Path):
+        self.folder = folder
+        self.sweep()
+
+    def sweep(self) -> dict[str, bool]:
+        """Drops uploads of which nothing came for long; of those that stay, whether each is finished."""
+        found = list[tuple[float, str, bool]]()
+        for path in sorted(self.folder.iterdir()) if self.folder.exists() else []:
+            with contextlib.suppress(FileNotFoundError):
+                about, finished = path / "about", (path / "told").exists()
+                touched = (about if about.exists() else path).stat().st_mtime
+                if time.time() > touched + (KNOWN if finished else IDLE):
+                    shutil.rmtree(path, ignore_errors=True)
+                else:
+                    found.append((touched, path.name, finished))
+        done = [name for _, name, finished in sorted(found) if finished]
+        for name in done[: max(0, len(done) - FINISHED)]:
+            shutil.rmtree(self.folder / name, ignore_errors=True)
+        return {name: finished for _, name, finished in found}
+
+    def create(self, owner: str, about: dict[str, Any]) -> Upload:
+        """Begins an upload, unless there are too many; who began it is part of its name."""
+        mine, known = mark_of(owner), [name for name, finished in self.sweep().items() if not finished]
+        if sum(name.startswith(mine) for name in known) >= OF_ONE:
+            text = f"{OF_ONE} uploads are not finished: go on with one of them, or end one with DELETE"
+            raise Problem(429, text, {"Retry-After": "60"})
+        if len(known) >= ALL:
+            raise Problem(
+                503, f"{ALL} uploads of others are not finished: send a file of up to 16 MiB by PUT, or later"
+            )
+        made = self.folder / (mine + secrets.token_hex(16))
+        made.mkdir(parents=True, mode=0o700)
+        (made / "names").touch()
+        (made / "about").write_text(json.dumps(about))
+        return Upload(made)
+
+    def lock(self, owner: str, name: str) -> Optional[IO[bytes]]:
+        """What keeps others from changing an upload while it is open; nothing while somebody is at it."""
+        if not is_of(owner, name):
+            raise Problem(404, GONE)
+        try:
+            lock = open(self.folder / name / "about", "rb")
+        except FileNotFoundError:
+            raise Problem(404, GONE) from None
+        try:
+            fcntl.flock(lock, fcntl.LOCK_EX | fcntl.LOCK_NB)
+        except BlockingIOError:
+            lock.close()
+            return None
+        return lock
+
+    def find(self, name: str) -> Upload:
+        return Upload(self.folder / name)
+
+    def drop(self, upload: Upload) -> None:
+        shutil.rmtree(upload.folder, ignore_errors=True)
+
+
+def is_of(owner: str, name: str) -> bool:
+    """Whether a name can be that of someone's upload."""
+    return bool(re.fullmatch("[0-9a-f]{48}", name)) and name.startswith(mark_of(owner))
+
+
+def mark_of(owner: str) -> str:
+    """What the names of someone's uploads begin with."""
+    return hashlib.sha256(owner.encode("utf-8", "surrogateescape")).hexdigest()[:16]

@@ -1,0 +1,12 @@
+use Rattle.std.proofs.Common.{◌≡◌, ap, ◌∙◌, arith}
+use Rattle.wal_shape.specs.MetaRef.{metadata_shown}
+use Rattle.wal_shape.specs.Shape.{BlobShape, shard_count}
+use Rattle.wal_run.specs.inside.Command.{recorded}
+use Rattle.wal_run.proofs.Challenges.{shardless_is}
+use Rattle.wal_run.proofs.challenge.ready_under.Goals as goal
+
+pub returns-then-from-n-clause-refusal : goal.returns-then-from-n-clause-refusal
+returns-then-from-n-clause-refusal g c = λ other.
+    let r = recorded c.args.payloads.now (metadata_shown c.args.m) in
+    let count : c.n.result ≡ shard_count (metadata_shown c.args.m).f = c.n.ensures.value ∙ ap (λ (s : BlobShape). shard_count s.f) c.shape.ensures.value in
+    shardless_is g.H.Hash32.digest c.args.audit.now r (omega (arith, count, c.from.ensures, c.if-from-n.true))

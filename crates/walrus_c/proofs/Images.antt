@@ -1,0 +1,108 @@
+-- An image fits on its disk.
+use Rattle.std.proofs.Common.{◌≡◌, ℕ, ◌+◌, ◌≤◌, max, Bool, true, false, Option, Some, None, List, [], ◌∷◌, ◌++◌, length, length-append, codes, Result, Ok, Err, ap, refl, subst, arith}
+use Rattle.std.specs.Prelude.{⊤, if◌then◌else◌, nat_lt, nat_le}
+use Rattle.std.specs.List.{AllByRecursion}
+use Rattle.std.proofs.lemmas.Bool.{and_parts, leb-true, ltb-false}
+use Rattle.wal_shape.specs.Shape.{most_bytes}
+use Rattle.wal_commit.specs.Identifier.{identifier_of}
+use Rattle.wal_frame.specs.declared.frame.FrameError.{FrameError}
+use Rattle.wal_frame.specs.Frame.{Frame, Metadata, Sliver, Opening, Proof, Read, Symbol, Ack, Attest, Forget, Answer, Clash, RegisterEntry, AckEntry, AttestEntry}
+use Rattle.wal_frame.specs.Reading.{read_of}
+use Rattle.wal_store.specs.Contents.{Contents, part_at}
+use Rattle.wal_store.specs.Parts.{is_absent, is_fit}
+use Rattle.wal_store.specs.Calls.{Call, Put, DropPart, DropId, after_call, no_contents}
+use Rattle.wal_journal.specs.Record.{fields, records, spelling}
+use Rattle.wal_journal.specs.Packing.{and_more, is_lawful, put_in, puts_of}
+use Rattle.wal_journal.proofs.Records.{length-records-push, spelling_size}
+use Rattle.wal_run.specs.Command.{IsResult}
+use Rattle.wal_run.specs.Imaging.{image_from, image_of, imaging, room_behind, room_of}
+use Rattle.walrus_c.proofs.Lengths.{two_line}
+use Rattle.walrus_c.proofs.MemberTexts.{carried_short}
+use Rattle.walrus_c.proofs.Payloads.{IsWithin, reads}
+
+-- ---- the puts of payloads
+
+-- a change of no more bytes than a blob may have
+abbrev pub IsShort : Call → Type 0
+IsShort c = length (spelling c) ≤ 38 + most_bytes
+
+abbrev AreShort : List Call → Type 0
+AreShort calls = AllByRecursion IsShort calls
+
+-- what may be put of a payload
+abbrev IsNamed : Option Call → Type 0
+IsNamed None = ⊤
+IsNamed (Some c) = length (fields c).id ≡ 32
+
+fits : (held : Contents) (c : Call) → length (fields c).id ≡ 32 → is_lawful held c ≡ true → IsShort c
+fits held (Put id part bytes) named lawful =
+    let fit = (and_parts (is_absent (part_at held id part)) (is_fit (Some bytes)) lawful).1 in
+    let most = leb-true (length bytes) most_bytes (and_parts (nat_lt 0 (length bytes)) (nat_le (length bytes) most_bytes) fit).1 in
+    omega (arith, spelling_size (Put id part bytes) named, most)
+fits held (DropPart id part) named lawful = omega (arith, spelling_size (DropPart id part) named)
+fits held (DropId id) named lawful = omega (arith, spelling_size (DropId id) named)
+
+more_short : (held : Contents) (o : Option Call) (others : Contents → List Call) → IsNamed o → ((now : Contents) → AreShort (others now)) → AreShort (and_more held o others)
+more_short held None others named each = each held
+more_short held (Some c) others named each = by (is_lawful held c) refl where
+  by : (b : Bool) → is_lawful held c ≡ b → AreShort (if b then c ∷ others (after_call held c) else others held)
+  by true lawful = (fits held c named lawful, each (after_call held c))
+  by false lawful = each held
+
+module _ (digest : List ℕ → List ℕ) (size_is : (text : List ℕ) → length (digest text) ≡ 32) where
+  named : (n : ℕ) (r : Result Frame FrameError) → ((x : Frame) → r ≡ Ok x → IsWithin n x) → IsNamed (put_in digest r)
+  unfolding identifier_of
+  named n (Ok (Metadata m)) is = size_is _
+  named n (Ok (Sliver id axis index bytes)) is = (is _ refl).0
+  named n (Ok (Proof id p)) is = is _ refl
+  named n (Ok (Opening id axis index o)) is = tt
+  named n (Ok (Read id)) is = tt
+  named n (Ok (Symbol id axis index)) is = tt
+  named n (Ok (Ack id)) is = tt
+  named n (Ok (Attest id)) is = tt
+  named n (Ok (Forget id)) is = tt
+  named n (Ok (Answer code a b)) is = tt
+  named n (Ok (Clash left right)) is = tt
+  named n (Ok (RegisterEntry id until)) is = tt
+  named n (Ok (AckEntry shard id)) is = tt
+  named n (Ok (AttestEntry shard id)) is = tt
+  named n (Err e) is = tt
+
+  puts_short : (held : Contents) (payloads : List (List ℕ)) → AreShort (puts_of digest held payloads)
+  puts_short held [] = tt
+  puts_short held (payload ∷ payloads) =
+      more_short held (put_in digest (read_of payload)) (λ now. puts_of digest now payloads) (named (length payload) (read_of payload) (reads payload))
+      (λ now. puts_short now payloads)
+
+-- ---- the image
+
+-- it fits, or what does not is told in a line
+abbrev IsImaged : ℕ → Result (List ℕ) (ℕ × ℕ) → Type 0
+IsImaged size (Ok text) = length text ≤ max size 1
+IsImaged size (Err full) = (full.0 ≤ 39 + most_bytes) × (full.1 ≤ size)
+
+image_made : (size : ℕ) (first rest : List Call) → length (records first) + 1 ≤ max size 1 → AreShort rest → IsImaged size (image_from size first rest)
+image_made size first [] fit short = omega (arith, fit, length-append (records first) (0 ∷ []))
+image_made size first (c ∷ rest) fit short = by (nat_lt (room_behind size first) (room_of c)) refl (image_made size (first ++ c ∷ []) rest) where
+  by : (b : Bool) → nat_lt (room_behind size first) (room_of c) ≡ b → (length (records (first ++ c ∷ [])) + 1 ≤ max size 1 → AreShort rest → IsImaged size (image_from size (first ++ c ∷ []) rest))
+      → IsImaged size (if b then Err (room_of c, room_behind size first) else image_from size (first ++ c ∷ []) rest)
+  by true full others = (omega (arith, short.0), omega arith)
+  by false room others = others (omega (arith, ltb-false (room_behind size first) (room_of c) room, length-records-push first c)) short.1
+
+pub imaged : (digest : List ℕ → List ℕ) (size_is : (text : List ℕ) → length (digest text) ≡ 32) (size : ℕ) (input : List ℕ) → size ≤ 134217728 → length input ≤ 134217728 → (status : ℕ)
+    (text : List ℕ) → IsResult digest (imaging digest size) input status text → length text ≤ max size 272
+imaged digest size_is size input range within status text is =
+    carried_short digest _ _ (max size 272) (omega arith) succeeded lacked input within status text is where
+      made : (payloads : List (List ℕ)) → IsImaged size (image_of size (puts_of digest no_contents payloads))
+      made payloads = image_made size [] (puts_of digest no_contents payloads) (omega arith) (puts_short digest size_is no_contents payloads)
+
+      succeeded : (payloads : List (List ℕ)) (t : List ℕ) → (imaging digest size).Succeeds payloads t → length t ≤ max size 272
+      succeeded payloads t whole = let fit = subst (IsImaged size) whole (made payloads) in omega (arith, fit)
+
+      lacked : (payloads : List (List ℕ)) (t : List ℕ) → (imaging digest size).Lacks payloads t → length t ≤ max size 272
+      lacked payloads t (needed, free, full, told) =
+          let fit = subst (IsImaged size) full (made payloads) in
+          let front : length (codes "disk full needed ") ≡ 17 = refl in
+          let middle : length (codes " free ") ≡ 6 = refl in
+          let line = two_line (codes "disk full needed ") (codes " free ") needed free (omega (arith, fit.0)) (omega (arith, fit.1, range)) in
+          omega (arith, ap length told, line, front, middle)

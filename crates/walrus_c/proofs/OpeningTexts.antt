@@ -1,0 +1,115 @@
+-- What a shard answers to a storage challenge: envelopes of openings, each with a symbol.
+use Rattle.std.proofs.Common.{◌≡◌, ℕ, zero, suc, ◌+◌, ◌*◌, ◌/◌, ◌≤◌, List, [], ◌∷◌, length, length-append, Some, slice_get, inl, inr, ap, refl, subst, sym, ◌∙◌, arith}
+use Rattle.std.specs.List.{flat_map}
+use Rattle.std.proofs.lemmas.List.Concat.{flat_map-cons}
+use Rattle.std.proofs.Math.Nat.{mul-le-mul_right}
+use Rattle.wal_shape.specs.declared.axis.Axis.TheVariants.{Primary, Secondary}
+use Rattle.wal_shape.specs.declared.opening.Opening.{Opening}
+use Rattle.wal_shape.specs.Shape.{IsShape, column_count, row_count, symbol_size}
+use Rattle.wal_shape.specs.Metadata.{BlobMetadata}
+use Rattle.wal_shape.proofs.ShapeLaws.{symbol_size-least}
+use Rattle.wal_commit.proofs.Bodies.{body_of}
+use Rattle.wal_frame.specs.Frame as frame
+use Rattle.wal_frame.specs.Frame.{frame_text}
+use Rattle.wal_frame.specs.Stream.{IsStream}
+use Rattle.wal_frame.proofs.FrameLaws.{length-opening_frame}
+use Rattle.wal_reader.specs.Outcome.{IsMetadataIn}
+use Rattle.wal_challenge.specs.Answer.{HoldsBoth}
+use Rattle.wal_challenge.specs.Verdict.{claim_of, claims_from}
+use Rattle.wal_challenge.proofs.AnswerLaws.{answer_holds}
+use Rattle.wal_words.specs.declared.task.Audit.{Audit}
+use Rattle.wal_run.specs.Challenging.{AnswersDraws, IsOwnSliver, challenging, claim_envelope}
+use Rattle.wal_run.specs.Command.{IsResult, Recorded, Spelled}
+use Rattle.walrus_c.specs.Room.{opening_most}
+use Rattle.walrus_c.proofs.Lines.{recorded_short, shape_of}
+use Rattle.walrus_c.proofs.Payloads.{sliver_among, sliver_sizes, slivers_within}
+use Rattle.walrus_c.proofs.RecoverTexts.{id_long}
+use Rattle.walrus_c.proofs.Streams.{envelope_long}
+
+-- no symbol is longer than that of the longest blob at one fault
+symbol_most : (f length : ℕ) → IsShape f length → symbol_size f length ≤ 2796204
+symbol_most f length shape =
+    let square : 1 * f ≤ f * f = mul-le-mul_right f shape.0 in
+    (symbol_size-least f length).least 2796204 (omega arith) (omega arith) (omega (arith, shape.0, shape.2, square))
+
+-- envelopes of openings, each of which has so many bytes at most
+envelopes_long : (digest : List ℕ → List ℕ) (a : Audit) (m : BlobMetadata) (most d : ℕ) (os : List Opening) → length a.id.0 ≡ 32
+    → ((k : ℕ) (o : Opening) → slice_get os k ≡ Some o → 50 + length o.symbol + length o.path ≤ most)
+    → length (flat_map (claim_envelope a) (claims_from digest m a.beacon a.shard d os)) ≤ length os * most
+envelopes_long digest a m most d [] long each = omega arith
+envelopes_long digest a m most d (o ∷ os) long each =
+    let claim = claim_of digest m a.beacon a.shard d o in
+    let rest = envelopes_long digest a m most (d + 1) os long (λ k p there. each (suc k) p there) in
+    let here = each zero o refl in
+    let head = envelope_long a.shard (frame_text (frame.Opening a.id.0 claim.axis claim.index o)) in
+    let body = length-opening_frame a.id.0 claim.axis claim.index o long in
+    let others = claims_from digest m a.beacon a.shard (d + 1) os in
+    let whole : length (flat_map (claim_envelope a) (claim ∷ others)) ≡ length (claim_envelope a claim) + length (flat_map (claim_envelope a) others) =
+    ap length (flat_map-cons (claim_envelope a) claim others) ∙ length-append (claim_envelope a claim) (flat_map (claim_envelope a) others) in
+    let more : suc (length os) * most ≡ most + length os * most = omega arith in
+    omega (arith, rest, here, head, body, whole, more)
+
+-- an answer to one draw at least has room for a line
+pub answer_some : (amount count : ℕ) → 1 ≤ amount → 272 ≤ amount * opening_most count
+answer_some amount count some = more amount (opening_most count) some (omega arith) where
+  more : (n most : ℕ) → 1 ≤ n → 272 ≤ most → 272 ≤ n * most
+  more n most one large = let least : 1 * most ≤ n * most = mul-le-mul_right most one in omega (arith, least, large)
+
+module _ (digest : List ℕ → List ℕ) (size_is : (text : List ℕ) → length (digest text) ≡ 32) where
+  -- the sliver's symbols are among the stream's bytes
+  symbols_within : (a : Audit) (r : Recorded) (input primary secondary : List ℕ) → IsStream r.payloads input → IsOwnSliver digest a r Primary primary
+      → IsOwnSliver digest a r Secondary secondary → IsShape r.metadata.f r.metadata.length → symbol_size r.metadata.f r.metadata.length ≤ length input / 5
+  symbols_within a r input primary secondary stream (front, payload, back, are, row, others) (before, other, after, also, column, rest) shape =
+      let m = r.metadata in
+      let s = symbol_size m.f m.length in
+      let one : length primary ≤ sliver_sizes Primary r.payloads =
+      subst (λ ps. length primary ≤ sliver_sizes Primary ps) (sym are) (sliver_among Primary a.id.0 _ primary front payload back row.0) in
+      let two : length secondary ≤ sliver_sizes Secondary r.payloads =
+      subst (λ ps. length secondary ≤ sliver_sizes Secondary ps) (sym also) (sliver_among Secondary a.id.0 _ secondary before other after column.0) in
+      let row_long : length primary ≡ column_count m.f * s = row.1.size in
+      let column_long : length secondary ≡ row_count m.f * s = column.1.size in
+      let three : 3 * s ≤ column_count m.f * s = mul-le-mul_right s (omega (arith, shape.0)) in
+      let pair : 2 * s ≤ row_count m.f * s = mul-le-mul_right s (omega (arith, shape.0)) in
+      omega (arith, one, two, row_long, column_long, three, pair, slivers_within r.payloads input stream)
+
+  draws_short : (a : Audit) (r : Recorded) (input : List ℕ) → IsStream r.payloads input → IsMetadataIn digest a.id.0 r.payloads r.metadata → (count : ℕ) (text : List ℕ)
+      → AnswersDraws digest a r count text → length text ≤ count * opening_most (length input)
+  draws_short a r input stream has count text (shard, primary, own, secondary, other, (openings, are, is)) =
+      let m = r.metadata in
+      let s = symbol_size m.f m.length in
+      let shape = shape_of digest size_is a.id.0 r.payloads m has in
+      let both : HoldsBoth digest m a.shard primary secondary = record { primary_held = own.4.1; secondary_held = other.4.1 } in
+      let within = symbols_within a r input primary secondary stream own other shape in
+      let most = symbol_most m.f m.length shape in
+      let each : (k : ℕ) (o : Opening) → slice_get openings k ≡ Some o → 50 + length o.symbol + length o.path ≤ opening_most (length input) =
+      λ k o there.
+      let holds = answer_holds digest size_is m a.beacon a.shard count primary secondary openings shape.1 both are k o there in
+      omega (arith, holds.size, (body_of digest m _ _ o shape holds).path, within, most) in
+      let long = envelopes_long digest a m (opening_most (length input)) 0 openings (id_long digest size_is a.id.0 r.payloads m has) each in
+      let same : length openings * opening_most (length input) ≡ count * opening_most (length input) = ap (λ n. n * opening_most (length input)) are.many in
+      omega (arith, ap length is, long, same)
+
+  -- what is left when memory runs out
+  pub left_short : (a : Audit) (input text : List ℕ) → Spelled digest (challenging digest a) input (λ r. (challenging digest a).Leaves r text)
+      → length text ≤ a.count * opening_most (length input)
+  left_short a input text (r, spells, (count, few, answers)) =
+      let whole = draws_short a r input spells.0 spells.1 count text answers in
+      let fewer : count * opening_most (length input) ≤ a.count * opening_most (length input) = mul-le-mul_right (opening_most (length input)) (omega (arith, few)) in
+      omega (arith, whole, fewer)
+
+  pub challenged : (a : Audit) (input : List ℕ) → 1 ≤ a.count → length input ≤ 134217728 → (status : ℕ) (text : List ℕ) → IsResult digest (challenging digest a) input status text
+      → length text ≤ a.count * opening_most (length input)
+  challenged a input some within status text is =
+      recorded_short digest size_is a.id _ _ _ _ _ (length input) (a.count * opening_most (length input)) least succeeded (λ r i s c w m t none. absurd none) lacked input refl within status text is where
+        least : 272 ≤ a.count * opening_most (length input)
+        least = answer_some a.count (length input) some
+
+        succeeded : (r : Recorded) (i : List ℕ) → IsStream r.payloads i → length i ≡ length input → length i ≤ 134217728 → IsMetadataIn digest a.id.0 r.payloads r.metadata
+            → (t : List ℕ) → (challenging digest a).Succeeds r t → length t ≤ a.count * opening_most (length input)
+        succeeded r i stream counted small has t is = subst (λ n. length t ≤ a.count * opening_most n) counted (draws_short a r i stream has a.count t is)
+
+        lacked : (r : Recorded) (i : List ℕ) → IsStream r.payloads i → length i ≡ length input → length i ≤ 134217728 → IsMetadataIn digest a.id.0 r.payloads r.metadata
+            → (t : List ℕ) → (challenging digest a).Lacks r t → length t ≤ a.count * opening_most (length input)
+        lacked r i stream counted small has t (inl none) = omega (arith, ap length none.1, least)
+        lacked r i stream counted small has t (inr (inl none)) = omega (arith, ap length none.2, least)
+        lacked r i stream counted small has t (inr (inr none)) = omega (arith, ap length none.3, least)

@@ -1,0 +1,253 @@
+"""walrus-net with folders, at a gateway of this test that may lie: what is stored, what is written, and where."""
+import asyncio
+import os
+import pathlib
+import stat
+import tempfile
+import unittest
+import unittest.mock
+from typing import Any, Optional, Union
+
+from aiohttp import web
+from folder_case import Files, manifest_of, site
+from harness import HERE, lacking
+from walrus import client
+from walrus.network import places
+from walrus.network.local import find_program
+from walrus.network.manifest import MARK, Manifest, Place
+from walrus.network.transfers import Failure
+
+
+class Places(unittest.TestCase):
+    """Where a path that somebody else chose leads to."""
+
+    def setUp(self) -> None:
+        made = tempfile.TemporaryDirectory(prefix="walrus-places-")
+        self.addCleanup(made.cleanup)
+        self.out, self.root = pathlib.Path(made.name, "out"), pathlib.Path(made.name, "root")
+        self.out.mkdir()
+        self.root.mkdir()
+
+    def test_nothing_is_written_outside_of_the_folder(self) -> None:
+        (self.root / "link").symlink_to(self.out)
+        (self.root / "file").symlink_to(self.out / "file")
+        (self.out / "file").write_bytes(b"before")
+        (self.root / "pipe").parent.mkdir(exist_ok=True)
+        os.mkfifo(self.root / "pipe")
+        with places.Root(str(self.root)) as root:
+            for path in ("../out/x", "/etc/x", "a/../../out/x", "..", "", "a//b", "link/x", "link/a/b"):
+                with self.assertRaises((Failure, OSError), msg=path):
+                    with root.written(path) as file:
+                        file.write(b"after")
+            for path in ("file", "link", "pipe", "none", "link/file"):  # none of which is read
+                with root.opened(path, 6) as found:
+                    self.assertIsNone(found)
+            for path in ("file", "a/b/c", "pipe", "link"):  # what is there is replaced, and not followed
+                with root.written(path) as file:
+                    file.write(b"after")
+                self.assertEqual((self.root / path).read_bytes(), b"after")
+                self.assertFalse((self.root / path).is_symlink())
+        self.assertEqual([it.name for it in self.out.iterdir()], ["file"])
+        self.assertEqual((self.out / "file").read_bytes(), b"before")
+
+    def test_what_fails_leaves_nothing(self) -> None:
+        (self.root / "a").write_bytes(b"before")
+        with places.Root(str(self.root)) as root:
+            with self.assertRaises(ZeroDivisionError):
+                with root.written("a") as file:
+                    file.write(b"after")
+                    raise ZeroDivisionError
+        self.assertEqual([(it.name, it.read_bytes()) for it in self.root.iterdir()], [("a", b"before")])
+
+    def test_names_that_a_disk_takes_for_one(self) -> None:
+        pairs = [["a/b", "A/b"], ["a", "A"], ["\u00e5", "a\u030a"], ["stra\u00dfe", "STRASSE"], ["x/a", "X/b"]]
+        with places.Root(str(self.root)) as root:
+            for pair in pairs:
+                root.must_keep_apart(pair)  # this disk keeps them apart
+            with unittest.mock.patch.object(root, "folds", return_value=True):
+                for pair in pairs:
+                    with self.assertRaises(Failure):
+                        root.must_keep_apart(pair)
+                root.must_keep_apart(["a/b", "a/c", "b"])
+            with unittest.mock.patch.object(root, "has", return_value=True):
+                self.assertTrue(root.folds())
+            self.assertEqual([*self.root.iterdir()], [])
+
+
+@unittest.skipIf("program" in lacking(), "the program walrus is not here")
+class Trees(unittest.IsolatedAsyncioTestCase):
+    async def asyncSetUp(self) -> None:
+        made = tempfile.TemporaryDirectory(prefix="walrus-trees-")
+        self.addCleanup(made.cleanup)
+        self.top = pathlib.Path(made.name)
+        self.tree, self.out, self.walrus = self.top / "tree", self.top / "out", client.Walrus(find_program())
+        self.files, self.asked, self.puts, self.lie = dict[str, bytes](), list[str](), list[str](), None
+        self.lie: Optional[bytes]
+        self.pause = 0.0
+        app = web.Application(client_max_size=2**30)
+        app.add_routes([web.get("/v1/status", self.status), web.get("/v1/blobs/{name}", self.give)])
+        app.add_routes([web.put("/v1/blobs", self.take), web.get("/v1/status/{name}", self.status_of)])
+        runner = web.AppRunner(app)
+        await runner.setup()
+        self.addAsyncCleanup(runner.cleanup)
+        await web.TCPSite(runner, "127.0.0.1", 0, shutdown_timeout=0.1).start()
+        self.url = "http://%s:%s" % runner.addresses[0][:2]
+
+    async def status(self, _: web.Request) -> web.Response:
+        return web.json_response({"epoch": 3, "moving": False, "faults": 1})
+
+    async def status_of(self, request: web.Request) -> web.Response:
+        if request.match_info["name"] not in self.files:
+            return web.json_response({"error": {"status": 404, "text": "none"}}, status=404)
+        return web.json_response({"certificate": {"epoch": 3, "count": 4}, "invalid": False, "endEpoch": 8})
+
+    async def give(self, request: web.Request) -> web.Response:
+        name = request.match_info["name"]
+        self.asked.append(name)
+        if name not in self.files:
+            return web.json_response({"error": {"status": 404, "text": "no such blob"}}, status=404)
+        return web.Response(body=self.files[name])
+
+    async def take(self, request: web.Request) -> web.Response:
+        body = await request.read()
+        await asyncio.sleep(self.pause)
+        name = (await self.add(body)) if self.lie is None else self.lie.hex()
+        self.puts.append(name)
+        told = {"blobId": name, "size": len(body), "pieces": 1, "endEpoch": 8, "alreadyCertified": False}
+        return web.json_response(told | {"certificate": {"epoch": 3, "count": 4}})
+
+    async def add(self, blob: bytes) -> str:
+        name = (await self.walrus.output("id", 1, "--format", 1, data=blob)).decode().strip()
+        self.files[name] = blob
+        return name
+
+    async def run_net(self, *words: Union[str, pathlib.Path], status: int = 0) -> str:
+        """What walrus-net says, with this exit status; where it fails, in one line."""
+        environment = {**os.environ, "WALRUS_GATEWAY": self.url, "WALRUS": find_program()}
+        line = [str(HERE.parent / "walrus-net"), *map(str, words)]
+        process = await asyncio.create_subprocess_exec(*line, env=environment, stdout=-1, stderr=-1)
+        out, error = await process.communicate()
+        self.assertEqual(process.returncode, status, error.decode())
+        self.assertEqual(error.count(b"\n"), bool(status), error)
+        return (out + error).decode()
+
+    def write(self, files: Files) -> None:
+        for path, data in files.items():
+            (self.tree / path).parent.mkdir(parents=True, exist_ok=True)
+            (self.tree / path).write_bytes(data)
+
+    def found(self, top: pathlib.Path) -> dict[str, bytes]:
+        return {str(it.relative_to(top)): it.read_bytes() for it in top.rglob("*") if it.is_file()}
+
+    async def store(self) -> str:
+        return (await self.run_net("store", self.tree, "--epochs", "5")).split()[0]
+
+    async def test_a_folder_goes_and_comes_back_equal(self) -> None:
+        files = site()
+        self.write(files)
+        name = await self.store()
+        self.assertEqual(self.puts[-1], name)  # the manifest comes last
+        self.assertEqual([it.path for it in Manifest(self.files[name])], sorted(files, key=str.encode))
+        await self.run_net("fetch", name, "--output", self.out)
+        self.assertEqual(self.found(self.out), files)
+        mask = os.umask(0)
+        os.umask(mask)
+        self.assertEqual(stat.S_IMODE((self.out / "style.css").stat().st_mode), 0o666 & ~mask)
+        asked = len(self.asked)
+        await self.run_net("fetch", name, "--output", self.out)  # all is there: the manifest alone is fetched
+        self.assertEqual(self.asked[asked:], [name])
+        (self.out / "style.css").write_bytes(b"x" * len(files["style.css"]))
+        (self.out / "film.webm").unlink()
+        (self.out / "own").write_bytes(b"mine")
+        await self.run_net("fetch", name, "--output", self.out)
+        self.assertEqual(self.found(self.out), {**files, "own": b"mine"})
+        part = self.top / "part"
+        await self.run_net("fetch", name, "--output", part, "--only", "pictures")
+        self.assertEqual(self.found(part), {it: data for it, data in files.items() if it.startswith("pictures/")})
+        await self.run_net("fetch", name, "--output", part, "--only", "film.webm")
+        self.assertEqual((part / "film.webm").read_bytes(), files["film.webm"])
+        await self.run_net("fetch", name, "--output", part, "--only", "picture", status=4)
+        self.assertEqual((await self.run_net("fetch", name)).encode(), self.files[name])
+        puts = len(self.puts)
+        self.assertEqual(await self.store(), name)
+        self.assertEqual(self.puts[puts:], [name])  # nothing else is sent again
+        self.write({"new": b"new"})
+        self.assertNotEqual(await self.store(), name)
+        self.assertEqual(len(self.puts), puts + 3)  # a pack and a manifest
+        self.assertNotIn(hash(files["film.webm"]), [hash(self.files[it]) for it in self.puts[puts:]])
+
+    async def test_a_terminal_shows_how_far_it_is(self) -> None:
+        self.write(site())
+        self.pause = 1.5
+        outer, inner = os.openpty()
+        environment = {**os.environ, "WALRUS_GATEWAY": self.url, "WALRUS": find_program()}
+        line = [str(HERE.parent / "walrus-net"), "store", str(self.tree), "--epochs", "5"]
+        process = await asyncio.create_subprocess_exec(*line, env=environment, stdout=-1, stderr=inner)
+        self.assertEqual(await process.wait(), 0)
+        os.close(inner)
+        self.assertRegex(os.read(outer, 65_536), rb"tree \[#+ *\] 0\.\d MB, ")
+        os.close(outer)
+
+    async def test_what_no_folder_has_is_named_and_nothing_is_sent(self) -> None:
+        odd = {b"a\xff": "no UTF-8", b"a\nb": "control", b"a\\b": "backslash"}
+        for name, said in odd.items():
+            self.write({"first": b"1"})
+            place = os.path.join(os.fsencode(self.tree), name)
+            with open(place, "wb"):
+                pass
+            self.assertIn(said, await self.run_net("store", self.tree, "--epochs", "5", status=1))
+            os.unlink(place)
+        for name, make in {"link": lambda it: it.symlink_to("first"), "pipe": os.mkfifo}.items():
+            make(self.tree / name)
+            said = await self.run_net("store", self.tree, "--epochs", "5", status=1)
+            self.assertIn(f"'{name}' is a {name}", said)
+            (self.tree / name).unlink()
+        self.assertEqual(self.puts, [])
+        self.lie = bytes(32)
+        self.assertIn("this gateway lies", await self.run_net("store", self.tree, "--epochs", "5", status=1))
+        self.tree.joinpath("first").unlink()
+        self.lie = None
+        self.assertEqual(self.files[await self.store()], MARK)
+
+    async def test_a_liar_writes_nothing_that_was_not_named(self) -> None:
+        files = site()
+        self.write(files)
+        name = await self.store()
+        good = dict(self.files)
+        film = next(it for it, data in good.items() if data == files["film.webm"])
+        pack = next(it for it, data in good.items() if files["style.css"] in data)
+        for lied in (name, film, pack):
+            for lie in (good[lied] + b"x", bytes([good[lied][0] ^ 1]) + good[lied][1:]):
+                self.files = {**good, lied: lie}
+                status = 3 if lied == film and len(lie) > len(good[film]) else 1
+                out = self.top / f"out-{len(self.asked)}"
+                await self.run_net("fetch", name, "--output", out, status=status)
+                written = self.found(out) if out.exists() else {}
+                self.assertEqual({it for it in written if written[it] != files.get(it)}, set())
+        self.files = good
+        await self.run_net("fetch", name, "--output", self.out)
+        self.assertEqual(self.found(self.out), files)
+
+    async def test_a_manifest_of_an_enemy_writes_nothing_elsewhere(self) -> None:
+        own = await self.add(b"owned")
+        outside = self.top / "outside"
+        outside.mkdir()
+        line = Place("x", "a/b", 5, bytes.fromhex(own)).line()
+        for path in (b"../outside/x", b"/tmp/x", b"a/../../outside/x", b"a//b", b".", b"..", b"a\\..\\x", b"a\0b"):
+            name = await self.add(MARK + line.replace(b"x\t", path + b"\t", 1))
+            self.assertIn("malformed", await self.run_net("fetch", name, "--output", self.out, status=3))
+        self.out.mkdir(exist_ok=True)
+        (self.out / "link").symlink_to(outside)
+        name = await self.add(manifest_of(Place("link/x", "a/b", 5, bytes.fromhex(own))))
+        self.assertIn("in the way", await self.run_net("fetch", name, "--output", self.out, status=1))
+        self.assertEqual([*outside.iterdir()], [])
+        for length, offset in ((4, None), (6, None), (6, 0), (5, 1)):
+            name = await self.add(manifest_of(Place("y", "a/b", length, bytes.fromhex(own), offset)))
+            await self.run_net("fetch", name, "--output", self.out, status=3)
+            self.assertFalse((self.out / "y").exists())
+        alone: dict[str, Any] = {"status": 4}
+        self.assertIn("no folder", await self.run_net("fetch", own, "--output", self.out / "z", "--only", "y", **alone))
+
+
+if __name__ == "__main__":
+    unittest.main()

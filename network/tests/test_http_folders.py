@@ -1,0 +1,431 @@
+"""Folders over HTTP: what comes as a tar or a form, how it is served, and what liars and strangers get."""
+import base64
+import hashlib
+import io
+import random
+import re
+import sqlite3
+import tarfile
+import time
+import unittest
+import unittest.mock
+from typing import Any
+
+from folder_case import HOSTILE, Files, form_of, manifest_of, odd_tar, site, tar_of
+from guard_case import GuardCase
+from harness import HERE
+from walrus.network import archives, folders, gathering, manifest, problems, shelf
+from walrus.network.manifest import MARK, Manifest, Place, Wrong
+
+TAR = {"Content-Type": "application/x-tar"}
+
+
+def name_of(data: bytes) -> bytes:
+    return hashlib.sha256(data).digest()
+
+
+class Manifests(unittest.TestCase):
+    """What a manifest is, without a network."""
+
+    def test_lines_ascend_and_have_one_form(self) -> None:
+        good = [
+            Place("a-b", "text/plain", 1, bytes(32)),
+            Place("a/b", "text/html", 9, bytes(32), 0),
+            Place("a/c/d", "image/png", 2**42, bytes(32)),
+            Place("e", "a/b", 0, b""),
+        ]
+        made = Manifest(manifest_of(*good))
+        self.assertEqual([*made], good)
+        self.assertEqual([made.find(it.path) for it in good], good)
+        self.assertEqual([made.find(it) for it in ("", "a", "a/", "a/c", "e\t", "f")], [None] * 6)
+        self.assertEqual([made.has(it) for it in ("", "a/", "a/c/", "a/b/", "b/")], [True, True, True, False, False])
+        self.assertEqual([*made.within("")], [good[0], "a", good[3]])
+        self.assertEqual([*made.within("a/")], [good[1], "c"])
+        line = good[0].line()
+        for bad in (
+            line[:-1],
+            line + line,
+            good[1].line() + line,
+            line.replace(b"\t1\t", b"\t01\t"),
+            line.replace(b"\t1\t", b"\t0\t"),
+            line.replace(b"\t1\t", b"\t99999999999999\t"),
+            line.replace(b"\t1\t", b"\t9999999999999\t"),
+            line.replace(b"text/plain", b"text/plain; x=y"),
+            line.replace(b"text/plain", b"Text/plain"),
+            line.replace(b"text/plain", b"text"),
+            line.replace(b"text/plain", b"a/" + b"b" * 65),
+            line.replace(b"0" * 64, b"-"),
+            line.replace(b"0" * 64, b"A" * 64),
+            line.replace(b"0" * 64, b"0" * 64 + b"@01"),
+            line.replace(b"0" * 64, b"0" * 64 + b"@9999999999999"),
+            *(
+                line.replace(b"a-b", it)
+                for it in (b"a/../b", b"..", b"/a", b"a/", b"a//b", b"a\rb", b"\xff", b"\xc2\x85")
+            ),
+            *(line.replace(b"a-b", it) for it in (b"a\\b", b"a" * 256, b"/".join([b"a" * 99] * 11))),
+            b"".join(Place(it, "a/b", 0, b"").line() for it in ("a", "a b", "a!", "a/b")),
+            b"".join(Place(it, "a/b", 0, b"").line() for it in ("a/b", "a/b/c/d")),
+        ):
+            with self.assertRaises(Wrong, msg=bad):
+                Manifest(MARK + bad)
+        self.assertEqual(len(Manifest(MARK)), 0)
+
+    def test_a_manifest_of_a_liar_takes_bounded_time_and_memory(self) -> None:
+        for text in (
+            b"a\ta/b\t0\t-\n" * 1_600_000,  # one name
+            b"".join(b"%07d\ta/b\t0\t-\n" % it for it in range(600_000)),  # too many
+            b"".join(b"a/" * 400 + b"%06d\ta/b\t0\t-\n" % it for it in range(20_000)),  # deep, and lawful
+            b"/" * 16_000_000,
+            b"a" * 16_000_000,
+        ):
+            begun = time.process_time()
+            try:
+                made = Manifest(MARK + text)
+                self.assertLess(made.starts.itemsize * len(made.starts), len(text))
+            except Wrong:
+                pass
+            self.assertLess(time.process_time() - begun, 20)
+
+    def test_types_come_from_endings_by_the_table_of_the_page(self) -> None:
+        kinds = {"a.html": "text/html", "b/A.PNG": "image/png", "c.tar.gz": "application/gzip", "d": manifest.OTHER}
+        kinds |= {".html": manifest.OTHER, "a.b/c": manifest.OTHER, "e.exe": manifest.OTHER, "f.webm": "video/webm"}
+        self.assertEqual({path: manifest.kind_of(path) for path in kinds}, kinds)
+        table = (HERE.parent / "HTTP.md").read_text().partition("| Type | Endings |\n")[2].partition("\n\n")[0]
+        rows = [re.findall("`([^`]+)`", row) for row in table.splitlines()[1:]]
+        self.assertEqual({row[0]: " ".join(row[1:]) for row in rows}, manifest.KINDS)
+
+
+class Folders(GuardCase):
+    """A gateway whose blobs are in memory: their identifiers are their SHA-256 here."""
+
+    async def put_folder(self, data: bytes, status: int = 201, kind: str = TAR["Content-Type"], **words: Any) -> Any:
+        words["headers"] = {"Content-Type": kind, **words.get("headers", {})}
+        found, headers, told = await self.ask("PUT", "/v1/folders?epochs=5", data=data, **words)
+        self.assertEqual(found, status, told)
+        if status in (200, 201):
+            self.assertEqual(headers["location"], f"/v1/folders/{told['blobId']}/")
+        return told
+
+    async def get(self, path: str, **words: Any) -> tuple[int, dict[str, str], Any]:
+        return await self.ask("GET", path, allow_redirects=False, **words)
+
+    async def holds(self, name: str, files: Files) -> None:
+        for path, data in files.items():
+            status, headers, body = await self.get(f"/v1/folders/{name}/{path}")
+            self.assertEqual((status, body), (200, data), path)
+            self.assertEqual(headers["content-type"].partition(";")[0], manifest.kind_of(path))
+
+    async def test_a_folder_has_one_name_however_it_comes(self) -> None:
+        await self.start()
+        files = site()
+        told = await self.put_folder(tar_of(files))
+        size = sum(map(len, files.values()))
+        self.assertEqual(told["folder"], {"files": len(files), "bytes": size})
+        name, backward = told["blobId"], dict(reversed(files.items()))
+        for form in (tarfile.USTAR_FORMAT, tarfile.GNU_FORMAT, tarfile.PAX_FORMAT):
+            self.assertEqual((await self.put_folder(tar_of(backward, form)))["blobId"], name)
+            dotted = [(f"./{path}", data) for path, data in files.items()]
+            self.assertEqual((await self.put_folder(tar_of(dotted, form)))["blobId"], name)
+        for order in (files, backward):
+            kind, data = form_of(order)
+            self.assertEqual((await self.put_folder(data, kind=kind))["blobId"], name)
+        for changed in ({**files, "empty": b"x"}, {**files, "more": b""}, {"index.html": files["index.html"]}):
+            self.assertNotEqual((await self.put_folder(tar_of(changed)))["blobId"], name)
+        await self.holds(name, files)
+        # by the rules of the page, and without the code that made it
+        small = sorted(path for path, data in files.items() if 0 < len(data) <= 524_288)
+        places, pack, ended = dict[str, str](), b"", list[tuple[bytes, list[str]]]()
+        inside = list[str]()
+        for path in small:
+            if files[path] in pack and path.startswith("pictures/one"):
+                places[path] = f"@{pack.index(files[path])}"
+                continue
+            places[path] = f"@{len(pack)}"
+            inside.append(path)
+            pack += files[path]
+            if int.from_bytes(hashlib.sha256(files[path]).digest()[:8], "big") % 524_288 < len(files[path]):
+                ended.append((pack, inside))
+                pack, inside = b"", []
+        self.assertEqual(ended, [])  # so there is one pack
+        pack_name = hashlib.sha256(pack).hexdigest()
+        lines = list[str]()
+        for path in sorted(files, key=str.encode):
+            data = files[path]
+            at = (
+                "-"
+                if not data
+                else hashlib.sha256(data).hexdigest()
+                if path not in places
+                else pack_name + places[path]
+            )
+            lines.append(f"{path}\t{manifest.kind_of(path)}\t{len(data)}\t{at}\n")
+        made = b"\0walrus folder\0\1" + "".join(lines).encode()
+        self.assertEqual(self.files[name], made)
+        self.assertEqual(hashlib.sha256(made).hexdigest(), name)
+
+    async def test_files_are_served_as_a_server_of_sites_does(self) -> None:
+        await self.start()
+        files = site()
+        name = (await self.put_folder(tar_of(files)))["blobId"]
+        at = f"/v1/folders/{name}"
+        status, headers, _ = await self.get(at)
+        self.assertEqual((status, headers["location"]), (301, f"./{name}/"))
+        status, headers, _ = await self.get(f"{at}/sub?x=1")
+        self.assertEqual((status, headers["location"]), (301, "./sub/?x=1"))
+        for path, data in (("/", files["index.html"]), ("/sub/", files["sub/index.html"])):
+            status, headers, body = await self.get(at + path)
+            self.assertEqual((status, body, headers["content-type"]), (200, data, "text/html; charset=utf-8"))
+            self.assertIn("sandbox", headers["content-security-policy"])
+            self.assertNotIn("allow-same-origin", headers["content-security-policy"])
+            self.assertEqual(headers["x-content-type-options"], "nosniff")
+        status, headers, body = await self.get(f"{at}/pictures/")
+        self.assertEqual((status, headers["content-type"]), (200, "text/html; charset=utf-8"))
+        self.assertIn(b'<a href="./%C3%BC%20ber.txt">\xc3\xbc ber.txt</a>', body)
+        status, headers, told = await self.get(f"{at}/pictures/", headers={"Accept": "application/json"})
+        self.assertEqual((headers["vary"], told["folder"], told["complete"]), ("Accept", "pictures/", True))
+        self.assertEqual([(it["name"], it["size"]) for it in told["entries"]], [("one.svg", 69), ("\u00fc ber.txt", 6)])
+        film = files["film.webm"]
+        for asked, part in (("bytes=5-9", film[5:10]), ("bytes=-7", film[-7:]), ("bytes=699000-", film[699_000:])):
+            status, headers, body = await self.get(f"{at}/film.webm", headers={"Range": asked})
+            self.assertEqual((status, body, headers["content-type"]), (206, part, "video/webm"))
+        status, headers, body = await self.get(f"{at}/style.css", headers={"Range": "bytes=1-3"})
+        self.assertEqual((status, body, headers["content-range"]), (206, b"1 {", "bytes 1-3/26"))
+        status, headers, body = await self.get(f"{at}/style.css", headers={"Range": "bytes=0-1,5-6"})
+        self.assertEqual(status, 206)
+        self.assertIn(b"Content-Type: text/css; charset=utf-8\r\nContent-Range: bytes 5-6/26\r\n\r\nco", body)
+        self.assertEqual((await self.get(f"{at}/style.css", headers={"Range": "bytes=26-"}))[0], 416)
+        tag = headers["etag"]
+        self.assertEqual((await self.get(f"{at}/style.css", headers={"If-None-Match": tag}))[0], 304)
+        self.assertEqual((await self.get(f"{at}/style.css", headers={"If-Match": '"x"'}))[0], 412)
+        self.assertNotEqual((await self.get(f"{at}/index.html"))[1]["etag"], tag)
+        for path, data in files.items():
+            status, headers, body = await self.ask("HEAD", f"{at}/{path}")
+            self.assertEqual((status, headers["content-length"], body), (200, str(len(data)), b""))
+        for path in ("/none", "/none/", "/index.html/", "//", "/sub//index.html", "/%FF", "/pictures/one.sv"):
+            self.assertEqual((await self.get(at + path))[0], 404, path)
+        self.assertEqual((await self.get("/v1/folders/x/"))[0], 400)
+        status, headers, _ = await self.get(f"{at}/style.css", headers={"Origin": "null"})
+        self.assertEqual(headers["access-control-allow-origin"], "*")
+        self.assertEqual((await self.ask("PUT", f"{at}/style.css", data=b""))[0], 405)
+
+    async def test_what_no_folder_has_is_refused_by_name_and_no_manifest_is_stored(self) -> None:
+        await self.start()
+        for what, (path, said) in HOSTILE.items():
+            for form in (tarfile.PAX_FORMAT, tarfile.GNU_FORMAT):
+                told = await self.put_folder(tar_of([("before", b"1"), (path, b"2")], form), 400)
+                self.assertIn(said, told["error"]["text"], what)
+            if what not in ("control", "no UTF-8", "backslash"):  # which no form can say so
+                kind, data = form_of({"before": b"1", path: b"2"})
+                self.assertIn(said, (await self.put_folder(data, 400, kind))["error"]["text"], what)
+        for kind, link in ((tarfile.SYMTYPE, "../x"), (tarfile.LNKTYPE, "before"), (tarfile.CHRTYPE, "")):
+            said = (await self.put_folder(odd_tar(kind, "odd", link), 400))["error"]["text"]
+            self.assertRegex(said, "^'odd' is a (link|device)")
+        for kind in (tarfile.BLKTYPE, tarfile.FIFOTYPE, b"S", b"D", b"Z"):
+            self.assertRegex((await self.put_folder(odd_tar(kind), 400))["error"]["text"], "^'odd' is ")
+        self.assertRegex((await self.put_folder(odd_tar(tarfile.DIRTYPE, "../x"), 400))["error"]["text"], "'../x'")
+        for pair in (("a", "a"), ("a", "./a"), ("a", "a/b"), ("a/b", "a"), ("a/b/c", "a"), ("a", "a/b/c")):
+            told = await self.put_folder(tar_of([(it, b"x") for it in pair]), 400)
+            self.assertRegex(told["error"]["text"], "comes twice|both|as well as a file")
+        await self.put_folder(tar_of({"a": b"1", "a-b": b"2", "ab": b"3", "a.b/c": b"4"}))
+        self.assertEqual([it for it in self.stored if it.startswith(MARK)], self.stored[-1:])
+
+    async def test_what_is_no_tar_and_no_form_is_refused(self) -> None:
+        await self.start()
+        whole = tar_of({"a": b"x" * 3_000, "b": b"y"})
+        for bad in (b"", b"x" * 512, whole[:700], whole[:3_000], whole[: 512 + 3_072 + 512], whole + b"x"):
+            await self.put_folder(bad, 400)
+        head, flipped = bytearray(whole), bytearray(whole)
+        head[124:136] = b"\x80" + b"\xff" * 11  # a length without end, whose sum is right
+        head[148:156] = b"%06o\0 " % sum(head[:148] + b" " * 8 + head[156:512])
+        flipped[0] ^= 1
+        for bad in (bytes(head), bytes(flipped)):
+            await self.put_folder(bad, 400)
+        long = io.BytesIO()
+        with tarfile.open(fileobj=long, mode="w", format=tarfile.PAX_FORMAT) as made:
+            told = tarfile.TarInfo("a")
+            told.pax_headers = {"comment": "x" * 70_000}
+            made.addfile(told)
+        self.assertIn("65536", (await self.put_folder(long.getvalue(), 400))["error"]["text"])
+        many = b"".join(b"%d %06d=\n" % (11, number) for number in range(5_900))
+        self.assertEqual(len(archives.fields_of(many)), 5_900)
+        for bad in (
+            b"9 a=b\n",
+            b"5 a=b\n",
+            b"6 a=b\n6 a=b",
+            b"6 a-b\n",
+            b"06 a=b\n",
+            b"a=b\n",
+            b"6 a=b\n ",
+            b"-6 a=b\n",
+        ):
+            with self.assertRaises(problems.Problem, msg=bad):
+                archives.fields_of(bad)
+        kind, form = form_of({"a": b"1"})
+        for bad in (form[:-4], form[:40], b"", form.replace(b"filename", b"file"), form.replace(b'"a"', b'""')):
+            await self.put_folder(bad, 400, kind)
+        await self.put_folder(form.replace(b"\r\n\r\n1", b"x" * 5_000), 400, kind)
+        for other in ("text/html", "multipart/mixed; boundary=x", "multipart/form-data", "application/gzip"):
+            await self.put_folder(whole, 415, other)
+        self.assertEqual(
+            (await self.ask("PUT", "/v1/folders?epochs=5", data=whole, headers={"Content-Type": ""}))[0], 201
+        )
+        drawn = random.Random(1)
+        for _ in range(60):
+            some = bytearray(drawn.choice([whole, form]))
+            for _ in range(drawn.randrange(1, 5)):
+                place = drawn.randrange(min(len(some), 1_200))
+                behind = place + drawn.randrange(9)
+                some[place:behind] = drawn.choice([b"", b"\0", b"\xff\xff", b"/", b"--", b"9"])
+            kinds = drawn.choice([TAR["Content-Type"], kind])
+            found, _, told = await self.ask(
+                "PUT", "/v1/folders?epochs=5", data=bytes(some), headers={"Content-Type": kinds}
+            )
+            self.assertIn(found, (200, 201, 400, 413, 415), told)
+
+    async def test_what_a_liar_wrote_is_refused_by_name(self) -> None:
+        await self.start()
+
+        def there(data: bytes) -> str:
+            self.files[name_of(data).hex()] = data
+            return name_of(data).hex()
+
+        pack = b"0123456789"
+        there(pack)
+        own = name_of(pack)
+        lies = [Place("a", "text/html", 11, own), Place("b", "text/html", 9, own), Place("c", "a/b", 6, own, 5)]
+        lies += [Place("d", "a/b", 5, own, 5), Place("e", "a/b", 5, own, 4), Place("f", "a/b", 10, own)]
+        name = there(manifest_of(*lies))
+        for path, status in (("a", 410), ("b", 410), ("c", 410), ("d", 200), ("e", 200), ("f", 200)):
+            found, _, told = await self.get(f"/v1/folders/{name}/{path}")
+            self.assertEqual(found, status, told)
+        listed = b"\x00walrus list \x00\x00\x01" + (2**43).to_bytes(8, "big") + bytes(32)
+        for data, status in (
+            (b"no manifest", 404),
+            (b"", 404),
+            (listed, 404),
+            (MARK[:-1] + b"\2", 404),
+            (MARK + b"x", 410),
+            (MARK + b"../x\ta/b\t0\t-\n", 410),
+            (MARK + b"x\ta/b\r\nSet-Cookie: a=b\t0\t-\n", 410),
+            (MARK + b"a\ta/b\t0\t-\n" * 2, 410),
+        ):
+            name = there(data)
+            for path in ("", "x", "x/y"):
+                found, headers, told = await self.get(f"/v1/folders/{name}/{path}")
+                self.assertEqual(found, status, told)
+        name = there(manifest_of(Place("<script>alert(1)<", "text/html", 0, b""), Place('a"onload="x', "a/b", 0, b"")))
+        _, _, body = await self.get(f"/v1/folders/{name}/")
+        self.assertNotIn(b"<script", body)
+        self.assertNotIn(b'"onload', body)
+        reads = self.gateway.reader.cache.reads
+        await self.get(f"/v1/folders/{there(MARK + b'x')}/")  # known as malformed from before
+        self.assertEqual(self.gateway.reader.cache.reads, reads)
+
+    async def test_manifests_are_kept_within_bounds(self) -> None:
+        await self.start()
+        self.enterContext(unittest.mock.patch.object(shelf, "MOST", 3))
+        for number in range(9):
+            data = manifest_of(Place(f"{number}", "a/b", 0, b""))
+            self.files[name_of(data).hex()] = data
+            self.assertEqual((await self.get(f"/v1/folders/{name_of(data).hex()}/{number}"))[0], 200)
+        kept = self.gateway.shelf
+        self.assertEqual(len(kept.kept), 3)
+        self.assertEqual(kept.size, sum(len(it.result().data) for it in kept.kept.values()))
+
+    async def test_each_folder_has_a_host_of_its_own(self) -> None:
+        await self.start(sites="sites.example")
+        name = (await self.put_folder(tar_of(site())))["blobId"]
+        label = base64.b32encode(bytes.fromhex(name)).decode().lower().rstrip("=")
+        self.assertRegex(label, "^[a-z2-7]{52}$")
+        self.assertEqual((await self.put_folder(tar_of(site())))["folder"]["site"], f"{label}.sites.example")
+
+        async def at(host: str, path: str, method: str = "GET", **headers: str) -> tuple[int, dict[str, str], Any]:
+            return await self.ask(method, path, headers={"Host": host, **headers}, allow_redirects=False)
+
+        for host in (f"{label}.sites.example", f"{label.upper()}.Sites.example:8080", f"{label}.sites.example."):
+            status, headers, body = await at(host, "/")
+            self.assertEqual((status, body), (200, site()["index.html"]))
+            self.assertNotIn("content-security-policy", headers)
+            self.assertEqual((headers["x-content-type-options"], headers["origin-agent-cluster"]), ("nosniff", "?1"))
+        host = f"{label}.sites.example"
+        self.assertEqual((await at(host, "/sub"))[1]["location"], "./sub/")
+        self.assertEqual((await at(host, "/style.css?version=3"))[0], 200)
+        for path in (
+            "/metrics",
+            "/v1/status",
+            "/livez",
+            "/v1/blobs",
+            "/page.js",
+            f"/v1/blobs/{name}",
+            f"/v1/folders/{name}/",
+        ):
+            self.assertEqual((await at(host, path))[0], 404, path)  # nothing of the gateway's own
+        for method in ("PUT", "POST", "DELETE"):
+            self.assertEqual((await at(host, "/v1/blobs?epochs=1", method))[0], 405)
+        self.assertEqual((await at(host, "/", "OPTIONS"))[1]["allow"], "GET, HEAD, OPTIONS")
+        for other in (f"1{label[1:]}.sites.example", f"{label[:51]}b.sites.example", f"a.{label}.sites.example"):
+            self.assertEqual((await at(other, "/"))[0], 404)
+        self.assertEqual((await at("x.sites.example", "/metrics"))[0], 404)
+        status, headers, _ = await at(host, "/")
+        page = {"Origin": f"http://{host}", "Sec-Fetch-Site": "same-site"}
+        found = await self.ask("PUT", "/v1/blobs?epochs=1", data=b"x", headers=page)
+        self.assertEqual(found[0], 403)
+        self.assertEqual((await self.ask("GET", "/v1/status", headers={"Host": host}))[0], 404)
+
+    async def test_a_folder_counts_on_the_share_of_its_token(self) -> None:
+        shown = self.token("one", "read,store", bytes=100_000, blobs=4)
+        poor = self.token("poor", "read,store", bytes=3_000)
+        reader = self.token("reader", "read")
+        await self.start()
+        await self.put_folder(tar_of({"a": b"x" * 50_000}), headers=shown)
+        [(size, blobs)] = self.gateway.publisher.shares.base.execute("SELECT bytes, blobs FROM used").fetchall()
+        self.assertEqual((size, blobs), (50_000 + len(self.stored[-1]), 2))
+        told = await self.put_folder(tar_of({"a": b"y" * 60_000}), 403, headers=shown)
+        self.assertIn("one has used", told["error"]["text"])
+        await self.put_folder(tar_of({"a": b"x"}), 403, headers=reader)
+        await self.put_folder(tar_of({"a": b"x"}), 401)
+
+        async def endless() -> Any:  # whose length is not told before
+            yield tar_of({"a": b"z" * 600_000})
+
+        count = len(self.stored)
+        found = await self.ask("PUT", "/v1/folders?epochs=5", data=endless(), headers={**poor, **TAR})
+        self.assertEqual((found[0], len(self.stored)), (403, count))
+        self.was_there = True
+        used = self.gateway.publisher.shares.used("one", 0)
+        await self.put_folder(tar_of({"a": b"x" * 30_000}), 200, headers=shown)
+        self.assertEqual(self.gateway.publisher.shares.used("one", 0), used)
+
+    async def test_a_few_folders_come_at_once(self) -> None:
+        await self.start()
+        turns = self.gateway.folders.turns
+        for _ in range(gathering.AT_ONCE):
+            await self.put_folder(b"no tar", 400)  # which gives its turn back
+            await turns.acquire()
+        with unittest.mock.patch.object(folders, "WAITING", 0.1):
+            self.assertIn("too much to do", (await self.put_folder(tar_of(site()), 503))["error"]["text"])
+        turns.release()
+        await self.put_folder(tar_of(site()))
+
+    async def test_large_files_and_small_ones_have_bounds(self) -> None:
+        await self.start(room=40_000_000)
+        self.enterContext(unittest.mock.patch.object(gathering, "SMALL", 5_000))
+        self.enterContext(unittest.mock.patch.object(gathering, "PIECE", 50_000))
+        files = {"long": bytes(300_000), "middle": b"m" * 20_000, "small": b"s" * 5_000}
+        told = await self.put_folder(tar_of(files))
+        self.assertIn(files["long"], self.stored)
+        await self.holds(told["blobId"], files)
+        kind, form = form_of(files)
+        self.assertEqual((await self.put_folder(form, kind=kind))["blobId"], told["blobId"])
+        broken = unittest.mock.Mock(side_effect=sqlite3.OperationalError("database or disk is full"))
+        with unittest.mock.patch.object(gathering.Folder, "begin", broken):
+            self.assertIn("disk is full", (await self.put_folder(tar_of(files), 503))["error"]["text"])
+        self.gateway.options.room = 7_000
+        self.assertIn(
+            "parts", (await self.put_folder(tar_of({"a": b"a" * 4_000, "b": b"b" * 4_000}), 413))["error"]["text"]
+        )
+        await self.put_folder(tar_of({"a": b"a" * 4_000, "b": b"a" * 4_000}))  # kept once
+
+
+if __name__ == "__main__":
+    unittest.main()
