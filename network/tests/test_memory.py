@@ -6,6 +6,7 @@ import random
 import ssl
 import sys
 import tempfile
+import time
 import unittest
 
 sys.path.insert(0, str(pathlib.Path(__file__).resolve().parents[2] / "clients" / "python"))
@@ -13,7 +14,7 @@ sys.path.insert(0, str(pathlib.Path(__file__).resolve().parents[2] / "clients" /
 from walrus import client, wire  # noqa: E402
 from walrus.network import certificates  # noqa: E402
 from walrus.network.pieces import Memory  # noqa: E402
-from walrus.baskets import Basket  # noqa: E402
+from walrus.baskets import PASSED, Basket  # noqa: E402
 from walrus.streams import take_envelope, write_in_slices  # noqa: E402
 
 try:
@@ -177,26 +178,27 @@ class Baskets(unittest.IsolatedAsyncioTestCase):
         self.assertIs(memoryview(stream).obj, basket.memory.obj)
         self.assertEqual(bytes(stream), b"".join(map(client.envelope, [self.small, *self.large[:2]])))
 
-    async def test_what_comes_beside_waits_and_has_the_place_of_the_slowest(self) -> None:
+    async def test_what_comes_beside_is_read_past_or_has_the_place_of_one_that_is_slow(self) -> None:
         """So a read has no more memory than for the slivers that it needs, however many it asks for."""
         basket = Basket(2, 3)
         late = asyncio.create_task(self.take(0, basket))
         self.ends[0][1].write(client.envelope(self.large[0])[:-1])
         while not basket.places:
             await asyncio.sleep(0.01)
-        tasks = [asyncio.create_task(self.take(number, basket)) for number in (1, 2)]
         for number in (1, 2):
             self.ends[number][1].write(client.envelope(self.large[number]))
-        heard = [self.small, *await asyncio.gather(*tasks)]
-        stream = basket.stream(heard)
+        first = await self.take(1, basket)
+        basket.places[0].since = time.monotonic() + 60
+        self.assertIs(await self.take(2, basket), PASSED)
+        basket.places[0].since -= 120
+        self.ends[2][1].write(client.envelope(self.large[2]))
+        heard = [self.small, first, await self.take(2, basket)]
+        stream, wanted = basket.stream(heard), [self.small, self.large[2], self.large[1]]
         self.assertIs(memoryview(stream).obj, basket.memory.obj)
-        wanted = sorted(client.envelope(it) for it in self.large[1:])
-        front, *rest = client.split(bytes(stream))
-        self.assertEqual(front[1], self.small)
-        self.assertEqual(sorted(client.envelope(it) for _, it in rest), wanted)
+        self.assertEqual(bytes(stream), b"".join(map(client.envelope, wanted)))
         self.ends[0][1].write(self.large[0][-1:] + client.envelope(self.small))
-        self.assertEqual(await late, b"")  # the memory was somebody else's meanwhile
-        self.assertEqual(bytes(stream), client.envelope(self.small) + b"".join(client.envelope(it) for _, it in rest))
+        self.assertIs(await late, PASSED)  # the memory was somebody else's meanwhile
+        self.assertEqual(bytes(stream), b"".join(map(client.envelope, wanted)))
         self.assertEqual(await self.take(0, basket), self.small)  # nothing is out of step
 
     async def test_a_payload_that_still_comes_is_no_part_of_it(self) -> None:
@@ -223,7 +225,7 @@ class Baskets(unittest.IsolatedAsyncioTestCase):
         basket.close()
         for number in (0, 1, 2):
             self.ends[number][1].write(client.envelope(self.large[number])[1000:] + client.envelope(self.small))
-        self.assertEqual(await asyncio.gather(*coming), [b""] * 3)
+        self.assertEqual(await asyncio.gather(*coming), [PASSED] * 3)
         self.assertFalse(any(basket.memory))
         for number in (0, 1, 2):
             self.assertEqual(await self.take(number, basket), self.small)
@@ -246,13 +248,14 @@ class Baskets(unittest.IsolatedAsyncioTestCase):
         first = await self.take(0, basket)
         basket.stream([first])
         self.ends[1][1].write(client.envelope(self.large[1]) + client.envelope(self.small))
-        self.assertEqual([await self.take(1, basket) for _ in range(2)], [b"", self.small])
+        self.assertEqual([await self.take(1, basket) for _ in range(2)], [PASSED, self.small])
         self.assertEqual(bytes(first), self.large[0])
 
     async def test_a_payload_of_no_use_gives_way(self) -> None:
         basket = Basket(1, 2)
         self.ends[0][1].write(client.envelope(self.large[0]))
         first = await self.take(0, basket)
+        basket.places[0].since -= 60
         self.ends[1][1].write(client.envelope(self.large[1]))
         stream = basket.stream([first, await self.take(1, basket)])
         self.assertEqual(bytes(stream), b"".join(map(client.envelope, self.large[:2])))

@@ -48,6 +48,7 @@ from .kinds import (
 )
 from .shapes import Shape
 from .shards import (
+    AGAIN,
     Asked,
     Failed,
     Reply,
@@ -184,7 +185,7 @@ class Listening:
     """Shards that are asked as far as they are wanted: further ones where some are late, or say nothing of use."""
 
     def __init__(self, shards: Shards, request: bytes) -> None:
-        mixed = random.sample(list(shards), len(shards))
+        self.shards, self.repeats, mixed = shards, 0, random.sample(list(shards), len(shards))
         self.left, self.request = sorted(mixed, key=lambda it: bool(it.late or it.fault)), request
         self.pending = dict["asyncio.Task[tuple[int, dict[int, bytes], str]]", Shard]()
 
@@ -203,6 +204,12 @@ class Listening:
         for task in done:
             del self.pending[task]
         return [task.result() for task in done]
+
+    def again(self, number: int) -> None:
+        """Has a shard be asked again, behind those that are left; not for ever."""
+        self.repeats += 1
+        if self.repeats <= 2 * len(self.shards):
+            self.left += [shard for shard in self.shards if shard.number == number]
 
     def is_over(self) -> bool:
         return not self.left and not self.pending
@@ -235,6 +242,9 @@ async def gather(
         while not listening.is_over():
             found = await listening.next()
             for number, kept, said[number] in found:
+                if AGAIN in kept:
+                    del kept[AGAIN]
+                    listening.again(number)
                 if PROOF in kept:
                     proofs[kept.pop(PROOF)] = kept.get(METADATA, b"")
                     asked.basket.want(needed + len(proofs))

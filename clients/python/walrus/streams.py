@@ -62,7 +62,7 @@ def split(stream: bytes) -> list[tuple[int, bytes]]:
 
 async def take_envelope(stream: Source, longest: int, basket: Optional[Basket] = None) -> tuple[int, bytes]:
     """The sender and the payload of the next envelope; raises `Fault` where it is none, or longer than this. A basket
-    is where large ones come, of which those that nobody wants any more are empty."""
+    is where large ones come, or `PASSED` stands for them."""
     mark, sender, size = HEAD.unpack(await stream.readexactly(HEAD.size))
     if mark != MARK or size > longest:
         raise Fault("too long" if mark == MARK else "no envelope")
