@@ -1,7 +1,6 @@
 """Folders over HTTP: a tar or a form goes in, and each file comes out under its path, as from a server of a site."""
 import asyncio
 import base64
-import functools
 import html
 import json
 import re
@@ -42,7 +41,10 @@ class Folders:
     async def put(self, request: web.Request) -> web.Response:
         options, publisher = self.publisher.options, self.publisher
         kind, costs = request.headers.get("Content-Type", ""), Costs(publisher.charge(request))
-        store = functools.partial(self.store, kind, costs)
+
+        async def store(stream: AsyncIterator[bytes], epochs: int, _: list[bytes]) -> Told:
+            return await self.store(kind, costs, stream, epochs)
+
         async with asyncio.timeout(WAITING):
             await self.turns.acquire()
         try:
