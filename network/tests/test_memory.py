@@ -6,6 +6,7 @@ import random
 import ssl
 import sys
 import tempfile
+import time
 import unittest
 
 sys.path.insert(0, str(pathlib.Path(__file__).resolve().parents[2] / "clients" / "python"))
@@ -13,7 +14,8 @@ sys.path.insert(0, str(pathlib.Path(__file__).resolve().parents[2] / "clients" /
 from walrus import client, wire  # noqa: E402
 from walrus.network import certificates  # noqa: E402
 from walrus.network.pieces import Memory  # noqa: E402
-from walrus.streams import Basket, take_envelope, write_in_slices  # noqa: E402
+from walrus.baskets import PASSED, Basket  # noqa: E402
+from walrus.streams import take_envelope, write_in_slices  # noqa: E402
 
 try:
     import uvloop
@@ -166,7 +168,7 @@ class Baskets(unittest.IsolatedAsyncioTestCase):
         tasks = [asyncio.create_task(self.take(number, basket)) for number in (0, 1)]
         for number in (0, 1):
             self.ends[number][1].write(client.envelope(self.large[number])[:100_000])
-        while basket.places < 2:
+        while len(basket.places) < 2:
             await asyncio.sleep(0.01)
         for number in (1, 0):
             self.ends[number][1].write(client.envelope(self.large[number])[100_000:])
@@ -176,6 +178,29 @@ class Baskets(unittest.IsolatedAsyncioTestCase):
         self.assertIs(memoryview(stream).obj, basket.memory.obj)
         self.assertEqual(bytes(stream), b"".join(map(client.envelope, [self.small, *self.large[:2]])))
 
+    async def test_what_comes_beside_is_read_past_or_has_the_place_of_one_that_is_slow(self) -> None:
+        """So a read has no more memory than for the slivers that it needs, however many it asks for."""
+        basket = Basket(2, 3)
+        late = asyncio.create_task(self.take(0, basket))
+        self.ends[0][1].write(client.envelope(self.large[0])[:-1])
+        while not basket.places:
+            await asyncio.sleep(0.01)
+        for number in (1, 2):
+            self.ends[number][1].write(client.envelope(self.large[number]))
+        first = await self.take(1, basket)
+        basket.places[0].since = time.monotonic() + 60
+        self.assertIs(await self.take(2, basket), PASSED)
+        basket.places[0].since -= 120
+        self.ends[2][1].write(client.envelope(self.large[2]))
+        heard = [self.small, first, await self.take(2, basket)]
+        stream, wanted = basket.stream(heard), [self.small, self.large[2], self.large[1]]
+        self.assertIs(memoryview(stream).obj, basket.memory.obj)
+        self.assertEqual(bytes(stream), b"".join(map(client.envelope, wanted)))
+        self.ends[0][1].write(self.large[0][-1:] + client.envelope(self.small))
+        self.assertIs(await late, PASSED)  # the memory was somebody else's meanwhile
+        self.assertEqual(bytes(stream), b"".join(map(client.envelope, wanted)))
+        self.assertEqual(await self.take(0, basket), self.small)  # nothing is out of step
+
     async def test_a_payload_that_still_comes_is_no_part_of_it(self) -> None:
         """What the program reads must not change meanwhile."""
         basket = Basket(2)
@@ -183,23 +208,63 @@ class Baskets(unittest.IsolatedAsyncioTestCase):
         self.ends[0][1].write(client.envelope(self.large[0])[:-1])
         while not basket.places:
             await asyncio.sleep(0.01)
-        tasks = [asyncio.create_task(self.take(number, basket)) for number in (1, 2)]
-        for number in (1, 2):
-            self.ends[number][1].write(client.envelope(self.large[number]))
-        heard = [*await asyncio.gather(*tasks), self.small]
+        self.ends[1][1].write(client.envelope(self.large[1]))
+        heard = [await self.take(1, basket), self.small]
         joined = basket.stream(heard)
         self.assertIsInstance(joined, list)
-        self.assertEqual(b"".join(joined), b"".join(map(client.envelope, [*self.large[1:], self.small])))
+        self.assertEqual(b"".join(joined), b"".join(map(client.envelope, [self.large[1], self.small])))
+        late.cancel()
+
+    async def test_what_comes_when_all_is_read_takes_no_memory(self) -> None:
+        basket = Basket(2, 3)
+        coming = [asyncio.create_task(self.take(number, basket)) for number in (0, 1, 2)]
+        for number in (0, 1, 2):
+            self.ends[number][1].write(client.envelope(self.large[number])[:1000])
+        while len(basket.places) < 2:
+            await asyncio.sleep(0.01)
         basket.close()
-        self.assertIsNone(basket.place(400_000))
-        self.ends[0][1].write(self.large[0][-1:])
-        self.assertEqual(len(await late), 400_000)  # nothing is out of step
+        for number in (0, 1, 2):
+            self.ends[number][1].write(client.envelope(self.large[number])[1000:] + client.envelope(self.small))
+        self.assertEqual(await asyncio.gather(*coming), [PASSED] * 3)
+        self.assertFalse(any(basket.memory))
+        for number in (0, 1, 2):
+            self.assertEqual(await self.take(number, basket), self.small)
+
+    async def test_who_breaks_off_leaves_his_place(self) -> None:
+        basket = Basket(1, 2)
+        broken = asyncio.create_task(self.take(0, basket))
+        self.ends[0][1].write(client.envelope(self.large[0])[:-1])
+        while not basket.places:
+            await asyncio.sleep(0.01)
+        self.ends[0][1].transport.abort()
+        with self.assertRaises((EOFError, OSError)):
+            await broken
+        self.ends[1][1].write(client.envelope(self.large[1]))
+        self.assertEqual(bytes(basket.stream([await self.take(1, basket)])), client.envelope(self.large[1]))
+
+    async def test_what_comes_while_all_is_read_is_read_past(self) -> None:
+        basket = Basket(1, 2)
+        self.ends[0][1].write(client.envelope(self.large[0]))
+        first = await self.take(0, basket)
+        basket.stream([first])
+        self.ends[1][1].write(client.envelope(self.large[1]) + client.envelope(self.small))
+        self.assertEqual([await self.take(1, basket) for _ in range(2)], [PASSED, self.small])
+        self.assertEqual(bytes(first), self.large[0])
+
+    async def test_a_payload_of_no_use_gives_way(self) -> None:
+        basket = Basket(1, 2)
+        self.ends[0][1].write(client.envelope(self.large[0]))
+        first = await self.take(0, basket)
+        basket.places[0].since -= 60
+        self.ends[1][1].write(client.envelope(self.large[1]))
+        stream = basket.stream([first, await self.take(1, basket)])
+        self.assertEqual(bytes(stream), b"".join(map(client.envelope, self.large[:2])))
 
     async def test_small_payloads_take_no_place(self) -> None:
         basket = Basket(2)
         self.ends[0][1].write(client.envelope(self.small))
         self.assertEqual(await self.take(0, basket), self.small)
-        self.assertEqual((basket.places, len(basket.memory)), (0, 0))
+        self.assertEqual((basket.places, len(basket.memory)), ([], 0))
         self.assertEqual(b"".join(basket.stream([self.small])), client.envelope(self.small))
 
 

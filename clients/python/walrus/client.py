@@ -4,6 +4,7 @@ It knows no cryptography: the program `walrus` encodes, names, reads and recover
 forms docs/FORMATS.md has. It runs on asyncio, without threads. This module has the names of all that a client needs."""
 
 import asyncio
+import contextlib
 import random
 from typing import NamedTuple, Union
 
@@ -47,6 +48,7 @@ from .kinds import (
 )
 from .shapes import Shape
 from .shards import (
+    AGAIN,
     Asked,
     Failed,
     Reply,
@@ -62,8 +64,9 @@ from .shards import (
     shape_of,
     take_steps,
 )
-from .streams import Data, SLICE, Source, Streams, envelope, split, take_envelope
+from .streams import SLICE, Source, Streams, envelope, split, take_envelope
 from .frames import write_frame
+from .wire import Data
 
 __all__ = [
     "ACK",
@@ -182,7 +185,7 @@ class Listening:
     """Shards that are asked as far as they are wanted: further ones where some are late, or say nothing of use."""
 
     def __init__(self, shards: Shards, request: bytes) -> None:
-        mixed = random.sample(list(shards), len(shards))
+        self.shards, self.repeats, mixed = shards, 0, random.sample(list(shards), len(shards))
         self.left, self.request = sorted(mixed, key=lambda it: bool(it.late or it.fault)), request
         self.pending = dict["asyncio.Task[tuple[int, dict[int, bytes], str]]", Shard]()
 
@@ -202,6 +205,12 @@ class Listening:
             del self.pending[task]
         return [task.result() for task in done]
 
+    def again(self, number: int) -> None:
+        """Has a shard be asked again, behind those that are left; not for ever."""
+        self.repeats += 1
+        if self.repeats <= 2 * len(self.shards):
+            self.left += [shard for shard in self.shards if shard.number == number]
+
     def is_over(self) -> bool:
         return not self.left and not self.pending
 
@@ -217,7 +226,15 @@ async def collect(shards: Shards, request: Union[Read, Symbol], walrus: Walrus, 
     and again once more can be enough. Where all of it is too little, a proof of bad encoding will do: status 3, and the
     proof in an envelope."""
     needed = shape_of(shards).symbols[getattr(request, "axis", SECONDARY)]
-    asked = Asked.of(write_frame(request), needed)
+    asked = Asked.of(write_frame(request), needed, len(shards))
+    with contextlib.closing(asked.basket):
+        return await gather(shards, asked, needed, request, walrus, *words)
+
+
+async def gather(
+    shards: Shards, asked: Asked, needed: int, request: Union[Read, Symbol], walrus: Walrus, *words: object
+) -> tuple[int, bytes]:
+    """The same, of a request for which so many replies are needed first."""
     count, patience, said, listening = 0, 1, dict[int, str](), Listening(shards, asked)
     heard, proofs = list[bytes](), dict[bytes, bytes]()  # each once, in order; a proof with its metadata
     listening.ask(needed)
@@ -225,19 +242,24 @@ async def collect(shards: Shards, request: Union[Read, Symbol], walrus: Walrus, 
         while not listening.is_over():
             found = await listening.next()
             for number, kept, said[number] in found:
+                if AGAIN in kept:
+                    del kept[AGAIN]
+                    listening.again(number)
                 if PROOF in kept:
                     proofs[kept.pop(PROOF)] = kept.get(METADATA, b"")
+                    asked.basket.want(needed + len(proofs))
                 heard += [it for it in kept.values() if it not in heard]
                 count += len(kept.keys() - {METADATA})
             if count >= needed or listening.is_over():
                 status, text = await walrus.run(*words, data=asked.basket.stream(heard))
+                asked.basket.is_read = False
                 if status in (0, 3):
-                    asked.basket.close()
                     return status, text
                 if status != 4:
                     raise Refused(status, text, said)
                 held, wanted = [int(word) for word in text.split() if word.isdigit()] or (0, 1)
                 needed, patience = count + patience * (wanted - held), 2 * patience  # so liars cause few runs
+                asked.basket.want(needed + len(proofs))
             listening.ask(max(needed - count - len(listening.pending) * bool(found), not listening.pending))
     finally:
         await listening.end()

@@ -10,7 +10,8 @@ from subprocess import PIPE
 from typing import NamedTuple, Union
 
 from .shards import Failed
-from .streams import Data, split
+from .streams import split
+from .wire import Data
 
 Encoded = NamedTuple("Encoded", [("identifier", bytes), ("metadata", bytes), ("slivers", list[tuple[bytes, bytes]])])
 

@@ -8,12 +8,15 @@ import time
 from collections.abc import Iterable, Sequence
 from typing import NamedTuple, Optional, Union
 
+from .baskets import PASSED, Basket
 from .kinds import DONE, KINDS, Answer, Clash, Fault, in_words
 from .shapes import Shape
-from .streams import Basket, Data, Sink, Source, Streams, take_envelope, write_in_slices
+from .streams import Sink, Source, Streams, take_envelope, write_in_slices
+from .wire import Data
 
 SECONDS = 10.0  # a deadline for what is asked at once
 LONGEST_REPLY = 4  # the frames of a reply, with the last answer
+AGAIN = 0  # in place of a kind, where something was read past that may be asked for again
 LEAST = 0.2  # seconds until others are asked as well, at least
 MOST = 1.0  # and at most
 USUAL = 0.2  # seconds for which a shard is taken to need first
@@ -29,10 +32,10 @@ class Asked(bytes):
     basket: Basket
 
     @classmethod
-    def of(cls, payload: bytes, count: int) -> "Asked":
-        """A request of which so many replies are needed."""
+    def of(cls, payload: bytes, count: int, most: int) -> "Asked":
+        """A request of which so many replies are needed, of at most so many."""
         made = cls(payload)
-        made.basket = Basket(count)
+        made.basket = Basket(count, most)
         return made
 
 
@@ -110,6 +113,8 @@ class Shard(contextlib.AbstractAsyncContextManager["Shard"]):
             sender, payload = await take_envelope(reader, self.shape.longest, basket)
             if sender != self.number:
                 raise Fault(f"it says that it is shard {sender}: are the shards in their order?")
+            if payload is PASSED:
+                kept[AGAIN] = PASSED
             if payload[:1] == b"\x31":
                 return Reply(kept, Clash(payload))
             if payload[:1] == b"\x30":
@@ -180,7 +185,7 @@ async def listen(shard: Shard, request: bytes) -> tuple[int, dict[int, bytes], s
         [reply] = await shard.ask(request)
     except ConnectionError as error:
         return shard.number, {}, str(error)
-    words = ", ".join(KINDS[kind] for kind in reply.kept) or "nothing of it"
+    words = ", ".join(KINDS[kind] for kind in reply.kept if kind) or "nothing of it"
     done = getattr(reply.end, "code", None) == DONE
     return (shard.number, reply.kept, words) if done else (shard.number, {}, in_words(reply.end))
 

@@ -132,6 +132,11 @@ class Wire(asyncio.BufferedProtocol):
         finally:
             self.target = None
 
+    def divert(self) -> None:
+        """Has what is read into a memory go elsewhere from here on, as somebody else has that memory."""
+        if self.target:
+            self.target = memoryview(bytearray(len(self.target)))
+
     async def readexactly(self, size: int) -> Data:
         """So many bytes; a large number of them in a memory of their own."""
         target = filling(memory(size))

@@ -1,0 +1,115 @@
+"""Memory into which large payloads come that are wanted together: no more of it than for those that are wanted."""
+
+import mmap
+import time
+from collections.abc import Sequence
+from typing import Optional, Union
+
+from . import wire
+from .envelopes import HEAD, MARK
+from .wire import Data
+
+FRONT = 131_072  # bytes before large payloads, in which the longest metadata has room
+PART = 262_144  # bytes of a payload that are read at once
+PATIENCE = 1.0  # seconds in which a payload is to come; then one that comes beside those that are wanted has its place
+PAST = memoryview(bytearray(65_536))  # where bytes come that nobody wants
+PASSED = memoryview(b"")  # stands for a payload that was read past
+
+
+class Place:
+    """Where a payload comes by a wire: its memory, as long as it is wanted, and how many bytes came."""
+
+    def __init__(self, wire: wire.Wire, memory: Optional[memoryview] = None) -> None:
+        self.wire, self.memory, self.came, self.since = wire, memory, 0, time.monotonic()
+
+
+class Basket:
+    """Memory into which large payloads come at once, each in an envelope and one behind the other, so that all of them
+    are one stream without a copy. In front of it is room for small ones. One that comes beside those that are wanted
+    has the place of one that is slow, or else it is read past, as is what is not wanted any more: so what comes behind
+    it is in step, and its shard keeps nothing of it."""
+
+    def __init__(self, count: int, most: int = 0) -> None:
+        self.count, self.most, self.size = count, max(count, most), 0  # places now and at most, and bytes of each
+        self.memory, self.places = memoryview(b""), list[Place]()
+        self.is_read, self.is_closed = False, False
+
+    def takes(self, size: int) -> bool:
+        """Whether a payload of so many bytes comes here: it is large, and as long as the first one."""
+        return size >= wire.LARGE and (self.is_closed or self.size in (0, size))
+
+    async def receive(self, stream: wire.Wire, size: int) -> Data:
+        """A payload that comes here; `PASSED`, where it has no place."""
+        place = self.place(stream, size)
+        try:
+            while place.came < size:
+                target = PAST if place.memory is None else place.memory[place.came :][:PART]  # noqa: E203
+                target = target[: size - place.came]
+                await stream.readinto(target)
+                place.came += len(target)
+        except BaseException:
+            self.empty(place)
+            raise
+        return PASSED if place.memory is None else place.memory.toreadonly()
+
+    def place(self, stream: wire.Wire, size: int) -> Place:
+        """A place for a payload; one without memory, where there is none for it."""
+        if not self.memory and not self.is_closed:  # what is not written of it takes no memory
+            self.size, self.memory = size, wire.filling(wire.memory(FRONT + self.most * (HEAD.size + size)))
+        number = self.vacant()
+        if self.is_closed or number >= self.count and not self.give_way():
+            return Place(stream)
+        number = self.vacant()
+        start = FRONT + number * (HEAD.size + size)
+        HEAD.pack_into(self.memory, start, MARK, 0, size)
+        place = Place(stream, self.memory[start + HEAD.size :][:size])  # noqa: E203
+        self.places[number : number + 1] = [place]  # noqa: E203
+        return place
+
+    def vacant(self) -> int:
+        """The first place that nobody has."""
+        return next((it for it, place in enumerate(self.places) if place.memory is None), len(self.places))
+
+    def give_way(self) -> bool:
+        """Has a place for one payload more, where one is slow, or all that came are of no use; whether it has."""
+        slow = [place for place in self.places if time.monotonic() - place.since > PATIENCE]
+        if coming := [place for place in slow if place.came < self.size]:
+            self.empty(min(coming, key=lambda it: it.came))
+            return True
+        if self.is_read or len(slow) < len(self.places) or self.count == self.most:
+            return False
+        self.want(self.count + 1)
+        return True
+
+    def want(self, count: int) -> None:
+        """Has so many places from here on."""
+        self.count = min(max(count, self.count), self.most)
+
+    def empty(self, place: Place) -> None:
+        """Has the memory of a place for others."""
+        if place.memory is not None and place.came < self.size:
+            place.wire.divert()
+        place.memory = None
+
+    def stream(self, payloads: Sequence[Data]) -> Union[Data, list[Data]]:
+        """Payloads in envelopes, which are read until somebody says otherwise; nothing else is wanted meanwhile. In
+        parts, if some came elsewhere, or something comes here still."""
+        parts, count, self.is_read = list[Data](), 0, True
+        for it in payloads:
+            if isinstance(it, memoryview) and it.obj is self.memory.obj:
+                count += 1
+            else:
+                parts += [HEAD.pack(MARK, 0, len(it)), it]
+        start, end = FRONT - sum(map(len, parts)), FRONT + len(self.places) * (HEAD.size + self.size)
+        if not count or count < len(self.places) or start < 0:
+            return [part for it in payloads for part in (HEAD.pack(MARK, 0, len(it)), it)]
+        self.memory[start:FRONT] = b"".join(parts)
+        return self.memory[start:end]
+
+    def close(self) -> None:
+        """Gives the memory back, unless it is read still; what still comes is read past."""
+        self.is_closed = True
+        for place in self.places:
+            self.empty(place)
+        if isinstance(self.memory.obj, mmap.mmap) and not self.is_read:
+            self.memory.obj.madvise(mmap.MADV_DONTNEED)
