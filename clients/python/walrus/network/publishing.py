@@ -16,9 +16,10 @@ from .chunks import LONGEST, Told, Writer
 from .client import Network
 from .forms import HEAD
 from .entries import LAST_EPOCH, LAST_UNTIL
+from .exposure import Options
 from .listing import Lister
 from .problems import Problem, as_json, problem_of
-from .reading import LEAST, WAITING, Options, Pace, Reader
+from .reading import LEAST, WAITING, Pace, Reader
 from .shares import Charge, Shares
 
 Store = Callable[[AsyncIterator[bytes], int, list[bytes]], Awaitable[Told]]
