@@ -385,18 +385,16 @@ class Impatient(GuardCase):
 
     async def test_bytes_are_paced_in_both_directions(self) -> None:
         await self.start(rate=4_000_000, requests=0)
-        begun = time.monotonic()
+        begun = time.monotonic()  # of all: what is not used while a busy machine does nothing may be used later
         self.assertEqual(await self.put(bytes(12_000_000)), 201)  # 8 MB are there at first
-        self.assertGreater(time.monotonic() - begun, 0.8)
+        self.assertGreater(time.monotonic() - begun, 0.9)
         [name] = self.files
-        begun = time.monotonic()
         _, _, body = await self.ask("GET", f"/v1/blobs/{name}")
         self.assertEqual(body, self.files[name])
-        self.assertGreater(time.monotonic() - begun, 2.5)
+        self.assertGreater(time.monotonic() - begun, 3.9)
         self.enterContext(mock.patch.object(self.gateway.watch, "status_text", lambda: b'"' + b"x" * 12_000_000 + b'"'))
-        begun = time.monotonic()
         self.assertEqual((await self.ask("GET", "/v1/status"))[0], 200)
-        self.assertGreater(time.monotonic() - begun, 2.5)
+        self.assertGreater(time.monotonic() - begun, 6.9)
 
     async def test_a_slow_reader_holds_up_nobody(self) -> None:
         await self.start(requests=0)

@@ -220,6 +220,10 @@ class Adversary(LedgerCase):
             for listening in service.server.sockets if service.server else ():
                 listening.setsockopt(socket.SOL_SOCKET, socket.SO_SNDBUF, 4_096)  # what the system holds for a client
         host, _, port = self.local.told()["recorders"][0].rpartition(":")
+        user, texts = self.user("publisher", 0), [registration("publisher", number) for number in range(6_000)]
+        begun = time.monotonic()
+        await asyncio.gather(*(user.post(text, 100) for text in texts[:600]))
+        usual = time.monotonic() - begun  # with nobody idle, on a machine as busy as this one is
         idle = list[asyncio.StreamWriter]()
         with mock.patch.object(recording, "REQUEST", 2.0):
             for _ in range(8):
@@ -231,14 +235,13 @@ class Adversary(LedgerCase):
                 writer.write(b"GET /v1/entries?after=0 HTTP/1.1\r\nHost: x\r\n\r\n")
                 writer.transport.pause_reading()  # type: ignore[attr-defined]
                 idle.append(writer)
-            begun, user = time.monotonic(), self.user("publisher", 0)
+            begun = time.monotonic()
             async with self.following(user) as view:
                 for served in self.services[0].runner.server.connections:  # type: ignore[union-attr]
                     served.transport.set_write_buffer_limits(0)  # what the recorder holds for a client
-                texts = [registration("publisher", number) for number in range(6_000)]
-                places = await asyncio.gather(*(user.post(text, 60) for text in texts))
+                places = await asyncio.gather(*(user.post(text, 300) for text in texts[600:]))
                 self.assertTrue(await view.until(lambda _: view.chain.place >= max(places), 60))
-            self.assertLess(time.monotonic() - begun, 60)
+            self.assertLess(time.monotonic() - begun, 50 + 20 * usual)
             for _ in range(200):
                 if not self.services[0].busy["publisher"]:
                     break
