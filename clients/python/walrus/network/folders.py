@@ -1,5 +1,4 @@
 """Folders over HTTP: a tar or a form goes in, and each file comes out under its path, as from a server of a site."""
-import asyncio
 import base64
 import functools
 import html
@@ -16,8 +15,9 @@ from .guard import SAFE
 from .manifest import Manifest, Place, label_of
 from .problems import Problem
 from .publishing import Publisher, named
-from .reading import FOREVER, WAITING, Reader
+from .reading import FOREVER, Reader
 from .shelf import Shelf
+from .turns import Turns, owner_of
 
 OPEN = {"X-Content-Type-Options": "nosniff", "Referrer-Policy": "no-referrer"}
 SANDBOX = {**OPEN, "Content-Security-Policy": "sandbox allow-scripts allow-popups"}  # no page of the gateway's own
@@ -37,26 +37,24 @@ class Folders:
 
     def __init__(self, reader: Reader, publisher: Publisher, shelf: Shelf, site: str):
         self.reader, self.publisher, self.shelf = reader, publisher, shelf
-        self.site, self.turns = site.lower().strip("."), asyncio.Semaphore(AT_ONCE)
+        self.site, self.turns = site.lower().strip("."), Turns(AT_ONCE)
 
     async def put(self, request: web.Request) -> web.Response:
         options, publisher = self.publisher.options, self.publisher
         kind, costs = request.headers.get("Content-Type", ""), Costs(publisher.charge(request))
         store = functools.partial(self.store, kind, costs)
-        async with asyncio.timeout(WAITING):
-            await self.turns.acquire()
-        try:
+        async with self.turns.take(owner_of(request)):
             response = await publisher.upload(request, min(options.most, LONGEST), costs, store)
-        finally:
-            self.turns.release()
         name = response.headers["Location"].rpartition("/")[2]
         response.headers["Location"] = f"{PATHS}{name}/"
         return response
 
-    async def store(self, kind: str, costs: Costs, stream: AsyncIterator[bytes], epochs: int) -> Told:
+    async def store(
+        self, kind: str, costs: Costs, stream: AsyncIterator[bytes], epochs: int, stored: list[bytes]
+    ) -> Told:
         """Stores what comes as a folder of this media type; what is told of it, with its own host."""
         publisher = self.publisher
-        told = await store_folder(publisher.writer, kind, costs, publisher.options.room, stream, epochs)
+        told = await store_folder(publisher.writer, kind, costs, publisher.options.room, stream, epochs, stored)
         site = {"site": f"{label_of(bytes.fromhex(told['blobId']))}.{self.site}"} if self.site else {}
         return {**told, "folder": {**told["folder"], **site}}
 
