@@ -21,7 +21,7 @@ class Intake:
     """What comes whole to a node."""
 
     def __init__(self, node: "Node"):
-        self.node, self.words = node, set["asyncio.Task[None]"]()  # that are given, and wait for disk and ledger
+        self.node, self.words = node, dict[tuple[int, bytes], "asyncio.Task[None]"]()  # that wait for disk and ledger
 
     async def expect(self, request: memoryview) -> None:
         """Waits until the registration of a blob is heard, but not for long."""
@@ -46,9 +46,10 @@ class Intake:
             said = await shard.answer(whole.wish)
         if code_of(said) not in client.COUNTS:
             return said
-        task = asyncio.create_task(self.give_word(shard, identifier))
-        self.words.add(task)
-        task.add_done_callback(self.words.discard)
+        key = shard.epoch, identifier
+        if key not in self.words and not ledger.voted(ACK, identifier, node.name):  # whoever sends it again
+            task = self.words[key] = asyncio.create_task(self.give_word(shard, identifier))
+            task.add_done_callback(lambda _: self.words.pop(key))
         return [answer(client.DONE)]
 
     async def give_word(self, shard: Shard, identifier: bytes) -> None:
@@ -60,6 +61,7 @@ class Intake:
                 await node.recorders.post(entry_key(node.name, ACK, shard.epoch, identifier.hex()), None)
 
     async def close(self) -> None:
-        for task in self.words:
+        tasks = [*self.words.values()]
+        for task in tasks:
             task.cancel()
-        await asyncio.gather(*self.words, return_exceptions=True)
+        await asyncio.gather(*tasks, return_exceptions=True)
