@@ -1,4 +1,5 @@
 """Folders over HTTP: a tar or a form goes in, and each file comes out under its path, as from a server of a site."""
+import asyncio
 import base64
 import functools
 import html
@@ -23,7 +24,7 @@ OPEN = {"X-Content-Type-Options": "nosniff", "Referrer-Policy": "no-referrer"}
 SANDBOX = {**OPEN, "Content-Security-Policy": "sandbox allow-scripts allow-popups"}  # no page of the gateway's own
 OWN_HOST = {**OPEN, "Origin-Agent-Cluster": "?1"}  # nor does a site reach another one that is beside it
 PATHS = "/v1/folders/"
-MOST = 10_000  # lines of a listing
+MOST, LISTINGS = 10_000, 2  # lines of a listing; listings that are made at once
 PAGE = """<!DOCTYPE html><html lang="en"><head><meta charset="utf-8"><title>{title}</title>
 <meta name="viewport" content="width=device-width"><style>body {{ font-family: sans-serif; margin: 2em }}
 td {{ padding: 0.1em 1em 0.1em 0 }} td + td {{ text-align: right }}</style></head>
@@ -37,7 +38,7 @@ class Folders:
 
     def __init__(self, reader: Reader, publisher: Publisher, shelf: Shelf, site: str):
         self.reader, self.publisher, self.shelf = reader, publisher, shelf
-        self.site, self.turns = site.lower().strip("."), Turns(AT_ONCE)
+        self.site, self.turns, self.listings = site.lower().strip("."), Turns(AT_ONCE), Turns(LISTINGS)
 
     async def put(self, request: web.Request) -> web.Response:
         options, publisher = self.publisher.options, self.publisher
@@ -94,7 +95,10 @@ class Folders:
         if place := manifest.find(f"{path}index.html" if is_folder else path):
             return await self.send(request, place, headers)
         if is_folder and manifest.has(path):
-            return listing(request, name, manifest, path, headers)
+            pool = self.reader.network.walrus.pool
+            async with self.listings.take(owner_of(request)):  # a long one takes a while, beside what others ask
+                made = asyncio.get_running_loop().run_in_executor
+                return await made(pool, listing, request, name, manifest, path, headers)
         if manifest.has(f"{path}/") and not is_folder:
             return moved(raw.rpartition("/")[2], request)
         raise Problem(404, "the folder has no such file")

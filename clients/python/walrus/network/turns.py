@@ -9,14 +9,14 @@ from aiohttp import web
 from .limits import key_of
 
 WAITING = 60.0  # seconds for which one waits for a turn
-PARTS = 4  # one who asks has at most one of so many parts of the places
+PARTS = 4  # one who asks has at most one of so many parts of the places, unless it is said otherwise
 
 
 class Turns:
     """So many places, and of these so many for one."""
 
-    def __init__(self, most: int):
-        self.all, self.each = asyncio.Semaphore(most), max(1, most // PARTS)
+    def __init__(self, most: int, each: int = 0):
+        self.all, self.each = asyncio.Semaphore(most), each or max(1, most // PARTS)
         self.own: "weakref.WeakValueDictionary[str, asyncio.Semaphore]" = weakref.WeakValueDictionary()
 
     @contextlib.asynccontextmanager

@@ -18,9 +18,8 @@ from .entries import LAST_UNTIL
 from .guard import PASSED_ON
 from .problems import Problem, as_json
 from .publishing import LISTED, Publisher, as_known, failed_with
-from .reading import WAITING
 from .shares import Charge
-from .turns import owner_of
+from .turns import WAITING, owner_of
 from .unfinished import IDLE, Unfinished, Upload, is_of
 
 VERSION, KIND = "6", "application/partial-upload"
