@@ -335,6 +335,14 @@ class Folders(GuardCase):
             self.assertEqual((await self.get(f"/v1/folders/{name_of(data).hex()}/{number}"))[0], 200)
         kept = self.gateway.shelf
         self.assertEqual(len(kept.kept), 3)
+        before = [*kept.kept]
+        for number in range(9):  # a stranger who asks for what is no folder
+            name = name_of(b"no folder %d" % number).hex()
+            self.files[name] = b"no folder %d" % number
+            self.assertEqual((await self.get(f"/v1/folders/{name}/"))[0], 404)
+        self.assertEqual(([*kept.kept][:3], len(kept.kept)), (before, 6))
+        for it in [*kept.kept][3:]:
+            del kept.kept[it]
         self.assertEqual(kept.size, sum(len(it.result().data) for it in kept.kept.values()))
 
     async def test_each_folder_has_a_host_of_its_own(self) -> None:
