@@ -1,9 +1,12 @@
 """Folders over HTTP: what comes as a tar or a form, how it is served, and what liars and strangers get."""
+import asyncio
 import base64
+import contextlib
 import hashlib
 import io
 import random
 import re
+import resource
 import sqlite3
 import tarfile
 import time
@@ -14,7 +17,7 @@ from typing import Any
 from folder_case import HOSTILE, Files, form_of, manifest_of, odd_tar, site, tar_of
 from guard_case import GuardCase
 from harness import HERE
-from walrus.network import archives, folders, gathering, manifest, problems, shelf
+from walrus.network import archives, gathering, manifest, problems, shelf, turns
 from walrus.network.manifest import MARK, Manifest, Place, Wrong
 
 TAR = {"Content-Type": "application/x-tar"}
@@ -76,15 +79,17 @@ class Manifests(unittest.TestCase):
             b"".join(b"%07d\ta/b\t0\t-\n" % it for it in range(600_000)),  # too many
             b"".join(b"a/" * 400 + b"%06d\ta/b\t0\t-\n" % it for it in range(20_000)),  # deep, and lawful
             b"/" * 16_000_000,
+            b"a/" * 30_000_000,  # one path, each step of which would take memory
             b"a" * 16_000_000,
         ):
-            begun = time.process_time()
+            begun, before = time.process_time(), resource.getrusage(resource.RUSAGE_SELF).ru_maxrss
             try:
                 made = Manifest(MARK + text)
                 self.assertLess(made.starts.itemsize * len(made.starts), len(text))
             except Wrong:
                 pass
             self.assertLess(time.process_time() - begun, 20)
+            self.assertLess(resource.getrusage(resource.RUSAGE_SELF).ru_maxrss - before, 200_000)  # KiB
 
     def test_types_come_from_endings_by_the_table_of_the_page(self) -> None:
         kinds = {"a.html": "text/html", "b/A.PNG": "image/png", "c.tar.gz": "application/gzip", "d": manifest.OTHER}
@@ -330,6 +335,14 @@ class Folders(GuardCase):
             self.assertEqual((await self.get(f"/v1/folders/{name_of(data).hex()}/{number}"))[0], 200)
         kept = self.gateway.shelf
         self.assertEqual(len(kept.kept), 3)
+        before = [*kept.kept]
+        for number in range(9):  # a stranger who asks for what is no folder
+            name = name_of(b"no folder %d" % number).hex()
+            self.files[name] = b"no folder %d" % number
+            self.assertEqual((await self.get(f"/v1/folders/{name}/"))[0], 404)
+        self.assertEqual(([*kept.kept][:3], len(kept.kept)), (before, 6))
+        for it in [*kept.kept][3:]:
+            del kept.kept[it]
         self.assertEqual(kept.size, sum(len(it.result().data) for it in kept.kept.values()))
 
     async def test_each_folder_has_a_host_of_its_own(self) -> None:
@@ -399,14 +412,30 @@ class Folders(GuardCase):
 
     async def test_a_few_folders_come_at_once(self) -> None:
         await self.start()
-        turns = self.gateway.folders.turns
-        for _ in range(gathering.AT_ONCE):
-            await self.put_folder(b"no tar", 400)  # which gives its turn back
-            await turns.acquire()
-        with unittest.mock.patch.object(folders, "WAITING", 0.1):
-            self.assertIn("too much to do", (await self.put_folder(tar_of(site()), 503))["error"]["text"])
-        turns.release()
-        await self.put_folder(tar_of(site()))
+        busy, others = self.gateway.folders.turns, [f"address 192.0.2.{it}" for it in range(gathering.AT_ONCE)]
+        for own in (others, ["address 127.0.0.1"] * (gathering.AT_ONCE // turns.PARTS)):
+            async with contextlib.AsyncExitStack() as stack:
+                for it in own:
+                    await self.put_folder(b"no tar", 400)  # which gives its turn back
+                    await stack.enter_async_context(busy.take(it))
+                with unittest.mock.patch.object(turns, "WAITING", 0.1):
+                    self.assertIn("too much to do", (await self.put_folder(tar_of(site()), 503))["error"]["text"])
+                    if own is not others:  # one who has all of a part keeps nobody else away
+                        await stack.enter_async_context(busy.take("address 192.0.2.1"))
+            await self.put_folder(tar_of(site()))
+
+    async def test_a_tar_of_deep_paths_costs_little_and_lets_others_go_on(self) -> None:
+        await self.start()
+        files = {f"{number:04}/" + "a/" * 500 + "b": b"" for number in range(300)}
+        made, begun = tar_of(files), time.process_time()
+        waiting, turned = asyncio.create_task(self.put_folder(made)), 0
+        while not waiting.done():
+            await asyncio.sleep(0)
+            turned += 1
+        told = await waiting
+        self.assertEqual(told["folder"]["files"], 300)
+        self.assertLess(time.process_time() - begun, 1.5)  # 500 questions for each file took four times as long
+        self.assertGreater(turned, 300)
 
     async def test_large_files_and_small_ones_have_bounds(self) -> None:
         await self.start(room=40_000_000)

@@ -13,6 +13,7 @@ from typing import Any, Callable, Optional, cast
 from aiohttp import http_exceptions, web
 
 from .entries import NAME
+from .limits import key_of
 
 FIRST, HANDSHAKE, EACH = 30.0, 5.0, 300  # seconds for a first request and for TLS; connections of one address
 MALFORMED = b"HTTP/1.1 400 Bad Request\r\nContent-Length: 0\r\nConnection: close\r\n\r\n"
@@ -70,7 +71,7 @@ class Counted(Connection):
 
     def whom(self, transport: asyncio.BaseTransport) -> tuple[str, float]:
         peer = str((transport.get_extra_info("peername") or ("",))[0])
-        return peer, math.inf if peer in self.proxies else EACH
+        return key_of(peer), math.inf if peer in self.proxies else EACH
 
 
 class Named(Connection):

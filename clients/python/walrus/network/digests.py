@@ -51,5 +51,5 @@ def fields(digest: bytes) -> dict[str, str]:
     return {"Repr-Digest": f"sha-256=:{text}:", "Digest": f"sha-256={text}"}
 
 
-def of(data: bytes) -> dict[str, str]:
-    return fields(hashlib.sha256(data).digest())
+def sum_of(data: bytes) -> bytes:
+    return hashlib.sha256(data).digest()

@@ -15,14 +15,15 @@ from .guard import SAFE
 from .manifest import Manifest, Place, label_of
 from .problems import Problem
 from .publishing import Publisher, named
-from .reading import FOREVER, WAITING, Reader
+from .reading import FOREVER, Reader
 from .shelf import Shelf
+from .turns import Turns, owner_of
 
 OPEN = {"X-Content-Type-Options": "nosniff", "Referrer-Policy": "no-referrer"}
 SANDBOX = {**OPEN, "Content-Security-Policy": "sandbox allow-scripts allow-popups"}  # no page of the gateway's own
 OWN_HOST = {**OPEN, "Origin-Agent-Cluster": "?1"}  # nor does a site reach another one that is beside it
 PATHS = "/v1/folders/"
-MOST = 10_000  # lines of a listing
+MOST, LISTINGS = 10_000, 2  # lines of a listing; listings that are made at once
 PAGE = """<!DOCTYPE html><html lang="en"><head><meta charset="utf-8"><title>{title}</title>
 <meta name="viewport" content="width=device-width"><style>body {{ font-family: sans-serif; margin: 2em }}
 td {{ padding: 0.1em 1em 0.1em 0 }} td + td {{ text-align: right }}</style></head>
@@ -36,29 +37,24 @@ class Folders:
 
     def __init__(self, reader: Reader, publisher: Publisher, shelf: Shelf, site: str):
         self.reader, self.publisher, self.shelf = reader, publisher, shelf
-        self.site, self.turns = site.lower().strip("."), asyncio.Semaphore(AT_ONCE)
+        self.site, self.turns, self.listings = site.lower().strip("."), Turns(AT_ONCE), Turns(LISTINGS)
 
     async def put(self, request: web.Request) -> web.Response:
         options, publisher = self.publisher.options, self.publisher
         kind, costs = request.headers.get("Content-Type", ""), Costs(publisher.charge(request))
-
-        async def store(stream: AsyncIterator[bytes], epochs: int, _: list[bytes]) -> Told:
-            return await self.store(kind, costs, stream, epochs)
-
-        async with asyncio.timeout(WAITING):
-            await self.turns.acquire()
-        try:
+        store = functools.partial(self.store, kind, costs)
+        async with self.turns.take(owner_of(request)):
             response = await publisher.upload(request, min(options.most, LONGEST), costs, store)
-        finally:
-            self.turns.release()
         name = response.headers["Location"].rpartition("/")[2]
         response.headers["Location"] = f"{PATHS}{name}/"
         return response
 
-    async def store(self, kind: str, costs: Costs, stream: AsyncIterator[bytes], epochs: int) -> Told:
+    async def store(
+        self, kind: str, costs: Costs, stream: AsyncIterator[bytes], epochs: int, stored: list[bytes]
+    ) -> Told:
         """Stores what comes as a folder of this media type; what is told of it, with its own host."""
         publisher = self.publisher
-        told = await store_folder(publisher.writer, kind, costs, publisher.options.room, stream, epochs)
+        told = await store_folder(publisher.writer, kind, costs, publisher.options.room, stream, epochs, stored)
         site = {"site": f"{label_of(bytes.fromhex(told['blobId']))}.{self.site}"} if self.site else {}
         return {**told, "folder": {**told["folder"], **site}}
 
@@ -98,7 +94,10 @@ class Folders:
         if place := manifest.find(f"{path}index.html" if is_folder else path):
             return await self.send(request, place, headers)
         if is_folder and manifest.has(path):
-            return listing(request, name, manifest, path, headers)
+            pool = self.reader.network.walrus.pool
+            async with self.listings.take(owner_of(request)):  # a long one takes a while, beside what others ask
+                made = asyncio.get_running_loop().run_in_executor
+                return await made(pool, listing, request, name, manifest, path, headers)
         if manifest.has(f"{path}/") and not is_folder:
             return moved(raw.rpartition("/")[2], request)
         raise Problem(404, "the folder has no such file")

@@ -45,10 +45,10 @@ class Costs(Charge):
 
 
 class Upload:
-    """A folder that comes. `most` is how many bytes its small files may have."""
+    """A folder that comes. `most` is how many bytes its small files may have; what is certified comes to `stored`."""
 
-    def __init__(self, writer: Writer, costs: Costs, epochs: int, most: int):
-        self.writer, self.costs, self.most = writer, costs, most
+    def __init__(self, writer: Writer, costs: Costs, epochs: int, most: int, stored: list[bytes]):
+        self.writer, self.costs, self.most, self.stored = writer, costs, most, stored
         self.until = writer.network.ledger.writing_epoch + epochs
         self.folder, self.spool, self.end = Folder(), tempfile.TemporaryFile(buffering=0), 0
         self.tasks, self.is_new = list["asyncio.Task[None]"](), False
@@ -63,6 +63,7 @@ class Upload:
     async def take(self, coming: Coming) -> None:
         """Takes the next file, all of whose bytes are read."""
         path, parts, held = coming.path, coming.parts, Spool()
+        await asyncio.sleep(0)  # many files come in one part, and others go on between them
         try:
             self.folder.begin(path)
         except Wrong as fault:
@@ -101,7 +102,9 @@ class Upload:
 
     async def store(self, stream: AsyncIterator[bytes]) -> Told:
         """Stores a file until the epoch that was said as the folder began to come."""
-        told = await self.writer.store(stream, max(0, self.until - self.writer.network.ledger.writing_epoch))
+        told = await self.writer.store(
+            stream, max(0, self.until - self.writer.network.ledger.writing_epoch), self.stored
+        )
         if told["alreadyCertified"]:
             self.costs.was_there(told["size"])
         else:
@@ -143,11 +146,17 @@ class Upload:
 
 
 async def store_folder(
-    writer: Writer, kind: str, costs: Costs, most: int, stream: AsyncIterator[bytes], epochs: int
+    writer: Writer,
+    kind: str,
+    costs: Costs,
+    most: int,
+    stream: AsyncIterator[bytes],
+    epochs: int,
+    stored: list[bytes],
 ) -> Told:
     """Stores what comes as a folder of this media type."""
     source = Source(stream)
-    upload = Upload(writer, costs, epochs, most)
+    upload = Upload(writer, costs, epochs, most, stored)
     try:
         async with contextlib.aclosing(opened(kind)(source)) as files:
             async for coming in files:

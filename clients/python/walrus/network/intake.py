@@ -1,5 +1,6 @@
 """Blobs that come whole to a node: they are stored by one judgement, and the node's word for them follows by itself."""
 import asyncio
+import functools
 from typing import TYPE_CHECKING, Optional
 
 from .. import client
@@ -20,6 +21,7 @@ class Intake:
 
     def __init__(self, node: "Node"):
         self.node, self.words = node, list[tuple[int, str]]()  # that wait for the disk; what was lost before them
+        self.given = set[str]()  # words that wait for the disk or the ledger: who sends a blob again adds none
         self.giving: Optional["asyncio.Task[None]"] = None
 
     async def expect(self, request: memoryview) -> None:
@@ -45,14 +47,17 @@ class Intake:
             said = await shard.answer(whole.wish)
         if code_of(said) not in client.COUNTS:
             return said
-        self.give_word(shard, identifier)
+        if not ledger.voted(ACK, identifier, node.name):
+            self.give_word(shard, identifier)
         return [answer(client.DONE)]
 
     def give_word(self, shard: Shard, identifier: bytes) -> None:
         """Has the node's word given for what a shard holds, where all its other shards hold as much."""
         node, others = self.node, self.node.sides.get(shard.epoch, {}).values()
-        if all(it is shard or it.vouches(ACK, identifier) for it in others):
-            self.words.append((node.store.losses, entry_key(node.name, ACK, shard.epoch, identifier.hex())))
+        word = entry_key(node.name, ACK, shard.epoch, identifier.hex())
+        if word not in self.given and all(it is shard or it.vouches(ACK, identifier) for it in others):
+            self.given.add(word)
+            self.words.append((node.store.losses, word))
             if self.giving is None or self.giving.done():
                 self.giving = asyncio.create_task(self.give_words())
 
@@ -62,10 +67,16 @@ class Intake:
         node = self.node
         while self.words:
             words, self.words = self.words, []
-            if await node.durable():
-                for losses, word in words:
-                    if node.store.losses == losses:
-                        node.recorders.leave(word)
+            durable = await node.durable()
+            for losses, word in words:
+                if durable and node.store.losses == losses:
+                    node.recorders.leave(word).add_done_callback(functools.partial(self.taken, word))
+                else:
+                    self.given.discard(word)
+
+    def taken(self, word: str, _: "asyncio.Future[int]") -> None:
+        """The ledger has a word, or refuses it."""
+        self.given.discard(word)
 
     async def close(self) -> None:
         if self.giving:

@@ -61,6 +61,7 @@ NAME = rb"(?!\.{1,2}[/\t])[^\x00-\x1f\x7f/\\]{1,%d}" % PART
 TYPE = rb"[a-z0-9][a-z0-9!#$&^_.+-]{0,63}/[a-z0-9][a-z0-9!#$&^_.+-]{0,63}"
 NUMBER = rb"0|[1-9][0-9]{0,12}"
 LINE = re.compile(rb"((?:%s/)*%s)\t(%s)\t(%s)\t(?:-|([0-9a-f]{64})(?:@(%s))?)\n" % (NAME, NAME, TYPE, NUMBER, NUMBER))
+MOST_LINE = 1_400  # bytes of a line: whoever matches more is led through a path without an end
 CONTROLS = re.compile("[\x00-\x1f\x7f-\x9f]")  # of which a manifest's bytes have those below 20 by its form alone
 
 
@@ -140,7 +141,7 @@ class Manifest:
             raise Wrong(f"it has more than {MOST_BYTES} bytes")
         before, above, end = b"", dict[bytes, None](), len(MARK)  # files that the path before is, or begins with
         while end < len(self.data):
-            found = LINE.match(self.data, end)
+            found = LINE.match(self.data, end, end + MOST_LINE)
             if not found or len(self.starts) == MOST_FILES:
                 raise Wrong(f"line {len(self.starts) + 1} is none, or is one too many")
             path = found[1]

@@ -1,6 +1,7 @@
 """Numbers in the text format of Prometheus, of a gateway and of a node, by Debian's python3-prometheus-client.
 
 It is loaded once somebody asks for numbers: commands and other services do without."""
+import collections
 import re
 from typing import Any, Iterable, Mapping, Union
 
@@ -9,9 +10,11 @@ from prometheus_client import CollectorRegistry, ProcessCollector, generate_late
 from prometheus_client.core import CounterMetricFamily, GaugeMetricFamily, HistogramMetricFamily, Metric
 from prometheus_client.registry import Collector
 
+from .connections import Counted, Server
 from .times import HEADERS, Times
 
 Value = Union[float, Mapping[str, float]]  # a number, or numbers by labels such as `way="in"`
+CONNECTIONS = 32  # with who asks a node for numbers
 PROCESS = ProcessCollector(registry=CollectorRegistry(auto_describe=False))  # of this process: memory, descriptors
 MEANT = {
     "bad_encodings": "Blobs that were found to be badly encoded, by what came of announcing them",
@@ -85,16 +88,28 @@ def told(counters: Mapping[str, Value], gauges: Mapping[str, Value], times: Mapp
     return generate_latest(Told([*families, *PROCESS.collect()]))  # type: ignore[arg-type]
 
 
-async def serve(place: str, tell: Any) -> web.AppRunner:
+class Numbers(Server):
+    """What answers with numbers, over a few connections: who opens many takes no descriptor that a node needs."""
+
+    def __init__(self) -> None:
+        self.each = collections.Counter[str]()
+
+    def connect(self, server: web.Server) -> Counted:
+        made = Counted(server, CONNECTIONS, self.each, access_log=None)
+        made.proxies = set()
+        return made
+
+
+async def serve(place: str, tell: Any) -> Server:
     """Answers GET /metrics at PORT of this machine alone, or at HOST:PORT, with what `tell` gives."""
     host, _, port = place.rpartition(":")
 
-    async def answer(_: web.Request) -> web.Response:
+    async def answer(request: web.Request) -> web.Response:
+        request.protocol.first.cancel()  # type: ignore[attr-defined]
         return web.Response(body=tell(), headers=HEADERS)
 
     app = web.Application()
     app.router.add_get("/metrics", answer)
-    runner = web.AppRunner(app, access_log=None)
-    await runner.setup()
-    await web.TCPSite(runner, host.strip("[]") or "127.0.0.1", int(port)).start()
-    return runner
+    made = Numbers()
+    await made.serve(app, host.strip("[]") or "127.0.0.1", int(port), None)
+    return made

@@ -235,7 +235,7 @@ class Node(View):
     async def close(self) -> None:
         await self.port.close_port()
         if self.numbers:
-            await self.numbers.cleanup()
+            await self.numbers.end(1)
         for task in self.tasks:
             task.cancel()
         await asyncio.gather(*self.tasks, return_exceptions=True)

@@ -1,6 +1,7 @@
 """The files of a folder while they come, in any order, until its manifest can be made. Small ones share packs.
 
 What is known of them is in a database of SQLite without a name, so that a long folder takes no memory."""
+import os
 import sqlite3
 from typing import Iterator, Optional
 
@@ -35,19 +36,26 @@ class Folder:
 
     def begin(self, path: str) -> None:
         """Takes the path of a file, whose bytes are told later; raises `Wrong` where it cannot be beside the others."""
-        key, folders = path.encode(), path.split("/")[:-1]
-        above = ["/".join(folders[:end]).encode() for end in range(1, len(folders) + 1)]
+        key = path.encode()
         if self.base.execute("SELECT 1 FROM files WHERE path = ?", (key,)).fetchone():
             raise Wrong(f"{shown(path)} comes twice")
         is_folder = self.base.execute("SELECT 1 FROM files WHERE path > ? AND path < ?", (key + b"/", key + b"0"))
-        is_within = (self.base.execute("SELECT 1 FROM files WHERE path = ?", (it,)).fetchone() for it in above)
-        if is_folder.fetchone() or any(is_within):
+        if is_folder.fetchone() or self.is_within_file(key):
             raise Wrong(f"{shown(path)} cannot be there: it is a folder as well as a file, or is in a file")
         self.room += len(Place(path, kind_of(path), LONGEST, bytes(32), PACK).line())
         if self.count == MOST_FILES or len(MARK) + self.room > MOST_BYTES:
             raise TooMany(f"these are too many files for one folder: {self.count} came before; store it in parts")
         self.base.execute("INSERT INTO files VALUES (?, 0, x'', NULL)", (key,))
         self.count += 1
+
+    def is_within_file(self, key: bytes) -> bool:
+        """Whether one of the folders in a path is a file. That could only be the file that stands just before it, or as
+        long a folder as the two have in common: shorter ones are folders of the other too. So depth costs nothing."""
+        rows = self.base.execute("SELECT path FROM files WHERE path < ? ORDER BY path DESC LIMIT 1", (key,))
+        common = os.path.commonprefix([key, *(row[0] for row in rows)])
+        if common == key or key[len(common) : len(common) + 1] != b"/":  # noqa: E203
+            return False
+        return bool(self.base.execute("SELECT 1 FROM files WHERE path = ?", (common,)).fetchone())
 
     def add(self, path: str, length: int, file: bytes) -> None:
         """Tells of a file that is stored on its own, or is empty."""

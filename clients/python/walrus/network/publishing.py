@@ -1,7 +1,5 @@
 """The publisher: files that come over HTTP are stored, within the share of the token that is shown for them."""
-import asyncio
 import base64
-import contextlib
 import hashlib
 import pathlib
 import re
@@ -19,8 +17,9 @@ from .entries import LAST_EPOCH, LAST_UNTIL
 from .exposure import Options
 from .listing import Lister
 from .problems import Problem, as_json, problem_of
-from .reading import LEAST, WAITING, Pace, Reader
+from .reading import LEAST, Pace, Reader
 from .shares import Charge, Shares
+from .turns import Turns, owner_of
 
 Store = Callable[[AsyncIterator[bytes], int, list[bytes]], Awaitable[Told]]
 LISTED = 1_000  # pieces that are named at most where a file was not stored
@@ -50,7 +49,7 @@ class Publisher:
 
     def __init__(self, network: Network, reader: Reader, lister: Lister, options: Options):
         self.network, self.reader, self.lister, self.options = network, reader, lister, options
-        self.writer, self.uploads = Writer(network, reader.memory, options.turns), asyncio.Semaphore(options.uploads)
+        self.writer, self.uploads = Writer(network, reader.memory, options.turns), Turns(options.uploads)
         self.used, self.shares = "", None  # type: str, Optional[Shares]
 
     def close(self) -> None:
@@ -127,7 +126,8 @@ class Publisher:
 
     async def extend(self, request: web.Request) -> web.Response:
         epochs, charge, name = self.epochs(request), self.charge(request), named(request)
-        return as_json(await self.lister.extend(name, epochs, charge))
+        async with self.uploads.take(owner_of(request)):  # a folder has many blobs, of which nodes are asked
+            return as_json(await self.lister.extend(name, epochs, charge))
 
     def charge(self, request: web.Request) -> Charge:
         """What counts what a request stores, as a share of the token that it shows."""
@@ -159,9 +159,7 @@ class Publisher:
         charge.announce(request.content_length or 0)
         try:
             charge.add(0)
-            async with contextlib.AsyncExitStack() as stack:
-                async with asyncio.timeout(WAITING):
-                    await stack.enter_async_context(self.uploads)
+            async with self.uploads.take(owner_of(request)):
                 told = await store(self.body(request, most, charge, sum), epochs, stored)
         except (Problem, client.Failed, client.Refused, OSError) as fault:
             raise failed_with(fault, [name.hex() for name in stored]) from None

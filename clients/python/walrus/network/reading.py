@@ -19,11 +19,12 @@ from .heads import Lengths
 from .limits import Flow
 from .pieces import Memory, let_go, put_away, reading_needs
 from .problems import ALONE, BAD, NO_BLOB, Problem
+from .turns import PARTS, WAITING, Turns, owner_of
 
 SLICE, KIND = 262_144, "application/octet-stream"
 BARE, READINGS = 73_400_320, 16  # bytes of a gateway that does nothing; blobs that are read at once, if memory allows
 AHEAD = 5  # pieces of a file that are read at once for who takes it
-SILENCE, WAITING = 30.0, 60.0  # seconds in which a slice must go out or anything come in; for a turn or for room
+SILENCE, SUMS = 30.0, 65_536  # seconds in which a slice must go out or anything come in; digests that are kept
 GRACE, LEAST = 60.0, 32_768  # seconds for which a client may be slower than so many bytes a second, in all
 FOREVER = {"Cache-Control": "public, max-age=31536000, immutable", "Accept-Ranges": "bytes"}
 
@@ -37,6 +38,8 @@ class Reader:
         self.cache = Cache(self.fetch, options.room, READINGS)
         self.bytes, self.lengths = collections.Counter[str](), Lengths(network)
         self.rejected: Callable[[bytes], None] = lambda identifier: None  # is told what was badly encoded
+        self.sendings = Turns(options.connections, max(1, options.room // client.LARGEST_BLOB // PARTS))
+        self.sums: "collections.OrderedDict[bytes, bytes]" = collections.OrderedDict()
 
     def must_stand(self, name: bytes) -> None:
         """Raises where it is known that a blob, or a member of it, cannot be read."""
@@ -97,8 +100,19 @@ class Reader:
         else:
             async with self.blob(name) as blob:
                 file = File.of(name, blob)
-                headers |= digests.of(blob) if digests.wanted(request) and file.names == name else {}
+                headers |= await self.digest(name, blob) if digests.wanted(request) and file.names == name else {}
         return await self.give(request, file, tag, headers)
+
+    async def digest(self, name: bytes, blob: bytes) -> dict[str, str]:
+        """The headers with a blob's SHA-256, which is computed once, and beside what others ask."""
+        found = self.sums.get(name)
+        if found is None:
+            pool = self.network.walrus.pool
+            found = await asyncio.get_running_loop().run_in_executor(pool, digests.sum_of, blob)
+            self.sums[name] = found
+            if len(self.sums) > SUMS:
+                self.sums.popitem(last=False)
+        return digests.fields(found)
 
     def condition(self, request: web.Request, tag: str, headers: dict[str, str]) -> Optional[web.Response]:
         """What is answered to a condition, where it does not ask for the file of this tag."""
@@ -156,7 +170,7 @@ class Reader:
         try:
             for head, span in zip(heads, spans):
                 await self.write(pace, response, head)
-                await self.send_span(pace, response, file, span)
+                await self.send_span(pace, response, file, span, owner_of(request))
             await self.write(pace, response, heads[-1])
         except (Problem, client.Failed, TimeoutError, OSError) as fault:
             print(f"GET {request.path} ends early: {fault or 'its reader is slow'}", file=sys.stderr, flush=True)
@@ -170,11 +184,16 @@ class Reader:
             if self.stands(name):
                 self.cache.find(name, size)
 
-    async def send_span(self, pace: "Pace", response: web.StreamResponse, file: File, span: ranges.Span) -> None:
+    async def send_span(
+        self, pace: "Pace", response: web.StreamResponse, file: File, span: ranges.Span, owner: str
+    ) -> None:
         self.read_ahead(itertools.islice(file.pieces(*span), AHEAD))
         following = itertools.islice(file.pieces(*span), AHEAD, None)
         for name, size, start, end in file.pieces(*span):
-            async with self.blob(name, size) as blob:
+            async with contextlib.AsyncExitStack() as stack:
+                if size > SLICE:  # who takes it slowly keeps it from being dropped
+                    await stack.enter_async_context(self.sendings.take(owner))
+                blob = await stack.enter_async_context(self.blob(name, size))
                 self.read_ahead(itertools.islice(following, 1))
                 for place in range(start, end, SLICE):
                     behind = min(place + SLICE, end)

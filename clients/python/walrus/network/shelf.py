@@ -48,12 +48,13 @@ class Shelf:
         if task.cancelled() or fault and not (isinstance(fault, Problem) and "manifest" in fault.more):
             self.kept.pop(name, None)  # it may come another time
         self.size += 0 if fault or task.cancelled() else len(task.result().data)
-        while len(self.kept) > MOST or self.size > ROOM:
-            oldest = next((it for it, other in self.kept.items() if other.done() and it != name), None)
-            if oldest is None:
-                break
-            dropped = self.kept.pop(oldest)
-            self.size -= 0 if dropped.exception() else len(dropped.result().data)
+        for is_none in (True, False):  # what is no manifest takes the place of no manifest
+            done = [(it, other) for it, other in self.kept.items() if other.done() and not other.cancelled()]
+            same = [it for it, other in done if bool(other.exception()) == is_none]
+            while len(same) > MOST or self.size > ROOM and not is_none and len(same) > 1:
+                oldest = same.pop(0) if same[0] != name else same.pop(1)
+                dropped = self.kept.pop(oldest)
+                self.size -= 0 if is_none else len(dropped.result().data)
 
     async def load(self, name: bytes) -> Manifest:
         async with self.turn:

@@ -3,6 +3,7 @@
 A folder has `about` (for how long the file is kept, and in which epoch it began), `names` (33 bytes for each piece that
 is certified: its identifier, and 1 where it was there before), the pieces behind these in files by their numbers, of
 which the last one grows, and `told` once the upload is finished. Its own name begins with who began it."""
+import collections
 import contextlib
 import fcntl
 import hashlib
@@ -20,13 +21,12 @@ from .chunks import MARK, NAME, PIECE
 from .pieces import Mapped, write
 from .problems import Problem
 
-ALL, OF_ONE, FINISHED = (
-    64,
-    8,
-    1_000,
-)  # uploads that are not finished, and of one who sends; that are known once they are
+ALL, OF_ONE = 64, 8  # uploads that are not finished, and of one who sends
+FINISHED = 256  # uploads that are known once they are finished
+LULL = 600  # seconds without a byte after which one of many uploads gives its place to who has fewer
 IDLE, KNOWN = 86_400, 3_600  # seconds without a byte until an upload is dropped; for which a finished one is known
 RECORD = NAME + 1
+STRANGER, HOLDER = "a", "b"  # what the names begin with of uploads of an address, and of a token
 GONE = "there is no such upload, or it was dropped: begin it again, and what is certified is not stored again"
 
 
@@ -139,37 +139,53 @@ class Unfinished:
         self.folder = folder
         self.sweep()
 
-    def sweep(self) -> dict[str, bool]:
-        """Drops uploads of which nothing came for long; of those that stay, whether each is finished."""
-        found = list[tuple[float, str, bool]]()
-        for path in sorted(self.folder.iterdir()) if self.folder.exists() else []:
+    def sweep(self) -> dict[str, float]:
+        """Drops uploads of which nothing came for long; of those that are not finished, when something came last."""
+        found, done, now = dict[str, float](), list[tuple[float, str]](), time.time()
+        for name in os.listdir(self.folder) if self.folder.exists() else []:
+            path = f"{self.folder}/{name}"
             with contextlib.suppress(FileNotFoundError):
-                about, finished = path / "about", (path / "told").exists()
-                touched = (about if about.exists() else path).stat().st_mtime
-                if time.time() > touched + (KNOWN if finished else IDLE):
+                finished = os.path.exists(f"{path}/told")
+                touched = os.stat(f"{path}/about" if os.path.exists(f"{path}/about") else path).st_mtime
+                if now > touched + (KNOWN if finished else IDLE):
                     shutil.rmtree(path, ignore_errors=True)
+                elif finished:
+                    done.append((touched, name))
                 else:
-                    found.append((touched, path.name, finished))
-        done = [name for _, name, finished in sorted(found) if finished]
-        for name in done[: max(0, len(done) - FINISHED)]:
+                    found[name] = touched
+        for _, name in sorted(done)[: max(0, len(done) - FINISHED)]:
             shutil.rmtree(self.folder / name, ignore_errors=True)
-        return {name: finished for _, name, finished in found}
+        return found
 
     def create(self, owner: str, about: dict[str, Any]) -> Upload:
         """Begins an upload, unless there are too many; who began it is part of its name."""
-        mine, known = mark_of(owner), [name for name, finished in self.sweep().items() if not finished]
+        mine, known = mark_of(owner), self.sweep()
         if sum(name.startswith(mine) for name in known) >= OF_ONE:
             text = f"{OF_ONE} uploads are not finished: go on with one of them, or end one with DELETE"
             raise Problem(429, text, {"Retry-After": "60"})
-        if len(known) >= ALL:
-            raise Problem(
-                503, f"{ALL} uploads of others are not finished: send a file of up to 16 MiB by PUT, or later"
-            )
+        strangers = sum(name.startswith(STRANGER) for name in known)
+        is_full = len(known) >= ALL and not self.make_place(mine, known)
+        if is_full or mine.startswith(STRANGER) and strangers >= ALL // 2:
+            count = len(known) if is_full else strangers
+            text = f"{count} uploads of others are not finished: send a file of up to 16 MiB by PUT, or later"
+            raise Problem(503, text)
         made = self.folder / (mine + secrets.token_hex(16))
         made.mkdir(parents=True, mode=0o700)
         (made / "names").touch()
         (made / "about").write_text(json.dumps(about))
         return Upload(made)
+
+    def make_place(self, mine: str, known: dict[str, float]) -> bool:
+        """Drops an upload of who has most of them, if nothing came to it for a while and who comes has fewer."""
+        counts = collections.Counter(name[: len(mine)] for name in known)
+        owner, most = counts.most_common(1)[0]
+        name = min((it for it in known if it.startswith(owner)), key=lambda it: known[it])
+        if most <= counts[mine] + 1 or time.time() < known[name] + LULL:
+            return False
+        with contextlib.suppress(OSError), open(self.folder / name / "about", "rb") as lock:
+            fcntl.flock(lock, fcntl.LOCK_EX | fcntl.LOCK_NB)  # unless somebody is at it
+            shutil.rmtree(self.folder / name, ignore_errors=True)
+        return not (self.folder / name).exists()
 
     def lock(self, owner: str, name: str) -> Optional[IO[bytes]]:
         """What keeps others from changing an upload while it is open; nothing while somebody is at it."""
@@ -200,4 +216,5 @@ def is_of(owner: str, name: str) -> bool:
 
 def mark_of(owner: str) -> str:
     """What the names of someone's uploads begin with."""
-    return hashlib.sha256(owner.encode("utf-8", "surrogateescape")).hexdigest()[:16]
+    kind = STRANGER if owner.startswith("address ") else HOLDER
+    return kind + hashlib.sha256(owner.encode("utf-8", "surrogateescape")).hexdigest()[:15]

@@ -18,8 +18,8 @@ from .entries import LAST_UNTIL
 from .guard import PASSED_ON
 from .problems import Problem, as_json
 from .publishing import LISTED, Publisher, as_known, failed_with
-from .reading import WAITING
 from .shares import Charge
+from .turns import WAITING, owner_of
 from .unfinished import IDLE, Unfinished, Upload, is_of
 
 VERSION, KIND = "6", "application/partial-upload"
@@ -150,9 +150,7 @@ class Uploads:
             self.kept.drop(upload)
             raise Problem(410, "the time for which this file was to be kept is over: begin it again, for more epochs")
         try:
-            async with contextlib.AsyncExitStack() as stack:
-                async with asyncio.timeout(WAITING):
-                    await stack.enter_async_context(self.publisher.uploads)
+            async with self.publisher.uploads.take(owner_of(request)):
                 await self.take(upload, self.publisher.body(request, most, charge, None))
                 if is_last and length not in (None, upload.offset):
                     raise Problem(400, f"{upload.offset} of {length} bytes have come, and more was to come")
@@ -247,13 +245,6 @@ def hears_early(request: web.Request) -> bool:
     wished = request.headers.get("Upload-Draft-Interop-Version") == VERSION
     passed_on = any(name in request.headers for name in PASSED_ON)
     return wished and request.version == aiohttp.HttpVersion11 and not passed_on
-
-
-def owner_of(request: web.Request) -> str:
-    """Who an upload belongs to: a token, or an address that shows none."""
-    token = request["token"]
-    shown = token and "Authorization" in request.headers
-    return f"token {token.name}" if shown else f"address {request['address']}"
 
 
 def whole(request: web.Request) -> bool:

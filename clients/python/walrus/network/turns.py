@@ -1,0 +1,37 @@
+"""Places for what takes long: so many at once, of which one who asks has a part, so that nobody has them all."""
+import asyncio
+import contextlib
+import weakref
+from typing import AsyncIterator
+
+from aiohttp import web
+
+from .limits import key_of
+
+WAITING = 60.0  # seconds for which one waits for a turn
+PARTS = 4  # one who asks has at most one of so many parts of the places, unless it is said otherwise
+
+
+class Turns:
+    """So many places, and of these so many for one."""
+
+    def __init__(self, most: int, each: int = 0):
+        self.all, self.each = asyncio.Semaphore(most), each or max(1, most // PARTS)
+        self.own: "weakref.WeakValueDictionary[str, asyncio.Semaphore]" = weakref.WeakValueDictionary()
+
+    @contextlib.asynccontextmanager
+    async def take(self, owner: str) -> AsyncIterator[None]:
+        """Has a place while it runs; raises `TimeoutError` where none becomes free for long."""
+        own = self.own.setdefault(owner, asyncio.Semaphore(self.each))  # stays while somebody has it
+        async with contextlib.AsyncExitStack() as stack:
+            async with asyncio.timeout(WAITING):
+                await stack.enter_async_context(own)
+                await stack.enter_async_context(self.all)
+            yield
+
+
+def owner_of(request: web.Request) -> str:
+    """Who asks: a token, or an address that shows none."""
+    token = request["token"]
+    shown = token and "Authorization" in request.headers
+    return f"token {token.name}" if shown else f"address {key_of(request['address'])}"

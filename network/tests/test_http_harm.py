@@ -1,0 +1,177 @@
+"""Who would harm others at a gateway: one who takes all places, has much computed for little, or holds what is read."""
+import asyncio
+import collections
+import contextlib
+import hashlib
+import os
+import threading
+import time
+import unittest
+from typing import Any
+from unittest import mock
+
+from folder_case import manifest_of
+from guard_case import GuardCase
+from http_case import DRAWN
+from walrus import client
+from walrus.frames import answer
+from walrus.network import connections, digests, folders, intake, metrics, turns, unfinished
+from walrus.network.local import free_port
+from walrus.network.manifest import Place
+
+LATER = {"Upload-Complete": "?0"}
+
+
+class Harm(GuardCase):
+    def keep(self, data: bytes) -> str:
+        """The identifier of a blob that is there."""
+        name = hashlib.sha256(data).hexdigest()
+        self.files[name] = data
+        return name
+
+    async def begin(self, **shown: str) -> int:
+        return (await self.ask("POST", "/v1/uploads?epochs=1", headers={**LATER, **shown}))[0]
+
+    async def test_nobody_has_all_turns_to_store(self) -> None:
+        alice, bob = self.token("alice"), self.token("bob")
+        await self.start(uploads=8)
+        self.enterContext(mock.patch.object(turns, "WAITING", 0.3))
+        uploads = self.gateway.publisher.uploads
+        async with contextlib.AsyncExitStack() as stack:
+            for _ in range(2):
+                await stack.enter_async_context(uploads.take("token alice"))
+            self.assertEqual((await self.put(headers=alice), await self.put(headers=bob)), (503, 201))
+            told = await self.ask("POST", f"/v1/extend/{'0' * 64}?epochs=1", headers=alice)
+            self.assertEqual(told[0], 503)  # of a long folder that asks nodes for minutes
+        self.assertEqual(await self.put(headers=alice), 201)
+
+    async def test_uploads_of_some_leave_places_for_others(self) -> None:
+        self.token("anyone")
+        alice, bob, carol = (self.token(it) for it in ("alice", "bob", "carol"))
+        await self.start()
+        with mock.patch.object(unfinished, "ALL", 6):
+            self.assertEqual([await self.begin() for _ in range(4)], [201] * 3 + [503])  # strangers have a half
+            self.assertEqual([await self.begin(**alice) for _ in range(4)], [201] * 3 + [503])
+            self.assertEqual(await self.begin(**bob), 503)  # the others go on just now
+            for path in self.folder.glob("tokens.uploads/*/about"):
+                os.utime(path, (time.time() - 700, time.time() - 700))
+            self.assertEqual((await self.begin(**alice), await self.begin(**bob)), (503, 201))
+            self.assertEqual((await self.begin(**carol), await self.begin(**bob)), (201, 503))
+            counts = collections.Counter(path.name[:16] for path in self.folder.glob("tokens.uploads/*"))
+            self.assertEqual(sorted(counts.values()), [1, 1, 2, 2])  # the two who had three gave one each
+
+    async def test_what_one_finished_is_known_and_costs_the_next_little(self) -> None:
+        await self.start()
+        kept = unfinished.Unfinished(self.folder / "many")
+        for number in range(400):
+            folder = self.folder / "many" / f"{number:048x}"
+            folder.mkdir(parents=True)
+            for it in ("about", "told"):
+                (folder / it).write_text("{}")
+        kept.sweep()
+        self.assertEqual(len(os.listdir(self.folder / "many")), unfinished.FINISHED)
+
+    async def test_a_network_of_ipv6_counts_as_one_address(self) -> None:
+        made = connections.Counted.__new__(connections.Counted)
+        made.proxies = {"2001:db8:9::9"}
+        found = []
+        for peer in ("2001:db8:1:2::3", "2001:db8:1:2:9::4", "2001:db8:1:3::3", "192.0.2.7", "::ffff:192.0.2.7"):
+            transport = mock.Mock()
+            transport.get_extra_info.return_value = (peer, 1)
+            found.append(made.whom(transport))
+        self.assertEqual(found[0], found[1])
+        self.assertEqual(found[3], found[4])
+        self.assertEqual(len({it for it, _ in found}), 3)
+        self.assertEqual({most for _, most in found}, {connections.EACH})
+
+    async def test_who_reads_slowly_keeps_others_from_nothing(self) -> None:
+        await self.start(room=8 * 16_777_216)
+        names = [self.keep(DRAWN.randbytes(8_000_000)) for _ in range(4)]
+        self.assertEqual(self.gateway.reader.sendings.each, 2)
+        self.enterContext(mock.patch.object(turns, "WAITING", 60.0))
+        readers = [await asyncio.open_connection("127.0.0.1", self.port, limit=4_096) for _ in names]
+        for name, (reader, writer) in zip(names, readers):
+            writer.write(f"GET /v1/blobs/{name} HTTP/1.1\r\nHost: 127.0.0.1:{self.port}\r\n\r\n".encode())
+            self.assertIn(b"200", await reader.readline())
+        await asyncio.sleep(1)
+        used = sum(it.users for it in self.gateway.reader.cache.entries.values())
+        self.assertEqual(used, 2)  # of what the four are sent, others may drop the rest
+        async with self.gateway.reader.sendings.take("address 192.0.2.1"):
+            pass  # somebody else's turn
+        for _, writer in readers:
+            writer.transport.abort()
+
+    async def test_a_digest_is_computed_once(self) -> None:
+        await self.start()
+        name = self.keep(b"x" * 100_000)
+        with mock.patch.object(digests, "sum_of", side_effect=digests.sum_of) as computed:
+            for _ in range(3):
+                wanted = {"Want-Repr-Digest": "sha-256=1", "Range": "bytes=0-0"}
+                status, headers, _ = await self.ask("GET", f"/v1/blobs/{name}", headers=wanted)
+                self.assertEqual((status, "repr-digest" in headers), (206, True))
+        self.assertEqual(computed.call_count, 1)
+
+    async def test_long_lists_of_folders_are_made_beside_what_others_ask(self) -> None:
+        await self.start()
+        made = manifest_of(*(Place(f"{it:05}", "a/b", 0, b"") for it in range(10_000)))
+        path, usual, running, found = f"/v1/folders/{self.keep(made)}/", folders.listing, list[int](), list[int]()
+
+        def listing(*words: Any) -> Any:
+            running.append(threading.get_ident())
+            found.append(len(running))
+            self.assertNotEqual(running[-1], threading.main_thread().ident)
+            try:
+                return usual(*words)
+            finally:
+                running.pop()
+
+        with mock.patch.object(folders, "listing", listing):
+            told = await asyncio.gather(*(self.ask("GET", path) for _ in range(4)))
+        self.assertEqual([status for status, _, _ in told], [200] * 4)
+        self.assertEqual(found, [1] * 4)  # of one who asks one at a time
+
+
+class AtNodes(unittest.IsolatedAsyncioTestCase):
+    async def test_a_blob_that_comes_again_costs_the_ledger_nothing(self) -> None:
+        node, shard, whole = mock.MagicMock(), mock.MagicMock(epoch=3), mock.MagicMock(identifier=bytes(32))
+        node.name = "node-0"
+        shard.put_whole, node.durable = mock.AsyncMock(return_value=[answer(client.COUNTS[0])]), mock.AsyncMock()
+        ledger_hears, posted = asyncio.Event(), list[str]()
+
+        async def post(text: str, _: object) -> None:
+            posted.append(text)
+            await ledger_hears.wait()
+
+        node.recorders.post = post
+        node.ledger.voted.return_value, node.ledger.writing_epoch, node.sides = False, 3, {3: {0: shard}}
+        made = intake.Intake(node)
+        with mock.patch.object(intake.Whole, "read", return_value=whole):
+            for _ in range(5):  # while the ledger is away
+                self.assertEqual(await made.store(0, memoryview(b"")), [answer(client.DONE)])
+                await asyncio.sleep(0.01)
+            self.assertEqual((len(posted), len(made.words)), (1, 1))
+            ledger_hears.set()
+            await asyncio.gather(*made.words.values())
+            await asyncio.sleep(0)
+            node.ledger.voted.return_value = True
+            await made.store(0, memoryview(b""))
+            await asyncio.sleep(0.01)
+            self.assertEqual((len(posted), len(made.words)), (1, 0))
+        await made.close()
+
+    async def test_many_connections_for_numbers_leave_descriptors_to_the_node(self) -> None:
+        port = free_port()
+        served = await metrics.serve(str(port), lambda: b"1\n")
+        self.addAsyncCleanup(served.end, 1)
+        opened = [await asyncio.open_connection("127.0.0.1", port) for _ in range(metrics.CONNECTIONS + 8)]
+        await asyncio.sleep(0.3)
+        ended = sum(reader.at_eof() or bool(reader.exception()) for reader, _ in opened)
+        self.assertEqual(ended, 8)
+        opened[0][1].write(b"GET /metrics HTTP/1.1\r\nHost: x\r\n\r\n")
+        self.assertIn(b"200", await opened[0][0].readline())
+        for _, writer in opened:
+            writer.transport.abort()
+
+
+if __name__ == "__main__":
+    unittest.main()
