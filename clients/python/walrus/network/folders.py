@@ -1,6 +1,7 @@
 """Folders over HTTP: a tar or a form goes in, and each file comes out under its path, as from a server of a site."""
 import asyncio
 import base64
+import functools
 import html
 import json
 import re
