@@ -369,6 +369,7 @@ class Folders(GuardCase):
             "/livez",
             "/v1/blobs",
             "/page.js",
+            "/v1/uploads/1",
             f"/v1/blobs/{name}",
             f"/v1/folders/{name}/",
         ):

@@ -1,4 +1,5 @@
 """What people know from gateways of Walrus and from HTTP: names in base64url, answers to PUT, digests, HEAD, DELETE."""
+import asyncio
 import base64
 import contextlib
 import hashlib
@@ -175,7 +176,27 @@ class Asked(client.Shard):
         return [client.Reply({client.METADATA: self.metadata}, client.Answer(0, 1, 0))]
 
 
+class Hung(Asked):
+    """A shard that does not reply."""
+
+    async def ask(self, *requests: bytes) -> list[client.Reply]:
+        await asyncio.Event().wait()
+        raise AssertionError
+
+
 class Heads(GuardCase):
+    async def test_who_is_late_keeps_nobody_from_a_length(self) -> None:
+        await self.start()
+        blob, hung = await self.network.walrus.encode(b"x" * 700, 1), [Hung(number, b"", []) for number in range(3)]
+        for count in (2, 3):  # as many as are asked first, and with another one
+            seats: Any = [*hung[:count], *(Asked(number, blob.metadata, []) for number in range(count, 4))]
+            for it in hung:
+                it.late = False
+            with mock.patch.object(self.network.peers, "seats", lambda *_: seats):
+                with mock.patch("random.sample", lambda found, count: [*found]), mock.patch("random.shuffle"):
+                    async with asyncio.timeout(60):
+                        self.assertEqual(await Lengths(self.network).of_blob(blob.identifier), 700)
+
     async def test_a_head_asks_no_bytes_beyond_the_metadata(self) -> None:
         true_length = Reader.length_alone
         await self.start()

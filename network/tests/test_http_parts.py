@@ -18,7 +18,8 @@ import walrus.network  # noqa: E402, F401
 from walrus import client  # noqa: E402
 from walrus.network import chunks, forms, pieces, problems, ranges, transfers  # noqa: E402
 from walrus.network.cache import EXTRA, Cache  # noqa: E402
-from walrus.network.reading import Options, Pace, Reader  # noqa: E402
+from walrus.network.exposure import Options  # noqa: E402
+from walrus.network.reading import Pace, Reader  # noqa: E402
 
 PIECE = 16_777_216
 

@@ -87,6 +87,17 @@ class ShardCase(unittest.IsolatedAsyncioTestCase):
         self.assertTrue(self.store.flush())
         return parts
 
+    async def whole(self, size: int) -> Whole:
+        """A registered blob, as it comes whole to the shard."""
+        encoded = await self.walrus.encode(bytes(range(250)) * (size // 250), 1)
+        self.apply("x", "register", encoded.identifier.hex(), 9)
+        data = b"".join(map(bytes, request_of(encoded, 0)))
+        memory = place(client.Shape(1), len(data))
+        memory[:] = data
+        found = Whole.read(client.Shape(1), memory)
+        assert found
+        return found
+
     async def read(self, identifier: bytes) -> list[bytes]:
         return (await self.shard.answer(client.write_frame(client.Read(identifier))))[:-1]
 
@@ -121,6 +132,21 @@ class Disk(ShardCase):
         self.assertEqual(
             code_of(await self.shard.put((await self.walrus.encode(b"x", 1)).metadata)), shard.UNREGISTERED
         )
+
+    async def test_who_wants_the_metadata_alone_costs_no_sliver(self) -> None:
+        metadata, primary, _ = await self.put(bytes(range(250)) * (LARGE // 250))
+        sizes, ask = list[int](), self.judges.ask
+
+        async def measured(size: int, *words: Any) -> Any:
+            sizes.append(size)
+            return await ask(size, *words)
+
+        with mock.patch.object(self.judges, "ask", measured):
+            for index in (999, 4, 3):
+                symbol = client.write_frame(client.Symbol(primary[1:33], client.PRIMARY, index))
+                said = await self.shard.answer(symbol)
+                self.assertEqual((said[0], len(said)), (metadata, 3 if index == 3 else 2))
+        self.assertEqual([size < SMALL for size in sizes], [True, True, False], sizes)
 
     async def flip(self, spoil: Any) -> None:
         """A part is spoilt behind the node's back: it never leaves, is known then, and another takes its place."""
@@ -280,17 +306,6 @@ class Trouble(ShardCase):
             self.assertEqual(code_of(await self.shard.put(primary)), shard.FULL)
         self.assertEqual(self.files(), [])
         self.assertEqual(code_of(await self.shard.put(primary)), client.DONE)
-
-    async def whole(self, size: int) -> Whole:
-        """A registered blob, as it comes whole to the shard."""
-        encoded = await self.walrus.encode(bytes(range(250)) * (size // 250), 1)
-        self.apply("x", "register", encoded.identifier.hex(), 9)
-        data = b"".join(map(bytes, request_of(encoded, 0)))
-        memory = place(client.Shape(1), len(data))
-        memory[:] = data
-        found = Whole.read(client.Shape(1), memory)
-        assert found
-        return found
 
     async def test_of_a_blob_that_comes_whole_all_is_stored_or_nothing(self) -> None:
         assert self.store
@@ -492,6 +507,12 @@ class Recovery(NodeCase):
         self.assertEqual((progress.of, progress.blobs, progress.bytes), (1, 1, 5 * 500), progress)
         self.assertEqual(progress.of_bytes, progress.bytes)
 
+    async def test_who_recovers_the_same_at_once_asks_for_it_once(self) -> None:
+        name, node = await self.lacks(LARGE), self.node({0: {0: self.shard}})
+        left = await asyncio.gather(*(recovery.settle(node, 0, [name]) for _ in range(2)))
+        self.assertEqual(left, [0, 0])
+        self.assertEqual([seat.asked.count(2) for seat in self.seats], [0, 1, 1, 0])  # for openings of both slivers
+
     async def test_where_one_fails_another_is_asked_at_once(self) -> None:
         for number, how in ((1, "fails"), (2, "fails"), (1, "clashes"), (2, "clashes")):
             name = await self.lacks(700)
@@ -614,6 +635,54 @@ class Committees(NodeCase):
         self.assertEqual(({it: it.stat().st_ino for it in self.files()}, len(left)), (left, 2))
         with self.assertRaises(ConnectionError):
             await self.shard.answer(ask)
+
+    async def test_who_asks_while_the_committee_turns_hears_that_of_now(self) -> None:
+        assert self.store
+        parts = await self.put(bytes(LARGE))
+        self.apply(OPERATOR, "begin", 1, 1, "a,b,c,e")
+        node, asked, over = self.node({0: {0: self.shard}, 1: {0: self.side(1)}}), asyncio.Event(), asyncio.Event()
+        node.reply, node.route = types.MethodType(Node.reply, node), types.MethodType(Node.route, node)
+        ask = self.judges.ask
+
+        async def wait(*words: Any) -> Any:
+            asked.set()
+            await over.wait()
+            return await ask(*words)
+
+        with mock.patch.object(self.judges, "ask", wait):
+            reading = asyncio.create_task(node.reply(0, client.write_frame(client.Read(parts[1][1:33]))))
+            await asked.wait()
+            for poster in "abc":
+                self.apply(poster, "ready", 1)
+            self.apply("a", "finish", 1)
+            self.store.turn(1, [])
+            del node.sides[0]
+            over.set()
+            said = [bytes(payload) for _, payload in client.split((await reading).data)]
+        self.assertEqual(said[:2], [bytes(it) for it in parts[:2]])
+
+    async def test_a_blob_that_comes_whole_late_is_not_for_the_committee_before(self) -> None:
+        assert self.store
+        whole = await self.whole(LARGE)
+        async with self.store.alone(self.shard.holding, whole.identifier):
+            storing = asyncio.create_task(self.shard.put_whole(whole))
+            await asyncio.sleep(0)
+            self.apply(OPERATOR, "begin", 1, 1, "a,b,c,e")
+        self.assertEqual(code_of(await storing), shard.DECLINED)
+        later = self.side(1)
+        self.assertEqual([it.lacks(whole.identifier) for it in (self.shard, later)], [[0, 1, 2]] * 2)
+        self.assertEqual(code_of(await later.put_whole(whole)), 13)
+
+    async def test_where_the_ledger_was_saved_before_a_turn_what_is_held_is_held(self) -> None:
+        assert self.store
+        parts = await self.put(b"held")
+        later = self.store.begin(1, 0)
+        self.store.turn(1, [])
+        self.assertIsNone(self.store.holding(0, 0))
+        before = self.side(0)  # as a start has it whose ledger knows of no turn yet
+        self.assertEqual(before.holding, later)
+        said = await before.answer(client.write_frame(client.Read(parts[1][1:33])))
+        self.assertEqual(said[:-1], parts[:2])
 
     async def test_what_the_next_committee_forgets_this_one_has_still(self) -> None:
         assert self.store

@@ -1,4 +1,4 @@
-"""What a gateway is told about who may reach it and how: names, tokens, certificates, limits and a log."""
+"""What a gateway is told: what it may use, and who may reach it and how, by names, tokens, certificates and limits."""
 import argparse
 import dataclasses
 from typing import Any
@@ -18,6 +18,24 @@ class Exposure:
     log: str = ""  # a file for a line for each request; - is standard output
     requests: float = 1_000.0  # a second, of a token and of an address; any number, where it is 0
     rate: float = 0.0  # bytes a second, of a token and of an address; any number, where it is 0
+
+
+@dataclasses.dataclass
+class Options(Exposure):
+    """What a gateway may use, how long it tries, and how it is exposed."""
+
+    memory: int = 268_435_456  # bytes of the whole gateway, whatever it is asked
+    room: int = 2_147_483_648  # bytes of the disk for blobs that were read
+    most: int = 17_179_869_184  # bytes of a file
+    uploads: int = 256  # files that come in at once
+    turns: int = 2  # blobs that are encoded at once
+    connections: int = 900
+    epochs: int = 100  # for which a file is kept at most
+    stale: float = 30.0  # seconds for which the ledger may be away before nothing is served that rests on it
+    seconds: float = 10.0  # for which a blob of which too little is heard is asked for again
+    patience: float = 30.0  # seconds in which a shard must answer
+    probe: float = 3.0  # seconds between two questions whether nodes answer
+    challenge: float = 60.0  # seconds between two challenges; none where it is 0
 
 
 WORDS: dict[str, tuple[Any, str]] = {

@@ -15,6 +15,7 @@ from .access import CommonLog, log_to
 from .announcing import Announcer
 from .client import Access, Network
 from .connections import Certificate, Counted, Server
+from .exposure import Options
 from .folders import PATHS, Folders
 from .follower import Unreachable
 from .guard import Guard
@@ -23,7 +24,7 @@ from .notify import ready
 from .page import Watch
 from .problems import ALONE, Problem, as_json, ledger_away, problem_of
 from .publishing import Publisher, expected, named
-from .reading import Options, Reader
+from .reading import Reader
 from .shelf import Shelf
 from .sorting import Sorter
 from .times import HEADERS, Times

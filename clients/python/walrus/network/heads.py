@@ -1,7 +1,5 @@
 """How long a file is, from the metadata of its blob alone wherever that tells it."""
-import asyncio
 import collections
-import random
 from typing import Optional
 
 from .. import client
@@ -35,23 +33,21 @@ class Lengths:
         return None if length is None or length > HEAD.size and not (length - HEAD.size) % NAME else length
 
     async def ask(self, identifier: bytes) -> Optional[int]:
-        """Asks f+1 shards after the other for what brings little beside the metadata, which its name proves."""
-        network, ledger = self.network, self.network.ledger
+        """Asks f+1 shards, and others where these are late or of no use, for what brings little beside the metadata,
+        which its name proves."""
+        ledger = self.network.ledger
         wanted = client.Symbol(identifier, client.PRIMARY, 999)  # which no shard has, or one of 1,000
-        asked, owners = client.write_frame(wanted), ledger.owners(ledger.home_epoch(identifier))
-        drawn = network.peers.seats(owners, ledger.faults)
-        random.shuffle(drawn)
-        while drawn:
-            some, drawn = drawn[: ledger.faults + 1], drawn[ledger.faults + 1 :]  # noqa: E203
-            tasks = [asyncio.create_task(client.listen(it, asked)) for it in some]
-            try:
-                for listening in asyncio.as_completed(tasks):
-                    _, kept, _ = await listening
-                    found = kept.get(client.METADATA, b"")
+        seats = self.network.peers.seats(ledger.owners(ledger.home_epoch(identifier)), ledger.faults)
+        listening = client.Listening(seats, client.write_frame(wanted))
+        listening.ask(ledger.faults + 1)
+        try:
+            while not listening.is_over():
+                said = await listening.next()
+                for found in [kept.get(client.METADATA, b"") for _, kept, _ in said]:
                     if found and name_of(found) == identifier:
                         front = 3 + (found[0] == client.SECOND_METADATA)
                         return int.from_bytes(found[front : front + 8], "big")  # noqa: E203
-            finally:
-                for task in tasks:
-                    task.cancel()
+                listening.ask(max(1, len(said)))
+        finally:
+            await listening.end()
         return None

@@ -200,11 +200,13 @@ class Judges:
         self.pool.shutdown(wait=False, cancel_futures=True)
 
 
-def parts_for(request: bytes) -> tuple[int, ...]:
+def parts_for(request: bytes, shards: int) -> tuple[int, ...]:
     """The parts of a blob on which the reply to a request rests, or more."""
     match request[0]:
         case client.READ:
             return METADATA, PRIMARY, PROOF
+        case client.SYMBOL if int.from_bytes(request[34:36], "big") >= shards:  # who asks so wants the metadata alone
+            return METADATA, PROOF
         case client.SYMBOL:  # a sliver has the openings of those that cross it
             return METADATA, PRIMARY + 1 - request[33], PROOF
         case client.SLIVER:

@@ -26,7 +26,7 @@ from .peers import Peers
 from .recovery import Progress, passing, settle
 from .scrub import Scrub
 from .settings import Settings
-from .shard import DECLINED, FULL, NO_MEMORY, Shard
+from .shard import DECLINED, FULL, NO_MEMORY, Past, Shard
 from .staged import TORN
 from .state import State
 from .store import Store
@@ -163,6 +163,8 @@ class Node(View):
             reply = await self.route(shard, request)
         except Busy:
             reply = [answer(NO_MEMORY)]  # it may come again
+        except Past:
+            return await self.reply(shard, request)  # by the committee of now
         except (OSError, sqlite3.OperationalError) as fault:  # of the system: it fails this request alone
             self.port.tell(f"{self.name}: a request fails: {fault}", "failed")
             raise ConnectionError(str(fault)) from fault

@@ -6,9 +6,9 @@ from . import exposure, gateway, node, operating, recording, restoring, up
 from .certificates import AUTHORITY_DAYS, DAYS
 from .checking import check
 from .client import Access
+from .exposure import Options
 from .founding import GATEWAY_PORT, Founding, found
 from .machine import Place
-from .reading import Options
 from .settings import GatewaySettings, RecorderSettings, Settings
 from .transfers import Failure
 

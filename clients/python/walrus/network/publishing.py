@@ -1,6 +1,5 @@
 """The publisher: files that come over HTTP are stored, within the share of the token that is shown for them."""
 import base64
-import functools
 import hashlib
 import pathlib
 import re
@@ -15,12 +14,14 @@ from .chunks import LONGEST, Told, Writer
 from .client import Network
 from .forms import HEAD
 from .entries import LAST_EPOCH, LAST_UNTIL
+from .exposure import Options
 from .listing import Lister
 from .problems import Problem, as_json, problem_of
-from .reading import LEAST, Options, Pace, Reader
+from .reading import LEAST, Pace, Reader
 from .shares import Charge, Shares
 from .turns import Turns, owner_of
 
+Store = Callable[[AsyncIterator[bytes], int, list[bytes]], Awaitable[Told]]
 LISTED = 1_000  # pieces that are named at most where a file was not stored
 LONGEST_FORM = client.LARGEST_BLOB + (1 + 2 * client.MOST_FAULTS) * HEAD
 
@@ -90,7 +91,10 @@ class Publisher:
 
     async def post_bundle(self, request: web.Request) -> web.Response:
         kind, charge = request.headers.get("Content-Type", ""), self.charge(request)
-        store = functools.partial(self.writer.store_bundle, kind, charge.replace)
+
+        async def store(stream: AsyncIterator[bytes], epochs: int, stored: list[bytes]) -> Told:
+            return await self.writer.store_bundle(kind, charge.replace, stream, epochs, stored)
+
         return await self.upload(request, LONGEST_FORM, charge, store)
 
     def rights(self, request: web.Request, refusal: str) -> dict[str, Any]:
@@ -137,7 +141,7 @@ class Publisher:
         request: web.Request,
         most: int,
         charge: Charge,
-        store: Callable[..., Awaitable[Told]],
+        store: Store,
         is_file: bool = False,
     ) -> web.Response:
         """Has an upload of at most so many bytes stored once it is its turn."""

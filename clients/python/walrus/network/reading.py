@@ -2,7 +2,6 @@
 import asyncio
 import collections
 import contextlib
-import dataclasses
 import itertools
 import secrets
 import sys
@@ -15,7 +14,7 @@ from . import digests, ranges
 from .cache import Cache
 from .chunks import NAME, File
 from .client import Network
-from .exposure import Exposure
+from .exposure import Options
 from .heads import Lengths
 from .limits import Flow
 from .pieces import Memory, let_go, put_away, reading_needs
@@ -28,24 +27,6 @@ AHEAD = 5  # pieces of a file that are read at once for who takes it
 SILENCE, SUMS = 30.0, 65_536  # seconds in which a slice must go out or anything come in; digests that are kept
 GRACE, LEAST = 60.0, 32_768  # seconds for which a client may be slower than so many bytes a second, in all
 FOREVER = {"Cache-Control": "public, max-age=31536000, immutable", "Accept-Ranges": "bytes"}
-
-
-@dataclasses.dataclass
-class Options(Exposure):
-    """What a gateway may use, how long it tries, and how it is exposed."""
-
-    memory: int = 268_435_456  # bytes of the whole gateway, whatever it is asked
-    room: int = 2_147_483_648  # bytes of the disk for blobs that were read
-    most: int = 17_179_869_184  # bytes of a file
-    uploads: int = 256  # files that come in at once
-    turns: int = 2  # blobs that are encoded at once
-    connections: int = 900
-    epochs: int = 100  # for which a file is kept at most
-    stale: float = 30.0  # seconds for which the ledger may be away before nothing is served that rests on it
-    seconds: float = 10.0  # for which a blob of which too little is heard is asked for again
-    patience: float = 30.0  # seconds in which a shard must answer
-    probe: float = 3.0  # seconds between two questions whether nodes answer
-    challenge: float = 60.0  # seconds between two challenges; none where it is 0
 
 
 class Reader:

@@ -113,7 +113,9 @@ async def settle(node: "Node", epoch: int, owed: Iterable[bytes]) -> int:
             progress.of_bytes += sizes[lack]
 
     async def recover(lack: Lack) -> None:
-        await fill(node, *lack)
+        async with node.store.alone(lack.shard.holding, lack.identifier, "recover"):  # others may lack it too
+            if not lack.shard.settled(lack.identifier):
+                await fill(node, *lack)
         if lack.shard.settled(lack.identifier):
             progress.blobs, progress.bytes = progress.blobs + 1, progress.bytes + sizes.get(lack, 0)
 

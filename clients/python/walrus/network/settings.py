@@ -4,7 +4,7 @@ import pathlib
 from typing import ClassVar
 
 from .configuration import settings_of
-from .reading import Options
+from .exposure import Options
 
 
 @dataclasses.dataclass

@@ -26,6 +26,10 @@ NAMES = "metadata", "primary sliver", "secondary sliver", "proof"
 Found = tuple[list[list[bytes]], list[int]]  # replies, and the parts that are not what they should be
 
 
+class Past(ConnectionError):
+    """The committee of a shard serves no more."""
+
+
 class Judged(NamedTuple):
     """Requests, what the judge replied to each, and which parts are wrong; when that was, and over how many bytes."""
 
@@ -83,7 +87,7 @@ class Shard:
     def must_serve(self) -> None:
         """Raises where its committee is none any more: of what was judged meanwhile nothing is told or kept."""
         if self.epoch not in (self.ledger.epoch, self.ledger.writing_epoch):
-            raise ConnectionError(f"the committee of {self.title} serves no more")
+            raise Past(f"the committee of {self.title} serves no more")
 
     async def judged(
         self,
@@ -121,7 +125,8 @@ class Shard:
 
     async def sure(self, identifier: bytes, request: bytes) -> Judged:
         """What the judge says over what is held and is what it should be; the rest is left out from here on."""
-        wanted, step = {*judge.parts_for(request)}, functools.partial(self.over, request)
+        shards, step = client.Shape(self.ledger.faults).shards, functools.partial(self.over, request)
+        wanted = {*judge.parts_for(request, shards)}
         while (judged := await self.judged(identifier, [request], step, wanted)).wrong:
             self.mark(identifier, judged.wrong)
             wanted -= {*judged.wrong, *(ALL if METADATA in judged.wrong else ())}
@@ -167,6 +172,8 @@ class Shard:
             return whole.judge(self.judges.engine, self.ledger.faults, self.number, told), []
 
         async with self.store.alone(self.holding, identifier):
+            if self.epoch != self.ledger.writing_epoch:
+                return [answer(DECLINED)]  # the next committee has begun with what was held then
             if self.store.sizes(self.holding, self.epoch, identifier) or self.store.wrong(self.holding, identifier):
                 return []
             judged = await self.judged(identifier, [*whole.parts, whole.wish], step)

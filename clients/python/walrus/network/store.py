@@ -68,7 +68,7 @@ class Store(Staged):
     def __init__(self, path: pathlib.Path, recorded: bool = False):
         super().__init__(path)
         self.recorded = recorded
-        self.locks: "weakref.WeakValueDictionary[tuple[int, bytes], asyncio.Lock]" = weakref.WeakValueDictionary()
+        self.locks: "weakref.WeakValueDictionary[tuple[object, ...], asyncio.Lock]" = weakref.WeakValueDictionary()
 
     def open_tables(self) -> None:
         """Finds the tables whole and of this version, or makes them."""
@@ -85,9 +85,9 @@ class Store(Staged):
             with contextlib.suppress(sqlite3.Error):
                 self.stage("INSERT INTO history VALUES (NULL, ?, ?, ?, ?, ?)", revision, epoch, shard, request, reply)
 
-    def alone(self, holding: int, identifier: bytes) -> asyncio.Lock:
-        """Who holds this asks of a blob alone."""
-        return self.locks.setdefault((holding, identifier), asyncio.Lock())
+    def alone(self, holding: int, identifier: bytes, to: str = "ask") -> asyncio.Lock:
+        """Who holds this asks of a blob alone, or does what else is named."""
+        return self.locks.setdefault((holding, identifier, to), asyncio.Lock())
 
     def holding(self, epoch: int, shard: int) -> Optional[int]:
         """What a shard of an epoch holds, by the number under which its parts stand."""
@@ -95,11 +95,12 @@ class Store(Staged):
         return int(row[0]) if row else None
 
     def begin(self, epoch: int, shard: int) -> int:
-        """Stages that a shard of an epoch goes on with what the same shard held in the epoch before, if it was here;
-        what it holds."""
+        """Stages that a shard of an epoch goes on with what the same shard held in the epoch before, if it was here, or
+        holds in the next one, of which the ledger knew no more at a start; what it holds."""
         if found := self.holding(epoch, shard):
             return found
-        holding = self.holding(epoch - 1, shard) or self.stage("INSERT INTO holdings VALUES (NULL)").lastrowid or 0
+        holding = self.holding(epoch - 1, shard) or self.holding(epoch + 1, shard)
+        holding = holding or self.stage("INSERT INTO holdings VALUES (NULL)").lastrowid or 0
         self.stage("INSERT INTO sides VALUES (?, ?, ?)", epoch, shard, holding)
         return holding
 

@@ -9,9 +9,9 @@ import time
 
 from . import gateway
 from .configuration import values_of
+from .exposure import Options
 from .local import Local, find_program
 from .operating import shards_of
-from .reading import Options
 from .transfers import Failure
 
 LONGEST = 600  # seconds until all is ready
