@@ -1,7 +1,6 @@
 """Folders over HTTP: a tar or a form goes in, and each file comes out under its path, as from a server of a site."""
 import asyncio
 import base64
-import functools
 import html
 import json
 import re
@@ -43,7 +42,10 @@ class Folders:
     async def put(self, request: web.Request) -> web.Response:
         options, publisher = self.publisher.options, self.publisher
         kind, costs = request.headers.get("Content-Type", ""), Costs(publisher.charge(request))
-        store = functools.partial(self.store, kind, costs)
+
+        async def store(stream: AsyncIterator[bytes], epochs: int, stored: list[bytes]) -> Told:
+            return await self.store(kind, costs, stream, epochs, stored)
+
         async with self.turns.take(owner_of(request)):
             response = await publisher.upload(request, min(options.most, LONGEST), costs, store)
         name = response.headers["Location"].rpartition("/")[2]
