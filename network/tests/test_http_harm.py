@@ -101,6 +101,16 @@ class Harm(GuardCase):
         for _, writer in readers:
             writer.transport.abort()
 
+    async def test_who_wants_the_same_has_one_place(self) -> None:
+        together = turns.Together(turns.Turns(4, 1))
+        async with together.take("a", b"1"), together.take("a", b"1"), together.take("b", b"2"):
+            with mock.patch.object(turns, "WAITING", 0.01), self.assertRaises(TimeoutError):
+                async with together.take("a", b"2"):
+                    self.fail("one who asks has two places")
+        self.assertEqual(together.groups, {})
+        async with together.take("a", b"2"):
+            self.assertEqual(len(together.groups), 1)
+
     async def test_a_digest_is_computed_once(self) -> None:
         await self.start()
         name = self.keep(b"x" * 100_000)
@@ -138,25 +148,28 @@ class AtNodes(unittest.IsolatedAsyncioTestCase):
         shard.put_whole, node.durable = mock.AsyncMock(return_value=[answer(client.COUNTS[0])]), mock.AsyncMock()
         ledger_hears, posted = asyncio.Event(), list[str]()
 
-        async def post(text: str, _: object) -> None:
+        def leave(text: str) -> "asyncio.Future[int]":
             posted.append(text)
-            await ledger_hears.wait()
+            return asyncio.ensure_future(heard())
 
-        node.recorders.post = post
+        async def heard() -> int:
+            await ledger_hears.wait()
+            return 1
+
+        node.recorders.leave = leave
         node.ledger.voted.return_value, node.ledger.writing_epoch, node.sides = False, 3, {3: {0: shard}}
         made = intake.Intake(node)
         with mock.patch.object(intake.Whole, "read", return_value=whole):
             for _ in range(5):  # while the ledger is away
                 self.assertEqual(await made.store(0, memoryview(b"")), [answer(client.DONE)])
                 await asyncio.sleep(0.01)
-            self.assertEqual((len(posted), len(made.words)), (1, 1))
+            self.assertEqual((len(posted), len(made.given)), (1, 1))
             ledger_hears.set()
-            await asyncio.gather(*made.words.values())
-            await asyncio.sleep(0)
+            await asyncio.sleep(0.01)
             node.ledger.voted.return_value = True
             await made.store(0, memoryview(b""))
             await asyncio.sleep(0.01)
-            self.assertEqual((len(posted), len(made.words)), (1, 0))
+            self.assertEqual((len(posted), len(made.given)), (1, 0))
         await made.close()
 
     async def test_many_connections_for_numbers_leave_descriptors_to_the_node(self) -> None:

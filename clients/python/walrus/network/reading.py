@@ -19,7 +19,7 @@ from .heads import Lengths
 from .limits import Flow
 from .pieces import Memory, let_go, put_away, reading_needs
 from .problems import ALONE, BAD, NO_BLOB, Problem
-from .turns import PARTS, WAITING, Turns, owner_of
+from .turns import PARTS, WAITING, Together, Turns, owner_of
 
 SLICE, KIND = 262_144, "application/octet-stream"
 BARE, READINGS = 73_400_320, 16  # bytes of a gateway that does nothing; blobs that are read at once, if memory allows
@@ -39,6 +39,7 @@ class Reader:
         self.bytes, self.lengths = collections.Counter[str](), Lengths(network)
         self.rejected: Callable[[bytes], None] = lambda identifier: None  # is told what was badly encoded
         self.sendings = Turns(options.connections, max(1, options.room // client.LARGEST_BLOB // PARTS))
+        self.together = Together(self.sendings)  # who sends one piece often holds it once
         self.sums: "collections.OrderedDict[bytes, bytes]" = collections.OrderedDict()
 
     def must_stand(self, name: bytes) -> None:
@@ -192,7 +193,7 @@ class Reader:
         for name, size, start, end in file.pieces(*span):
             async with contextlib.AsyncExitStack() as stack:
                 if size > SLICE:  # who takes it slowly keeps it from being dropped
-                    await stack.enter_async_context(self.sendings.take(owner))
+                    await stack.enter_async_context(self.together.take(owner, name))
                 blob = await stack.enter_async_context(self.blob(name, size))
                 self.read_ahead(itertools.islice(following, 1))
                 for place in range(start, end, SLICE):

@@ -1,8 +1,9 @@
 """Places for what takes long: so many at once, of which one who asks has a part, so that nobody has them all."""
 import asyncio
 import contextlib
+import dataclasses
 import weakref
-from typing import AsyncIterator
+from typing import AsyncIterator, Optional
 
 from aiohttp import web
 
@@ -28,6 +29,41 @@ class Turns:
                 await stack.enter_async_context(own)
                 await stack.enter_async_context(self.all)
             yield
+
+
+@dataclasses.dataclass
+class Group:
+    """Those of one owner who want the same, and the place that they have together."""
+
+    users: int = 0
+    place: Optional[contextlib.AsyncExitStack] = None
+    lock: asyncio.Lock = dataclasses.field(default_factory=asyncio.Lock)
+
+
+class Together:
+    """Places of which those of one owner who want the same have one together."""
+
+    def __init__(self, turns: Turns):
+        self.turns, self.groups = turns, dict[tuple[str, bytes], Group]()
+
+    @contextlib.asynccontextmanager
+    async def take(self, owner: str, name: bytes) -> AsyncIterator[None]:
+        """Has a part in a place while it runs; raises `TimeoutError` where none becomes free for long."""
+        group = self.groups.setdefault((owner, name), Group())
+        group.users += 1
+        try:
+            async with asyncio.timeout(WAITING), group.lock:
+                if not group.place:
+                    place = contextlib.AsyncExitStack()
+                    await place.enter_async_context(self.turns.take(owner))
+                    group.place = place
+            yield
+        finally:
+            group.users -= 1
+            if not group.users:
+                del self.groups[owner, name]
+                if group.place:
+                    await group.place.aclose()
 
 
 def owner_of(request: web.Request) -> str:
