@@ -11,14 +11,14 @@ import unittest
 from typing import Any
 from unittest import mock
 
-from harness import FOUR, ODD, NetworkCase, faked_clock, usage_of
+from harness import FOUR, HERE, ODD, NetworkCase, faked_clock, usage_of
 from http_case import GatewayCase
 
 from walrus import client
 from walrus.network import configuration, gateway, local
 from walrus.network.ledger import OPERATOR
 from walrus.network.page import Watch
-from walrus.network.peers import FIGURES, SCRUB
+from walrus.network.peers import FIGURES
 from walrus.network.settings import RecorderSettings, Settings
 from walrus.network.staged import TORN
 
@@ -325,7 +325,9 @@ class BadDays(NetworkCase):
                 self.flip(path, 50_000)
             (self.folder / "node-3.parts" / "ab").mkdir(exist_ok=True)
             (self.folder / "node-3.parts" / "ab" / "nobody").write_bytes(b"x")
-            told = await network.peers.told("node-3", SCRUB)
+            command = str(HERE.parent / "walrus-net"), "scrub", str(self.folder), "node-3", "--json"
+            begins = await asyncio.create_subprocess_exec(*command, stdout=asyncio.subprocess.PIPE)
+            told = json.loads((await begins.communicate())[0])
             self.assertEqual((told["held"]["blobs"], told["scrub"]["running"]), (6, False))
             await asyncio.sleep(4)
             begun = (await network.peers.told("node-3", FIGURES))["scrub"]
