@@ -18,7 +18,7 @@ from walrus import client
 from walrus.network import configuration, gateway, local
 from walrus.network.ledger import OPERATOR
 from walrus.network.page import Watch
-from walrus.network.peers import FIGURES
+from walrus.network.peers import FIGURES, SCRUB
 from walrus.network.settings import RecorderSettings, Settings
 from walrus.network.staged import TORN
 
@@ -325,9 +325,7 @@ class BadDays(NetworkCase):
                 self.flip(path, 50_000)
             (self.folder / "node-3.parts" / "ab").mkdir(exist_ok=True)
             (self.folder / "node-3.parts" / "ab" / "nobody").write_bytes(b"x")
-            command = str(HERE.parent / "walrus-net"), "scrub", str(self.folder), "node-3", "--json"
-            begins = await asyncio.create_subprocess_exec(*command, stdout=asyncio.subprocess.PIPE)
-            told = json.loads((await begins.communicate())[0])
+            told = await network.peers.told("node-3", SCRUB)
             self.assertEqual((told["held"]["blobs"], told["scrub"]["running"]), (6, False))
             await asyncio.sleep(4)
             begun = (await network.peers.told("node-3", FIGURES))["scrub"]
@@ -342,6 +340,11 @@ class BadDays(NetworkCase):
             self.assertEqual([told["scrub"][it] for it in ("begun", "blobs", "wrong")], [begun["begun"], 6, 2], told)
             await self.recovered("node-3", 12)
             self.assertEqual((self.folder / "node-3.parts" / "ab" / "nobody").exists(), False)
+            command = str(HERE.parent / "walrus-net"), "scrub", str(self.folder), "node-3", "--json"
+            again = await asyncio.create_subprocess_exec(*command, stdout=asyncio.subprocess.PIPE)
+            self.assertEqual(json.loads((await again.communicate())[0])["held"]["blobs"], 6)
+            told = await network.peers.told("node-3", FIGURES)
+            self.assertGreater(told["scrub"]["begun"], begun["begun"])
             for name in ("node-0", "node-1"):
                 await self.local.end(name, kill=True)
             await self.reads_all(network)

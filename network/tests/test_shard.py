@@ -294,11 +294,6 @@ class Disk(ShardCase):
         self.assertEqual(client.Answer(*struct.unpack(">BII", reply[1:])), client.Answer(shard.FULL, 1, 0))
         self.assertEqual(await self.read(primary[1:33]), [metadata, primary])
         self.assertEqual(code_of(await self.shard.put(parts[0], mends=True)), client.DONE)
-        for poster in "abc":
-            self.apply(poster, "attest", 0, primary[1:33].hex())
-        forget = client.FORGET.to_bytes(1, "big") + primary[1:33]
-        self.assertEqual(code_of(await self.shard.forget(forget)), client.DONE)
-        self.assertEqual(self.shard.lacks(primary[1:33]), [PRIMARY, SECONDARY])
 
 
 @unittest.skipIf(lacking(), f"{lacking()} is not here (network/install)")
