@@ -44,6 +44,14 @@ async def expected(request: web.Request) -> None:
         raise web.HTTPExpectationFailed()
 
 
+def must_be_plain(request: web.Request) -> None:
+    """Raises where a request does not bring the bytes of a file themselves, from their beginning on."""
+    if request.headers.get("Content-Encoding", "identity").lower() != "identity":
+        raise Problem(415, "a file is stored as it comes: send it without Content-Encoding")
+    if "Content-Range" in request.headers:
+        raise Problem(400, "what is stored begins where the request does: send it without Content-Range")
+
+
 class Publisher:
     """Stores files for whoever may. `used` is the database of what tokens have used."""
 
@@ -146,10 +154,7 @@ class Publisher:
     ) -> web.Response:
         """Has an upload of at most so many bytes stored once it is its turn."""
         epochs = self.epochs(request)
-        if request.headers.get("Content-Encoding", "identity") != "identity":
-            raise Problem(415, "a file is stored as it comes: send it without Content-Encoding")
-        if "Content-Range" in request.headers:
-            raise Problem(400, "a file is stored as a whole: send it without Content-Range")
+        must_be_plain(request)
         if (request.content_length or 0) > most:
             raise Problem(413, f"an upload has at most {most} bytes here")
         if not self.network.ledger.now:
