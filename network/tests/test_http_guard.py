@@ -415,6 +415,7 @@ class Impatient(GuardCase):
         await self.start(requests=0)
         head = b"POST /v1/bundles?epochs=1 HTTP/1.1\r\nHost: localhost:%d\r\nContent-Length: 16000000\r\n" % self.port
         head += b"Content-Type: multipart/form-data; boundary=x\r\n\r\n"
+        head += b'--x\r\nContent-Disposition: form-data; name="f"\r\n\r\n'
         part, moved, (before, _) = bytes(1_000_000), self.gateway.reader.bytes, usage_of(os.getpid())
         forms = [await asyncio.open_connection("127.0.0.1", self.port) for _ in range(12)]
         for _, writer in forms:

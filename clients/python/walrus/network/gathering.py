@@ -7,13 +7,14 @@ import sqlite3
 import tempfile
 from typing import Any, AsyncIterator
 
-from .archives import Coming, Source, opened
+from .archives import Coming, opened
 from .chunks import PIECE, Told, Writer
 from .manifest import MARK, Place, TooMany, Wrong
 from .packing import SMALL, WRITTEN, Folder
 from .pieces import Spool, write
 from .problems import Problem
 from .shares import Charge, count_of
+from .source import Source
 
 AT_ONCE, AHEAD = 16, 4  # folders that come at once; files and packs of one that are stored at once
 FULL = "the small files of a folder have more bytes than the gateway keeps at once: store the folder in parts"

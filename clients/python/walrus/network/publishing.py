@@ -12,13 +12,13 @@ from .. import client
 from . import digests
 from .chunks import LONGEST, Told, Writer
 from .client import Network
-from .forms import HEAD
 from .entries import LAST_EPOCH, LAST_UNTIL
 from .exposure import Options
 from .listing import Lister
 from .problems import Problem, as_json, problem_of
 from .reading import LEAST, Pace, Reader
 from .shares import Charge, Shares
+from .source import HEAD
 from .turns import Turns, owner_of
 
 Store = Callable[[AsyncIterator[bytes], int, list[bytes]], Awaitable[Told]]
