@@ -15,7 +15,7 @@ from aiohttp.test_utils import TestServer
 sys.path.insert(0, str(pathlib.Path(__file__).resolve().parents[2] / "clients" / "python"))
 
 import walrus.network  # noqa: E402, F401
-from walrus import client  # noqa: E402
+from walrus import bundles, client  # noqa: E402
 from walrus.network import chunks, forms, pieces, problems, ranges, transfers  # noqa: E402
 from walrus.network.cache import EXTRA, Cache  # noqa: E402
 from walrus.network.exposure import Options  # noqa: E402
@@ -206,6 +206,21 @@ class Forms(unittest.IsolatedAsyncioTestCase):
                 [(name + field).encode() for name, field, _ in files]
             except problems.Problem as problem:
                 self.assertIn(problem.status, (400, 415))
+
+
+class Problems(unittest.TestCase):
+    def test_what_a_read_lacks_is_told_by_types(self) -> None:
+        for fault, status, text, lacking in (
+            (client.TooFew(4, b"short 1 of 3\n", {}), 503, "1 of 3 needed slivers are heard", 2),
+            (client.TooFew(4, b"no metadata\n", {}), 503, "too little of the blob is heard", None),
+            (client.Refused(4, b"missing column 7\n", {}), 503, "too little of the blob is heard", None),
+            (client.Refused(3, b"reject\n", {}), 410, "badly encoded", None),
+            (bundles.NoBundle(3, b"bad index\n", {}), 404, "is no bundle", None),
+            (bundles.NoMember(4, b"no member of 2\n", {}), 404, "has 2 members", None),
+        ):
+            problem = problems.problem_of(fault)
+            self.assertEqual((problem.status, problem.more.get("lacking")), (status, lacking), fault)
+            self.assertIn(text, str(problem))
 
 
 class Caches(unittest.IsolatedAsyncioTestCase):
