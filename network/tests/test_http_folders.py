@@ -13,12 +13,13 @@ import time
 import unittest
 import unittest.mock
 import urllib.parse
-from typing import Any
+from typing import Any, AsyncIterator
 
 import yarl
 from folder_case import HOSTILE, Files, form_of, manifest_of, odd_tar, site, tar_of
 from guard_case import GuardCase
 from harness import HERE
+from walrus import client
 from walrus.network import archives, gathering, manifest, problems, shelf, turns
 from walrus.network.manifest import MARK, Manifest, Place, Wrong
 
@@ -412,6 +413,22 @@ class Folders(GuardCase):
         used = self.gateway.publisher.shares.used("one", 0)
         await self.put_folder(tar_of({"a": b"x" * 30_000}), 200, headers=shown)
         self.assertEqual(self.gateway.publisher.shares.used("one", 0), used)
+
+    async def test_what_is_certified_of_a_folder_that_fails_is_told(self) -> None:
+        await self.start()
+        true, files = self.gateway.publisher.writer.store, {"a": b"a" * 600_000, "b": b"b" * 600_000}
+
+        async def store(stream: AsyncIterator[bytes], epochs: int, stored: list[bytes]) -> dict[str, Any]:
+            told: dict[str, Any] = await true(stream, epochs)
+            if told["blobId"] != hashlib.sha256(files["a"]).hexdigest():
+                await asyncio.sleep(0.2)  # the other one is certified by then
+                raise client.Failed("it is told to fail", {})
+            stored.append(bytes.fromhex(told["blobId"]))
+            return told
+
+        with unittest.mock.patch.object(self.gateway.publisher.writer, "store", store):
+            error = (await self.put_folder(tar_of(files), 503))["error"]
+        self.assertEqual((error["stored"], error["storedPieces"]), ([hashlib.sha256(files["a"]).hexdigest()], 1))
 
     async def test_a_file_keeps_a_name_and_a_type_if_it_is_asked(self) -> None:
         await self.start()
