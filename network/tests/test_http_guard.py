@@ -170,6 +170,17 @@ class Customers(GuardCase):
         status, headers, told = await self.ask("GET", "/v1/blobs")
         self.assertEqual((headers["www-authenticate"], told["error"]["status"]), ('Bearer realm="walrus"', 401))
 
+    async def test_what_needs_a_token_stays_out_of_shared_caches(self) -> None:
+        await self.start()
+        self.files["0" * 64], alice = b"there", {}
+        for right, kept in (("", "public"), ("read", "public"), ("none", "private"), ("store", "private")):
+            if right:
+                alice = self.token("alice")
+                self.token("anyone", right)
+            for path in (f"/v1/blobs/{'0' * 64}", f"/v1/folders/{'0' * 64}"):
+                _, headers, _ = await self.ask("GET", path, headers=alice, allow_redirects=False)
+                self.assertRegex(headers["cache-control"], f"^{kept}, max-age=[0-9]+", (right, path))
+
     async def test_what_is_no_token_is_refused(self) -> None:
         good = self.token("alice")["Authorization"]
         await self.start()

@@ -103,7 +103,7 @@ class Gateway(Server):
             web.Application(middlewares=[self.answer, self.place, self.guard.check, self.sort]),
             self.publisher,
         )
-        app.on_response_prepare.append(self.guard.share)
+        app.on_response_prepare.extend([self.guard.share, self.guard.keep])
         app.add_routes([web.put("/v1/blobs", self.folders.put_file, expect_handler=expected)])
         app.add_routes([web.post("/v1/bundles", publisher.post_bundle, expect_handler=expected)])
         uploads = self.uploads

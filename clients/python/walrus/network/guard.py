@@ -147,6 +147,12 @@ class Guard:
         methods = ", ".join(sorted({*fault.allowed_methods, "OPTIONS"}))
         return web.Response(status=204, headers={"Allow": methods})
 
+    async def keep(self, request: web.Request, response: web.StreamResponse) -> None:
+        """Lets caches that several people share keep nothing for which one of them had to show a token."""
+        told, known = response.headers.get(hdrs.CACHE_CONTROL, ""), self.tokens.all()
+        if told.startswith("public") and not (known is None or ANYONE in known and READ in known[ANYONE].rights):
+            response.headers[hdrs.CACHE_CONTROL] = told.replace("public", "private", 1)
+
     async def share(self, request: web.Request, response: web.StreamResponse) -> None:
         """Lets pages from elsewhere have a response: what is read by its name, and what a token was shown for."""
         by_name = is_by_name(request) and request.method in SAFE
