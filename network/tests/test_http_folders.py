@@ -20,7 +20,7 @@ from folder_case import HOSTILE, Files, form_of, manifest_of, odd_tar, site, tar
 from guard_case import GuardCase
 from harness import HERE
 from walrus import client
-from walrus.network import archives, gathering, manifest, problems, shelf, turns
+from walrus.network import archives, gathering, manifest, problems, shares, shelf, turns
 from walrus.network.manifest import MARK, Manifest, Place, Wrong
 
 TAR = {"Content-Type": "application/x-tar"}
@@ -477,6 +477,22 @@ class Folders(GuardCase):
         self.assertEqual((await self.ask("PUT", "/v1/blobs?filename=a", data=b"x"))[0], 400)
         self.assertEqual((await self.ask("POST", "/v1/uploads?epochs=5&filename=a", data=b"x"))[0], 400)
         self.assertEqual(len(self.stored), count)
+
+    async def test_a_folder_that_breaks_off_costs_what_may_be_stored(self) -> None:
+        shown = self.token("one", bytes=1_000_000, blobs=100)
+        for module, name, size in (
+            (gathering, "SMALL", 5_000),
+            (gathering, "PIECE", 50_000),
+            (shares, "PIECE", 50_000),
+        ):
+            self.enterContext(unittest.mock.patch.object(module, name, size))
+        await self.start()
+        whole = tar_of({"a": bytes(20_000), "b": bytes(300_000)})
+        await self.put_folder(whole[: 512 + 20_480 + 512 + 120_000], 400, headers=shown)
+        self.assertEqual(self.used("one"), (20_000 + 100_000, 1 + 2))  # all of a, and two whole pieces of b
+        await self.put_folder(whole, headers=shown)
+        told = len(self.stored[-1])
+        self.assertEqual(self.used("one"), (120_000 + 320_000 + told, 3 + 1 + 7 + 1))  # b has six pieces and their list
 
     async def test_a_name_counts_on_the_share_of_its_token(self) -> None:
         shown, poor = self.token("one", bytes=10_000, blobs=4), self.token("poor", blobs=1)
