@@ -188,10 +188,10 @@ module _ (digest : List ℕ → List ℕ) (size_is : (text : List ℕ) → lengt
     pub serve_short : (status : ℕ) → Ends digest words (around input rest before text) status → length text ≤ room_of (Serve s) (length input)
     serve_short _ (whole status all is wrote) = absurd (no_answer status all is)
     serve_short _ (no_memory_for_words kept keeps) = untouched before text _ keeps
-    serve_short _ (no_memory other is most keeps) = untouched before text _ keeps
+    serve_short _ (no_memory other is few keeps) = untouched before text _ keeps
     serve_short _ (broke_off other is given taken all may wrote) =
         let there = subst (λ (t : Task). MayLeave digest (command_of digest t) given all) (only other is) may in absurd there.0.2
-    serve_short _ (source_failed other is takes most rose keeps) = absurd (never rose)
+    serve_short _ (source_failed other is takes few rose keeps) = absurd (never rose)
     serve_short _ (sink_failed status all is rose part) = absurd (never rose)
     serve_short _ (cut_off other is given taken all may rose part) = absurd (never rose)
     serve_short _ (serving_ended service is status ends) =
