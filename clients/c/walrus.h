@@ -23,11 +23,11 @@ extern "C" {
 enum {
     WALRUS_OK = 0,
     WALRUS_USAGE = 2,      /* the words ask for nothing; the output is the usage */
-    WALRUS_REJECTED = 3,   /* what was recorded is false: the output has the evidence, or says "reject" */
-    WALRUS_SHORT = 4,      /* something is lacking, which the output names */
+    WALRUS_REJECTED = 3,   /* what was recorded is false: the output has the evidence, or a line that says so */
+    WALRUS_SHORT = 4,      /* the input is too little or too much for an answer; the output says in what */
     WALRUS_NO_MEMORY = 5,  /* malloc or realloc failed; the output is a front of the answer, mostly nothing */
     WALRUS_NO_ROOM = 7,    /* the text is longer than the output; *needed says how long it is */
-    WALRUS_MALFORMED = 8,  /* the input is no stream, no schedule or no image; the output says where */
+    WALRUS_MALFORMED = 8,  /* the input is no stream, no schedule or no image; the output says where, if it can */
     WALRUS_TOO_LONG = 9,   /* the input is longer than the command takes */
     WALRUS_COLLISION = 10, /* two texts with one digest were found, which the output has */
     WALRUS_NO_WORDS = 11   /* the words are not UTF-8, or no zero byte stands behind the last one */
@@ -41,8 +41,9 @@ enum {
  * output      room for the text that it would write to standard output.
  * *written    is set to how many bytes of the text stand at the front of output: the smaller of *needed and output_len.
  *             Behind them output stays as it was.
- * *needed     is set to how many bytes the whole text has. With WALRUS_NO_ROOM another call with so much room gives all;
- *             at status 5 the text is what was written until memory ran out.
+ * *needed     is set to how many bytes the whole text has. With WALRUS_NO_ROOM another call with so much room gives all,
+ *             unless memory runs out then, or two other texts of a collision are longer; at status 5 the text is what
+ *             was written until memory ran out.
  *
  * Each pointer points to as many bytes as the length behind it says, and is not null even where that is 0. Output and
  * the two numbers overlap neither each other nor what is read. */
