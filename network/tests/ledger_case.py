@@ -148,9 +148,9 @@ class Memory(Etcd):
             raise Gone("they are dropped")
         return found
 
-    async def append(self, head: str, after: str, batch: Optional[Batch] = None) -> tuple[bool, list[Batch]]:
+    async def append(self, head: str, after: str, batch: Optional[Batch] = None) -> str:
         await self.fails("before")
-        if won := self.top == head:
+        if self.top == head:
             self.top = after
             for hear in self.hear:
                 hear(after)
@@ -158,9 +158,9 @@ class Memory(Etcd):
                 assert batch.before.place + 1 not in self.kept, "a batch is written twice"
                 self.kept[batch.before.place + 1] = Batch(batch.before, list(batch.entries))
                 self.all += batch.entries
-        others = [it for _, it in sorted(self.kept.items()) if batch and it.last > batch.before.place][:2]
+        top = self.top
         await self.fails("behind")
-        return won, [] if won else others
+        return top
 
     async def compact(self, most: int = 0) -> None:
         pass
@@ -169,12 +169,11 @@ class Memory(Etcd):
         await self.fails("before")
         return self.marked[-1] if self.marked else None
 
-    async def put_mark(self, mark: Mark, before: Optional[Mark]) -> bool:
+    async def put_mark(self, mark: Mark, before: Optional[Mark]) -> None:
         await self.fails("before")
-        if won := (self.marked[-1] if self.marked else None) == before:
+        if (self.marked[-1] if self.marked else None) == before:
             self.marked.append(mark)
         await self.fails("behind")
-        return won
 
     async def put_piece(self, place: int, number: int, piece: bytes) -> None:
         await self.fails("before")

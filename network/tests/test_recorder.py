@@ -202,7 +202,8 @@ class Adversary(LedgerCase):
         chain = asked.chain
         for _ in range(20):
             batch = Batch(chain, ["x" * 16_000] * (recorder.MOST_BATCH // 16_000))
-            self.assertTrue((await asked.etcd.append(asked.head(chain), asked.head(batch.after), batch))[0])
+            after = asked.head(batch.after)
+            self.assertEqual(await asked.etcd.append(asked.head(chain), after, batch), after)
             chain = batch.after
         read = await asked.etcd.batches(1)
         self.assertTrue(0 < sum(it.size for it in read) <= recorder.RECENT)
@@ -672,17 +673,14 @@ class Heads(unittest.IsolatedAsyncioTestCase):
             for first in range(1, len(texts), 4):
                 await one.post(texts[first:][:4])
             self.assertTrue(await other.news.until(lambda: other.chain.place == len(texts), 10))
-        self.assertTrue(0 < one.size <= 1_000 and one.size == sum(map(len, one.recent)))
+        self.assertTrue(0 < one.size <= 1_000 and one.size == sum(it.size for it in one.recent))
         for made in self.recorders:
             for place in range(len(texts)):
-                found = await made.entries(place)
+                chain, found = await made.behind(place)
                 self.assertEqual(found, texts[place:][: len(found)])
                 self.assertGreater(len(found), 0)
-                self.assertEqual(
-                    await made.chain_at(place), Chain(0, bytes.fromhex(made.identity)).behind(texts[:place])
-                )
-            self.assertEqual(await made.entries(len(texts)), [])
-            self.assertEqual(await made.chain_at(len(texts)), made.chain)
+                self.assertEqual(chain, Chain(0, bytes.fromhex(made.identity)).behind(texts[:place]))
+            self.assertEqual(await made.behind(len(texts)), (made.chain, []))
 
 
 class Waits(unittest.IsolatedAsyncioTestCase):

@@ -187,8 +187,7 @@ class Recorders:
                 told = json.loads(line)
                 if "error" in told:
                     raise ConnectionError(f"a recorder sees the ledger no more: {told['error']}")
-                entries = [Entry(number, text) for number, text in enumerate(told["entries"], chain.place + 1)]
-                chain = chain.behind(told["entries"])
+                entries, chain = chain.followed(told["entries"]), chain.behind(told["entries"])
                 if told["digest"] != chain.digest.hex():
                     raise Parted(f"the entries up to {chain.place} have another digest than the ledger: {PARTED}")
                 yield News(chain, entries, head, ledger)

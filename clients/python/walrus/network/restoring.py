@@ -89,10 +89,8 @@ class Restoring(Service):
         while time.monotonic() < self.progress + seconds:
             if entries := self.agreed():
                 batch = Batch(recorder.chain, entries)
-                won, _ = await recorder.etcd.append(recorder.head(recorder.chain), recorder.head(batch.after), batch)
-                if not won:
+                if not await recorder.step(batch):
                     raise Broken("a recorder is running: end all of them first")
-                recorder.enter(batch)
                 count, self.progress = count + len(entries), time.monotonic()
                 self.tails.clear()
                 print(f"{count} entries are there again, up to place {recorder.chain.place}", flush=True)
