@@ -64,10 +64,9 @@ class Places(unittest.IsolatedAsyncioTestCase):
                 await asyncio.sleep(0)
 
         task = asyncio.create_task(others())
-        with mock.patch.object(recorder, "EACH", 10):
-            await made.index.drop(990)
+        await made.index.drop(990)
         task.cancel()
-        self.assertGreater(len(turns), 50)
+        self.assertGreater(len(turns), 200)
         self.assertEqual([made.index.find(text) for text in texts], [None] * 990 + [*range(991, 1_001)])
         await made.index.drop(5_000)
         self.assertIsNone(made.index.find(texts[-1]))

@@ -15,7 +15,7 @@ from .entries import Chain
 
 FIRST, LAST, HEAD = "/walrus/000000000001", "/walrus/999999999999", "/walrus/head"
 MARK, PIECES = "/walrus/checkpoint", "/walrus/checkpoint/"
-PAGE, SILENCE, LONGEST_LINE = 16, 60.0, 2**20  # batches that are read at once, which each follower may hold; seconds
+PAGE, SILENCE, LONGEST_LINE = 16, 60.0, 2**20  # batches that are read at once; seconds; bytes
 WIDTHS = 64, 4_096, 262_144  # places among which the key of a batch is looked for: etcd would sort all there are
 COMPACTED, DROPPED = 5_000, 500  # revisions between two compactions; keys that are dropped at once
 

@@ -23,10 +23,9 @@ from .ledger import FORMLESS, refusal
 from .state import State
 from .waiting import Waiting
 
-MOST_BATCH, RECENT = 262_144, 4_194_304  # bytes of a batch, and of batches kept for followers
+MOST_BATCH, HELD, RECENT = 262_144, 1_048_576, 4_194_304  # bytes of a batch, kept for each follower, and for all
 BEAT, POLL, FRESH = 1.0, 1.0, 5.0  # seconds
 GRACE = 60.0  # seconds in which a checkpoint is left to the recorder that has appended the turn of the epoch
-EACH = 2_000  # places that are forgotten at once
 Answer = Union[int, Refused]  # the place of an entry that was posted, or why it is not taken
 
 
@@ -39,7 +38,7 @@ class Index:
 
     def __init__(self, base: sqlite3.Connection):
         self.base = base
-        base.execute("CREATE TABLE IF NOT EXISTS places (digest BLOB UNIQUE, place INTEGER PRIMARY KEY)")
+        base.execute("CREATE TABLE IF NOT EXISTS places (digest BLOB PRIMARY KEY, place INTEGER) WITHOUT ROWID")
 
     def find(self, text: str) -> Optional[int]:
         row = self.base.execute("SELECT place FROM places WHERE digest = ?", (self.digest(text),)).fetchone()
@@ -49,9 +48,10 @@ class Index:
         self.base.execute("INSERT OR REPLACE INTO places VALUES (?, ?)", (self.digest(entry.key), entry.revision))
 
     async def drop(self, place: int) -> None:
-        """Forgets the places up to one, some at a time, as others wait meanwhile."""
-        some = f"DELETE FROM places WHERE place <= min(?, (SELECT min(place) FROM places) + {EACH})"
-        while self.base.execute(some, (place,)).rowcount:
+        """Forgets the places up to one, part by part, as others wait meanwhile."""
+        for first in range(256):
+            part = bytes([first]), bytes([first]) + b"\xff" * 16
+            self.base.execute("DELETE FROM places WHERE digest BETWEEN ? AND ? AND place <= ?", (*part, place))
             await asyncio.sleep(0)
 
     @staticmethod
@@ -244,7 +244,7 @@ class Recorder:
         if not found:
             return self.chain, []
         texts, count = [text for it in found for text in it.entries], place - found[0].before.place
-        return found[0].before.behind(texts[:count]), texts[count:]
+        return found[0].before.behind(texts[:count]), fitting(texts[count:], HELD)
 
     async def piece(self, place: int, number: int) -> bytes:
         """A piece of a checkpoint."""
