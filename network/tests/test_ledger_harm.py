@@ -85,7 +85,7 @@ class Places(unittest.IsolatedAsyncioTestCase):
                 self.assertTrue(await made.step(Batch(made.chain, [text])))
             for first, last in zip([0, *cut], cut):
                 batch = Batch(chain, entries[first:last])
-                etcd.kept[batch.first], chain = batch, batch.after
+                etcd.kept[first + 1], chain = batch, batch.after
             etcd.top, made.etcd = made.head(chain), etcd
             if whole:
                 await made.catch_up()

@@ -59,10 +59,6 @@ class Batch:
     entries: list[str]
 
     @property
-    def first(self) -> int:
-        return self.before.place + 1
-
-    @property
     def last(self) -> int:
         return self.before.place + len(self.entries)
 
@@ -142,7 +138,8 @@ class Etcd:
 
     async def append(self, head: str, after: str, batch: Optional[Batch] = None) -> str:
         """Puts a batch and the new head where the old one stands; what stands there then."""
-        return await self.replace(HEAD, head, {HEAD: after, **({key_of(batch.first): batch.value()} if batch else {})})
+        more = {key_of(batch.before.place + 1): batch.value()} if batch else {}
+        return await self.replace(HEAD, head, {HEAD: after, **more})
 
     async def mark(self) -> Optional[Mark]:
         """What tells of the checkpoint; none before the first one."""

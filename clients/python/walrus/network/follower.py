@@ -4,7 +4,6 @@ import base64
 import json
 import math
 import random
-import socket
 import ssl
 import time
 from typing import Any, AsyncIterator, Callable, NamedTuple, Optional, Sequence
@@ -48,7 +47,7 @@ class Resolver(aiohttp.ThreadedResolver):
         super().__init__()
         self.host = host
 
-    async def resolve(self, hostname: str, port: int = 0, family: int = socket.AF_INET) -> list[dict[str, Any]]:
+    async def resolve(self, hostname: str, port: int = 0, family: int = 0) -> list[dict[str, Any]]:
         return [{**it, "hostname": hostname} for it in await super().resolve(self.host, port, family)]
 
 
@@ -111,30 +110,25 @@ class Recorders:
             self.waiting, at = waiting, self.at
             texts = fitting((text for text, _ in waiting[:MOST]), MOST_BYTES)
             try:
-                answers = await asyncio.create_task(self.once(texts))
+                status, told = await asyncio.create_task(self.ask("entries", texts))
+                if status in (400, 403, 413):  # it hears none of them
+                    told = [{"refused": told["error"]}] * len(texts)
+                elif status != 200 or len(told) != len(texts):
+                    raise ConnectionError(f"a recorder answers with status {status}: {told['error']}")
+                answers = [it["place"] if "place" in it else Refused(it["refused"]) for it in told]
             except PASSING as fault:
                 pause = await self.mind(fault, at, pause)
                 continue
             pause = 0.1
             for (_, taken), answer in zip(waiting, answers):
                 if not taken.done():
-                    place, reason = answer.get("place"), answer.get("refused")
-                    taken.set_result(place) if place else taken.set_exception(Refused(reason))
+                    taken.set_exception(answer) if isinstance(answer, Refused) else taken.set_result(answer)
 
     async def ask(self, path: str, body: object) -> tuple[int, Any]:
         """Posts to a recorder; the status of its answer, and what it says."""
         url, session = self.known[self.at]
         async with session.post(url + path, json=body, timeout=aiohttp.ClientTimeout(total=30)) as said:
             return said.status, await said.json(content_type=None)
-
-    async def once(self, texts: list[str]) -> list[dict[str, Any]]:
-        """What a recorder answers to entries; of one that it does not hear at all the same for each."""
-        status, answer = await self.ask("entries", texts)
-        if status in (400, 403, 413):
-            return [{"refused": answer["error"]}] * len(texts)
-        if status != 200 or len(answer) != len(texts) or not all({*it} & {"place", "refused"} for it in answer):
-            raise ConnectionError(f"a recorder answers with status {status}: {answer['error']}")
-        return list(answer)
 
     async def mind(self, fault: BaseException, at: int, pause: float) -> float:
         """Turns to the next recorder where one failed, and pauses; for how long the next time."""

@@ -41,11 +41,11 @@ class Index:
         base.execute("CREATE TABLE IF NOT EXISTS places (digest BLOB PRIMARY KEY, place INTEGER) WITHOUT ROWID")
 
     def find(self, text: str) -> Optional[int]:
-        row = self.base.execute("SELECT place FROM places WHERE digest = ?", (self.digest(text),)).fetchone()
+        row = self.base.execute("SELECT place FROM places WHERE digest = ?", (digest(text),)).fetchone()
         return int(row[0]) if row else None
 
     def enter(self, entry: Entry) -> None:
-        self.base.execute("INSERT OR REPLACE INTO places VALUES (?, ?)", (self.digest(entry.key), entry.revision))
+        self.base.execute("INSERT OR REPLACE INTO places VALUES (?, ?)", (digest(entry.key), entry.revision))
 
     async def drop(self, place: int) -> None:
         """Forgets the places up to one, part by part, as others wait meanwhile."""
@@ -54,9 +54,9 @@ class Index:
             self.base.execute("DELETE FROM places WHERE digest BETWEEN ? AND ? AND place <= ?", (*part, place))
             await asyncio.sleep(0)
 
-    @staticmethod
-    def digest(text: str) -> bytes:
-        return hashlib.sha256(text.encode()).digest()[:16]
+
+def digest(text: str) -> bytes:
+    return hashlib.sha256(text.encode()).digest()[:16]
 
 
 class Recorder:
@@ -75,12 +75,11 @@ class Recorder:
 
     @property
     def fresh(self) -> bool:
-        """Whether this was all of the ledger a moment ago."""
+        """Whether this was all of the ledger a moment ago; `slow` says why it was not."""
         return time.monotonic() < self.seen + FRESH
 
     @property
     def slow(self) -> str:
-        """Why it is not, in words."""
         return self.fault or f"etcd at {self.etcd.url} is slow"
 
     async def run(self) -> None:
@@ -245,11 +244,6 @@ class Recorder:
             return self.chain, []
         texts, count = [text for it in found for text in it.entries], place - found[0].before.place
         return found[0].before.behind(texts[:count]), fitting(texts[count:], HELD)
-
-    async def piece(self, place: int, number: int) -> bytes:
-        """A piece of a checkpoint."""
-        async with self.turn:
-            return await self.etcd.piece(place, number)
 
     async def refresh(self) -> None:
         """Waits until this has all that the ledger has now."""

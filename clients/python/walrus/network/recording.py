@@ -13,8 +13,7 @@ from aiohttp import web
 from .connections import Named, Server
 from .entries import fitting, number
 from .etcd import Etcd, Failed, Gone
-from .follower import NAME as RECORDER
-from .follower import PARTED
+from .follower import NAME as RECORDER, PARTED
 from .gateway import ending
 from .keeping import Keeper
 from .notify import ready
@@ -130,7 +129,9 @@ class Service(Server):
         try:
             await tell(line | {"digest": chain.digest.hex()})
             for count in range(mark.pieces) if mark else ():
-                await tell({"piece": base64.b64encode(await recorder.piece(chain.place, count)).decode()})
+                async with recorder.turn:
+                    piece = await recorder.etcd.piece(chain.place, count)
+                await tell({"piece": base64.b64encode(piece).decode()})
             while request.transport and not request.transport.is_closing() and name not in recorder.ledger.expelled:
                 told = fitting(texts, MOST_BATCH)
                 chain, texts = chain.behind(told), texts[len(told) :]  # noqa: E203
