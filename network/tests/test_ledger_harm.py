@@ -3,13 +3,19 @@ import asyncio
 import contextlib
 import io
 import pathlib
+import ssl
+import tempfile
 import unittest
 from unittest import mock
 
 from ledger_case import FOUNDED, Chain, LedgerCase, Memory, registration
-from walrus.network import recorder
+from walrus import client
+from walrus.network import certificates, recorder
+from walrus.network.entries import ADDRESS, Entry, entry_key
 from walrus.network.etcd import Batch, Gone
 from walrus.network.follower import Refused
+from walrus.network.ledger import Ledger
+from walrus.network.peers import FIGURES, Peers, Seat
 from walrus.network.recorder import Broken, Recorder
 
 
@@ -95,6 +101,40 @@ class Places(unittest.IsolatedAsyncioTestCase):
                 with self.assertRaisesRegex(Broken, "does not follow on what was read"):
                     await made.catch_up()
             made.state.close()
+
+
+class Addresses(unittest.IsolatedAsyncioTestCase):
+    """What a node may tell as its address, against who reaches the nodes."""
+
+    async def asyncSetUp(self) -> None:
+        asyncio.get_running_loop().set_debug(False)
+
+    async def test_an_address_that_leads_nowhere_is_its_node_s_alone(self) -> None:
+        with tempfile.TemporaryDirectory() as folder:
+            certificates.make_authority(pathlib.Path(folder, "authority"))
+            certificates.make(pathlib.Path(folder, "node"), pathlib.Path(folder, "authority"), "b", ["b"])
+            context = ssl.create_default_context(ssl.Purpose.CLIENT_AUTH)
+            context.load_cert_chain(f"{folder}/node.crt", f"{folder}/node.key")
+
+            async def serve(reader: asyncio.StreamReader, writer: asyncio.StreamWriter) -> None:
+                with contextlib.suppress(OSError, EOFError), contextlib.closing(writer):
+                    await client.take_envelope(reader, 99)
+                    writer.write(client.envelope(b"." + b"{}"))
+
+            server = await asyncio.start_server(serve, "127.0.0.1", 0, ssl=context)
+            self.addCleanup(server.close)
+            ledger = Ledger()
+            peers = Peers(ledger, pathlib.Path(folder, "authority.crt"), 5)
+            port = server.sockets[0].getsockname()[1]
+            for place, host in enumerate(("a" * 100, "a..b", "::::", "1.2.3.4.5", "a-", ":", "a" * 253)):
+                for name, at in (("a", host), ("b", "127.0.0.1")):
+                    self.assertEqual(ledger.apply(Entry(place + 1, entry_key(name, ADDRESS, at, port))), "entered")
+                with self.assertRaises(ConnectionError):
+                    await peers.told("a", FIGURES)
+                with self.assertRaises(ConnectionError):
+                    await Seat(peers, "a", 0, 1).ask(client.write_frame(client.Read(bytes(32))))
+                self.assertEqual(await peers.told("b", FIGURES), {})
+            await peers.close()
 
 
 class Reading(LedgerCase):

@@ -114,13 +114,16 @@ class Recorder:
     async def post(self, texts: list[str]) -> list[Answer]:
         """The places of entries, once they are appended; of one that is not taken, why."""
         taken = dict["asyncio.Future[Answer]", str]((asyncio.Future(), text) for text in texts)
-        self.waiting |= taken
         for it, text in taken.items():
-            it.add_done_callback(self.waiting.pop)  # when it is answered, or who posted waits no more
             if not Entry(0, text).words:
                 it.set_result(Refused(FORMLESS))
+        self.waiting |= taken
         self.bell.set()
-        return await asyncio.gather(*taken)
+        try:
+            return await asyncio.gather(*taken)
+        finally:
+            for it in taken:
+                del self.waiting[it]
 
     def head(self, chain: Chain) -> str:
         """What stands at the head in etcd where the ledger ends so."""
