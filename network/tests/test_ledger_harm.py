@@ -60,9 +60,9 @@ class Places(unittest.IsolatedAsyncioTestCase):
 
     async def test_many_places_are_forgotten_while_others_go_on(self) -> None:
         made, turns = Recorder(Memory()), list[int]()
-        texts = [registration("x", number) for number in range(1_000)]
+        texts = [FOUNDED, *(registration("x", number) for number in range(999))]
         for entry in Chain(0, b"").followed(texts):
-            made.index.enter(entry)
+            made.apply(entry)
 
         async def others() -> None:
             while True:
@@ -70,12 +70,12 @@ class Places(unittest.IsolatedAsyncioTestCase):
                 await asyncio.sleep(0)
 
         task = asyncio.create_task(others())
-        await made.index.drop(990)
+        await made.forget(990)
         task.cancel()
         self.assertGreater(len(turns), 200)
-        self.assertEqual([made.index.find(text) for text in texts], [None] * 990 + [*range(991, 1_001)])
-        await made.index.drop(5_000)
-        self.assertIsNone(made.index.find(texts[-1]))
+        self.assertEqual([made.place_of(text) for text in texts], [None] * 990 + [*range(991, 1_001)])
+        await made.forget(5_000)
+        self.assertIsNone(made.place_of(texts[-1]))
         made.state.close()
 
     async def test_a_recorder_goes_on_in_the_midst_of_a_batch(self) -> None:

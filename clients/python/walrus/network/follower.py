@@ -2,7 +2,6 @@
 import asyncio
 import base64
 import json
-import math
 import random
 import ssl
 import time
@@ -29,11 +28,7 @@ class Refused(PermissionError):
 
 
 class Unreachable(ConnectionError):
-    """No recorder answered within the deadline."""
-
-
-class Restored(ConnectionError):
-    """The ledger is being restored, and was told what is kept of it."""
+    """No recorder answered within the deadline, or the ledger is being restored, which was told what is kept of it."""
 
 
 class Parted(OSError):
@@ -149,7 +144,7 @@ class Recorders:
                     pause, chain, ledger = 0.1, news.chain, news.ledger
                     yield news
                 raise ConnectionError("the recorder ended")
-            except Restored as fault:
+            except Unreachable as fault:
                 self.said = str(fault)
                 await asyncio.sleep(0.1)
             except PASSING as fault:
@@ -164,15 +159,14 @@ class Recorders:
             told = json.loads(await read())
             if "tail" in told:
                 await self.tell(told["tail"])
-                raise Restored(told["error"])
+                raise Unreachable(told["error"])
             if said.status != 200:
                 kind = {403: Refused, 409: Parted}.get(said.status, ConnectionError)
                 raise kind(told["error"])
             head, begun = int(told["head"]), Chain(told.get("place", place), bytes.fromhex(told["digest"]))
             if ledger not in ("", told["ledger"]) or chain and begun.place == place and chain != begun:
                 raise Parted(f"the ledger's first {place} entries are others than were heard before: {PARTED}")
-            count = told.get("pieces", 0)
-            pieces = [base64.b64decode(json.loads(await read())["piece"]) for _ in range(count)]
+            pieces = [base64.b64decode(json.loads(await read())["piece"]) for _ in range(told.get("pieces", 0))]
             if pieces and state_of(pieces) != told["state"]:
                 raise ConnectionError("a recorder's checkpoint is not what was written")
             chain, ledger = begun, told["ledger"]
@@ -201,7 +195,7 @@ class View:
         self.ledger, self.chain = self.state.ledger, self.state.chain
         recorders.tail = self.state.entries
         self.head, self.heard_at = -1, time.monotonic()  # where the ledger ended; when a recorder said something
-        self.absence = 0.0, -math.inf, ""  # the last one longer than `AWAY`: for how long it was, until when, and why
+        self.absence = 0.0, 0.0, ""  # the last one longer than `AWAY`: for how long it was, until when, and why
         self.entering, self.lost = False, None  # type: bool, Optional[Exception]  # what has ended following for good
 
     async def follow(self) -> None:

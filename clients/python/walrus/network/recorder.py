@@ -8,9 +8,7 @@ import contextlib
 import hashlib
 import itertools
 import json
-import math
 import secrets
-import sqlite3
 import sys
 import time
 from typing import Optional, Union
@@ -33,42 +31,22 @@ class Broken(Exception):
     """The ledger in etcd is another one than this recorder has read, which it must not go on with unseen."""
 
 
-class Index:
-    """The places of the entries that count, by their digests, as long as their batches are there."""
-
-    def __init__(self, base: sqlite3.Connection):
-        self.base = base
-        base.execute("CREATE TABLE IF NOT EXISTS places (digest BLOB PRIMARY KEY, place INTEGER) WITHOUT ROWID")
-
-    def find(self, text: str) -> Optional[int]:
-        row = self.base.execute("SELECT place FROM places WHERE digest = ?", (digest(text),)).fetchone()
-        return int(row[0]) if row else None
-
-    def enter(self, entry: Entry) -> None:
-        self.base.execute("INSERT OR REPLACE INTO places VALUES (?, ?)", (digest(entry.key), entry.revision))
-
-    async def drop(self, place: int) -> None:
-        """Forgets the places up to one, part by part, as others wait meanwhile."""
-        for first in range(256):
-            part = bytes([first]), bytes([first]) + b"\xff" * 16
-            self.base.execute("DELETE FROM places WHERE digest BETWEEN ? AND ? AND place <= ?", (*part, place))
-            await asyncio.sleep(0)
-
-
 def digest(text: str) -> bytes:
     return hashlib.sha256(text.encode()).digest()[:16]
 
 
 class Recorder:
-    """The ledger as etcd has it, and what waits to be appended."""
+    """The ledger as etcd has it, and what waits to be appended. Beside the ledger's state it keeps the places of the
+    entries that count, by their digests, as long as their batches are there."""
 
     def __init__(self, etcd: Etcd, state: Optional[State] = None) -> None:
         self.etcd, self.state = etcd, state or State()
-        self.ledger, self.index, self.identity = self.state.ledger, Index(self.state.base), self.state.identity
+        self.ledger, self.base, self.identity = self.state.ledger, self.state.base, self.state.identity
+        self.base.execute("CREATE TABLE IF NOT EXISTS places (digest BLOB PRIMARY KEY, place INTEGER) WITHOUT ROWID")
         self.chain, self.state.apply = self.state.chain or Chain(0, b""), self.apply
         self.waiting = dict["asyncio.Future[Answer]", str]()
         self.recent, self.size = collections.deque[Batch](), 0  # batches for followers, and their bytes
-        self.seen, self.fault = -math.inf, ""  # when etcd was asked last; what it did not do
+        self.seen, self.fault = float("-inf"), ""  # when etcd was asked last; what it did not do
         self.appended, self.turned = 0.0, 0.0  # when something was; from when on a checkpoint is this recorder's work
         self.bell, self.news, self.own = asyncio.Event(), Waiting(), 0  # the place up to which it appends just now
         self.turn = asyncio.Lock()  # of followers who need what is in etcd alone
@@ -192,7 +170,7 @@ class Recorder:
             if state_of(pieces) != mark.state:
                 raise Broken(f"the checkpoint of place {mark.place} in etcd is not what was written")
             self.state.take(pieces)
-            await self.index.drop(mark.place)
+            await self.forget(mark.place)
             self.recent.clear()
             self.size, self.chain = 0, mark.chain
 
@@ -217,8 +195,20 @@ class Recorder:
         """Enters an entry, and notes its place if it counts."""
         word = self.ledger.apply(entry)
         if word and not refusal(word):
-            self.index.enter(entry)
+            self.base.execute("INSERT OR REPLACE INTO places VALUES (?, ?)", (digest(entry.key), entry.revision))
         return word
+
+    def place_of(self, text: str) -> Optional[int]:
+        """The place of an entry that counted."""
+        row = self.base.execute("SELECT place FROM places WHERE digest = ?", (digest(text),)).fetchone()
+        return int(row[0]) if row else None
+
+    async def forget(self, place: int) -> None:
+        """Forgets the places up to one, part by part, as others wait meanwhile."""
+        for first in range(256):
+            part = bytes([first]), bytes([first]) + b"\xff" * 16
+            self.base.execute("DELETE FROM places WHERE digest BETWEEN ? AND ? AND place <= ?", (*part, place))
+            await asyncio.sleep(0)
 
     def judge(self) -> tuple[dict["asyncio.Future[Answer]", Answer], Optional[Batch]]:
         """What is answered to what waits if what counts of it is appended now, as one batch."""
@@ -226,7 +216,7 @@ class Recorder:
         waiting = {taken: text for taken, text in self.waiting.items() if not taken.done()}
         for taken, text in zip(waiting, fitting(waiting.values(), MOST_BATCH)):
             entry = Entry(self.chain.place + len(places) + 1, text)
-            if place := places.get(text) or self.ledger.stands(entry) and self.index.find(text):
+            if place := places.get(text) or self.ledger.stands(entry) and self.place_of(text):
                 answers[taken] = place
             elif reason := fork.refuses(entry):
                 answers[taken] = Refused(reason)
