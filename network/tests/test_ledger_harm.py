@@ -44,6 +44,17 @@ class Waiting(unittest.IsolatedAsyncioTestCase):
         self.etcd.plan = {}
         self.assertEqual(await self.made.post([registration("x", 0)]), [2])
 
+    async def test_nobody_waits_behind_all_that_another_one_posts(self) -> None:
+        self.etcd.plan = {}
+        many = [registration("x", number) for number in range(8_000)]  # more than two batches
+        flood = asyncio.create_task(self.made.post(many))
+        await asyncio.sleep(0)
+        places = await asyncio.gather(*(self.made.post([registration(name, 1)]) for name in "yz"))
+        self.assertLess(max(place for [place] in places), 4_000)  # behind the batch that was under way
+        self.assertFalse(flood.done())
+        self.assertEqual(sorted(await flood), [it for it in range(2, 8_004) if [it] not in places])
+        self.assertEqual([it for it in self.etcd.all if it.startswith("x/")], many)  # in their order
+
     async def test_what_has_no_form_waits_for_nothing(self) -> None:
         """Else it would stand before what others post, a batch's size of it for each call of etcd."""
         texts = ["x", "x/" + "y" * 1_000_000, "x/ready/01", "x/register/\ud800/1", ""]

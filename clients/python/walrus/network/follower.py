@@ -157,8 +157,10 @@ class Recorders:
         async with session.get(f"{url}entries", params={"after": str(place)}, timeout=limit) as said:
             read = said.content.readline
             told = json.loads(await read())
-            if "tail" in told:
-                await self.tell(told["tail"])
+            if "tail" in told:  # the ledger is being restored: it is told what is kept of it, or a part
+                entries = self.tail(place := told["tail"], 4 * MOST)
+                body = {"after": entries[0].revision - 1 if entries else place}
+                await self.ask("tail", body | {"entries": fitting((it.key for it in entries), MOST_BYTES)})
                 raise Unreachable(told["error"])
             if said.status != 200:
                 kind = {403: Refused, 409: Parted}.get(said.status, ConnectionError)
@@ -179,12 +181,6 @@ class Recorders:
                 if told["digest"] != chain.digest.hex():
                     raise Parted(f"the entries up to {chain.place} have another digest than the ledger: {PARTED}")
                 yield News(chain, entries, head, ledger)
-
-    async def tell(self, place: int) -> None:
-        """Tells what is kept of a ledger behind a place, or a piece of it, to who restores it."""
-        entries = self.tail(place, 4 * MOST)
-        sent = fitting((it.key for it in entries), MOST_BYTES)
-        await self.ask("tail", {"after": entries[0].revision - 1 if entries else place, "entries": sent})
 
 
 class View:

@@ -11,7 +11,7 @@ import json
 import secrets
 import sys
 import time
-from typing import Optional, Union
+from typing import Iterator, Optional, Union
 
 from .checkpoint import state_of
 from .entries import Chain, Entry, fitting
@@ -25,6 +25,7 @@ MOST_BATCH, HELD, RECENT = 262_144, 1_048_576, 4_194_304  # bytes of a batch, ke
 BEAT, POLL, FRESH = 1.0, 1.0, 5.0  # seconds
 GRACE = 60.0  # seconds in which a checkpoint is left to the recorder that has appended the turn of the epoch
 Answer = Union[int, Refused]  # the place of an entry that was posted, or why it is not taken
+Taken = asyncio.Future[Answer]
 
 
 class Broken(Exception):
@@ -44,7 +45,7 @@ class Recorder:
         self.ledger, self.base, self.identity = self.state.ledger, self.state.base, self.state.identity
         self.base.execute("CREATE TABLE IF NOT EXISTS places (digest BLOB PRIMARY KEY, place INTEGER) WITHOUT ROWID")
         self.chain, self.state.apply = self.state.chain or Chain(0, b""), self.apply
-        self.waiting = dict["asyncio.Future[Answer]", str]()
+        self.waiting = dict[Taken, str]()
         self.recent, self.size = collections.deque[Batch](), 0  # batches for followers, and their bytes
         self.seen, self.fault = float("-inf"), ""  # when etcd was asked last; what it did not do
         self.appended, self.turned = 0.0, 0.0  # when something was; from when on a checkpoint is this recorder's work
@@ -91,7 +92,7 @@ class Recorder:
 
     async def post(self, texts: list[str]) -> list[Answer]:
         """The places of entries, once they are appended; of one that is not taken, why."""
-        taken = dict["asyncio.Future[Answer]", str]((asyncio.Future(), text) for text in texts)
+        taken = dict[Taken, str]((asyncio.Future(), text) for text in texts)
         for it, text in taken.items():
             if not Entry(0, text).words:
                 it.set_result(Refused(FORMLESS))
@@ -210,11 +211,14 @@ class Recorder:
             self.base.execute("DELETE FROM places WHERE digest BETWEEN ? AND ? AND place <= ?", (*part, place))
             await asyncio.sleep(0)
 
-    def judge(self) -> tuple[dict["asyncio.Future[Answer]", Answer], Optional[Batch]]:
-        """What is answered to what waits if what counts of it is appended now, as one batch."""
-        fork, places, answers = self.ledger.fork(), dict[str, int](), dict["asyncio.Future[Answer]", Answer]()
-        waiting = {taken: text for taken, text in self.waiting.items() if not taken.done()}
-        for taken, text in zip(waiting, fitting(waiting.values(), MOST_BATCH)):
+    def judge(self) -> tuple[dict[Taken, Answer], Optional[Batch]]:
+        """What is answered to what waits if what counts of it is appended now, as one batch. The first entry of each
+        poster comes first, then each one's second: so nobody waits behind all that another one posts."""
+        fork, places, answers = self.ledger.fork(), dict[str, int](), dict[Taken, Answer]()
+        numbers = collections.defaultdict[str, Iterator[int]](itertools.count)  # of entries among their poster's
+        waiting = [it for it in self.waiting.items() if not it[0].done()]
+        waiting.sort(key=lambda it: next(numbers[it[1].partition("/")[0]]))
+        for (taken, _), text in zip(waiting, fitting((text for _, text in waiting), MOST_BATCH)):
             entry = Entry(self.chain.place + len(places) + 1, text)
             if place := places.get(text) or self.ledger.stands(entry) and self.place_of(text):
                 answers[taken] = place
