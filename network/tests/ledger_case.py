@@ -158,10 +158,11 @@ class Memory(Etcd):
             raise Gone("they are dropped")
         return found
 
-    async def append(self, head: str, after: str, batch: Optional[Batch] = None) -> str:
+    async def append(self, head: str, after: str, batch: Optional[Batch] = None) -> tuple[str, list[Batch]]:
         call = await self.fails("before")
+        others = [it for place, it in sorted(self.kept.items()) if batch and place > batch.before.place][:2]
         if self.top == head:
-            self.top = after
+            self.top, others = after, []
             for hear in self.hear:
                 hear(after)
             if batch:
@@ -170,7 +171,7 @@ class Memory(Etcd):
                 self.all += batch.entries
         top = self.top
         await self.fails("behind", call)
-        return top
+        return top, others if batch and others and others[0].before.place == batch.before.place else []
 
     async def compact(self, most: int = 0) -> None:
         pass

@@ -159,7 +159,7 @@ class Reading(LedgerCase):
         for size in sizes:
             batch = Batch(chains[-1], [text] * size)
             after = asked.head(batch.after)
-            self.assertEqual(await asked.etcd.append(asked.head(chains[-1]), after, batch), after)
+            self.assertEqual(await asked.etcd.append(asked.head(chains[-1]), after, batch), (after, []))
             chains.append(batch.after)
         return chains
 

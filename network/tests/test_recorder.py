@@ -203,7 +203,7 @@ class Adversary(LedgerCase):
         for _ in range(20):
             batch = Batch(chain, ["x" * 16_000] * (recorder.MOST_BATCH // 16_000))
             after = asked.head(batch.after)
-            self.assertEqual(await asked.etcd.append(asked.head(chain), after, batch), after)
+            self.assertEqual(await asked.etcd.append(asked.head(chain), after, batch), (after, []))
             chain = batch.after
         read = await asked.etcd.batches(1)
         self.assertTrue(0 < sum(it.size for it in read) <= recorder.RECENT)

@@ -109,15 +109,20 @@ class Etcd:
         span = {"key": coded(first), **({"range_end": coded(last)} if last else {}), **words}
         return list((await self.call("kv/range", span)).get("kvs", []))
 
-    async def replace(self, key: str, old: str, puts: dict[str, str]) -> str:
-        """Puts values where a key has an old one, or none if that is empty; what it has then."""
+    async def replace(self, key: str, old: str, puts: dict[str, str], *others: str) -> tuple[str, list[dict[str, Any]]]:
+        """Puts values where a key has an old one, or none if that is empty; what it has then, and where it had another
+        one, some pairs from other keys on."""
         compare = {"target": "VALUE", "value": coded(old)} if old else {"target": "CREATE", "create_revision": "0"}
         words: dict[str, Any] = {"compare": [{"key": coded(key), "result": "EQUAL", **compare}]}
         words["success"] = [{"request_put": {"key": coded(it), "value": coded(puts[it])}} for it in puts]
-        words["failure"] = [{"request_range": {"key": coded(key)}}]
+        spans = [{"key": coded(it), "range_end": coded(LAST), "limit": PAGE} for it in others]
+        words["failure"] = [{"request_range": it} for it in ({"key": coded(key)}, *spans)]
         answer = await self.call("kv/txn", words)
         self.revision = int(answer["header"]["revision"])
-        return puts[key] if answer.get("succeeded") else value_of(answer["responses"][0]["response_range"].get("kvs"))
+        if answer.get("succeeded"):
+            return puts[key], []
+        found = [it["response_range"].get("kvs", []) for it in answer["responses"]]
+        return value_of(found[0]), sum(found[1:], [])
 
     async def head(self) -> str:
         """What stands at the head; nothing before the ledger's birth."""
@@ -136,10 +141,12 @@ class Etcd:
             raise Gone(f"the entries behind place {after} are dropped")
         return batches
 
-    async def append(self, head: str, after: str, batch: Optional[Batch] = None) -> str:
-        """Puts a batch and the new head where the old one stands; what stands there then."""
-        more = {key_of(batch.before.place + 1): batch.value()} if batch else {}
-        return await self.replace(HEAD, head, {HEAD: after, **more})
+    async def append(self, head: str, after: str, batch: Optional[Batch] = None) -> tuple[str, list[Batch]]:
+        """Puts a batch and the new head where the old one stands; what stands there then, and what came instead."""
+        puts = {key_of(batch.before.place + 1): batch.value()} if batch else {}
+        head, found = await self.replace(HEAD, head, {HEAD: after, **puts}, *puts)
+        others = [*map(Batch.read, found)]
+        return head, others if batch and others and others[0].before.place == batch.before.place else []
 
     async def mark(self) -> Optional[Mark]:
         """What tells of the checkpoint; none before the first one."""

@@ -16,8 +16,7 @@ from .state import State
 from .waiting import Waiting
 
 NAME = "recorder"  # which every recorder has in its certificate, and nobody else
-SILENCE, LONGEST_LINE = 10.0, 2**20  # seconds without a word of a recorder; bytes
-AWAY = 5.0  # seconds for which a recorder may be silent and the ledger not be away
+SILENCE, AWAY, LONGEST_LINE = 10.0, 5.0, 2**20  # seconds without a word until a recorder or the ledger is away; bytes
 MOST, MOST_BYTES = 1_000, 262_144  # entries that are posted at once, and their bytes
 PARTED = "it is another ledger, or one that was restored (network/OPERATING.md)"
 PASSING = (aiohttp.ClientError, ConnectionError, TimeoutError, ValueError, KeyError, TypeError)

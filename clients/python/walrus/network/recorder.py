@@ -37,8 +37,7 @@ def digest(text: str) -> bytes:
 
 
 class Recorder:
-    """The ledger as etcd has it, and what waits to be appended. Beside the ledger's state it keeps the places of the
-    entries that count, by their digests, as long as their batches are there."""
+    """The ledger as etcd has it, with the places of what counts as long as it is there, and what waits for a place."""
 
     def __init__(self, etcd: Etcd, state: Optional[State] = None) -> None:
         self.etcd, self.state = etcd, state or State()
@@ -109,7 +108,7 @@ class Recorder:
         return json.dumps({"ledger": self.identity, "place": chain.place, "digest": chain.digest.hex()})
 
     async def catch_up(self) -> None:
-        """Reads all that others have appended."""
+        """Reads what others have appended, until there is nothing new."""
         while not await self.step():
             pass
 
@@ -120,7 +119,7 @@ class Recorder:
             stood = await self.step(batch)
         except Failed:
             if batch:
-                await self.catch_up()  # etcd may be full, and tells still what it has
+                await self.step()  # etcd may be full, and tells still what it has
             raise
         for taken, answer in answers.items() if stood else ():  # what was refused was else judged by what is no more
             if not taken.done():
@@ -130,22 +129,22 @@ class Recorder:
 
     async def step(self, batch: Optional[Batch] = None) -> bool:
         """Appends a batch where the ledger ends here, or reads more of what stands there; whether it ended here."""
-        begun, wanted = time.monotonic(), self.head(batch.after if batch else self.chain)
-        self.own = batch.last if batch else 0
-        head = await (self.etcd.append(self.head(self.chain), wanted, batch) if batch else self.etcd.head())
+        begun, known = time.monotonic(), self.head(self.chain)
+        wanted, self.own = (self.head(batch.after), batch.last) if batch else (known, 0)
+        head, others = await self.etcd.append(known, wanted, batch) if batch else (await self.etcd.head(), [])
         if (stood := head == wanted) and batch:
             self.enter(batch, own=True)
         elif stood and not self.state.whole:
             self.state.save(self.chain)
-        if stood or await self.read(head):
+        if stood or await self.read(head, others):
             self.seen = begun
         return stood
 
-    async def read(self, head: str) -> bool:
-        """Reads some of what stands in etcd up to a head, at the very first the ledger's birth; whether that is all."""
+    async def read(self, head: str, others: list[Batch]) -> bool:
+        """Reads what others have appended up to a head, or a part; at first the ledger's birth. Whether it is all."""
         if not head:
             birth = secrets.token_hex(32)
-            head = await self.etcd.append("", json.dumps({"ledger": birth, "place": 0, "digest": birth}))
+            head, _ = await self.etcd.append("", json.dumps({"ledger": birth, "place": 0, "digest": birth}))
         told = json.loads(head)
         if not self.chain.place:
             self.identity = self.state.identity = told["ledger"]
@@ -155,7 +154,9 @@ class Recorder:
         if told["place"] == self.chain.place and told["digest"] != self.chain.digest.hex():
             raise Broken(f"the batches in etcd have not the digest of the head: {head}")
         try:
-            for batch in await self.etcd.batches(self.chain.place) if told["place"] > self.chain.place else ():
+            if told["place"] > self.chain.place and not others:
+                others = await self.etcd.batches(self.chain.place)
+            for batch in others:
                 self.enter(batch)
         except Gone:
             await self.take()
