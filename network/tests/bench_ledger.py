@@ -185,6 +185,7 @@ async def many(local: Local, count: int) -> None:
     await write(local, made)
     made.base.execute("COMMIT")
     made.base.execute("PRAGMA wal_checkpoint(TRUNCATE)")
+    made.base.execute("BEGIN IMMEDIATE")
     made.close()
     print(f"a node's state: {path.stat().st_size / count:.0f} bytes a blob")
     shutil.copy(path, local.folder / "users" / "publisher.ledger")

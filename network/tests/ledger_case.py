@@ -119,48 +119,59 @@ class LedgerCase(unittest.IsolatedAsyncioTestCase):
 
 
 class Memory(Etcd):
-    """What etcd does, in memory. `plan` says which calls fail: before they are done, or behind it."""
+    """What etcd does, in memory. `plan` says which calls fail, or end who asks: before they are done, or behind it."""
 
     def __init__(self) -> None:
-        self.kept, self.top, self.calls = dict[int, Batch](), "", 0
+        self.kept, self.top, self.calls, self.ended = dict[int, Batch](), "", 0, 0  # the last one: of who was killed
         self.marked, self.pieces = list[Mark](), dict[tuple[int, int], bytes]()
         self.plan: dict[int, str] = {}
         self.hear = list[Callable[[str], None]]()  # who watches the head
         self.all = list[str]()  # what was ever appended
 
-    async def fails(self, when: str) -> None:
+    async def fails(self, when: str, call: int = 0) -> int:
+        """Does what the plan says of a call, the next one if it is not done yet; its number."""
         await asyncio.sleep(0)
-        self.calls += when == "before"
-        if self.plan.get(self.calls) == when:
-            raise Failed(f"it is told to fail {when} call {self.calls}")
+        self.calls += not call
+        call = call or self.calls
+        told = self.plan.get(call)
+        if told == when:
+            raise Failed(f"it is told to fail {when} call {call}")
+        if told == f"killed {when}":
+            task = asyncio.current_task()
+            assert task, "whoever asks has a task"
+            self.ended += 1
+            task.cancel()
+            await asyncio.sleep(0)  # who asked gets no further
+        return call
 
     async def head(self) -> str:
-        await self.fails("before")
+        call = await self.fails("before")
         top = self.top
-        await self.fails("behind")
+        await self.fails("behind", call)
         return top
 
     async def batches(self, after: int) -> list[Batch]:
-        await self.fails("before")
+        call = await self.fails("before")
         found = [it for _, it in sorted(self.kept.items()) if it.last > after][:2]
-        await self.fails("behind")
+        await self.fails("behind", call)
         if not found or found[0].before.place > after:
             raise Gone("they are dropped")
         return found
 
-    async def append(self, head: str, after: str, batch: Optional[Batch] = None) -> tuple[bool, list[Batch]]:
-        await self.fails("before")
-        if won := self.top == head:
-            self.top = after
+    async def append(self, head: str, after: str, batch: Optional[Batch] = None) -> tuple[str, list[Batch]]:
+        call = await self.fails("before")
+        others = [it for place, it in sorted(self.kept.items()) if batch and place > batch.before.place][:2]
+        if self.top == head:
+            self.top, others = after, []
             for hear in self.hear:
                 hear(after)
             if batch:
                 assert batch.before.place + 1 not in self.kept, "a batch is written twice"
                 self.kept[batch.before.place + 1] = Batch(batch.before, list(batch.entries))
                 self.all += batch.entries
-        others = [it for _, it in sorted(self.kept.items()) if batch and it.last > batch.before.place][:2]
-        await self.fails("behind")
-        return won, [] if won else others
+        top = self.top
+        await self.fails("behind", call)
+        return top, others if batch and others and others[0].before.place == batch.before.place else []
 
     async def compact(self, most: int = 0) -> None:
         pass
@@ -169,17 +180,16 @@ class Memory(Etcd):
         await self.fails("before")
         return self.marked[-1] if self.marked else None
 
-    async def put_mark(self, mark: Mark, before: Optional[Mark]) -> bool:
-        await self.fails("before")
-        if won := (self.marked[-1] if self.marked else None) == before:
+    async def put_mark(self, mark: Mark, before: Optional[Mark]) -> None:
+        call = await self.fails("before")
+        if (self.marked[-1] if self.marked else None) == before:
             self.marked.append(mark)
-        await self.fails("behind")
-        return won
+        await self.fails("behind", call)
 
     async def put_piece(self, place: int, number: int, piece: bytes) -> None:
-        await self.fails("before")
+        call = await self.fails("before")
         self.pieces[place, number] = piece
-        await self.fails("behind")
+        await self.fails("behind", call)
 
     async def piece(self, place: int, number: int) -> bytes:
         await self.fails("before")
@@ -188,10 +198,10 @@ class Memory(Etcd):
         return self.pieces[place, number]
 
     async def drop(self, mark: Mark) -> None:
-        await self.fails("before")
+        call = await self.fails("before")
         self.kept = {place: it for place, it in self.kept.items() if it.last > mark.place}
         self.pieces = {key: it for key, it in self.pieces.items() if key[0] >= mark.place}
-        await self.fails("behind")
+        await self.fails("behind", call)
 
     async def sizes(self) -> tuple[int, int]:
         return 0, 0

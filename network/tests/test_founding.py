@@ -18,6 +18,7 @@ from unittest import mock
 import harness  # noqa: F401
 from walrus.network import certificates, commands, configuration, dates, entries, notify, operators
 from walrus.network.checking import check
+from walrus.network.founding import must_fit, owners_of
 from walrus.network.ledger import Entry, Ledger
 from walrus.network.machine import Place, Unfounded
 from walrus.network.settings import GatewaySettings, Settings
@@ -135,6 +136,23 @@ class Found(FoundingCase):
         await self.says("found", self.folder, "--faults", 333, "--ledger", "host-0", *nodes)
         plan = json.loads((self.folder / "network.json").read_text())
         self.assertEqual(sum(shards for _, _, shards in plan["nodes"].values()), 1_000)
+
+    def test_every_f_has_its_committee_by_weights_too(self) -> None:
+        for faults in range(1, 334):
+            count = 3 * faults + 1
+            weights = [faults, faults, faults, 1]  # as few nodes as there may be
+            few = [Place(f"n{at}", f"h{at}", 1, shards) for at, shards in enumerate(weights)]
+            many = [Place(f"n{at}", f"h{at}", 1) for at in range(count)]
+            for places in (few, many):
+                must_fit(faults, places, False)
+                begin = entries.entry_key("operator", "begin", 0, faults, ",".join(owners_of(places)))
+                self.assertEqual(Ledger().apply(Entry(1, begin)), "founded", faults)
+            for wrong in ([faults + 1, faults, faults, 0], [faults, faults, faults, 2]):
+                with self.assertRaises(Unfounded):
+                    must_fit(faults, [Place(f"n{at}", f"h{at}", 1, it) for at, it in enumerate(wrong)], False)
+        for faults in (0, 334):
+            with self.assertRaisesRegex(Unfounded, "faults is a number from 1 to 333"):
+                must_fit(faults, [Place("n", "h", 1, 3 * faults + 1)], True)
 
     async def test_places_are_read_as_they_are_written(self) -> None:
         self.assertEqual(Place.read("a=[fd00::1]:7*3"), Place("a", "fd00::1", 7, 3))

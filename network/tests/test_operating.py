@@ -60,6 +60,10 @@ class Handover(LedgerCase):
         self.assertIn(
             "node-3 and nobody told", await self.hand_over("node-0", "node-1", "node-3", "nobody", force=True)
         )
+        stray = await self.newcomer("node-3")
+        for host in ("a" * 100, "a..b", "::::"):  # of which some are no names to the system
+            await stray.post(entry_key("node-3", ADDRESS, host, 1))
+            self.assertRegex(await self.hand_over(*NODES), r"node-3 does not answer \(.*nothing was begun", host)
         await self.node("node-3", certificate="node-0")
         self.assertRegex(await self.hand_over(*NODES), r"node-3 does not answer \(.*certificate.*nothing was begun")
         servers[2].close()

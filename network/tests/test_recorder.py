@@ -202,7 +202,8 @@ class Adversary(LedgerCase):
         chain = asked.chain
         for _ in range(20):
             batch = Batch(chain, ["x" * 16_000] * (recorder.MOST_BATCH // 16_000))
-            self.assertTrue((await asked.etcd.append(asked.head(chain), asked.head(batch.after), batch))[0])
+            after = asked.head(batch.after)
+            self.assertEqual(await asked.etcd.append(asked.head(chain), after, batch), (after, []))
             chain = batch.after
         read = await asked.etcd.batches(1)
         self.assertTrue(0 < sum(it.size for it in read) <= recorder.RECENT)
@@ -427,13 +428,28 @@ class Trouble(Loaded):
 
 
 class ThreeMembers(Loaded):
-    """Three members of etcd, and a recorder at two of them; each is lost in turn, the leader of etcd among them."""
+    """Three members of etcd, and a recorder at two of them; each is lost in turn, and the leader of etcd twice."""
 
     members = ["etcd-0", "etcd-1", "etcd-2"]
 
+    async def leader(self) -> str:
+        """The member of etcd that leads just now."""
+        settings = RecorderSettings.read(self.folder / "recorder-0.toml")
+        for _ in range(300):
+            for name, (url, _) in self.local.told()["etcd"].items():
+                etcd = recording.etcd_of(dataclasses.replace(settings, etcd=url))
+                with contextlib.suppress(Failed):
+                    told = await etcd.call("maintenance/status", {}, 1)
+                    if told["leader"] == told["header"]["member_id"]:
+                        return str(name)
+                await etcd.aclose()
+            await asyncio.sleep(0.1)
+        self.fail("etcd has no leader")
+
     async def test_any_of_them_is_lost_under_load(self) -> None:
         async with self.loaded() as acknowledged:
-            for name in ("etcd-0", "recorder-1", "etcd-1", "etcd-2", "recorder-0"):
+            for name in ("leader", "recorder-1", "etcd-0", "leader", "etcd-1", "etcd-2", "recorder-0"):
+                name = await self.leader() if name == "leader" else name
                 before = len(acknowledged)
                 await self.local.end(name, kill=True)
                 async with asyncio.timeout(60):
@@ -672,17 +688,14 @@ class Heads(unittest.IsolatedAsyncioTestCase):
             for first in range(1, len(texts), 4):
                 await one.post(texts[first:][:4])
             self.assertTrue(await other.news.until(lambda: other.chain.place == len(texts), 10))
-        self.assertTrue(0 < one.size <= 1_000 and one.size == sum(map(len, one.recent)))
+        self.assertTrue(0 < one.size <= 1_000 and one.size == sum(it.size for it in one.recent))
         for made in self.recorders:
             for place in range(len(texts)):
-                found = await made.entries(place)
+                chain, found = await made.behind(place)
                 self.assertEqual(found, texts[place:][: len(found)])
                 self.assertGreater(len(found), 0)
-                self.assertEqual(
-                    await made.chain_at(place), Chain(0, bytes.fromhex(made.identity)).behind(texts[:place])
-                )
-            self.assertEqual(await made.entries(len(texts)), [])
-            self.assertEqual(await made.chain_at(len(texts)), made.chain)
+                self.assertEqual(chain, Chain(0, bytes.fromhex(made.identity)).behind(texts[:place]))
+            self.assertEqual(await made.behind(len(texts)), (made.chain, []))
 
 
 class Waits(unittest.IsolatedAsyncioTestCase):
@@ -741,6 +754,16 @@ class Steps(unittest.IsolatedAsyncioTestCase):
         self.drawn, self.places = random.Random(seed), dict[str, int]()
         recorders = [recorder.Recorder(etcd) for _ in range(2)]
         tasks = [asyncio.create_task(it.run()) for it in recorders]
+
+        async def revive() -> None:
+            while True:
+                await self.sleep(0.001)
+                for which, task in enumerate(tasks[:2]):
+                    if task.cancelled():
+                        recorders[which] = recorder.Recorder(etcd)
+                        tasks[which] = asyncio.create_task(recorders[which].run())
+
+        tasks.append(asyncio.create_task(revive()))
         texts = [[registration(f"poster-{it}", 100 * it + number) for number in range(2)] for it in range(3)]
         try:
             await self.run_one(etcd, [FOUNDED], recorders)
@@ -771,6 +794,19 @@ class Steps(unittest.IsolatedAsyncioTestCase):
                     etcd.plan = {call: when}
                     with mock.patch.object(recorder.asyncio, "sleep", self.no_sleep):
                         await self.go(etcd, call, False)
+
+    async def test_a_recorder_is_killed_at_each_call_in_turn(self) -> None:
+        """What it has asked of etcd is done or not; what it had not yet answered is posted again, at any recorder."""
+        with mock.patch.multiple(recorder, POLL=0.01), contextlib.redirect_stderr(None):
+            ended = 0
+            for call in range(1, 25):
+                for when in ("killed before", "killed behind"):
+                    etcd = Memory()
+                    etcd.plan = {call: when, call + 7: when}
+                    with mock.patch.object(recorder.asyncio, "sleep", self.no_sleep):
+                        await self.go(etcd, call, False)
+                    ended += etcd.ended
+            self.assertGreater(ended, 30)
 
     sleep = staticmethod(asyncio.sleep)
 

@@ -125,3 +125,7 @@ class Chain:
         for place, text in enumerate(entries, place + 1):
             digest = hashlib.sha256(digest + text.encode()).digest()
         return Chain(place, digest)
+
+    def followed(self, texts: Iterable[str]) -> list[Entry]:
+        """Entries that come next, with their places."""
+        return [Entry(place, text) for place, text in enumerate(texts, self.place + 1)]

@@ -15,7 +15,8 @@ from .entries import Chain
 
 FIRST, LAST, HEAD = "/walrus/000000000001", "/walrus/999999999999", "/walrus/head"
 MARK, PIECES = "/walrus/checkpoint", "/walrus/checkpoint/"
-PAGE, SILENCE, LONGEST_LINE = 16, 60.0, 2**20  # batches that are read at once, which each follower may hold; seconds
+PAGE, SILENCE, LONGEST_LINE = 16, 60.0, 2**20  # batches that are read at once; seconds; bytes
+WIDTHS = 64, 4_096, 262_144  # places among which the key of a batch is looked for: etcd would sort all there are
 COMPACTED, DROPPED = 5_000, 500  # revisions between two compactions; keys that are dropped at once
 
 
@@ -33,6 +34,11 @@ def coded(data: str) -> str:
 
 def decoded(pair: dict[str, Any], name: str = "value") -> str:
     return base64.b64decode(pair.get(name, "")).decode()
+
+
+def value_of(found: Optional[list[dict[str, Any]]]) -> str:
+    """What a key has that was asked for; nothing if it is not there."""
+    return decoded(found[0]) if found else ""
 
 
 def key_of(place: int) -> str:
@@ -98,51 +104,59 @@ class Etcd:
             raise OSError(answer.get("error", answer))
         return dict(answer)
 
+    async def range(self, first: str, last: str = "", **words: Any) -> list[dict[str, Any]]:
+        """The pairs with the keys from one on, up to another one; where none is named, of that one alone."""
+        span = {"key": coded(first), **({"range_end": coded(last)} if last else {}), **words}
+        return list((await self.call("kv/range", span)).get("kvs", []))
+
+    async def replace(self, key: str, old: str, puts: dict[str, str], *others: str) -> tuple[str, list[dict[str, Any]]]:
+        """Puts values where a key has an old one, or none if that is empty; what it has then, and where it had another
+        one, some pairs from other keys on."""
+        compare = {"target": "VALUE", "value": coded(old)} if old else {"target": "CREATE", "create_revision": "0"}
+        words: dict[str, Any] = {"compare": [{"key": coded(key), "result": "EQUAL", **compare}]}
+        words["success"] = [{"request_put": {"key": coded(it), "value": coded(puts[it])}} for it in puts]
+        spans = [{"key": coded(it), "range_end": coded(LAST), "limit": PAGE} for it in others]
+        words["failure"] = [{"request_range": it} for it in ({"key": coded(key)}, *spans)]
+        answer = await self.call("kv/txn", words)
+        self.revision = int(answer["header"]["revision"])
+        if answer.get("succeeded"):
+            return puts[key], []
+        found = [it["response_range"].get("kvs", []) for it in answer["responses"]]
+        return value_of(found[0]), sum(found[1:], [])
+
     async def head(self) -> str:
         """What stands at the head; nothing before the ledger's birth."""
-        found = (await self.call("kv/range", {"key": coded(HEAD)})).get("kvs", [{}])
-        return decoded(found[0])
+        return value_of(await self.range(HEAD))
 
     async def batches(self, after: int) -> list[Batch]:
         """Some of the batches from the one on that has the entry behind a place, which the ledger has; or `Gone`."""
-        span = {"key": coded(FIRST), "range_end": coded(key_of(after + 1) + "\0"), "limit": 1}
-        found = await self.call("kv/range", {**span, "sort_target": "KEY", "sort_order": "DESCEND", "keys_only": True})
-        first = found["kvs"][0]["key"] if found.get("kvs") else coded(key_of(after + 1))
-        answer = await self.call("kv/range", {"key": first, "range_end": coded(LAST), "limit": PAGE})
-        batches = [it for it in map(Batch.read, answer.get("kvs", [])) if it.last > after]
+        found = await self.range(key_of(after + 1), LAST, limit=PAGE)
+        for width in () if found and decoded(found[0], "key") == key_of(after + 1) else WIDTHS:
+            keys = await self.range(key_of(max(1, after - width)), key_of(after + 1), keys_only=True)
+            if keys:
+                found = await self.range(decoded(keys[-1], "key"), LAST, limit=PAGE)
+                break
+        batches = [it for it in map(Batch.read, found) if it.last > after]
         if not batches or batches[0].before.place > after:
             raise Gone(f"the entries behind place {after} are dropped")
         return batches
 
-    async def append(self, head: str, after: str, batch: Optional[Batch] = None) -> tuple[bool, list[Batch]]:
-        """Puts a batch and the new head where the old one stands; whether it stood there still, and else what came."""
-        put = [{"request_put": {"key": coded(HEAD), "value": coded(after)}}]
-        key, others = coded(key_of(batch.before.place + 1)) if batch else "", list[dict[str, Any]]()
-        if batch:
-            put.append({"request_put": {"key": key, "value": coded(batch.value())}})
-            others = [{"request_range": {"key": key, "range_end": coded(LAST), "limit": PAGE}}]
-        compare = {"key": coded(HEAD), "target": "VALUE", "value": coded(head)}
-        if not head:
-            compare = {"key": coded(HEAD), "target": "CREATE", "create_revision": "0"}
-        words = {"compare": [{"result": "EQUAL", **compare}], "success": put, "failure": others}
-        answer = await self.call("kv/txn", words)
-        self.revision = int(answer["header"]["revision"])
-        won, told = bool(answer.get("succeeded")), answer.get("responses", [])
-        return won, [] if won or not told else [*map(Batch.read, told[0]["response_range"].get("kvs", []))]
+    async def append(self, head: str, after: str, batch: Optional[Batch] = None) -> tuple[str, list[Batch]]:
+        """Puts a batch and the new head where the old one stands; what stands there then, and what came instead."""
+        puts = {key_of(batch.before.place + 1): batch.value()} if batch else {}
+        head, found = await self.replace(HEAD, head, {HEAD: after, **puts}, *puts)
+        others = [*map(Batch.read, found)]
+        return head, others if batch and others and others[0].before.place == batch.before.place else []
 
     async def mark(self) -> Optional[Mark]:
         """What tells of the checkpoint; none before the first one."""
-        found = (await self.call("kv/range", {"key": coded(MARK)})).get("kvs")
-        return Mark(**json.loads(decoded(found[0]))) if found else None
+        found = value_of(await self.range(MARK))
+        return Mark(**json.loads(found)) if found else None
 
-    async def put_mark(self, mark: Mark, before: Optional[Mark]) -> bool:
-        """Puts a mark where another one stands, or none; whether it stood there still."""
-        put = [{"request_put": {"key": coded(MARK), "value": coded(json.dumps(mark._asdict()))}}]
-        compare = {"key": coded(MARK), "target": "CREATE", "create_revision": "0"}
-        if before:
-            compare = {"key": coded(MARK), "target": "VALUE", "value": coded(json.dumps(before._asdict()))}
-        answer = await self.call("kv/txn", {"compare": [{"result": "EQUAL", **compare}], "success": put})
-        return bool(answer.get("succeeded"))
+    async def put_mark(self, mark: Mark, before: Optional[Mark]) -> None:
+        """Puts a mark where another one stands, or none."""
+        old, new = (json.dumps(it._asdict()) if it else "" for it in (before, mark))
+        await self.replace(MARK, old, {MARK: new})
 
     async def put_piece(self, place: int, number: int, piece: bytes) -> None:
         value = base64.b64encode(piece).decode()
@@ -150,16 +164,14 @@ class Etcd:
 
     async def piece(self, place: int, number: int) -> bytes:
         """A piece of a checkpoint, packed."""
-        found = (await self.call("kv/range", {"key": coded(key_of_piece(place, number))})).get("kvs")
-        if not found:
+        if not (found := await self.range(key_of_piece(place, number))):
             raise Gone("another checkpoint stands for this one")
         return base64.b64decode(found[0]["value"])
 
     async def drop(self, mark: Mark) -> None:
         """Drops the batches up to a checkpoint, and those before it; some at a time, as others wait meanwhile."""
         for first, last in ((FIRST, key_of(mark.place + 1)), (PIECES, key_of_piece(mark.place, 0))):
-            span = {"key": coded(first), "range_end": coded(last), "limit": DROPPED, "keys_only": True}
-            while found := (await self.call("kv/range", span)).get("kvs"):
+            while found := await self.range(first, last, limit=DROPPED, keys_only=True):
                 end = coded(decoded(found[-1], "key") + "\0")
                 answer = await self.call("kv/deleterange", {"key": found[0]["key"], "range_end": end})
                 self.revision = int(answer["header"]["revision"])

@@ -2,9 +2,7 @@
 import asyncio
 import base64
 import json
-import math
 import random
-import socket
 import ssl
 import time
 from typing import Any, AsyncIterator, Callable, NamedTuple, Optional, Sequence
@@ -18,8 +16,7 @@ from .state import State
 from .waiting import Waiting
 
 NAME = "recorder"  # which every recorder has in its certificate, and nobody else
-SILENCE, LONGEST_LINE = 10.0, 2**20  # seconds without a word of a recorder; bytes
-AWAY = 5.0  # seconds for which a recorder may be silent and the ledger not be away
+SILENCE, AWAY, LONGEST_LINE = 10.0, 5.0, 2**20  # seconds without a word until a recorder or the ledger is away; bytes
 MOST, MOST_BYTES = 1_000, 262_144  # entries that are posted at once, and their bytes
 PARTED = "it is another ledger, or one that was restored (network/OPERATING.md)"
 PASSING = (aiohttp.ClientError, ConnectionError, TimeoutError, ValueError, KeyError, TypeError)
@@ -30,11 +27,7 @@ class Refused(PermissionError):
 
 
 class Unreachable(ConnectionError):
-    """No recorder answered within the deadline."""
-
-
-class Restored(ConnectionError):
-    """The ledger is being restored, and was told what is kept of it."""
+    """No recorder answered within the deadline, or the ledger is being restored, which was told what is kept of it."""
 
 
 class Parted(OSError):
@@ -48,7 +41,7 @@ class Resolver(aiohttp.ThreadedResolver):
         super().__init__()
         self.host = host
 
-    async def resolve(self, hostname: str, port: int = 0, family: int = socket.AF_INET) -> list[dict[str, Any]]:
+    async def resolve(self, hostname: str, port: int = 0, family: int = 0) -> list[dict[str, Any]]:
         return [{**it, "hostname": hostname} for it in await super().resolve(self.host, port, family)]
 
 
@@ -111,30 +104,25 @@ class Recorders:
             self.waiting, at = waiting, self.at
             texts = fitting((text for text, _ in waiting[:MOST]), MOST_BYTES)
             try:
-                answers = await asyncio.create_task(self.once(texts))
+                status, told = await asyncio.create_task(self.ask("entries", texts))
+                if status in (400, 403, 413):  # it hears none of them
+                    told = [{"refused": told["error"]}] * len(texts)
+                elif status != 200 or len(told) != len(texts):
+                    raise ConnectionError(f"a recorder answers with status {status}: {told['error']}")
+                answers = [it["place"] if "place" in it else Refused(it["refused"]) for it in told]
             except PASSING as fault:
                 pause = await self.mind(fault, at, pause)
                 continue
             pause = 0.1
             for (_, taken), answer in zip(waiting, answers):
                 if not taken.done():
-                    place, reason = answer.get("place"), answer.get("refused")
-                    taken.set_result(place) if place else taken.set_exception(Refused(reason))
+                    taken.set_exception(answer) if isinstance(answer, Refused) else taken.set_result(answer)
 
     async def ask(self, path: str, body: object) -> tuple[int, Any]:
         """Posts to a recorder; the status of its answer, and what it says."""
         url, session = self.known[self.at]
         async with session.post(url + path, json=body, timeout=aiohttp.ClientTimeout(total=30)) as said:
             return said.status, await said.json(content_type=None)
-
-    async def once(self, texts: list[str]) -> list[dict[str, Any]]:
-        """What a recorder answers to entries; of one that it does not hear at all the same for each."""
-        status, answer = await self.ask("entries", texts)
-        if status in (400, 403, 413):
-            return [{"refused": answer["error"]}] * len(texts)
-        if status != 200 or len(answer) != len(texts) or not all({*it} & {"place", "refused"} for it in answer):
-            raise ConnectionError(f"a recorder answers with status {status}: {answer['error']}")
-        return list(answer)
 
     async def mind(self, fault: BaseException, at: int, pause: float) -> float:
         """Turns to the next recorder where one failed, and pauses; for how long the next time."""
@@ -155,7 +143,7 @@ class Recorders:
                     pause, chain, ledger = 0.1, news.chain, news.ledger
                     yield news
                 raise ConnectionError("the recorder ended")
-            except Restored as fault:
+            except Unreachable as fault:
                 self.said = str(fault)
                 await asyncio.sleep(0.1)
             except PASSING as fault:
@@ -168,17 +156,18 @@ class Recorders:
         async with session.get(f"{url}entries", params={"after": str(place)}, timeout=limit) as said:
             read = said.content.readline
             told = json.loads(await read())
-            if "tail" in told:
-                await self.tell(told["tail"])
-                raise Restored(told["error"])
+            if "tail" in told:  # the ledger is being restored: it is told what is kept of it, or a part
+                entries = self.tail(place := told["tail"], 4 * MOST)
+                body = {"after": entries[0].revision - 1 if entries else place}
+                await self.ask("tail", body | {"entries": fitting((it.key for it in entries), MOST_BYTES)})
+                raise Unreachable(told["error"])
             if said.status != 200:
                 kind = {403: Refused, 409: Parted}.get(said.status, ConnectionError)
                 raise kind(told["error"])
             head, begun = int(told["head"]), Chain(told.get("place", place), bytes.fromhex(told["digest"]))
             if ledger not in ("", told["ledger"]) or chain and begun.place == place and chain != begun:
                 raise Parted(f"the ledger's first {place} entries are others than were heard before: {PARTED}")
-            count = told.get("pieces", 0)
-            pieces = [base64.b64decode(json.loads(await read())["piece"]) for _ in range(count)]
+            pieces = [base64.b64decode(json.loads(await read())["piece"]) for _ in range(told.get("pieces", 0))]
             if pieces and state_of(pieces) != told["state"]:
                 raise ConnectionError("a recorder's checkpoint is not what was written")
             chain, ledger = begun, told["ledger"]
@@ -187,17 +176,10 @@ class Recorders:
                 told = json.loads(line)
                 if "error" in told:
                     raise ConnectionError(f"a recorder sees the ledger no more: {told['error']}")
-                entries = [Entry(number, text) for number, text in enumerate(told["entries"], chain.place + 1)]
-                chain = chain.behind(told["entries"])
+                entries, chain = chain.followed(told["entries"]), chain.behind(told["entries"])
                 if told["digest"] != chain.digest.hex():
                     raise Parted(f"the entries up to {chain.place} have another digest than the ledger: {PARTED}")
                 yield News(chain, entries, head, ledger)
-
-    async def tell(self, place: int) -> None:
-        """Tells what is kept of a ledger behind a place, or a piece of it, to who restores it."""
-        entries = self.tail(place, 4 * MOST)
-        sent = fitting((it.key for it in entries), MOST_BYTES)
-        await self.ask("tail", {"after": entries[0].revision - 1 if entries else place, "entries": sent})
 
 
 class View:
@@ -208,7 +190,7 @@ class View:
         self.ledger, self.chain = self.state.ledger, self.state.chain
         recorders.tail = self.state.entries
         self.head, self.heard_at = -1, time.monotonic()  # where the ledger ended; when a recorder said something
-        self.absence = 0.0, -math.inf, ""  # the last one longer than `AWAY`: for how long it was, until when, and why
+        self.absence = 0.0, 0.0, ""  # the last one longer than `AWAY`: for how long it was, until when, and why
         self.entering, self.lost = False, None  # type: bool, Optional[Exception]  # what has ended following for good
 
     async def follow(self) -> None:

@@ -14,6 +14,7 @@ from .entries import ACK, ADDRESS, ATTEST, LAST_EPOCH, LAST_UNTIL, OPERATOR, PAS
 __all__ = ["ACK", "ADDRESS", "ATTEST", "LAST_UNTIL", "OPERATOR", "PAST", "REGISTER", "Entry", "Ledger", "entry_key"]
 ORDERS = "begin", "share", "expel", "concentrated", "calendar"  # what only the operator says
 ROOM = 1_048_576  # entries that a poster's registrations of an epoch may cause, each node's word among them
+FORMLESS = "it has not the form of an entry"
 REFUSED = {  # entries that change nothing: the first word of their line, and what their poster is told
     "refused past": "that epoch is past",
     "refused moving": "the epoch changes just now: post it again once it has changed",
@@ -128,7 +129,7 @@ class Ledger:
         """The words of an entry's line in a report if it came now; raises `Void` where it is void."""
         poster, kind = entry.words[:2] or ("", "")
         if not kind:
-            raise Void("it has not the form of an entry")
+            raise Void(FORMLESS)
         if poster in self.expelled:
             raise Void(f"{poster} is expelled")
         if kind in (REGISTER, ADDRESS) and self.posted[poster] >= self.share(poster):
@@ -160,6 +161,26 @@ class Ledger:
                     raise Void(f"epoch {self.epoch} is served, by others than {poster}, or it is another")
                 return "already" if self.past.get(poster) == epoch else "entered"
         return "entered"
+
+    def refuses(self, entry: Entry) -> str:
+        """Why an entry would change nothing if it came now; nothing where it counts."""
+        try:
+            return refusal(self.judge(entry))
+        except Void as void:
+            return str(void)
+
+    def stands(self, entry: Entry) -> bool:
+        """Whether an entry that counted says so still: what it said is not over, and no later one says otherwise."""
+        match [*entry.words[:2], *entry.values]:
+            case _, "register", _, until:
+                return bool(until > self.epoch)
+            case poster, "address", host, port:
+                return self.addresses.get(poster) == (host, port)
+            case _, "share", name, count:
+                return bool(self.shares.get(name) == count)
+            case _, "calendar", *plan:
+                return self.calendar == tuple(plan)
+        return True
 
     def enter(self, entry: Entry) -> None:
         """Does what an entry says that counts."""

@@ -13,8 +13,7 @@ from aiohttp import web
 from .connections import Named, Server
 from .entries import fitting, number
 from .etcd import Etcd, Failed, Gone
-from .follower import NAME as RECORDER
-from .follower import PARTED
+from .follower import NAME as RECORDER, PARTED
 from .gateway import ending
 from .keeping import Keeper
 from .notify import ready
@@ -58,10 +57,6 @@ class Service(Server):
     def may_post(self, name: str) -> bool:
         return name not in ("", RECORDER) and name not in self.recorder.ledger.expelled
 
-    @property
-    def slow(self) -> str:
-        return self.recorder.fault or f"etcd at {self.settings.etcd} is slow"
-
     @web.middleware
     async def answer(self, request: web.Request, handler: Callable[..., Awaitable[Any]]) -> web.StreamResponse:
         """Has a request answered under the name in its certificate; what is wrong is told as JSON."""
@@ -87,7 +82,7 @@ class Service(Server):
 
     async def post(self, request: web.Request) -> web.Response:
         """Takes entries, and answers once the ledger has them."""
-        name = request["name"]
+        name, recorder = request["name"], self.recorder
         try:
             async with asyncio.timeout(REQUEST):
                 texts = json.loads(await request.read())
@@ -97,14 +92,14 @@ class Service(Server):
             return wrong(400, f"the body is a list of at most {MOST_ENTRIES} texts KIND/FIELDS")
         if self.asked[name] + len(texts) > 2 * MOST_ENTRIES:
             return wrong(429, f"{name} has {self.asked[name]} entries under way")
-        if len(self.recorder.waiting) + len(texts) > MOST_WAITING:
-            return wrong(503, f"{len(self.recorder.waiting)} entries wait already: post them again")
+        if len(recorder.waiting) + len(texts) > MOST_WAITING:
+            return wrong(503, f"{len(recorder.waiting)} entries wait already: post them again")
         self.asked[name] += len(texts)
         try:
             async with asyncio.timeout(ANSWER):
-                said = await self.recorder.post([f"{name}/{it}" for it in texts])
+                said = await recorder.post([f"{name}/{it}" for it in texts])
         except TimeoutError:
-            return wrong(503, f"it is not appended yet: {self.slow}; post it again")
+            return wrong(503, f"it is not appended yet: {recorder.slow}; post it again")
         finally:
             self.asked[name] -= len(texts)
         return web.json_response([{"place": it} if isinstance(it, int) else {"refused": str(it)} for it in said])
@@ -117,13 +112,13 @@ class Service(Server):
         await recorder.refresh()
         if after > (end := recorder.chain.place):
             return wrong(409, f"the ledger ends at place {end}, but {after} entries were heard before: {PARTED}")
-        line: dict[str, Any] = {"ledger": recorder.identity, "head": end}
+        line: dict[str, Any] = {"ledger": recorder.identity, "head": end, "entries": []}
         mark = await recorder.etcd.mark()
         if mark and after < mark.place and (mark.dropped or not after):
-            chain = mark.chain
+            chain, texts = mark.chain, list[str]()
             line |= {"place": mark.place, "pieces": mark.pieces, "state": mark.state}
         else:
-            chain, mark = await recorder.chain_at(after), None
+            (chain, texts), mark = await recorder.behind(after), None
         response = web.StreamResponse(headers={"Content-Type": "application/x-ndjson", "Cache-Control": "no-store"})
 
         async def tell(line: dict[str, Any]) -> None:
@@ -132,21 +127,21 @@ class Service(Server):
 
         await response.prepare(request)
         try:
-            await tell({**line, "entries": [], "digest": chain.digest.hex()})
-            for piece in range(mark.pieces) if mark else ():
-                await tell({"piece": base64.b64encode(await recorder.etcd.piece(chain.place, piece)).decode()})
+            await tell(line | {"digest": chain.digest.hex()})
+            for count in range(mark.pieces) if mark else ():
+                async with recorder.turn:
+                    piece = await recorder.etcd.piece(chain.place, count)
+                await tell({"piece": base64.b64encode(piece).decode()})
             while request.transport and not request.transport.is_closing() and name not in recorder.ledger.expelled:
-                texts = await recorder.entries(chain.place)
-                while texts:
-                    told = fitting(texts, MOST_BATCH)
-                    chain, texts = chain.behind(told), texts[len(told) :]  # noqa: E203
-                    await tell({"entries": told, "digest": chain.digest.hex()})
+                told = fitting(texts, MOST_BATCH)
+                chain, texts = chain.behind(told), texts[len(told) :]  # noqa: E203
+                await tell({"entries": told, "digest": chain.digest.hex()})
                 self.places[name] = place = chain.place
-                if not await recorder.news.until(lambda: recorder.chain.place > place, BEAT):
-                    if not recorder.fresh:  # another recorder may see more
-                        await tell({"error": self.slow})
-                        break
-                    await tell({"entries": [], "digest": chain.digest.hex()})
+                if not texts and await recorder.news.until(lambda: recorder.chain.place > place, BEAT):
+                    _, texts = await recorder.behind(place)
+                elif not texts and not recorder.fresh:  # another recorder may see more
+                    await tell({"error": recorder.slow})
+                    break
         except (TimeoutError, OSError, Gone):  # who follows does not read, or is gone, or far behind; or etcd is away
             if request.transport:
                 request.transport.abort()
@@ -154,10 +149,9 @@ class Service(Server):
 
     async def status(self, request: web.Request) -> web.Response:
         recorder = self.recorder
-        told: dict[str, Any] = {"ledger": recorder.identity, "epoch": recorder.ledger.epoch}
-        told |= {"place": recorder.chain.place, "digest": recorder.chain.digest.hex()}
-        told |= {"fresh": recorder.fresh, "said": recorder.fault}
-        return web.json_response({**told, "followers": self.places, "past": recorder.ledger.past})
+        told = json.loads(recorder.head(recorder.chain)) | {"fresh": recorder.fresh, "said": recorder.fault}
+        told |= {"epoch": recorder.ledger.epoch, "past": recorder.ledger.past, "followers": self.places}
+        return web.json_response(told)
 
 
 def wrong(status: int, text: str) -> web.Response:

@@ -89,10 +89,8 @@ class Restoring(Service):
         while time.monotonic() < self.progress + seconds:
             if entries := self.agreed():
                 batch = Batch(recorder.chain, entries)
-                won, _ = await recorder.etcd.append(recorder.head(recorder.chain), recorder.head(batch.after), batch)
-                if not won:
+                if not await recorder.step(batch):
                     raise Broken("a recorder is running: end all of them first")
-                recorder.enter(batch)
                 count, self.progress = count + len(entries), time.monotonic()
                 self.tails.clear()
                 print(f"{count} entries are there again, up to place {recorder.chain.place}", flush=True)
@@ -105,13 +103,11 @@ class Restoring(Service):
 
 async def serve(settings: RecorderSettings, seconds: float) -> int:
     """Runs until the ledger is whole, or nobody tells more."""
-    etcd = etcd_of(settings)
-    service, told = Restoring(Recorder(etcd), settings), ending()
+    recorder = Recorder(etcd_of(settings))
+    service, told = Restoring(recorder, settings), ending()
     try:
-        await service.recorder.catch_up()
-        print(
-            f"the ledger ends at place {service.recorder.chain.place}: nodes are asked for what they have", flush=True
-        )
+        await recorder.catch_up()
+        print(f"the ledger ends at place {recorder.chain.place}: nodes are asked for what they have", flush=True)
         await service.listen()
         working = asyncio.create_task(service.restore(seconds))
         await asyncio.wait([working, asyncio.create_task(told.wait())], return_when=asyncio.FIRST_COMPLETED)
@@ -120,12 +116,12 @@ async def serve(settings: RecorderSettings, seconds: float) -> int:
         for name in silent:
             first = service.short.get(name)
             print(f"{name} {f'has kept nothing before place {first}' if first else 'was not heard at the end'}")
-        print(f"{count or 0} entries are back; the ledger ends at place {service.recorder.chain.place}")
+        print(f"{count or 0} entries are back; the ledger ends at place {recorder.chain.place}")
         return 0 if count is not None else 1
     except (Broken, Failed, OSError) as fault:
         print(f"the ledger is not restored: {fault}", file=sys.stderr)
         return 1
     finally:
         await service.end(1)
-        await etcd.aclose()
-        service.recorder.state.close()
+        await recorder.etcd.aclose()
+        recorder.state.close()

@@ -1,0 +1,196 @@
+"""What one participant may try against the ledger's machines, and what a recorder meets that others have cut anew."""
+import asyncio
+import contextlib
+import io
+import pathlib
+import ssl
+import tempfile
+import unittest
+from unittest import mock
+
+from ledger_case import FOUNDED, Chain, LedgerCase, Memory, registration
+from walrus import client
+from walrus.network import certificates, recorder
+from walrus.network.entries import ADDRESS, Entry, entry_key
+from walrus.network.etcd import Batch, Gone
+from walrus.network.follower import Refused
+from walrus.network.ledger import Ledger
+from walrus.network.peers import FIGURES, Peers, Seat
+from walrus.network.recorder import Broken, Recorder
+
+
+class Waiting(unittest.IsolatedAsyncioTestCase):
+    """Posters of a recorder whose etcd does nothing that it is asked."""
+
+    async def asyncSetUp(self) -> None:
+        asyncio.get_running_loop().set_debug(False)
+        self.etcd = Memory()
+        self.made = Recorder(self.etcd)
+        quiet = self.enterContext(contextlib.redirect_stderr(io.StringIO()))
+        self.assertEqual(quiet.getvalue(), "")
+        self.enterContext(mock.patch.object(recorder, "POLL", 0.01))
+        self.addCleanup(asyncio.create_task(self.made.run()).cancel)
+        self.assertEqual(await self.made.post([FOUNDED]), [1])
+        self.etcd.plan = {call: "before" for call in range(self.etcd.calls + 1, self.etcd.calls + 100_000)}
+
+    async def test_who_posted_and_is_gone_leaves_nothing_behind(self) -> None:
+        """Else whoever posts again and again takes more and more memory for as long as etcd is away or full."""
+        for number in range(5):
+            with self.assertRaises(TimeoutError):
+                async with asyncio.timeout(0.05):
+                    await self.made.post([registration("x", 100 * number + it) for it in range(100)])
+        await asyncio.sleep(0)
+        self.assertEqual(len(self.made.waiting), 0)
+        self.etcd.plan = {}
+        self.assertEqual(await self.made.post([registration("x", 0)]), [2])
+
+    async def test_nobody_waits_behind_all_that_another_one_posts(self) -> None:
+        self.etcd.plan = {}
+        many = [registration("x", number) for number in range(8_000)]  # more than two batches
+        flood = asyncio.create_task(self.made.post(many))
+        await asyncio.sleep(0)
+        places = await asyncio.gather(*(self.made.post([registration(name, 1)]) for name in "yz"))
+        self.assertLess(max(place for [place] in places), 4_000)  # behind the batch that was under way
+        self.assertFalse(flood.done())
+        self.assertEqual(sorted(await flood), [it for it in range(2, 8_004) if [it] not in places])
+        self.assertEqual([it for it in self.etcd.all if it.startswith("x/")], many)  # in their order
+
+    async def test_what_has_no_form_waits_for_nothing(self) -> None:
+        """Else it would stand before what others post, a batch's size of it for each call of etcd."""
+        texts = ["x", "x/" + "y" * 1_000_000, "x/ready/01", "x/register/\ud800/1", ""]
+        async with asyncio.timeout(5):
+            said = await self.made.post(texts)
+        self.assertEqual([str(it) for it in said], ["it has not the form of an entry"] * 5)
+        self.assertTrue(all(isinstance(it, Refused) for it in said))
+        self.assertEqual(self.etcd.all, [FOUNDED])
+
+
+class Places(unittest.IsolatedAsyncioTestCase):
+    async def asyncSetUp(self) -> None:
+        asyncio.get_running_loop().set_debug(False)
+
+    async def test_many_places_are_forgotten_while_others_go_on(self) -> None:
+        made, turns = Recorder(Memory()), list[int]()
+        texts = [FOUNDED, *(registration("x", number) for number in range(999))]
+        for entry in Chain(0, b"").followed(texts):
+            made.apply(entry)
+
+        async def others() -> None:
+            while True:
+                turns.append(1)
+                await asyncio.sleep(0)
+
+        task = asyncio.create_task(others())
+        await made.forget(990)
+        task.cancel()
+        self.assertGreater(len(turns), 200)
+        self.assertEqual([made.place_of(text) for text in texts], [None] * 990 + [*range(991, 1_001)])
+        await made.forget(5_000)
+        self.assertIsNone(made.place_of(texts[-1]))
+        made.state.close()
+
+    async def test_a_recorder_goes_on_in_the_midst_of_a_batch(self) -> None:
+        """As who restores a ledger cuts it anew; where the batch has other entries there, it stops."""
+        texts = [FOUNDED, *(registration("x", number) for number in range(5))]
+        other = [*texts[:3], registration("y", 9), *texts[4:]]
+        for cut, entries, whole in (([1, 3, 6], texts, True), ([6], texts, True), ([2, 6], other, False)):
+            etcd, made = Memory(), Recorder(Memory())
+            await made.etcd.append("", made.head(made.chain))
+            await made.catch_up()
+            chain = made.chain
+            for text in texts[:4]:
+                self.assertTrue(await made.step(Batch(made.chain, [text])))
+            for first, last in zip([0, *cut], cut):
+                batch = Batch(chain, entries[first:last])
+                etcd.kept[first + 1], chain = batch, batch.after
+            etcd.top, made.etcd = made.head(chain), etcd
+            if whole:
+                await made.catch_up()
+                self.assertEqual(made.chain, chain)
+                self.assertEqual(len(made.ledger.blobs), 5)
+            else:
+                with self.assertRaisesRegex(Broken, "does not follow on what was read"):
+                    await made.catch_up()
+            made.state.close()
+
+
+class Addresses(unittest.IsolatedAsyncioTestCase):
+    """What a node may tell as its address, against who reaches the nodes."""
+
+    async def asyncSetUp(self) -> None:
+        asyncio.get_running_loop().set_debug(False)
+
+    async def test_an_address_that_leads_nowhere_is_its_node_s_alone(self) -> None:
+        with tempfile.TemporaryDirectory() as folder:
+            certificates.make_authority(pathlib.Path(folder, "authority"))
+            certificates.make(pathlib.Path(folder, "node"), pathlib.Path(folder, "authority"), "b", ["b"])
+            context = ssl.create_default_context(ssl.Purpose.CLIENT_AUTH)
+            context.load_cert_chain(f"{folder}/node.crt", f"{folder}/node.key")
+
+            async def serve(reader: asyncio.StreamReader, writer: asyncio.StreamWriter) -> None:
+                with contextlib.suppress(OSError, EOFError), contextlib.closing(writer):
+                    await client.take_envelope(reader, 99)
+                    writer.write(client.envelope(b"." + b"{}"))
+
+            server = await asyncio.start_server(serve, "127.0.0.1", 0, ssl=context)
+            self.addCleanup(server.close)
+            ledger = Ledger()
+            peers = Peers(ledger, pathlib.Path(folder, "authority.crt"), 5)
+            port = server.sockets[0].getsockname()[1]
+            for place, host in enumerate(("a" * 100, "a..b", "::::", "1.2.3.4.5", "a-", ":", "a" * 253)):
+                for name, at in (("a", host), ("b", "127.0.0.1")):
+                    self.assertEqual(ledger.apply(Entry(place + 1, entry_key(name, ADDRESS, at, port))), "entered")
+                with self.assertRaises(ConnectionError):
+                    await peers.told("a", FIGURES)
+                with self.assertRaises(ConnectionError):
+                    await Seat(peers, "a", 0, 1).ask(client.write_frame(client.Read(bytes(32))))
+                self.assertEqual(await peers.told("b", FIGURES), {})
+            await peers.close()
+
+
+class Reading(LedgerCase):
+    """What is asked of etcd for who follows."""
+
+    async def fill(self, sizes: list[int], text: str) -> list[Chain]:
+        """Appends batches of so many entries; what the ledger was before each of them, and is behind the last one."""
+        asked = self.recorders[0]
+        await asked.refresh()
+        chains = [asked.chain]
+        for size in sizes:
+            batch = Batch(chains[-1], [text] * size)
+            after = asked.head(batch.after)
+            self.assertEqual(await asked.etcd.append(asked.head(chains[-1]), after, batch), (after, []))
+            chains.append(batch.after)
+        return chains
+
+    async def test_any_place_is_found_in_batches_of_any_size(self) -> None:
+        chains = await self.fill([1, 1, 70, 1, 5_000, 2, 25_000, 1], "a/ready/1")
+        etcd, last = self.recorders[0].etcd, chains[-1].place
+        for before, behind in zip(chains, chains[1:]):
+            inside = {before.place, (before.place + behind.place) // 2, behind.place - 1}
+            for place in sorted(inside):
+                batch = (await etcd.batches(place))[0]
+                self.assertEqual((batch.before, batch.after), (before, behind), place)
+                chain, texts = await self.recorders[1].behind(place)
+                self.assertEqual(chain, before.behind(batch.entries[: place - before.place]))
+                self.assertEqual(chain.behind(texts).place, place + len(texts))
+        for place in (last, last + 300_000):
+            with self.assertRaises(Gone):
+                await etcd.batches(place)
+
+    async def test_a_read_takes_no_more_of_etcd_the_longer_the_ledger_is(self) -> None:
+        chains = await self.fill([15] * 200, "x" * 16_000)
+        process = self.local.processes["etcd"].pid
+
+        def resident() -> int:
+            text = pathlib.Path(f"/proc/{process}/status").read_text()
+            return int(text.split("VmHWM:")[1].split()[0]) // 1_000
+
+        before, last = resident(), chains[-1].place
+        read = await asyncio.gather(*(self.recorders[0].etcd.batches(last - 1) for _ in range(16)))
+        self.assertEqual({it[0].after for it in read}, {chains[-1]})
+        self.assertLess(resident() - before, 150)  # MB; the ledger has 48, which each read took several times
+
+
+if __name__ == "__main__":
+    unittest.main()
