@@ -665,6 +665,20 @@ class Heads(unittest.IsolatedAsyncioTestCase):
             self.assertEqual(await one.post([registration("x", 20)]), [22])
             self.assertTrue(await other.news.until(lambda: other.chain.place == 22, 10))
 
+    async def test_what_comes_behind_many_entries_is_appended_together(self) -> None:
+        one, _ = self.recorders
+        self.tasks[1].cancel()
+        with mock.patch.multiple(recorder, POLL=3600.0, EACH=0.1, GATHER=1.0):
+            await one.refresh()
+            calls = self.etcd.calls
+            await one.post([registration("x", number) for number in range(20)])
+            soon = []
+            for number in range(20, 25):
+                soon.append(asyncio.create_task(one.post([registration("x", number)])))
+                await asyncio.sleep(0.02)
+            self.assertEqual(await asyncio.gather(*soon), [[place] for place in range(22, 27)])
+            self.assertEqual(self.etcd.calls - calls, 2)
+
     async def test_followers_are_told_the_same_from_memory_and_from_etcd(self) -> None:
         one, other = self.recorders
         texts = [FOUNDED, *(registration("x", number) for number in range(60))]

@@ -25,6 +25,7 @@ from .waiting import Waiting
 
 MOST_BATCH, RECENT = 262_144, 4_194_304  # bytes of a batch, and of batches kept for followers
 BEAT, POLL, FRESH = 1.0, 1.0, 5.0  # seconds
+EACH, GATHER = 0.001, 0.01  # seconds between two batches for each entry of the first one, and at most
 GRACE = 60.0  # seconds in which a checkpoint is left to the recorder that has appended the turn of the epoch
 Taken = asyncio.Future[int]  # the place of an entry that was posted
 
@@ -98,6 +99,7 @@ class Recorder:
                     async with asyncio.timeout(POLL):
                         await self.bell.wait()
                 self.bell.clear()
+                begun, place = time.monotonic(), self.chain.place
                 try:
                     await (self.append() if self.waiting and self.identity else self.catch_up())
                     await self.etcd.compact()
@@ -109,7 +111,8 @@ class Recorder:
                     await asyncio.sleep(pause)
                     pause = min(2 * pause, 2.0)
                     self.bell.set()
-                self.news.tell()
+                self.news.tell()  # and what comes behind many entries waits for others
+                await asyncio.sleep(begun + min(GATHER, EACH * (self.chain.place - place)) - time.monotonic())
         finally:
             watching.cancel()
 
