@@ -29,32 +29,52 @@ from walrus.network.local import find_program, free_port
 MIB, FRESH = 2**20, "node-4"
 SIZES = 64, 1_024, 128, 512, 256  # MiB of files, one after the other
 ZEROS = bytes(MIB)
+BLOCK = 4_096  # bytes that each MiB of a file repeats, if it is to compress
 MOST_MEMORY, MOST_GATEWAY, LONGEST_START = 256.0, 300.0, 2.0  # MB and seconds, with which it is compared
 KILLED, REPLACED = "node-1", "node-2"
 ELSEWHERE = f"where a node has its disk; {FRESH}, which replaces {REPLACED}, has it where that had its own"
+COMPRESSES = f"each MiB repeats a block of {BLOCK} bytes of its own, for a file system that compresses"
 SHARE, COUNTED = 5 / 6, 11  # of all bytes, which each of four nodes holds; seconds until it has counted them anew
+
+
+class Drawn:
+    """The bytes of a file one after the other: AES in counter mode, of which each MiB repeats its first block if the
+    file is to compress. No two MiB are the same."""
+
+    def __init__(self, number: int, repeated: bool):
+        self.cipher = Cipher(algorithms.AES(number.to_bytes(16, "big")), modes.CTR(bytes(16))).encryptor()
+        self.repeated, self.piece = repeated, memoryview(b"")
+
+    def take(self, size: int) -> bytes:
+        """The next bytes, at most so many."""
+        if not self.piece:
+            self.piece = memoryview(self.cipher.update(ZEROS))
+            if self.repeated:
+                self.piece = memoryview(bytes(self.piece[:BLOCK]) * (MIB // BLOCK))
+        taken, self.piece = self.piece[:size], self.piece[size:]
+        return bytes(taken)
 
 
 @dataclasses.dataclass
 class File:
-    """A file that is drawn from its number: its bytes are those of AES in counter mode."""
+    """A file that is drawn from its number."""
 
     number: int
     size: int
+    repeated: bool = False  # in each MiB
     name: str = ""  # that the gateway gave it
 
-    def drawn(self) -> Any:
-        """What draws its next bytes in place of as many zeros."""
-        return Cipher(algorithms.AES(self.number.to_bytes(16, "big")), modes.CTR(bytes(16))).encryptor()
+    def drawn(self) -> Drawn:
+        return Drawn(self.number, self.repeated)
 
 
-def files_of(size: int) -> list[File]:
+def files_of(size: int, repeated: bool = False) -> list[File]:
     """Files of so many bytes together."""
     found, numbers = list[File](), itertools.count(1)
     for mebibytes in itertools.cycle(SIZES):
         if size <= 0:
             return found
-        found.append(File(next(numbers), min(size, mebibytes * MIB)))
+        found.append(File(next(numbers), min(size, mebibytes * MIB), repeated))
         size -= found[-1].size
     return found
 
@@ -66,7 +86,8 @@ class Large(bench.Bench):
         folder = pathlib.Path(tempfile.mkdtemp(prefix="walrus-bench-", dir=words.folder))
         super().__init__(folder, float("inf"))
         self.words, self.url = words, f"http://127.0.0.1:{free_port()}"
-        self.files, self.moved = files_of(round(words.gigabytes * 1e9)), 0  # bytes in the step that runs
+        self.files = files_of(round(words.gigabytes * 1e9), words.compressible)
+        self.moved = 0  # bytes in the step that runs
         self.places, self.rows = dict[str, pathlib.Path](), list[tuple[str, str]]()
         self.session = aiohttp.ClientSession(timeout=aiohttp.ClientTimeout(total=None, sock_read=120))
         self.fine = True
@@ -106,10 +127,10 @@ class Large(bench.Bench):
 
     async def sent(self, file: File) -> AsyncIterator[bytes]:
         """The bytes of a file, piece by piece."""
-        drawn = file.drawn()
-        for start in range(0, file.size, MIB):
-            piece = drawn.update(ZEROS[: file.size - start])
-            yield piece
+        drawn, left = file.drawn(), file.size
+        while left:
+            yield (piece := drawn.take(left))
+            left -= len(piece)
             self.moved += len(piece)
 
     async def put(self, file: File) -> None:  # type: ignore[override]
@@ -124,9 +145,12 @@ class Large(bench.Bench):
         async with self.session.get(f"{self.url}/v1/blobs/{file.name}") as response:
             response.raise_for_status()
             async for part in response.content.iter_any():
-                if drawn.update(bytes(len(part))) != part:
-                    raise RuntimeError(f"{file.name} is not what was stored, {left} bytes before its end")
-                left -= len(part)
+                view = memoryview(part)
+                while view:
+                    wanted = drawn.take(len(view))
+                    if wanted != view[: len(wanted)]:
+                        raise RuntimeError(f"{file.name} is not what was stored, {left} bytes before its end")
+                    view, left = view[len(wanted) :], left - len(wanted)  # noqa: E203
                 self.moved += len(part)
         if left:
             raise RuntimeError(f"{file.name} ends {left} bytes early")
@@ -255,9 +279,12 @@ def main() -> int:
     parser.add_argument("--skip", nargs="+", choices=("kill", "read", "replace"), default=[], help="steps to leave out")
     parser.add_argument("--at-once", type=int, default=2, metavar="N", help="files that are under way at once; 2")
     parser.add_argument("--minutes", type=float, default=60, help="for all of it; 60")
+    parser.add_argument("--compressible", action="store_true", help=COMPRESSES)
     words = parser.parse_args()
     words.place = dict(words.place)
     print(f"program {find_program()}, {os.cpu_count()} processors, load {os.getloadavg()[0]:.1f}")
+    if words.compressible:
+        print(f"contents compress: {COMPRESSES}", flush=True)
     return not loop.run(measure(words))
 
 

@@ -13,12 +13,16 @@ PROGRAM = shutil.which("chromium") or shutil.which("chromium-browser") or ""
 
 
 class Browser(contextlib.AbstractAsyncContextManager["Browser"]):
-    """One page; what goes wrong in it is raised."""
+    """One page; what goes wrong in it is raised. It may be given words for Chromium."""
+
+    def __init__(self, *words: str):
+        self.words = words
 
     async def __aenter__(self) -> "Browser":
         self.folder = tempfile.mkdtemp(prefix="walrus-browser-")
         words = ["--headless", "--no-sandbox", "--disable-gpu", "--disable-dev-shm-usage", "--no-first-run"]
         words += ["--remote-debugging-port=0", "--remote-allow-origins=*", f"--user-data-dir={self.folder}"]
+        words += self.words
         quiet = {"stdin": asyncio.subprocess.DEVNULL, "stdout": asyncio.subprocess.DEVNULL}
         self.process = await asyncio.create_subprocess_exec(PROGRAM, *words, "about:blank", stderr=-3, **quiet)
         self.session, self.number = aiohttp.ClientSession(), 0

@@ -32,7 +32,7 @@ class GuardCase(LedgerCase):
         self.stored, self.files, self.was_there = list[bytes](), dict[str, bytes](), False
         self.session = await self.enterAsyncContext(aiohttp.ClientSession())
 
-    async def start(self, host: str = "127.0.0.1", **options: Any) -> None:
+    async def start(self, host: str = "127.0.0.1", port: int = 0, **options: Any) -> None:
         """Starts a gateway at the URL `url`."""
         self.enterContext(mock.patch.object(reading.Reader, "fetch", self.fetch))
         self.gateway = Gateway(self.network, self.folder, Options(challenge=0, probe=60, **options))
@@ -40,7 +40,7 @@ class GuardCase(LedgerCase):
         self.enterContext(mock.patch.object(self.gateway.publisher.writer, "store", self.store))
         self.enterContext(mock.patch.object(self.gateway.reader, "must_stand", lambda _: None))
         self.enterContext(mock.patch.object(self.gateway.reader, "length_alone", mock.AsyncMock(return_value=None)))
-        self.port = await self.gateway.listen(host)
+        self.port = await self.gateway.listen(host, port)
         self.url = f"http{'s' * bool(self.gateway.certificate)}://{host}:{self.port}"
 
     async def store(self, stream: AsyncIterator[bytes], epochs: int, _: object = None) -> dict[str, Any]:

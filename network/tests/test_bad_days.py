@@ -11,7 +11,7 @@ import unittest
 from typing import Any
 from unittest import mock
 
-from harness import FOUR, ODD, NetworkCase, faked_clock, usage_of
+from harness import FOUR, HERE, ODD, NetworkCase, faked_clock, usage_of
 from http_case import GatewayCase
 
 from walrus import client
@@ -340,6 +340,11 @@ class BadDays(NetworkCase):
             self.assertEqual([told["scrub"][it] for it in ("begun", "blobs", "wrong")], [begun["begun"], 6, 2], told)
             await self.recovered("node-3", 12)
             self.assertEqual((self.folder / "node-3.parts" / "ab" / "nobody").exists(), False)
+            command = str(HERE.parent / "walrus-net"), "scrub", str(self.folder), "node-3", "--json"
+            again = await asyncio.create_subprocess_exec(*command, stdout=asyncio.subprocess.PIPE)
+            self.assertEqual(json.loads((await again.communicate())[0])["held"]["blobs"], 6)
+            told = await network.peers.told("node-3", FIGURES)
+            self.assertGreater(told["scrub"]["begun"], begun["begun"])
             for name in ("node-0", "node-1"):
                 await self.local.end(name, kill=True)
             await self.reads_all(network)

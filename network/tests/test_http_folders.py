@@ -12,15 +12,19 @@ import tarfile
 import time
 import unittest
 import unittest.mock
-from typing import Any
+import urllib.parse
+from typing import Any, AsyncIterator
 
+import yarl
 from folder_case import HOSTILE, Files, form_of, manifest_of, odd_tar, site, tar_of
 from guard_case import GuardCase
 from harness import HERE
-from walrus.network import archives, gathering, manifest, problems, shelf, turns
+from walrus import client
+from walrus.network import archives, gathering, manifest, problems, shares, shelf, turns
 from walrus.network.manifest import MARK, Manifest, Place, Wrong
 
 TAR = {"Content-Type": "application/x-tar"}
+AUTO = ["Content-Type"]  # which aiohttp would say by itself
 
 
 def name_of(data: bytes) -> bytes:
@@ -409,6 +413,108 @@ class Folders(GuardCase):
         used = self.gateway.publisher.shares.used("one", 0)
         await self.put_folder(tar_of({"a": b"x" * 30_000}), 200, headers=shown)
         self.assertEqual(self.gateway.publisher.shares.used("one", 0), used)
+
+    async def test_what_is_certified_of_a_folder_that_fails_is_told(self) -> None:
+        await self.start()
+        true, files = self.gateway.publisher.writer.store, {"a": b"a" * 600_000, "b": b"b" * 600_000}
+
+        async def store(stream: AsyncIterator[bytes], epochs: int, stored: list[bytes]) -> dict[str, Any]:
+            told: dict[str, Any] = await true(stream, epochs)
+            if told["blobId"] != hashlib.sha256(files["a"]).hexdigest():
+                await asyncio.sleep(0.2)  # the other one is certified by then
+                raise client.Failed("it is told to fail", {})
+            stored.append(bytes.fromhex(told["blobId"]))
+            return told
+
+        with unittest.mock.patch.object(self.gateway.publisher.writer, "store", store):
+            error = (await self.put_folder(tar_of(files), 503))["error"]
+        self.assertEqual((error["stored"], error["storedPieces"]), ([hashlib.sha256(files["a"]).hexdigest()], 1))
+
+    async def test_a_file_keeps_a_name_and_a_type_if_it_is_asked(self) -> None:
+        await self.start()
+        picture, long = {"Content-Type": "image/x-own; charset=UTF-8"}, bytes(524_289)
+        for name, data, sent, kind in (
+            ("a.svg", b"<svg/>", {}, "image/svg+xml"),
+            ("a.svg", b"<svg/>", {"Content-Type": "application/octet-stream"}, "image/svg+xml"),
+            ("a.svg", b"<svg/>", picture, "image/x-own"),
+            ("\u00fc ber.html", b"<p>", {"Content-Type": "text/html"}, "text/html"),
+            ("empty", b"", {}, "application/octet-stream"),
+            ("film.webm", long, {}, "video/webm"),
+        ):
+            path = f"/v1/blobs?epochs=5&filename={urllib.parse.quote(name)}"
+            status, headers, told = await self.ask("PUT", path, data=data, headers=sent, skip_auto_headers=AUTO)
+            file = hashlib.sha256(data).hexdigest()
+            at = "-" if not data else file if data == long else f"{file}@0"
+            made = f"\0walrus folder\0\1{name}\t{kind}\t{len(data)}\t{at}\n".encode()
+            folder = hashlib.sha256(made).hexdigest()
+            where = f"/v1/folders/{folder}/{urllib.parse.quote(name)}"
+            self.assertEqual((status, told["blobId"], told["size"]), (201, file, len(data)))
+            self.assertEqual(told["named"], {"folder": folder, "type": kind, "path": where})
+            self.assertEqual(headers["location"], f"/v1/blobs/{file}")
+            status, headers, body = await self.get(where)
+            self.assertEqual((status, headers["content-type"].partition(";")[0], body), (200, kind, data))
+            self.assertEqual((await self.get(f"/v1/blobs/{file}"))[1]["content-type"], "application/octet-stream")
+        named = (await self.put_folder(tar_of({"a.svg": b"<svg/>"})))["blobId"]
+        line = b"a.svg\timage/svg+xml\t6\t" + hashlib.sha256(b"<svg/>").hexdigest().encode() + b"@0\n"
+        self.assertEqual(named, hashlib.sha256(MARK + line).hexdigest())  # as a folder of it is named anyway
+        count = len(self.stored)
+        for name, sent, said in (
+            ("", {}, "empty name"),
+            ("..", {}, "no path"),
+            ("a/b", {}, "a path"),
+            ("./a", {}, "a path"),
+            ("%FF", {}, "no UTF-8"),
+            ("a%0D%0Ab", {}, "control character"),
+            ("a" * 256, {}, "too long"),
+            ("a", {"Content-Type": "text/html; charset=latin-1"}, "no media type that is kept"),
+            ("a", {"Content-Type": "multipart/form-data; boundary=x"}, "no media type that is kept"),
+            ("a", {"Content-Type": "text"}, "no media type that is kept"),
+        ):
+            url = yarl.URL(f"{self.url}/v1/blobs?epochs=5&filename={name}", encoded=True)
+            async with self.session.put(url, data=b"x", headers=sent, skip_auto_headers=AUTO) as refused:
+                self.assertEqual(refused.status, 400, name)
+                self.assertIn(said, (await refused.json())["error"]["text"], name)
+        self.assertEqual((await self.ask("PUT", "/v1/blobs?filename=a", data=b"x"))[0], 400)
+        self.assertEqual((await self.ask("POST", "/v1/uploads?epochs=5&filename=a", data=b"x"))[0], 400)
+        self.assertEqual(len(self.stored), count)
+
+    async def test_a_folder_that_breaks_off_costs_what_may_be_stored(self) -> None:
+        shown = self.token("one", bytes=1_000_000, blobs=100)
+        for module, name, size in (
+            (gathering, "SMALL", 5_000),
+            (gathering, "PIECE", 50_000),
+            (shares, "PIECE", 50_000),
+        ):
+            self.enterContext(unittest.mock.patch.object(module, name, size))
+        await self.start()
+        whole = tar_of({"a": bytes(20_000), "b": bytes(300_000)})
+        await self.put_folder(whole[: 512 + 20_480 + 512 + 120_000], 400, headers=shown)
+        self.assertEqual(self.used("one"), (20_000 + 100_000, 1 + 2))  # all of a, and two whole pieces of b
+        await self.put_folder(whole, headers=shown)
+        told = len(self.stored[-1])
+        self.assertEqual(self.used("one"), (120_000 + 320_000 + told, 3 + 1 + 7 + 1))  # b has six pieces and their list
+
+    async def test_a_name_counts_on_the_share_of_its_token(self) -> None:
+        shown, poor = self.token("one", bytes=10_000, blobs=4), self.token("poor", blobs=1)
+        await self.start()
+        path = "/v1/blobs?epochs=5&filename=a"
+        self.assertEqual((await self.ask("PUT", path, data=bytes(700), headers=shown))[0], 201)
+        used = 700 + len(self.stored[-1]), 2
+        self.assertEqual(self.used("one"), used)
+        self.assertEqual((await self.ask("PUT", path, data=bytes(700), headers=poor))[0], 403)
+        self.assertEqual((self.used("poor"), len(self.stored)), ((0, 0), 2))
+        headers = {**shown, "Repr-Digest": f"sha-256=:{'A' * 43}=:"}  # of other bytes
+        for data in (bytes(900), b""):
+            self.assertEqual((await self.ask("PUT", path, data=data, headers=headers))[0], 400)
+            self.assertEqual((self.used("one"), len(self.stored)), (used, 2))
+        self.was_there = True
+        for data in (bytes(700), b""):
+            self.assertEqual((await self.ask("PUT", path, data=data, headers=shown))[0], 200)
+            self.assertEqual(self.used("one"), used)
+
+    def used(self, name: str) -> tuple[int, int]:
+        assert self.gateway.publisher.shares
+        return self.gateway.publisher.shares.used(name, 0)
 
     async def test_a_few_folders_come_at_once(self) -> None:
         await self.start()

@@ -14,7 +14,7 @@ import aiohttp
 from guard_case import GuardCase, other_address
 from harness import HERE, usage_of
 from walrus.network import chunks, connections, shares, tokens
-from walrus.network.limits import Bucket, Limits, key_of
+from walrus.network.limits import Bucket, Limits, is_address, is_inner, key_of
 from walrus.network.certificates import make_authority
 from walrus.network.local import make_certificate
 
@@ -78,6 +78,26 @@ class Own(GuardCase):
         for headers in (self.token("alice"), self.token("bob", "read")):
             self.assertEqual((await self.ask("GET", "/v1/blobs", headers=headers | {"Host": "evil.example"}))[0], 200)
         self.assertEqual((await self.ask("GET", "/v1/blobs", headers={"Host": "evil.example"}))[0], 421)
+
+    @unittest.skipUnless(is_inner(other_address()), "this machine has no address in a network of its own")
+    async def test_another_name_for_an_inner_address_reads_files_alone(self) -> None:
+        """A page from outside gives its own name that address, and is of one origin with the gateway then."""
+        await self.start(other_address(), names=["blobs.example"])
+        self.files["0" * 64] = b"there"
+        own = f"{other_address()}:{self.port}", "192.168.7.7:8080", "192.168.7.7", "[fd00::7]:8080", "blobs.example"
+        other = "evil.example", f"evil.example:{self.port}", "localhost", "1.2.3.4.evil.example", "0x7f.1", ""
+        for path in ("/v1/blobs", "/v1/status", f"/v1/status/{'0' * 64}", "/metrics"):
+            found = {it: (await self.ask("GET", path, headers={"Host": it}))[0] for it in own + other}
+            self.assertEqual({it for it in found if found[it] == 421}, {*other}, path)
+        for path in (f"/v1/blobs/{'0' * 64}", "/", "/livez"):
+            self.assertEqual((await self.ask("GET", path, headers={"Host": "evil.example"}))[0], 200, path)
+        told = self.token("bob", "read") | {"Host": "evil.example"}
+        self.assertEqual((await self.ask("GET", "/v1/blobs", headers=told))[0], 200)
+
+    async def test_at_an_address_of_everybody_any_name_reads(self) -> None:
+        await self.start()
+        with mock.patch.object(self.gateway.guard, "place", lambda _: ("8.8.8.8", 80)):
+            self.assertEqual((await self.ask("GET", "/v1/blobs", headers={"Host": "any.example"}))[0], 200)
 
     async def test_what_a_page_from_elsewhere_may_read(self) -> None:
         await self.start()
@@ -149,6 +169,17 @@ class Customers(GuardCase):
             self.assertEqual((await self.ask("GET", path))[0], 200)
         status, headers, told = await self.ask("GET", "/v1/blobs")
         self.assertEqual((headers["www-authenticate"], told["error"]["status"]), ('Bearer realm="walrus"', 401))
+
+    async def test_what_needs_a_token_stays_out_of_shared_caches(self) -> None:
+        await self.start()
+        self.files["0" * 64], alice = b"there", {}
+        for right, kept in (("", "public"), ("read", "public"), ("none", "private"), ("store", "private")):
+            if right:
+                alice = self.token("alice")
+                self.token("anyone", right)
+            for path in (f"/v1/blobs/{'0' * 64}", f"/v1/folders/{'0' * 64}"):
+                _, headers, _ = await self.ask("GET", path, headers=alice, allow_redirects=False)
+                self.assertRegex(headers["cache-control"], f"^{kept}, max-age=[0-9]+", (right, path))
 
     async def test_what_is_no_token_is_refused(self) -> None:
         good = self.token("alice")["Authorization"]
@@ -415,6 +446,7 @@ class Impatient(GuardCase):
         await self.start(requests=0)
         head = b"POST /v1/bundles?epochs=1 HTTP/1.1\r\nHost: localhost:%d\r\nContent-Length: 16000000\r\n" % self.port
         head += b"Content-Type: multipart/form-data; boundary=x\r\n\r\n"
+        head += b'--x\r\nContent-Disposition: form-data; name="f"\r\n\r\n'
         part, moved, (before, _) = bytes(1_000_000), self.gateway.reader.bytes, usage_of(os.getpid())
         forms = [await asyncio.open_connection("127.0.0.1", self.port) for _ in range(12)]
         for _, writer in forms:
@@ -543,6 +575,13 @@ class Parts(unittest.TestCase):
         self.assertEqual(
             (key_of("::ffff:192.0.2.7"), key_of("fe80::1%eth0"), key_of("x")), ("192.0.2.7", "fe80::/64", "x")
         )
+        inner = "127.0.0.1", "10.1.2.3", "192.168.1.5", "172.16.0.1", "100.64.0.1", "169.254.1.1", "fe80::1%eth0", "::1"
+        self.assertEqual([it for it in (*inner, "fd00::1", "::ffff:10.0.0.1") if not is_inner(it)], [])
+        self.assertEqual([it for it in ("8.8.8.8", "2606:4700::1", "::ffff:8.8.8.8", "x", "") if is_inner(it)], [])
+        hosts = "1.2.3.4", "1.2.3.4:80", "[::1]", "[fd00::1]:80"
+        self.assertEqual([it for it in hosts if not is_address(it)], [])
+        names = "", "x", "1.2.3.4.example", "1.2.3:80", "1.2.3.4:x", "1.2.3.4@example", "[x]", "[::1]x", "localhost:80"
+        self.assertEqual([it for it in names if is_address(it)], [])
 
 
 if __name__ == "__main__":

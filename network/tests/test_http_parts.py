@@ -15,11 +15,12 @@ from aiohttp.test_utils import TestServer
 sys.path.insert(0, str(pathlib.Path(__file__).resolve().parents[2] / "clients" / "python"))
 
 import walrus.network  # noqa: E402, F401
-from walrus import client  # noqa: E402
+from walrus import bundles, client  # noqa: E402
 from walrus.network import chunks, forms, pieces, problems, ranges, transfers  # noqa: E402
 from walrus.network.cache import EXTRA, Cache  # noqa: E402
 from walrus.network.exposure import Options  # noqa: E402
 from walrus.network.reading import Pace, Reader  # noqa: E402
+from walrus.network.source import Source  # noqa: E402
 
 PIECE = 16_777_216
 
@@ -127,7 +128,7 @@ class Lists(unittest.IsolatedAsyncioTestCase):
         self.assertEqual(list(file.pieces(3, 5)), [(name, len(listed), 3, 5)])
 
 
-class Forms(unittest.TestCase):
+class Forms(unittest.IsolatedAsyncioTestCase):
     KIND = 'multipart/form-data; boundary="--x y"'
     PARTS = [
         b'Content-Disposition: form-data; name="a"; filename="one.txt"\r\nContent-Type: text/plain\r\n\r\n1\r\n--\r\n',
@@ -135,23 +136,44 @@ class Forms(unittest.TestCase):
         b"Content-Disposition: form-data; filename*=utf-8''%e2%82%ac\r\n\r\n\r\n----x z\r\n\r\n",
     ]
 
+    async def asyncSetUp(self) -> None:
+        asyncio.get_running_loop().set_debug(False)
+
     def form(self, count: int) -> bytes:
         return b"".join(b"----x y\r\n%s\r\n" % it for it in self.PARTS[:count]) + b"----x y--\r\n"
 
-    def refused(self, kind: str, form: bytes, status: int) -> None:
+    async def read(self, kind: str, form: bytes, step: int = 65_536) -> list[tuple[str, str, bytes]]:
+        """The names, fields and bytes of the files in a form that comes in parts of so many bytes."""
+        found, source = list[tuple[str, str, bytes]](), Source(parts(form, [step] * (len(form) // step)))
+        async for sent in forms.files_of(kind, source, "send a form"):
+            found.append((sent.name, sent.field, b"".join([part async for part in sent.parts])))
+        self.assertTrue(source.at_eof())  # all of it was read, so that its SHA-256 is that of all
+        return found
+
+    async def refused(self, kind: str, form: bytes, status: int) -> None:
         with self.assertRaises(problems.Problem) as raised:
-            forms.files_of(kind, form, 2)
+            await self.read(kind, form)
         self.assertEqual(raised.exception.status, status, form)
 
-    def test_files_come_as_they_were_sent(self) -> None:
-        expected = [("one.txt", b"1\r\n--\r\n"), ("\u00fc", b""), ("\u20ac", b"\r\n----x z\r\n\r\n")]
-        for count in (1, 2, 3):
-            self.assertEqual(forms.files_of(self.KIND, self.form(count), 3), expected[:count])
-        self.assertEqual(forms.files_of(self.KIND, b"before\r\n" + self.form(1) + b"behind", 1), expected[:1])
-        self.assertEqual(forms.files_of(self.KIND, self.form(1).replace(b"filename", b"other"), 1)[0][0], "a")
+    async def test_files_come_as_they_were_sent(self) -> None:
+        expected = [("one.txt", "a", b"1\r\n--\r\n"), ("", "\u00fc", b""), ("\u20ac", "", b"\r\n----x z\r\n\r\n")]
+        for step in (1, 2, 3, 7, 64, 65_536):
+            for count in (0, 1, 2, 3):
+                self.assertEqual(await self.read(self.KIND, self.form(count), step), expected[:count], step)
+            around = b"before\r\n" + self.form(1) + b"behind"
+            self.assertEqual(await self.read(self.KIND, around, step), expected[:1])
+        self.assertEqual(await self.read(self.KIND, b"----x yz" + self.form(2)), expected[1:2])  # no boundary before
+        for size in (forms.PART - 9, forms.PART, forms.PART + 1, 3 * forms.PART - 12):
+            data = bytes(size) + b"\r\n----x " + bytes(9)
+            form = self.form(1).replace(b"1\r\n--\r\n", data)
+            for step in (5_000, 65_536):
+                self.assertEqual((await self.read(self.KIND, form, step))[0][2], data)
+        head = self.form(1).replace(b"Content-Type: text/plain", b"Content-Length: 2\r\nContent-Encoding: gzip")
+        self.assertEqual(await self.read(self.KIND, head), expected[:1])  # what a part says of its length is not heard
+        two = self.form(2).replace(b"Content-Type", b"Content-Disposition: form-data; name=b\r\nContent-Type")
+        self.assertEqual(len(await self.read(self.KIND, two)), 2)
 
-    def test_what_is_no_form_is_refused(self) -> None:
-        self.refused(self.KIND, self.form(3), 413)
+    async def test_what_is_no_form_is_refused(self) -> None:
         for kind in (
             "",
             "text/plain",
@@ -159,14 +181,18 @@ class Forms(unittest.TestCase):
             "multipart/form-data",
             "multipart/form-data; boundary=",
         ):
-            self.refused(kind, self.form(1), 415)
-        self.refused(f"multipart/form-data; boundary={'x' * 71}", self.form(1), 415)
+            await self.refused(kind, self.form(1), 415)
+        await self.refused(f"multipart/form-data; boundary={'x' * 71}", self.form(1), 415)
         whole = self.form(2)
-        for form in (b"", b"\r\n", self.form(0), whole[:-5], whole[:40], b"----x y\r\nno head", b"----x yz" + whole):
-            self.refused(self.KIND, form, 400)
-        self.refused(self.KIND, whole.replace(b"Type", b"Type" * 2_000), 400)
+        for form in (b"", b"\r\n", whole[:-5], whole[:40], b"----x y\r\nno head"):
+            await self.refused(self.KIND, form, 400)
+        await self.refused(self.KIND, whole.replace(b"Type", b"Type" * 2_000), 400)
+        await self.refused(self.KIND, whole.replace(b"\r\nContent-Type", b"\r\nA: b" * 800 + b"\r\nB"), 400)
+        await self.refused(self.KIND, b"\n" * 100_000 + whole, 400)
+        await self.refused(self.KIND, whole.replace(b"text/plain", b"multipart/mixed; boundary=z"), 400)
+        await self.refused(self.KIND, whole.replace(b"one.txt", b"\xff"), 400)
 
-    def test_no_form_causes_another_error(self) -> None:
+    async def test_no_form_causes_another_error(self) -> None:
         drawn = random.Random(6)
         for _ in range(3_000):
             form, kind = bytearray(self.form(2)), bytearray(self.KIND.encode())
@@ -174,12 +200,28 @@ class Forms(unittest.TestCase):
                 for _ in range(changes):
                     place = drawn.randrange(len(text))
                     end = place + drawn.randrange(3)
-                    text[place:end] = drawn.choice([b"", b"\r\n", b"\0", b"*=", b"''", b'"', b"\xff"])
+                    text[place:end] = drawn.choice([b"", b"\r\n", b"\0", b"*=", b"''", b'"', b"\xff", b"_charset_"])
             try:
-                files = forms.files_of(kind.decode("utf-8", "surrogateescape"), bytes(form), 2)
-                [name.encode() for name, _ in files]
+                step = drawn.choice([99, 65_536])
+                files = await self.read(kind.decode("utf-8", "surrogateescape"), bytes(form), step)
+                [(name + field).encode() for name, field, _ in files]
             except problems.Problem as problem:
-                self.assertIn(problem.status, (400, 413, 415))
+                self.assertIn(problem.status, (400, 415))
+
+
+class Problems(unittest.TestCase):
+    def test_what_a_read_lacks_is_told_by_types(self) -> None:
+        for fault, status, text, lacking in (
+            (client.TooFew(4, b"short 1 of 3\n", {}), 503, "1 of 3 needed slivers are heard", 2),
+            (client.TooFew(4, b"no metadata\n", {}), 503, "too little of the blob is heard", None),
+            (client.Refused(4, b"missing column 7\n", {}), 503, "too little of the blob is heard", None),
+            (client.Refused(3, b"reject\n", {}), 410, "badly encoded", None),
+            (bundles.NoBundle(3, b"bad index\n", {}), 404, "is no bundle", None),
+            (bundles.NoMember(4, b"no member of 2\n", {}), 404, "has 2 members", None),
+        ):
+            problem = problems.problem_of(fault)
+            self.assertEqual((problem.status, problem.more.get("lacking")), (status, lacking), fault)
+            self.assertIn(text, str(problem))
 
 
 class Caches(unittest.IsolatedAsyncioTestCase):

@@ -7,6 +7,7 @@ import re
 import shutil
 import ssl
 import unittest
+from unittest import mock
 
 import aiohttp
 from aiohttp import web
@@ -121,12 +122,7 @@ class InABrowser(GuardCase):
     async def test_a_page_from_elsewhere(self) -> None:
         await self.start()
         self.files["0" * 64] = b"there"
-        app = web.Application()
-        app.router.add_get("/", lambda _: web.Response(text="<form></form>", content_type="text/html"))
-        runner = web.AppRunner(app)
-        await runner.setup()
-        self.addAsyncCleanup(runner.cleanup)
-        await web.TCPSite(runner, "127.0.0.1", 0).start()
+        runner = await self.serve("127.0.0.1", 0)
         async with Browser() as browser:
             await browser.open(f"http://127.0.0.1:{runner.addresses[0][1]}/")
             self.assertTrue(await browser.until("document.querySelector('form')"))
@@ -149,6 +145,68 @@ class InABrowser(GuardCase):
             self.assertTrue(await browser.until("document.querySelector('form')"))
             shown = put.replace("body:", f"headers: {{Authorization: '{alice}'}}, body:")
             self.assertEqual((await browser.evaluate(shown), self.stored), (201, [b"x"]))
+
+    async def serve(self, host: str, port: int) -> web.AppRunner:
+        """A server of somebody else, with a page that has nothing."""
+        app = web.Application()
+        app.router.add_get("/", lambda _: web.Response(text="<form></form>", content_type="text/html"))
+        runner = web.AppRunner(app)
+        await runner.setup()
+        self.addAsyncCleanup(runner.cleanup)
+        await web.TCPSite(runner, host, port, shutdown_timeout=0.1).start()
+        return runner
+
+    async def test_what_asks_without_hearing_the_answer_changes_nothing(self) -> None:
+        """Requests of a page from elsewhere that need no permission of the gateway."""
+        await self.start()
+        self.files["0" * 64] = b"there"
+        registered = self.enterContext(mock.patch.object(self.network, "register", mock.AsyncMock()))
+        self.enterContext(mock.patch.object(self.network.ledger, "blobs", {bytes(32): mock.Mock(until=1)}))
+        paths = ["/v1/bundles?epochs=1", f"/v1/extend/{'0' * 64}?epochs=9", "/v1/uploads?epochs=1"]
+        runner = await self.serve("127.0.0.1", 0)
+        async with Browser() as browser:
+            for path in paths:
+                await browser.open(f"http://127.0.0.1:{runner.addresses[0][1]}/")
+                self.assertTrue(await browser.until("document.querySelector('form')"))
+                asks = f"fetch('{self.url}{path}', {{method: 'POST', mode: 'no-cors', body: %s}}).then(it => it.type)"
+                for body in (
+                    "'x'",
+                    "new URLSearchParams('a=b')",
+                    "(() => { let it = new FormData(); " "it.append('a', new Blob(['x']), 'x'); return it })()",
+                ):
+                    self.assertEqual(await browser.evaluate(asks % body), "opaque")
+                self.assertTrue(await browser.evaluate(f"navigator.sendBeacon('{self.url}{path}', 'x')"))
+                words = f"{{method: 'POST', enctype: 'text/plain', action: '{self.url}{path}'}}"
+                fill = "form.innerHTML = '<input name=a>'; form.submit()"
+                await browser.evaluate(f"form = Object.assign(document.forms[0], {words}); {fill}")
+                self.assertTrue(await browser.until("document.body.innerText.includes('a page from elsewhere')"), path)
+        await asyncio.sleep(0.5)
+        asked = sum(count for it, count in self.gateway.requests.items() if 'method="POST"' in it)
+        self.assertEqual(asked, self.gateway.requests['method="POST",status="403"'])
+        self.assertGreaterEqual(asked, 5 * len(paths))
+        self.assertEqual((self.stored, registered.call_count), ([], 0))
+        self.assertEqual(list(self.folder.glob("tokens.uploads/*")), [])
+
+    async def test_a_name_that_comes_to_lead_here_reads_no_lists(self) -> None:
+        """The page of evil.example is loaded from elsewhere, and then its name leads to the gateway (DNS rebinding)."""
+        for host in filter(None, ("127.0.0.1", other_address())):
+            port = free_port()
+            runner = await self.serve(host, port)
+            async with Browser(f"--host-resolver-rules=MAP evil.example {host}") as browser:
+                await browser.open(f"http://evil.example:{port}/")
+                self.assertTrue(await browser.until("document.querySelector('form')"))
+                await runner.cleanup()
+                await self.start(host, port)
+                self.files["0" * 64] = b"there"
+                asks = "fetch('{}', {{method: '{}', body: {}}}).then(it => it.status)"
+                self.assertTrue(await browser.until(f"({asks.format('/livez', 'GET', 'null')})"))
+                for path in ("/v1/blobs", "/v1/status", f"/v1/status/{'0' * 64}", "/metrics"):
+                    self.assertEqual(await browser.evaluate(asks.format(path, "GET", "null")), 421, (host, path))
+                for method, path in (("PUT", "/v1/blobs?epochs=1"), ("POST", f"/v1/extend/{'0' * 64}?epochs=9")):
+                    self.assertEqual(await browser.evaluate(asks.format(path, method, "'x'")), 421, (host, path))
+                self.assertEqual(await browser.evaluate(asks.format(f"/v1/blobs/{'0' * 64}", "GET", "null")), 200)
+            self.assertEqual(self.stored, [])
+            await self.gateway.close()
 
     async def test_the_page_asks_for_a_token(self) -> None:
         self.token("anyone", "none")

@@ -269,6 +269,7 @@ class Refused(UploadCase):
             ({**whole, "Upload-Length": "x"}, 400),
             ({**whole, "Upload-Length": "2"}, 400),
             ({**whole, "Content-Encoding": "gzip"}, 415),
+            ({**whole, "Content-Range": "bytes 0-0/1"}, 400),
             ({**whole, "Repr-Digest": f"sha-256=:{'A' * 43}=:"}, 400),
             ({"Upload-Complete": "?0", "Upload-Length": "5001"}, 413),
         ):
@@ -283,6 +284,8 @@ class Refused(UploadCase):
         good = {**PATCH, "Upload-Offset": "5", "Upload-Complete": "?0"}
         for name, text, status in (
             ("Content-Type", "application/octet-stream", 415),
+            ("Content-Encoding", "gzip", 415),
+            ("Content-Range", "bytes 5-5/9", 400),
             ("Upload-Offset", "-1", 400),
             ("Upload-Offset", "", 400),
             ("Upload-Complete", "", 400),

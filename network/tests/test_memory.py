@@ -1,4 +1,5 @@
-"""The memory of a gateway: shares of it, and baskets into which slivers come, on each loop that is here."""
+"""The memory of a gateway: shares of it, and baskets into which slivers come, on each loop that is here; and what a
+port keeps of its clients."""
 import asyncio
 import contextlib
 import pathlib
@@ -8,10 +9,12 @@ import sys
 import tempfile
 import time
 import unittest
+import weakref
+from unittest import mock
 
 sys.path.insert(0, str(pathlib.Path(__file__).resolve().parents[2] / "clients" / "python"))
 
-from walrus import client, wire  # noqa: E402
+from walrus import client, port, wire  # noqa: E402
 from walrus.network import certificates  # noqa: E402
 from walrus.network.pieces import Memory  # noqa: E402
 from walrus.baskets import PASSED, Basket  # noqa: E402
@@ -266,6 +269,37 @@ class Baskets(unittest.IsolatedAsyncioTestCase):
         self.assertEqual(await self.take(0, basket), self.small)
         self.assertEqual((basket.places, len(basket.memory)), ([], 0))
         self.assertEqual(b"".join(basket.stream([self.small])), client.envelope(self.small))
+
+
+class Counted(bytearray):
+    """Bytes of which it can be seen whether anybody has them still."""
+
+
+class Idle(unittest.IsolatedAsyncioTestCase):
+    async def test_of_an_idle_client_neither_request_nor_reply_is_in_memory(self) -> None:
+        made = list["weakref.ref[Counted]"]()
+
+        def counted(size: int) -> Counted:
+            made.append(weakref.ref(part := Counted(size)))
+            return part
+
+        async def reply(shard: int, request: bytes) -> port.Said:
+            return port.Said([counted(400_000)])
+
+        served = port.Port(reply, client.Shape(1), port.Bounds())
+        self.addAsyncCleanup(served.close_port)
+        self.enterContext(mock.patch.object(served, "place", lambda size: memoryview(counted(size))))
+        own = await wire.connect("127.0.0.1", await served.listen("127.0.0.1", 0))
+        self.addCleanup(own.transport.abort)
+        for _ in range(2):
+            own.write(client.envelope(client.write_frame(client.Read(bytes(32)))))
+            self.assertEqual(await own.readexactly(400_000), bytes(400_000))
+        for _ in range(500):
+            if not any(it() for it in made):
+                break
+            await asyncio.sleep(0.01)
+        self.assertEqual([it() is None for it in made], [True] * 4)
+        self.assertEqual((len(served.connections), served.kept), (1, 0))
 
 
 class Loops(unittest.TestCase):

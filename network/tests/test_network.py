@@ -11,9 +11,10 @@ sys.path.insert(0, str(HERE.parents[1] / "clients" / "python"))
 import example_tools  # noqa: E402
 import trace_run  # noqa: E402
 from walrus import client, frames  # noqa: E402
-from walrus.network import ledger  # noqa: E402
+from walrus.network import configuration, ledger  # noqa: E402
 from walrus.network.client import Network  # noqa: E402
 from walrus.network.local import find_program  # noqa: E402
+from walrus.network.settings import Settings  # noqa: E402
 
 
 class Story(NetworkCase):
@@ -96,10 +97,18 @@ class Story(NetworkCase):
         self.assertTrue(heard, self.logs())
         return identifier
 
+    async def restart(self, name: str, reserve: float) -> None:
+        """Kills a node and starts it with so much of the disk kept free."""
+        path = self.folder / f"{name}.toml"
+        await self.local.end(name, kill=True)
+        configuration.write(Settings, path, configuration.values_of(path) | {"reserve": reserve})
+        await self.local.start_node(name)
+
     async def test_a_badly_encoded_blob_is_declared_invalid_and_its_slivers_go(self) -> None:
         await self.local.up(FOUR)
         async with self.local.network(seconds=60) as network:
             bad = await self.store_badly(network)
+            await self.restart("node-0", 1.0)  # below its reserve it takes the proof and lets slivers go
             seats = network.peers.seats(network.ledger.now, 1)
             crossing = [seats[1], seats[3]]  # the false row is that of shard 3
             status, proof = await client.recover(crossing, client.Symbol(bad, client.SECONDARY, 2), network.walrus)
@@ -119,9 +128,8 @@ class Story(NetworkCase):
                         break
                     await asyncio.sleep(0.1)
                 self.assertEqual(answer, client.Answer(0, 0, 0))
-            for name in FOUR[1:]:
-                await self.local.end(name, kill=True)
-                await self.local.start_node(name)
+            for name in FOUR:
+                await self.restart(name, 0.05)
             seats = network.peers.seats(network.ledger.now, 1)
             kept = [(await seat.ask(client.write_frame(client.Read(bad))))[0].kept for seat in seats]
             self.assertEqual([sorted(it) for it in kept], [[0x10, 0x13]] * 3 + [[0x10, 0x11, 0x13]])

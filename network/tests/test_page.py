@@ -3,7 +3,10 @@ import asyncio
 import json
 import os
 import pathlib
+import re
 import unittest
+from typing import Any
+from unittest import mock
 
 from browser import PROGRAM, Browser
 from test_http_uploads import UploadCase
@@ -148,6 +151,40 @@ class Page(UploadCase):
         await self.fill("look-id", "0" * 64)
         await self.browser.press("Enter")
         self.assertTrue(await self.browser.until(f"{text.format('blob-said')}.includes('no such blob')"))
+
+    async def test_what_nodes_do_and_a_handover_are_shown(self) -> None:
+        figures = {"held": {"blobs": 5, "bytes": 7_000_000, "wrong": 2}, "ledger": {"place": 9, "behind": 1_234}}
+        figures |= {"disk": {"bytes": 9e9, "used": 8e9, "free": 1e9, "reserve": 2e9}}
+        figures |= {"recovered": {"epoch": 0, "of": 10, "of_bytes": 40, "blobs": 4, "bytes": 16}}
+        figures |= {
+            "scrub": {"running": 1, "begun": 0, "ended": 0, "blobs": 0, "bytes": 3_000_000, "wrong": 0, "swept": 0}
+        }
+        true = self.gateway.watch.status
+
+        def status() -> dict[str, Any]:
+            told = true()
+            for node in told["nodes"]:
+                node |= {"state": "answers", "figures": figures if node["name"] == "node-1" else {}}
+            return told | {"moving": True, "ready": 2}
+
+        self.enterContext(mock.patch.object(self.gateway.watch, "status", status))
+        await self.open()
+        row = "[...document.querySelectorAll('#nodes tr')].find(it => it.textContent.startsWith('node-1'))"
+        self.assertTrue(await self.browser.until(f"{row}.textContent.includes('entries behind')"))
+        cells = await self.browser.evaluate(f"[...{row}.cells].map(it => it.textContent)")
+        for words in (
+            "5 blobs, 7[.0]* MB$",
+            "2 parts",
+            "^1[.0]* GB free of 9[.0]* GB: takes nothing",
+            "1.?234 entries",
+        ):
+            self.assertEqual(sum(bool(re.search(words, it)) for it in cells), 1, (words, cells))
+        work = "4 of 10 blobs .*a scrub has read 3[.0]* MB"
+        self.assertEqual(sum(bool(re.search(work, it)) for it in cells), 1, cells)
+        bars = "[...document.querySelectorAll('#nodes progress, #move progress')].map(it => [it.value, it.max])"
+        self.assertEqual(await self.browser.evaluate(bars), [[2, 3], [4, 10]])
+        said = "Handover to epoch 1: 2 of 3 needed shards are ready"
+        self.assertEqual(await self.browser.evaluate("document.getElementById('move-text').textContent"), said)
 
     async def test_no_script_but_its_own_runs(self) -> None:
         await self.open()

@@ -262,6 +262,24 @@ class Disk(ShardCase):
         self.close()
         Store(link).close()
 
+    async def test_requests_of_one_blob_are_judged_one_after_the_other_and_of_several_at_once(self) -> None:
+        names = [(await self.put(blob))[1][1:33] for blob in (b"one", b"two", b"three")]
+        judged, ask, goes_on = list[bytes](), self.judges.ask, asyncio.Event()
+
+        async def wait(size: int, step: Any, request: bytes, *words: Any) -> Any:
+            judged.append(request[1:33])
+            await goes_on.wait()
+            return await ask(size, step, request, *words)
+
+        with mock.patch.object(self.judges, "ask", wait):
+            reading = [asyncio.create_task(self.read(name)) for name in (*names, names[0])]
+            for _ in range(20):
+                await asyncio.sleep(0)
+            self.assertEqual(judged, names)
+            goes_on.set()
+            said = await asyncio.gather(*reading)
+        self.assertEqual((judged, said[3]), ([*names, names[0]], said[0]))
+
     async def test_a_part_has_one_row(self) -> None:
         metadata, primary, _ = await self.put(bytes(700))
         assert self.store
@@ -586,6 +604,20 @@ class Recovery(NodeCase):
             await recovery.settle(self.node({0: {0: self.shard}}), 0, names)
         self.assertEqual(order, [names[2], names[1], names[3], names[0]])
 
+    async def test_many_blobs_are_recovered_at_once_and_no_more_than_there_are_lanes(self) -> None:
+        names, under_way, most = [await self.lacks(60) for _ in range(12)], 0, 0
+
+        async def fill(node: Node, filled: shard.Shard, identifier: bytes) -> None:
+            nonlocal under_way, most
+            under_way += 1
+            most = max(most, under_way)
+            await asyncio.sleep(0.05)
+            under_way -= 1
+
+        with mock.patch.object(recovery, "fill", fill):
+            self.assertEqual(await recovery.settle(self.node({0: {0: self.shard}}), 0, names), 12)
+        self.assertEqual(most, recovery.LANES)
+
     async def test_what_fails_with_one_blob_leaves_the_others_alone(self) -> None:
         fill = recovery.fill
         for fault in (sqlite3.OperationalError("disk I/O error"), IndexError("of what another node replied")):
@@ -710,7 +742,7 @@ class Committees(NodeCase):
             self.store.turn(1, [])
             del node.sides[0]
             over.set()
-            said = [bytes(payload) for _, payload in client.split((await reading).data)]
+            said = [bytes(payload) for _, payload in client.split(b"".join((await reading).parts))]
         self.assertEqual(said[:2], [bytes(it) for it in parts[:2]])
 
     async def test_a_blob_that_comes_whole_late_is_not_for_the_committee_before(self) -> None:

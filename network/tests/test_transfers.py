@@ -185,7 +185,9 @@ class Transfers(unittest.IsolatedAsyncioTestCase):
         self.assertEqual((process.returncode, error), (130, b"walrus-net fetch: interrupted\n"))
         self.assertEqual((self.out.read_bytes(), self.left()), (b"before", ["out"]))
         self.stalls = False
-        for words in (("fetch", name), ("status",), ("status", "--json"), ("completion",)):
+        self.named = (await self.id(b"before")).hex()
+        store = "store", str(self.out), "--epochs", "1"
+        for words in (("fetch", name), ("status",), ("status", "--json"), ("completion",), store):
             inner, outer = os.pipe()
             os.close(inner)  # nobody reads what comes
             process = await self.start(*words, out=outer)

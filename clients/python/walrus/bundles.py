@@ -15,6 +15,18 @@ from .client import METADATA, OPENING, SECOND_METADATA, SLIVER
 COUNT, ENTRY = struct.Struct(">H"), struct.Struct(">HI")  # of the index: how many; a member's first column and length
 
 
+class NoBundle(client.Refused):
+    """A blob that was heard is no bundle."""
+
+
+class NoMember(client.Refused):
+    """A bundle has `count` members, and none of the number that was asked for."""
+
+    def __init__(self, status: int, text: bytes, said: dict[int, str]) -> None:
+        super().__init__(status, text, said)
+        self.count = int(text.split()[-1])
+
+
 def lines_of(size: int, column: int) -> int:
     """How many columns so many bytes fill."""
     return -(-size // column)
@@ -145,8 +157,10 @@ class Columns:
             openings += [kept[OPENING]] if OPENING in kept else []
         data = b"".join(map(client.envelope, [*self.metadata, *openings]))
         status, text = await self.walrus.run("recover", self.identifier.hex(), "secondary", column, data=data)
+        if status == 3:
+            raise client.Refused(status, b"the bundle was badly encoded", self.said)
         if status:
-            raise client.Refused(status, b"the bundle was badly encoded" if status == 3 else text, self.said)
+            raise client.TooFew(status, text, self.said)
         self.slivers[column] = client.split(text)[0][1][40:]
 
     async def find(self, column: int, number: int) -> bool:
@@ -180,4 +194,5 @@ async def fetch_member(shards: client.Shards, identifier: bytes, number: int, wa
             column = int(text.split()[-1])
         elif text != b"no metadata\n":
             break
-    raise client.Refused(status, text, columns.said)
+    kind = NoBundle if status == 3 else NoMember if text.startswith(b"no member of ") else client.Refused
+    raise kind(status, text, columns.said)

@@ -9,7 +9,7 @@ import random
 from typing import NamedTuple, Union
 
 from .envelopes import HEAD, MARK
-from .executable import Encoded, Refused, Walrus
+from .executable import Encoded, Refused, TooFew, Walrus
 from .kinds import (
     ACK,
     ACK_ENTRY,
@@ -121,6 +121,7 @@ __all__ = [
     "Step",
     "Streams",
     "Symbol",
+    "TooFew",
     "Walrus",
     "collect",
     "envelope",
@@ -257,8 +258,9 @@ async def gather(
                     return status, text
                 if status != 4:
                     raise Refused(status, text, said)
-                held, wanted = [int(word) for word in text.split() if word.isdigit()] or (0, 1)
-                needed, patience = count + patience * (wanted - held), 2 * patience  # so liars cause few runs
+                lacking = TooFew(status, text, said)
+                needed = count + patience * max(1, lacking.needed - lacking.held)
+                patience *= 2  # so liars cause few runs
                 asked.basket.want(needed + len(proofs))
             listening.ask(max(needed - count - len(listening.pending) * bool(found), not listening.pending))
     finally:
@@ -267,7 +269,7 @@ async def gather(
         checked, _ = await walrus.run("check", request.identifier.hex(), data=envelope(metadata) + envelope(proof))
         if checked == 3:
             return 3, envelope(proof)
-    raise Refused(status, text, said)
+    raise TooFew(status, text, said)
 
 
 async def fetch(shards: Shards, identifier: bytes, walrus: Walrus) -> bytes:

@@ -10,13 +10,18 @@ HEAD, MARK = struct.Struct(">BHI"), 0x57  # the mark, the sender, the payload's 
 Payloads = Union[Buffer, Iterable[Buffer]]  # envelopes one behind the other, or payloads that stand in none yet
 
 
-def stream(payloads: Iterable[Buffer], sender: int = 0) -> bytes:
-    """Envelopes around payloads, one behind the other."""
-    parts: list[Buffer] = []
+def parts(payloads: Iterable[Buffer], sender: int = 0) -> list[Union[bytes, memoryview]]:
+    """Envelopes around payloads, one behind the other: the head of each, and the payload where it lies."""
+    found: list[Union[bytes, memoryview]] = []
     for payload in payloads:
         view = memoryview(payload).cast("B")
-        parts += [HEAD.pack(MARK, sender, len(view)), view]
-    return b"".join(parts)
+        found += [HEAD.pack(MARK, sender, len(view)), view]
+    return found
+
+
+def stream(payloads: Iterable[Buffer], sender: int = 0) -> bytes:
+    """Envelopes around payloads, one behind the other."""
+    return b"".join(parts(payloads, sender))
 
 
 def streamed(payloads: Payloads) -> Buffer:

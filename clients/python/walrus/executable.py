@@ -24,6 +24,15 @@ class Refused(Failed):
         self.status, self.text = status, text
 
 
+class TooFew(Refused):
+    """Too little was heard: `held` verifies of what is `needed`, as far as the program tells that; else both are 0."""
+
+    def __init__(self, status: int, text: bytes, said: dict[int, str]) -> None:
+        super().__init__(status, text, said)
+        numbers = [int(word) for word in text.split() if word.isdigit()]
+        self.held, self.needed = numbers if len(numbers) == 2 else (0, 0)
+
+
 class Walrus(NamedTuple):
     """The program walrus."""
 

@@ -47,8 +47,8 @@ class Front(Port):
         return self
 
     async def reply_to(self, _: int, request: bytes) -> Said:
-        reply = await self.ask(request)
-        return Said(b"".join(self.alter(envelope(payload, self.shard)) for payload in reply))
+        reply = await self.ask(bytes(request))
+        return Said([self.alter(envelope(payload, self.shard)) for payload in reply])
 
     async def ask(self, request: bytes) -> list[bytes]:
         """The reply to a request, which waits for its turn."""

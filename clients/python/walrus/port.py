@@ -8,11 +8,12 @@ import dataclasses
 import functools
 import sys
 import time
-from collections.abc import Awaitable, Callable
+from collections.abc import Awaitable, Callable, Sequence
 from typing import Any, NamedTuple, Optional
 
 from .client import HEAD, MARK, SLICE, Data, Fault, Shape, envelope, in_words, write_frame
 from .frames import refuse
+from .streams import write_parts
 from .wire import Wire, filling, memory
 
 PIECE, AHEAD, QUIET = 65_536, 64, 60.0  # bytes of one client; replies that wait; seconds between two equal lines
@@ -30,11 +31,16 @@ class Bounds(NamedTuple):
 
 
 class Said(NamedTuple):
-    """A reply; where it rests on what must come to a disk, whether that came there, and the reply where it did not."""
+    """A reply in parts; where it rests on what must come to a disk, whether that came there, and the reply where it did
+    not."""
 
-    data: bytes
+    parts: Sequence[Data]
     written: Optional["asyncio.Future[bool]"] = None
     lost: bytes = b""
+
+    @property
+    def size(self) -> int:
+        return sum(map(len, self.parts))
 
 
 @dataclasses.dataclass(eq=False)
@@ -147,23 +153,27 @@ class Port:
     async def receive(self, client: Connection, reader: Wire) -> None:
         """Takes requests and has them answered, one after the other, until there are no more."""
         while first := await self.begin(reader):
-            client.since = time.monotonic()
-            async with asyncio.timeout(self.bounds.seconds):
-                sender, payload = await self.take(client, first, reader)
-            await self.expect(payload)
-            async with asyncio.timeout(self.bounds.seconds):
-                await self.turns.acquire()
-            client.since = time.monotonic()
-            task = asyncio.create_task(self.answer(client, sender, payload))
-            self.answers.add(task)
-            self.at_turn.add(task)
-            task.add_done_callback(self.answered)
-            said = await asyncio.shield(task)  # who is cut off meanwhile does not disturb the shard
-            self.keep(client, len(said.data) - len(payload or b""))
-            await client.replies.put(said)
+            await self.receive_one(client, first, reader)  # a client that is idle has nothing of it in memory
             if client.kept > PIECE:
                 await client.replies.join()  # small replies may wait for each other and the disk
         await client.replies.put(None)
+
+    async def receive_one(self, client: Connection, first: bytes, reader: Wire) -> None:
+        """Takes a request that begins so, has it answered, and its reply sent."""
+        client.since = time.monotonic()
+        async with asyncio.timeout(self.bounds.seconds):
+            sender, payload = await self.take(client, first, reader)
+        await self.expect(payload)
+        async with asyncio.timeout(self.bounds.seconds):
+            await self.turns.acquire()
+        client.since = time.monotonic()
+        task = asyncio.create_task(self.answer(client, sender, payload))
+        self.answers.add(task)
+        self.at_turn.add(task)
+        task.add_done_callback(self.answered)
+        said = await asyncio.shield(task)  # who is cut off meanwhile does not disturb the shard
+        self.keep(client, said.size - len(payload or b""))
+        await client.replies.put(said)
 
     async def begin(self, reader: Wire) -> bytes:
         """The first byte of a request; nothing where none begins."""
@@ -200,12 +210,12 @@ class Port:
         return memory(size)
 
     async def answer(self, client: Connection, sender: int, request: Optional[Data]) -> Said:
-        number, payload = sender if self.own is None else self.own, None if request is None else bytes(request)
-        if refused := refuse(self.shape, payload):
+        number, payload = sender if self.own is None else self.own, request or b""
+        if refused := refuse(self.shape, request):
             self.tell(f"client {client} sends what is no request: {in_words(refused)}", "no request", client)
-            return Said(envelope(write_frame(refused), number))
+            return Said([envelope(write_frame(refused), number)])
         client.had_reply = True
-        return await self.reply(number, payload or b"")
+        return await self.reply(number, payload if len(payload) > PIECE else bytes(payload))  # a long one has no copy
 
     async def expect(self, request: Optional[Data]) -> None:
         """Waits, before a request has its turn, for what others must do first."""
@@ -235,11 +245,9 @@ class Port:
         """Sends the replies, each once what it rests on is on the disk."""
         while said := await client.replies.get():
             written = said.written is None or await asyncio.shield(said.written)
-            data = memoryview(said.data if written else said.lost)
             async with asyncio.timeout(self.bounds.seconds):
-                for start in range(0, len(data), SLICE):
-                    client.wire.write(data[start : start + SLICE])  # noqa: E203
-                    await client.wire.drain()
-            self.keep(client, -len(said.data))
+                await write_parts(client.wire, said.parts if written else [said.lost])
+            self.keep(client, -said.size)
             client.since = time.monotonic()
             client.replies.task_done()
+            del said  # which is not in memory while the client is idle

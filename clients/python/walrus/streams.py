@@ -73,7 +73,12 @@ async def take_envelope(stream: Source, longest: int, basket: Optional[Basket] =
 
 async def write_in_slices(stream: Sink, parts: Sequence[Data], sender: int) -> None:
     """Writes an envelope around a payload that comes in parts, and no more ahead than a slice of it."""
-    ahead = HEAD.pack(MARK, sender, sum(map(len, parts)))
+    await write_parts(stream, [HEAD.pack(MARK, sender, sum(map(len, parts))), *parts])
+
+
+async def write_parts(stream: Sink, parts: Sequence[Data]) -> None:
+    """Writes parts one behind the other, and no more ahead than a slice."""
+    ahead = b""
     for part in map(memoryview, parts):
         if len(ahead) + len(part) < SLICE:
             ahead += part

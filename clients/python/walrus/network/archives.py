@@ -3,80 +3,20 @@
 Both come from anybody: what is read ahead has a bound, names are checked, what is no file is refused by its name."""
 import array
 import email
+import functools
 import re
-from typing import AsyncGenerator, AsyncIterator, Callable, NamedTuple, Optional
+from typing import AsyncGenerator, Callable, NamedTuple, Optional
 
+from .forms import files_of
 from .manifest import Wrong, as_path, shown
 from .problems import Problem
+from .source import BROKEN, Parts, Source
 
 BLOCK, MOST_FIELDS = 512, 65_536  # bytes of a block of a tar, and of what it tells of one of its files
-MOST_HEAD = 4_096  # bytes of the head of a file in a form
 OTHERS = {b"1": "a link", b"2": "a link", b"3": "a device", b"4": "a device", b"6": "a pipe", b"S": "a sparse file"}
-BROKEN = "the tar breaks off, or is none: make it with tar --create, without compression"
 ASKED = "send a tar, or the files as multipart/form-data with a path as file name, as curl -F 'a=@FILE;filename=PATH'"
-Parts = AsyncIterator[bytes]
 # A file that comes: its path, its length as far as that is known before, and its bytes, which are read before the next.
 Coming = NamedTuple("Coming", [("path", str), ("length", Optional[int]), ("parts", Parts)])
-
-
-class Source:
-    """A stream, of which it can be said how much of it is read."""
-
-    def __init__(self, stream: Parts):
-        self.stream, self.kept = stream, bytearray()
-
-    async def fill(self) -> bool:
-        """Takes the next part of the stream; whether there was one."""
-        async for part in self.stream:
-            self.kept += part
-            return True
-        return False
-
-    def take(self, size: int) -> bytes:
-        taken = bytes(self.kept[:size])
-        del self.kept[:size]
-        return taken
-
-    async def exactly(self, size: int) -> bytes:
-        """So many bytes, or fewer where the stream ends."""
-        while len(self.kept) < size and await self.fill():
-            pass
-        return self.take(size)
-
-    async def parts(self, size: int) -> AsyncGenerator[bytes, None]:
-        """So many bytes in parts; raises where the stream ends before."""
-        while size:
-            if not self.kept and not await self.fill():
-                raise Problem(400, BROKEN)
-            part = self.take(size)
-            size -= len(part)
-            yield part
-
-    async def until(self, mark: bytes) -> AsyncGenerator[bytes, None]:
-        """The bytes before a mark, which is read too; raises where it does not come."""
-        while (place := self.kept.find(mark)) < 0:
-            if sure := self.take(max(0, len(self.kept) - len(mark) + 1)):
-                yield sure
-            if not await self.fill():
-                raise Problem(400, f"the form breaks off: {ASKED}")
-        if place:
-            yield self.take(place)
-        self.take(len(mark))
-
-    async def short(self, mark: bytes) -> bytes:
-        """The same at once, where it is no more than the head of a file."""
-        text = b""
-        async for part in self.until(mark):
-            text += part
-            if len(text) > MOST_HEAD:
-                raise Problem(400, f"the head of a file is too long: {ASKED}")
-        return text
-
-    async def rest(self) -> None:
-        """Reads what is left, which must be zeros."""
-        while self.kept or await self.fill():
-            if self.take(len(self.kept)).strip(b"\0"):
-                raise Problem(400, "something follows the end of the tar: store one tar at a time")
 
 
 def opened(kind: str) -> Callable[[Source], AsyncGenerator[Coming, None]]:
@@ -84,10 +24,7 @@ def opened(kind: str) -> Callable[[Source], AsyncGenerator[Coming, None]]:
     told = email.message_from_string(f"Content-Type: {kind}\n\n")
     if not kind or told.get_content_type() in ("application/x-tar", "application/tar", "application/octet-stream"):
         return files_of_tar
-    bound = (told.get_boundary() or "").encode("utf-8", "surrogateescape")
-    if told.get_content_type() != "multipart/form-data" or not 1 <= len(bound) <= 70:
-        raise Problem(415, ASKED)
-    return lambda source: files_of_form(source, bound)
+    return functools.partial(files_of_form, kind)
 
 
 def checked(name: bytes) -> str:
@@ -133,7 +70,7 @@ async def files_of_tar(source: Source) -> AsyncGenerator[Coming, None]:
             raise Problem(400, BROKEN)
     if len(head) < BLOCK:
         raise Problem(400, BROKEN)
-    await source.rest()
+    await source.zeros()
 
 
 def is_sum(head: bytes) -> bool:
@@ -178,25 +115,9 @@ def fields_of(text: bytes) -> dict[str, bytes]:
     return found
 
 
-async def files_of_form(source: Source, bound: bytes) -> AsyncGenerator[Coming, None]:
+async def files_of_form(kind: str, source: Source) -> AsyncGenerator[Coming, None]:
     """The files of a form."""
-    source.kept[:0] = b"\r\n"
-    await source.short(b"\r\n--" + bound)
-    while (end := await source.exactly(2)) == b"\r\n":
-        path = checked(file_name(await source.short(b"\r\n\r\n")))
-        yield Coming(path, None, source.until(b"\r\n--" + bound))
-    if end != b"--":
-        raise Problem(400, f"the form breaks off: {ASKED}")
-    while source.kept or await source.fill():
-        source.kept.clear()
-
-
-def file_name(head: bytes) -> bytes:
-    """The name of the file in the part of a form with these headers."""
-    try:
-        name = email.message_from_string(head.decode().strip() + "\n\n").get_filename()
-    except (ValueError, TypeError, LookupError) as fault:
-        raise Problem(400, f"the name of a file cannot be read: {fault}") from None
-    if not name:
-        raise Problem(400, f"a part of the form is no file: {ASKED}")
-    return name.encode("utf-8", "surrogateescape")
+    async for sent in files_of(kind, source, ASKED):
+        if not sent.name:
+            raise Problem(400, f"a part of the form is no file: {ASKED}")
+        yield Coming(checked(sent.name.encode()), None, sent.parts)

@@ -6,6 +6,7 @@ taken for one."""
 import asyncio
 import contextlib
 import dataclasses
+import itertools
 import struct
 from typing import Any, AsyncIterator, Callable, Iterator, Optional, Sequence, Union
 
@@ -17,6 +18,7 @@ from .forms import files_of
 from .ledger import LAST_UNTIL
 from .pieces import Memory
 from .problems import Problem
+from .source import Source
 
 PIECE = client.LARGEST_BLOB
 AHEAD = 3  # pieces of one file that are encoded or certified at once
@@ -24,6 +26,7 @@ HEAD = struct.Struct(">16sQ")
 MARK, NAME = b"\x00walrus list \x00\x00\x01", 32
 MOST_PIECES = (PIECE - HEAD.size) // NAME
 LONGEST = MOST_PIECES * PIECE
+ASKED = "send the files as multipart/form-data, as curl -F a=@FILE -F b=@FILE does"
 UNFIT = "the files do not fit: each fills whole columns of a bundle, which has 16 MiB; store some of them alone"
 Told = dict[str, Any]  # what a publisher is told, as JSON
 
@@ -106,7 +109,7 @@ class Writer:
     ) -> Told:
         """Stores the files of a form of this media type as one bundle, which is no longer than a piece, once its length
         was counted."""
-        bundle, members = await self.bundle(kind, await pieces.gathered(stream))
+        bundle, members = await self.bundle(*await self.gather(kind, stream))
         count(len(bundle))
 
         async def whole() -> AsyncIterator[bytes]:
@@ -115,17 +118,34 @@ class Writer:
         told = await self.store(whole(), epochs, stored)
         return told | {"members": [{"id": f"{told['blobId']}/{it}", **member} for it, member in enumerate(members)]}
 
-    async def bundle(self, kind: str, form: bytes) -> tuple[bytes, list[Told]]:
-        """The bundle of the files of a form, in a file without a name, and what is told of each."""
-        faults = self.network.ledger.faults
-        async with self.memory.share(pieces.need_of(len(form), faults)):
-            files = files_of(kind, form, 2 * faults)
+    async def gather(self, kind: str, stream: AsyncIterator[bytes]) -> tuple[bytes, list[Told]]:
+        """The files of a form, one behind the other in a file without a name, and what is told of each."""
+        most, spool, members = 2 * self.network.ledger.faults, pieces.Spool(), list[Told]()
+        try:
+            async for sent in files_of(kind, Source(stream), ASKED):
+                if len(members) == most:
+                    raise Problem(413, f"a bundle has at most {most} files here: send the others in further ones")
+                before = spool.size
+                async for part in sent.parts:
+                    spool.add(memoryview(part))
+                members.append({"name": sent.name or sent.field, "size": spool.size - before})
+            if not members:
+                raise Problem(400, f"the form has no file: {ASKED}")
+            return spool.whole(), members
+        finally:
+            spool.close()
+
+    async def bundle(self, data: bytes, members: list[Told]) -> tuple[bytes, list[Told]]:
+        """The bundle of these files, in a file without a name."""
+        faults, ends = self.network.ledger.faults, itertools.accumulate(it["size"] for it in members)
+        files = [memoryview(data)[end - it["size"] : end] for end, it in zip(ends, members)]  # noqa: E203
+        async with self.memory.share(pieces.need_of(len(data), faults)):
             try:
                 async with self.turns:
-                    made = await bundles.join([data for _, data in files], faults, self.network.walrus)
+                    made = await bundles.join(files, faults, self.network.walrus)
             except client.Refused as refused:
                 raise Problem(413, UNFIT) if refused.status == 4 else refused from None
-            return pieces.put_away(made), [{"name": name, "size": len(data)} for name, data in files]
+            return pieces.put_away(made), members
 
     async def store_blob(self, blob: bytes, until: int) -> tuple[bytes, bool]:
         """Stores a blob; its identifier, and whether it was there before. Its memory is given back once no node is left

@@ -8,7 +8,8 @@ from typing import TYPE_CHECKING, Any, Optional
 
 from .. import client
 from ..client import Data
-from ..frames import answer, joined
+from ..envelopes import parts
+from ..frames import answer
 from ..port import Bounds, Connection, Port, Said
 
 from . import whole
@@ -46,7 +47,7 @@ class NodePort(Port):
         with self.times.taking(f'kind="{NAMES.get(payload[0] if payload else 0, "other")}"'):
             said = await self.answer_one(client, sender, payload)
         self.moved['way="in"'] += len(payload or b"")
-        self.moved['way="out"'] += len(said.data)
+        self.moved['way="out"'] += said.size
         return said
 
     async def answer_one(self, client: Connection, sender: int, payload: Optional[Data]) -> Said:
@@ -58,7 +59,7 @@ class NodePort(Port):
         if payload == SCRUB:
             self.node.scrub.now.set()
         client.had_reply = True
-        return Said(joined([FIGURES + json.dumps(self.figures()).encode(), answer(0, 1)], sender))
+        return Said(parts([FIGURES + json.dumps(self.figures()).encode(), answer(0, 1)], sender))
 
     async def expect(self, request: Optional[Data]) -> None:
         if request and request[0] == whole.WHOLE:
@@ -97,9 +98,9 @@ class NodePort(Port):
 
         gauges: dict[str, Any] = {
             f"{group}_{name}": it
-            for group, parts in self.figures().items()
-            if isinstance(parts, dict)
-            for name, it in parts.items()
+            for group, told in self.figures().items()
+            if isinstance(told, dict)
+            for name, it in told.items()
             if isinstance(it, (int, float))
         }
         gauges |= {"epoch": self.node.ledger.epoch, "ledger_away_seconds": self.node.silence()}

@@ -10,7 +10,7 @@ import pathlib
 import secrets
 from typing import Callable, Iterable, Iterator
 
-from .. import client
+from .. import client, wire
 
 HALF = ".half"  # behind the name of a file that is being written
 PASSING = errno.EMFILE, errno.ENFILE, errno.ENOMEM, errno.EAGAIN  # faults of the system, not of a file
@@ -55,11 +55,16 @@ class Files:
         finally:
             os.close(opened)
 
-    def read(self, name: str, size: int) -> bytes:
+    def read(self, name: str, size: int) -> client.Data:
         """A content of a known size; empty where the file is gone, cannot be read or has another size."""
         try:
             with open(self.path(name), "rb", buffering=0) as file:
-                return file.read() if os.fstat(file.fileno()).st_size == size else b""
+                if os.fstat(file.fileno()).st_size != size:
+                    return b""
+                place = left = wire.filling(wire.memory(size))
+                while left and (count := file.readinto(left)):
+                    left = left[count:]
+                return b"" if left else place
         except OSError as fault:
             if fault.errno in PASSING:
                 raise

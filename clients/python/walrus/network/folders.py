@@ -10,9 +10,9 @@ from typing import Any, AsyncIterator, Iterable, Optional, Union
 from aiohttp import web
 
 from .chunks import LONGEST, File, Told
-from .gathering import AT_ONCE, Costs, store_folder
+from .gathering import AT_ONCE, Costs, store_folder, store_named
 from .guard import SAFE
-from .manifest import Manifest, Place, label_of
+from .manifest import Manifest, Place, Wrong, as_path, kind_told, label_of, shown
 from .problems import Problem
 from .publishing import Publisher, named
 from .reading import FOREVER, Reader
@@ -52,14 +52,40 @@ class Folders:
         response.headers["Location"] = f"{PATHS}{name}/"
         return response
 
+    async def put_file(self, request: web.Request) -> web.Response:
+        """Stores a file, and where it is to keep a name, the manifest of a folder that has it alone."""
+        publisher = self.publisher
+        words = urllib.parse.parse_qs(request.rel_url.raw_query_string, True, errors="surrogateescape")
+        if "filename" not in words:
+            return await publisher.put_blob(request)
+        name = words["filename"][0]
+        try:
+            kind, path = kind_told(request.headers.get("Content-Type", ""), name), as_path(name)
+        except Wrong as fault:
+            raise Problem(400, f"{fault}; nothing is stored") from None
+        if "/" in name:
+            raise Problem(400, f"{shown(name)} is a path: say the name of a file, without a slash; nothing is stored")
+        costs = Costs(publisher.charge(request), 2)
+
+        async def store(stream: AsyncIterator[bytes], epochs: int, stored: list[bytes]) -> Told:
+            told = await store_named(publisher.writer, path, kind, costs, stream, epochs, stored)
+            folder = told["named"]["folder"]
+            where = {"path": f"{PATHS}{folder}/{urllib.parse.quote(path)}", **self.site_of(folder)}
+            return {**told, "named": {**told["named"], **where}}
+
+        return await publisher.upload(request, min(publisher.options.most, LONGEST), costs, store, True)
+
+    def site_of(self, name: str) -> dict[str, str]:
+        """The host of a folder of its own, where folders have some."""
+        return {"site": f"{label_of(bytes.fromhex(name))}.{self.site}"} if self.site else {}
+
     async def store(
         self, kind: str, costs: Costs, stream: AsyncIterator[bytes], epochs: int, stored: list[bytes]
     ) -> Told:
         """Stores what comes as a folder of this media type; what is told of it, with its own host."""
         publisher = self.publisher
         told = await store_folder(publisher.writer, kind, costs, publisher.options.room, stream, epochs, stored)
-        site = {"site": f"{label_of(bytes.fromhex(told['blobId']))}.{self.site}"} if self.site else {}
-        return {**told, "folder": {**told["folder"], **site}}
+        return {**told, "folder": {**told["folder"], **self.site_of(told["blobId"])}}
 
     def at_site(self, request: web.BaseRequest) -> Optional[bytes]:
         """The folder whose own host a request names; none where it names no such host."""

@@ -1,37 +1,65 @@
-"""Forms of several files, as browsers and `curl -F` send them: multipart/form-data, RFC 7578."""
+"""Forms of several files, as browsers and `curl -F` send them (multipart/form-data, RFC 7578): aiohttp reads them as
+they come."""
+import contextlib
+import email
 import email.utils
+from typing import AsyncGenerator, Iterator, NamedTuple
+
+from aiohttp import BodyPartReader, MultipartReader, http_exceptions
 
 from .problems import Problem
+from .source import Parts, Source
 
-HEAD = 4_096  # bytes of a part's headers, and what a form may have beside each file
-ASKED = "send the files as multipart/form-data, as curl -F a=@FILE -F b=@FILE does"
+PART = 32_768  # bytes of a file that are read at once
+FAULTS = (
+    ValueError,
+    LookupError,
+    AssertionError,
+    RuntimeError,
+    http_exceptions.HttpProcessingError,
+)  # at what is no form
+# A file that comes: its name, that of its field, and its bytes, which are read before the next file.
+Sent = NamedTuple("Sent", [("name", str), ("field", str), ("parts", Parts)])
 
 
-def files_of(kind: str, form: bytes, most: int) -> list[tuple[str, bytes]]:
-    """The name and the bytes of each file in a form of this media type, 1 to so many; else `Problem` is raised."""
+async def files_of(kind: str, source: Source, asked: str) -> AsyncGenerator[Sent, None]:
+    """The files of a form of this media type. What is none is refused, with a word of what is asked."""
     told = email.message_from_string(f"Content-Type: {kind}\n\n")
-    bound = (told.get_boundary() or "").encode("utf-8", "surrogateescape")
+    bound = told.get_boundary() or ""
     if told.get_content_type() != "multipart/form-data" or not 1 <= len(bound) <= 70:
-        raise Problem(415, ASKED)
-    files: list[tuple[str, bytes]] = []
-    for part in (b"\r\n" + form).split(b"\r\n--" + bound, most + 2)[1:]:
-        head, blank, data = part.partition(b"\r\n\r\n")
-        if part[:2] == b"--" and files:
-            return files
-        if not blank or len(head) > HEAD or part[:2] != b"\r\n":
-            break
-        if len(files) == most:
-            raise Problem(413, f"a bundle has at most {most} files here: send the others in further ones")
-        files.append((name_of(head.decode("utf-8", "replace")), data))
-    raise Problem(400, f"the form has no file, or breaks off: {ASKED}")
+        raise Problem(415, asked)
+    reader = MultipartReader({"Content-Type": f'multipart/form-data; boundary="{bound}"'}, source)  # type: ignore
+    with must_be_form(asked):
+        while part := await reader.next():
+            if not isinstance(part, BodyPartReader):
+                raise Problem(400, f"a form has no forms in it: {asked}")
+            yield Sent(*names_in(part.headers.get("Content-Disposition", "")), parts_of(part, asked))
+    await source.rest()
 
 
-def name_of(head: str) -> str:
-    """The name of the file in the part with these headers, or else that of its field."""
-    told = email.message_from_string(head.strip() + "\n\n")
+async def parts_of(part: BodyPartReader, asked: str) -> AsyncGenerator[bytes, None]:
+    with must_be_form(asked):
+        while data := await part.read_chunk(PART):
+            yield data
+
+
+@contextlib.contextmanager
+def must_be_form(asked: str) -> Iterator[None]:
+    """Has what aiohttp stumbles over be told to who sent it."""
     try:
-        field = told.get_param("name", "", "Content-Disposition")
-        name = told.get_filename() or email.utils.collapse_rfc2231_value(field)
+        yield
+    except FAULTS:
+        raise Problem(400, f"the form breaks off, or is none: {asked}") from None
+
+
+def names_in(text: str) -> tuple[str, str]:
+    """The name of a file, and that of its field, in the Content-Disposition of a part."""
+    told = email.message_from_string(f"Content-Disposition: {text}\n\n")
+    try:
+        text.encode()
+        field = email.utils.collapse_rfc2231_value(told.get_param("name", "", "Content-Disposition"))
+        name = told.get_filename() or ""
+        f"{name}{field}".encode()
     except (ValueError, TypeError, LookupError) as fault:
         raise Problem(400, f"the name of a file cannot be read: {fault}") from None
-    return name.encode("utf-8", "replace").decode()
+    return name, field

@@ -45,7 +45,7 @@ STORING = (
     ("POST", "/v1/uploads"),
 )
 TAKEN = dict.fromkeys([*STORING, ("PUT", "/v1/folders")], ["epochs"])  # the words of queries
-TAKEN |= {("GET", "/v1/blobs"): ["within", "after"]}
+TAKEN |= {("GET", "/v1/blobs"): ["within", "after"], ("PUT", "/v1/blobs"): ["epochs", "filename"]}
 RESTING = (
     "/v1/blobs",
     "/v1/bundles",
@@ -103,8 +103,8 @@ class Gateway(Server):
             web.Application(middlewares=[self.answer, self.place, self.guard.check, self.sort]),
             self.publisher,
         )
-        app.on_response_prepare.append(self.guard.share)
-        app.add_routes([web.put("/v1/blobs", publisher.put_blob, expect_handler=expected)])
+        app.on_response_prepare.extend([self.guard.share, self.guard.keep])
+        app.add_routes([web.put("/v1/blobs", self.folders.put_file, expect_handler=expected)])
         app.add_routes([web.post("/v1/bundles", publisher.post_bundle, expect_handler=expected)])
         uploads = self.uploads
         app.on_response_prepare.append(uploads.share)

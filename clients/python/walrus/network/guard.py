@@ -1,14 +1,15 @@
 """Who may ask a gateway for what: by a token, or without a file of tokens whoever is on its own machine.
 
 A browser sends what another page tells it to, and with no token of ours: so what stores and shows no token must be
-asked of the gateway by a name of its own, and by no page but its own. Over loopback what reads and shows no token must
-be asked by such a name too, unless it is a file: other names may lead there, and the pages under them read it all."""
+asked of the gateway by a name of its own, and by no page but its own. At an address that not everybody reaches, what
+reads and shows no token must be asked by such a name too, unless it is a file: other names may lead there, and the
+pages under them read it all."""
 from typing import Any, Awaitable, Callable, Optional
 
 from aiohttp import hdrs, web
 
 from .exposure import Exposure
-from .limits import Flow, Limits, is_loopback, key_of
+from .limits import Flow, Limits, is_address, is_inner, is_loopback, key_of
 from .problems import Problem
 from .tokens import ANYONE, READ, STORE, Token, Tokens
 
@@ -78,7 +79,7 @@ class Guard:
     def must_be_allowed(self, request: web.Request, token: Optional[Token], right: str) -> None:
         known = self.tokens.all()
         by_name = is_by_name(request) and right == READ
-        if token is None and (right == STORE or not by_name and is_loopback(self.place(request)[0])):
+        if token is None and (right == STORE or not by_name and self.may_be_led(request)):
             self.must_be_named(request)
         if token is None and right == STORE:
             self.must_be_own(request)
@@ -101,6 +102,12 @@ class Guard:
         except Problem as problem:
             return str(problem)
         return ""
+
+    def may_be_led(self, request: web.Request) -> bool:
+        """Whether a page that cannot reach this address may have led a browser here that does: by a name of its own,
+        which it has for whatever address it likes. On loopback, addresses must be the gateway's own, too."""
+        place = self.place(request)[0]
+        return is_loopback(place) or is_inner(place) and not is_address(request.headers.get("Host", ""))
 
     def must_be_named(self, request: web.Request) -> None:
         """Raises where a browser may have been led here by another name for this machine."""
@@ -139,6 +146,12 @@ class Guard:
             raise fault or web.HTTPNotFound()
         methods = ", ".join(sorted({*fault.allowed_methods, "OPTIONS"}))
         return web.Response(status=204, headers={"Allow": methods})
+
+    async def keep(self, request: web.Request, response: web.StreamResponse) -> None:
+        """Lets caches that several people share keep nothing for which one of them had to show a token."""
+        told, known = response.headers.get(hdrs.CACHE_CONTROL, ""), self.tokens.all()
+        if told.startswith("public") and not (known is None or ANYONE in known and READ in known[ANYONE].rights):
+            response.headers[hdrs.CACHE_CONTROL] = told.replace("public", "private", 1)
 
     async def share(self, request: web.Request, response: web.StreamResponse) -> None:
         """Lets pages from elsewhere have a response: what is read by its name, and what a token was shown for."""

@@ -1,6 +1,5 @@
 """Blobs that come whole to a node: they are stored by one judgement, and the node's word for them follows by itself."""
 import asyncio
-import functools
 from typing import TYPE_CHECKING, Optional
 
 from .. import client
@@ -70,13 +69,10 @@ class Intake:
             durable = await node.durable()
             for losses, word in words:
                 if durable and node.store.losses == losses:
-                    node.recorders.leave(word).add_done_callback(functools.partial(self.taken, word))
+                    taken = node.recorders.leave(word)  # or refused
+                    taken.add_done_callback(lambda _, word=word: self.given.discard(word))  # type: ignore[misc]
                 else:
                     self.given.discard(word)
-
-    def taken(self, word: str, _: "asyncio.Future[int]") -> None:
-        """The ledger has a word, or refuses it."""
-        self.given.discard(word)
 
     async def close(self) -> None:
         if self.giving:

@@ -12,11 +12,11 @@ import os
 import pathlib
 import struct
 import threading
-from typing import AsyncIterator, Callable, Optional, Sequence, TypeVar, Union
+from typing import AsyncIterator, Callable, Optional, TypeVar, Union
 
 from .. import client
-from ..envelopes import stream
-from walrus.engines import BUILT, Engine, Library, Program
+from ..envelopes import parts
+from walrus.engines import BUILT, Engine, Library, Program, Ran
 from ..frames import METADATA, PRIMARY, PROOF, SECONDARY, pages_of
 from ..serving import status_in_words
 from .. import wire
@@ -60,7 +60,7 @@ def keep_memory() -> None:
 def name_of(payload: bytes) -> bytes:
     """The blob that a part is of. A metadata is looked up under this name, and the judge tells whether it is its."""
     if payload[0] not in (client.METADATA, client.SECOND_METADATA):
-        return payload[1:33]
+        return bytes(payload[1:33])
     front = 11 + (payload[0] == client.SECOND_METADATA)
     level = [hashlib.sha256(b"\0" + leaf).digest() for (leaf,) in struct.iter_unpack("64s", payload[front:])]
     while len(level) > 1:
@@ -70,10 +70,11 @@ def name_of(payload: bytes) -> bytes:
     return hashlib.sha256(form + payload[1:front] + level[0]).digest()
 
 
-def judge(engine: Engine, faults: int, shard: int, requests: list[bytes]) -> list[list[bytes]]:
+def judge(engine: Engine, faults: int, shard: int, requests: list[client.Data]) -> list[list[bytes]]:
     """What a shard that holds nothing replies to these requests, which it takes one after the other. The list is left
     empty, so that they are there once."""
-    pages, count, data = sum(pages_of(it) for it in requests if it[0] in PARTS), len(requests), stream(requests)
+    pages, count = sum(pages_of(it) for it in requests if it[0] in PARTS), len(requests)
+    data = wire.joined(parts(requests))
     requests.clear()
     return serve(engine, faults, shard, pages, data, count, len(data) + 512 * count)
 
@@ -162,16 +163,9 @@ class Judges:
         """What a step gives that must not hold up all others; it has a thread of its own, unless told otherwise."""
         self.count += 1
         loop = asyncio.get_running_loop()
-        if not here:
-            return await loop.run_in_executor(self.pool, self.try_twice, step, *words)
         with contextlib.suppress(MemoryError):
-            return step(*words)
+            return step(*words) if here else await loop.run_in_executor(self.pool, step, *words)
         return await loop.run_in_executor(self.pool, self.with_kept, step, *words)
-
-    def try_twice(self, step: Callable[..., Result], *words: object) -> Result:
-        with contextlib.suppress(MemoryError):
-            return step(*words)
-        return self.with_kept(step, *words)
 
     def with_kept(self, step: Callable[..., Result], *words: object) -> Result:
         """Where memory is wanting, one step after the other has what is kept."""
@@ -194,11 +188,16 @@ class Judges:
         """Whether so many bytes are judged in place, as that is faster than another thread would begin to."""
         return size < SHORT and isinstance(self.engine, Library)
 
-    async def run(self, *words: object, data: Union[client.Data, Sequence[client.Data]] = b"") -> tuple[int, bytes]:
-        """The status and the output of the program, as `client.Walrus` has them."""
-        whole = wire.joined(data) if isinstance(data, list) else data
-        status, text = await self.ask(len(whole), self.engine.run, [*map(str, words)], whole, len(whole) + 4_096)
-        return status, bytes(text)
+    async def run(self, *words: object, data: Union[client.Data, list[client.Data]] = b"") -> tuple[int, client.Data]:
+        """The status and the output of the program, as `client.Walrus` has them; a long one where it was written."""
+        size = sum(map(len, data)) if isinstance(data, list) else len(data)
+
+        def run() -> Ran:
+            whole = wire.joined(data) if isinstance(data, list) else data
+            return self.engine.run([*map(str, words)], whole, size + 4_096)
+
+        status, text = await self.ask(size, run)
+        return status, text if len(text) > SHORT else bytes(text)
 
     def close(self) -> None:
         self.pool.shutdown(wait=False, cancel_futures=True)

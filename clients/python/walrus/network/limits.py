@@ -3,6 +3,7 @@ import asyncio
 import collections
 import ipaddress
 import math
+import re
 import time
 from typing import Sequence
 
@@ -86,10 +87,28 @@ def key_of(address: str) -> str:
     return address
 
 
+def read_address(text: str) -> "ipaddress.IPv4Address | ipaddress.IPv6Address | None":
+    """An address; none where it is a name, or nothing."""
+    try:
+        found = ipaddress.ip_address(text.partition("%")[0])
+    except ValueError:
+        return None
+    return getattr(found, "ipv4_mapped", None) or found
+
+
 def is_loopback(address: str) -> bool:
     """Whether an address is of this machine alone."""
-    try:
-        found = ipaddress.ip_address(address.partition("%")[0])
-    except ValueError:
-        return False
-    return (getattr(found, "ipv4_mapped", None) or found).is_loopback
+    found = read_address(address)
+    return found is not None and found.is_loopback
+
+
+def is_inner(address: str) -> bool:
+    """Whether an address is of a network that not everybody reaches."""
+    found = read_address(address)
+    return found is not None and not found.is_global
+
+
+def is_address(host: str) -> bool:
+    """Whether ADDRESS or ADDRESS:PORT is asked for, and no name."""
+    found = re.fullmatch(r"\[(.*)\](:[0-9]*)?|([0-9.]+)(:[0-9]*)?", host)
+    return found is not None and read_address(found[1] or found[3]) is not None

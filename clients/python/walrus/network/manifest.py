@@ -13,6 +13,7 @@ MARK = b"\x00walrus folder\x00\x01"
 MOST_FILES, MOST_BYTES = 262_144, 67_108_864  # files of a folder, and bytes of a manifest
 PATH, PART = 1_024, 255  # bytes of a path, and of a name in it
 OTHER = "application/octet-stream"
+SILENT = "", OTHER, "application/x-www-form-urlencoded"  # what clients say of whatever they send
 KINDS = {
     "text/html": "html htm",
     "text/css": "css",
@@ -122,6 +123,17 @@ def kind_of(path: str) -> str:
     """The media type of a file, by the ending of its name."""
     name = path.rpartition("/")[2]
     return BY_ENDING.get(name.rpartition(".")[2].lower(), OTHER) if "." in name[1:] else OTHER
+
+
+def kind_told(told: str, path: str) -> str:
+    """The media type that is told of a file, or that of the file's name where it says nothing; raises `Wrong` where it
+    is of no form that a manifest has."""
+    kind, _, parameter = (it.strip() for it in told.lower().partition(";"))
+    if kind in SILENT and not parameter:
+        return kind_of(path)
+    if not re.fullmatch(TYPE.decode(), kind) or parameter not in ("", "charset=utf-8", 'charset="utf-8"'):
+        raise Wrong(f"{shown(told)} is no media type that is kept: say TYPE/SUBTYPE, with charset=utf-8 at most")
+    return kind
 
 
 def label_of(name: bytes) -> str:

@@ -11,6 +11,7 @@ from asyncio import sslproto
 from typing import Any, Coroutine, Optional, Sequence
 
 from .. import client, loop
+from ..envelopes import parts
 from ..frames import answer, code_of, joined
 from ..port import Bounds, Said
 
@@ -18,7 +19,7 @@ from . import handover
 from .figures import NodePort
 from .follower import Recorders, Refused, Unreachable, View
 from .intake import Intake
-from .judge import Busy, Clash, Judges, Room
+from .judge import PARTS, Busy, Clash, Judges, Room
 from .entries import LAST_EPOCH
 from .ledger import ACK, ADDRESS, ATTEST, OPERATOR, PAST, Entry, entry_key
 from .notify import ready
@@ -32,7 +33,6 @@ from .state import State
 from .store import Store
 from .whole import WHOLE
 
-PARTS = client.METADATA, client.SECOND_METADATA, client.SLIVER, client.PROOF
 VOUCHES = {client.ACK: ACK, client.ATTEST: ATTEST}
 sslproto.SSLProtocol.max_size = 65_536  # bytes that each connection has ready, instead of four times as many
 REQUEST, IDLE, HANDSHAKE, COUNTED = 30.0, 60.0, 5.0, 13  # seconds, and the code of an answer
@@ -171,11 +171,11 @@ class Node(View):
         except (Clash, sqlite3.Error) as fault:
             self.fail(fault)
             raise ConnectionError(str(fault)) from fault
-        data = joined(reply, shard)
+        said = parts(reply, shard)
         if request[0] not in (*PARTS, WHOLE, client.FORGET) or code_of(reply) not in (client.DONE, client.HELD):
-            return Said(data)
+            return Said(said)
         soon = 0 if request[0] == WHOLE and self.judges.here(len(request)) else SOON  # it has waited for others
-        return Said(data, self.store.written(soon), joined([answer(FULL, len(request) // 4096 + 1)], shard))
+        return Said(said, self.store.written(soon), joined([answer(FULL, len(request) // 4096 + 1)], shard))
 
     async def route(self, number: int, request: bytes) -> list[bytes]:
         """Asks the shard of the committee that a request is for."""

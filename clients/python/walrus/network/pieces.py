@@ -76,17 +76,6 @@ async def split(stream: AsyncIterator[bytes], size: int) -> AsyncGenerator[bytes
         spool.close()
 
 
-async def gathered(stream: AsyncIterator[bytes]) -> bytes:
-    """All that comes; its memory is that of a file, where it is more than a little."""
-    spool = Spool()
-    try:
-        async for part in stream:
-            spool.add(memoryview(part))
-        return spool.whole()
-    finally:
-        spool.close()
-
-
 def put_away(blob: bytes) -> bytes:
     """A blob whose memory is that of a file without a name."""
     with tempfile.TemporaryFile(buffering=0) as file:

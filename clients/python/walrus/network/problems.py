@@ -1,10 +1,9 @@
 """What the gateway says where it does not do what it is asked: a status, and a sentence that says what to do."""
 import json
-import re
 from typing import Any, Optional
 
 from aiohttp import web
-from .. import client
+from .. import bundles, client
 
 from .client import Away
 from .follower import Refused, Unreachable
@@ -44,15 +43,14 @@ def problem_of(fault: Exception) -> Problem:
         if isinstance(fault, web.HTTPMethodNotAllowed) and fault.method == "DELETE":
             return Problem(405, "nothing is deleted: a blob ends with its last epoch, for which it was stored", headers)
         return Problem(fault.status, f"{fault.reason}: GET /v1/api tells what can be asked", headers)
-    text = fault.text if isinstance(fault, client.Refused) else b""
-    held, needed = [*map(int, re.findall(rb"\d+", text)), 0, 0][:2]
-    if text.startswith(b"bad index"):
+    if isinstance(fault, bundles.NoBundle):
         return Problem(404, "the blob is no bundle: read it under /v1/blobs")
-    if text.startswith(b"no member of "):
-        return Problem(404, f"the bundle has {held} members, whose numbers begin with 0")
+    if isinstance(fault, bundles.NoMember):
+        return Problem(404, f"the bundle has {fault.count} members, whose numbers begin with 0")
     if isinstance(fault, client.Refused) and fault.status == 3:
         return Problem(410, BAD, invalid=True)
     if isinstance(fault, client.Refused) and fault.status == 4:
+        held, needed = (fault.held, fault.needed) if isinstance(fault, client.TooFew) else (0, 0)
         heard = f"{held} of {needed} needed slivers are heard" if needed else "too little of the blob is heard"
         return Problem(503, f"{heard}: try again once more nodes answer", lacking=needed - held or None, shards=said)
     if isinstance(fault, Away):

@@ -12,13 +12,13 @@ from .. import client
 from . import digests
 from .chunks import LONGEST, Told, Writer
 from .client import Network
-from .forms import HEAD
 from .entries import LAST_EPOCH, LAST_UNTIL
 from .exposure import Options
 from .listing import Lister
 from .problems import Problem, as_json, problem_of
 from .reading import LEAST, Pace, Reader
 from .shares import Charge, Shares
+from .source import HEAD
 from .turns import Turns, owner_of
 
 Store = Callable[[AsyncIterator[bytes], int, list[bytes]], Awaitable[Told]]
@@ -42,6 +42,14 @@ async def expected(request: web.Request) -> None:
     """Takes `Expect: 100-continue`: who sends it is told to go on once it is known that the file may be stored."""
     if request.headers["Expect"].lower() != "100-continue":
         raise web.HTTPExpectationFailed()
+
+
+def must_be_plain(request: web.Request) -> None:
+    """Raises where a request does not bring the bytes of a file themselves, from their beginning on."""
+    if request.headers.get("Content-Encoding", "identity").lower() != "identity":
+        raise Problem(415, "a file is stored as it comes: send it without Content-Encoding")
+    if "Content-Range" in request.headers:
+        raise Problem(400, "what is stored begins where the request does: send it without Content-Range")
 
 
 class Publisher:
@@ -146,10 +154,7 @@ class Publisher:
     ) -> web.Response:
         """Has an upload of at most so many bytes stored once it is its turn."""
         epochs = self.epochs(request)
-        if request.headers.get("Content-Encoding", "identity") != "identity":
-            raise Problem(415, "a file is stored as it comes: send it without Content-Encoding")
-        if "Content-Range" in request.headers:
-            raise Problem(400, "a file is stored as a whole: send it without Content-Range")
+        must_be_plain(request)
         if (request.content_length or 0) > most:
             raise Problem(413, f"an upload has at most {most} bytes here")
         if not self.network.ledger.now:

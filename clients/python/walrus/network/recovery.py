@@ -5,17 +5,8 @@ import dataclasses
 import itertools
 import sqlite3
 import sys
-from typing import (
-    TYPE_CHECKING,
-    AsyncIterator,
-    Awaitable,
-    Callable,
-    Collection,
-    Iterable,
-    NamedTuple,
-    Optional,
-    Sequence,
-)
+from collections.abc import AsyncIterator, Awaitable, Callable, Collection, Iterable, Sequence
+from typing import TYPE_CHECKING, NamedTuple, Optional
 
 from .. import client, frames
 from ..frames import METADATA, PRIMARY, SECONDARY, code_of
@@ -174,7 +165,8 @@ async def fill(node: "Node", shard: Shard, identifier: bytes) -> None:
     columns = {PRIMARY: own, SECONDARY: crossing}
     lacks = [part for part in shard.lacks(identifier) if part in columns]
     targets = {part: client.Symbol(identifier, part - PRIMARY, columns[part]) for part in lacks}
-    size = 2 * sum(shape.symbols[it.axis] for it in targets.values()) * (symbol_of(node, metadata) + 1_024)
+    counts = [shape.symbols[it.axis] for it in targets.values()]  # of symbols that come, and of which a sliver is made
+    size = (sum(counts) + max(counts, default=0)) * (symbol_of(node, metadata) + 1_024)
     async with node.repairs.take(size, None):
         for side in sides(node) if targets else ():
             wanted = {part: client.write_frame(it) for part, it in targets.items()}
@@ -182,8 +174,8 @@ async def fill(node: "Node", shard: Shard, identifier: bytes) -> None:
             for part in sorted(targets, reverse=True):  # the secondary sliver first, for which few symbols will do
                 with contextlib.suppress(client.Refused):
                     if not shard.settled(identifier):
-                        _, frame = await client.recover(others, targets[part], node.judges)  # type: ignore[arg-type]
-                        await shard.put(frame, True)
+                        found = client.recover(others, targets[part], node.judges)  # type: ignore[arg-type]
+                        await shard.put((await found)[1], True)  # of which nothing is in memory then
                 del wanted[part]
                 for it in others:
                     it.late = it.late or it.asked is None  # who was asked has said the rest already

@@ -26,7 +26,7 @@ class Settings:
     connections: int = 512
     kept: int = 33_554_432  # bytes of requests and replies that are kept for all clients together
     heal: float = 30.0  # seconds for which a shard may lack a certified blob, before it is recovered from the others
-    memory: int = 268_435_456  # bytes of the whole node, whatever it holds and is asked
+    memory: int = 256_000_000  # bytes of the whole node, whatever it holds and is asked
     reserve: float = 0.05  # of the disk, which is kept free
     scrub: float = 30.0  # days in which all that is held is read and judged once; never, where it is 0
     scrub_rate: int = 20_000_000  # bytes a second that a scrub reads at most

@@ -3,11 +3,10 @@ import asyncio
 import contextlib
 import dataclasses
 import errno
-import functools
 import shutil
 import sqlite3
 import sys
-from typing import Callable, Iterable, Mapping, NamedTuple, Optional, Sequence
+from typing import Callable, Collection, Mapping, NamedTuple, Optional, Sequence
 
 from .. import client, frames
 from ..client import Data
@@ -26,7 +25,6 @@ ALL = METADATA, PRIMARY, SECONDARY, PROOF
 WANTING = errno.ENOSPC, errno.EDQUOT, errno.EIO, errno.EROFS  # how a disk does not take what came
 NAMES = "metadata", "primary sliver", "secondary sliver", "proof"
 Writing = asyncio.Task[list[str]]  # contents that are written to files; the names of these
-Found = tuple[list[list[bytes]], list[int]]  # replies, and the parts that are not what they should be
 
 
 def pages(parts: Sequence[Data]) -> int:
@@ -100,24 +98,17 @@ class Shard:
         if self.epoch not in (self.ledger.epoch, self.ledger.writing_epoch):
             raise Past(f"the committee of {self.title} serves no more")
 
-    async def judged(
-        self,
-        identifier: bytes,
-        requests: Sequence[Data],
-        step: Callable[[list[bytes], Sequence[Part]], Found],
-        wanted: Iterable[int] = (),
-        wrong: bool = False,
-    ) -> Judged:
-        """What a step of the judge gives over these parts, also those known to be wrong if told so. Who asks has the
+    async def judged(self, identifier: bytes, request: bytes, wanted: Collection[int], wrong: bool = False) -> Judged:
+        """What the judge says to a request over these parts, also those known to be wrong if told so. Who asks has the
         blob for himself."""
         self.must_serve()
         revision, losses = self.ledger.revision, self.store.losses
         told = entries_of(self.ledger, self.epoch, identifier)
-        held = self.store.parts(self.holding, self.epoch, identifier, wanted, wrong) if told and wanted else []
-        size = sum(it.size for it in held) + sum(map(len, requests))
-        found = await self.judges.ask(size, step, told, held)
+        held = self.store.parts(self.holding, self.epoch, identifier, wanted, wrong) if told else []
+        size = sum(it.size for it in held) + len(request)
+        found = await self.judges.ask(size, self.over, request, told, held)
         self.must_serve()
-        return Judged(requests, *found, revision, losses, size)
+        return Judged([request], *found, revision, losses, size)
 
     async def judged_together(self, wholes: Sequence[Whole]) -> list[Judged]:
         """What one call of the judge gives over blobs of which nothing is held. Who asks has them for himself."""
@@ -126,14 +117,14 @@ class Shard:
         revision, told = ledger.revision, [entries_of(ledger, self.epoch, it.identifier) for it in wholes]
         requests = [[*it.parts, it.wish] for it in wholes]
         sizes = [sum(map(len, it)) for it in requests]
-        step = functools.partial(judge_all, self.judges.engine, ledger.faults, self.number, wholes, told)
-        found = await self.judges.ask(sum(sizes), step)
+        words = self.judges.engine, ledger.faults, self.number, wholes, told
+        found = await self.judges.ask(sum(sizes), judge_all, *words)
         self.must_serve()
         return [Judged(*it, [], revision, losses, size) for it, size in zip(zip(requests, found), sizes)]
 
-    def over(self, request: bytes, told: list[bytes], held: Sequence[Part]) -> Found:
+    def over(self, request: bytes, told: list[bytes], held: Sequence[Part]) -> tuple[list[list[bytes]], list[int]]:
         """The judge's reply to a request over these entries and parts, and which parts are not what they should be."""
-        given, requests = [-1] * len(told), [*told]
+        given, requests = [-1] * len(told), list[Data](told)
         for part in held:
             payload = self.store.files.read(part.file, part.size) if part.file else part.payload
             if payload and payload[0] in judge.PARTS and part_of(payload) == part.part and len(payload) == part.size:
@@ -148,9 +139,8 @@ class Shard:
 
     async def sure(self, identifier: bytes, request: bytes) -> Judged:
         """What the judge says over what is held and is what it should be; the rest is left out from here on."""
-        shards, step = client.Shape(self.ledger.faults).shards, functools.partial(self.over, request)
-        wanted = {*judge.parts_for(request, shards)}
-        while (judged := await self.judged(identifier, [request], step, wanted)).wrong:
+        wanted = {*judge.parts_for(request, client.Shape(self.ledger.faults).shards)}
+        while (judged := await self.judged(identifier, request, wanted)).wrong:
             self.mark(identifier, judged.wrong)
             wanted -= {*judged.wrong, *(ALL if METADATA in judged.wrong else ())}
         return judged
@@ -190,10 +180,6 @@ class Shard:
         """Stores all parts of a blob of which nothing is held; the judge's reply to the wish for a word, or to a part
         that will not do. Empty, where something is held already."""
         identifier = whole.identifier
-
-        def step(told: list[bytes], held: Sequence[Part]) -> Found:
-            return whole.judge(self.judges.engine, self.ledger.faults, self.number, told), []
-
         async with self.store.alone(self.holding, identifier):
             if self.epoch != self.ledger.writing_epoch:
                 return [answer(DECLINED)]  # the next committee has begun with what was held then
@@ -205,7 +191,7 @@ class Shard:
             else:
                 writing = self.write(identifier, parts) if pages(whole.parts) < self.free_pages() else None
                 try:
-                    judged = await self.judged(identifier, [*whole.parts, whole.wish], step)
+                    [judged] = await self.judged_together([whole])
                 except BaseException:
                     self.let_go(writing)
                     raise
@@ -291,8 +277,7 @@ class Shard:
     async def check(self, identifier: bytes) -> tuple[int, bool]:
         """Has all that is held of a blob judged; its bytes, and whether all is what it should be."""
         async with self.store.alone(self.holding, identifier):
-            request = client.write_frame(client.Read(identifier))
-            judged = await self.judged(identifier, [request], functools.partial(self.over, request), ALL, True)
+            judged = await self.judged(identifier, client.write_frame(client.Read(identifier)), ALL, True)
             known = self.store.wrong(self.holding, identifier)
             if new := [part for part in judged.wrong if part not in known]:
                 self.mark(identifier, new)

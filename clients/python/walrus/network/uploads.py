@@ -17,7 +17,7 @@ from .chunks import LONGEST, MARK, File, Told
 from .entries import LAST_UNTIL
 from .guard import PASSED_ON
 from .problems import Problem, as_json
-from .publishing import LISTED, Publisher, as_known, failed_with
+from .publishing import LISTED, Publisher, as_known, failed_with, must_be_plain
 from .shares import Charge
 from .turns import WAITING, owner_of
 from .unfinished import IDLE, Unfinished, Upload, is_of
@@ -50,8 +50,7 @@ class Uploads:
         """Begins an upload with what the request brings."""
         publisher, ledger = self.publisher, self.publisher.network.ledger
         epochs, is_last, length, size = publisher.epochs(request), whole(request), told_length(request), None
-        if request.headers.get("Content-Encoding", "identity") != "identity":
-            raise Problem(415, "a file is stored as it comes: send it without Content-Encoding")
+        must_be_plain(request)
         if is_last and (size := request.content_length) is not None and length not in (None, size):
             raise Problem(400, "Upload-Length is not the length of the file that is sent whole")
         length = size if length is None else length
@@ -90,6 +89,7 @@ class Uploads:
         """Goes on with an upload."""
         if request.content_type != KIND:
             raise Problem(415, f"what goes on with an upload has the type {KIND}", {"Accept-Patch": KIND})
+        must_be_plain(request)
         is_last, told = whole(request), request.headers.get("Upload-Offset", "")
         if not re.fullmatch("[0-9]{1,15}", told):
             raise Problem(400, "say in Upload-Offset how much of the file was sent before, as HEAD tells")

@@ -8,6 +8,7 @@ from typing import Optional, Sequence
 from walrus.engines import Engine
 from .. import client
 from ..client import HEAD, METADATA, PRIMARY, SECOND_METADATA, SECONDARY, SLIVER, Data
+from ..envelopes import parts
 from ..frames import pages_of
 from .. import wire
 
@@ -19,10 +20,7 @@ WISH = HEAD.size + 33  # bytes of an envelope with the wish
 
 def request_of(encoded: client.Encoded, shard: int) -> list[Data]:
     """The request that stores a blob at a shard."""
-    parts: list[Data] = [bytes([WHOLE])]
-    for part in (encoded.metadata, *encoded.slivers[shard]):
-        parts += [HEAD.pack(client.MARK, 0, len(part)), part]
-    return parts
+    return [bytes([WHOLE]), *parts((encoded.metadata, *encoded.slivers[shard]))]
 
 
 def front(shape: client.Shape) -> int:
@@ -55,16 +53,16 @@ class Whole:
     def read(cls, shape: client.Shape, request: memoryview) -> Optional["Whole"]:
         """What a request that came to a `place` has; nothing where it is not of this form."""
         try:
-            parts = [memoryview(part) for _, part in client.split(request[1:])]
+            came = [memoryview(part) for _, part in client.split(request[1:])]
         except client.Fault:
             return None
-        if [part[0] if part else 0 for part in parts[1:]] != [SLIVER, SLIVER] or not all(map(shape.allows, parts)):
+        if [part[0] if part else 0 for part in came[1:]] != [SLIVER, SLIVER] or not all(map(shape.allows, came)):
             return None
-        name, axes = bytes(parts[1][1:33]), [part[33] for part in parts[1:]]
-        if parts[0][0] not in (METADATA, SECOND_METADATA) or parts[2][1:33] != name or axes != [PRIMARY, SECONDARY]:
+        name, axes = bytes(came[1][1:33]), [part[33] for part in came[1:]]
+        if came[0][0] not in (METADATA, SECOND_METADATA) or came[2][1:33] != name or axes != [PRIMARY, SECONDARY]:
             return None
         memory, start = memoryview(request.obj), front(shape)
-        return cls(memory, start, start + len(request), name, parts)
+        return cls(memory, start, start + len(request), name, came)
 
     def judge(self, engine: Engine, faults: int, shard: int, told: Sequence[bytes]) -> list[list[bytes]]:
         """What a shard that holds nothing replies to the parts and to the wish, after what it is told."""
@@ -85,7 +83,9 @@ def judge_all(
     engine: Engine, faults: int, shard: int, wholes: Sequence[Whole], told: Sequence[Sequence[bytes]]
 ) -> list[list[list[bytes]]]:
     """What a shard that holds nothing replies to the parts of several blobs and the wish for each, after what it is
-    told of that blob."""
+    told of that blob. One alone is judged where it lies."""
+    if len(wholes) == 1:
+        return [wholes[0].judge(engine, faults, shard, told[0])]
     stream, pages, count = bytearray(), 0, 0
     for whole, words in zip(wholes, told):
         stream += b"".join(map(client.envelope, words))

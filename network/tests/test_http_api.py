@@ -1,0 +1,165 @@
+"""What openapi.yaml and HTTP.md tell of a gateway is what its code does: paths, words, headers, statuses, replies."""
+import os
+import pathlib
+import re
+import unittest
+from typing import Any
+
+from folder_case import tar_of
+from harness import HERE
+from test_http_uploads import UploadCase
+from walrus.network import gateway
+
+try:
+    import yaml
+except ImportError:
+    yaml = None
+
+PACKAGE = pathlib.Path(gateway.__file__).parent
+OWN = "access folders forms digests guard gateway listing page problems publishing ranges reading shares shelf"
+OWN += " source uploads"
+NAME = "[A-Z][A-Za-z]*(?:-[A-Z][A-Za-z]*)+"  # of a header, with a hyphen
+READ = [rf'headers\.get(?:all)?\("({NAME}|[A-Z][a-z]+)"', rf'"({NAME}|[A-Z][a-z]+)" in request\.headers']
+GENERAL = {"Accept", "Host", "Authorization", "Content-Type", "Content-Length"}  # which HTTP itself has
+
+
+def code() -> str:
+    return "".join((PACKAGE / f"{name}.py").read_text() for name in OWN.split())
+
+
+@unittest.skipIf(yaml is None, "python3-yaml is not here (network/install --tests)")
+class Told(UploadCase):
+    async def asyncSetUp(self) -> None:
+        await super().asyncSetUp()
+        self.api = yaml.safe_load((PACKAGE / "openapi.yaml").read_text())
+        self.page = (HERE.parent / "HTTP.md").read_text()
+
+    def found(self, it: Any) -> Any:
+        """What stands in the place of a reference."""
+        while "$ref" in it:
+            place = it["$ref"].removeprefix("#/").split("/")
+            it = self.api
+            for step in place:
+                it = it[step]
+        return it
+
+    def asked(self, kind: str) -> dict[tuple[str, str], set[str]]:
+        """The parameters of this kind of each request, by method and path."""
+        told = dict[tuple[str, str], set[str]]()
+        for path, methods in self.api["paths"].items():
+            shared = methods.get("parameters", [])
+            for method, it in methods.items():
+                if method != "parameters":
+                    each = map(self.found, [*shared, *it.get("parameters", [])])
+                    told[method.upper(), path] = {one["name"] for one in each if one["in"] == kind}
+        return told
+
+    async def test_each_path_has_its_methods_and_words(self) -> None:
+        await self.start()
+        assert self.gateway.runner and self.gateway.runner.app
+        routes = set[tuple[str, str]]()
+        for it in self.gateway.runner.app.router.routes():
+            assert it.resource
+            path = re.sub(r"\{(\w+)[^}]*\}", r"{\1}", it.resource.canonical).replace("{name}", "{id}")
+            routes.add((it.method, path))
+        pages = {(method, f"/{it}") for it in gateway.PARTS for method in ("GET", "HEAD")}
+        told = self.asked("query")
+        heads = {("HEAD", path) for method, path in routes if method == "GET"}
+        self.assertEqual({*told} | heads - pages, routes - pages)
+        for method, path in told:
+            words = gateway.TAKEN.get((method, path.replace("{id}", "{name}")), [])
+            self.assertEqual(told[method, path], {*words}, (method, path))
+            rows = [rf"`{method} {path.replace('{id}', 'ID')}\?[^`]*{word}=" for word in words]
+            plain = re.escape(re.sub(r"\{(\w+)\}", lambda it: it[1].upper(), path))
+            rows += [rf"`[A-Z, `]*{method}[A-Z, `]* {plain}[?`]"] if method != "HEAD" else []
+            self.assertEqual([it for it in rows if not re.search(it, self.page)], [], "no row of the page tells of it")
+
+    async def test_each_header_is_told(self) -> None:
+        text = self.page + (HERE.parent / "OPERATING.md").read_text() + (PACKAGE / "openapi.yaml").read_text()
+        read = {name for form in READ for name in re.findall(form, code())}
+        made = {*re.findall(rf'"({NAME})"\]? ?[:=] ', code()), *re.findall(rf'"({NAME})": ', code())}
+        self.assertGreater(len(read), 15)
+        self.assertGreater(len(made), 10)
+        lacking = [it for it in sorted({*read, *made} - GENERAL) if not re.search(rf"\b{it}\b", text)]
+        self.assertEqual(lacking, [])
+
+    async def test_each_status_is_told(self) -> None:
+        used = {*re.findall(r"Problem\(\s*(\d{3})", code()), *re.findall(r"status=(\d{3})", code())}
+        rows = {*re.findall(r"^\| (\d{3}) \|", self.page, re.MULTILINE)}
+        self.assertLessEqual({it for it in used if it >= "400"}, rows)
+        text = (PACKAGE / "openapi.yaml").read_text()
+        self.assertIn(" 405 ", self.api["info"]["description"])  # of methods that no path has
+        self.assertLessEqual({*used, *rows} - {"405"}, {*re.findall(r'"(\d{3})":', text)})
+
+    def fits(self, schema: Any, value: Any, place: str) -> None:
+        """A reply has what the schema says, and nothing beside it."""
+        known, needed = dict[str, Any](), set[str]()
+        for part in [schema, *schema.get("allOf", [])]:
+            whole = self.found(part)
+            for it in [whole, *map(self.found, whole.get("allOf", []))]:
+                known |= it.get("properties", {})
+                needed |= {*it.get("required", [])}
+        schema = {**self.found(schema), **{it: schema[it] for it in schema if it != "$ref"}}
+        if value is None:
+            self.assertTrue(schema.get("nullable"), place)
+        elif isinstance(value, dict):
+            self.assertLessEqual(needed, value.keys(), place)
+            more = schema.get("additionalProperties")
+            for name, it in value.items():
+                self.assertTrue(name in known or more, f"{place}.{name} is not told")
+                self.fits(known.get(name, more), it, f"{place}.{name}")
+        elif isinstance(value, list):
+            self.assertEqual(schema["type"], "array", place)
+            for it in value:
+                self.fits(schema["items"], it, f"{place}[]")
+        else:
+            kinds = {bool: ["boolean"], int: ["integer", "number"], float: ["number"], str: ["string"]}
+            self.assertIn(schema["type"], kinds[type(value)], place)
+            self.assertIn(value, schema.get("enum", [value]), place)
+
+    async def replies(self, method: str, path: str, status: int, told: str = "", **words: Any) -> Any:
+        """A request has this status, and a reply as the page tells for it."""
+        found, _, body = await self.ask(method, path, **words)
+        self.assertEqual(found, status, body)
+        said = self.found(self.api["paths"][told or path.partition("?")[0]][method.lower()]["responses"][str(status)])
+        self.fits(said["content"]["application/json"]["schema"], body, f"{method} {path[:40]}")
+        return body
+
+    async def test_each_reply_is_as_it_is_told(self) -> None:
+        self.token("anyone", "read,store", bytes=100_000)
+        await self.start(sites="sites.example")
+        put = await self.replies("PUT", "/v1/blobs?epochs=5&filename=a.txt", 201, data=b"data")
+        self.was_there = True
+        await self.replies("PUT", "/v1/blobs?epochs=5", 200, data=b"data")
+        self.was_there = False
+        tar = {"Content-Type": "application/x-tar"}
+        folder = await self.replies(
+            "PUT", "/v1/folders?epochs=5", 201, data=tar_of({"a": b"1", "b/c": b""}), headers=tar
+        )
+        self.assertIn("site", folder["folder"])
+        asked = {"Accept": "application/json"}
+        path = f"/v1/folders/{folder['blobId']}/"
+        await self.replies("GET", path, 200, "/v1/folders/{id}/{path}", headers=asked)
+        await self.replies("GET", path + "none", 404, "/v1/folders/{id}/{path}")
+        for names in ({"Upload-Complete": "?1"}, {"Upload-Complete": "?0"}):
+            _, headers, _ = await self.ask("POST", "/v1/uploads?epochs=5", data=os.urandom(9), headers=names)
+            if names["Upload-Complete"] == "?0":
+                await self.replies("GET", headers["location"], 200, "/v1/uploads/{upload}")
+        told = await self.replies("POST", "/v1/uploads?epochs=5", 201, data=b"9", headers={"Upload-Complete": "?1"})
+        known = bytes.fromhex(told["blobId"]).hex()
+        await self.replies("GET", "/v1/blobs", 200)
+        await self.replies("GET", "/v1/rights", 200)
+        await self.replies("GET", f"/v1/status/{known}", 200, "/v1/status/{id}")
+        self.gateway.watch.findings.appendleft({"blob": known, "node": "a", "holds": True, "said": "", "time": 1.5})
+        self.gateway.announcer.findings.appendleft({"blob": known, "invalid": True, "said": "", "time": 1.5})
+        await self.replies("GET", "/v1/status", 200)
+        await self.replies("POST", f"/v1/extend/{put['blobId']}?epochs=101", 400, "/v1/extend/{id}")
+        await self.replies("GET", f"/v1/status/{'0' * 64}", 404, "/v1/status/{id}")
+        await self.replies("PUT", "/v1/blobs?epochs=5", 403, data=bytes(100_001))
+        self.away = "no shard acknowledges it"
+        headers = {"Upload-Complete": "?1"}
+        await self.replies("POST", "/v1/uploads?epochs=5", 503, data=b"8", headers=headers)
+
+
+if __name__ == "__main__":
+    unittest.main()
