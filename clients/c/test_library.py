@@ -42,6 +42,7 @@ ARCHIVE = LIBRARY.parent / "libwalrus.a"
 WRAPPED = [f"-Wl,--wrap={name}" for name in ("malloc", "realloc", "free")]
 SECONDS = 600
 UNKNOWN = 2**64 - 1  # the room that is told where none is given
+MOST_ROOM = 2**26  # bytes that a test has at once
 SUBJECTS: Any = corpus.Corpus  # which has no types
 needs_compiler = unittest.skipUnless(COMPILER, "there is no C compiler cc")
 
@@ -104,8 +105,8 @@ class Rooms(unittest.TestCase):
     """The room that is told for words before they are run."""
 
     def test_it_suffices(self) -> None:
-        """Each command in a room of exactly so many bytes: `encode`, `id` and a full image take all of them, and one
-        fewer is too little."""
+        """Each command in a room of exactly so many bytes, or its length where they are many: `encode`, `id`
+        and a full image take all of them, and one fewer is too little."""
         library, given, filled = Library(), set(), set()
         for words, data, expected in cases(library):
             told = spelled(words)
@@ -113,6 +114,9 @@ class Rooms(unittest.TestCase):
             if room == UNKNOWN:
                 continue
             given.add(words[0])
+            if room > MOST_ROOM:
+                self.assertLessEqual(library.call(told, data, 0)[2], room, words)
+                continue
             with self.subTest(words=words):
                 status, text, needed = library.call(told, data, room)
                 self.assertEqual((status, needed), (expected, len(text)))
@@ -122,8 +126,7 @@ class Rooms(unittest.TestCase):
                     filled.add(words[0])
         self.assertEqual(filled, {"encode", "id", "image"})
         self.assertEqual(
-            given,
-            {"bundle", "challenge", "check", "encode", "id", "image", "member", "read", "recover", "unpack", "verify"},
+            given, set("bundle challenge check encode gateway id image member read recover serve unpack verify".split())
         )
 
     def test_the_numbers(self) -> None:
@@ -133,7 +136,9 @@ class Rooms(unittest.TestCase):
             (["id", "1"], 12, 65),
             (["check", name], 12, 272),
             (["verify", name, "0", name, "1"], 12, 272),
-            (["read", name], 12, 16_777_216),
+            (["read", name], 12, 272),
+            (["read", name], 273, 273),
+            (["read", name], 2**64 - 1, 16_777_216),
             (["recover", name, "primary", "0"], 12, 16_995_370),
             (["encode", "1"], 12, 8 + 10 + 4 * (64 + 94 + 5 * 2)),  # symbols of two bytes
             (["encode", "1", "--format", "2"], 12, 8 + 11 + 4 * (64 + 94 + 5 * 2)),
@@ -149,8 +154,22 @@ class Rooms(unittest.TestCase):
             (["unpack"], 2**64 - 1, 2 * 134_217_728),
             (["challenge", name, "0", name, "3"], 14, 3 * (370 + 2)),
             (["challenge", name, "0", name, "3"], 2**64 - 1, 3 * (370 + 2_796_204)),
-            (["challenge", name, "0", name, "767"], 2**64 - 1, 767 * (370 + 2_796_204)),
-            (["challenge", name, "0", name, "768"], 2**64 - 1, UNKNOWN),
+            (["challenge", name, "0", name, "1000"], 2**64 - 1, 1000 * (370 + 2_796_204)),
+            (["gateway", "1"], 47, 272),
+            (["gateway", "64"], 96, 272 + 2 * (34 + 2 * 96)),
+            (["gateway", "1"], 2**64 - 1, 272 + 134_217_728 // 48 * (34 + 2 * 16_777_216)),
+            (["serve", "1", "0"], 0, 140),
+            (["serve", "1", "0"], 80, 140 + 11 * 17 + 2 * (323 + 80)),
+            (
+                ["serve", "1", "0"],
+                2**64 - 1,
+                140 + 2**30 // 7 * 17 + 2**30 // 40 * (323 + 111 + 64 * 4 + 3 * (2 * 2_796_204 + 327)),
+            ),
+            (
+                ["serve", "333", "0"],
+                2**64 - 1,
+                140 + 2**30 // 7 * 17 + 2**30 // 40 * (323 + 111 + 64_000 + 667 * (2 * 76 + 327)),
+            ),
             (["frob"], 12, usage),
             (["id", "0"], 12, usage),
             ([], 12, usage),
@@ -192,7 +211,7 @@ class Rooms(unittest.TestCase):
 
     def test_where_none_is_told(self) -> None:
         library = Library()
-        for words in (b"id", b"\xff\0", spelled(["replay"]), spelled(["serve", "1", "0"]), spelled(["sample", "1"])):
+        for words in (b"id", b"\xff\0", spelled(["replay"]), spelled(["sample", "1"])):
             with self.subTest(words=words):
                 self.assertEqual(library.room(words, 0), UNKNOWN)
 

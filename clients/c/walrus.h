@@ -23,11 +23,11 @@ extern "C" {
 enum {
     WALRUS_OK = 0,
     WALRUS_USAGE = 2,      /* the words ask for nothing; the output is the usage */
-    WALRUS_REJECTED = 3,   /* what was recorded is false: the output has the evidence, or says "reject" */
-    WALRUS_SHORT = 4,      /* something is lacking, which the output names */
+    WALRUS_REJECTED = 3,   /* what was recorded is false: the output has the evidence, or a line that says so */
+    WALRUS_SHORT = 4,      /* the input is too little or too much for an answer; the output says in what */
     WALRUS_NO_MEMORY = 5,  /* malloc or realloc failed; the output is a front of the answer, mostly nothing */
     WALRUS_NO_ROOM = 7,    /* the text is longer than the output; *needed says how long it is */
-    WALRUS_MALFORMED = 8,  /* the input is no stream, no schedule or no image; the output says where */
+    WALRUS_MALFORMED = 8,  /* the input is no stream, no schedule or no image; the output says where, if it can */
     WALRUS_TOO_LONG = 9,   /* the input is longer than the command takes */
     WALRUS_COLLISION = 10, /* two texts with one digest were found, which the output has */
     WALRUS_NO_WORDS = 11   /* the words are not UTF-8, or no zero byte stands behind the last one */
@@ -41,8 +41,9 @@ enum {
  * output      room for the text that it would write to standard output.
  * *written    is set to how many bytes of the text stand at the front of output: the smaller of *needed and output_len.
  *             Behind them output stays as it was.
- * *needed     is set to how many bytes the whole text has. With WALRUS_NO_ROOM another call with so much room gives all;
- *             at status 5 the text is what was written until memory ran out.
+ * *needed     is set to how many bytes the whole text has. With WALRUS_NO_ROOM another call with so much room gives all,
+ *             unless memory runs out then, or two other texts of a collision are longer; at status 5 the text is what
+ *             was written until memory ran out.
  *
  * Each pointer points to as many bytes as the length behind it says, and is not null even where that is 0. Output and
  * the two numbers overlap neither each other nor what is read. */
@@ -52,12 +53,13 @@ uint8_t walrus_run(const uint8_t *words, size_t words_len,
                    uint64_t *written, uint64_t *needed);
 
 /* Says how much room is enough for the words and any input of input_len bytes: a call of walrus_run with such an output
- * never has the status WALRUS_NO_ROOM. WALRUS_ROOM_UNKNOWN says that no such number is given: for gateway, replay, sample
- * and serve, for a challenge whose answer may have 2^31 bytes or more, for words that are none, and where there was no
- * memory to read them. The numbers stand in docs/LIBRARY.md. */
+ * never has the status WALRUS_NO_ROOM. WALRUS_ROOM_UNKNOWN says that no such number is given: for replay and sample, and
+ * for words that are none. WALRUS_ROOM_NO_MEMORY says that there was no memory to read the words. The numbers stand in
+ * docs/LIBRARY.md; those for challenge, gateway and serve may be more than a process can have. */
 uint64_t walrus_room(const uint8_t *words, size_t words_len, uint64_t input_len);
 
 #define WALRUS_ROOM_UNKNOWN UINT64_MAX
+#define WALRUS_ROOM_NO_MEMORY (UINT64_MAX - 1)
 
 #ifdef __cplusplus
 }

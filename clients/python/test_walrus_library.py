@@ -19,7 +19,7 @@ TOP = pathlib.Path(__file__).resolve().parents[2]
 sys.path[:0] = [str(TOP / "tests"), str(TOP / "clients" / "python")]
 
 import walrus  # noqa: E402
-from walrus import client as walrus_client, library as walrus_library  # noqa: E402
+from walrus import client as walrus_client, engines, library as walrus_library  # noqa: E402
 from walrus.engines import BUILT, PROGRAM  # noqa: E402
 from worked import ELEVEN, FALSE, HONEST, PRIMARY, SECOND, SECONDARY, SIX_WORDS, envelope, ladder  # noqa: E402
 
@@ -91,6 +91,21 @@ class Calls:
                     self.assertEqual(len(made.envelopes), engine.room(words, len(words), size))
         for room in (0, 1, 690, 691):
             self.assertEqual(walrus.run("encode", 1, data=SIX_WORDS, room=room), (0, HONEST.envelopes()))
+
+    def test_room_that_is_had(self) -> None:
+        """A read has the room that is enough: the size of its input, and at least that of a line. What may take
+        more than the longest blob has no more than is enough, too: 16,995,370 bytes for `recover`."""
+        if not isinstance(walrus.engine(), walrus.Library):
+            self.skipTest("the program has no room")
+        long = HONEST.envelopes() + envelope(0, bytes(16_999_999))
+        with mock.patch.object(engines, "Room", side_effect=engines.Room) as room:
+            self.assertEqual(walrus.read(HONEST.id, HONEST.envelopes()), SIX_WORDS)
+            with self.assertRaises(walrus.Lacking):
+                walrus.read(HONEST.id, b"")
+            with self.assertRaises(walrus.Lacking):
+                walrus.recover(HONEST.id, "primary", 2, long)
+        sizes = [call.args[0] for call in room.call_args_list]
+        self.assertEqual(sizes, [len(HONEST.envelopes()), 272, 16_995_370])
 
     def test_read(self) -> None:
         made = walrus.encode(SIX_WORDS, 1)

@@ -36,8 +36,8 @@ class Encoded(NamedTuple):
 
 
 def run(*words: object, data: Buffer = b"", room: Optional[int] = None) -> Ran:
-    """Runs any command; `room` is how many bytes it is likely to write, where the library says nothing of it or too
-    much, and a better guess saves a second run."""
+    """Runs any command; `room` is how many bytes it is likely to write, where the library says nothing of it or more
+    than is likely, and a better guess saves a second run."""
     return engine().run(list(map(str, words)), data, room)
 
 
@@ -70,8 +70,7 @@ def given(payloads: Payloads) -> tuple[Buffer, int]:
 
 def read(identifier: bytes, payloads: Payloads) -> memoryview:
     """The blob, from its metadata and f+1 true primary slivers among whatever else; raises `Lacking` with fewer."""
-    data, room = given(payloads)
-    return result("read", identifier.hex(), data=data, room=room)
+    return result("read", identifier.hex(), data=streamed(payloads))
 
 
 def recover(identifier: bytes, axis: Axis, index: int, payloads: Payloads) -> memoryview:

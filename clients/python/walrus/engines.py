@@ -16,7 +16,8 @@ BUILT = pathlib.Path("clients", "c", "out", "libwalrus.so"), pathlib.Path("crate
 PROGRAM = pathlib.Path("crates", "walrus", "out", "walrus")
 NO_ROOM, ROOM = 7, 4_096  # the status of a call whose output has too little room; room where no more is known
 MOST_ROOM = 134_217_728  # bytes of room that are had at once where the library says how many are enough
-UNKNOWN = 2**64 - 1  # what the library says where it knows no room that is enough
+LARGE = 16_777_216  # bytes; what is likely to be more than this may be more than enough
+UNTOLD = 2**64 - 2  # from here on the library says why it tells no room that is enough
 
 
 class Ran(NamedTuple):
@@ -28,7 +29,7 @@ class Ran(NamedTuple):
 
 class Engine(Protocol):
     """Runs a command: its words without the program's name, its input, and how many bytes it is likely to write, where
-    the caller knows better than the library."""
+    that may be fewer than the library says are enough."""
 
     def run(self, words: Sequence[str], data: Buffer = b"", room: Optional[int] = None) -> Ran:
         ...
@@ -58,9 +59,10 @@ class Library:
         told = b"".join(spelled(word) + b"\0" for word in words)
         written, needed = ctypes.c_uint64(), ctypes.c_uint64()
         with pinned(data) as (address, size):
-            if room is None:
+            if room is None or room > LARGE:
                 enough = int(self.room(told, len(told), size))
-                room = ROOM if enough == UNKNOWN else min(enough, MOST_ROOM)
+                likely = room or (MOST_ROOM if enough < UNTOLD else ROOM)
+                room = min(enough, likely)
             while True:
                 output = Room(room)
                 ends = output.address, output.size, ctypes.byref(written), ctypes.byref(needed)

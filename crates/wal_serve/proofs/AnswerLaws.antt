@@ -1,5 +1,5 @@
 -- What is answered, and what is written of it.
-use Rattle.std.proofs.Common.{◌≡◌, ℕ, ◌+◌, ◌-◌, ◌<◌, ◌≤◌, Bool, List, [], ◌∷◌, ◌++◌, length, take, Option, None, Result, Ok, Err, refl, sym, ap, subst, ◌∙◌, append-nil, arith}
+use Rattle.std.proofs.Common.{◌≡◌, ℕ, ◌+◌, ◌-◌, ◌<◌, ◌≤◌, Bool, List, [], ◌∷◌, ◌++◌, length, Option, None, Result, Ok, Err, refl, sym, ap, subst, ◌∙◌, append-nil, arith}
 use Rattle.std.proofs.lemmas.List.{length-append}
 use Rattle.std.proofs.lemmas.List.Concat.{flat_map-cons}
 use Rattle.std.proofs.lemmas.Grind.{flat_map-append}
@@ -13,6 +13,7 @@ use Rattle.wal_shard.specs.Replying.{WritesReply}
 use Rattle.wal_shard.proofs.ReplyLaws.{appended_then}
 use Rattle.wal_serve.specs.declared.reply.Reply.{Reply}
 use Rattle.wal_serve.specs.State.{ServedState}
+use Rattle.wal_serve.specs.inside.Payload.{PayloadRoom}
 use Rattle.wal_serve.specs.inside.Requests.{IsNoRequest}
 use Rattle.wal_serve.specs.Reply.{done, malformed, no_request, overlong, reply_text, outcome_text, clash_in}
 use Rattle.wal_serve.specs.Answers.{IsReplyOutcome, AnswersPut, AnswersFrame, AnswersRead}
@@ -129,16 +130,16 @@ module _ (digest : List ℕ → List ℕ) (may_want : Bool) where
 -- ---- payloads in the buffer
 
 -- a payload for which there is no room
-pub overlong_into : (C : Type 0) (Answer : Table C) (buffer : List ℕ) (size : ℕ) (old : C) (r : Reply) → r ≡ overlong → length buffer < size
+pub overlong_into : (C : Type 0) (Answer : Table C) (buffer : PayloadRoom) (size : ℕ) (old : C) (r : Reply) → r ≡ overlong → buffer.room < size
     → AnswersInto Answer buffer size old (reply_text r ∷ []) None old
 overlong_into C Answer buffer size old r is less =
     let P : Reply → Type 0 = λ q. AnswersInto Answer buffer size old (reply_text q ∷ []) None old in
     let here : P overlong = (λ payload long kept. read_past (omega (arith, less, long)), tt) in
     subst P (sym is) here
 
--- a payload that stands in the buffer
-pub looked_into : (C : Type 0) (Answer : Table C) (buffer there : List ℕ) (size : ℕ) (old new : C) (frames : List (List ℕ)) (clash : Option MetaClash) → size ≤ length buffer
-    → there ≡ take size buffer → Answer old there frames clash new → RepliesInto Answer buffer size old frames clash new
+-- a payload that is in the buffer
+pub looked_into : (C : Type 0) (Answer : Table C) (buffer : PayloadRoom) (there : List ℕ) (size : ℕ) (old new : C) (frames : List (List ℕ)) (clash : Option MetaClash) → size ≤ buffer.room
+    → there ≡ buffer.bytes → Answer old there frames clash new → RepliesInto Answer buffer size old frames clash new
 looked_into C Answer buffer there size old new frames clash le is answers payload long kept =
     let P : List ℕ → Type 0 = λ p. Answer old p frames clash new in
     looked_at frames clash new (omega (arith, le, long)) (subst P (is ∙ kept le) answers)

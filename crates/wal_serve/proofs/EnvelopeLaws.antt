@@ -17,6 +17,7 @@ use Rattle.wal_serve.specs.declared.envelopes.Lack.{Lack}
 use Rattle.wal_serve.specs.declared.envelopes.Lack.TheVariants.{Nothing, Wrong, Cut, TooLong, Failed}
 use Rattle.wal_serve.specs.inside.Taking.{Takes, whole, ended, too_long, failed}
 use Rattle.wal_serve.proofs.TakingLaws.{took_whole}
+use Rattle.wal_serve.specs.inside.Payload.{PayloadRoom}
 use Rattle.wal_serve.specs.inside.Envelopes as env
 use Rattle.wal_serve.specs.inside.Envelopes.{Lacks, lack_of, IsHead, IsEnvelope}
 
@@ -161,8 +162,8 @@ lacks_payload a b c Late Up size most t head got lack one up is takes =
     lacks_behind a b c Late Up size (most - 7) most t head got lack one.1 (omega (arith, len)) (omega (arith, len, one.2)) (λ rest few. part_long size head rest one.0 few) up is takes
 
 -- the envelope was taken
-pub takes_envelope : (a b c : Option (List ℕ)) (Late : Type 0) (size most : ℕ) (t : Took) (head got buffer : List ℕ) → IsHead size head × Consumes a b head × (length head ≤ most)
-    → lack_of t ≡ None → Takes b c Late size (most - 7) t got → (t ≡ took.Whole → size ≤ length buffer → take size buffer ≡ got)
+pub takes_envelope : (a b c : Option (List ℕ)) (Late : Type 0) (size most : ℕ) (t : Took) (head got : List ℕ) (buffer : PayloadRoom) → IsHead size head × Consumes a b head × (length head ≤ most)
+    → lack_of t ≡ None → Takes b c Late size (most - 7) t got → (t ≡ took.Whole → size ≤ buffer.room → buffer.bytes ≡ got)
     → IsEnvelope size buffer (head ++ got) × Consumes a c (head ++ got) × (length (head ++ got) ≤ most)
 takes_envelope a b c Late size most t head got buffer one is takes kept =
     let full = whole_if t is in

@@ -17,6 +17,7 @@ use Rattle.wal_serve.specs.declared.serving.ServeEnd.{ServeEnd}
 use Rattle.wal_serve.specs.declared.serving.ServeEnd.TheVariants.{WriteFault, Collision}
 use Rattle.wal_serve.specs.Reply.{clash_text}
 use Rattle.wal_serve.specs.Saying.{sent}
+use Rattle.wal_serve.specs.inside.Payload.{PayloadRoom}
 use Rattle.wal_serve.specs.inside.Envelopes.{Lacks, nothing, wrong, cut, too_long, failed, IsEnvelope}
 use Rattle.wal_serve.specs.Serving as serving
 use Rattle.wal_serve.specs.Serving.{Table, Replies, Served, none, more, Serves, BreaksOff, Wrote, IsServed, EndsAt, EndsAtKnown}
@@ -52,19 +53,19 @@ serving_nothing C Answer room own fresh left old = record {
 }
 
 -- the payload of an envelope that was taken is replied to
-replied : (C : Type 0) (Answer : Table C) (buffer : List ℕ) (size room : ℕ) (mid new : C) (some : List (List ℕ)) (clash : Option MetaClash) (got : List ℕ) (e : IsEnvelope size buffer got)
-    → length buffer ≡ room → RepliesInto Answer buffer size mid some clash new → Replies Answer room mid e.payload some clash new
+replied : (C : Type 0) (Answer : Table C) (buffer : PayloadRoom) (size room : ℕ) (mid new : C) (some : List (List ℕ)) (clash : Option MetaClash) (got : List ℕ) (e : IsEnvelope size buffer got)
+    → buffer.room ≡ room → RepliesInto Answer buffer size mid some clash new → Replies Answer room mid e.payload some clash new
 replied C Answer buffer size room mid new some clash got e long replies = subst (λ (r : ℕ). Replies Answer r mid e.payload some clash new) long (replies e.payload e.long e.kept)
 
 -- one more envelope was taken and answered
-pub served_more : (C : Type 0) (Answer : Table C) (room size : ℕ) (fresh mid new : C) (front buffer got : List ℕ) (frames some : List (List ℕ)) (clash : Option MetaClash)
-    → Served Answer room fresh front frames None mid → IsEnvelope size buffer got → length buffer ≡ room → RepliesInto Answer buffer size mid some clash new
+pub served_more : (C : Type 0) (Answer : Table C) (room size : ℕ) (fresh mid new : C) (front : List ℕ) (buffer : PayloadRoom) (got : List ℕ) (frames some : List (List ℕ)) (clash : Option MetaClash)
+    → Served Answer room fresh front frames None mid → IsEnvelope size buffer got → buffer.room ≡ room → RepliesInto Answer buffer size mid some clash new
     → Served Answer room fresh (front ++ got) (frames ++ some) clash new
 served_more C Answer room size fresh mid new front buffer got frames some clash served e long replies =
     let P : List ℕ → Type 0 = λ t. Served Answer room fresh (front ++ t) (frames ++ some) clash new in
     subst P (sym e.text) (more front frames mid served e.sender e.payload some clash new e.fits (replied C Answer buffer size room mid new some clash got e long replies))
 
-pub envelope_long : (size : ℕ) (buffer got : List ℕ) → IsEnvelope size buffer got → length got ≡ 7 + size
+pub envelope_long : (size : ℕ) (buffer : PayloadRoom) (got : List ℕ) → IsEnvelope size buffer got → length got ≡ 7 + size
 envelope_long size buffer got e = ap length e.text ∙ omega (arith, e.long)
 
 -- the frames of one more answer were written
@@ -73,8 +74,8 @@ wrote_more own at old v w frames some by first next =
     let P : ℕ → Type 0 = λ n. Appends v w (sent n some) in
     subst (Appends old w) (sym (flat_map-append (envelope own) frames some)) (Appends-trans old v w (sent own frames) (sent own some) first (subst P by next))
 
-pub serving_more : (C : Type 0) (Answer : Table C) (room own at size taken up most : ℕ) (fresh mid new : C) (left b c old v w : Option (List ℕ)) (buffer got : List ℕ) (some : List (List ℕ)) (clash : Option MetaClash)
-    → IsServing Answer room own fresh mid left b old v taken → IsEnvelope size buffer got × Consumes b c got × (length got ≤ most) → length buffer ≡ room
+pub serving_more : (C : Type 0) (Answer : Table C) (room own at size taken up most : ℕ) (fresh mid new : C) (left b c old v w : Option (List ℕ)) (buffer : PayloadRoom) (got : List ℕ) (some : List (List ℕ)) (clash : Option MetaClash)
+    → IsServing Answer room own fresh mid left b old v taken → IsEnvelope size buffer got × Consumes b c got × (length got ≤ most) → buffer.room ≡ room
     → RepliesInto Answer buffer size mid some clash new → clash ≡ None → at ≡ own → Appends v w (sent at some) → up ≡ taken + (7 + size) → IsServing Answer room own fresh new left c old w up
 serving_more C Answer room own at size taken up most fresh mid new left b c old v w buffer got some clash so_far takes long replies goes by writes sum =
     let P : Option MetaClash → Type 0 = λ x. Served Answer room fresh (so_far.front ++ got) (so_far.frames ++ some) x new in
@@ -90,9 +91,9 @@ serving_more C Answer room own at size taken up most fresh mid new left b c old 
 -- ---- how it ends
 
 -- behind two texts of one digest
-pub ends_stopped : (C : Type 0) (Answer : Table C) (room own at size taken limit : ℕ) (fresh mid new : C) (left b c old v w : Option (List ℕ)) (Up SinkUp : Type 0) (buffer got : List ℕ)
+pub ends_stopped : (C : Type 0) (Answer : Table C) (room own at size taken limit : ℕ) (fresh mid new : C) (left b c old v w : Option (List ℕ)) (Up SinkUp : Type 0) (buffer : PayloadRoom) (got : List ℕ)
     (some : List (List ℕ)) (stop : Option MetaClash) (clash : MetaClash)
-    → IsServing Answer room own fresh mid left b old v taken → taken ≤ limit → IsEnvelope size buffer got × Consumes b c got × (length got ≤ limit - taken) → length buffer ≡ room
+    → IsServing Answer room own fresh mid left b old v taken → taken ≤ limit → IsEnvelope size buffer got × Consumes b c got × (length got ≤ limit - taken) → buffer.room ≡ room
     → RepliesInto Answer buffer size mid some stop new → StopsWith stop some → stop ≡ Some clash → at ≡ own → Appends v w (sent at some)
     → IsServed Answer room limit own fresh new left c Up old w SinkUp (Collision clash)
 ends_stopped C Answer room own at size taken limit fresh mid new left b c old v w Up SinkUp buffer got some stop clash so_far within takes long replies stops ends by writes =
@@ -109,8 +110,8 @@ ends_stopped C Answer room own at size taken limit fresh mid new left b c old v 
     }
 
 -- the last envelope was answered, and its answer written up to a place before its end
-breaks_off : (C : Type 0) (Answer : Table C) (room own at size : ℕ) (fresh mid new : C) (front buffer got : List ℕ) (frames some : List (List ℕ)) (clash : Option MetaClash) (old v w : Option (List ℕ))
-    → Served Answer room fresh front frames None mid → IsEnvelope size buffer got → length buffer ≡ room → RepliesInto Answer buffer size mid some clash new
+breaks_off : (C : Type 0) (Answer : Table C) (room own at size : ℕ) (fresh mid new : C) (front : List ℕ) (buffer : PayloadRoom) (got : List ℕ) (frames some : List (List ℕ)) (clash : Option MetaClash) (old v w : Option (List ℕ))
+    → Served Answer room fresh front frames None mid → IsEnvelope size buffer got → buffer.room ≡ room → RepliesInto Answer buffer size mid some clash new
     → at ≡ own → Appends old v (sent own frames) → AppendsPart v w (sent at some) → BreaksOff Answer room own fresh (front ++ got) (frames ++ some) new old w
 breaks_off C Answer room own at size fresh mid new front buffer got frames some clash old v w served e long replies by first writes =
     let P : ℕ → Type 0 = λ n. AppendsPart v w (sent n some) in
@@ -134,9 +135,9 @@ breaks_off C Answer room own at size fresh mid new front buffer got frames some 
     }
 
 -- at a write that fails
-pub ends_write_fault : (C : Type 0) (Answer : Table C) (room own at size taken limit : ℕ) (fresh mid new : C) (left b c old v w : Option (List ℕ)) (Up SinkUp : Type 0) (buffer got : List ℕ)
+pub ends_write_fault : (C : Type 0) (Answer : Table C) (room own at size taken limit : ℕ) (fresh mid new : C) (left b c old v w : Option (List ℕ)) (Up SinkUp : Type 0) (buffer : PayloadRoom) (got : List ℕ)
     (some : List (List ℕ)) (clash : Option MetaClash)
-    → IsServing Answer room own fresh mid left b old v taken → taken ≤ limit → IsEnvelope size buffer got × Consumes b c got × (length got ≤ limit - taken) → length buffer ≡ room
+    → IsServing Answer room own fresh mid left b old v taken → taken ≤ limit → IsEnvelope size buffer got × Consumes b c got × (length got ≤ limit - taken) → buffer.room ≡ room
     → RepliesInto Answer buffer size mid some clash new → at ≡ own → AppendsPart v w (sent at some) → SinkUp
     → IsServed Answer room limit own fresh new left c Up old w SinkUp WriteFault
 ends_write_fault C Answer room own at size taken limit fresh mid new left b c old v w Up SinkUp buffer got some clash so_far within takes long replies by writes rose = record {

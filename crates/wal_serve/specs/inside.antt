@@ -1,5 +1,6 @@
 pub mod Determined
 pub mod Envelopes
+pub mod Payload
 pub mod Reply
 pub mod Requests
 pub mod Room

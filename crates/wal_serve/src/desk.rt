@@ -5,6 +5,7 @@ ghost use Rattle.wal_shape.specs.Metadata.{BlobMetadata, IsMetadata};
 ghost use Rattle.wal_frame.specs.Frame.{Frame, IsFrame, Metadata, frame_text};
 ghost use Rattle.wal_serve.specs.Room.{AsksOnly, MayVerify, desk_room};
 
+use crate::payload::Payload;
 use std::alloc::{AllocError, Global};
 use std::marker::Model;
 use wal_frame::OutBuf;
@@ -41,12 +42,12 @@ pub fn desk_room(f: u32) -> u32
 #[derive(Drop)]
 pub struct Desk {
     pub(crate) f: u32,
-    pub(crate) payload: Vec<u8>,
+    pub(crate) payload: Payload,
     pub(crate) out: OutBuf,
 }
 
 impl Model for Desk {
-    ghost use Rattle.std.specs.Prelude.{ℕ, ◌≡◌, ◌≤◌, vec_len};
+    ghost use Rattle.std.specs.Prelude.{ℕ, ◌≡◌, ◌≤◌};
     ghost use Rattle.wal_serve.specs.Room.{desk_room};
     ghost use Rattle.wal_serve.specs.inside.Room.{answer_room, room_in};
 
@@ -54,7 +55,7 @@ impl Model for Desk {
 
     ghost view = { λ d. d.f };
 
-    ghost invariant = { λ d. (vec_len d.payload ≡ desk_room d.f) × (answer_room d.f ≤ room_in d.out) };
+    ghost invariant = { λ d. (d.payload.room ≡ desk_room d.f) × (answer_room d.f ≤ room_in d.out) };
 }
 
 impl Desk {
@@ -64,7 +65,7 @@ impl Desk {
         requires few { f ≤ 333 }
         ensures { IfOk result (λ d. d ≡ f) }
     {
-        let payload = vec![in alloc; 0; desk_room(f) as usize]?;
+        let payload = Payload::create(alloc, desk_room(f))?;
         let out = OutBuf::create(alloc, reply_room(f) + 17)?;
         Ok(Desk { f, payload, out })
     }

@@ -1,13 +1,14 @@
 //! Taking one envelope of a source: exactly its bytes, and none behind it.
 
-ghost use Rattle.std.specs.Prelude.{◌≡◌, ℕ, ◌<◌, ◌≤◌, List, ◌∷◌, ◌++◌, length, take};
+ghost use Rattle.std.specs.Prelude.{◌≡◌, ℕ, ◌<◌, ◌≤◌, List, ◌∷◌, ◌++◌, length};
 ghost use Rattle.std.specs.Int.{w16, w32};
 ghost use Rattle.wal_port.specs.Faults.{Rose};
 ghost use Rattle.wal_serve.specs.declared.taking.Took.TheVariants.{Whole};
 ghost use Rattle.wal_serve.specs.inside.Taking.{Takes};
 ghost use Rattle.wal_serve.specs.inside.Envelopes.{IsHead, TakesFirst, TakesHead, TakesEnvelope, lack_of};
 
-use crate::taking::{Took, fill, skip};
+use crate::payload::Payload;
+use crate::taking::{Took, fill};
 use wal_frame::size_in;
 use wal_port::Source;
 
@@ -85,28 +86,30 @@ fn take_head<S: Source>(source: &mut S, most: u64) -> Result<u32, Lack>
 }
 
 /// A payload of this size: into the buffer if there is room for it, else past it.
-fn take_payload<S: Source>(source: &mut S, buffer: &mut [u8], size: u32, most: u64) -> Took
-    requires { 0 < length buffer.old }
+fn take_payload<S: Source>(source: &mut S, buffer: &mut Payload, size: u32, most: u64) -> Took
+    requires { 0 < buffer.old.room }
     ensures takes { (got : List ℕ) × Takes (S.left source.old) (S.left source.new) (Rose (S.faults source.old) (S.faults source.new)) size most result got
-        × (result ≡ Whole → size ≤ length buffer.new → take size buffer.new ≡ got) }
+        × (result ≡ Whole → size ≤ buffer.new.room → buffer.new.bytes ≡ got) }
+    ensures room { buffer.new.room ≡ buffer.old.room }
     ensures later { S.faults source.old ≤ S.faults source.new }
 {
-    if size as usize <= buffer.len() {
-        fill(source, &mut buffer[..size as usize], most)
+    if size <= buffer.room() {
+        buffer.fill(source, size, most)
     } else {
-        skip(source, buffer, u64::from(size), most)
+        buffer.skip(source, size, most)
     }
 }
 
-/// An envelope, of which at most `most` bytes may be taken. The result is the size of its payload, which stands at the front of
-/// the buffer if there is room for it.
+/// An envelope, of which at most `most` bytes may be taken. The result is the size of its payload, which is in the buffer if
+/// there is room for it.
 pub(crate) fn take_envelope<S: Source>(
     source: &mut S,
-    buffer: &mut [u8],
+    buffer: &mut Payload,
     most: u64,
 ) -> Result<u32, Lack>
-    requires { 0 < length buffer.old }
+    requires { 0 < buffer.old.room }
     ensures takes { (got : List ℕ) × TakesEnvelope (S.left source.old) (S.left source.new) (Rose (S.faults source.old) (S.faults source.new)) most buffer.new result got }
+    ensures room { buffer.new.room ≡ buffer.old.room }
     ensures later { S.faults source.old ≤ S.faults source.new }
 {
     let size = take_head(source, most)?;

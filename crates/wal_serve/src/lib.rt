@@ -5,6 +5,7 @@
 mod answering;
 mod desk;
 mod envelopes;
+mod payload;
 mod reply;
 mod requests;
 mod serving;

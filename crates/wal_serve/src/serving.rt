@@ -1,6 +1,6 @@
 //! The loop that serves.
 
-ghost use Rattle.std.specs.Prelude.{◌≡◌, ℕ, ◌<◌, ◌≤◌, ◌^◌, List, Option, length, false, OnErr};
+ghost use Rattle.std.specs.Prelude.{◌≡◌, ℕ, ◌<◌, ◌≤◌, ◌^◌, List, Option, false, OnErr};
 ghost use Rattle.wal_shape.specs.declared.text.MetaClash.{MetaClash};
 ghost use Rattle.wal_port.specs.Faults.{Rose};
 ghost use Rattle.wal_ledger.specs.Ledger.{reading, owners_of};
@@ -19,6 +19,7 @@ ghost use Rattle.wal_serve.specs.inside.Session.{Answers, Stays, served};
 
 use crate::desk::Desk;
 use crate::envelopes::{Lack, take_envelope};
+use crate::payload::Payload;
 use crate::reply::{unfit, write_outcome};
 use crate::session::Session;
 use wal_epoch::Serving;
@@ -64,22 +65,22 @@ fn end_without(lack: Lack, taken: u64) -> ServeEnd
 }
 
 impl<H: Hash32, K: Keep> Session<'_, H, K> {
-    /// What is answered to a payload of this size, which stands at the front of the buffer if there is room for it.
-    fn answer_in(&mut self, buffer: &[u8], size: u32, out: &mut OutBuf) -> Option<MetaClash>
+    /// What is answered to a payload of this size, which is in the buffer if there is room for it.
+    fn answer_in(&mut self, buffer: &Payload, size: u32, out: &mut OutBuf) -> Option<MetaClash>
         requires room { answer_room self.old.shard.now.f ≤ out.old.spare }
         ensures answers { Answers (AnswersInto (AnswersRequest H.digest K.may_want) buffer.now size) self.old out.old result self.new out.new }
         ensures stays { Stays self.old self.new }
     {
-        if size as usize > buffer.len() {
+        if size > buffer.room() {
             return write_outcome(out, self.shard.index(), Ok(unfit(7)));
         }
-        self.answer(&buffer[..size as usize], out)
+        self.answer(buffer.bytes(), out)
     }
 
     /// Answers one payload, and writes the answer. The result is what ends serving.
     fn serve_one<T: Sink>(
         &mut self,
-        buffer: &[u8],
+        buffer: &Payload,
         size: u32,
         out: &mut OutBuf,
         sink: &mut T,
@@ -103,19 +104,20 @@ impl<H: Hash32, K: Keep> Session<'_, H, K> {
     /// Serves until the input ends, or serving ends before, where at most so many bytes may be taken.
     fn serve_in<S: Source, T: Sink>(
         &mut self,
-        buffer: &mut [u8],
+        buffer: &mut Payload,
         out: &mut OutBuf,
         source: &mut S,
         sink: &mut T,
         limit: u64,
     ) -> ServeEnd
-        requires some { 0 < length buffer.old }
+        requires some { 0 < buffer.old.room }
         requires room { answer_room self.old.shard.now.f ≤ room_in out.old }
         requires limit { limit < 2 ^ 31 }
-        ensures served { IsServed (AnswersRequest H.digest K.may_want) (length buffer.old) limit self.old.shard.now.index (served self.old) (served self.new)
+        ensures served { IsServed (AnswersRequest H.digest K.may_want) buffer.old.room limit self.old.shard.now.index (served self.old) (served self.new)
             (S.left source.old) (S.left source.new) (Rose (S.faults source.old) (S.faults source.new))
             (T.written sink.old) (T.written sink.new) (Rose (T.faults sink.old) (T.faults sink.new)) result }
         ensures later { (S.faults source.old ≤ S.faults source.new) × (T.faults sink.old ≤ T.faults sink.new) }
+        ensures payload { buffer.new.room ≡ buffer.old.room }
         ensures room { room_in out.new ≡ room_in out.old }
         ensures stays { Stays self.old self.new }
     {

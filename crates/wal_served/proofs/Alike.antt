@@ -56,10 +56,10 @@ charged_pages read frames = cond (tells 0 frames) (pages_in read) 0
 abbrev pub charged_entries : Result Frame FrameError → List (List ℕ) → ℕ
 charged_entries read frames = cond (tells_entry frames) (entries_in read) 0
 
--- the other state has that answer, and is alike then; or it lacks room, and may say so
+-- the other state has that answer, and is alike then; or it lacks room for what that answer tells to be taken, and may say so
 pub data Carried (digest : List ℕ → List ℕ) (id : BlobId) (other : ServedState) (read : Result Frame FrameError) (frames : List (List ℕ)) (clash : Option MetaClash) (new : ServedState) : Type 0 where
   carries : (then : ServedState) → AnswersRead digest false read other frames clash then → AlikeAt id new then → Carried digest id other read frames clash new
-  wants : (others : List (List ℕ)) → TellsWant others → AnswersRead digest false read other others None other
+  wants : (others : List (List ℕ)) → TellsWant others → AnswersRead digest false read other others None other → tells_entry frames ≡ true
       → (RoomFor id other (charged_pages read frames) (charged_entries read frames) → ⊥) → Carried digest id other read frames clash new
 
 module _ (id : BlobId) (one other : ServedState) (a : AlikeAt id one other) where
@@ -111,6 +111,7 @@ module _ (id : BlobId) (one other : ServedState) (a : AlikeAt id one other) wher
         by (short none lacks) =
             wants (answer_text 10 0 0 ∷ []) (10, 0, 0, inr (inr refl), refl)
             (answers (answer_text 10 0 0 ∷ []) None other (refused 10, other.ledger, lacks.0, (refl, refl), sym (ledger_same other other.ledger refl)))
+            (ap tells_entry told.0 ∙ lacks.1)
             (λ room.
             let made : tells_entry frames ≡ true = ap tells_entry told.0 ∙ lacks.1 in
             let least : charged_entries (Ok frame) frames ≡ 1 = ap (λ (b : Bool). cond b (cond (asks_entry frame) 1 0) 0) made ∙ ap (λ (b : Bool). cond b 1 0) asks in
@@ -176,7 +177,7 @@ module _ (digest : List ℕ → List ℕ) (id : BlobId) (one other : ServedState
     full : (free : ℕ) → free_of other.shard.limit other.shard.contents ≡ Some free → free < needed_for other.shard.contents q (stored_bytes frame)
         → ((entries : ℕ) → RoomFor id other (pages_for (length (stored_bytes frame))) entries → ⊥) → Fits
 
-  fits_or_not : Fits
+  pub fits_or_not : Fits
   fits_or_not = by other.shard.limit refl
     where
       needs : ℕ
@@ -205,7 +206,7 @@ module _ (digest : List ℕ → List ℕ) (id : BlobId) (one other : ServedState
 
     abbrev PutCarried : Type 0
     PutCarried = ((then : ServedState) × Puts_there frames clash then × AlikeAt id new then)
-        ⊎ ((others : List (List ℕ)) × TellsWant others × Puts_there others None other × (RoomFor id other (charged_pages (Ok frame) frames) (charged_entries (Ok frame) frames) → ⊥))
+        ⊎ ((others : List (List ℕ)) × TellsWant others × Puts_there others None other × (tells_entry frames ≡ true) × (RoomFor id other (charged_pages (Ok frame) frames) (charged_entries (Ok frame) frames) → ⊥))
 
     -- an answer that leaves what is held
     same_answer : (answer : PutAnswer) (contents : Contents) → PutsOrWants digest false (desk other.shard other.ledger.log) other.shard.contents frame answer other.shard.contents
@@ -255,6 +256,7 @@ module _ (digest : List ℕ → List ℕ) (id : BlobId) (one other : ServedState
                 (refl, refl),
                 sym (holding_same other other.shard.contents refl),
               ),
+              ap tells_entry told.0,
               (λ charged.
                   let pages : charged_pages (Ok frame) frames ≡ pages_for (length (stored_bytes frame)) = ap (λ (b : Bool). cond b (pages_for (length (stored_bytes frame))) 0) (ap (tells 0) told.0) in
                   not (charged_entries (Ok frame) frames) (subst (λ (n : ℕ). RoomFor id other n (charged_entries (Ok frame) frames)) pages charged)),
@@ -268,7 +270,7 @@ module _ (digest : List ℕ → List ℕ) (id : BlobId) (one other : ServedState
       where
         by : PutCarried → Carried digest id other (Ok frame) frames clash new
         by (inl (then, there, alike)) = carries then (answers frames clash then there) alike
-        by (inr (others, want, there, not)) = wants others want (answers others None other there) not
+        by (inr (others, want, there, more, not)) = wants others want (answers others None other there) more not
 
 -- ---- what is forgotten
 

@@ -1,5 +1,5 @@
 -- THE FIRST LAW: states that are alike at an identifier answer alike what regards it.
-use Rattle.std.proofs.Common.{◌≡◌, ℕ, ◌+◌, ◌≤◌, Bool, cond, arith, true, false, List, Option, Some, None, Result, Ok, Err, inl, inr, refl, subst}
+use Rattle.std.proofs.Common.{◌≡◌, ℕ, ◌+◌, ◌≤◌, Bool, arith, true, false, ◌||◌, List, [], ◌∷◌, Option, Some, None, Result, Ok, Err, ◌⊎◌, inl, inr, refl, sym, ap, subst, ◌∙◌}
 use Rattle.std.specs.Prelude.{is_some, IfSome}
 use Rattle.std.proofs.lemmas.Bool.{false≢true}
 use Rattle.wal_shape.specs.declared.metadata.BlobId.{BlobId}
@@ -7,18 +7,23 @@ use Rattle.wal_shape.specs.declared.text.MetaClash.{MetaClash}
 use Rattle.wal_frame.specs.declared.frame.FrameError.{FrameError}
 use Rattle.wal_frame.specs.Frame.{Frame, Metadata, Sliver, Opening, Proof, Read, Symbol, Ack, Attest, Forget, Answer, Clash, RegisterEntry, AckEntry, AttestEntry}
 use Rattle.wal_frame.specs.Reading.{read_of}
-use Rattle.wal_store.specs.Contents.{Contents}
+use Rattle.wal_frame.specs.Stored.{stored_bytes}
+use Rattle.wal_store.specs.Contents.{Contents, with_bytes, needed_for}
 use Rattle.wal_shard.specs.declared.answers.PutAnswer.{PutAnswer}
 use Rattle.wal_shard.specs.declared.answers.PutAnswer.TheVariants as putting
-use Rattle.wal_shard.specs.Putting.{PutDesk, PutsOrWants}
-use Rattle.wal_serve.specs.State.{ServedState}
-use Rattle.wal_serve.specs.Reply.{put_reply}
+use Rattle.wal_shard.specs.Putting.{PutDesk, PutsOrWants, put_id, put_part}
+use Rattle.wal_shard.specs.State.{desk}
+use Rattle.wal_serve.specs.State.{ServedState, holding}
+use Rattle.wal_serve.specs.Reply.{done, put_reply, reply_text}
 use Rattle.wal_serve.specs.Answers.{AnswersRequest, AnswersRead, AnswersFrame, AnswersPut, IsReplyOutcome}
 use Rattle.wal_serve.specs.Determined.{SameButLast, SameFrames}
+use Rattle.wal_serve.specs.inside.Serving.{StopsWith}
+use Rattle.wal_serve.proofs.AnswerLaws.{read_stops}
 use Rattle.wal_serve.proofs.OneTable.{one_table}
-use Rattle.wal_served.specs.Steps.{TellsWant}
-use Rattle.wal_served.specs.Local.{AlikeAt, AnswersAlike, AnswersWithRoom, RoomFor, part_pages, asked_entries, cost_with, tells, tells_entry}
-use Rattle.wal_served.proofs.Alike.{Carried, carries, wants, read_carried}
+use Rattle.wal_served.specs.Steps.{TellsWant, answer_text}
+use Rattle.wal_served.specs.Local.{AlikeAt, AnswersAlike, AnswersWithRoom, RoomFor, WantsForMore, cost_with, tells, tells_entry}
+use Rattle.wal_served.proofs.Worlds.{holding_same}
+use Rattle.wal_served.proofs.Alike.{Carried, carries, wants, Fits, fits, full, fits_or_not, alike_one, read_carried}
 
 -- ---- whether the keep may want memory
 
@@ -109,10 +114,6 @@ less_room id s pages entries fewer less room p e = record { pages_fit = by s.sha
     by None fit = tt
     by (Some most) fit = omega (arith, fit, p)
 
-pub at_most : (b : Bool) (n : ℕ) → cond b n 0 ≤ n
-at_most true n = omega arith
-at_most false n = omega arith
-
 -- where there is room
 pub answers_with_room : (digest : List ℕ → List ℕ) → AnswersWithRoom digest
 answers_with_room digest id one other payload may_want also frames clash new a about answers some room =
@@ -120,7 +121,7 @@ answers_with_room digest id one other payload may_want also frames clash new a a
   where
     by : Carried digest id other (read_of payload) frames clash new → (then : ServedState) × AnswersRequest digest also other payload frames clash then × AlikeAt id new then
     by (carries then there alike) = (then, read_still digest other frames clash then also (read_of payload) there, alike)
-    by (wants others want there not) = absurd (not (less_room id other _ _ _ _ room (at_most (tells 0 frames) (part_pages payload)) (at_most (tells_entry frames) (asked_entries payload))))
+    by (wants others want there more not) = absurd (not room)
 
 frames_by : (clash : Option MetaClash) (xs ys : List (List ℕ)) → (is_some clash ≡ false → xs ≡ ys) → (is_some clash ≡ true → SameButLast xs ys) → SameFrames xs ys
 frames_by None xs ys calm stops = inl (calm refl)
@@ -145,6 +146,105 @@ answers_alike digest id one other payload may_want also frames others clash seco
           frames_by clash frames others same.frames same.last,
           subst (AlikeAt id new) same.state alike,
         )
-    by (wants wanted want is not) =
+    by (wants wanted want is more not) =
         let same = one_table digest other payload wanted others None second other then is calm in
         absurd (also_some (subst TellsWant (same.frames refl) want))
+
+-- ---- want of room
+
+abbrev first_byte : List (List ℕ) → ℕ
+first_byte ((kind ∷ rest) ∷ frames) = kind
+first_byte _ = 0
+
+-- what tells of want of room ends no serving
+want_goes : (clash : Option MetaClash) (frames : List (List ℕ)) → StopsWith clash frames → TellsWant frames → clash ≡ None
+want_goes None frames stops want = refl
+want_goes (Some texts) frames stops (code, a, b, is, told) =
+    let kinds : 0x30 ≡ 0x31 = ap first_byte (sym told ∙ stops) in
+    absurd (omega (arith, kinds))
+
+memory_or_not : (answer : PutAnswer) → (answer ≡ putting.Memory) ⊎ (answer ≡ putting.Memory → ⊥)
+memory_or_not putting.Memory = inl refl
+memory_or_not putting.Stored = inr (λ e. cc)
+memory_or_not putting.Held = inr (λ e. cc)
+memory_or_not putting.Unregistered = inr (λ e. cc)
+memory_or_not putting.NoMetadata = inr (λ e. cc)
+memory_or_not putting.Unverified = inr (λ e. cc)
+memory_or_not (putting.OtherMetadata clash) = inr (λ e. cc)
+memory_or_not (putting.Full needed free) = inr (λ e. cc)
+
+-- an answer of a keep that never wants memory, which tells of want of room or that a part was stored
+data Beside (digest : List ℕ → List ℕ) (read : Result Frame FrameError) (s : ServedState) : Type 0 where
+  beside : (frames : List (List ℕ)) (new : ServedState) → AnswersRead digest false read s frames None new → TellsWant frames ⊎ (tells 0 frames ≡ true) → Beside digest read s
+
+module _ (digest : List ℕ → List ℕ) (s : ServedState) (also : Bool) (frames : List (List ℕ)) (new : ServedState) (want : TellsWant frames) where
+  put_beside : (frame : Frame) → ((f : List (List ℕ)) (n : ServedState) → AnswersPut digest false frame s f None n → AnswersFrame digest false frame s f None n)
+      → AnswersPut digest also frame s frames None new → Beside digest (Ok frame) s
+  put_beside frame answers (outcome, contents, (answer, puts, is, shows), told, then) = by (memory_or_not answer)
+    where
+      q : BlobId
+      q = put_id digest frame
+
+      needs : ℕ
+      needs = needed_for s.shard.contents q (stored_bytes frame)
+
+      -- there is room or there is none
+      accepted : PutsOrWants digest also (desk s.shard s.ledger.log) s.shard.contents frame putting.Memory contents → Fits digest q s s (alike_one q s) frame refl → Beside digest (Ok frame) s
+      accepted p (fits room) =
+          let next = with_bytes s.shard.contents q (put_part frame) (stored_bytes frame) in
+          beside (reply_text (done 0) ∷ []) (holding s next)
+          (answers (reply_text (done 0) ∷ []) (holding s next) (put_reply putting.Stored, next, (putting.Stored, (p.1, p.2, room, refl), refl, tt), (refl, refl), refl)) (inr refl)
+      accepted p (full free is_free less not) =
+          beside (answer_text 6 needs free ∷ []) s
+          (answers (answer_text 6 needs free ∷ []) s
+          (put_reply (putting.Full needs free), s.shard.contents, (putting.Full needs free, (p.1, p.2, is_free, refl, less, refl), refl, tt), (refl, refl), sym (holding_same s s.shard.contents refl)))
+          (inl (6, needs, free, inl refl, refl))
+
+      by : (answer ≡ putting.Memory) ⊎ (answer ≡ putting.Memory → ⊥) → Beside digest (Ok frame) s
+      by (inl e) =
+          let P : PutAnswer → Type 0 = λ a. PutsOrWants digest also (desk s.shard s.ledger.log) s.shard.contents frame a contents in
+          accepted (subst P e puts) (fits_or_not digest q s s (alike_one q s) frame refl)
+      by (inr not) =
+          beside frames new
+          (answers frames new (outcome, contents, (answer, puts_calm digest (desk s.shard s.ledger.log) s.shard.contents frame answer contents also not puts, is, shows), told, then)) (inl want)
+
+  frame_beside : (frame : Frame) → AnswersFrame digest also frame s frames None new → Beside digest (Ok frame) s
+  frame_beside (Metadata m) h = put_beside (Metadata m) (λ f n z. z) h
+  frame_beside (Sliver id axis index bytes) h = put_beside (Sliver id axis index bytes) (λ f n z. z) h
+  frame_beside (Proof id p) h = put_beside (Proof id p) (λ f n z. z) h
+  frame_beside (Read id) h = beside frames new h (inl want)
+  frame_beside (Symbol id axis index) h = beside frames new h (inl want)
+  frame_beside (Ack id) h = beside frames new h (inl want)
+  frame_beside (Attest id) h = beside frames new h (inl want)
+  frame_beside (Forget id) h = beside frames new h (inl want)
+  frame_beside (RegisterEntry id until) h = beside frames new h (inl want)
+  frame_beside (AckEntry shard id) h = beside frames new h (inl want)
+  frame_beside (AttestEntry shard id) h = beside frames new h (inl want)
+  frame_beside (Opening id axis index o) h = beside frames new h (inl want)
+  frame_beside (Answer code a b) h = beside frames new h (inl want)
+  frame_beside (Clash left right) h = beside frames new h (inl want)
+
+  read_beside : (read : Result Frame FrameError) → AnswersRead digest also read s frames None new → Beside digest read s
+  read_beside (Ok frame) h = frame_beside frame h
+  read_beside (Err fault) h = beside frames new h (inl want)
+
+-- want where the other state wants no room
+pub wants_for_more : (digest : List ℕ → List ℕ) → WantsForMore digest
+wants_for_more digest id one other payload may_want also frames others clash second new then a about answers answers_too some want =
+    by (read_carried digest may_want one other frames clash new some (read_of payload) id about a answers) (read_beside digest other also others then want (read_of payload) goes_on)
+  where
+    goes_on : AnswersRead digest also (read_of payload) other others None then
+    goes_on =
+        let goes = want_goes second others (read_stops digest also (read_of payload) other then others second answers_too) want in
+        subst (λ (c : Option MetaClash). AnswersRead digest also (read_of payload) other others c then) goes answers_too
+
+    by : Carried digest id other (read_of payload) frames clash new → Beside digest (read_of payload) other → tells_entry frames ≡ true
+    by (wants wanted told is more not) there = more
+    by (carries reached is alike) (beside xs n there what) = so what
+      where
+        same : xs ≡ frames
+        same = (one_table digest other payload xs frames None clash n reached there is).frames refl
+
+        so : TellsWant xs ⊎ (tells 0 xs ≡ true) → tells_entry frames ≡ true
+        so (inl wanted) = absurd (some (subst TellsWant same wanted))
+        so (inr stored) = ap (λ (b : Bool). b || (tells 13 frames || tells 14 frames)) (ap (tells 0) (sym same) ∙ stored)

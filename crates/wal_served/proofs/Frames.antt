@@ -1,4 +1,4 @@
--- What is read as a part to be put is in the ranges, whatever numbers stand for the payload's bytes.
+-- What is read as a part to be put or as a registration is in the ranges, whatever numbers stand for the payload's bytes.
 use Rattle.std.proofs.Common.{◌≡◌, ℕ, ◌+◌, ◌*◌, ◌<◌, ◌≤◌, Bool, true, false, cond, eqb, List, [], ◌∷◌, length, take, drop, Result, Ok, Err, refl, sym, ap, subst, ◌∙◌, arith}
 use Rattle.std.specs.Int.{Width, w8, w16, w32, w64, byte_len, from_be_bytes}
 use Rattle.std.proofs.lemmas.Bool.{eqb-true, eqb-false}
@@ -52,9 +52,14 @@ target_fits bytes t e =
 
 -- ---- frames
 
--- what is read so is in the ranges, if it is a part to be put
+-- a part to be put, or a registration
+abbrev IsPartOrEntry : Frame → Type 0
+IsPartOrEntry (RegisterEntry id until) = Unit {0}
+IsPartOrEntry frame = CanBePut frame
+
+-- what is read so is in the ranges, if it is one of these
 abbrev Fits : Result Frame FrameError → Type 0
-Fits r = (x : Frame) → r ≡ Ok x → CanBePut x → IsFrame x
+Fits r = (x : Frame) → r ≡ Ok x → IsPartOrEntry x → IsFrame x
 
 fits_if : (b : Bool) (mine other : Result Frame FrameError) → Fits mine → Fits other → Fits (cond b mine other)
 fits_if true mine other first second = first
@@ -64,11 +69,11 @@ fits_bind : {A : Type 0} (r : Result A FrameError) (f : A → Result Frame Frame
 fits_bind r f each x e = let y = bind_ok r f x e in each y.0 x y.2
 
 -- what is none
-fits_none : (frame : Frame) (rest : List ℕ) → (CanBePut frame → ⊥) → Fits (ended frame rest)
-fits_none frame rest not x e part = absurd (not (subst CanBePut (sym (ended_ok frame rest x e).0) part))
+fits_none : (frame : Frame) (rest : List ℕ) → (IsPartOrEntry frame → ⊥) → Fits (ended frame rest)
+fits_none frame rest not x e part = absurd (not (subst IsPartOrEntry (sym (ended_ok frame rest x e).0) part))
 
-fits_made : {A : Type 0} (frame : A → Frame) → ((y : A) → CanBePut (frame y) → ⊥) → (r : Result A FrameError) → Fits (made frame r)
-fits_made frame not (Ok y) x e part = absurd (not y (subst CanBePut (sym (ok_is (frame y) x e)) part))
+fits_made : {A : Type 0} (frame : A → Frame) → ((y : A) → IsPartOrEntry (frame y) → ⊥) → (r : Result A FrameError) → Fits (made frame r)
+fits_made frame not (Ok y) x e part = absurd (not y (subst IsPartOrEntry (sym (ok_is (frame y) x e)) part))
 fits_made frame not (Err d) x e part = absurd cc
 
 sliver_fits : (bytes : List ℕ) → Fits (sliver_at bytes)
@@ -192,8 +197,11 @@ clash_fits bytes =
 
 register_fits : (bytes : List ℕ) → Fits (register_at bytes)
 unfolding register_at
-register_fits bytes =
-    fits_bind (bytes_at 32 bytes) kind.after_id (λ id. fits_bind (field_at w32 33 65536 id.1) (after_until id.0) (λ until. fits_none (RegisterEntry id.0 until.0) until.1 (λ part. part)))
+register_fits bytes x e part =
+    let id = bind_ok (bytes_at 32 bytes) kind.after_id x e in
+    let until = bind_ok (field_at w32 33 65536 id.0.1) (after_until id.0.0) x id.2 in
+    let end = ended_ok (RegisterEntry id.0.0 until.0.0) until.0.1 x until.2 in
+    subst IsFrame end.0 (bytes_size 32 bytes id.0 id.1, field_most w32 33 65536 id.0.1 until.0 until.1)
 
 request_fits : (kind : ℕ) (bytes : List ℕ) → Fits (request_at kind bytes)
 unfolding request_at
@@ -218,8 +226,19 @@ fields_fit kind bytes =
     fits_if (eqb kind 0x13) (proof_at bytes) _ (proof_fits bytes) (
     fits_if (eqb kind 0x14) (metadata2_at bytes) (request_at kind bytes) (metadata2_fits bytes) (request_fits kind bytes)))))
 
--- a part to be put that a payload is read as is in the ranges
-pub part_fits : (payload : List ℕ) → Fits (read_of payload)
+read_fits : (payload : List ℕ) → Fits (read_of payload)
 unfolding read_of
-part_fits [] x e part = absurd cc
-part_fits (kind ∷ bytes) x e part = fields_fit kind bytes x e part
+read_fits [] x e part = absurd cc
+read_fits (kind ∷ bytes) x e part = fields_fit kind bytes x e part
+
+put_or_entry : (x : Frame) → CanBePut x → IsPartOrEntry x
+put_or_entry (RegisterEntry id until) part = tt
+put_or_entry x part = part
+
+-- a part to be put that a payload is read as is in the ranges
+pub part_fits : (payload : List ℕ) (x : Frame) → read_of payload ≡ Ok x → CanBePut x → IsFrame x
+part_fits payload x e part = read_fits payload x e (put_or_entry x part)
+
+-- and so is a registration
+pub until_fits : (payload id : List ℕ) (until : ℕ) → read_of payload ≡ Ok (RegisterEntry id until) → until ≤ 65536
+until_fits payload id until e = (read_fits payload (RegisterEntry id until) e tt).1

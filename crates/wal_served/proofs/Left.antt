@@ -240,7 +240,7 @@ module _ (digest : List ℕ → List ℕ) (id : BlobId) (keeps : List ℕ → Bo
             alike = alike;
             spends = read_spends digest false id there s c then (read_of payload) named_so is;
           }
-          carried (wants others want is not) = absurd (not has)
+          carried (wants others want is made not) = absurd (not has)
 
   module _ (one other : ServedState) (alike_first : AlikeAt id one other) where
     -- what is left was served

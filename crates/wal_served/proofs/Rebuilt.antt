@@ -272,7 +272,7 @@ module _ (digest : List ℕ → List ℕ) (id : BlobId) (room sender : ℕ) (als
 
 -- THE FIFTH LAW
 pub rebuilds : (digest : List ℕ → List ℕ) → Rebuilds digest
-rebuilds digest id room sender may_want also one other taken frames clash state placed nothing first served spelled has =
+rebuilds digest id room sender may_want also one other taken frames clash state placed nothing first served has =
     let b = all_parts digest id room sender also other base placed.fits p sound placed.named_by (subst (λ (f : ℕ). 1 ≤ f) (sym f_is) placed.some) (subst (λ (f : ℕ). f ≤ 333) (sym f_is) placed.few)
     (subst (λ (f : ℕ). desk_room f ≤ room) (sym f_is) placed.enough) live (entry_payloads own)
     (record {
@@ -302,7 +302,7 @@ rebuilds digest id room sender may_want also one other taken frames clash state 
     st = standing digest id room sender also one other placed nothing first may_want taken frames clash state served
 
     had : Fed digest id room sender also one other placed nothing first state
-    had = st.fed spelled has.entries_fit
+    had = st.fed has.entries_fit
 
     base : ServedState
     base = had.then

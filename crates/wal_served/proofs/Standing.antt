@@ -1,5 +1,5 @@
 -- What a shard comes to that began with nothing of an identifier: what it holds is sound and live, and its entries may be fed alone.
-use Rattle.std.proofs.Common.{◌≡◌, ℕ, ◌+◌, ◌<◌, ◌≤◌, ◌^◌, Bool, true, false, max, List, [], ◌∷◌, ◌++◌, length, Option, Some, None, Result, Ok, Err, ◌⊎◌, inl, inr, All, refl, sym, ap, subst, ◌∙◌, arith}
+use Rattle.std.proofs.Common.{◌≡◌, ℕ, ◌+◌, ◌<◌, ◌≤◌, ◌^◌, Bool, true, false, max, List, [], ◌∷◌, ◌++◌, length, Option, Some, None, Result, Ok, Err, ◌⊎◌, inl, inr, refl, sym, ap, subst, ◌∙◌, arith}
 use Rattle.std.specs.List.{flat_map}
 use Rattle.std.specs.FinMap as map_of
 use Rattle.std.specs.Cmp.{tied_itself}
@@ -12,7 +12,7 @@ use Rattle.wal_shape.specs.declared.part.Part.TheVariants as parts
 use Rattle.wal_shape.specs.declared.text.MetaClash.{MetaClash}
 use Rattle.wal_shape.specs.Identifiers.{id_cmp, id_eq}
 use Rattle.wal_frame.specs.declared.frame.FrameError.{FrameError}
-use Rattle.wal_frame.specs.Frame.{Frame, Metadata, Sliver, Opening, Proof, Read, Symbol, Ack, Attest, Forget, Answer, Clash, RegisterEntry, AckEntry, AttestEntry, IsFrame, frame_text, envelope}
+use Rattle.wal_frame.specs.Frame.{Frame, Metadata, Sliver, Opening, Proof, Read, Symbol, Ack, Attest, Forget, Answer, Clash, RegisterEntry, AckEntry, AttestEntry, IsFrame, IsId, frame_text, envelope}
 use Rattle.wal_frame.specs.Reading.{read_of}
 use Rattle.wal_frame.specs.Stored.{stored_bytes}
 use Rattle.wal_frame.proofs.FrameLaws.{read_again}
@@ -51,19 +51,19 @@ use Rattle.wal_serve.specs.Room.{AsksOnly}
 use Rattle.wal_serve.specs.Serving as serving
 use Rattle.wal_serve.specs.Serving.{Replies, looked_at, read_past, Served, more}
 use Rattle.wal_serve.proofs.RoomLaws.{asks}
-use Rattle.wal_served.specs.Local.{AlikeLedgers, AlikeAt, HasNothing, entry_frame, frame_payload, entry_payloads, IsSpelled, IsPlaced}
-use Rattle.wal_served.proofs.Frames.{part_fits}
+use Rattle.wal_served.specs.Local.{AlikeLedgers, AlikeAt, HasNothing, entry_frame, frame_payload, entry_payloads, IsPlaced}
+use Rattle.wal_served.proofs.Frames.{part_fits, until_fits}
 use Rattle.wal_served.proofs.Worlds.{holding_same, ledger_same}
 use Rattle.wal_served.proofs.AlikeLedgers.{other_entered, both_entered, claim_plain, claim_too, register_too, itself, apart}
 use Rattle.wal_served.proofs.Alike.{slivers_gone}
 use Rattle.wal_served.proofs.Apart.{stored_apart, gone_apart}
-use Rattle.wal_served.proofs.Left.{front_all, last_all, flat_push}
+use Rattle.wal_served.proofs.Left.{flat_push}
 
 -- ---- what a payload may change
 
 -- an entry that may be made
 pub data Enterable (s : ServedState) (q : BlobId) : Body → Type 0 where
-  to_register : (until : ℕ) → MayRegister s.ledger.log q until → Enterable s q (Register q until)
+  to_register : (until : ℕ) → MayRegister s.ledger.log q until → until ≤ 65536 → Enterable s q (Register q until)
   to_claim : (kind : Kind) (shard : ℕ) → MayClaim s.ledger.log kind shard q → (shard < committee_size s.ledger.log.f) ⊎ (shard ≡ s.shard.index) → Enterable s q (claim_of kind shard q)
 
 pub data Change (digest : List ℕ → List ℕ) (old : ServedState) (read : Result Frame FrameError) (new : ServedState) : Type 0 where
@@ -121,11 +121,11 @@ module _ (digest : List ℕ → List ℕ) (may_want : Bool) (old : ServedState) 
     by_claim Holds shard q r place h = by_ack shard q place h.0 h.1
     by_claim Denies shard q r place h = by_attest shard q place h.0 h.1
 
-    by_register : (q : BlobId) (until : ℕ) (r : _) → Registered old.ledger q until r ledger → Changes frame
-    by_register q until r (registering.Past, h, told) = stays_so h.1
-    by_register q until r (registering.MovingExtension, h, told) = absurd told
-    by_register q until r (registering.NoRoom, h, told) = stays_so h.2
-    by_register q until r (registering.Registered most, h, told) = made q (Register q until) (to_register until h.0) h.2
+    by_register : (q : BlobId) (until : ℕ) (r : _) → until ≤ 65536 → Registered old.ledger q until r ledger → Changes frame
+    by_register q until r low (registering.Past, h, told) = stays_so h.1
+    by_register q until r low (registering.MovingExtension, h, told) = absurd told
+    by_register q until r low (registering.NoRoom, h, told) = stays_so h.2
+    by_register q until r low (registering.Registered most, h, told) = made q (Register q until) (to_register until h.0 low) h.2
 
   by_vouched : (frame : Frame) (kind : Kind) (q : BlobId) (r : _) (ledger : LedgerState) → new ≡ with_ledger old ledger → Vouched kind old q r ledger → Changes frame
   by_vouched frame kind q _ _ is (unbacked why v) = stays_so frame old.ledger is refl
@@ -139,27 +139,28 @@ module _ (digest : List ℕ → List ℕ) (may_want : Bool) (old : ServedState) 
   by_forget name q _ _ is (forgotten may) = slivers_went q is
   by_forget name q _ _ is (kept not) = no_change (is ∙ holding_same old old.shard.contents refl)
 
-  pub changes : (read : Result Frame FrameError) → AnswersRead digest may_want read old frames clash new → Change digest old read new
-  changes (Err fault) h = no_change h.1
-  changes (Ok (Metadata m)) h = by_put (Metadata m) tt h
-  changes (Ok (Sliver name axis index bytes)) h = by_put (Sliver name axis index bytes) tt h
-  changes (Ok (Proof name p)) h = by_put (Proof name p) tt h
-  changes (Ok (Opening name axis index o)) h = no_change h.1
-  changes (Ok (Answer code i j)) h = no_change h.1
-  changes (Ok (Clash left right)) h = no_change h.1
-  changes (Ok (Read name)) h = no_change h.1
-  changes (Ok (Symbol name axis index)) h = no_change h.3
-  changes (Ok (Forget name)) (r, contents, forgets, told, is) = by_forget name (named name) r contents is forgets
-  changes (Ok (Ack name)) (r, ledger, makes, told, is) = by_vouched (Ack name) Holds (named name) r ledger is makes
-  changes (Ok (Attest name)) (r, ledger, makes, told, is) = by_vouched (Attest name) Denies (named name) r ledger is makes
-  changes (Ok (RegisterEntry name until)) (r, ledger, makes, told, is) = by_register (RegisterEntry name until) ledger is (named name) until r makes
-  changes (Ok (AckEntry shard name)) (r, ledger, makes, told, is) = by_entered (AckEntry shard name) Holds shard (named name) r ledger is makes
-  changes (Ok (AttestEntry shard name)) (r, ledger, makes, told, is) = by_entered (AttestEntry shard name) Denies shard (named name) r ledger is makes
+  pub changes : (read : Result Frame FrameError) → ((name : List ℕ) (until : ℕ) → read ≡ Ok (RegisterEntry name until) → until ≤ 65536)
+      → AnswersRead digest may_want read old frames clash new → Change digest old read new
+  changes (Err fault) low h = no_change h.1
+  changes (Ok (Metadata m)) low h = by_put (Metadata m) tt h
+  changes (Ok (Sliver name axis index bytes)) low h = by_put (Sliver name axis index bytes) tt h
+  changes (Ok (Proof name p)) low h = by_put (Proof name p) tt h
+  changes (Ok (Opening name axis index o)) low h = no_change h.1
+  changes (Ok (Answer code i j)) low h = no_change h.1
+  changes (Ok (Clash left right)) low h = no_change h.1
+  changes (Ok (Read name)) low h = no_change h.1
+  changes (Ok (Symbol name axis index)) low h = no_change h.3
+  changes (Ok (Forget name)) low (r, contents, forgets, told, is) = by_forget name (named name) r contents is forgets
+  changes (Ok (Ack name)) low (r, ledger, makes, told, is) = by_vouched (Ack name) Holds (named name) r ledger is makes
+  changes (Ok (Attest name)) low (r, ledger, makes, told, is) = by_vouched (Attest name) Denies (named name) r ledger is makes
+  changes (Ok (RegisterEntry name until)) low (r, ledger, makes, told, is) = by_register (RegisterEntry name until) ledger is (named name) until r (low name until refl) makes
+  changes (Ok (AckEntry shard name)) low (r, ledger, makes, told, is) = by_entered (AckEntry shard name) Holds shard (named name) r ledger is makes
+  changes (Ok (AttestEntry shard name)) low (r, ledger, makes, told, is) = by_entered (AttestEntry shard name) Denies shard (named name) r ledger is makes
 
 -- ---- the same entry at another ledger
 
 enter_plain : (s : ServedState) (q : BlobId) (b : Body) → Enterable s q b → is_plain b ≡ true
-enter_plain s q _ (to_register until may) = refl
+enter_plain s q _ (to_register until may low) = refl
 enter_plain s q _ (to_claim kind shard may place) = claim_plain kind shard q
 
 claim_names : (kind : Kind) (shard : ℕ) (q id : BlobId) (b : Bool) → id_eq q id ≡ b → names id (claim_of kind shard q) ≡ b
@@ -167,8 +168,25 @@ claim_names Holds shard q id b e = e
 claim_names Denies shard q id b e = e
 
 enter_names : (s : ServedState) (q id : BlobId) (b : Body) (named_so : Bool) → id_eq q id ≡ named_so → Enterable s q b → names id b ≡ named_so
-enter_names s q id _ named_so e (to_register until may) = e
+enter_names s q id _ named_so e (to_register until may low) = e
 enter_names s q id _ named_so e (to_claim kind shard may place) = claim_names kind shard q id named_so e
+
+-- the request that makes it has a spelling
+abbrev IsSpelled : Option Frame → Type 0
+IsSpelled (Some frame) = IsFrame frame
+IsSpelled None = ⊥
+
+enter_spelled : (s : ServedState) (q : BlobId) (b : Body) → IsId q.0 → s.ledger.log.f ≤ 333 → s.shard.index < committee_size s.ledger.log.f → Enterable s q b → IsSpelled (entry_frame b)
+enter_spelled s q _ size few place (to_register until may low) = (size, low)
+enter_spelled s q _ size few place (to_claim kind shard may where_it_is) = by kind
+  where
+    less : (shard < committee_size s.ledger.log.f) ⊎ (shard ≡ s.shard.index) → shard ≤ 999
+    less (inl is) = omega (arith, is, few)
+    less (inr same) = omega (arith, same, place, few)
+
+    by : (k : Kind) → IsSpelled (entry_frame (claim_of k shard q))
+    by Holds = record { id_size = size; index_most = less where_it_is }
+    by Denies = record { id_size = size; index_most = less where_it_is }
 
 -- the request that makes it, and what is answered
 record Enters (digest : List ℕ → List ℕ) (also : Bool) (t : ServedState) (b : Body) : Type 0 where
@@ -180,7 +198,7 @@ record Enters (digest : List ℕ → List ℕ) (also : Bool) (t : ServedState) (
 
 enters : (digest : List ℕ → List ℕ) (also : Bool) (id : BlobId) (s t : ServedState) (b : Body) → AlikeLedgers id s.ledger.log t.ledger.log → s.shard.index < committee_size s.ledger.log.f → 0 < t.ledger.spare
     → Enterable s id b → Enters digest also t b
-enters digest also id s t _ a place some (to_register until may) =
+enters digest also id s t _ a place some (to_register until may low) =
     let b = Register id until in
     let most = until_of (entered t.ledger.log b) id in
     record {
@@ -265,9 +283,6 @@ module _ (digest : List ℕ → List ℕ) (id : BlobId) (room sender : ℕ) (als
     pub shard : then.shard ≡ other.shard
     pub spare : then.ledger.spare + length (own_entries s.ledger.log id) ≡ other.ledger.spare
 
-  abbrev Spelled : ServedState → Type 0
-  Spelled s = All (λ (x : Entry). IsSpelled (entry_frame x.body)) (own_entries s.ledger.log id)
-
   abbrev Live : Log → Contents → Type 0
   Live log contents = ((own_entries log id ≡ []) × (parts_at contents id ≡ no_parts)) ⊎ (reading log < until_of log id)
 
@@ -278,7 +293,7 @@ module _ (digest : List ℕ → List ℕ) (id : BlobId) (room sender : ℕ) (als
     pub moving : is_moving s.ledger.log ≡ false
     pub sound : IsSound digest s.shard.f id.0 s.shard.index (parts_at s.shard.contents id)
     pub live : Live s.ledger.log s.shard.contents
-    pub fed : All (λ (x : Entry). IsSpelled (entry_frame x.body)) (own_entries s.ledger.log id) → length (own_entries s.ledger.log id) ≤ other.ledger.spare → Fed s
+    pub fed : length (own_entries s.ledger.log id) ≤ other.ledger.spare → Fed s
 
   at_start : Standing one
   at_start = record {
@@ -288,7 +303,7 @@ module _ (digest : List ℕ → List ℕ) (id : BlobId) (room sender : ℕ) (als
     moving = placed.serves;
     sound = subst (IsSound digest one.shard.f id.0 one.shard.index) (sym nothing.parts) (none_sound digest one.shard.f one.shard.index id.0);
     live = inl (nothing.entries, nothing.parts);
-    fed = λ spelled few. record {
+    fed = λ few. record {
       answered = [];
       then = other;
       served = subst (λ (own : List Entry). Served (AnswersRequest digest also) room other (flat_map (envelope sender) (entry_payloads own)) [] None other) (sym nothing.entries) serving.none;
@@ -309,8 +324,8 @@ module _ (digest : List ℕ → List ℕ) (id : BlobId) (room sender : ℕ) (als
       moving = st.moving;
       sound = sound;
       live = live;
-      fed = λ spelled few.
-          let a = st.fed spelled few in
+      fed = λ few.
+          let a = st.fed few in
           record { answered = a.answered; then = a.then; served = a.served; ledgers = a.ledgers; shard = a.shard; spare = a.spare };
     }
 
@@ -374,7 +389,7 @@ module _ (digest : List ℕ → List ℕ) (id : BlobId) (room sender : ℕ) (als
       plain : is_plain b ≡ true
       plain = enter_plain s q b may
 
-      ledger_changes : Live log s.shard.contents → (Spelled next → length (own_entries log id) ≤ other.ledger.spare → Fed next) → Standing next
+      ledger_changes : Live log s.shard.contents → (length (own_entries log id) ≤ other.ledger.spare → Fed next) → Standing next
       ledger_changes live fed = record {
         f = st.f;
         index = st.index;
@@ -388,8 +403,8 @@ module _ (digest : List ℕ → List ℕ) (id : BlobId) (room sender : ℕ) (als
       entry_apart : (q ≡ id → ⊥) → Standing next
       entry_apart other_one =
           let a = other_entered id s.ledger.log b plain (enter_names s q id b false (apart q id other_one) may) in
-          ledger_changes (by a st.live) (λ spelled few.
-          let had = st.fed (subst (All (λ (x : Entry). IsSpelled (entry_frame x.body))) a.own spelled) (subst (λ (own : List Entry). length own ≤ other.ledger.spare) a.own few) in
+          ledger_changes (by a st.live) (λ few.
+          let had = st.fed (subst (λ (own : List Entry). length own ≤ other.ledger.spare) a.own few) in
           record {
             answered = had.answered;
             then = had.then;
@@ -427,22 +442,20 @@ module _ (digest : List ℕ → List ℕ) (id : BlobId) (room sender : ℕ) (als
           omega (arith, same, until, least b may)
         where
           least : (x : Body) → Enterable s id x → reading s.ledger.log < max (until_of s.ledger.log id) (until_in x)
-          least _ (to_register until m) = omega (arith, m.beyond)
+          least _ (to_register until m low) = omega (arith, m.beyond)
           least _ (to_claim kind shard m place) =
               let now = ltb-true (reading s.ledger.log) (until_of s.ledger.log id) m.open_to_claims.live in
               omega (arith, now)
 
-      fed_more : Spelled (with_ledger s (takes_in s.ledger b)) → length (own_entries (entered s.ledger.log b) id) ≤ other.ledger.spare → Fed (with_ledger s (takes_in s.ledger b))
-      fed_more spelled few =
-          let P : Entry → Type 0 = λ x. IsSpelled (entry_frame x.body) in
-          let spelled_all = subst (All P) one_more_own spelled in
+      fed_more : length (own_entries (entered s.ledger.log b) id) ≤ other.ledger.spare → Fed (with_ledger s (takes_in s.ledger b))
+      fed_more few =
           let few_all = subst (λ (o : List Entry). length o ≤ other.ledger.spare) one_more_own few in
           let sizes = length-append own (last ∷ []) in
-          let had = st.fed (front_all P own last spelled_all) (omega (arith, few_all, sizes)) in
+          let had = st.fed (omega (arith, few_all, sizes)) in
           let t = had.then in
           let place = omega_place had.ledgers in
           let e = enters digest also id s t b had.ledgers place (omega (arith, had.spare, few_all, sizes)) may in
-          let fits : IsFrame e.frame = subst IsSpelled e.is (last_all P own last spelled_all) in
+          let fits : IsFrame e.frame = subst IsSpelled e.is (enter_spelled s id b placed.named_by (omega (arith, st.faults, placed.one, placed.few)) place may) in
           let new = with_ledger t (takes_in t.ledger b) in
           let answers = subst (λ (r : Result Frame FrameError). AnswersRead digest also r t e.answered None new) (sym (read_again e.frame fits)) e.answers in
           let short = asks one.shard.f e.frame placed.some placed.few fits e.only in
@@ -496,7 +509,7 @@ module _ (digest : List ℕ → List ℕ) (id : BlobId) (room sender : ℕ) (als
   replied : (may_want : Bool) (mid : ServedState) (payload : List ℕ) (s : List (List ℕ)) (c : Option MetaClash) (n : ServedState) → Standing mid
       → Replies (AnswersRequest digest may_want) room mid payload s c n → Standing n
   replied may_want mid payload _ _ _ st (read_past long) = st
-  replied may_want mid payload _ _ _ st (looked_at s c n few answers) = changed mid st payload n (changes digest may_want mid s c n (read_of payload) answers)
+  replied may_want mid payload _ _ _ st (looked_at s c n few answers) = changed mid st payload n (changes digest may_want mid s c n (read_of payload) (until_fits payload) answers)
 
   -- whatever was served
   pub standing : (may_want : Bool) (taken : List ℕ) (frames : List (List ℕ)) (clash : Option MetaClash) (state : ServedState) → Served (AnswersRequest digest may_want) room one taken frames clash state → Standing state

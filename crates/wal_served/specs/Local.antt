@@ -11,7 +11,7 @@ use Rattle.wal_shape.specs.Metadata.{held_index}
 use Rattle.wal_shape.specs.MetadataReading.{spelled_metadata}
 use Rattle.wal_shape.specs.Part.{sliver_part}
 use Rattle.wal_frame.specs.declared.frame.FrameError.{FrameError}
-use Rattle.wal_frame.specs.Frame.{Frame, Metadata, Sliver, Opening, Proof, Read, Symbol, Ack, Attest, Forget, Answer, Clash, RegisterEntry, AckEntry, AttestEntry, IsFrame, IsId, frame_text, sliver_frame, envelope}
+use Rattle.wal_frame.specs.Frame.{Frame, Metadata, Sliver, Opening, Proof, Read, Symbol, Ack, Attest, Forget, Answer, Clash, RegisterEntry, AckEntry, AttestEntry, IsId, frame_text, sliver_frame, envelope}
 use Rattle.wal_frame.specs.Reading.{read_of}
 use Rattle.wal_frame.specs.Stored.{stored_bytes}
 use Rattle.wal_ledger.specs.declared.entry.Entry.{Entry}
@@ -78,6 +78,15 @@ pub record AlikeAt (id : BlobId) (one other : ServedState) : Type 0 where
 
 -- ---- room
 
+-- whether a single frame was answered, an answer of this code
+abbrev pub tells : ℕ → List (List ℕ) → Bool
+tells code ((kind ∷ told ∷ rest) ∷ []) = nat_eq kind 0x30 && nat_eq told code
+tells code _ = false
+
+-- whether it tells of an entry that was made: it is done, or counts
+abbrev pub tells_entry : List (List ℕ) → Bool
+tells_entry frames = tells 0 frames || (tells 13 frames || tells 14 frames)
+
 -- the pages of the part that was read, and none where it is no part
 abbrev pub pages_in : Result Frame FrameError → ℕ
 pages_in (Ok frame) = pages_for (length (stored_bytes frame))
@@ -105,6 +114,13 @@ entries_in (Err fault) = 0
 abbrev pub asked_entries : List ℕ → ℕ
 asked_entries payload = entries_in (read_of payload)
 
+-- the pages and the entries that an answer to a payload tells to be taken
+abbrev pub taken_pages : List ℕ → List (List ℕ) → ℕ
+taken_pages payload frames = cond (tells 0 frames) (part_pages payload) 0
+
+abbrev pub taken_entries : List ℕ → List (List ℕ) → ℕ
+taken_entries payload frames = cond (tells_entry frames) (asked_entries payload) 0
+
 -- the pages of all holdings, with one for the holding of this identifier
 abbrev pub cost_with : Contents → BlobId → ℕ
 cost_with contents id = cost contents + cond (map_of.contains_key contents id) 0 1
@@ -125,13 +141,20 @@ AnswersAlike digest =
     → AnswersRequest digest also other payload others second then → (TellsWant frames → ⊥) → (TellsWant others → ⊥)
     → AnswersRequest digest also other payload frames clash then × SameFrames frames others × AlikeAt id new then
 
--- and where there is room for what the payload brings, there is that answer
+-- and where there is room for what the answer tells to be taken, there is that answer
 abbrev pub AnswersWithRoom : (List ℕ → List ℕ) → Type 0
 AnswersWithRoom digest =
     (id : BlobId) (one other : ServedState) (payload : List ℕ) (may_want also : Bool) (frames : List (List ℕ)) (clash : Option MetaClash) (new : ServedState)
     → AlikeAt id one other → regarding digest payload ≡ Some id → AnswersRequest digest may_want one payload frames clash new → (TellsWant frames → ⊥)
-    → RoomFor id other (part_pages payload) (asked_entries payload)
+    → RoomFor id other (taken_pages payload frames) (taken_entries payload frames)
     → (then : ServedState) × AnswersRequest digest also other payload frames clash then × AlikeAt id new then
+
+-- and where the other state tells of want of room and this one does not, this one tells that a part was stored or an entry made
+abbrev pub WantsForMore : (List ℕ → List ℕ) → Type 0
+WantsForMore digest =
+    (id : BlobId) (one other : ServedState) (payload : List ℕ) (may_want also : Bool) (frames others : List (List ℕ)) (clash second : Option MetaClash) (new then : ServedState)
+    → AlikeAt id one other → regarding digest payload ≡ Some id → AnswersRequest digest may_want one payload frames clash new
+    → AnswersRequest digest also other payload others second then → (TellsWant frames → ⊥) → TellsWant others → tells_entry frames ≡ true
 
 -- ---- THE SECOND LAW: what regards others leaves a state alike
 
@@ -176,21 +199,12 @@ pub record Chooses (digest : List ℕ → List ℕ) (id : BlobId) (keeps : List 
 abbrev pub left_of : (List ℕ → Bool) → List Turn → List Turn
 left_of keeps all = filter (λ t. keeps t.payload) all
 
--- whether a single frame was answered, an answer of this code
-abbrev pub tells : ℕ → List (List ℕ) → Bool
-tells code ((kind ∷ told ∷ rest) ∷ []) = nat_eq kind 0x30 && nat_eq told code
-tells code _ = false
-
--- whether it tells of an entry that was made: it is done, or counts
-abbrev pub tells_entry : List (List ℕ) → Bool
-tells_entry frames = tells 0 frames || (tells 13 frames || tells 14 frames)
-
 -- the pages of the parts that were stored, and how many entries were made
 abbrev pub stored_pages : List Turn → ℕ
-stored_pages all = sum_by (λ t. cond (tells 0 t.answered) (part_pages t.payload) 0) all
+stored_pages all = sum_by (λ t. taken_pages t.payload t.answered) all
 
 abbrev pub made_entries : List Turn → ℕ
-made_entries all = sum_by (λ t. cond (tells_entry t.answered) (asked_entries t.payload) 0) all
+made_entries all = sum_by (λ t. taken_entries t.payload t.answered) all
 
 -- a state that is alike at the identifier serves what is left, and answers it exactly as before, where there is room for what was
 -- stored and entered of it and no answer to it told of want of room
@@ -238,17 +252,13 @@ entry_frame (body.Ack shard id) = Some (AckEntry shard id.0)
 entry_frame (body.Attest shard id) = Some (AttestEntry shard id.0)
 entry_frame _ = None
 
--- the payloads of such requests, and whether each has a spelling
+-- the payloads of such requests
 abbrev pub frame_payload : Option Frame → List (List ℕ)
 frame_payload (Some frame) = frame_text frame ∷ []
 frame_payload None = []
 
 abbrev pub entry_payloads : List Entry → List (List ℕ)
 entry_payloads entries = flat_map (λ x. frame_payload (entry_frame x.body)) entries
-
-abbrev pub IsSpelled : Option Frame → Type 0
-IsSpelled (Some frame) = IsFrame frame
-IsSpelled None = ⊥
 
 -- the payload of a held sliver, by the index that the held metadata gives it
 abbrev pub sliver_payload : List ℕ → ℕ → Parts → Axis → List (List ℕ)
@@ -286,7 +296,6 @@ abbrev pub Rebuilds : (List ℕ → List ℕ) → Type 0
 Rebuilds digest =
     (id : BlobId) (room sender : ℕ) (may_want also : Bool) (one other : ServedState) (taken : List ℕ) (frames : List (List ℕ)) (clash : Option MetaClash) (state : ServedState)
     → IsPlaced id room one → HasNothing id one → AlikeAt id one other → Served (AnswersRequest digest may_want) room one taken frames clash state
-    → All (λ (x : Entry). IsSpelled (entry_frame x.body)) (own_entries state.ledger.log id)
     → RoomFor id other (pages_of (parts_at state.shard.contents id)) (length (own_entries state.ledger.log id))
     → (answered : List (List ℕ)) × (then : ServedState)
     × Served (AnswersRequest digest also) room other (flat_map (envelope sender) (kept_payloads id state)) answered None then × AlikeAt id state then

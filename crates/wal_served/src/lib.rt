@@ -1,7 +1,7 @@
 //! What a shard served are steps of the network, and rests on each blob alone: definitions, proofs, and the laws as calls.
 #![tactic(auto)]
 
-ghost use Rattle.wal_served.specs.Local.{AnswersAlike, AnswersWithRoom, LeavesAlike, ReadsRestOn, Rebuilds, ServesWhatIsLeft};
+ghost use Rattle.wal_served.specs.Local.{AnswersAlike, AnswersWithRoom, LeavesAlike, ReadsRestOn, Rebuilds, ServesWhatIsLeft, WantsForMore};
 ghost use Rattle.wal_served.specs.Steps.{EveryRequest, EveryServing};
 
 use wal_tree::Hash32;
@@ -21,6 +21,7 @@ pub fn every_request<H: Hash32>()
 pub fn answers_are_local<H: Hash32>()
     ensures alike { AnswersAlike H.digest }
     ensures room { AnswersWithRoom H.digest }
+    ensures want { WantsForMore H.digest }
     ensures others { LeavesAlike H.digest }
     ensures left { ServesWhatIsLeft H.digest }
     ensures reads { ReadsRestOn H.digest }

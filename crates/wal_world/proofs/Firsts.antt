@@ -1,5 +1,5 @@
 -- The first completed answers of a network.
-use Rattle.std.proofs.Common.{◌≡◌, ◌≢◌, ℕ, ◌<◌, ◌≤◌, List, [], ◌∷◌, ◌++◌, length, Bool, true, false, cond, Option, Some, None, is_some, IsTrue, refl, sym, ap, ◌∙◌, subst, arith}
+use Rattle.std.proofs.Common.{◌≡◌, ◌≢◌, ℕ, List, true, false, cond, Option, Some, None, is_some, IfSome, IfNone, Result, Ok, Err, IfOk, refl, sym, ap, ◌∙◌}
 use Rattle.std.specs.FinMap as finmap
 use Rattle.std.specs.FinMap.{from_sorted}
 use Rattle.std.specs.BTreeMap.{BTreeMap, IsOrdered, get_by, insert_entry}
@@ -8,33 +8,31 @@ use Rattle.wal_shape.specs.Identifiers.{id_cmp}
 use Rattle.wal_shape.specs.declared.shape.Format.{Format}
 use Rattle.wal_shape.specs.declared.shape.Format.TheVariants.{One, Two}
 use Rattle.wal_commit.specs.Identifier.{IsIdentifierOf}
-use Rattle.wal_evidence.specs.declared.evidence.Evidence.{Evidence}
 use Rattle.wal_evidence.specs.declared.evidence.Verdict.{Verdict}
 use Rattle.wal_store.proofs.EntriesLaws.{get_view, insert_view}
 use Rattle.wal_ledger.proofs.Order.{ids_total}
 use Rattle.wal_protocol.specs.declared.first.First.{First}
-use Rattle.wal_protocol.specs.declared.first.First.TheVariants.{Judged, Written}
 use Rattle.wal_protocol.specs.State.{World, verdict_of, answered}
-use Rattle.wal_protocol.specs.Step.{AgreesWithFirst, Differs}
-use Rattle.wal_world.specs.inside.Replies.{IsAgreed}
+use Rattle.wal_shape.specs.declared.text.Collision.{Collision}
+use Rattle.wal_tree.specs.Collision.{IsCollision}
+use Rattle.wal_protocol.specs.Step.{AgreesWithFirst}
+use Rattle.wal_world.specs.inside.Replies.{IsCompared}
 
 -- what a look-up finds
 pub found : (m : BTreeMap BlobId First) (id : BlobId) (o : Option First) → IsOrdered id_cmp m → o ≡ get_by (id_cmp id) m → finmap.get {R = id_cmp} (from_sorted m.entries) id ≡ o
 found m id o ordered at = get_view id_cmp m.entries id ordered ∙ sym at
 
--- an answer that is there gives this verdict
-pub agrees_is : (m : BTreeMap BlobId First) (id : BlobId) (first : First) (told : Verdict) → IsOrdered id_cmp m → Some first ≡ get_by (id_cmp id) m → verdict_of first ≡ told
-    → AgreesWithFirst (from_sorted m.entries) id told
-agrees_is m id first told ordered at same answer h =
-    let e : Some first ≡ Some answer = sym (found m id (Some first) ordered at) ∙ h in
-    let f : first ≡ answer = (cc) in
-    ap verdict_of (sym f) ∙ same
-
--- and it stays
-pub stays_first : (w : World) (id : BlobId) (first answer : First) → finmap.get w.answers id ≡ Some first → w ≡ record w { answers = answered w.answers id answer }
-stays_first w id first answer h =
-    let there : finmap.contains_key w.answers id ≡ true = (ap is_some h) in
-    ap (λ (m : finmap.FinMap id_cmp First). record w { answers = m }) (sym (ap (λ b. cond b w.answers (finmap.insert w.answers id answer)) there))
+-- an answer that was compared with the first one
+pub compared_is : {E : Type 0} (digest : List ℕ → List ℕ) (w : World) (id : BlobId) (answer first : First) (r : Result (Option Collision) E) → finmap.get w.answers id ≡ Some first
+    → IfOk r (λ o. IfNone o (verdict_of first ≡ verdict_of answer)) → IfOk r (λ o. IfSome o (λ c. IsCollision digest c.left c.right × (verdict_of first ≢ verdict_of answer)))
+    → IfOk r (λ o. IsCompared digest w id answer o w)
+compared_is digest w id answer first (Err e) there same differs = tt
+compared_is digest w id answer first (Ok (Some c)) there same differs = (differs.0, (first, there, differs.1), refl)
+compared_is digest w id answer first (Ok None) there same differs =
+    let stays : finmap.contains_key w.answers id ≡ true = ap is_some there in (
+      λ other at. let e : Some other ≡ Some first = sym at ∙ there in let one : other ≡ first = (cc) in ap verdict_of one ∙ same,
+      ap (λ (m : finmap.FinMap id_cmp First). record w { answers = m }) (sym (ap (λ b. cond b w.answers (finmap.insert w.answers id answer)) stays)),
+    )
 
 -- where none is there, the new one is the first
 pub no_first : (m : BTreeMap BlobId First) (id : BlobId) (told : Verdict) → IsOrdered id_cmp m → None ≡ get_by (id_cmp id) m → AgreesWithFirst (from_sorted m.entries) id told

@@ -1,5 +1,5 @@
 -- What is put to a shard of a network, and what is said of it.
-use Rattle.std.proofs.Common.{◌≡◌, ℕ, ◌<◌, ◌≤◌, List, Bool, true, false, cond, ◌&&◌, not, Option, Some, None, Result, Ok, Err, IfOk, slice_index_or, length, refl, sym, ap, ◌∙◌, subst, arith}
+use Rattle.std.proofs.Common.{◌≡◌, ℕ, ◌<◌, ◌≤◌, List, Bool, true, false, cond, ◌&&◌, not, Option, Some, None, Result, Ok, Err, IfOk, OnOk, slice_index_or, length, refl, sym, ap, ◌∙◌, subst, arith}
 use Rattle.wal_shape.specs.declared.axis.Side.{Side}
 use Rattle.wal_shape.specs.declared.axis.Side.TheVariants.{Now, Next}
 use Rattle.wal_shape.specs.Owners.{among}
@@ -23,6 +23,10 @@ use Rattle.wal_world.specs.declared.taken.Taken.TheVariants as taken
 use Rattle.wal_world.specs.inside.Network.{AreShards, IsShardAt}
 use Rattle.wal_world.specs.inside.Placed.{contents_at}
 use Rattle.wal_world.proofs.Placing.{keeps_same, held_by, placed_by, shard_at}
+
+pub on_ok : {A E P : Type 0} (r : Result A E) → P → OnOk r P
+on_ok (Ok x) p = p
+on_ok (Err e) p = tt
 
 pub if_ok : {A E : Type 0} {P Q : A → Type 0} (r : Result A E) → ((x : A) → P x → Q x) → IfOk r P → IfOk r Q
 if_ok (Ok x) f h = f x h

@@ -11,6 +11,7 @@ use Rattle.wal_reader.specs.declared.outcome.Outcome.{Outcome}
 use Rattle.wal_reader.specs.Outcome.{IsOutcome, HasEvidence}
 use Rattle.wal_world.specs.declared.taken.Taken.{Taken}
 use Rattle.wal_world.specs.declared.taken.Taken.TheVariants as taken
+use Rattle.wal_protocol.specs.declared.first.First.TheVariants.{Judged}
 use Rattle.wal_protocol.specs.State.{World}
 use Rattle.wal_protocol.specs.Rules.{Rules}
 use Rattle.wal_protocol.specs.Step.{ReadStep, ReadCollides, two_metadata, other_answer, read_payloads}
@@ -26,7 +27,7 @@ reads_is digest id payloads o found word e same there outcome evidence = (
 )
 
 pub told_bytes : (digest : List ℕ → List ℕ) (f : ℕ) (old new : World) (id : BlobId) (payloads : List (List ℕ)) (bytes : List ℕ) (e : Evidence) (t : Taken ReadWord)
-    → ReadsTo digest id payloads (reading.Bytes bytes) (Some e) → IsTold digest old id e (verdict.Bytes bytes) (reading.Bytes bytes) new t
+    → ReadsTo digest id payloads (reading.Bytes bytes) (Some e) → IsTold digest old id (Judged e (verdict.Bytes bytes)) (reading.Bytes bytes) new t
     → IsTaken digest (λ word. ReadsOn (rules_of digest f) old id payloads word new) (CollidesOn (rules_of digest f) old id payloads × (new ≡ old)) t
 told_bytes digest f old new id payloads bytes e (taken.Word said) reads h =
     subst (λ (w : ReadWord). ReadsOn (rules_of digest f) old id payloads w new) (sym h.0) (record { evidence = e; reads = reads; agreed = h.1 })
@@ -34,7 +35,7 @@ told_bytes digest f old new id payloads bytes e (taken.Collision c) reads h =
     (h.0, (another_answer (reading.Bytes bytes) (verdict.Bytes bytes) e reads refl h.1, h.2))
 
 pub told_reject : (digest : List ℕ → List ℕ) (f : ℕ) (old new : World) (id : BlobId) (payloads : List (List ℕ)) (e : Evidence) (t : Taken ReadWord)
-    → ReadsTo digest id payloads reading.Reject (Some e) → IsTold digest old id e verdict.Reject reading.Reject new t
+    → ReadsTo digest id payloads reading.Reject (Some e) → IsTold digest old id (Judged e verdict.Reject) reading.Reject new t
     → IsTaken digest (λ word. ReadsOn (rules_of digest f) old id payloads word new) (CollidesOn (rules_of digest f) old id payloads × (new ≡ old)) t
 told_reject digest f old new id payloads e (taken.Word said) reads h =
     subst (λ (w : ReadWord). ReadsOn (rules_of digest f) old id payloads w new) (sym h.0) (record { evidence = e; reads = reads; agreed = h.1 })

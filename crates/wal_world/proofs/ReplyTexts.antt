@@ -1,11 +1,12 @@
 -- Replies in a network's buffer.
-use Rattle.std.proofs.Common.{◌≡◌, ℕ, ◌+◌, ◌<◌, ◌≤◌, ◌^◌, List, [], ◌∷◌, ◌++◌, length, take, drop, Bool, true, false, cond, Option, Some, None, Result, Ok, Err, refl, sym, ap, ◌∙◌, subst, arith, length-append, slice_index_or}
+use Rattle.std.proofs.Common.{◌≡◌, ℕ, ◌+◌, ◌<◌, ◌≤◌, ◌^◌, List, [], ◌∷◌, ◌++◌, length, take, drop, Bool, true, false, cond, Option, Some, None, Result, Ok, Err, refl, sym, ap, ◌∙◌, subst, arith, length-append, append-nil, slice_index_or}
 use Rattle.std.specs.List.{flat_map, AllByRecursion}
 use Rattle.std.specs.FinMap.{from_sorted}
 use Rattle.std.proofs.lemmas.Grind.{flat_map-append}
 use Rattle.wal_shape.specs.declared.metadata.BlobId.{BlobId}
 use Rattle.wal_shape.specs.declared.axis.Side.{Side}
 use Rattle.wal_ledger.specs.Shards.{committee_size}
+use Rattle.wal_event.specs.declared.event.Reply.{Reply}
 use Rattle.wal_frame.specs.Buffer.{Buffer, appended}
 use Rattle.wal_frame.specs.Frame.{envelope}
 use Rattle.wal_frame.specs.declared.stream.SplitError.{SplitError}
@@ -17,11 +18,13 @@ use Rattle.wal_store.specs.Contents.{Contents, parts_at}
 use Rattle.wal_shard.specs.State.{ShardState}
 use Rattle.wal_shard.specs.Replying.{WritesReply}
 use Rattle.wal_protocol.specs.State.{World, side_of, is_present, contents_of, held}
+use Rattle.wal_protocol.specs.Rules.{Rules}
+use Rattle.wal_protocol.specs.Step.{read_payloads, reply_payloads}
 use Rattle.wal_world.specs.inside.Books.{ledger_of}
 use Rattle.wal_world.specs.inside.Network.{IsNetwork, shards_of, contents_in, world_of}
 use Rattle.wal_world.specs.declared.network.Network.{Network}
 use Rattle.wal_world.specs.inside.Replies.{IsLike}
-use Rattle.wal_world.proofs.Shards.{shard_is, shard_holds}
+use Rattle.wal_world.proofs.Shards.{shard_is}
 
 -- the payloads of a text of less than 2^32 bytes fit their envelopes
 payloads_fit : (sender : ℕ) (payloads : List (List ℕ)) → length (flat_map (envelope sender) payloads) < 2 ^ 32 → AllByRecursion IsPayload payloads
@@ -64,6 +67,11 @@ like_trans a b c l m = record {
   work = m.work ∙ l.work;
 }
 
+-- one more reply to a reader
+pub payloads_more : (r : Rules) (w : World) (id : BlobId) (front : List Reply) (one : Reply) → read_payloads r w id (front ++ one ∷ []) ≡ read_payloads r w id front ++ reply_payloads r w id one
+payloads_more r w id front one =
+    flat_map-append (reply_payloads r w id) front (one ∷ []) ∙ ap (λ (t : List (List ℕ)). read_payloads r w id front ++ t) (append-nil (reply_payloads r w id one))
+
 -- a reply of a shard of a side, by its place, stands in an empty buffer
 pub written_by : {H : Type 0} (side : Side) (n : Network H) (list : List ShardState) (shard k : ℕ) (s : ShardState) (id : BlobId) (reply : ℕ → Parts → List (List ℕ)) (old new : Buffer) (count : ℕ)
     → IsNetwork n → is_present side (world_of n) ≡ true → list ≡ shards_of side n → k ≡ shard → shard < committee_size (ledger_of n.books).log.f → s ≡ slice_index_or list k s
@@ -71,8 +79,9 @@ pub written_by : {H : Type 0} (side : Side) (n : Network H) (list : List ShardSt
     → new.bytes ≡ flat_map (envelope shard) (reply shard (held (side_of side (world_of n)) shard id))
 unfolding held
 written_by side n list shard k s id reply old new count is there same place less at empty w =
-    let index : s.index ≡ shard = (shard_is side n list shard k s is there same place less at).index_is in
-    let contents : s.contents ≡ contents_of (side_of side (world_of n)) shard = shard_holds side n list shard k s is there same place less at in
+    let of_side = shard_is side n list shard k s is there same place less at in
+    let index : s.index ≡ shard = of_side.index in
+    let contents : s.contents ≡ contents_of (side_of side (world_of n)) shard = of_side.contents in
     ap (λ (b : Buffer). b.bytes) w.written
     ∙ ap (λ (t : List ℕ). t ++ flat_map (envelope s.index) (reply s.index (parts_at s.contents id))) empty
     ∙ ap (λ (i : ℕ). flat_map (envelope i) (reply i (parts_at s.contents id))) index

@@ -7,11 +7,13 @@ use Rattle.wal_ledger.specs.Shards.{committee_size}
 use Rattle.wal_ledger.specs.Ledger.{is_moving}
 use Rattle.wal_store.specs.Contents.{Contents}
 use Rattle.wal_shard.specs.State.{ShardState}
-use Rattle.wal_protocol.specs.State.{is_present, side_of, contents_of}
+use Rattle.wal_protocol.specs.State.{is_present, side_of}
 use Rattle.wal_world.specs.inside.Books.{ledger_of, AreBooks}
-use Rattle.wal_world.specs.inside.Network.{world_of, shards_of, contents_in, AreNext, AreShards, IsShardAt, IsNetwork}
+use Rattle.wal_world.specs.inside.Network.{world_of, shards_of, contents_in, AreNext, AreShards, IsShardAt, IsShardOf, IsNetwork}
 use Rattle.wal_world.specs.declared.books.Books.{Books}
 use Rattle.wal_world.specs.declared.books.Books.TheVariants.{Serving, Moving}
+use Rattle.wal_world.specs.inside.Members.{members_of}
+use Rattle.wal_world.specs.declared.members.Members.{Members}
 use Rattle.wal_world.specs.declared.network.Network.{Network}
 
 -- the next committee has its shards while the epoch changes
@@ -45,19 +47,22 @@ place_below side n shards i k is there e same less =
 
 pub shard_is : {H : Type 0} (side : Side) (n : Network H) (shards : List ShardState) (i k : ℕ) (s : ShardState) → IsNetwork n → is_present side (world_of n) ≡ true
     → shards ≡ shards_of side n → k ≡ i → i < committee_size (ledger_of n.books).log.f → s ≡ slice_index_or shards k s
-    → IsShardAt (ledger_of n.books).log.f i s
+    → IsShardOf side n i s
 shard_is side n shards i k s is there e same less at =
     let P : List ShardState → Type 0 = λ xs. s ≡ slice_index_or xs k s in
     let Q : ℕ → Type 0 = λ j. s ≡ slice_index_or (shards_of side n) j s in
     let here : s ≡ slice_index_or (shards_of side n) i s = subst Q same (subst P e at) in
-    subst (IsShardAt (ledger_of n.books).log.f i) (sym here) ((side_shards side n is there).each i s less)
-
-pub shard_holds : {H : Type 0} (side : Side) (n : Network H) (shards : List ShardState) (i k : ℕ) (s : ShardState) → IsNetwork n → is_present side (world_of n) ≡ true
-    → shards ≡ shards_of side n → k ≡ i → i < committee_size (ledger_of n.books).log.f → s ≡ slice_index_or shards k s
-    → s.contents ≡ contents_of (side_of side (world_of n)) i
-shard_holds side n shards i k s is there e same less at =
-    let P : List ShardState → Type 0 = λ xs. s ≡ slice_index_or xs k s in
-    let Q : ℕ → Type 0 = λ j. s ≡ slice_index_or (shards_of side n) j s in
-    let count = (side_shards side n is there).count in
+    let are = side_shards side n is there in
+    let one : IsShardAt (ledger_of n.books).log.f i s = subst (IsShardAt (ledger_of n.books).log.f i) (sym here) (are.each i s less) in
+    let count = are.count in
     let R : List Contents → Type 0 = λ xs. s.contents ≡ slice_index_or xs i finmap.empty in
-    subst R (side_contents side n) (contents_at (shards_of side n) i s (omega (arith, less, count)) (subst Q same (subst P e at)))
+    record {
+      contents = subst R (side_contents side n) (contents_at (shards_of side n) i s (omega (arith, less, count)) here);
+      f = one.f_is;
+      index = one.index_is;
+      limit = one.limit_is;
+    }
+
+-- the shards that the members of a side have
+pub lent_shards : {H : Type 0} (side : Side) (n : Network H) (m : Members H) (shards : List ShardState) → shards ≡ m.shards.items → m ≡ members_of side n.sides → shards ≡ shards_of side n
+lent_shards side n m shards lent is = lent ∙ ap (λ (x : Members _). x.shards.items) is

@@ -25,7 +25,7 @@ use Rattle.wal_world.specs.declared.network.Network.{Network}
 use Rattle.wal_protocol.specs.Rules.{Rules}
 use Rattle.wal_theorem.specs.Instance.{SymbolReply, replies}
 use Rattle.wal_protocol.specs.Step.{AreReplies, IsReplyOf}
-use Rattle.wal_world.proofs.Shards.{shard_is, shard_holds}
+use Rattle.wal_world.proofs.Shards.{shard_is}
 
 pub own_held : (digest : List ℕ → List ℕ) (f g : ℕ) (id : BlobId) (c : Committee) (shard : ℕ) (contents : Contents) (r : Result (Option BlobMetadata) AllocError) → g ≡ f → contents ≡ contents_of c shard
     → IfOk r (λ o. IfSome o (λ m. IsOwnMetadata digest g id.0 (parts_at contents id) m)) → IfOk r (λ o. IfSome o (λ m. IsOwnMetadata digest f id.0 (held c shard id) m))
@@ -45,8 +45,9 @@ pub symbols_by : {H : Type 0} (side : Side) (n : Network H) (list : List ShardSt
     → (payloads : List (List ℕ)) × P shard (held (side_of side (world_of n)) shard id) payloads × (new.bytes ≡ flat_map (envelope shard) payloads)
 unfolding held
 symbols_by side n list shard k s id P old new count is there same place less at empty w =
-    let index : s.index ≡ shard = (shard_is side n list shard k s is there same place less at).index_is in
-    let contents : s.contents ≡ contents_of (side_of side (world_of n)) shard = shard_holds side n list shard k s is there same place less at in (
+    let of_side = shard_is side n list shard k s is there same place less at in
+    let index : s.index ≡ shard = of_side.index in
+    let contents : s.contents ≡ contents_of (side_of side (world_of n)) shard = of_side.contents in (
       w.0,
       subst (λ (m : Contents). P shard (parts_at m id) w.0) contents (subst (λ (i : ℕ). P i (parts_at s.contents id) w.0) index w.1),
       ap (λ (b : Buffer). b.bytes) w.2.written ∙ ap (λ (t : List ℕ). t ++ flat_map (envelope s.index) w.0) empty ∙ ap (λ (i : ℕ). flat_map (envelope i) w.0) index,

@@ -15,7 +15,8 @@ use Rattle.wal_protocol.specs.declared.first.First.TheVariants as first
 use Rattle.wal_protocol.specs.State.{World, Committee, answered, with_side, writing_side}
 use Rattle.wal_protocol.specs.Step.{AgreesWithFirst, Differs, IsWrite, WriteCollides, WriteStep, letters, stored_at}
 use Rattle.wal_theorem.specs.Instance.{rules_of}
-use Rattle.wal_world.specs.inside.Letters.{IsWritingCompared, PutsTo}
+use Rattle.wal_world.specs.inside.Letters.{PutsTo}
+use Rattle.wal_world.specs.inside.Replies.{IsCompared}
 use Rattle.wal_world.proofs.LetterLaws.{side_log}
 
 answers_same : (side : Side) (w : World) (c : Committee) → (with_side side w c).answers ≡ w.answers
@@ -45,7 +46,7 @@ put_clashes digest old new blob to id message side c here honest puts =
 -- the first completed answer is another one
 pub answer_differs : (digest : List ℕ → List ℕ) (old mid new : World) (blob to : List ℕ) (id : BlobId) (message : ℕ → List Frame) (side : Side) (c : Collision) → side ≡ writing_side old
     → (rules_of digest old.log.f).IsMessage old.format blob id message → PutsTo digest old side (letters old side message to) None mid
-    → IsWritingCompared digest mid id blob (Some c) new → IsCollision digest c.left c.right × WriteCollides (rules_of digest old.log.f) old blob to new
+    → IsCompared digest mid id (first.Written blob) (Some c) new → IsCollision digest c.left c.right × WriteCollides (rules_of digest old.log.f) old blob to new
 answer_differs digest old mid new blob to id message side c here honest puts compared =
     let at = there digest old mid blob to id message side None here honest puts in
     let write : IsWrite (rules_of digest old.log.f) old blob to id false = record { message = message; honest = honest; mid = at.mid; puts = at.puts } in
@@ -56,7 +57,7 @@ answer_differs digest old mid new blob to id message side c here honest puts com
 -- it is done
 pub write_done : (digest : List ℕ → List ℕ) (old mid new : World) (blob to : List ℕ) (id : BlobId) (message : ℕ → List Frame) (side : Side) (count : ℕ) → side ≡ writing_side old
     → (rules_of digest old.log.f).IsMessage old.format blob id message → PutsTo digest old side (letters old side message to) None mid
-    → IsWritingCompared digest mid id blob None new → count ≡ stored_at (rules_of digest new.log.f) new side message to id
+    → IsCompared digest mid id (first.Written blob) None new → count ≡ stored_at (rules_of digest new.log.f) new side message to id
     → WriteStep (rules_of digest old.log.f) old blob to id count new
 write_done digest old mid new blob to id message side count here honest puts compared counted =
     let at = there digest old mid blob to id message side None here honest puts in

@@ -1,7 +1,6 @@
 //! The first completed answer for a blob, and one that is not the same.
 
-ghost use Rattle.std.specs.Prelude.{◌≡◌, ◌≢◌, ◌↔◌, ◌≤◌, ℕ, List, Some, None, IsTrue, IfOk, length};
-ghost use Rattle.std.specs.FinMap as map;
+ghost use Rattle.std.specs.Prelude.{◌≡◌, ◌≢◌, ◌↔◌, ◌≤◌, Some, None, IsTrue, IfOk, IfSome, IfNone, length};
 ghost use Rattle.wal_shape.specs.declared.shape.Format.{Format};
 ghost use Rattle.wal_shape.specs.Shape.{most_bytes};
 ghost use Rattle.wal_tree.specs.Collision.{IsCollision};
@@ -20,54 +19,35 @@ use wal_protocol::First;
 use wal_shape::{BlobId, Collision, Format, Shape};
 use wal_tree::Hash32;
 
-/// Whether a verdict is these bytes.
-pub(crate) fn is_blob(verdict: &Verdict, blob: &[u8]) -> bool
-    ensures { IsTrue result ↔ (verdict.now ≡ told.Bytes blob.now) }
+/// The bytes that a completed answer gives. It gives none where it is a rejection.
+fn bytes_of(answer: &First) -> Option<&[u8]>
+    ensures some { IfSome result (λ bytes. verdict_of answer.now ≡ told.Bytes bytes.now) }
+    ensures none { IfNone result (verdict_of answer.now ≡ told.Reject) }
 {
-    match verdict {
-        Verdict::Bytes(bytes) => bytes.as_slice() == blob,
-        Verdict::Reject => false,
-    }
-}
-
-/// Whether two verdicts are the same.
-pub(crate) fn is_same(a: &Verdict, b: &Verdict) -> bool
-    ensures { IsTrue result ↔ (a.now ≡ b.now) }
-{
-    match b {
-        Verdict::Bytes(bytes) => is_blob(a, bytes.as_slice()),
-        Verdict::Reject => match a {
-            Verdict::Bytes(_) => false,
-            Verdict::Reject => true,
+    match answer {
+        First::Judged(_, verdict) => match verdict {
+            Verdict::Bytes(bytes) => Some(bytes.as_slice()),
+            Verdict::Reject => None,
         },
+        First::Written(bytes) => Some(bytes.as_slice()),
     }
 }
 
-/// Whether the first completed answer gives these bytes.
-pub(crate) fn gives_blob(first: &First, blob: &[u8]) -> bool
-    ensures { IsTrue result ↔ (verdict_of first.now ≡ told.Bytes blob.now) }
+/// Whether two completed answers give the same.
+fn agree(a: &First, b: &First) -> bool
+    ensures { IsTrue result ↔ (verdict_of a.now ≡ verdict_of b.now) }
 {
-    match first {
-        First::Judged(_, verdict) => is_blob(verdict, blob),
-        First::Written(bytes) => bytes.as_slice() == blob,
-    }
-}
-
-/// Whether the first completed answer gives this verdict.
-pub(crate) fn gives(first: &First, verdict: &Verdict) -> bool
-    ensures { IsTrue result ↔ (verdict_of first.now ≡ verdict.now) }
-{
-    match first {
-        First::Judged(_, other) => is_same(other, verdict),
-        First::Written(bytes) => match verdict {
-            Verdict::Bytes(other) => bytes.as_slice() == other.as_slice(),
-            Verdict::Reject => false,
+    match bytes_of(a) {
+        Some(bytes) => match bytes_of(b) {
+            Some(other) => bytes == other,
+            None => false,
         },
+        None => bytes_of(b).is_none(),
     }
 }
 
 /// The shape of a blob that is not too long.
-pub(crate) fn shape_of(f: u32, format: Format, blob: &[u8]) -> Shape
+fn shape_of(f: u32, format: Format, blob: &[u8]) -> Shape
     requires some { 1 ≤ f }
     requires few { f ≤ 333 }
     requires long { length blob.now ≤ most_bytes }
@@ -103,69 +83,96 @@ fn shape_for<H: Hash32>(
 /// Two texts with one digest, from a blob and evidence for its identifier with another verdict.
 fn collide_evidence<H: Hash32>(
     alloc: Global,
-    shape: &Shape,
-    blob: &[u8],
+    f: u32,
     id: &BlobId,
+    blob: &[u8],
     e: &Evidence,
     verdict_on: &Verdict,
 ) -> Result<Collision, AllocError>
-    requires fits { length blob.now ≡ shape.now.length }
-    requires identifier { IsIdentifierOf H.digest shape.now.format shape.now.f blob.now id.now.0 }
+    requires some { 1 ≤ f }
+    requires few { f ≤ 333 }
+    requires identifier { (format : Format) × IsIdentifierOf H.digest format f blob.now id.now.0 }
     requires evidence { IsEvidence H.digest id.now.0 e.now }
     requires judged { IsJudgedBy H.digest e.now.metadata e.now.basis verdict_on.now }
     requires differ { verdict_on.now ≢ told.Bytes blob.now }
     ensures { IfOk result (λ c. IsCollision H.digest c.left c.right) }
 {
+    let shape = shape_for::<H>(alloc, f, blob, id)?;
     let mut work = Work::create(alloc, e.metadata.view().f())?;
     let _only = verdict::<H>(alloc, &mut work, e)?;
-    blob_and_evidence::<H>(alloc, shape, blob, e)
+    blob_and_evidence::<H>(alloc, &shape, blob, e)
 }
 
-/// Two texts with one digest, from a blob and a first completed answer that gives another one.
-pub(crate) fn collide_blob<H: Hash32>(
-    alloc: Global,
-    shape: &Shape,
-    blob: &[u8],
-    id: &BlobId,
-    first: &First,
-) -> Result<Collision, AllocError>
-    requires fits { length blob.now ≡ shape.now.length }
-    requires identifier { IsIdentifierOf H.digest shape.now.format shape.now.f blob.now id.now.0 }
-    requires backed { IsBackedBy H.digest shape.now.f id.now first.now }
-    requires differ { verdict_of first.now ≢ told.Bytes blob.now }
-    ensures { IfOk result (λ c. IsCollision H.digest c.left c.right) }
-{
-    match first {
-        First::Judged(e, told) => collide_evidence::<H>(alloc, shape, blob, id, e, told),
-        First::Written(bytes) => {
-            let other = shape_for::<H>(alloc, shape.f(), bytes.as_slice(), id)?;
-            blobs::<H>(alloc, shape, blob, &other, bytes.as_slice())
-        }
-    }
-}
-
-/// Two texts with one digest, from evidence and a first completed answer with another verdict.
-pub(crate) fn collide_judged<H: Hash32>(
+/// Two texts with one digest, from two blobs of one identifier.
+fn collide_blobs<H: Hash32>(
     alloc: Global,
     f: u32,
     id: &BlobId,
-    e: &Evidence,
-    verdict_on: &Verdict,
-    first: &First,
+    a: &[u8],
+    b: &[u8],
 ) -> Result<Collision, AllocError>
     requires some { 1 ≤ f }
     requires few { f ≤ 333 }
-    requires evidence { IsEvidence H.digest id.now.0 e.now }
-    requires judged { IsJudgedBy H.digest e.now.metadata e.now.basis verdict_on.now }
-    requires backed { IsBackedBy H.digest f id.now first.now }
-    requires differ { verdict_of first.now ≢ verdict_on.now }
+    requires one { (format : Format) × IsIdentifierOf H.digest format f a.now id.now.0 }
+    requires other { (format : Format) × IsIdentifierOf H.digest format f b.now id.now.0 }
+    requires differ { a.now ≢ b.now }
     ensures { IfOk result (λ c. IsCollision H.digest c.left c.right) }
 {
-    match first {
-        First::Judged(other, _) => evidences::<H>(alloc, other, e),
-        First::Written(bytes) => {
-            let shape = shape_for::<H>(alloc, f, bytes.as_slice(), id)?;
-            collide_evidence::<H>(alloc, &shape, bytes.as_slice(), id, e, verdict_on)
-        }
+    let left = shape_for::<H>(alloc, f, a, id)?;
+    let right = shape_for::<H>(alloc, f, b, id)?;
+    blobs::<H>(alloc, &left, a, &right, b)
+}
+
+/// Two texts with one digest, from two completed answers that give different ones.
+fn collide<H: Hash32>(
+    alloc: Global,
+    f: u32,
+    id: &BlobId,
+    a: &First,
+    b: &First,
+) -> Result<Collision, AllocError>
+    requires some { 1 ≤ f }
+    requires few { f ≤ 333 }
+    requires one { IsBackedBy H.digest f id.now a.now }
+    requires other { IsBackedBy H.digest f id.now b.now }
+    requires differ { verdict_of a.now ≢ verdict_of b.now }
+    ensures { IfOk result (λ c. IsCollision H.digest c.left c.right) }
+{
+    match a {
+        First::Judged(e, told) => match b {
+            First::Judged(other, _) => evidences::<H>(alloc, e, other),
+            First::Written(bytes) => {
+                collide_evidence::<H>(alloc, f, id, bytes.as_slice(), e, told)
+            }
+        },
+        First::Written(bytes) => match b {
+            First::Judged(e, told) => {
+                collide_evidence::<H>(alloc, f, id, bytes.as_slice(), e, told)
+            }
+            First::Written(other) => {
+                collide_blobs::<H>(alloc, f, id, bytes.as_slice(), other.as_slice())
+            }
+        },
     }
+}
+
+/// Compares a completed answer with the first one. The result is two texts with one digest where they give different ones.
+pub(crate) fn compare<H: Hash32>(
+    alloc: Global,
+    f: u32,
+    id: &BlobId,
+    first: &First,
+    answer: &First,
+) -> Result<Option<Collision>, AllocError>
+    requires some { 1 ≤ f }
+    requires few { f ≤ 333 }
+    requires one { IsBackedBy H.digest f id.now first.now }
+    requires other { IsBackedBy H.digest f id.now answer.now }
+    ensures same { IfOk result (λ o. IfNone o (verdict_of first.now ≡ verdict_of answer.now)) }
+    ensures collides { IfOk result (λ o. IfSome o (λ c. IsCollision H.digest c.left c.right × (verdict_of first.now ≢ verdict_of answer.now))) }
+{
+    if agree(first, answer) {
+        return Ok(None);
+    }
+    Ok(Some(collide::<H>(alloc, f, id, first, answer)?))
 }

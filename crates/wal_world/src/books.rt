@@ -9,6 +9,7 @@ ghost use Rattle.wal_shape.specs.Owners.{among};
 ghost use Rattle.wal_world.specs.declared.books.Books.TheVariants as states;
 ghost use Rattle.wal_world.specs.inside.Books.{AreBooks, IsBeginError, IsBegun, IsFinishError, IsFinished, books_with, faulty_on, ledger_of};
 
+use std::mem;
 use wal_epoch::{BeginError, Committee, FinishError, Moving, Serving};
 use wal_ledger::{AckAnswer, AttestAnswer, Ledger, ReadyAnswer, RegisterAnswer};
 use wal_shape::{BlobId, Side};
@@ -130,13 +131,6 @@ fn take_moving(books: &mut Option<Books>) -> Moving
     }
 }
 
-/// Puts a state in the place of what stands there.
-fn put_state(books: &mut Option<Books>, state: Books)
-    ensures { books.new ≡ Some state }
-{
-    *books = Some(state);
-}
-
 /// Begins to change the epoch.
 pub(crate) fn begin_in(books: &mut Option<Books>, committee: Committee) -> Result<(), BeginError>
     requires books { AreBooks books.old }
@@ -148,11 +142,11 @@ pub(crate) fn begin_in(books: &mut Option<Books>, committee: Committee) -> Resul
     match take_serving(books).begin(committee) {
         Ok(moving) => {
             moving.ledger();
-            put_state(books, Books::Moving(moving));
+            drop(mem::replace(books, Some(Books::Moving(moving))));
             Ok(())
         }
         Err((serving, error)) => {
-            put_state(books, Books::Serving(serving));
+            drop(mem::replace(books, Some(Books::Serving(serving))));
             Err(error)
         }
     }
@@ -169,11 +163,11 @@ pub(crate) fn finish_in(books: &mut Option<Books>) -> Result<(), FinishError>
     match take_moving(books).finish() {
         Ok(serving) => {
             serving.ledger();
-            put_state(books, Books::Serving(serving));
+            drop(mem::replace(books, Some(Books::Serving(serving))));
             Ok(())
         }
         Err((moving, error)) => {
-            put_state(books, Books::Moving(moving));
+            drop(mem::replace(books, Some(Books::Moving(moving))));
             Err(error)
         }
     }

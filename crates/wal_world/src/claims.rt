@@ -7,10 +7,11 @@ ghost use Rattle.wal_ledger.specs.Shards.{committee_size};
 ghost use Rattle.wal_ledger.specs.declared.entry.Kind.{Kind};
 ghost use Rattle.wal_ledger.specs.declared.entry.Kind.TheVariants.{Denies, Holds};
 ghost use Rattle.wal_shape.specs.declared.axis.Side.TheVariants.{Next};
+ghost use Rattle.wal_shape.specs.declared.metadata.BlobId.{BlobId};
 ghost use Rattle.wal_shard.specs.Vouching.{backs};
 ghost use Rattle.wal_world.specs.inside.Network.{IsNetwork, capacity_of, spare_of, world_of};
 ghost use Rattle.wal_protocol.specs.inside.Saying.{Says};
-ghost use Rattle.wal_protocol.specs.State.{held, side_of, writing_side};
+ghost use Rattle.wal_protocol.specs.State.{World, held, side_of, writing_side};
 ghost use Rattle.wal_protocol.specs.Step.{AckStep, AttestStep, Declines, MayPost};
 
 use crate::books::{ack_in, attest_in};
@@ -20,6 +21,34 @@ use wal_ledger::{AckAnswer, AttestAnswer, Kind};
 use wal_protocol::Said;
 use wal_shape::BlobId;
 use wal_tree::Hash32;
+
+/// The word of an acknowledgement, by what came of it.
+fn acked(said: Said) -> AckWord
+    ensures { (old new : World) (shard : ℕ) (id : BlobId) → Says Holds old shard id said new → AckStep old shard id result new }
+{
+    match said {
+        Said::Unregistered => AckWord::Unregistered,
+        Said::Expires => AckWord::Expires,
+        Said::Declined => AckWord::Declined,
+        Said::Already => AckWord::Already,
+        Said::Counted(count) => AckWord::Counted(count),
+        Said::Quorum(count) => AckWord::Certified(count),
+    }
+}
+
+/// The word of an attestation, by what came of it.
+fn attested(said: Said) -> AttestWord
+    ensures { (old new : World) (shard : ℕ) (id : BlobId) → Says Denies old shard id said new → AttestStep old shard id result new }
+{
+    match said {
+        Said::Unregistered => AttestWord::Unregistered,
+        Said::Expires => AttestWord::Expires,
+        Said::Declined => AttestWord::Declined,
+        Said::Already => AttestWord::Already,
+        Said::Counted(count) => AttestWord::Counted(count),
+        Said::Quorum(count) => AttestWord::Invalid(count),
+    }
+}
 
 impl<H: Hash32> Network<H> {
     /// Whether the ledger takes words on a blob.
@@ -42,7 +71,7 @@ impl<H: Hash32> Network<H> {
     }
 
     /// Whether one node runs both shards of the writing side.
-    fn writes_with(&self, shard: u16, other: u16) -> bool
+    pub(crate) fn writes_with(&self, shard: u16, other: u16) -> bool
         requires network { IsNetwork self.now }
         requires shard { shard < committee_size (world_of self.now).log.f }
         requires other { other < committee_size (world_of self.now).log.f }
@@ -165,14 +194,7 @@ impl<H: Hash32> Network<H> {
         ensures spare { spare_of self.old ≤ spare_of self.new + 1 }
         ensures capacity { capacity_of self.new ≡ capacity_of self.old }
     {
-        match self.say(Kind::Holds, shard, id) {
-            Said::Unregistered => AckWord::Unregistered,
-            Said::Expires => AckWord::Expires,
-            Said::Declined => AckWord::Declined,
-            Said::Already => AckWord::Already,
-            Said::Counted(count) => AckWord::Counted(count),
-            Said::Quorum(count) => AckWord::Certified(count),
-        }
+        acked(self.say(Kind::Holds, shard, id))
     }
 
     /// An attestation by a shard of the writing side.
@@ -185,13 +207,6 @@ impl<H: Hash32> Network<H> {
         ensures spare { spare_of self.old ≤ spare_of self.new + 1 }
         ensures capacity { capacity_of self.new ≡ capacity_of self.old }
     {
-        match self.say(Kind::Denies, shard, id) {
-            Said::Unregistered => AttestWord::Unregistered,
-            Said::Expires => AttestWord::Expires,
-            Said::Declined => AttestWord::Declined,
-            Said::Already => AttestWord::Already,
-            Said::Counted(count) => AttestWord::Counted(count),
-            Said::Quorum(count) => AttestWord::Invalid(count),
-        }
+        attested(self.say(Kind::Denies, shard, id))
     }
 }

@@ -1,7 +1,8 @@
 //! The first network: an empty ledger, and shards that hold nothing.
 
-ghost use Rattle.std.specs.Prelude.{◌≡◌, ◌≤◌, IfOk, length, nat_le};
+ghost use Rattle.std.specs.Prelude.{◌≡◌, ◌≤◌, [], IfOk, length, nat_le};
 ghost use Rattle.std.specs.FinMap as finmap;
+ghost use Rattle.wal_shard.specs.Replying.{room_of};
 ghost use Rattle.wal_world.specs.inside.Creating.{CreatesNetwork, IsFresh};
 ghost use Rattle.wal_world.specs.inside.Network.{shards_with};
 
@@ -33,6 +34,24 @@ fn empty_shards<H: Hash32>(alloc: Global, f: u32) -> Result<Vec<Shard<H, MapKeep
     Ok(shards)
 }
 
+/// The shards of a committee, each of which holds nothing, and the tables and the buffer of the calls on them.
+fn empty_rooms<H: Hash32>(
+    alloc: Global,
+    f: u32,
+) -> Result<(Vec<Shard<H, MapKeep>>, Work, OutBuf), AllocError>
+    requires some { 1 ≤ f }
+    requires few { f ≤ 333 }
+    ensures shards { IfOk result (λ r. r.0.items ≡ shards_with f (λ s. finmap.empty)) }
+    ensures work { IfOk result (λ r. r.1.f ≡ f) }
+    ensures empty { IfOk result (λ r. r.2.bytes ≡ []) }
+    ensures spare { IfOk result (λ r. r.2.spare ≡ room_of f) }
+{
+    let work = Work::create(alloc, f)?;
+    let buffer = OutBuf::create(alloc, reply_room(f))?;
+    let shards = empty_shards(alloc, f)?;
+    Ok((shards, work, buffer))
+}
+
 impl<H: Hash32> Network<H> {
     /// A network with this ledger, in which nothing is held, and whether the committee has at most f faulty
     /// shards.
@@ -46,20 +65,19 @@ impl<H: Hash32> Network<H> {
     {
         let f = serving.f();
         serving.ledger();
+        let (shards, work, buffer) = empty_rooms::<H>(alloc, f)?;
         Ok(Network {
             format,
             few,
             sides: Sides {
-                serving: Members {
-                    shards: empty_shards(alloc, f)?,
-                },
+                serving: Members { shards },
                 next: Members {
                     shards: Vec::new(alloc),
                 },
             },
             answers: BTreeMap::new(alloc),
-            work: Work::create(alloc, f)?,
-            buffer: OutBuf::create(alloc, reply_room(f))?,
+            work,
+            buffer,
             books: Some(Books::Serving(serving)),
         })
     }

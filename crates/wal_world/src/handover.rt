@@ -3,10 +3,10 @@
 ghost use Rattle.std.specs.Prelude.{◌≡◌, ◌↔◌, ℕ, ◌+◌, ◌<◌, ◌≤◌, IfOk, IsTrue, None, OnOk, true, false, [], ◌&&◌, cond, length, map, nat_le};
 ghost use Rattle.std.specs.FinMap as finmap;
 ghost use Rattle.wal_epoch.specs.Moves.{MayBegin};
-ghost use Rattle.wal_ledger.specs.Ledger.{is_moving, owners_of, reading, same_node};
+ghost use Rattle.wal_ledger.specs.Ledger.{is_moving, reading};
 ghost use Rattle.wal_ledger.specs.Shards.{committee_size};
 ghost use Rattle.wal_shape.specs.Owners.{among, is_ascending, is_committee, node_of};
-ghost use Rattle.wal_shape.specs.declared.axis.Side.TheVariants.{Next, Now};
+ghost use Rattle.wal_shape.specs.declared.axis.Side.TheVariants.{Now};
 ghost use Rattle.wal_world.specs.inside.Books.{AreBooks, IsBegun, IsFinished, ledger_of};
 ghost use Rattle.wal_world.specs.inside.Network.{IsNetwork, capacity_of, dropped, shard_with, shards_with, spare_of, world_of};
 ghost use Rattle.wal_protocol.specs.State.{contents_of, side_of};
@@ -184,18 +184,6 @@ impl<H: Hash32> Network<H> {
         self.shard(Side::Next, shard).ready(self.ledger())
     }
 
-    /// Whether one node runs both shards of the next committee.
-    fn serves_with(&self, shard: u16, other: u16) -> bool
-        requires network { IsNetwork self.now }
-        requires moving { is_moving (world_of self.now).log ≡ true }
-        requires shard { shard < committee_size (world_of self.now).log.f }
-        requires other { other < committee_size (world_of self.now).log.f }
-        ensures { result ≡ same_node (owners_of Next (world_of self.now).log) shard other }
-    {
-        let ledger = self.ledger();
-        ledger.node(Side::Next, shard) == ledger.node(Side::Next, other)
-    }
-
     /// Whether the node of a shard may say that it is ready: the shard is faulty, or each shard of the node
     /// holds all that it must.
     fn may_be_ready(&self, shard: u16) -> bool
@@ -209,7 +197,7 @@ impl<H: Hash32> Network<H> {
             return true;
         }
         for other in 0..self.size() {
-            if self.serves_with(shard, other) && !self.holds_all(other) {
+            if self.writes_with(shard, other) && !self.holds_all(other) {
                 return false;
             }
         }

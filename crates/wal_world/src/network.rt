@@ -1,11 +1,11 @@
 //! The network: the ledger, what the shards of each committee hold, and the first completed answers.
 
-ghost use Rattle.std.specs.Prelude.{◌≡◌, ◌<◌, ◌≤◌, None, true};
+ghost use Rattle.std.specs.Prelude.{◌≡◌, ◌<◌, ◌≤◌, true};
 ghost use Rattle.wal_ledger.specs.Shards.{committee_size};
 ghost use Rattle.wal_shape.specs.Owners.{among};
-ghost use Rattle.wal_protocol.specs.State.{side_of, is_present, is_correct, writing_side, contents_of};
+ghost use Rattle.wal_protocol.specs.State.{side_of, is_present, is_correct, writing_side};
 ghost use Rattle.wal_world.specs.inside.Books.{ledger_of};
-ghost use Rattle.wal_world.specs.inside.Network.{IsNetwork, world_of, shards_of};
+ghost use Rattle.wal_world.specs.inside.Network.{IsNetwork, IsShardOf, world_of};
 
 use crate::books::{Books, faulty_in, ledger_in};
 use crate::members::Sides;
@@ -99,24 +99,14 @@ impl<H: Hash32> Network<H> {
         self.present(side) && !self.faulty(side, shard)
     }
 
-    /// Lends the shards of a side.
-    pub(crate) fn shards(&self, side: Side) -> &[Shard<H, MapKeep>]
-        requires { IsNetwork self.now }
-        ensures { result.now ≡ shards_of side self.now }
-    {
-        &self.sides.of(side).shards
-    }
-
     /// Lends a shard of a side.
     pub(crate) fn shard(&self, side: Side, shard: u16) -> &Shard<H, MapKeep>
         requires network { IsNetwork self.now }
         requires present { is_present side (world_of self.now) ≡ true }
         requires shard { shard < committee_size (world_of self.now).log.f }
-        ensures contents { result.now.contents ≡ contents_of (side_of side (world_of self.now)) shard }
-        ensures f { result.now.f ≡ (world_of self.now).log.f }
-        ensures index { result.now.index ≡ shard }
-        ensures limit { result.now.limit ≡ None }
+        ensures { IsShardOf side self.now shard result.now }
     {
-        &self.shards(side)[usize::from(shard)]
+        let shards = self.sides.of(side).shards.as_slice();
+        &shards[usize::from(shard)]
     }
 }

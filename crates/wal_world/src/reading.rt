@@ -1,9 +1,7 @@
 //! A reader has replies, and what they come to is compared with the first completed answer.
 
-ghost use Rattle.std.specs.Prelude.{◌≡◌, ◌≢◌, ℕ, ◌+◌, ◌<◌, ◌≤◌, ◌++◌, List, [], Some, true, IfOk, OnOk, length};
-ghost use Rattle.std.specs.FinMap as map;
+ghost use Rattle.std.specs.Prelude.{◌≡◌, ℕ, ◌+◌, ◌<◌, ◌≤◌, ◌++◌, List, [], Some, true, IfOk, OnOk, length};
 ghost use Rattle.std.specs.List.{flat_map};
-ghost use Rattle.wal_shape.specs.declared.metadata.BlobId.{BlobId};
 ghost use Rattle.wal_ledger.specs.Shards.{committee_size};
 ghost use Rattle.wal_evidence.specs.Evidence.{IsEvidence, IsJudgedBy};
 ghost use Rattle.wal_evidence.specs.declared.evidence.Verdict.TheVariants as told;
@@ -12,15 +10,15 @@ ghost use Rattle.wal_event.specs.Event.{IsReply, AreRepliesWithin};
 ghost use Rattle.wal_frame.specs.Frame.{envelope};
 ghost use Rattle.wal_shard.specs.Holding.{read_reply_of};
 ghost use Rattle.wal_reader.specs.Outcome.{HasEvidence, IsOutcome};
-ghost use Rattle.wal_protocol.specs.declared.first.First.{First};
+ghost use Rattle.wal_protocol.specs.declared.first.First.TheVariants.{Judged};
 ghost use Rattle.wal_protocol.specs.State.{held, side_of, is_present};
-ghost use Rattle.wal_theorem.specs.Instance.{rules_of};
+ghost use Rattle.wal_theorem.specs.Instance.{IsBackedBy, rules_of};
 ghost use Rattle.wal_world.specs.inside.Network.{IsNetwork, world_of};
-ghost use Rattle.wal_world.specs.inside.Replies.{CollidesOn, IsCompared, IsLike, IsTold, ReadsOn};
+ghost use Rattle.wal_world.specs.inside.Replies.{AreBacked, CollidesOn, IsCompared, IsLike, IsTold, ReadsOn};
 ghost use Rattle.wal_protocol.specs.Step.{ReadStep, ReadCollides, reply_payloads, read_payloads};
 ghost use Rattle.wal_world.specs.inside.Taken.{IsTaken};
 
-use crate::answering::{collide_judged, gives};
+use crate::answering::compare;
 use crate::network::Network;
 use crate::taken::{Taken, clash_texts};
 use std::alloc::{AllocError, Global};
@@ -146,33 +144,55 @@ impl<H: Hash32> Network<H> {
         Ok(Payloads::from_vec(payloads))
     }
 
-    /// Compares a verdict with the first completed answer, which it is where there is none. The result is two texts with one
-    /// digest where the first answer is another one.
-    fn complete(
+    /// Compares a completed answer with the first one, which it is where there is none. The result is two texts with one
+    /// digest where the first one gives another one.
+    pub(crate) fn complete(
         &mut self,
         alloc: Global,
         id: &BlobId,
-        e: Evidence,
-        told: Verdict,
+        answer: First,
     ) -> Result<Option<Collision>, AllocError>
         requires network { IsNetwork self.old }
-        requires backed { (q : BlobId) (a : First) → map.get (world_of self.old).answers q ≡ Some a → (rules_of H.digest (world_of self.old).log.f).IsBacked q a }
-        requires evidence { IsEvidence H.digest id.now.0 e }
-        requires judged { IsJudgedBy H.digest e.metadata e.basis told }
+        requires backed { AreBacked H.digest (world_of self.old) }
+        requires answer { IsBackedBy H.digest (world_of self.old).log.f id.now answer }
         ensures network { OnOk result (IsNetwork self.new) }
         ensures books { OnOk result (self.new.books ≡ self.old.books) }
-        ensures compared { IfOk result (λ clash. IsCompared H.digest (world_of self.old) id.now e told clash (world_of self.new)) }
+        ensures compared { IfOk result (λ clash. IsCompared H.digest (world_of self.old) id.now answer clash (world_of self.new)) }
     {
         let f = self.f();
         if let Some(first) = self.answers.get(id) {
-            if gives(first, &told) {
-                return Ok(None);
-            }
-            return Ok(Some(collide_judged::<H>(alloc, f, id, &e, &told, first)?));
+            let clash = compare::<H>(alloc, f, id, first, &answer);
+            drop(answer);
+            return clash;
         }
-        match self.answers.insert(*id, First::Judged(e, told)) {
-            Ok(_) => Ok(None),
+        match self.answers.insert(*id, answer) {
+            Ok(old) => {
+                drop(old);
+                Ok(None)
+            }
             Err(_) => Err(AllocError),
+        }
+    }
+
+    /// The word of a read that completed with this answer.
+    fn read_answer(
+        &mut self,
+        alloc: Global,
+        id: &BlobId,
+        answer: First,
+        word: ReadWord,
+    ) -> Result<Taken<ReadWord>, AllocError>
+        requires network { IsNetwork self.old }
+        requires backed { AreBacked H.digest (world_of self.old) }
+        requires answer { IsBackedBy H.digest (world_of self.old).log.f id.now answer }
+        ensures network { OnOk result (IsNetwork self.new) }
+        ensures books { OnOk result (self.new.books ≡ self.old.books) }
+        ensures word { IfOk result (IsTold H.digest (world_of self.old) id.now answer word (world_of self.new)) }
+    {
+        match self.complete(alloc, id, answer) {
+            Ok(Some(clash)) => Ok(Taken::Collision(clash)),
+            Ok(None) => Ok(Taken::Word(word)),
+            Err(e) => Err(e),
         }
     }
 
@@ -185,41 +205,16 @@ impl<H: Hash32> Network<H> {
         bytes: Bytes,
     ) -> Result<Taken<ReadWord>, AllocError>
         requires network { IsNetwork self.old }
-        requires backed { (q : BlobId) (a : First) → map.get (world_of self.old).answers q ≡ Some a → (rules_of H.digest (world_of self.old).log.f).IsBacked q a }
+        requires backed { AreBacked H.digest (world_of self.old) }
         requires evidence { IsEvidence H.digest id.now.0 e }
         requires judged { IsJudgedBy H.digest e.metadata e.basis (told.Bytes bytes) }
         ensures network { OnOk result (IsNetwork self.new) }
         ensures books { OnOk result (self.new.books ≡ self.old.books) }
-        ensures word { IfOk result (IsTold H.digest (world_of self.old) id.now e (told.Bytes bytes) (reading.Bytes bytes) (world_of self.new)) }
+        ensures word { IfOk result (IsTold H.digest (world_of self.old) id.now (Judged e (told.Bytes bytes)) (reading.Bytes bytes) (world_of self.new)) }
     {
         let copy = bytes.duplicate(alloc)?;
-        match self.complete(alloc, id, e, Verdict::Bytes(copy)) {
-            Ok(Some(clash)) => Ok(Taken::Collision(clash)),
-            Ok(None) => Ok(Taken::Word(ReadWord::Bytes(bytes))),
-            Err(e) => Err(e),
-        }
-    }
-
-    /// The word of a read that gave a rejection.
-    fn read_reject(
-        &mut self,
-        alloc: Global,
-        id: &BlobId,
-        e: Evidence,
-    ) -> Result<Taken<ReadWord>, AllocError>
-        requires network { IsNetwork self.old }
-        requires backed { (q : BlobId) (a : First) → map.get (world_of self.old).answers q ≡ Some a → (rules_of H.digest (world_of self.old).log.f).IsBacked q a }
-        requires evidence { IsEvidence H.digest id.now.0 e }
-        requires judged { IsJudgedBy H.digest e.metadata e.basis told.Reject }
-        ensures network { OnOk result (IsNetwork self.new) }
-        ensures books { OnOk result (self.new.books ≡ self.old.books) }
-        ensures word { IfOk result (IsTold H.digest (world_of self.old) id.now e told.Reject reading.Reject (world_of self.new)) }
-    {
-        match self.complete(alloc, id, e, Verdict::Reject) {
-            Ok(Some(clash)) => Ok(Taken::Collision(clash)),
-            Ok(None) => Ok(Taken::Word(ReadWord::Reject)),
-            Err(e) => Err(e),
-        }
+        let answer = First::Judged(e, Verdict::Bytes(copy));
+        self.read_answer(alloc, id, answer, ReadWord::Bytes(bytes))
     }
 
     /// The word of what a read came to.
@@ -231,7 +226,7 @@ impl<H: Hash32> Network<H> {
         answer: ReadAnswer,
     ) -> Result<Taken<ReadWord>, AllocError>
         requires network { IsNetwork self.old }
-        requires backed { (q : BlobId) (a : First) → map.get (world_of self.old).answers q ≡ Some a → (rules_of H.digest (world_of self.old).log.f).IsBacked q a }
+        requires backed { AreBacked H.digest (world_of self.old) }
         requires outcome { IsOutcome H.digest id.now.0 payloads.now answer.outcome }
         requires evidence { HasEvidence H.digest id.now.0 payloads.now answer.outcome answer.evidence }
         ensures network { OnOk result (IsNetwork self.new) }
@@ -242,7 +237,10 @@ impl<H: Hash32> Network<H> {
     {
         match (answer.outcome, answer.evidence) {
             (Outcome::Bytes(bytes), Some(e)) => self.read_bytes(alloc, id, e, bytes),
-            (Outcome::Reject, Some(e)) => self.read_reject(alloc, id, e),
+            (Outcome::Reject, Some(e)) => {
+                let answer = First::Judged(e, Verdict::Reject);
+                self.read_answer(alloc, id, answer, ReadWord::Reject)
+            }
             (Outcome::Short { have, need }, _) => Ok(Taken::Word(ReadWord::Short { have, need })),
             (Outcome::NoMetadata, _) => Ok(Taken::Word(ReadWord::NoMetadata)),
             (Outcome::Collision(clash), _) => Ok(Taken::Collision(clash_texts(alloc, &clash)?)),
@@ -258,7 +256,7 @@ impl<H: Hash32> Network<H> {
         replies: &[Reply],
     ) -> Result<Taken<ReadWord>, AllocError>
         requires network { IsNetwork self.old }
-        requires backed { (q : BlobId) (a : First) → map.get (world_of self.old).answers q ≡ Some a → (rules_of H.digest (world_of self.old).log.f).IsBacked q a }
+        requires backed { AreBacked H.digest (world_of self.old) }
         requires replies { AreRepliesWithin (committee_size (world_of self.old).log.f) replies.now }
         ensures network { OnOk result (IsNetwork self.new) }
         ensures books { OnOk result (self.new.books ≡ self.old.books) }

@@ -16,7 +16,7 @@ use wal_port::{Sink, WriteFault, put_all};
 use wal_tree::Hash32;
 
 /// How a replay ends.
-#[derive(Clone, Copy, Debug, PartialEq, Eq, Drop)]
+#[derive(Clone, Copy, Drop)]
 pub enum ReplayEnd {
     /// Every event was taken.
     Whole,
@@ -25,7 +25,7 @@ pub enum ReplayEnd {
 }
 
 /// Why a replay broke off.
-#[derive(Clone, Copy, Debug, PartialEq, Eq, Drop)]
+#[derive(Clone, Copy, Drop)]
 pub enum ReplayError {
     /// A write failed.
     WriteFault,
@@ -141,5 +141,7 @@ pub fn replay<H: Hash32, K: Sink>(
     ensures later { K.faults sink.old ≤ K.faults sink.new }
 {
     let mut world = world_before::<H>(alloc, schedule)?;
-    take_events(alloc, &mut world, schedule, sink)
+    let end = take_events(alloc, &mut world, schedule, sink);
+    drop(world);
+    end
 }

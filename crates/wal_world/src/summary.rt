@@ -17,7 +17,7 @@ use wal_shape::Collision;
 use wal_tree::Hash32;
 
 /// How often each thing was told in a run.
-#[derive(Clone, Copy, Debug, PartialEq, Eq, Drop)]
+#[derive(Clone, Copy, Drop)]
 pub struct Summary {
     /// The number of events.
     pub events: u32,
@@ -34,7 +34,7 @@ pub struct Summary {
 }
 
 /// What a run comes to.
-#[derive(Debug, Drop)]
+#[derive(Drop)]
 pub enum Summed {
     /// Every event was taken.
     Whole(Summary),
@@ -97,5 +97,7 @@ pub fn summarize<H: Hash32>(alloc: Global, schedule: &Schedule) -> Result<Summed
 {
     let mut world = world_before::<H>(alloc, schedule)?;
     let mut tally = Tally::create(alloc);
-    sum_events(alloc, &mut world, schedule, &mut tally)
+    let summed = sum_events(alloc, &mut world, schedule, &mut tally);
+    drop(world);
+    summed
 }

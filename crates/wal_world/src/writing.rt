@@ -1,41 +1,37 @@
 //! An honest writer writes a blob.
 
-ghost use Rattle.std.specs.Prelude.{◌≡◌, ◌<◌, ◌≤◌, ◌∷◌, ℕ, [], cond, map, filter, length, ◌&&◌, Some, IsTrue, is_some, true, IfOk, OnOk};
+ghost use Rattle.std.specs.Prelude.{◌≡◌, ◌<◌, ◌≤◌, ◌∷◌, ℕ, [], cond, length, ◌&&◌, Some, IsTrue, is_some, true, IfOk, OnOk};
 ghost use Rattle.std.specs.List.{AllByRecursion};
-ghost use Rattle.std.specs.FinMap as finmap;
-ghost use Rattle.wal_shape.specs.declared.metadata.BlobId.{BlobId};
 ghost use Rattle.wal_shape.specs.Owners.{is_ascending};
 ghost use Rattle.wal_shape.specs.Shape.{most_bytes};
-ghost use Rattle.wal_commit.specs.Identifier.{IsIdentifierOf};
 ghost use Rattle.wal_frame.specs.Frame.{IsFrame};
 ghost use Rattle.wal_frame.specs.Shown.{frame_shown};
 ghost use Rattle.wal_ledger.specs.Shards.{committee_size};
 ghost use Rattle.wal_store.specs.Contents.{part_at};
 ghost use Rattle.wal_shape.specs.declared.part.Part.TheVariants as parts;
 ghost use Rattle.wal_shard.specs.Putting.{CanBePut};
-ghost use Rattle.wal_writer.specs.Message.{IsMessageOf, messages_of};
-ghost use Rattle.wal_protocol.specs.declared.first.First.{First};
+ghost use Rattle.wal_writer.specs.Message.{messages_of};
 ghost use Rattle.wal_protocol.specs.State.{held, is_correct, is_present, side_of, writing_side};
 ghost use Rattle.wal_theorem.specs.Instance.{has_frames, rules_of};
 ghost use Rattle.wal_world.specs.inside.Network.{IsNetwork, world_of};
-ghost use Rattle.wal_world.specs.inside.Letters.{AreParts, IsWritingCompared, PutsTo, SpellsPart, TellsClash, addressed, frame_in, letters_in};
+ghost use Rattle.wal_world.specs.inside.Letters.{AreParts, IsStarted, PutsTo, SpellsPart, TellsClash, addressed, frame_in, letters_in};
+ghost use Rattle.wal_world.specs.inside.Replies.{AreBacked};
 ghost use Rattle.wal_protocol.specs.Step.{WriteCollides, WriteStep, letters, stored_at};
 ghost use Rattle.wal_world.specs.inside.Taken.{IsAnswered, IsTaken};
 
-use crate::answering::{collide_blob, gives_blob, shape_of};
 use crate::network::Network;
 use crate::taken::{Taken, clash_texts};
 use std::alloc::{AllocError, Global};
 use wal_frame::{FrameRef, read_frame};
 use wal_protocol::First;
-use wal_shape::{Axis, BlobId, Bytes, Collision, Format, Side};
+use wal_shape::{Axis, BlobId, Bytes, Collision, Side};
 use wal_shard::{PutAnswer, Shard};
 use wal_store::MapKeep;
 use wal_tree::Hash32;
 use wal_writer::{StartError, Write};
 
 /// What became of a blob that was written.
-#[derive(Clone, Copy, Debug)]
+#[derive(Clone, Copy)]
 pub(crate) struct Stored {
     /// The blob's identifier.
     pub(crate) id: BlobId,
@@ -52,28 +48,6 @@ fn frame_of(bytes: &[u8]) -> FrameRef<'_>
 {
     match read_frame(bytes) {
         Ok(frame) => frame,
-        Err(_) => unreachable!(),
-    }
-}
-
-/// Begins to write a blob, whose bounds are known to fit.
-fn start<H: Hash32>(
-    alloc: Global,
-    f: u32,
-    format: Format,
-    blob: &[u8],
-) -> Result<Write<H>, AllocError>
-    requires some { 1 ≤ f }
-    requires few { f ≤ 333 }
-    requires long { length blob.now ≤ most_bytes }
-    ensures message { IfOk result (λ w. IsMessageOf H.digest f format blob.now w.id (messages_of w)) }
-    ensures faults { IfOk result (λ w. w.metadata.f ≡ f) }
-    ensures parts { IfOk result (λ w. (shard : ℕ) → shard < committee_size f → AreParts w shard) }
-    ensures identifier { IfOk result (λ w. IsIdentifierOf H.digest format f blob.now w.id.0) }
-{
-    match Write::<H>::start(alloc, f, format, blob) {
-        Ok(write) => Ok(write),
-        Err(StartError::Memory) => Err(AllocError),
         Err(_) => unreachable!(),
     }
 }
@@ -201,36 +175,6 @@ impl<H: Hash32> Network<H> {
         Ok(None)
     }
 
-    /// Compares written bytes with the first completed answer, which they are where there is none. The result is two
-    /// texts with one digest where the first answer is another one.
-    fn complete_write(
-        &mut self,
-        alloc: Global,
-        id: &BlobId,
-        blob: &[u8],
-    ) -> Result<Option<Collision>, AllocError>
-        requires network { IsNetwork self.old }
-        requires backed { (q : BlobId) (a : First) → finmap.get (world_of self.old).answers q ≡ Some a → (rules_of H.digest (world_of self.old).log.f).IsBacked q a }
-        requires long { length blob.now ≤ most_bytes }
-        requires identifier { IsIdentifierOf H.digest (world_of self.old).format (world_of self.old).log.f blob.now id.now.0 }
-        ensures network { OnOk result (IsNetwork self.new) }
-        ensures books { OnOk result (self.new.books ≡ self.old.books) }
-        ensures compared { IfOk result (λ clash. IsWritingCompared H.digest (world_of self.old) id.now blob.now clash (world_of self.new)) }
-    {
-        let shape = shape_of(self.f(), self.format, blob);
-        if let Some(first) = self.answers.get(id) {
-            if gives_blob(first, blob) {
-                return Ok(None);
-            }
-            return Ok(Some(collide_blob::<H>(alloc, &shape, blob, id, first)?));
-        }
-        let copy = Bytes::from_vec(Vec::from_slice(alloc, blob)?);
-        match self.answers.insert(*id, First::Written(copy)) {
-            Ok(_) => Ok(None),
-            Err(_) => Err(AllocError),
-        }
-    }
-
     /// Whether a shard of a side is correct and holds what a writer sent to it.
     fn stores(&self, at: Side, shard: u16, write: &Write<H>) -> bool
         requires network { IsNetwork self.now }
@@ -264,6 +208,51 @@ impl<H: Hash32> Network<H> {
         count
     }
 
+    /// Begins to write a blob, whose bounds are known to fit.
+    fn start(&self, alloc: Global, blob: &[u8]) -> Result<Write<H>, AllocError>
+        requires network { IsNetwork self.now }
+        requires long { length blob.now ≤ most_bytes }
+        ensures { IfOk result (IsStarted H.digest (world_of self.now).log.f (world_of self.now).format blob.now) }
+    {
+        match Write::<H>::start(alloc, self.f(), self.format, blob) {
+            Ok(write) => Ok(write),
+            Err(StartError::Memory) => Err(AllocError),
+            Err(_) => unreachable!(),
+        }
+    }
+
+    /// Puts what a writer sends for a blob, and compares the blob with the first completed answer.
+    fn finish_write(
+        &mut self,
+        alloc: Global,
+        write: &Write<H>,
+        blob: &[u8],
+        to: &[u16],
+    ) -> Result<Taken<Stored>, AllocError>
+        requires network { IsNetwork self.old }
+        requires backed { AreBacked H.digest (world_of self.old) }
+        requires long { length blob.now ≤ most_bytes }
+        requires shards { IsTrue (is_ascending (committee_size (world_of self.old).log.f) to.now) }
+        requires started { IsStarted H.digest (world_of self.old).log.f (world_of self.old).format blob.now write.now }
+        ensures network { OnOk result (IsNetwork self.new) }
+        ensures books { OnOk result (self.new.books ≡ self.old.books) }
+        ensures step { IfOk result (IsTaken H.digest
+            (λ s. WriteStep (rules_of H.digest (world_of self.old).log.f) (world_of self.old) blob.now to.now s.id s.count (world_of self.new))
+            (WriteCollides (rules_of H.digest (world_of self.old).log.f) (world_of self.old) blob.now to.now (world_of self.new))) }
+    {
+        let at = self.writing_side();
+        if let Some(clash) = self.put_messages(alloc, at, write, to)? {
+            return Ok(Taken::Collision(clash));
+        }
+        let id = write.id();
+        let copy = Bytes::from_vec(Vec::from_slice(alloc, blob)?);
+        if let Some(clash) = self.complete(alloc, &id, First::Written(copy))? {
+            return Ok(Taken::Collision(clash));
+        }
+        let count = self.count_stored(at, write, to);
+        Ok(Taken::Word(Stored { id, count }))
+    }
+
     /// An honest writer writes a blob to these shards of the committee that takes new blobs.
     pub(crate) fn write(
         &mut self,
@@ -272,7 +261,7 @@ impl<H: Hash32> Network<H> {
         to: &[u16],
     ) -> Result<Taken<Stored>, AllocError>
         requires network { IsNetwork self.old }
-        requires backed { (q : BlobId) (a : First) → finmap.get (world_of self.old).answers q ≡ Some a → (rules_of H.digest (world_of self.old).log.f).IsBacked q a }
+        requires backed { AreBacked H.digest (world_of self.old) }
         requires long { length blob.now ≤ most_bytes }
         requires shards { IsTrue (is_ascending (committee_size (world_of self.old).log.f) to.now) }
         ensures network { OnOk result (IsNetwork self.new) }
@@ -281,16 +270,9 @@ impl<H: Hash32> Network<H> {
             (λ s. WriteStep (rules_of H.digest (world_of self.old).log.f) (world_of self.old) blob.now to.now s.id s.count (world_of self.new))
             (WriteCollides (rules_of H.digest (world_of self.old).log.f) (world_of self.old) blob.now to.now (world_of self.new))) }
     {
-        let write = start::<H>(alloc, self.f(), self.format, blob)?;
-        let at = self.writing_side();
-        if let Some(clash) = self.put_messages(alloc, at, &write, to)? {
-            return Ok(Taken::Collision(clash));
-        }
-        let id = write.id();
-        if let Some(clash) = self.complete_write(alloc, &id, blob)? {
-            return Ok(Taken::Collision(clash));
-        }
-        let count = self.count_stored(at, &write, to);
-        Ok(Taken::Word(Stored { id, count }))
+        let write = self.start(alloc, blob)?;
+        let written = self.finish_write(alloc, &write, blob, to);
+        drop(write);
+        written
     }
 }

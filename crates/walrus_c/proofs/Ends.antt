@@ -20,7 +20,7 @@ pub record HasRoom (digest : List ℕ → List ℕ) (c : Command) (count room : 
       → length text ≤ room
 
 -- a count that stays at 0 did not rise
-never : Rose 0 0 → ⊥
+pub never : Rose 0 0 → ⊥
 never (inl up) = omega (arith, up)
 never (inr last) = omega (arith, last)
 
@@ -33,11 +33,11 @@ taken_whole schedule limit left after input takes taken = taken
 taken_whole nothing limit left after input takes taken = absurd takes
 
 -- what was written behind what stood there
-behind : (before text all : List ℕ) (room : ℕ) → before ++ text ≡ before ++ all → length all ≤ room → length text ≤ room
+pub behind : (before text all : List ℕ) (room : ℕ) → before ++ text ≡ before ++ all → length all ≤ room → length text ≤ room
 behind before text all room e few = omega (arith, ap length (append_cancel_left before text all e), few)
 
 -- nothing was written
-untouched : (before text : List ℕ) (room : ℕ) → before ++ text ≡ before → length text ≤ room
+pub untouched : (before text : List ℕ) (room : ℕ) → before ++ text ≡ before → length text ≤ room
 untouched before text room e = omega (arith, ap length (append_cancel_left before text [] (e ∙ sym (append-nil before))))
 
 answer_short : (digest : List ℕ → List ℕ) (words : List (List ℕ)) (input rest : List ℕ) (task : Task) (room status : ℕ) (text : List ℕ) → IsTask words task

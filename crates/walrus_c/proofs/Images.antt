@@ -54,7 +54,7 @@ module _ (digest : List ℕ → List ℕ) (size_is : (text : List ℕ) → lengt
   unfolding identifier_of
   named n (Ok (Metadata m)) is = size_is _
   named n (Ok (Sliver id axis index bytes)) is = (is _ refl).0
-  named n (Ok (Proof id p)) is = is _ refl
+  named n (Ok (Proof id p)) is = (is _ refl).0
   named n (Ok (Opening id axis index o)) is = tt
   named n (Ok (Read id)) is = tt
   named n (Ok (Symbol id axis index)) is = tt

@@ -2,6 +2,8 @@ mod Calls
 mod Clashes
 mod Encodes
 mod Ends
+mod Fields
+mod Holdings
 mod Images
 mod Lengths
 mod Lines
@@ -9,9 +11,12 @@ mod Listings
 mod MemberTexts
 mod OpeningTexts
 mod Payloads
+mod RangeTexts
 mod Ranges
 mod ReadTexts
 mod RecoverTexts
 mod Rooms
+mod ServeTexts
+mod ServedTexts
 mod Splits
 mod Streams

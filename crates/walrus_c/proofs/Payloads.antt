@@ -1,67 +1,39 @@
 -- What a payload is read as lies within it, whatever numbers stand for its bytes, and so do the slivers of a stream within the stream.
-use Rattle.std.proofs.Common.{◌≡◌, ℕ, ◌+◌, ◌≤◌, Bool, true, false, cond, eqb, List, [], ◌∷◌, ◌++◌, length, Result, Ok, Err, refl, ap, subst, arith}
+use Rattle.std.proofs.Common.{◌≡◌, ℕ, ◌+◌, ◌≤◌, Bool, true, false, cond, eqb, List, [], ◌∷◌, ◌++◌, length, Result, Ok, Err, refl, sym, ap, ◌∙◌, subst, arith}
 use Rattle.std.specs.Prelude.{⊤, if◌then◌else◌}
-use Rattle.std.specs.Int.{Width, w8, w16, w32, byte_len}
-use Rattle.std.proofs.lemmas.List.{length-append, length-drop}
+use Rattle.std.specs.Int.{w8, w16, w32}
+use Rattle.std.proofs.lemmas.List.{length-append}
 use Rattle.wal_shape.specs.declared.axis.Axis.{Axis}
 use Rattle.wal_shape.specs.declared.axis.Axis.TheVariants.{Primary, Secondary}
 use Rattle.wal_shape.specs.Shape.{most_bytes}
-use Rattle.wal_shape.specs.FieldReading.{◌>>=◌, number_at, run_at}
+use Rattle.wal_shape.specs.Metadata.{IsMetadata}
+use Rattle.wal_shape.specs.EncodingProof.{IsProof}
+use Rattle.wal_shape.specs.Spelling.{metadata_text, proof_text}
+use Rattle.wal_shape.specs.FieldReading.{◌>>=◌}
 use Rattle.wal_shape.specs.MetadataReading.{spelled_metadata}
-use Rattle.wal_shape.proofs.BodyLaws as shape
 use Rattle.wal_shape.proofs.BodyLaws.{bind_ok, ok_is}
 use Rattle.wal_frame.specs.declared.frame.FrameError.{FrameError}
 use Rattle.wal_frame.specs.Frame.{Frame, Metadata, Sliver, Opening, Proof, Read, Symbol, Ack, Attest, Forget, Answer, Clash, RegisterEntry, AckEntry, AttestEntry, envelope}
-use Rattle.wal_frame.specs.Reading.{field_at, bytes_at, axis_at, target_with, target_at, text_at, roots_at, metadata_at, version_at, metadata2_at, sliver_at, opened_at, opening_at, bodies_at, proof_at, name_at, symbol_at, answer_at, clash_at, register_at, entry_at, ended, made, request_at, fields_at, read_of}
+use Rattle.wal_frame.specs.Reading.{field_at, bytes_at, target_at, text_at, roots_at, metadata_at, version_at, metadata2_at, sliver_at, opened_at, opening_at, bodies_at, proof_at, name_at, symbol_at, answer_at, clash_at, register_at, entry_at, ended, made, request_at, fields_at, read_of}
 use Rattle.wal_frame.specs.Stream.{IsStream}
-use Rattle.wal_frame.proofs.FieldLaws as field
-use Rattle.wal_frame.proofs.FieldLaws.{in_frame_ok, bytes_size, ended_ok, after_axis, after_index}
+use Rattle.wal_frame.proofs.FieldLaws.{ended_ok, field_most}
 use Rattle.wal_frame.proofs.KindLaws as kind
 use Rattle.wal_frame.proofs.KindLaws.{sliver_of_target, after_content, after_size, after_target, opening_of_target, after_body, after_place, proof_of_target, after_bodies, after_count, after_head, symbol_of_target, after_symbol, after_a, after_b, after_code, after_left, after_right, after_until, after_roots, after_version}
 use Rattle.wal_reader.specs.Carried.{same_axis}
+use Rattle.walrus_c.proofs.Fields.{name_left, number_left, one_left, proof_left, run_left, target_left, two_left, version_left}
 use Rattle.walrus_c.proofs.Streams.{envelope_long}
-
--- ---- the parts of a frame
-
--- no more bytes are left behind a number
-number_left : (w : Width) (place most : ℕ) (bytes : List ℕ) (x : ℕ × List ℕ) → field_at w place most bytes ≡ Ok x → length x.1 ≤ length bytes
-number_left w place most bytes x e =
-    let is = shape.number_is w place most bytes x (in_frame_ok (number_at w place most bytes) x e) in
-    omega (arith, ap length is.3, length-drop (byte_len w) bytes)
-
--- a run and what is left behind it are all bytes
-run_left : (n : ℕ) (bytes : List ℕ) (x : List ℕ × List ℕ) → bytes_at n bytes ≡ Ok x → length x.0 + length x.1 ≡ length bytes
-run_left n bytes x e =
-    let is = shape.run_is n bytes x (in_frame_ok (run_at n bytes) x e) in
-    omega (arith, ap length is.1, length-append x.0 x.1)
-
-axis_left : (place : ℕ) (bytes : List ℕ) (x : Axis × List ℕ) → axis_at place bytes ≡ Ok x → length x.1 ≤ length bytes
-unfolding axis_at
-axis_left place bytes x e =
-    let n = bind_ok (field_at w8 place 1 bytes) field.as_axis x e in
-    omega (arith, number_left w8 place 1 bytes n.0 n.1, ap (λ (y : Axis × List ℕ). length y.1) (ok_is _ x n.2))
-
--- a target, and what is left behind it
-target_left : (bytes : List ℕ) (t : _) → target_at bytes ≡ Ok t → (length t.0.id.0 ≡ 32) × (length t.1 ≤ length bytes)
-unfolding target_at
-target_left bytes t e =
-    let id = bind_ok (bytes_at 32 bytes) field.after_id t e in
-    let axis = bind_ok (axis_at 33 id.0.1) (after_axis id.0.0) t id.2 in
-    let index = bind_ok (field_at w16 34 999 axis.0.1) (after_index id.0.0 axis.0.0) t axis.2 in
-    let same = ok_is (target_with id.0.0 axis.0.0 index.0.0, index.0.1) t index.2 in
-    subst (λ y. (length y.0.id.0 ≡ 32) × (length y.1 ≤ length bytes)) same
-    (bytes_size 32 bytes id.0 id.1, omega (arith, run_left 32 bytes id.0 id.1, axis_left 33 id.0.1 axis.0 axis.1, number_left w16 34 999 axis.0.1 index.0 index.1))
 
 -- ---- frames
 
--- an identifier of 32 bytes, and a sliver of at most so many
+-- what a frame brings that was read of n bytes: what can be put has an identifier of 32 bytes, and the bytes in which it is stored are among
+-- them, besides those that stand before it; and so has what asks for parts of a blob
 abbrev pub IsWithin : ℕ → Frame → Type 0
-IsWithin n (Sliver id axis index bytes) = (length id ≡ 32) × (length bytes ≤ n)
-IsWithin n (Proof id p) = length id ≡ 32
-IsWithin n (Metadata m) = ⊤
+IsWithin n (Sliver id axis index bytes) = (length id ≡ 32) × (40 + length bytes ≤ n)
+IsWithin n (Proof id p) = (length id ≡ 32) × (33 + length (proof_text p) ≤ n) × IsProof p
+IsWithin n (Metadata m) = IsMetadata m × (1 + length (metadata_text m) ≤ n)
 IsWithin n (Opening id axis index o) = ⊤
-IsWithin n (Read id) = ⊤
-IsWithin n (Symbol id axis index) = ⊤
+IsWithin n (Read id) = (length id ≡ 32) × (33 ≤ n)
+IsWithin n (Symbol id axis index) = (length id ≡ 32) × (33 ≤ n)
 IsWithin n (Ack id) = ⊤
 IsWithin n (Attest id) = ⊤
 IsWithin n (Forget id) = ⊤
@@ -71,7 +43,7 @@ IsWithin n (RegisterEntry id until) = ⊤
 IsWithin n (AckEntry shard id) = ⊤
 IsWithin n (AttestEntry shard id) = ⊤
 
-abbrev Reads : ℕ → Result Frame FrameError → Type 0
+abbrev pub Reads : ℕ → Result Frame FrameError → Type 0
 Reads n r = (x : Frame) → r ≡ Ok x → IsWithin n x
 
 reads_if : (n : ℕ) (b : Bool) (mine other : Result Frame FrameError) → Reads n mine → Reads n other → Reads n (cond b mine other)
@@ -88,41 +60,63 @@ reads_made : (n : ℕ) {A : Type 0} (frame : A → Frame) → ((y : A) → IsWit
 reads_made n frame is (Ok y) x e = subst (IsWithin n) (ok_is (frame y) x e) (is y)
 reads_made n frame is (Err d) x e = absurd cc
 
-sliver_reads : (n : ℕ) (bytes : List ℕ) → length bytes ≤ n → Reads n (sliver_at bytes)
+reads_named : (n : ℕ) (bytes : List ℕ) (frame : List ℕ → Frame) → ((id : List ℕ) → length id ≡ 32 → length bytes ≡ 32 → IsWithin n (frame id)) → Reads n (made frame (name_at bytes))
+reads_named n bytes frame is = by (name_at bytes) refl where
+  by : (r : Result (List ℕ) FrameError) → name_at bytes ≡ r → Reads n (made frame r)
+  by (Ok id) at x e = let long = name_left bytes id at in subst (IsWithin n) (ok_is (frame id) x e) (is id long.0 long.1)
+  by (Err d) at x e = absurd cc
+
+sliver_reads : (n : ℕ) (bytes : List ℕ) → 1 + length bytes ≤ n → Reads n (sliver_at bytes)
 unfolding sliver_at
 sliver_reads n bytes few x e =
     let t = bind_ok (target_at bytes) after_target x e in
     let size = bind_ok (field_at w32 36 most_bytes t.0.1) (after_size t.0.0) x t.2 in
     let content = bind_ok (bytes_at size.0.0 size.0.1) (after_content t.0.0) x size.2 in
     let at = target_left bytes t.0 t.1 in
-    let fits : length content.0.0 ≤ n =
-    omega (arith, few, at.1, number_left w32 36 most_bytes t.0.1 size.0 size.1, run_left size.0.0 size.0.1 content.0 content.1) in
+    let fits : 40 + length content.0.0 ≤ n =
+    omega (arith, few, at.2, number_left w32 36 most_bytes t.0.1 size.0 size.1, run_left size.0.0 size.0.1 content.0 content.1) in
     reads_ended n (sliver_of_target t.0.0 content.0.0) content.0.1 (at.0, fits) x content.2
 
-proof_reads : (n : ℕ) (bytes : List ℕ) → Reads n (proof_at bytes)
+proof_reads : (n : ℕ) (bytes : List ℕ) → 1 + length bytes ≤ n → Reads n (proof_at bytes)
 unfolding proof_at
-proof_reads n bytes x e =
+proof_reads n bytes few x e =
     let t = bind_ok (target_at bytes) after_head x e in
     let count = bind_ok (field_at w16 36 1000 t.0.1) (after_count t.0.0) x t.2 in
     let rest = bind_ok (bodies_at count.0.0 38 count.0.1) (after_bodies t.0.0 count.0.0 count.0.1) x count.2 in
-    reads_ended n (Proof t.0.0.id.0 (proof_of_target t.0.0 count.0.0 count.0.1)) rest.0 (target_left bytes t.0 t.1).0 x rest.2
+    let frame = Proof t.0.0.id.0 (proof_of_target t.0.0 count.0.0 count.0.1) in
+    let end = ended_ok frame rest.0 x rest.2 in
+    let at = target_left bytes t.0 t.1 in
+    let left = proof_left bytes t.0 t.1 count.0.0 count.0.1 rest.0 (field_most w16 36 1000 t.0.1 count.0 count.1) rest.1 end.1 in
+    let fits : 33 + length (proof_text (proof_of_target t.0.0 count.0.0 count.0.1)) ≤ n = omega (arith, few, left.1, at.2, number_left w16 36 1000 t.0.1 count.0 count.1) in
+    reads_ended n frame rest.0 (at.0, fits, left.0) x rest.2
 
-metadata_reads : (n : ℕ) (bytes : List ℕ) → Reads n (metadata_at bytes)
+metadata_reads : (n : ℕ) (bytes : List ℕ) → 1 + length bytes ≤ n → Reads n (metadata_at bytes)
 unfolding metadata_at
-metadata_reads n bytes = reads_bind n (roots_at 1 bytes) (after_roots bytes) (λ rest. reads_ended n (Metadata (spelled_metadata bytes)) rest tt)
+metadata_reads n bytes few x e =
+    let rest = bind_ok (roots_at 1 bytes) (after_roots bytes) x e in
+    let end = ended_ok (Metadata (spelled_metadata bytes)) rest.0 x rest.2 in
+    let left = one_left bytes rest.0 rest.1 end.1 in
+    reads_ended n (Metadata (spelled_metadata bytes)) rest.0 (left.0, omega (arith, left.1, few)) x rest.2
 
-metadata2_reads : (n : ℕ) (bytes : List ℕ) → Reads n (metadata2_at bytes)
+metadata2_reads : (n : ℕ) (bytes : List ℕ) → 1 + length bytes ≤ n → Reads n (metadata2_at bytes)
 unfolding metadata2_at
-metadata2_reads n bytes =
-    reads_bind n (version_at bytes) (after_version bytes) (λ version. reads_bind n (roots_at 2 version.1) (after_roots bytes) (λ rest. reads_ended n (Metadata (spelled_metadata bytes)) rest tt))
+metadata2_reads n bytes few x e =
+    let version = bind_ok (version_at bytes) (after_version bytes) x e in
+    let rest = bind_ok (roots_at 2 version.0.1) (after_roots bytes) x version.2 in
+    let end = ended_ok (Metadata (spelled_metadata bytes)) rest.0 x rest.2 in
+    let left = two_left bytes version.0.1 rest.0 (version_left bytes version.0 version.1) rest.1 end.1 in
+    reads_ended n (Metadata (spelled_metadata bytes)) rest.0 (left.0, omega (arith, left.1, few)) x rest.2
 
 opened_reads : (n : ℕ) (bytes : List ℕ) → Reads n (opened_at bytes)
 unfolding opened_at
 opened_reads n bytes = reads_bind n (target_at bytes) after_place (λ t. reads_bind n (opening_at 36 t.1) (after_body t.0) (λ body. reads_ended n (opening_of_target t.0 body.0) body.1 tt))
 
-symbol_reads : (n : ℕ) (bytes : List ℕ) → Reads n (symbol_at bytes)
+symbol_reads : (n : ℕ) (bytes : List ℕ) → 1 + length bytes ≤ n → Reads n (symbol_at bytes)
 unfolding symbol_at
-symbol_reads n bytes = reads_bind n (target_at bytes) after_symbol (λ t. reads_ended n (symbol_of_target t.0) t.1 tt)
+symbol_reads n bytes few x e =
+    let t = bind_ok (target_at bytes) after_symbol x e in
+    let at = target_left bytes t.0 t.1 in
+    reads_ended n (symbol_of_target t.0.0) t.0.1 (at.0, omega (arith, few, at.2)) x t.2
 
 answer_reads : (n : ℕ) (bytes : List ℕ) → Reads n (answer_at bytes)
 unfolding answer_at
@@ -140,11 +134,11 @@ unfolding register_at
 register_reads n bytes =
     reads_bind n (bytes_at 32 bytes) kind.after_id (λ id. reads_bind n (field_at w32 33 65536 id.1) (after_until id.0) (λ until. reads_ended n (RegisterEntry id.0 until.0) until.1 tt))
 
-request_reads : (n kind : ℕ) (bytes : List ℕ) → Reads n (request_at kind bytes)
+request_reads : (n kind : ℕ) (bytes : List ℕ) → 1 + length bytes ≤ n → Reads n (request_at kind bytes)
 unfolding request_at
-request_reads n kind bytes =
-    reads_if n (eqb kind 0x20) (made Read (name_at bytes)) _ (reads_made n Read (λ id. tt) (name_at bytes)) (
-    reads_if n (eqb kind 0x21) (symbol_at bytes) _ (symbol_reads n bytes) (
+request_reads n kind bytes few =
+    reads_if n (eqb kind 0x20) (made Read (name_at bytes)) _ (reads_named n bytes Read (λ id long all. (long, omega (arith, few, all)))) (
+    reads_if n (eqb kind 0x21) (symbol_at bytes) _ (symbol_reads n bytes few) (
     reads_if n (eqb kind 0x22) (made Ack (name_at bytes)) _ (reads_made n Ack (λ id. tt) (name_at bytes)) (
     reads_if n (eqb kind 0x23) (made Attest (name_at bytes)) _ (reads_made n Attest (λ id. tt) (name_at bytes)) (
     reads_if n (eqb kind 0x24) (made Forget (name_at bytes)) _ (reads_made n Forget (λ id. tt) (name_at bytes)) (
@@ -160,11 +154,11 @@ unfolding read_of fields_at
 reads [] x e = absurd cc
 reads (kind ∷ bytes) x e =
     let n = length (kind ∷ bytes) in
-    reads_if n (eqb kind 0x10) (metadata_at bytes) _ (metadata_reads n bytes) (
+    reads_if n (eqb kind 0x10) (metadata_at bytes) _ (metadata_reads n bytes (omega arith)) (
     reads_if n (eqb kind 0x11) (sliver_at bytes) _ (sliver_reads n bytes (omega arith)) (
     reads_if n (eqb kind 0x12) (opened_at bytes) _ (opened_reads n bytes) (
-    reads_if n (eqb kind 0x13) (proof_at bytes) _ (proof_reads n bytes) (
-    reads_if n (eqb kind 0x14) (metadata2_at bytes) (request_at kind bytes) (metadata2_reads n bytes) (request_reads n kind bytes))))) x e
+    reads_if n (eqb kind 0x13) (proof_at bytes) _ (proof_reads n bytes (omega arith)) (
+    reads_if n (eqb kind 0x14) (metadata2_at bytes) (request_at kind bytes) (metadata2_reads n bytes (omega arith)) (request_reads n kind bytes (omega arith)))))) x e
 
 -- ---- slivers of both axes
 
@@ -209,6 +203,10 @@ one_within n (Ok (AckEntry shard id)) is = omega arith
 one_within n (Ok (AttestEntry shard id)) is = omega arith
 one_within n (Err e) is = omega arith
 
+pub sizes_append : (axis : Axis) (front : List (List ℕ)) (payload : List ℕ) → sliver_sizes axis (front ++ payload ∷ []) ≡ sliver_sizes axis front + sliver_size axis (read_of payload)
+sizes_append axis [] payload = omega arith
+sizes_append axis (first ∷ front) payload = omega (arith, sizes_append axis front payload)
+
 -- they are within the stream
 pub slivers_within : (payloads : List (List ℕ)) (bytes : List ℕ) → IsStream payloads bytes → sliver_sizes Primary payloads + sliver_sizes Secondary payloads ≤ length bytes
 slivers_within [] bytes is = omega arith
@@ -218,7 +216,7 @@ slivers_within (payload ∷ payloads) bytes is =
     omega (arith, more, here, envelope_long is.0 payload, ap length is.3, length-append (envelope is.0 payload) is.1)
 
 -- a sliver is one of its axis
-size_read : (axis : Axis) (id : List ℕ) (index : ℕ) (bytes : List ℕ) → sliver_size axis (Ok (Sliver id axis index bytes)) ≡ length bytes
+pub size_read : (axis : Axis) (id : List ℕ) (index : ℕ) (bytes : List ℕ) → sliver_size axis (Ok (Sliver id axis index bytes)) ≡ length bytes
 size_read Primary id index bytes = refl
 size_read Secondary id index bytes = refl
 

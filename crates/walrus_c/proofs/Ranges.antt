@@ -12,7 +12,7 @@ in_range words task asked =
       | read word id is ↦ tt
       | recover word direction place id axis index is_id is_axis is_index ↦ tt
       | check word id is ↦ tt
-      | serve word place f shard is_f is_shard ↦ tt
+      | serve word place f shard is_f is_shard ↦ (is_f.1, is_f.2)
       | replay ↦ tt
       | sample word number is ↦ tt
       | image word size is ↦ is.2

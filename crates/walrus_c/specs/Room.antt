@@ -1,12 +1,14 @@
 -- THE ROOM of a call: so many bytes suffice for whatever text a run of the words writes, by the task and by how many bytes the input has.
-use Rattle.std.specs.Prelude.{◌≡◌, ℕ, ◌*◌, ◌+◌, ◌-◌, ◌/◌, ◌^◌, ◌<◌, ◌≤◌, min, max, List, length, nat_lt, if◌then◌else◌}
+use Rattle.std.specs.Prelude.{◌≡◌, ℕ, ◌*◌, ◌+◌, ◌-◌, ◌/◌, ◌^◌, ◌<◌, ◌≤◌, min, max, List, length}
 use Rattle.wal_shape.specs.Shape.{cell_count, most_bytes}
 use Rattle.wal_words.specs.declared.task.Task.{Task}
 use Rattle.wal_words.specs.declared.task.Task.TheVariants.{Whole, Read, Serve, Sample}
 use Rattle.wal_words.specs.declared.task.WholeTask.{WholeTask}
 use Rattle.wal_words.specs.declared.task.WholeTask.TheVariants.{Identify, Encode, Recover, Check, Replay, Image, Unpack, Bundle, Member, Challenge, Verify, Gateway}
 use Rattle.wal_words.specs.Task.{IsTask, NoTask}
+use Rattle.wal_shard.specs.Replying as shard
 use Rattle.wal_run.specs.Answers.{usage_text}
+use Rattle.wal_run.specs.Serving.{serve_limit}
 use Rattle.walrus_c.specs.Words.{AreWords, AreNoWords}
 use Rattle.walrus_c.specs.Call.{Comes}
 use Rattle.walrus_c.specs.Encoded.{encoded_bytes}
@@ -14,6 +16,10 @@ use Rattle.walrus_c.specs.Encoded.{encoded_bytes}
 -- the number that says that no room is given
 abbrev pub none_given : ℕ
 none_given = 2 ^ 64 - 1
+
+-- the number that says that memory ran out before the words were read
+abbrev pub no_memory_told : ℕ
+no_memory_told = 2 ^ 64 - 2
 
 -- the bytes of an identifier's line
 abbrev pub name_line : ℕ
@@ -41,11 +47,28 @@ member_most = most_bytes + 2 * cell_count 333
 abbrev pub opening_most : ℕ → ℕ
 opening_most count = 50 + 320 + min (count / 5) 2796204
 
--- a room below 2^31, and none if this bound is more
-abbrev pub or_none : ℕ → ℕ
-or_none room = if nat_lt room (2 ^ 31) then room else none_given
+-- the most bytes of a blob that is read from so many bytes, and of the line that says why there is none
+abbrev pub read_most : ℕ → ℕ
+read_most count = max (min count most_bytes) one_line
 
--- by the command of a task that takes its whole input at once, and how many bytes the input has
+-- the most bytes of the lines of a gateway that took so many bytes: no request has fewer than 48 in its envelope, and a line has 34 besides two
+-- digits for each byte of a blob, which is no longer than what was taken; besides, one line that says where the stream breaks, or two texts that
+-- collide
+abbrev pub fetched_most : ℕ → ℕ
+fetched_most taken = one_line + (34 + 2 * min taken most_bytes) * (taken / 48)
+
+-- the most bytes of two texts that collide, of at most 65 bytes each, in an envelope
+abbrev pub two_texts : ℕ
+two_texts = 140
+
+-- the most bytes of what a shard answers that took so many bytes: 17 to each envelope, none of which has fewer than seven; to each request for
+-- parts of a blob, none of which has fewer than 40, besides what it holds of the blob, which is no more than what was taken, nor than its
+-- longest reply, and where it opens a sliver at most 323 more; and two texts that collide at the end
+abbrev pub served_most : ℕ → ℕ → ℕ
+served_most f taken = two_texts + 17 * (taken / 7) + (323 + min taken (shard.room_of f)) * (taken / 40)
+
+-- by the command of a task that takes its whole input at once, and how many bytes the input has; none for a replay, as the two texts of a
+-- collision that ends one are of no certain length
 abbrev pub whole_room : WholeTask → ℕ → ℕ
 whole_room (Identify f format) count = name_line
 whole_room (Encode f format) count = encoded_bytes f format (min count most_bytes)
@@ -56,15 +79,15 @@ whole_room (Image size) count = max size one_line
 whole_room Unpack count = max (2 * min count most_taken) one_line
 whole_room (Bundle f) count = most_bytes
 whole_room (Member id k) count = member_most
-whole_room (Challenge audit) count = or_none (audit.count * opening_most count)
+whole_room (Challenge audit) count = audit.count * opening_most count
 whole_room (Verify audit) count = one_line
-whole_room (Gateway capacity) count = none_given
+whole_room (Gateway capacity) count = fetched_most (min count most_taken)
 
--- THE TABLE: by the command of a task
+-- THE TABLE: by the command of a task; a sample is a replay
 abbrev pub room_of : Task → ℕ → ℕ
 room_of (Whole task) count = whole_room task count
-room_of (Read id) count = most_bytes
-room_of (Serve service) count = none_given
+room_of (Read id) count = read_most count
+room_of (Serve service) count = served_most service.faults (min count serve_limit)
 room_of (Sample number) count = none_given
 
 -- the room that is told for the words of a text, and an input of so many bytes
@@ -73,13 +96,14 @@ pub data IsRoom (text_of_words : List ℕ) (count : ℕ) : ℕ → Type 0 where
   asked : (words : List (List ℕ)) → AreWords words text_of_words → (task : Task) → IsTask words task → IsRoom text_of_words count (room_of task count)
   -- the usage's bytes, where they ask for nothing
   nothing_asked : (words : List (List ℕ)) → AreWords words text_of_words → NoTask words → IsRoom text_of_words count (length usage_text)
-  -- none, where the text is no words, or memory ran out while they were read
+  -- none, where the text is no words
   no_words : AreNoWords text_of_words → IsRoom text_of_words count none_given
-  no_memory : IsRoom text_of_words count none_given
+  -- want of memory, where that ran out while they were read; it is no room, and no 'none'
+  no_memory : IsRoom text_of_words count no_memory_told
 
 -- where a room is given, it suffices: whatever input of so many bytes the words are run over, and however the run ends, its text has no
 -- more bytes
 abbrev pub Suffices : (List ℕ → List ℕ) → List ℕ → ℕ → ℕ → Type 0
 Suffices digest text_of_words count room =
-    room < none_given → (words : List (List ℕ)) → AreWords words text_of_words → (input : List ℕ) → length input ≡ count → (status : ℕ) (text : List ℕ)
+    room < no_memory_told → (words : List (List ℕ)) → AreWords words text_of_words → (input : List ℕ) → length input ≡ count → (status : ℕ) (text : List ℕ)
     → Comes digest words input status text → length text ≤ room

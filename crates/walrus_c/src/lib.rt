@@ -10,7 +10,7 @@ mod room;
 mod words;
 
 use call::{run_over, status_told};
-use room::{NONE_GIVEN, room_for};
+use room::{room_for, untold};
 use std::alloc::Global;
 use words::words_of;
 
@@ -43,7 +43,8 @@ pub extern "C" fn walrus_run(
     }
 }
 
-/// How many bytes of output suffice for the words and any input of `input_len` bytes, or all ones where none is given.
+/// How many bytes of output suffice for the words and any input of `input_len` bytes, all ones where none is given, or one
+/// less where memory ran out before the words were read.
 #[unsafe(no_mangle)]
 pub extern "C" fn walrus_room(alloc: Global, words: &[u8], input_len: u64) -> u64
     // The table, by the words' task.
@@ -53,6 +54,6 @@ pub extern "C" fn walrus_room(alloc: Global, words: &[u8], input_len: u64) -> u6
 {
     match words_of(alloc, words) {
         Ok(words) => room_for(alloc, &words, input_len),
-        Err(_) => NONE_GIVEN,
+        Err(status) => untold(status),
     }
 }

@@ -1,5 +1,5 @@
 -- Taking one envelope of a source.
-use Rattle.std.specs.Prelude.{◌≡◌, ℕ, ◌<◌, ◌≤◌, ◌^◌, List, [], ◌∷◌, ◌++◌, length, take, Option, Some, None, Result, Ok, Err}
+use Rattle.std.specs.Prelude.{◌≡◌, ℕ, ◌<◌, ◌≤◌, ◌^◌, List, [], ◌∷◌, ◌++◌, length, Option, Some, None, Result, Ok, Err}
 use Rattle.std.specs.Int.{w16, w32}
 use Rattle.std.specs.Io.KnownBytes.{Consumes, IsAtEnd}
 use Rattle.wal_shape.specs.Spelling.{number_text}
@@ -10,6 +10,7 @@ use Rattle.wal_serve.specs.declared.taking.Took.{Took}
 use Rattle.wal_serve.specs.declared.taking.Took.TheVariants as took
 use Rattle.wal_serve.specs.declared.envelopes.Lack.{Lack}
 use Rattle.wal_serve.specs.declared.envelopes.Lack.TheVariants.{Nothing, Wrong, Cut, TooLong, Failed}
+use Rattle.wal_serve.specs.inside.Payload.{PayloadRoom}
 
 -- why no whole envelope was taken, of which at most `most` bytes may be taken, and the bytes that the source lost: there were none;
 -- the first one begins no envelope; the source ended in an envelope; it had one byte more than may be taken; or a read failed
@@ -43,16 +44,16 @@ abbrev pub TakesHead : Option (List ℕ) → Option (List ℕ) → Type 0 → �
 TakesHead left after Rose most (Ok size) got = IsHead size got × Consumes left after got × (length got ≤ most)
 TakesHead left after Rose most (Err lack) got = Lacks left after Rose most lack got
 
--- an envelope whose payload has this size, and stands at the front of the buffer if the buffer has room for it
-pub record IsEnvelope (size : ℕ) (buffer got : List ℕ) : Type 0 where
+-- an envelope whose payload has this size, and is in the buffer if the buffer has room for it
+pub record IsEnvelope (size : ℕ) (buffer : PayloadRoom) (got : List ℕ) : Type 0 where
   pub sender : ℕ
   pub payload : List ℕ
   pub long : length payload ≡ size
   pub fits : IsPayload payload
   pub text : got ≡ envelope sender payload
-  pub kept : size ≤ length buffer → take size buffer ≡ payload
+  pub kept : size ≤ buffer.room → buffer.bytes ≡ payload
 
 -- an envelope, or none
-abbrev pub TakesEnvelope : Option (List ℕ) → Option (List ℕ) → Type 0 → ℕ → List ℕ → Result ℕ Lack → List ℕ → Type 0
+abbrev pub TakesEnvelope : Option (List ℕ) → Option (List ℕ) → Type 0 → ℕ → PayloadRoom → Result ℕ Lack → List ℕ → Type 0
 TakesEnvelope left after Rose most buffer (Ok size) got = IsEnvelope size buffer got × Consumes left after got × (length got ≤ most)
 TakesEnvelope left after Rose most buffer (Err lack) got = Lacks left after Rose most lack got

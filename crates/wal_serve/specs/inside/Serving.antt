@@ -1,5 +1,5 @@
 -- What serves private functions and proofs beside Serving.
-use Rattle.std.specs.Prelude.{◌≡◌, ℕ, ◌≤◌, List, [], ◌∷◌, length, take, Option, Some, None, Result, Ok, Err, ⊤}
+use Rattle.std.specs.Prelude.{◌≡◌, ℕ, ◌≤◌, List, [], ◌∷◌, length, Option, Some, None, Result, Ok, Err, ⊤}
 use Rattle.std.specs.Io.KnownBytes.{Consumes, Appends}
 use Rattle.wal_shape.specs.declared.text.MetaClash.{MetaClash}
 use Rattle.wal_port.specs.declared.transfers.WriteFault as port
@@ -11,6 +11,7 @@ use Rattle.wal_serve.specs.Reply.{clash_text}
 use Rattle.wal_serve.specs.Saying.{sent}
 use Rattle.wal_port.specs.Appending.{AppendsPart}
 use Rattle.wal_serve.specs.Serving.{Table, Replies, Served}
+use Rattle.wal_serve.specs.inside.Payload.{PayloadRoom}
 
 -- where two texts end serving, their frame is the only one of that answer
 abbrev pub StopsWith : Option MetaClash → List (List ℕ) → Type 0
@@ -39,11 +40,11 @@ end_without lack.Cut place = Malformed place
 end_without lack.TooLong place = TooLong
 end_without lack.Failed place = ReadFault
 
--- what is answered to a payload of this size that stands at the front of the buffer, if the buffer has room for it
-abbrev pub RepliesInto : {C : Type 0} → Table C → List ℕ → ℕ → C → List (List ℕ) → Option MetaClash → C → Type 0
+-- what is answered to a payload of this size, which is in the buffer if the buffer has room for it
+abbrev pub RepliesInto : {C : Type 0} → Table C → PayloadRoom → ℕ → C → List (List ℕ) → Option MetaClash → C → Type 0
 RepliesInto Answer buffer size old frames clash new =
-    (payload : List ℕ) → length payload ≡ size → (size ≤ length buffer → take size buffer ≡ payload) → Replies Answer (length buffer) old payload frames clash new
+    (payload : List ℕ) → length payload ≡ size → (size ≤ buffer.room → buffer.bytes ≡ payload) → Replies Answer buffer.room old payload frames clash new
 
 -- the same, and where two texts end serving, their frame is the only one
-abbrev pub AnswersInto : {C : Type 0} → Table C → List ℕ → ℕ → C → List (List ℕ) → Option MetaClash → C → Type 0
+abbrev pub AnswersInto : {C : Type 0} → Table C → PayloadRoom → ℕ → C → List (List ℕ) → Option MetaClash → C → Type 0
 AnswersInto Answer buffer size old frames clash new = RepliesInto Answer buffer size old frames clash new × StopsWith clash frames

@@ -1,22 +1,22 @@
 -- Frames on their way to the shards of a committee, and what they come to.
-use Rattle.std.specs.Prelude.{◌≡◌, ℕ, List, [], map, Option, Some, None, is_some, IfSome, Result, Ok, Err, ⊤}
+use Rattle.std.specs.Prelude.{◌≡◌, ℕ, ◌<◌, ◌≤◌, List, [], map, Option, Some, None, is_some, IfSome, Result, Ok, Err, ⊤}
 use Rattle.std.specs.List.{AllByRecursion}
-use Rattle.wal_shape.specs.declared.metadata.BlobId.{BlobId}
 use Rattle.wal_shape.specs.declared.axis.Side.{Side}
+use Rattle.wal_shape.specs.declared.shape.Format.{Format}
 use Rattle.wal_shape.specs.declared.text.Collision.{Collision}
 use Rattle.wal_tree.specs.Collision.{IsCollision}
-use Rattle.wal_evidence.specs.declared.evidence.Verdict.TheVariants as verdict
+use Rattle.wal_commit.specs.Identifier.{IsIdentifierOf}
+use Rattle.wal_ledger.specs.Shards.{committee_size}
 use Rattle.wal_frame.specs.Frame.{Frame, Read, IsFrame, frame_text}
 use Rattle.wal_frame.specs.declared.frame.FrameError.{FrameError}
 use Rattle.wal_frame.specs.Reading.{read_of}
 use Rattle.wal_shard.specs.declared.answers.PutAnswer.{PutAnswer}
 use Rattle.wal_shard.specs.declared.answers.PutAnswer.TheVariants as putting
 use Rattle.wal_shard.specs.Putting.{CanBePut}
-use Rattle.wal_writer.specs.Message.{Written, messages_of}
-use Rattle.wal_protocol.specs.declared.first.First.TheVariants as first
-use Rattle.wal_protocol.specs.State.{World, Committee, side_of, with_side, answered}
+use Rattle.wal_writer.specs.Message.{Written, IsMessageOf, messages_of}
+use Rattle.wal_protocol.specs.State.{World, Committee, side_of, with_side}
 use Rattle.wal_theorem.specs.Instance.{rules_of}
-use Rattle.wal_protocol.specs.Step.{PutsEach, AgreesWithFirst, Differs}
+use Rattle.wal_protocol.specs.Step.{PutsEach}
 
 -- the frame that was read, and that which bytes are read as
 abbrev pub frame_read : Result Frame FrameError → Frame
@@ -66,11 +66,10 @@ Continues digest old letters side here rest =
 abbrev pub AreParts : Written → ℕ → Type 0
 AreParts w shard = AllByRecursion IsFrame (messages_of w shard)
 
--- written bytes are the first completed answer, or agree with it
-abbrev pub IsWrittenTo : World → BlobId → List ℕ → World → Type 0
-IsWrittenTo old id blob new = AgreesWithFirst old.answers id (verdict.Bytes blob) × (new ≡ record old { answers = answered old.answers id (first.Written blob) })
-
--- or that is another one, and two texts collide
-abbrev pub IsWritingCompared : (List ℕ → List ℕ) → World → BlobId → List ℕ → Option Collision → World → Type 0
-IsWritingCompared digest old id blob None new = IsWrittenTo old id blob new
-IsWritingCompared digest old id blob (Some c) new = IsCollision digest c.left c.right × Differs old.answers id (verdict.Bytes blob) × (new ≡ old)
+-- what a writer has made of a blob, for so many faults of a committee
+pub record IsStarted (digest : List ℕ → List ℕ) (f : ℕ) (format : Format) (blob : List ℕ) (w : Written) : Type 0 where
+  pub few : f ≤ 333
+  pub faults : w.metadata.f ≡ f
+  pub message : IsMessageOf digest f format blob w.id (messages_of w)
+  pub identifier : IsIdentifierOf digest format f blob w.id.0
+  pub parts : (shard : ℕ) → shard < committee_size f → AreParts w shard

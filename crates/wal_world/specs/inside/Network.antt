@@ -12,7 +12,7 @@ use Rattle.wal_store.specs.Contents.{Contents}
 use Rattle.wal_shard.specs.State.{ShardState}
 use Rattle.wal_shard.specs.Vouching.{without_dead}
 use Rattle.wal_shard.specs.Replying.{room_of}
-use Rattle.wal_protocol.specs.State.{World}
+use Rattle.wal_protocol.specs.State.{World, contents_of, side_of}
 use Rattle.wal_world.specs.declared.books.Books.{Books}
 use Rattle.wal_world.specs.declared.books.Books.TheVariants.{Moving}
 use Rattle.wal_world.specs.inside.Books.{ledger_of, faulty_on, AreBooks, books_with}
@@ -61,6 +61,13 @@ pub record IsNetwork {H : Type 0} (n : Network H) : Type 0 where
   pub work : n.work.f ≡ (ledger_of n.books).log.f
   pub empty : n.buffer.bytes ≡ []
   pub room : room_of (ledger_of n.books).log.f ≤ n.buffer.spare
+
+-- the shard of a side that has this number
+pub record IsShardOf {H : Type 0} (side : Side) (n : Network H) (number : ℕ) (s : ShardState) : Type 0 where
+  pub contents : s.contents ≡ contents_of (side_of side (world_of n)) number
+  pub f : s.f ≡ (world_of n).log.f
+  pub index : s.index ≡ number
+  pub limit : s.limit ≡ None
 
 -- the network once the ledger is this one
 abbrev pub with_ledger : {H : Type 0} → Network H → LedgerState → Network H

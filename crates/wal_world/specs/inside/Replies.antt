@@ -1,5 +1,6 @@
 -- Replies of shards, written into a network's buffer and taken out of it, and what a read of them is compared with.
 use Rattle.std.specs.Prelude.{◌≡◌, ℕ, List, Option, Some, None}
+use Rattle.std.specs.FinMap as finmap
 use Rattle.wal_shape.specs.declared.metadata.BlobId.{BlobId}
 use Rattle.wal_shape.specs.declared.text.Collision.{Collision}
 use Rattle.wal_tree.specs.Collision.{IsCollision}
@@ -8,13 +9,15 @@ use Rattle.wal_evidence.specs.declared.evidence.Verdict.{Verdict}
 use Rattle.wal_evidence.specs.declared.evidence.Verdict.TheVariants as verdict
 use Rattle.wal_event.specs.declared.line.ReadWord.{ReadWord}
 use Rattle.wal_event.specs.declared.line.ReadWord.TheVariants as reading
+use Rattle.wal_protocol.specs.declared.first.First.{First}
 use Rattle.wal_protocol.specs.declared.first.First.TheVariants.{Judged}
 use Rattle.wal_world.specs.declared.network.Network.{Network}
 use Rattle.wal_world.specs.declared.taken.Taken.{Taken}
 use Rattle.wal_world.specs.declared.taken.Taken.TheVariants as taken
-use Rattle.wal_protocol.specs.State.{World, answered}
+use Rattle.wal_protocol.specs.State.{World, answered, verdict_of}
 use Rattle.wal_protocol.specs.Rules.{Rules}
 use Rattle.wal_protocol.specs.Step.{AgreesWithFirst, Differs, told_by}
+use Rattle.wal_theorem.specs.Instance.{IsBackedBy}
 
 -- all of the network stays, but for what its tables and its buffer have in them
 pub record IsLike {H : Type 0} (old new : Network H) : Type 0 where
@@ -25,25 +28,29 @@ pub record IsLike {H : Type 0} (old new : Network H) : Type 0 where
   pub answers : new.answers ≡ old.answers
   pub work : new.work.f ≡ old.work.f
 
--- a verdict is the first completed answer, or agrees with it
-abbrev pub IsAgreed : World → BlobId → Evidence → Verdict → World → Type 0
-IsAgreed old id e told new = AgreesWithFirst old.answers id told × (new ≡ record old { answers = answered old.answers id (Judged e told) })
+-- each first completed answer is backed
+abbrev pub AreBacked : (List ℕ → List ℕ) → World → Type 0
+AreBacked digest w = (id : BlobId) (first : First) → finmap.get w.answers id ≡ Some first → IsBackedBy digest w.log.f id first
 
--- or that is another one, and two texts collide
-abbrev pub IsCompared : (List ℕ → List ℕ) → World → BlobId → Evidence → Verdict → Option Collision → World → Type 0
-IsCompared digest old id e told None new = IsAgreed old id e told new
-IsCompared digest old id e told (Some c) new = IsCollision digest c.left c.right × Differs old.answers id told × (new ≡ old)
+-- a completed answer is the first one, or agrees with it
+abbrev pub IsAgreed : World → BlobId → First → World → Type 0
+IsAgreed old id answer new = AgreesWithFirst old.answers id (verdict_of answer) × (new ≡ record old { answers = answered old.answers id answer })
+
+-- or the first one gives another one, and two texts collide
+abbrev pub IsCompared : (List ℕ → List ℕ) → World → BlobId → First → Option Collision → World → Type 0
+IsCompared digest old id answer None new = IsAgreed old id answer new
+IsCompared digest old id answer (Some c) new = IsCollision digest c.left c.right × Differs old.answers id (verdict_of answer) × (new ≡ old)
 
 -- the word that is said then
-abbrev pub IsTold : (List ℕ → List ℕ) → World → BlobId → Evidence → Verdict → ReadWord → World → Taken ReadWord → Type 0
-IsTold digest old id e told word new (taken.Word said) = (said ≡ word) × IsAgreed old id e told new
-IsTold digest old id e told word new (taken.Collision c) = IsCollision digest c.left c.right × Differs old.answers id told × (new ≡ old)
+abbrev pub IsTold : (List ℕ → List ℕ) → World → BlobId → First → ReadWord → World → Taken ReadWord → Type 0
+IsTold digest old id answer word new (taken.Word said) = (said ≡ word) × IsAgreed old id answer new
+IsTold digest old id answer word new (taken.Collision c) = IsCollision digest c.left c.right × Differs old.answers id (verdict_of answer) × (new ≡ old)
 
 -- a read of these payloads completes
 pub record CompletesOn (r : Rules) (old : World) (id : BlobId) (payloads : List (List ℕ)) (word : ReadWord) (told : Verdict) (new : World) : Type 0 where
   pub evidence : Evidence
   pub reads : r.Reads id payloads word (Some evidence)
-  pub agreed : IsAgreed old id evidence told new
+  pub agreed : IsAgreed old id (Judged evidence told) new
 
 -- a read of these payloads
 abbrev pub ReadsOn : Rules → World → BlobId → List (List ℕ) → ReadWord → World → Type 0

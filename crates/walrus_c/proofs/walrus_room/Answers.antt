@@ -1,9 +1,8 @@
 -- The room is that of the words, and suffices.
-use Rattle.std.proofs.Common.{map, string_bytes}
+use Rattle.std.proofs.Common.{◌≡◌, ◌⊎◌, inl, inr, ℕ, map, string_bytes, subst, sym}
 use Rattle.sha2.specs.Sha256.{sha256}
 use Rattle.sha2.proofs.Facts256.{length-sha256}
-use Rattle.walrus_c.specs.Room.{no_memory}
-use Rattle.walrus_c.proofs.Rooms.{none_suffices, suffices, told}
+use Rattle.walrus_c.proofs.Rooms.{suffices, told, untold_is, untold_suffices}
 use Rattle.walrus_c.proofs.walrus_room.Goals as goal
 
 pub returns-in-Ok-clause-exact : goal.returns-in-Ok-clause-exact
@@ -15,7 +14,9 @@ returns-in-Ok-clause-suffices c =
     suffices sha256 length-sha256 (map string_bytes c.in-Ok.words.items) c.args.words.now c.args.input_len _ c.in-Ok.ensures.words c.room_for.ensures
 
 pub returns-in-Err-clause-exact : goal.returns-in-Err-clause-exact
-returns-in-Err-clause-exact c = no_memory
+returns-in-Err-clause-exact c =
+    untold_is c.args.words.now c.args.input_len c.in-Err.status _ c.in-Err.ensures.refused c.untold.ensures.memory c.untold.ensures.words
 
 pub returns-in-Err-clause-suffices : goal.returns-in-Err-clause-suffices
-returns-in-Err-clause-suffices c = none_suffices sha256 c.args.words.now c.args.input_len
+returns-in-Err-clause-suffices c =
+    untold_suffices sha256 c.args.words.now c.args.input_len c.in-Err.status _ c.in-Err.ensures.refused c.untold.ensures.memory c.untold.ensures.words

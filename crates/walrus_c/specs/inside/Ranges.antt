@@ -24,5 +24,5 @@ WholeInRange (Gateway capacity) = Unit {0}
 abbrev pub InRange : Task → Type 0
 InRange (Whole task) = WholeInRange task
 InRange (Read id) = Unit {0}
-InRange (Serve service) = Unit {0}
+InRange (Serve service) = (1 ≤ service.faults) × (service.faults ≤ 333)
 InRange (Sample number) = Unit {0}

@@ -1,4 +1,4 @@
-use Rattle.std.proofs.Common.{Ok, refl, take}
+use Rattle.std.proofs.Common.{Ok, arith}
 use Rattle.wal_frame.specs.Reading.{read_of}
 use Rattle.wal_serve.specs.State.{ServedState}
 use Rattle.wal_serve.specs.Answers.{AnswersRequest}
@@ -7,11 +7,11 @@ use Rattle.wal_serve.specs.inside.Session.{served}
 use Rattle.wal_serve.proofs.AnswerLaws.{looked_into, overlong_into, read_stops, says_row}
 use Rattle.wal_serve.proofs.session.Session.answer_in.Goals as goal
 
-pub returns-then-size-buffer-clause-answers : goal.returns-then-size-buffer-clause-answers
-returns-then-size-buffer-clause-answers g c =
+pub returns-then-size-room-clause-answers : goal.returns-then-size-room-clause-answers
+returns-then-size-room-clause-answers g c =
     let Table = AnswersRequest g.H.Hash32.digest g.K.Keep.may_want in
     says_row _ c.index.result c.args.out.now _ (AnswersInto Table c.args.buffer.now c.args.size) (served c.args.self.now) _ (Ok c.unfit.result) _
-    (overlong_into ServedState Table c.args.buffer.now c.args.size (served c.args.self.now) c.unfit.result c.unfit.ensures.value c.if-size-buffer.true)
+    (overlong_into ServedState Table c.args.buffer.now c.args.size (served c.args.self.now) c.unfit.result c.unfit.ensures.value (omega (arith, c.if-size-room.true, c.room.ensures)))
     c.write_outcome.ensures.clash c.index.ensures.value c.write_outcome.ensures.written c.write_outcome.ensures.fits
 
 pub returns-clause-answers : goal.returns-clause-answers
@@ -19,9 +19,9 @@ returns-clause-answers g c =
     let s = c.answer.ensures.answers in (
       s.0,
       (
-        looked_into ServedState (AnswersRequest g.H.Hash32.digest g.K.Keep.may_want) c.args.buffer.now (take c.args.size c.args.buffer.now) c.args.size (served c.args.self.now) _ s.0 c.answer.result
-            c.if-size-buffer.false refl s.1,
-        read_stops g.H.Hash32.digest g.K.Keep.may_want (read_of (take c.args.size c.args.buffer.now)) (served c.args.self.now) _ s.0 c.answer.result s.1,
+        looked_into ServedState (AnswersRequest g.H.Hash32.digest g.K.Keep.may_want) c.args.buffer.now c.bytes.result.now c.args.size (served c.args.self.now) _ s.0 c.answer.result
+            (omega (arith, c.if-size-room.false, c.room.ensures)) c.bytes.ensures.value s.1,
+        read_stops g.H.Hash32.digest g.K.Keep.may_want (read_of c.bytes.result.now) (served c.args.self.now) _ s.0 c.answer.result s.1,
       ),
       s.2,
     )

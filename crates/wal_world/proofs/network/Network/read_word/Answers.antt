@@ -20,9 +20,9 @@ returns-in-Bytes-Some-clause-word g c =
 pub returns-in-Reject-Some-clause-word : goal.returns-in-Reject-Some-clause-word
 returns-in-Reject-Some-clause-word g c =
     let w = world_of c.args.self.now in
-    if_ok c.read_reject.result (λ t h. told_reject g.H.Hash32.digest w.log.f w (world_of c.read_reject.new.self) c.args.id.now c.args.payloads.now c.in-Reject-Some.e t
+    if_ok c.read_answer.result (λ t h. told_reject g.H.Hash32.digest w.log.f w (world_of c.read_answer.new.self) c.args.id.now c.args.payloads.now c.in-Reject-Some.e t
     (reads_is g.H.Hash32.digest c.args.id.now c.args.payloads.now c.args.answer.outcome c.args.answer.evidence reading.Reject c.in-Reject-Some.e c.in-Reject-Some.is-0 c.in-Reject-Some.is-1
-    c.requires.outcome c.requires.evidence) h) c.read_reject.ensures.word
+    c.requires.outcome c.requires.evidence) h) c.read_answer.ensures.word
 
 pub returns-in_ok-clash_texts-in-Collision-default-clause-word : goal.returns-in_ok-clash_texts-in-Collision-default-clause-word
 returns-in_ok-clash_texts-in-Collision-default-clause-word g c =

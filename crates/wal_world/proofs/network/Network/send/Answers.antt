@@ -2,7 +2,7 @@ use Rattle.std.proofs.Common.{rules}
 use Rattle.wal_frame.specs.Shown.{frame_shown}
 use Rattle.wal_world.specs.inside.Network.{world_of}
 use Rattle.wal_world.proofs.Placing.{correct_is, places_network, places_world}
-use Rattle.wal_world.proofs.Puts.{if_ok, send_step}
+use Rattle.wal_world.proofs.Puts.{if_ok, on_ok, send_step}
 use Rattle.wal_world.proofs.network.Network.send.Goals as goal
 
 pub returns-in-Ok-clause-step : goal.returns-in-Ok-clause-step
@@ -12,3 +12,8 @@ returns-in-Ok-clause-step g c =
     if_ok c.sent.result (λ said told. send_step g.H.Hash32.digest w.log.f w (world_of c.put_at.new.self) c.args.at c.args.shard c.args.bytes.now (frame_shown c.in-Some.frame) h.0
     c.in-Ok.answer said (correct_is c.args.at w c.args.shard (search rules) (search rules)) c.in-Some.ensures.some h.1
     (places_world c.args.at c.args.self.now c.put_at.new.self c.args.shard h.0 h.2) told) c.sent.ensures
+
+pub returns-in-Ok-clause-network : goal.returns-in-Ok-clause-network
+returns-in-Ok-clause-network g c =
+    let h = c.in-Ok.ensures.puts in
+    on_ok c.sent.result (places_network c.args.at c.args.self.now c.put_at.new.self c.args.shard h.0 h.2 c.requires.network (search rules))

@@ -1,0 +1,282 @@
+-- What a gateway writes: a line for each request, with a range of a blob that is no longer than what was taken.
+use Rattle.std.proofs.Common.{◌≡◌, ◌⊎◌, inl, inr, ℕ, zero, suc, ◌+◌, ◌*◌, ◌/◌, ◌≤◌, min, Bool, true, false, cond, List, [], ◌∷◌, ◌++◌, length, length-append, length-take, length-drop, take, drop, codes, nat_eq, nat_le, slice_index, append-nil, ◌&&◌, Option, Some, None, MatchOption, refl, sym, ap, subst, ◌∙◌, arith}
+use Rattle.std.specs.List.{AllByRecursion, flat_map}
+use Rattle.std.specs.Map.{lookup, remove_entry}
+use Rattle.std.specs.Option.{option_map_or}
+use Rattle.std.proofs.Math.Nat.{mul-le-mul_left}
+use Rattle.std.proofs.lemmas.Bool.{eqb-true}
+use Rattle.std.proofs.lemmas.List.Concat.{flat_map-cons}
+use Rattle.wal_shape.specs.declared.axis.Axis.TheVariants.{Primary}
+use Rattle.wal_shape.specs.declared.metadata.BlobId.{BlobId}
+use Rattle.wal_shape.specs.declared.text.MetaClash.{MetaClash}
+use Rattle.wal_shape.specs.Identifiers.{id_eq}
+use Rattle.wal_shape.specs.Shape.{most_bytes, row_count}
+use Rattle.wal_event.specs.Report.{hex_text}
+use Rattle.wal_frame.specs.Frame.{envelope}
+use Rattle.wal_frame.specs.Reading.{read_of}
+use Rattle.wal_frame.specs.Stream.{IsStream}
+use Rattle.wal_reader.specs.Outcome.{IsOutcome}
+use Rattle.wal_reader.specs.declared.outcome.Outcome.{Outcome}
+use Rattle.wal_reader.specs.declared.outcome.Outcome.TheVariants as read
+use Rattle.wal_gateway.specs.declared.answer.Found.{Found}
+use Rattle.wal_gateway.specs.declared.answer.Found.TheVariants.{Range, OutOfRange, Reject, Short, NoMetadata, Collision}
+use Rattle.wal_gateway.specs.declared.answer.GetAnswer.{GetAnswer}
+use Rattle.wal_gateway.specs.declared.checked.CheckedBlob.{CheckedBlob}
+use Rattle.wal_gateway.specs.declared.request.Request.{Request}
+use Rattle.wal_gateway.specs.Getting.{AnswersAll, AnswersGet, Cache, Get, Hits, Leaves, Misses, blob_with, found_of, kept_blob, range_of}
+use Rattle.wal_gateway.specs.Requests.{get_of, gets_in, is_request, no_blobs, request_at, request_of}
+use Rattle.wal_run.specs.Command.{HasTwoMetadata, IsResult, Spelled, bare, envelopes, success, rejection, lacking, unreadable, collision}
+use Rattle.wal_run.specs.Fetching.{GoOn, answer_text, answers_text, fetching, found_text, is_collision}
+use Rattle.wal_run.specs.Lines.{collision_text}
+use Rattle.walrus_c.specs.Room.{fetched_most}
+use Rattle.walrus_c.proofs.Clashes.{texts_short}
+use Rattle.walrus_c.proofs.Lengths.{clash_line, hex_most, number_line, two_line}
+use Rattle.walrus_c.proofs.Lines.{shape_of}
+use Rattle.walrus_c.proofs.Payloads.{sizes_append, sliver_size, sliver_sizes, slivers_within}
+use Rattle.walrus_c.proofs.ReadTexts.{decided_short}
+use Rattle.walrus_c.proofs.Streams.{breaks_within, envelope_long}
+
+-- ---- what is found
+
+-- where no blob has more than n bytes
+abbrev pub Fits : ℕ → Found → Type 0
+Fits n (Range bytes) = length bytes ≤ n
+Fits n (OutOfRange long) = long ≤ most_bytes
+Fits n Reject = Unit {0}
+Fits n (Short have need) = (have ≤ 334) × (need ≤ 334)
+Fits n NoMetadata = Unit {0}
+Fits n (Collision clash) = (length clash.left ≤ 65) × (length clash.right ≤ 65)
+
+abbrev pub Answered : ℕ → GetAnswer → Type 0
+Answered n answer = Fits n answer.found
+
+-- the line without the word before it
+found_short : (n : ℕ) (found : Found) → is_collision found ≡ false → Fits n found → length (found_text found) ≤ 29 + 2 * n
+found_short n (Range bytes) goes fits =
+    let front : length (codes "range ") ≡ 6 = refl in
+    let end : length (codes "\n") ≡ 1 = refl in
+    let digits = hex_most bytes (n + 1) (omega (arith, fits)) (omega arith) in
+    omega (arith, front, end, digits, length-append (codes "range ") (hex_text bytes), length-append (codes "range " ++ hex_text bytes) (codes "\n"))
+found_short n (OutOfRange long) goes fits =
+    let front : length (codes "out of range ") ≡ 13 = refl in
+    omega (arith, front, number_line (codes "out of range ") long (omega (arith, fits)))
+found_short n Reject goes fits = omega arith
+found_short n (Short have need) goes fits =
+    let front : length (codes "short ") ≡ 6 = refl in
+    let middle : length (codes " of ") ≡ 4 = refl in
+    omega (arith, front, middle, two_line (codes "short ") (codes " of ") have need (omega (arith, fits.0)) (omega (arith, fits.1)))
+found_short n NoMetadata goes fits = omega arith
+found_short n (Collision clash) goes fits = cc
+
+answer_short : (n : ℕ) (answer : GetAnswer) → is_collision answer.found ≡ false → Answered n answer → length (answer_text answer) ≤ 34 + 2 * n
+answer_short n answer goes fits = omega (arith, ap length plain, by answer.hit, found_short n answer.found goes fits) where
+  plain : answer_text answer ≡ cond answer.hit (codes "hit ") (codes "miss ") ++ found_text answer.found
+  plain = ap (λ (b : Bool). cond b (found_text answer.found) (cond answer.hit (codes "hit ") (codes "miss ") ++ found_text answer.found)) goes
+
+  by : (b : Bool) → length (cond b (codes "hit ") (codes "miss ") ++ found_text answer.found) ≤ 5 + length (found_text answer.found)
+  by true = omega (arith, length-append (codes "hit ") (found_text answer.found))
+  by false = omega (arith, length-append (codes "miss ") (found_text answer.found))
+
+-- all lines
+answers_short : (n : ℕ) (answers : List GetAnswer) → GoOn answers → AllByRecursion (Answered n) answers → length (answers_text answers) ≤ (34 + 2 * n) * length answers
+answers_short n [] go fit = omega arith
+answers_short n (answer ∷ answers) go fit =
+    let whole : length (answers_text (answer ∷ answers)) ≡ length (answer_text answer) + length (answers_text answers) =
+    ap length (flat_map-cons answer_text answer answers) ∙ length-append (answer_text answer) (answers_text answers) in
+    let step : (34 + 2 * n) * suc (length answers) ≡ 34 + 2 * n + (34 + 2 * n) * length answers = omega arith in
+    omega (arith, whole, step, answer_short n answer go.0 fit.0, answers_short n answers go.1 fit.1)
+
+-- some of a list of answers, and the last one
+some_fit : {X : Type 0} (P : X → Type 0) (front back : List X) → AllByRecursion P (front ++ back) → AllByRecursion P front
+some_fit P [] back all = tt
+some_fit P (x ∷ front) back all = (all.0, some_fit P front back all.1)
+
+last_fits : {X : Type 0} (P : X → Type 0) (front : List X) (last : X) → AllByRecursion P (front ++ last ∷ []) → P last
+last_fits P [] last all = all.0
+last_fits P (x ∷ front) last all = last_fits P front last all.1
+
+-- ---- requests
+
+-- the slivers that come with a request are among n bytes
+abbrev Carries : ℕ → Get → Type 0
+Carries n get = sliver_sizes Primary get.payloads ≤ n
+
+-- a request has 41 bytes
+request_long : (payload : List ℕ) (r : Request) → request_of payload ≡ Some r → length payload ≡ 41
+request_long payload r is = by (nat_eq (length payload) 41) (nat_eq (slice_index payload 0) 67) refl is where
+  by : (b c : Bool) → nat_eq (length payload) 41 ≡ b → cond (b && c) (Some (request_at payload)) None ≡ Some r → length payload ≡ 41
+  by true c long e = eqb-true (length payload) 41 long
+  by false c long e = absurd cc
+
+gets_carry : (n : ℕ) (replies payloads : List (List ℕ)) → sliver_sizes Primary replies + sliver_sizes Primary payloads ≤ n → AllByRecursion (Carries n) (gets_in replies payloads)
+gets_carry n replies [] few = tt
+gets_carry n replies (payload ∷ payloads) few =
+    by (gets_carry n [] payloads (omega (arith, few))) (gets_carry n (replies ++ payload ∷ []) payloads (omega (arith, few, sizes_append Primary replies payload))) (request_of payload) where
+      by : AllByRecursion (Carries n) (gets_in [] payloads) → AllByRecursion (Carries n) (gets_in (replies ++ payload ∷ []) payloads) → (o : Option Request)
+          → AllByRecursion (Carries n) (option_map_or (λ r. get_of replies r ∷ gets_in [] payloads) o (gets_in (replies ++ payload ∷ []) payloads))
+      by behind others (Some r) = (omega (arith, few), behind)
+      by behind others None = others
+
+gets_few : (replies payloads : List (List ℕ)) (bytes : List ℕ) → IsStream payloads bytes → 48 * length (gets_in replies payloads) ≤ length bytes
+gets_few replies [] bytes is = omega arith
+gets_few replies (payload ∷ payloads) bytes is =
+    by (gets_few [] payloads is.1 is.4) (gets_few (replies ++ payload ∷ []) payloads is.1 is.4) (request_of payload) refl where
+      size : length bytes ≡ 7 + length payload + length is.1
+      size = omega (arith, envelope_long is.0 payload, ap length is.3, length-append (envelope is.0 payload) is.1)
+
+      by : 48 * length (gets_in [] payloads) ≤ length is.1 → 48 * length (gets_in (replies ++ payload ∷ []) payloads) ≤ length is.1 → (o : Option Request) → request_of payload ≡ o
+          → 48 * length (option_map_or (λ r. get_of replies r ∷ gets_in [] payloads) o (gets_in (replies ++ payload ∷ []) payloads)) ≤ length bytes
+      by behind others (Some r) asks = omega (arith, size, request_long payload r asks, behind)
+      by behind others None asks = omega (arith, size, others)
+
+-- ---- blobs that are kept
+
+abbrev IsSmall : ℕ → BlobId × CheckedBlob → Type 0
+IsSmall n pair = length pair.1.bytes ≤ n
+
+abbrev Pairs : Type 0
+Pairs = List (BlobId × CheckedBlob)
+
+found_small : (n : ℕ) (id : BlobId) (pairs : Pairs) (blob : CheckedBlob) → AllByRecursion (IsSmall n) pairs → lookup (id_eq id) pairs ≡ Some blob → length blob.bytes ≤ n
+found_small n id [] blob all found = absurd cc
+found_small n id (pair ∷ pairs) blob all found = by (found_small n id pairs blob all.1) (id_eq id pair.0) found where
+  by : (lookup (id_eq id) pairs ≡ Some blob → length blob.bytes ≤ n) → (b : Bool) → cond b (Some pair.1) (lookup (id_eq id) pairs) ≡ Some blob → length blob.bytes ≤ n
+  by behind true e = let same : pair.1 ≡ blob = cc in subst (λ (x : CheckedBlob). length x.bytes ≤ n) same all.0
+  by behind false e = behind e
+
+others_small : (n : ℕ) (id : BlobId) (pairs : Pairs) → AllByRecursion (IsSmall n) pairs → AllByRecursion (IsSmall n) (remove_entry (id_eq id) pairs)
+others_small n id [] all = tt
+others_small n id (pair ∷ pairs) all = by (others_small n id pairs all.1) (id_eq id pair.0) where
+  by : AllByRecursion (IsSmall n) (remove_entry (id_eq id) pairs) → (b : Bool) → AllByRecursion (IsSmall n) (cond b pairs (pair ∷ remove_entry (id_eq id) pairs))
+  by behind true = all.1
+  by behind false = (all.0, behind)
+
+first_small : (n k : ℕ) (pairs : Pairs) → AllByRecursion (IsSmall n) pairs → AllByRecursion (IsSmall n) (take k pairs)
+first_small n zero pairs all = tt
+first_small n (suc k) [] all = tt
+first_small n (suc k) (pair ∷ pairs) all = (all.0, first_small n k pairs all.1)
+
+-- ---- gets
+
+range_fits : (n from size : ℕ) (bytes : List ℕ) → length bytes ≤ n → length bytes ≤ most_bytes → Fits n (range_of from size bytes)
+range_fits n from size bytes few short = by (nat_le (from + size) (length bytes)) where
+  by : (b : Bool) → Fits n (cond b (Range (take size (drop from bytes))) (OutOfRange (length bytes)))
+  by true = omega (arith, few, length-take size (drop from bytes), length-drop from bytes)
+  by false = short
+
+module _ (digest : List ℕ → List ℕ) (size_is : (text : List ℕ) → length (digest text) ≡ 32) where
+  module _ (count : ℕ) where
+    -- no blob has more bytes
+    abbrev most : ℕ
+    most = min count most_bytes
+
+    outcome_fits : (get : Get) (outcome : Outcome) → Carries count get → IsOutcome digest get.id.0 get.payloads outcome → Fits most (found_of get.from get.size outcome)
+    outcome_fits get (read.Bytes bytes) carries is =
+        let few = decided_short digest size_is get.id.0 get.payloads bytes is in
+        range_fits most get.from get.size bytes (omega (arith, few.0, few.1, carries)) few.1
+    outcome_fits get read.Reject carries is = tt
+    outcome_fits get (read.Short have need) carries (m, one, few, needs, none) =
+        let shape = shape_of digest size_is get.id.0 get.payloads m one in (omega (arith, few.3, shape.1), omega (arith, needs, shape.1))
+    outcome_fits get read.NoMetadata carries is = tt
+    outcome_fits get (read.Collision clash) carries is = texts_short digest size_is is.0 is.1 clash.left clash.right is.4
+
+    abbrev Keeps : Cache → Type 0
+    Keeps cache = AllByRecursion (IsSmall most) cache.pairs
+
+    keeps_left : (old new : Cache) (get : Get) (outcome : Outcome) → Keeps old → Carries count get → IsOutcome digest get.id.0 get.payloads outcome → Leaves digest old get outcome new → Keeps new
+    keeps_left old new get (read.Bytes bytes) small carries is (m, one, leaves) =
+        let few = decided_short digest size_is get.id.0 get.payloads bytes is in
+        let first : length bytes ≤ most = omega (arith, few.0, few.1, carries) in
+        subst Keeps (sym leaves) (first_small most old.capacity ((get.id, blob_with m bytes) ∷ old.pairs) (first, small))
+    keeps_left old new get read.Reject small carries is leaves = subst Keeps (sym leaves) small
+    keeps_left old new get (read.Short have need) small carries is leaves = subst Keeps (sym leaves) small
+    keeps_left old new get read.NoMetadata small carries is leaves = subst Keeps (sym leaves) small
+    keeps_left old new get (read.Collision clash) small carries is leaves = subst Keeps (sym leaves) small
+
+    -- a get
+    answered : (old new : Cache) (get : Get) (answer : GetAnswer) → Keeps old → Carries count get → AnswersGet digest old get answer new → Answered most answer × Keeps new
+    answered old new get answer small carries answers = by (kept_blob old get.id) refl answers where
+      by : (o : Option CheckedBlob) → kept_blob old get.id ≡ o → MatchOption o (Misses digest old get answer new) (λ blob. Hits old get blob answer new) → Answered most answer × Keeps new
+      by None none (outcome, is, found, leaves) =
+          (subst (Answered most) (sym found) (outcome_fits get outcome carries is), keeps_left old new get outcome small carries is leaves)
+      by (Some blob) here (found, used) =
+          let few = found_small most get.id old.pairs blob small here in (
+            subst (Answered most) (sym found) (range_fits most get.from get.size blob.bytes few (omega (arith, few))),
+            subst Keeps (sym used) (few, others_small most get.id old.pairs small),
+          )
+
+    -- gets one after the other
+    all_answered : (old new : Cache) (gets : List Get) (answers : List GetAnswer) → Keeps old → AllByRecursion (Carries count) gets → AnswersAll digest old gets answers new
+        → AllByRecursion (Answered most) answers × (length answers ≡ length gets)
+    all_answered old new [] [] small carry all = (tt, refl)
+    all_answered old new [] (answer ∷ answers) small carry all = absurd all
+    all_answered old new (get ∷ gets) [] small carry all = absurd all
+    all_answered old new (get ∷ gets) (answer ∷ answers) small carry (between, one, others) =
+        let first = answered old between get answer small carry.0 one in
+        let rest = all_answered between new gets answers first.1 carry.1 others in
+        ((first.0, rest.0), ap suc rest.1)
+
+    -- ---- the first requests of a stream
+
+    module _ (capacity : ℕ) (payloads : List (List ℕ)) (input : List ℕ) (stream : IsStream payloads input) (counted : length input ≡ count) (first rest : List Get) (are : gets_in [] payloads ≡ first ++ rest) where
+      carry : AllByRecursion (Carries count) first
+      carry =
+          some_fit (Carries count) first rest
+          (subst (AllByRecursion (Carries count)) are (gets_carry count [] payloads (omega (arith, slivers_within payloads input stream, counted))))
+
+      few : 48 * length first ≤ count
+      few = omega (arith, gets_few [] payloads input stream, counted, ap length are, length-append first rest)
+
+      -- their lines, and what stands behind them
+      lines_short : (answers : List GetAnswer) (last : List ℕ) → GoOn answers → AllByRecursion (Answered most) answers → length answers ≤ length first → length last ≤ 272
+          → length (answers_text answers ++ last) ≤ fetched_most count
+      lines_short answers last go fit some line =
+          let lines = answers_short most answers go fit in
+          let each : (34 + 2 * most) * length answers ≤ (34 + 2 * most) * (count / 48) = mul-le-mul_left (34 + 2 * most) (omega (arith, few, some)) in
+          omega (arith, lines, each, line, length-append (answers_text answers) last)
+
+      lines_alone : (answers : List GetAnswer) (kept : Cache) → AnswersAll digest (no_blobs capacity) first answers kept → GoOn answers → length (answers_text answers) ≤ fetched_most count
+      lines_alone answers kept all go =
+          let told = all_answered (no_blobs capacity) kept first answers tt carry all in
+          omega (arith, lines_short answers [] go told.0 (omega (arith, told.1)) (omega arith), length-append (answers_text answers) [])
+
+      lines_stopped : (answers : List GetAnswer) (last : GetAnswer) (clash : MetaClash) (kept : Cache) → AnswersAll digest (no_blobs capacity) first (answers ++ last ∷ []) kept → GoOn answers
+          → last.found ≡ Collision clash → length (answers_text answers ++ collision_text clash.left clash.right) ≤ fetched_most count
+      lines_stopped answers last clash kept all go is =
+          let told = all_answered (no_blobs capacity) kept first (answers ++ last ∷ []) tt carry all in
+          let texts : Fits most (Collision clash) = subst (Fits most) is (last_fits (Answered most) answers last told.0) in
+          let some : length answers ≤ length first = omega (arith, told.1, length-append answers (last ∷ [])) in
+          lines_short answers (collision_text clash.left clash.right) go (some_fit (Answered most) answers (last ∷ []) told.0) some (clash_line clash.left clash.right texts.0 texts.1)
+
+  -- what is left when memory runs out
+  pub lines_left : (capacity : ℕ) (input text : List ℕ) → Spelled digest (fetching digest capacity) input (λ payloads. (fetching digest capacity).Leaves payloads text)
+      → length text ≤ fetched_most (length input)
+  lines_left capacity input text (payloads, stream, (answers, get, rest, first, is)) =
+      omega (arith, ap length is, lines_alone (length input) capacity payloads input stream refl first.first (get ∷ rest) first.parts answers first.kept first.answered first.others)
+
+  -- WHAT IS WRITTEN
+  pub fetched : (capacity : ℕ) (input : List ℕ) → length input ≤ 134217728 → (status : ℕ) (text : List ℕ) → IsResult digest (fetching digest capacity) input status text
+      → length text ≤ fetched_most (length input)
+  fetched capacity input within _ _ (success text (payloads, stream, (answers, (kept, all, go), is))) =
+      omega (arith, ap length is, lines_alone (length input) capacity payloads input stream refl (gets_in [] payloads) [] (sym (append-nil (gets_in [] payloads))) answers kept all go)
+  fetched capacity input within _ _ (rejection text is) = absurd is.2
+  fetched capacity input within _ _ (lacking text (inl is)) = absurd is
+  fetched capacity input within _ _ (lacking text (inr is)) = absurd is.2
+  fetched capacity input within _ _ (unreadable text (inl broken)) =
+      let place = breaks_within broken.0 input broken.1 in
+      let line = number_line (codes "malformed at ") broken.0 (omega (arith, place, within)) in
+      let front : length (codes "malformed at ") ≡ 13 = refl in
+      omega (arith, ap length broken.2, line, front)
+  fetched capacity input within _ _ (unreadable text (inr is)) = absurd is.2
+  fetched capacity input within _ _ (collision left right text collides is) = by is.clashes where
+    by : (HasTwoMetadata digest envelopes input left right × (is.front ≡ [])) ⊎ (Spelled digest (fetching digest capacity) input (λ payloads. (fetching digest capacity).Collides payloads left right is.front))
+        → length text ≤ fetched_most (length input)
+    by (inl two) = absurd two.0
+    by (inr (payloads, stream, (answers, clash, stops, l, r, f))) =
+        let whole : text ≡ answers_text answers ++ collision_text clash.left clash.right =
+        is.whole ∙ ap (λ (x : List ℕ). x ++ collision_text left right) f ∙ ap (λ (x : List ℕ). answers_text answers ++ collision_text x right) l ∙ ap (λ (x : List ℕ). answers_text answers ++ collision_text clash.left x) r in
+        omega (
+          arith,
+          ap length whole,
+          lines_stopped (length input) capacity payloads input stream refl stops.first stops.rest stops.parts answers stops.last clash stops.kept stops.answered stops.others stops.collides,
+        )
