@@ -350,6 +350,22 @@ class Trouble(ShardCase):
         self.assertEqual(await self.read(whole.identifier), [bytes(it) for it in whole.parts[:2]])
         self.assertEqual(await self.shard.put_whole(whole), [])  # it is there already
 
+    async def test_what_is_written_beside_the_judge_goes_if_the_blob_is_refused(self) -> None:
+        assert self.store
+        wrong, unjudged, right = [await self.whole(size) for size in (LARGE, LARGE + 250, LARGE + 500)]
+        wrong.parts[2][-1] ^= 1
+        files = self.store.files
+        with mock.patch.object(self.judges, "here", lambda size: False):
+            with mock.patch.object(files, "write", side_effect=files.write) as write:
+                self.assertEqual(code_of(await self.shard.put_whole(wrong)), kinds.UNVERIFIED)
+                await self.left(0)
+                with mock.patch.object(type(self.judges.engine), "run", side_effect=Unjudged("walrus serve ended")):
+                    with self.assertRaises(Unjudged):
+                        await self.shard.put_whole(unjudged)
+                await self.left(0)
+                self.assertEqual(code_of(await self.shard.put_whole(right)), 13)
+                self.assertEqual((write.call_count, len(self.files())), (3, 2))
+
     async def test_small_blobs_that_come_at_once_are_judged_in_one_call(self) -> None:
         assert self.store
         if not isinstance(self.judges.engine, engines.Library):

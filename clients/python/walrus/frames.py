@@ -2,6 +2,7 @@
 
 The client writes its requests with it. All else is for a front, which answers what is no request in place of its shard,
 for nodes that keep what a shard stored, and for who makes parts of a blob by hand: examples, and tests that lie."""
+import functools
 from collections.abc import Callable
 from typing import Any, NamedTuple, Optional
 
@@ -153,6 +154,7 @@ def refuse(shape: Shape, payload: Optional[bytes]) -> Optional[Answer]:
     return Answer(UNVERIFIED, 0, 0) if is_part and not shape.allows(payload) else None
 
 
+@functools.lru_cache(256)
 def answer(code: int, first: int = 0, second: int = 0) -> bytes:
     """The payload of an answer."""
     return write_frame(Answer(code, first, second))

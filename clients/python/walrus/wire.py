@@ -65,6 +65,8 @@ class Wire(asyncio.BufferedProtocol):
     def buffer_updated(self, nbytes: int) -> None:
         if self.target:
             self.target = self.target[nbytes:]
+            if self.target:
+                return  # who reads goes on once all of it came
         else:
             self.last += nbytes
             if self.last == LANDING and not self.paused:

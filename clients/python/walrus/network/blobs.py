@@ -21,12 +21,13 @@ class Blob:
 
     def quorum(self, kind: str, needed: int) -> Optional[tuple[int, int]]:
         """The least epoch in which so many shards said so, and how many did."""
-        return next(((epoch, len(it)) for epoch, it in sorted(self.votes[kind].items()) if len(it) >= needed), None)
+        found = [(epoch, len(it)) for epoch, it in self.votes[kind].items() if len(it) >= needed]
+        return min(found) if found else None
 
-    def voted(self, kind: str, epoch: int, shard: int) -> "Blob":
-        """This blob once a shard said so too."""
-        said = self.votes[kind].get(epoch, frozenset()) | {shard}
-        return dataclasses.replace(self, votes={**self.votes, kind: {**self.votes[kind], epoch: said}})
+    def voted(self, kind: str, epoch: int, shards: frozenset[int]) -> "Blob":
+        """This blob once these shards said so too."""
+        said = self.votes[kind].get(epoch, frozenset()) | shards
+        return Blob(self.until, self.poster, {**self.votes, kind: {**self.votes[kind], epoch: said}})
 
 
 def coded(votes: Mapping[int, frozenset[int]]) -> dict[int, int]:

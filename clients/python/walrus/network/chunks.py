@@ -8,7 +8,7 @@ import contextlib
 import dataclasses
 import itertools
 import struct
-from typing import Any, AsyncIterator, Callable, Iterator, Optional, Union
+from typing import Any, AsyncIterator, Callable, Iterator, Optional, Sequence, Union
 
 from .. import bundles, client
 
@@ -160,9 +160,12 @@ class Writer:
             identifier = encoded.identifier
             return identifier, await self.store_encoded(encoded, until)
         finally:
-            task = asyncio.create_task(self.give_back(identifier, stack))
-            self.giving.add(task)
-            task.add_done_callback(self.giving.discard)
+            if late := self.network.left(identifier):
+                task = asyncio.create_task(self.give_back(late, stack))
+                self.giving.add(task)
+                task.add_done_callback(self.giving.discard)
+            else:
+                await stack.aclose()
 
     async def store_encoded(self, encoded: client.Encoded, until: int) -> bool:
         """Stores an encoded blob; whether it was there before."""
@@ -173,6 +176,6 @@ class Writer:
         await (network.register(identifier, until) if found else network.publish(encoded, until))
         return False
 
-    async def give_back(self, identifier: bytes, stack: contextlib.AsyncExitStack) -> None:
+    async def give_back(self, late: Sequence["asyncio.Task[Any]"], stack: contextlib.AsyncExitStack) -> None:
         async with stack:
-            await self.network.left(identifier)
+            await asyncio.wait(late)

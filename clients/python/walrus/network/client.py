@@ -156,6 +156,14 @@ class Network(View):
         """Stores a blob at these shards until all have answered, or it is over and those that were not late before had
         as long again as the others took; what each of them said that would not do. Who is late goes on alone."""
         tasks, said, begun = dict[str, "asyncio.Task[dict[int, str]]"](), dict[int, str](), time.monotonic()
+
+        pending = set["asyncio.Task[dict[int, str]]"]()
+
+        def answered(task: "asyncio.Task[dict[int, str]]") -> None:
+            pending.discard(task)
+            if not pending:
+                self.waiting.tell()
+
         size = sum(map(len, (encoded.metadata, *encoded.slivers[0])))
         for name in dict.fromkeys(seat.name for seat in seats):
             own = [seat for seat in seats if seat.name == name]
@@ -163,21 +171,16 @@ class Network(View):
                 said |= {seat.number: "it is behind with what was stored before" for seat in own}
             else:
                 tasks[name] = asyncio.create_task(self.put_at(own, encoded), name=encoded.identifier.hex())
-        prompt = {task for name, task in tasks.items() if not self.behind[name]}
-        over, pending = asyncio.create_task(self.until(is_over, None)), {*tasks.values()}
+                tasks[name].add_done_callback(answered)
+        pending |= {*tasks.values()}
         try:
-            while pending and not over.done():
-                await asyncio.wait({over, *pending}, return_when=asyncio.FIRST_COMPLETED)
-                pending = {task for task in pending if not task.done()}
-            if pending & prompt:
+            await self.until(lambda it: not pending or is_over(it), None)
+            if prompt := [task for name, task in tasks.items() if task in pending and not self.behind[name]]:
                 await asyncio.wait(prompt, timeout=max(GRACE, time.monotonic() - begun))
-        except asyncio.CancelledError:
+        except BaseException:  # nobody waits for it any more, or the ledger is not followed
             for task in tasks.values():
                 task.cancel()
             raise
-        finally:
-            over.cancel()
-            await asyncio.gather(over, return_exceptions=True)
         for name, task in tasks.items():
             if task.done():
                 said |= task.result()
@@ -190,8 +193,7 @@ class Network(View):
         name, said = seats[0].name, dict[int, str]()
         await self.until(lambda it: name in it.addresses, LATE)  # it has perhaps just come
         for seat in seats:
-            step = f"store at shard {seat.number}", request_of(encoded, seat.number), (client.DONE,)
-            said[seat.number] = (await client.take_steps(seat, [step]))[1]  # type: ignore[list-item]
+            said[seat.number] = await seat.store(request_of(encoded, seat.number))
         return said
 
     def leave_behind(self, name: str, task: "asyncio.Task[dict[int, str]]", size: int) -> None:
@@ -206,10 +208,9 @@ class Network(View):
         task.add_done_callback(arrived)
         asyncio.get_running_loop().call_later(LATE, task.cancel)
 
-    async def left(self, identifier: bytes) -> None:
-        """Waits until no node is left behind with a blob."""
-        if late := [task for task in self.late if task.get_name() == identifier.hex()]:
-            await asyncio.wait(late)
+    def left(self, identifier: bytes) -> "list[asyncio.Task[dict[int, str]]]":
+        """What goes on to nodes that are left behind with a blob."""
+        return [task for task in self.late if task.get_name() == identifier.hex()]
 
     async def fetch(
         self, identifier: bytes, seconds: float = 30, member: Optional[int] = None, calls: Optional[Calls] = None

@@ -12,7 +12,7 @@ ATTEST = "attest"
 ADDRESS = "address"
 PAST = "past"
 LAST_EPOCH, LAST_UNTIL, MOST_FAULTS, MOST_SHARE = 65_535, 65_536, 333, 16_777_216
-LONGEST, SHORT = 16_384, 512  # bytes of an entry, and of one that is kept as it was read
+LONGEST = 16_384  # bytes of an entry
 DIGITS = 12  # of a number; of a place all, as etcd's keys have them
 LAST_MINUTE = 99_999_999  # since 1970
 NAME, HOST = re.compile("[A-Za-z0-9][A-Za-z0-9._-]{0,63}"), re.compile("[A-Za-z0-9:][A-Za-z0-9.:-]{0,252}")
@@ -67,32 +67,30 @@ class Entry:
     revision: int
     key: str
 
+    @functools.cached_property
+    def said(self) -> tuple[list[str], list[Any]]:
+        """The words, and what the fields say."""
+        return read(self.key)
+
     @property
     def words(self) -> list[str]:
         """The poster, the kind and the fields; nothing where the text has not the form of an entry."""
-        return read_once(self.key)[0]
+        return self.said[0]
 
     @property
     def values(self) -> list[Any]:
         """What the fields say."""
-        return read_once(self.key)[1]
-
-
-def read_once(text: str) -> tuple[list[str], list[Any]]:
-    """The words of an entry and what its fields say, asked for several times, so that those of short ones are kept."""
-    return read_short(text) if len(text) <= SHORT else read(text if len(text) <= LONGEST else "")
+        return self.said[1]
 
 
 def read(text: str) -> tuple[list[str], list[Any]]:
-    words = text.split("/")
+    """The words of an entry and what its fields say; nothing where the text has not the form of one."""
+    words = text.split("/") if len(text) <= LONGEST else []
     if len(words) > 1 and NAME.fullmatch(words[0]) and len(words) - 2 == len(FIELDS.get(words[1], words)):
         values = [form(text) for form, text in zip(FIELDS[words[1]], words[2:])]
         if None not in values:
             return words, values
     return [], []
-
-
-read_short = functools.lru_cache(4_096)(read)
 
 
 def entry_key(poster: str, kind: str, *fields: object) -> str:

@@ -6,6 +6,7 @@ poster's share, and what is posted under a name that the operator has expelled."
 import collections
 import copy
 import dataclasses
+import functools
 from typing import Optional
 
 from .blobs import Blob, Blobs, Over
@@ -28,7 +29,13 @@ REFUSED = {  # entries that change nothing: the first word of their line, and wh
 
 def refusal(word: str) -> str:
     """Why an entry with these words changes nothing; nothing where it does."""
-    return next((reason for words, reason in REFUSED.items() if word.startswith(words)), "")
+    return REFUSED.get(word) or REFUSED.get(word.partition(" ")[0]) or ""
+
+
+@functools.lru_cache(4_096)
+def owned(owners: tuple[str, ...], node: str) -> frozenset[int]:
+    """The shards of a node in a committee."""
+    return frozenset(shard for shard, owner in enumerate(owners) if owner == node)
 
 
 class Void(Exception):
@@ -69,8 +76,7 @@ class Ledger:
 
     def shards_of(self, node: str, epoch: Optional[int] = None) -> list[int]:
         """The shards of a node in the committee of an epoch, the writing one where none is named."""
-        owners = self.writing if epoch is None else self.owners(epoch)
-        return [shard for shard, owner in enumerate(owners) if owner == node]
+        return sorted(owned(self.writing if epoch is None else self.owners(epoch), node))
 
     def certificate(self, identifier: bytes) -> Optional[tuple[int, int]]:
         blob = self.blobs.get(identifier)
@@ -92,7 +98,7 @@ class Ledger:
 
     def voted(self, kind: str, identifier: bytes, node: str) -> bool:
         """Whether a node said so in the writing epoch."""
-        blob, shards = self.blobs.get(identifier), set(self.shards_of(node))
+        blob, shards = self.blobs.get(identifier), owned(self.writing, node)
         return bool(blob and shards and shards <= blob.votes[kind].get(self.writing_epoch, frozenset()))
 
     def share(self, poster: str) -> int:
@@ -141,7 +147,7 @@ class Ledger:
         if kind in (ACK, ATTEST, "ready", "finish"):
             if entry.values[0] != self.writing_epoch:
                 raise Void(f"epoch {self.writing_epoch} is written")
-            if not self.shards_of(poster):
+            if not owned(self.writing, poster):
                 raise Void(f"{poster} has no shard in the committee of epoch {self.writing_epoch}")
         match kind, *entry.values:
             case "register", identifier, until:
@@ -232,12 +238,11 @@ class Ledger:
             return "expires"
         if self.voted(kind, identifier, poster):
             return "already"
-        count = len(blob.votes[kind].get(epoch, frozenset()) | {*self.shards_of(poster)})
+        count = len(blob.votes[kind].get(epoch, frozenset()) | owned(self.writing, poster))
         return f"{('certified' if kind == ACK else 'invalid') if count >= self.quorum else 'counted'} {count}"
 
     def _vote(self, poster: str, kind: str, epoch: int, identifier: bytes) -> None:
-        for shard in self.shards_of(poster):
-            self.blobs[identifier] = self.blobs[identifier].voted(kind, epoch, shard)
+        self.blobs[identifier] = self.blobs[identifier].voted(kind, epoch, owned(self.writing, poster))
 
     def _begun(self, epoch: int, faults: int, owners: tuple[str, ...]) -> str:
         if not faults or len(owners) != 3 * faults + 1 or self.now and faults != self.faults:
@@ -261,7 +266,7 @@ class Ledger:
         """The shards of the next committee that are ready once a node says so too."""
         if not self.moving:
             raise Void("no epoch is to come")
-        return self.ready | {*self.shards_of(poster)}
+        return self.ready | owned(self.writing, poster)
 
     def _finish(self) -> None:
         self.epoch, self.now, self.next = self.epoch + 1, self.next, ()

@@ -11,7 +11,7 @@ from .. import client
 from ..wire import Wire, connect
 from .ledger import Ledger
 
-LANES = 8  # exchanges with a shard at once
+LANES, LARGE = 8, 4_194_304  # exchanges with a shard at once; bytes of a large one
 FIGURES, SCRUB = b"\x60", b"\x61"  # requests of an operator: a node's figures, and these once it begins a scrub
 
 
@@ -22,6 +22,7 @@ class Seat(client.Shard):
     def __init__(self, peers: "Peers", name: str, number: int, faults: int):
         super().__init__(number, faults, peers.seconds)
         self.peers, self.name, self.turns = peers, name, asyncio.Semaphore(LANES)
+        self.large = asyncio.Semaphore(2)  # of large requests a node keeps no more
         self.idle = list[Wire]()
 
     async def connection(self) -> Wire:
@@ -45,7 +46,11 @@ class Seat(client.Shard):
             try:
                 async with asyncio.timeout(self.seconds):
                     wire = await self.connection()
-                    replies, _ = await asyncio.gather(self.hear(wire, requests), self.send(wire, requests))
+                    if len(requests) == 1:  # it is answered once all of it came
+                        await self.send(wire, requests)
+                        replies = await self.hear(wire, requests)
+                    else:
+                        replies, _ = await asyncio.gather(self.hear(wire, requests), self.send(wire, requests))
             except (EOFError, OSError, ValueError) as error:
                 raise ConnectionError(client.fault_in_words(error, self.seconds)) from None
             else:
@@ -56,6 +61,19 @@ class Seat(client.Shard):
                     wire.transport.abort()
             self.took, self.late = max(time.monotonic() - begun, 0.9 * self.took), False
             return replies
+
+    async def store(self, request: list[client.Data]) -> str:
+        """Has a blob stored that comes whole; what the shard says where it is not. Who waits no more for it lets go of
+        what is sent."""
+        try:
+            async with contextlib.AsyncExitStack() as stack:
+                if sum(map(len, request)) >= LARGE:
+                    await stack.enter_async_context(self.large)
+                [reply] = await self.exchange([request])
+        except ConnectionError as error:
+            return str(error)
+        done = isinstance(reply.end, client.Answer) and reply.end.code == client.DONE
+        return "" if done else f"store at shard {self.number}: {client.in_words(reply.end)}"
 
     async def hear_one(self, reader: client.Source, request: client.Request) -> client.Reply:
         reply = await super().hear_one(reader, request)

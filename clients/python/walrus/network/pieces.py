@@ -68,8 +68,8 @@ async def split(stream: AsyncIterator[bytes], size: int) -> AsyncGenerator[bytes
             while spool.size + len(view) > size:  # a piece is given out once something follows it
                 rest = size - spool.size
                 spool.add(view[:rest])
-                view, whole, spool = view[rest:], spool.whole(), Spool()
-                yield whole
+                view, full, spool = view[rest:], spool, Spool()
+                yield full.whole()  # of which nothing stays here
             spool.add(view)
         yield spool.whole()
     finally:

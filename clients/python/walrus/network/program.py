@@ -11,7 +11,7 @@ from .. import client
 from ..client import Data
 from .. import wire
 
-from .judge import engine_of
+from .judge import SHORT, engine_of
 
 
 class Calls(client.Walrus):
@@ -35,8 +35,12 @@ class Calls(client.Walrus):
         return made
 
     async def run(self, *words: object, data: Union[Data, Sequence[Data]] = b"") -> tuple[int, bytes]:
+        size = sum(map(len, data)) if isinstance(data, list) else len(data)
         async with self.turn():
-            status, text = await asyncio.get_running_loop().run_in_executor(self.pool, self.call, words, data)
+            if isinstance(self.engine, Library) and room_for(words, size) < SHORT:
+                status, text = self.call(words, data)
+            else:
+                status, text = await asyncio.get_running_loop().run_in_executor(self.pool, self.call, words, data)
         return status, bytes(text) if status or len(text) < wire.LARGE else text
 
     def call(self, words: Sequence[object], data: Union[Data, Sequence[Data]]) -> tuple[int, memoryview]:

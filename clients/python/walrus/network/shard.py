@@ -1,11 +1,12 @@
 """A shard of one epoch: each reply is the judge's, over what the ledger says of a blob and what the disk has of it."""
+import asyncio
 import contextlib
 import dataclasses
 import errno
 import shutil
 import sqlite3
 import sys
-from typing import Callable, Collection, Mapping, NamedTuple, Sequence
+from typing import Callable, Collection, Mapping, NamedTuple, Optional, Sequence
 
 from .. import client, frames
 from ..client import Data
@@ -23,6 +24,12 @@ UNREGISTERED, DECLINED, FULL, NO_MEMORY = 1, 5, 6, 7
 ALL = METADATA, PRIMARY, SECONDARY, PROOF
 WANTING = errno.ENOSPC, errno.EDQUOT, errno.EIO, errno.EROFS  # how a disk does not take what came
 NAMES = "metadata", "primary sliver", "secondary sliver", "proof"
+Writing = asyncio.Task[list[str]]  # contents that are written to files; the names of these
+
+
+def pages(parts: Sequence[Data]) -> int:
+    """The pages of a disk that parts take, at most."""
+    return sum(len(it) // 4096 + 1 for it in parts)
 
 
 class Past(ConnectionError):
@@ -178,31 +185,68 @@ class Shard:
                 return [answer(DECLINED)]  # the next committee has begun with what was held then
             if self.store.sizes(self.holding, self.epoch, identifier) or self.store.wrong(self.holding, identifier):
                 return []
-            small = self.judges.here(whole.end - whole.start)
-            judged = await self.together.judged(whole) if small else (await self.judged_together([whole]))[0]
+            parts = dict(zip((METADATA, PRIMARY, SECONDARY), whole.parts))
+            if self.judges.here(whole.end - whole.start):
+                judged, writing = await self.together.judged(whole), None
+            else:
+                writing = self.write(identifier, parts) if pages(whole.parts) < self.free_pages() else None
+                try:
+                    [judged] = await self.judged_together([whole])
+                except BaseException:
+                    self.let_go(writing)
+                    raise
             for reply in judged.replies[:3]:
                 if code_of(reply) != client.DONE:
+                    self.let_go(writing)
                     return reply
-            return await self.keep(identifier, judged, dict(zip((METADATA, PRIMARY, SECONDARY), whole.parts)))
+            return await self.keep(identifier, judged, parts, writing=writing)
+
+    def write(self, identifier: bytes, parts: Mapping[int, Data]) -> Writing:
+        """Has long parts written to files, beside what else is done; the names of these."""
+        long = [it for it in parts.values() if len(it) > SMALL]
+        return asyncio.create_task(self.judges.work(self.store.files.write, identifier, *long))
+
+    def let_go(self, writing: Optional[Writing]) -> None:
+        """Has files removed, once they are written, that nobody wants."""
+
+        def written(task: Writing) -> None:
+            if not task.cancelled() and not task.exception():
+                self.store.abandon(task.result())
+
+        if writing:
+            writing.add_done_callback(written)
+
+    def free_pages(self) -> int:
+        """The pages of the disk that are free beside the reserve."""
+        disk = shutil.disk_usage(self.store.path.parent)
+        return min(max(0, int(disk.free - self.reserve * disk.total)) // 4096, 2**32 - 1)
 
     async def keep(
-        self, identifier: bytes, judged: Judged, parts: Mapping[int, Data], mends: bool = False
+        self,
+        identifier: bytes,
+        judged: Judged,
+        parts: Mapping[int, Data],
+        mends: bool = False,
+        writing: Optional[Writing] = None,
     ) -> list[bytes]:
-        """Stages parts that the judge takes; its last reply, or that the disk does not take what that rests on."""
-        needed, disk = sum(len(it) // 4096 + 1 for it in judged.requests), shutil.disk_usage(self.store.path.parent)
-        free = min(max(0, int(disk.free - self.reserve * disk.total)) // 4096, 2**32 - 1)  # beside the reserve
-        if not parts or (needed <= free or mends) and await self.stage(identifier, parts, judged.losses):
+        """Stages parts that the judge takes, which are perhaps being written to files already; its last reply, or that
+        the disk does not take what that rests on."""
+        needed, free = pages(judged.requests), self.free_pages()
+        fits = needed <= free or mends or writing
+        if not parts or fits and await self.stage(identifier, parts, judged.losses, writing):
             reply = self.note(judged)
             if self.store.losses == judged.losses:
                 return reply
         return [answer(FULL, needed, free)]
 
-    async def stage(self, identifier: bytes, parts: Mapping[int, Data], losses: int) -> bool:
+    async def stage(
+        self, identifier: bytes, parts: Mapping[int, Data], losses: int, writing: Optional[Writing] = None
+    ) -> bool:
         """Stages parts, long ones in files, unless something was lost meanwhile; whether the disk takes them so far."""
-        long, names, kept = {part: it for part, it in parts.items() if len(it) > SMALL}, list[str](), False
+        long, names, kept = [part for part, it in parts.items() if len(it) > SMALL], list[str](), False
         try:
             if long:
-                names = await self.judges.work(self.store.files.write, identifier, *long.values())
+                names = await (writing or self.write(identifier, parts))
                 self.must_serve()
             if self.store.losses == losses:
                 files = dict(zip(long, names))

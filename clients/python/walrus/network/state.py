@@ -16,7 +16,7 @@ from .blobs import Blob, Blobs, blob_of, coded
 from .entries import ACK, ATTEST, Chain, Entry
 from .ledger import Ledger
 
-CACHED, EACH, LATER = 8_192, 0.1, 1.0  # blobs kept as read; seconds between two commits, and if the disk is full
+CACHED, EACH, LATER = 8_192, 0.5, 1.0  # blobs kept as read; seconds between two commits, and if the disk is full
 TORN = sqlite3.SQLITE_CORRUPT, sqlite3.SQLITE_NOTADB, sqlite3.SQLITE_ERROR  # a database that is none, or another's
 TABLES = """
 PRAGMA journal_mode = WAL;

@@ -9,7 +9,7 @@ from .whole import Whole
 if TYPE_CHECKING:
     from .shard import Judged
 
-SOON = 0.002  # seconds for which a blob waits for others
+SOON, ALONE = 0.002, 0.01  # seconds for which a blob waits for others, unless none came for so long
 
 
 class Together:
@@ -17,14 +17,15 @@ class Together:
 
     def __init__(self, judge: "Callable[[Sequence[Whole]], Awaitable[list[Judged]]]"):
         self.judge, self.waiting = judge, list[tuple[Whole, "asyncio.Future[Judged]"]]()
-        self.tasks = set["asyncio.Task[None]"]()
+        self.tasks, self.came = set["asyncio.Task[None]"](), -ALONE  # when the last one came
 
     async def judged(self, whole: Whole) -> "Judged":
         """What is judged of a blob."""
         loop = asyncio.get_running_loop()
         judged: "asyncio.Future[Judged]" = loop.create_future()
         if not self.waiting:
-            loop.call_later(SOON, self.begin)
+            loop.call_later(SOON if loop.time() < self.came + ALONE else 0, self.begin)
+        self.came = loop.time()
         self.waiting.append((whole, judged))
         return await judged
 

@@ -1,0 +1,82 @@
+"""What is stored at a node: who waits no more for it keeps nothing of it, and few large blobs are sent at once."""
+import asyncio
+import types
+import unittest
+from typing import Any
+from unittest import mock
+
+import harness  # noqa: F401
+from walrus import client, kinds
+from walrus.frames import answer
+from walrus.network.peers import LARGE, Seat
+
+
+class Wire:
+    """A connection to a shard that takes nothing before it is told to, and then says that it is done."""
+
+    def __init__(self, code: int = client.DONE):
+        self.transport, self.takes, self.is_aborted, self.size = self, asyncio.Event(), False, 0
+        self.said = client.envelope(answer(code), 2)
+
+    def write(self, data: bytes) -> None:
+        self.size += len(data)
+
+    async def drain(self) -> None:
+        await self.takes.wait()
+
+    async def readexactly(self, size: int) -> bytes:
+        said, self.said = self.said[:size], self.said[size:]
+        return said
+
+    def abort(self) -> None:
+        self.is_aborted = True
+
+
+class Storing(unittest.IsolatedAsyncioTestCase):
+    async def asyncSetUp(self) -> None:
+        self.wires = list[Wire]()
+        peers: Any = types.SimpleNamespace(seconds=30, heard=0)
+        self.seat = Seat(peers, "node-2", 2, 1)
+        self.enterContext(mock.patch.object(self.seat, "connection", self.connection))
+
+    async def connection(self) -> Wire:
+        self.wires.append(Wire())
+        return self.wires[-1]
+
+    async def turns(self) -> None:
+        for _ in range(20):
+            await asyncio.sleep(0)
+
+    async def test_who_waits_no_more_lets_go_of_what_is_sent(self) -> None:
+        storing = asyncio.create_task(self.seat.store([b"a blob"]))
+        await self.turns()
+        [wire] = self.wires
+        self.assertGreater(wire.size, 6)
+        storing.cancel()
+        with self.assertRaises(asyncio.CancelledError):
+            await storing
+        self.assertTrue(wire.is_aborted)
+        self.assertEqual((self.seat.idle, self.seat.exchanges), ([], set()))
+
+    async def test_a_node_is_sent_two_large_blobs_at_once_and_small_ones_beside(self) -> None:
+        large = [asyncio.create_task(self.seat.store([bytes(LARGE)])) for _ in range(3)]
+        await self.turns()
+        self.assertEqual(len(self.wires), 2)
+        small = asyncio.create_task(self.seat.store([b"small"]))
+        await self.turns()
+        self.assertEqual(len(self.wires), 3)
+        for wire in self.wires[:1] + self.wires[2:]:
+            wire.takes.set()
+        self.assertEqual(await small, "")
+        await self.turns()
+        self.assertEqual(len(self.wires), 4)  # the third large one has the place of the first
+        for wire in self.wires:
+            wire.takes.set()
+        self.assertEqual(await asyncio.gather(*large), [""] * 3)
+
+    async def test_what_a_shard_says_is_told(self) -> None:
+        with mock.patch.object(self.seat, "connection", mock.AsyncMock(return_value=(wire := Wire(kinds.UNVERIFIED)))):
+            wire.takes.set()
+            self.assertEqual(await self.seat.store([b"a blob"]), "store at shard 2: unverified")
+        with mock.patch.object(self.seat, "connection", side_effect=ConnectionRefusedError(111, "refused")):
+            self.assertEqual(await self.seat.store([b"a blob"]), "connection refused")
