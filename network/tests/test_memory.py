@@ -15,7 +15,7 @@ from unittest import mock
 sys.path.insert(0, str(pathlib.Path(__file__).resolve().parents[2] / "clients" / "python"))
 
 from walrus import client, port, wire  # noqa: E402
-from walrus.network import certificates  # noqa: E402
+from walrus.network import certificates, pieces  # noqa: E402
 from walrus.network.pieces import Memory  # noqa: E402
 from walrus.baskets import PASSED, Basket  # noqa: E402
 from walrus.streams import take_envelope, write_in_slices  # noqa: E402
@@ -101,6 +101,29 @@ class Shares(unittest.IsolatedAsyncioTestCase):
         self.assertEqual((self.steps, self.memory.taken), (["a", "a more"], 17))
         self.assertEqual(await self.end("a"), ["b", "b more"])
         await self.end("b")
+
+    async def test_what_is_late_gives_its_memory_to_who_waits(self) -> None:
+        late = asyncio.create_task(asyncio.sleep(3600))
+        self.memory.late.add(late)
+        await self.begin("a", 10)
+        late.add_done_callback(lambda _: self.ends["a"].set())
+        with mock.patch.object(pieces, "PATIENCE", 0.05):
+            await self.begin("b", 10)
+            self.assertEqual((self.steps, late.done()), (["a"], False))  # for a moment nothing is ended
+            await asyncio.wait([late], timeout=10)
+        await settled()
+        self.assertEqual((self.steps, late.cancelled()), (["a", "b"], True))
+        await self.end("b")
+
+    async def test_who_finds_memory_ends_nothing(self) -> None:
+        late = asyncio.create_task(asyncio.sleep(3600))
+        self.memory.late.add(late)
+        with mock.patch.object(pieces, "PATIENCE", 0.0):
+            await self.begin("a", 10)
+            await asyncio.sleep(0.02)
+        self.assertFalse(late.done())
+        late.cancel()
+        await self.end("a")
 
     async def test_who_gives_up_leaves_nothing_behind(self) -> None:
         await self.begin("a", 6)

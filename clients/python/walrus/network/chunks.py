@@ -177,5 +177,10 @@ class Writer:
         return False
 
     async def give_back(self, late: Sequence["asyncio.Task[Any]"], stack: contextlib.AsyncExitStack) -> None:
+        """Gives memory back once no node is left behind with a blob, or others have waited for it."""
         async with stack:
-            await asyncio.wait(late)
+            self.memory.late |= {*late}
+            try:
+                await asyncio.wait(late)
+            finally:
+                self.memory.late -= {*late}

@@ -8,11 +8,12 @@ import contextlib
 import dataclasses
 import mmap
 import tempfile
-from typing import IO, AsyncGenerator, AsyncIterator, Optional
+from typing import IO, Any, AsyncGenerator, AsyncIterator, Optional
 
 AHEAD = 131_072  # bytes of a piece that are in memory while it comes
 LEAST, LATER = 1_048_576, 3.25  # what a piece takes at least; what it takes to be decoded, in its bytes
 TIMES, MORE = 8, 11  # what it takes to be encoded, in its bytes, at f = 1 and beyond
+PATIENCE = 1.0  # seconds for which who wants memory waits for what can be ended
 
 
 class Mapped(mmap.mmap):
@@ -138,6 +139,11 @@ class Memory:
     def __init__(self, size: int):
         self.size, self.taken, self.grown = size, 0, 0  # what is taken, and what of it is more that was wanted later
         self.waiting, self.growing = collections.deque[Wish](), list[Wish]()
+        self.late = set["asyncio.Task[Any]"]()  # what is ended where others want the memory that it has
+
+    def end_late(self) -> None:
+        for task in self.late:
+            task.cancel()
 
     def is_short(self, size: int) -> bool:
         """Whether who wants so much has to wait."""
@@ -167,6 +173,7 @@ class Memory:
         """Waits until a wish is granted."""
         (self.growing if wish.share.size else self.waiting).append(wish)
         self.serve()
+        ending = asyncio.get_running_loop().call_later(PATIENCE, self.end_late)
         try:
             await asyncio.shield(wish.granted)
         except asyncio.CancelledError:
@@ -179,6 +186,8 @@ class Memory:
                 self.waiting.remove(wish)
             self.serve()
             raise
+        finally:
+            ending.cancel()
 
     @contextlib.asynccontextmanager
     async def share(self, size: int, later: int = 0) -> AsyncIterator[Share]:
