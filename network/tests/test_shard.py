@@ -11,6 +11,7 @@ import subprocess
 import sys
 import tempfile
 import threading
+import time
 import types
 import unittest
 from typing import Any, Optional
@@ -438,7 +439,7 @@ class Trouble(ShardCase):
 
     async def test_who_finds_no_memory_waits_and_is_told_to_come_again(self) -> None:
         metadata, primary, _ = await self.put(b"first")
-        need = judge.need_of(3_000)
+        need = self.judges.need(3_000)
         self.judges.room = judge.Room(need)
         self.assertEqual(await asyncio.gather(*(self.read(primary[1:33]) for _ in range(9))), [[metadata, primary]] * 9)
         async with self.judges.room.take(need):
@@ -450,6 +451,45 @@ class Trouble(ShardCase):
             async with self.judges.room.take(need), self.judges.room.take(1, 0.05):
                 pass
         self.assertEqual(self.judges.room.free, need)
+
+    async def test_what_a_large_judgement_had_goes_back_to_the_system_and_of_a_small_one_stays(self) -> None:
+        def resident() -> int:
+            return int(pathlib.Path("/proc/self/statm").read_text().split()[1]) * os.sysconf("SC_PAGESIZE")
+
+        def judged() -> bytes:
+            had = [bytearray(b"x" * 1_000_000) for _ in range(60)]
+            return b"y" * (100_000 + len(had))  # which lies behind it
+
+        before = resident()
+        kept = [await self.judges.ask(2_000_000, judged)]
+        self.assertLess(resident() - before, 20_000_000)
+        kept.append(await self.judges.ask(1_000, judged))
+        self.assertGreater(resident() - before, 40_000_000)
+        self.assertEqual([*map(len, kept)], [100_060] * 2)
+
+    async def test_as_many_judge_at_once_as_there_are_processors(self) -> None:
+        count = len(os.sched_getaffinity(0))
+        together, lock, under_way, most = threading.Barrier(count + 1), threading.Lock(), 0, 0
+
+        def step(waits: bool) -> None:
+            nonlocal under_way, most
+            with lock:
+                under_way += 1
+                most = max(most, under_way)
+            if waits:
+                together.wait(30)  # which so many must come to at once
+            else:
+                time.sleep(0.01)
+            with lock:
+                under_way -= 1
+
+        self.judges.room = judge.Room(10_000_000_000)
+        loop = asyncio.get_running_loop()
+        at_once = [asyncio.create_task(self.judges.ask(100_000, step, True)) for _ in range(count)]
+        await loop.run_in_executor(None, together.wait, 30)
+        await asyncio.gather(*at_once)
+        await asyncio.gather(*(self.judges.ask(100_000, step, False) for _ in range(5 * count)))
+        self.assertEqual(most, count)
 
     async def test_where_memory_is_wanting_one_after_the_other_goes_on(self) -> None:
         self.judges.keep(1)

@@ -24,7 +24,10 @@ from .. import wire
 Result = TypeVar("Result")
 PARTS = client.METADATA, client.SECOND_METADATA, client.SLIVER, client.PROOF
 NO_MEMORY, PATIENCE = 5, 20.0  # a status of the program; seconds until who finds no memory is told to come again
-BESIDE, TIMES = 8_388_608, 6  # memory of a judge: so much, and so many times the bytes that it is told and asked
+# Memory of a judge: so much, and so many times the bytes that it is told and asked. What was measured is less: at most
+# 35 MB of 50 for a call of the library, and 64 of 67 for a process with what is told to it.
+NEEDS = {Library: (8_388_608, 3), Program: (16_777_216, 6)}
+LONG = 1_048_576  # bytes over which a judge's memory is given back to the system each time
 SHORT = 65_536  # bytes over which the library judges faster than another thread would begin to
 TRIM_THRESHOLD, MMAP_THRESHOLD, ARENA_MAX = -1, -3, -8  # options of `mallopt`
 
@@ -55,6 +58,15 @@ def keep_memory() -> None:
     with contextlib.suppress(AttributeError):  # of a system with another C library
         for option, value in ((TRIM_THRESHOLD, 67_108_864), (MMAP_THRESHOLD, 33_554_432), (ARENA_MAX, 1)):
             ctypes.CDLL(None).mallopt(option, value)
+
+
+def trimmed(step: Callable[..., Result], *words: object) -> Result:
+    """What a step gives; of its memory the system has back what nobody needs any more."""
+    try:
+        return step(*words)
+    finally:
+        with contextlib.suppress(AttributeError):
+            ctypes.CDLL(None).malloc_trim(0)
 
 
 def name_of(payload: bytes) -> bytes:
@@ -132,16 +144,6 @@ class Room:
             self.freed.set()
 
 
-def need_of(size: int) -> int:
-    """The memory that a judge takes which is told and asked so many bytes."""
-    return BESIDE + TIMES * size
-
-
-def largest(faults: int) -> int:
-    """The memory of a judge of the largest request, over a sliver and a proof of the largest blob."""
-    return need_of(2 * client.Shape(faults).longest)
-
-
 class Judges:
     """As many judges as there are processors, as far as memory goes. What the largest needs is kept from the start."""
 
@@ -152,10 +154,16 @@ class Judges:
         self.pool = concurrent.futures.ThreadPoolExecutor(len(os.sched_getaffinity(0)), "judge")
         self.alone, self.count = threading.Lock(), 0
 
+    def need(self, size: int) -> int:
+        """The memory that a judge takes which is told and asked so many bytes."""
+        beside, times = NEEDS[type(self.engine)]
+        return beside + times * size
+
     def keep(self, faults: int) -> None:
-        """Keeps memory for one judge, by which one request after the other is answered whatever else wants memory."""
+        """Keeps memory for one judge, by which one request after the other is answered whatever else wants memory: of
+        the largest one, over a sliver and a proof of the largest blob."""
         if not self.least:
-            self.least = largest(faults)
+            self.least = self.need(2 * client.Shape(faults).longest)
             self.room.grow(self.least)
             self.kept = mmap.mmap(-1, self.least)
 
@@ -181,7 +189,9 @@ class Judges:
 
     async def ask(self, size: int, step: Callable[..., Result], *words: object) -> Result:
         """What a judge gives who is told and asked so many bytes."""
-        async with self.room.take(need_of(size)):
+        async with self.room.take(self.need(size)):
+            if size > LONG:
+                return await self.work(trimmed, step, *words)
             return await self.work(step, *words, here=self.here(size))
 
     def here(self, size: int) -> bool:
