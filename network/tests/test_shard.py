@@ -705,6 +705,36 @@ class Recovery(NodeCase):
             task.cancel()
         await asyncio.gather(*tasks, return_exceptions=True)
 
+    async def test_a_scrub_reads_no_more_than_its_rate_and_does_not_make_up_for_lost_time(self) -> None:
+        for size in (900, 3_000, 2_000, 90, 2_500):
+            await self.put(self.drawn.randbytes(size))
+        now, sleep, check, read = 1_000.0, asyncio.sleep, self.shard.check, list[tuple[float, int]]()
+
+        async def sleeping(seconds: float) -> None:
+            nonlocal now
+            now += max(seconds, 0)
+            await sleep(0)
+
+        async def checking(identifier: bytes) -> tuple[int, bool]:
+            nonlocal now
+            begun, found = now, await check(identifier)
+            now += 30.0 if len(read) == 1 else 0.5  # in which it is judged; once for long
+            read.append((begun, found[0]))
+            return found
+
+        node = self.node({0: {0: self.shard}})
+        node.settings = types.SimpleNamespace(scrub=30.0, scrub_rate=1_000)
+        done = scrub.Scrub(node)
+        clock = types.SimpleNamespace(monotonic=lambda: now, time=lambda: now)
+        with mock.patch.object(scrub, "time", clock), mock.patch.object(asyncio, "sleep", sleeping):
+            with mock.patch.object(self.shard, "check", checking):
+                await done.scrub()
+        self.assertEqual((done.figures.blobs, done.figures.wrong, len(read)), (5, 0, 5))
+        self.assertGreater(min(size for _, size in read), 90)
+        ends = [begun for begun, _ in read[1:]] + [now]
+        for (begun, size), end in zip(read, ends):
+            self.assertGreaterEqual(end - begun, size / 1_000 - 1e-6)  # until the next one is read
+
     async def test_a_late_node_gives_its_word_for_all_that_it_holds(self) -> None:
         names = [await self.certified(b"held", of="bcd"), await self.certified(b"said"), await self.lacks(700)]
         names.append((await self.put(b"unsaid by all"))[1][1:33])
@@ -833,6 +863,18 @@ class Committees(NodeCase):
         with mock.patch.object(recovery, "fill", fill), mock.patch.object(recovery, "LANES", 1):
             left = [await recovery.settle(self.node({0: {0: self.shard}}), 0, [*blobs]) for _ in range(2)]
         self.assertEqual(left, [2, 0])
+
+    async def test_a_handover_goes_on_below_the_reserve(self) -> None:
+        names = [await self.lacks(size) for size in (700, LARGE)]
+        self.apply(OPERATOR, "begin", 1, 1, "a,b,c,e")
+        later = self.side(1)
+        later.reserve = 1.0
+        refused = await self.parts(b"new")
+        self.assertEqual(code_of(await later.put(refused[0])), shard.FULL)
+        node = self.node({0: {0: self.shard}, 1: {0: later}})
+        await handover.move(node)
+        self.assertEqual([later.settled(it) for it in names], [True, True])
+        self.assertEqual(node.posted, [entry_key("a", "ready", 1)])
 
     async def test_who_has_no_shard_yet_is_not_ready(self) -> None:
         name = await self.certified(b"owed")
