@@ -168,7 +168,7 @@ class Baskets(unittest.IsolatedAsyncioTestCase):
         return (await take_envelope(self.ends[number][0], 999_999, basket))[1]
 
     async def test_payloads_that_come_at_once_are_one_stream(self) -> None:
-        basket = Basket(2)
+        basket = Basket(2, size=400_000)
         tasks = [asyncio.create_task(self.take(number, basket)) for number in (0, 1)]
         for number in (0, 1):
             self.ends[number][1].write(client.envelope(self.large[number])[:100_000])
@@ -184,7 +184,7 @@ class Baskets(unittest.IsolatedAsyncioTestCase):
 
     async def test_what_comes_beside_is_read_past_or_has_the_place_of_one_that_is_slow(self) -> None:
         """So a read has no more memory than for the slivers that it needs, however many it asks for."""
-        basket = Basket(2, 3)
+        basket = Basket(2, 3, 400_000)
         late = asyncio.create_task(self.take(0, basket))
         self.ends[0][1].write(client.envelope(self.large[0])[:-1])
         while not basket.places:
@@ -207,7 +207,7 @@ class Baskets(unittest.IsolatedAsyncioTestCase):
 
     async def test_a_payload_that_still_comes_is_no_part_of_it(self) -> None:
         """What the program reads must not change meanwhile."""
-        basket = Basket(2)
+        basket = Basket(2, size=400_000)
         late = asyncio.create_task(self.take(0, basket))
         self.ends[0][1].write(client.envelope(self.large[0])[:-1])
         while not basket.places:
@@ -220,7 +220,7 @@ class Baskets(unittest.IsolatedAsyncioTestCase):
         late.cancel()
 
     async def test_what_comes_when_all_is_read_takes_no_memory(self) -> None:
-        basket = Basket(2, 3)
+        basket = Basket(2, 3, 400_000)
         coming = [asyncio.create_task(self.take(number, basket)) for number in (0, 1, 2)]
         for number in (0, 1, 2):
             self.ends[number][1].write(client.envelope(self.large[number])[:1000])
@@ -235,7 +235,7 @@ class Baskets(unittest.IsolatedAsyncioTestCase):
             self.assertEqual(await self.take(number, basket), self.small)
 
     async def test_who_breaks_off_leaves_his_place(self) -> None:
-        basket = Basket(1, 2)
+        basket = Basket(1, 2, 400_000)
         broken = asyncio.create_task(self.take(0, basket))
         self.ends[0][1].write(client.envelope(self.large[0])[:-1])
         while not basket.places:
@@ -247,7 +247,7 @@ class Baskets(unittest.IsolatedAsyncioTestCase):
         self.assertEqual(bytes(basket.stream([await self.take(1, basket)])), client.envelope(self.large[1]))
 
     async def test_what_comes_while_all_is_read_is_read_past(self) -> None:
-        basket = Basket(1, 2)
+        basket = Basket(1, 2, 400_000)
         self.ends[0][1].write(client.envelope(self.large[0]))
         first = await self.take(0, basket)
         basket.stream([first])
@@ -256,7 +256,7 @@ class Baskets(unittest.IsolatedAsyncioTestCase):
         self.assertEqual(bytes(first), self.large[0])
 
     async def test_a_payload_of_no_use_gives_way(self) -> None:
-        basket = Basket(1, 2)
+        basket = Basket(1, 2, 400_000)
         self.ends[0][1].write(client.envelope(self.large[0]))
         first = await self.take(0, basket)
         basket.places[0].since -= 60
@@ -264,8 +264,22 @@ class Baskets(unittest.IsolatedAsyncioTestCase):
         stream = basket.stream([first, await self.take(1, basket)])
         self.assertEqual(bytes(stream), b"".join(map(client.envelope, self.large[:2])))
 
+    async def test_what_has_another_length_is_read_past_unless_it_is_a_proof(self) -> None:
+        """Whoever comes first: so nobody who lies has memory, or keeps it from others."""
+        basket, long, proof = Basket(1, 2), bytes(500_000), bytes(600_000)
+        self.ends[0][1].write(client.envelope(long) + client.envelope(self.small))
+        self.assertEqual([await self.take(0, basket) for _ in range(2)], [b"", self.small])
+        basket.size, basket.proofs = 400_000, (600_000,)
+        self.ends[0][1].write(client.envelope(long) + client.envelope(proof) + client.envelope(self.small))
+        found = [await self.take(0, basket) for _ in range(3)]
+        self.assertEqual((found, len(basket.memory)), ([b"", proof, self.small], 0))
+        self.ends[1][1].write(client.envelope(self.large[0]))
+        first = await self.take(1, basket)
+        self.assertEqual(bytes(first), self.large[0])
+        self.assertIs(memoryview(first).obj, basket.memory.obj)
+
     async def test_small_payloads_take_no_place(self) -> None:
-        basket = Basket(2)
+        basket = Basket(2, size=400_000)
         self.ends[0][1].write(client.envelope(self.small))
         self.assertEqual(await self.take(0, basket), self.small)
         self.assertEqual((basket.places, len(basket.memory)), ([], 0))
@@ -401,7 +415,7 @@ class Loops(unittest.TestCase):
             _, request = await take_envelope(other, 999)
             await write_in_slices(other, [request, large], 0)
 
-        loop, basket = asyncio.get_running_loop(), Basket(1)
+        loop, basket = asyncio.get_running_loop(), Basket(1, size=1_000_003)
         server = await loop.create_server(lambda: wire.Wire(accept), "127.0.0.1", 0, ssl=own)
         ours = await wire.connect(*server.sockets[0].getsockname(), ssl=others, server_hostname="node-0")
         ours.write(client.envelope(b"ask"))

@@ -19,7 +19,7 @@ from unittest import mock
 
 from harness import lacking
 
-from walrus import client, engines, kinds
+from walrus import client, engines, kinds, shards
 from walrus.frames import METADATA, PRIMARY, SECONDARY, code_of
 from walrus.network import handover, judge, recovery, scrub, shard
 from walrus.network.judge import Busy, Judges, Unjudged
@@ -280,6 +280,24 @@ class Disk(ShardCase):
             goes_on.set()
             said = await asyncio.gather(*reading)
         self.assertEqual((judged, said[3]), ([*names, names[0]], said[0]))
+
+    async def test_the_lengths_of_replies_are_those_that_the_metadata_of_a_blob_tells_and_no_other(self) -> None:
+        shape = client.Shape(1)
+        other, _, _ = await self.put(bytes(5_000))
+        metadata, primary, _ = await self.put(bytes(range(250)) * 12)
+        for request in (client.Read(primary[1:33]), client.Symbol(primary[1:33], client.PRIMARY, 2)):
+            asked = shards.Asked.of(client.write_frame(request), 2, 4)
+            for false in (b"", other, metadata[:-1], metadata[:-1] + bytes([metadata[-1] ^ 1]), primary):
+                asked.hear(shape, false)
+            self.assertEqual((asked.basket.size, asked.basket.proofs), (0, ()))
+            asked.hear(shape, metadata)
+            said = await self.shard.answer(asked)
+            self.assertEqual((said[0], asked.basket.size), (metadata, len(said[1])))
+            for axis, length in enumerate(asked.basket.proofs):
+                proof = bytes([client.PROOF]) + primary[1:33] + bytes([axis]) + bytes(length - 34)
+                self.assertTrue(shape.allows(proof))
+            asked.hear(shape, other)
+            self.assertEqual(asked.basket.size, len(said[1]))
 
     async def test_a_part_has_one_row(self) -> None:
         metadata, primary, _ = await self.put(bytes(700))

@@ -6,11 +6,9 @@ import asyncio
 import concurrent.futures
 import contextlib
 import ctypes
-import hashlib
 import mmap
 import os
 import pathlib
-import struct
 import threading
 from typing import AsyncIterator, Callable, Optional, TypeVar, Union
 
@@ -19,7 +17,7 @@ from ..envelopes import parts
 from walrus.engines import BUILT, Engine, Library, Program, Ran
 from ..frames import METADATA, PRIMARY, PROOF, SECONDARY, pages_of
 from ..serving import status_in_words
-from .. import wire
+from .. import shapes, wire
 
 Result = TypeVar("Result")
 PARTS = client.METADATA, client.SECOND_METADATA, client.SLIVER, client.PROOF
@@ -71,15 +69,8 @@ def trimmed(step: Callable[..., Result], *words: object) -> Result:
 
 def name_of(payload: bytes) -> bytes:
     """The blob that a part is of. A metadata is looked up under this name, and the judge tells whether it is its."""
-    if payload[0] not in (client.METADATA, client.SECOND_METADATA):
-        return bytes(payload[1:33])
-    front = 11 + (payload[0] == client.SECOND_METADATA)
-    level = [hashlib.sha256(b"\0" + leaf).digest() for (leaf,) in struct.iter_unpack("64s", payload[front:])]
-    while len(level) > 1:
-        level += [bytes(32)] * (len(level) % 2)
-        level = [hashlib.sha256(b"\1" + one + two).digest() for one, two in zip(level[::2], level[1::2])]
-    form = b"\x02" if payload[0] == client.METADATA else b"\x03"
-    return hashlib.sha256(form + payload[1:front] + level[0]).digest()
+    is_metadata = payload[0] in (client.METADATA, client.SECOND_METADATA)
+    return shapes.name_of(payload) if is_metadata else bytes(payload[1:33])
 
 
 def judge(engine: Engine, faults: int, shard: int, requests: list[client.Data]) -> list[list[bytes]]:
