@@ -457,7 +457,7 @@ class Trouble(ShardCase):
 
     async def test_who_finds_no_memory_waits_and_is_told_to_come_again(self) -> None:
         metadata, primary, _ = await self.put(b"first")
-        need = self.judges.need(3_000)
+        need = judge.need_of(3_000)
         self.judges.room = judge.Room(need)
         self.assertEqual(await asyncio.gather(*(self.read(primary[1:33]) for _ in range(9))), [[metadata, primary]] * 9)
         async with self.judges.room.take(need):

@@ -22,9 +22,7 @@ from .. import shapes, wire
 Result = TypeVar("Result")
 PARTS = client.METADATA, client.SECOND_METADATA, client.SLIVER, client.PROOF
 NO_MEMORY, PATIENCE = 5, 20.0  # a status of the program; seconds until who finds no memory is told to come again
-# Memory of a judge: so much, and so many times the bytes that it is told and asked. What was measured is less: at most
-# 35 MB of 50 for a call of the library, and 64 of 67 for a process with what is told to it.
-NEEDS = {Library: (8_388_608, 3), Program: (16_777_216, 6)}
+BESIDE, TIMES = 13_631_488, 6  # memory of a judge: so much, and so many times the bytes that it is told and asked
 LONG = 1_048_576  # bytes over which a judge's memory is given back to the system each time
 SHORT = 65_536  # bytes over which the library judges faster than another thread would begin to
 TRIM_THRESHOLD, MMAP_THRESHOLD, ARENA_MAX = -1, -3, -8  # options of `mallopt`
@@ -135,6 +133,11 @@ class Room:
             self.freed.set()
 
 
+def need_of(size: int) -> int:
+    """The memory that a judge takes which is told and asked so many bytes, by the library or as a process."""
+    return BESIDE + TIMES * size
+
+
 class Judges:
     """As many judges as there are processors, as far as memory goes. What the largest needs is kept from the start."""
 
@@ -145,16 +148,11 @@ class Judges:
         self.pool = concurrent.futures.ThreadPoolExecutor(len(os.sched_getaffinity(0)), "judge")
         self.alone, self.count = threading.Lock(), 0
 
-    def need(self, size: int) -> int:
-        """The memory that a judge takes which is told and asked so many bytes."""
-        beside, times = NEEDS[type(self.engine)]
-        return beside + times * size
-
     def keep(self, faults: int) -> None:
         """Keeps memory for one judge, by which one request after the other is answered whatever else wants memory: of
         the largest one, over a sliver and a proof of the largest blob."""
         if not self.least:
-            self.least = self.need(2 * client.Shape(faults).longest)
+            self.least = need_of(2 * client.Shape(faults).longest)
             self.room.grow(self.least)
             self.kept = mmap.mmap(-1, self.least)
 
@@ -180,7 +178,7 @@ class Judges:
 
     async def ask(self, size: int, step: Callable[..., Result], *words: object) -> Result:
         """What a judge gives who is told and asked so many bytes."""
-        async with self.room.take(self.need(size)):
+        async with self.room.take(need_of(size)):
             if size > LONG:
                 return await self.work(trimmed, step, *words)
             return await self.work(step, *words, here=self.here(size))
@@ -197,7 +195,7 @@ class Judges:
             whole = wire.joined(data) if isinstance(data, list) else data
             return self.engine.run([*map(str, words)], whole, size + 4_096)
 
-        status, text = await self.ask(size, run)
+        status, text = await self.ask(2 * size, run)  # what it makes of that is as long
         return status, text if len(text) > SHORT else bytes(text)
 
     def close(self) -> None:
