@@ -8,14 +8,15 @@ import ssl
 import sys
 import tempfile
 import time
+import types
 import unittest
 import weakref
 from unittest import mock
 
 sys.path.insert(0, str(pathlib.Path(__file__).resolve().parents[2] / "clients" / "python"))
 
-from walrus import client, port, wire  # noqa: E402
-from walrus.network import certificates, pieces  # noqa: E402
+from walrus import client, frames, port, wire  # noqa: E402
+from walrus.network import certificates, peers, pieces  # noqa: E402
 from walrus.network.pieces import Memory  # noqa: E402
 from walrus.baskets import PASSED, Basket  # noqa: E402
 from walrus.streams import take_envelope, write_in_slices  # noqa: E402
@@ -190,7 +191,7 @@ class Baskets(unittest.IsolatedAsyncioTestCase):
         return (await take_envelope(self.ends[number][0], 999_999, basket))[1]
 
     async def test_payloads_that_come_at_once_are_one_stream(self) -> None:
-        basket = Basket(2)
+        basket = Basket(2, size=400_000)
         tasks = [asyncio.create_task(self.take(number, basket)) for number in (0, 1)]
         for number in (0, 1):
             self.ends[number][1].write(client.envelope(self.large[number])[:100_000])
@@ -206,7 +207,7 @@ class Baskets(unittest.IsolatedAsyncioTestCase):
 
     async def test_what_comes_beside_is_read_past_or_has_the_place_of_one_that_is_slow(self) -> None:
         """So a read has no more memory than for the slivers that it needs, however many it asks for."""
-        basket = Basket(2, 3)
+        basket = Basket(2, 3, 400_000)
         late = asyncio.create_task(self.take(0, basket))
         self.ends[0][1].write(client.envelope(self.large[0])[:-1])
         while not basket.places:
@@ -229,7 +230,7 @@ class Baskets(unittest.IsolatedAsyncioTestCase):
 
     async def test_a_payload_that_still_comes_is_no_part_of_it(self) -> None:
         """What the program reads must not change meanwhile."""
-        basket = Basket(2)
+        basket = Basket(2, size=400_000)
         late = asyncio.create_task(self.take(0, basket))
         self.ends[0][1].write(client.envelope(self.large[0])[:-1])
         while not basket.places:
@@ -242,7 +243,7 @@ class Baskets(unittest.IsolatedAsyncioTestCase):
         late.cancel()
 
     async def test_what_comes_when_all_is_read_takes_no_memory(self) -> None:
-        basket = Basket(2, 3)
+        basket = Basket(2, 3, 400_000)
         coming = [asyncio.create_task(self.take(number, basket)) for number in (0, 1, 2)]
         for number in (0, 1, 2):
             self.ends[number][1].write(client.envelope(self.large[number])[:1000])
@@ -257,7 +258,7 @@ class Baskets(unittest.IsolatedAsyncioTestCase):
             self.assertEqual(await self.take(number, basket), self.small)
 
     async def test_who_breaks_off_leaves_his_place(self) -> None:
-        basket = Basket(1, 2)
+        basket = Basket(1, 2, 400_000)
         broken = asyncio.create_task(self.take(0, basket))
         self.ends[0][1].write(client.envelope(self.large[0])[:-1])
         while not basket.places:
@@ -269,7 +270,7 @@ class Baskets(unittest.IsolatedAsyncioTestCase):
         self.assertEqual(bytes(basket.stream([await self.take(1, basket)])), client.envelope(self.large[1]))
 
     async def test_what_comes_while_all_is_read_is_read_past(self) -> None:
-        basket = Basket(1, 2)
+        basket = Basket(1, 2, 400_000)
         self.ends[0][1].write(client.envelope(self.large[0]))
         first = await self.take(0, basket)
         basket.stream([first])
@@ -278,7 +279,7 @@ class Baskets(unittest.IsolatedAsyncioTestCase):
         self.assertEqual(bytes(first), self.large[0])
 
     async def test_a_payload_of_no_use_gives_way(self) -> None:
-        basket = Basket(1, 2)
+        basket = Basket(1, 2, 400_000)
         self.ends[0][1].write(client.envelope(self.large[0]))
         first = await self.take(0, basket)
         basket.places[0].since -= 60
@@ -286,8 +287,22 @@ class Baskets(unittest.IsolatedAsyncioTestCase):
         stream = basket.stream([first, await self.take(1, basket)])
         self.assertEqual(bytes(stream), b"".join(map(client.envelope, self.large[:2])))
 
+    async def test_what_has_another_length_is_read_past_unless_it_is_a_proof(self) -> None:
+        """Whoever comes first: so nobody who lies has memory, or keeps it from others."""
+        basket, long, proof = Basket(1, 2), bytes(500_000), bytes(600_000)
+        self.ends[0][1].write(client.envelope(long) + client.envelope(self.small))
+        self.assertEqual([await self.take(0, basket) for _ in range(2)], [b"", self.small])
+        basket.size, basket.proofs = 400_000, (600_000,)
+        self.ends[0][1].write(client.envelope(long) + client.envelope(proof) + client.envelope(self.small))
+        found = [await self.take(0, basket) for _ in range(3)]
+        self.assertEqual((found, len(basket.memory)), ([b"", proof, self.small], 0))
+        self.ends[1][1].write(client.envelope(self.large[0]))
+        first = await self.take(1, basket)
+        self.assertEqual(bytes(first), self.large[0])
+        self.assertIs(memoryview(first).obj, basket.memory.obj)
+
     async def test_small_payloads_take_no_place(self) -> None:
-        basket = Basket(2)
+        basket = Basket(2, size=400_000)
         self.ends[0][1].write(client.envelope(self.small))
         self.assertEqual(await self.take(0, basket), self.small)
         self.assertEqual((basket.places, len(basket.memory)), ([], 0))
@@ -324,6 +339,84 @@ class Idle(unittest.IsolatedAsyncioTestCase):
         self.assertEqual([it() is None for it in made], [True] * 4)
         self.assertEqual((len(served.connections), served.kept), (1, 0))
 
+    async def test_of_a_client_that_is_cut_off_a_request_counts_until_it_has_its_answer(self) -> None:
+        """Who comes for it waits meanwhile, before more than may be is in memory."""
+        sliver, goes_on, asked = client.write_frame(frames.Sliver(bytes(32), 0, 0, bytes(600_000))), asyncio.Event(), 0
+
+        async def reply(shard: int, request: bytes) -> port.Said:
+            nonlocal asked
+            asked += 1
+            await goes_on.wait()
+            return port.Said([client.envelope(b"\x30" + bytes(9))])
+
+        served = port.Port(reply, client.Shape(1), port.Bounds(connections=1, kept=1_000_000))
+        served.say = list[str]().append
+        self.addAsyncCleanup(served.close_port)
+        number = await served.listen("127.0.0.1", 0)
+        first = await wire.connect("127.0.0.1", number)
+        self.addCleanup(first.transport.abort)
+        first.write(client.envelope(sliver))
+        while not asked:
+            await asyncio.sleep(0.01)
+        second = await wire.connect("127.0.0.1", number)
+        self.addCleanup(second.transport.abort)
+        second.write(client.envelope(sliver))
+        with contextlib.suppress(OSError):
+            self.assertEqual(await first.read(1), b"")
+        most, least = served.kept, served.kept
+        for _ in range(50):
+            await asyncio.sleep(0.01)
+            most, least = max(most, served.kept), min(least, served.kept)
+        self.assertGreaterEqual(least, len(sliver))
+        self.assertLessEqual(most, 1_000_000)
+        self.assertEqual((asked, len(served.connections)), (1, 1))
+        goes_on.set()
+        self.assertEqual(await second.readexactly(17), client.envelope(b"\x30" + bytes(9)))
+        for _ in range(500):
+            if not served.kept:
+                break
+            await asyncio.sleep(0.01)
+        self.assertEqual((asked, served.kept, len(served.asking)), (2, 0, 0))
+
+
+class Cancelled(unittest.IsolatedAsyncioTestCase):
+    async def test_of_a_store_that_nobody_waits_for_nothing_is_in_memory(self) -> None:
+        accepted = asyncio.Queue[wire.Wire]()
+
+        async def accept(other: wire.Wire) -> None:
+            accepted.put_nowait(other)
+
+        async def connect(host: str, number: int, **words: object) -> wire.Wire:
+            return await wire.connect(host, number)
+
+        loop = asyncio.get_running_loop()
+        server = await loop.create_server(lambda: wire.Wire(accept), "127.0.0.1", 0)
+        self.addCleanup(server.close)
+        self.enterContext(mock.patch.object(peers, "connect", connect))
+        known = types.SimpleNamespace(seconds=60, address=lambda _: server.sockets[0].getsockname(), context=None)
+        seat = peers.Seat(known, "node-0", 0, 1)  # type: ignore[arg-type]
+        sliver = Counted(8_000_000)
+        seen = weakref.ref(sliver)
+        storing = asyncio.create_task(seat.ask([b"\x62", sliver]))  # type: ignore[list-item]
+        del sliver
+        node = await accepted.get()
+        self.addCleanup(node.transport.abort)
+        self.assertEqual(len(await node.readexactly(1_000_000)), 1_000_000)
+        self.assertIsNotNone(seen())
+        storing.cancel()
+        with self.assertRaises(asyncio.CancelledError):
+            await storing
+        del storing
+        for _ in range(500):
+            if not seen():
+                break
+            await asyncio.sleep(0.01)
+        self.assertIsNone(seen())
+        with contextlib.suppress(OSError):
+            while await node.read(65_536):
+                pass
+        self.assertEqual((node.ended, seat.idle, seat.fault), (True, [], ""))
+
 
 class Loops(unittest.TestCase):
     def test_wires_over_tls(self) -> None:
@@ -345,7 +438,7 @@ class Loops(unittest.TestCase):
             _, request = await take_envelope(other, 999)
             await write_in_slices(other, [request, large], 0)
 
-        loop, basket = asyncio.get_running_loop(), Basket(1)
+        loop, basket = asyncio.get_running_loop(), Basket(1, size=1_000_003)
         server = await loop.create_server(lambda: wire.Wire(accept), "127.0.0.1", 0, ssl=own)
         ours = await wire.connect(*server.sockets[0].getsockname(), ssl=others, server_hostname="node-0")
         ours.write(client.envelope(b"ask"))

@@ -11,6 +11,7 @@ import subprocess
 import sys
 import tempfile
 import threading
+import time
 import types
 import unittest
 from typing import Any, Optional
@@ -18,7 +19,7 @@ from unittest import mock
 
 from harness import lacking
 
-from walrus import client, engines, kinds
+from walrus import client, engines, kinds, shards
 from walrus.frames import METADATA, PRIMARY, SECONDARY, code_of
 from walrus.network import handover, judge, recovery, scrub, shard
 from walrus.network.judge import Busy, Judges, Unjudged
@@ -280,6 +281,24 @@ class Disk(ShardCase):
             said = await asyncio.gather(*reading)
         self.assertEqual((judged, said[3]), ([*names, names[0]], said[0]))
 
+    async def test_the_lengths_of_replies_are_those_that_the_metadata_of_a_blob_tells_and_no_other(self) -> None:
+        shape = client.Shape(1)
+        other, _, _ = await self.put(bytes(5_000))
+        metadata, primary, _ = await self.put(bytes(range(250)) * 12)
+        for request in (client.Read(primary[1:33]), client.Symbol(primary[1:33], client.PRIMARY, 2)):
+            asked = shards.Asked.of(client.write_frame(request), 2, 4)
+            for false in (b"", other, metadata[:-1], metadata[:-1] + bytes([metadata[-1] ^ 1]), primary):
+                asked.hear(shape, false)
+            self.assertEqual((asked.basket.size, asked.basket.proofs), (0, ()))
+            asked.hear(shape, metadata)
+            said = await self.shard.answer(asked)
+            self.assertEqual((said[0], asked.basket.size), (metadata, len(said[1])))
+            for axis, length in enumerate(asked.basket.proofs):
+                proof = bytes([client.PROOF]) + primary[1:33] + bytes([axis]) + bytes(length - 34)
+                self.assertTrue(shape.allows(proof))
+            asked.hear(shape, other)
+            self.assertEqual(asked.basket.size, len(said[1]))
+
     async def test_a_part_has_one_row(self) -> None:
         metadata, primary, _ = await self.put(bytes(700))
         assert self.store
@@ -466,6 +485,45 @@ class Trouble(ShardCase):
             async with self.judges.room.take(need), self.judges.room.take(1, 0.05):
                 pass
         self.assertEqual(self.judges.room.free, need)
+
+    async def test_what_a_large_judgement_had_goes_back_to_the_system_and_of_a_small_one_stays(self) -> None:
+        def resident() -> int:
+            return int(pathlib.Path("/proc/self/statm").read_text().split()[1]) * os.sysconf("SC_PAGESIZE")
+
+        def judged() -> bytes:
+            had = [bytearray(b"x" * 1_000_000) for _ in range(60)]
+            return b"y" * (100_000 + len(had))  # which lies behind it
+
+        before = resident()
+        kept = [await self.judges.ask(2_000_000, judged)]
+        self.assertLess(resident() - before, 20_000_000)
+        kept.append(await self.judges.ask(1_000, judged))
+        self.assertGreater(resident() - before, 40_000_000)
+        self.assertEqual([*map(len, kept)], [100_060] * 2)
+
+    async def test_as_many_judge_at_once_as_there_are_processors(self) -> None:
+        count = len(os.sched_getaffinity(0))
+        together, lock, under_way, most = threading.Barrier(count + 1), threading.Lock(), 0, 0
+
+        def step(waits: bool) -> None:
+            nonlocal under_way, most
+            with lock:
+                under_way += 1
+                most = max(most, under_way)
+            if waits:
+                together.wait(30)  # which so many must come to at once
+            else:
+                time.sleep(0.01)
+            with lock:
+                under_way -= 1
+
+        self.judges.room = judge.Room(10_000_000_000)
+        loop = asyncio.get_running_loop()
+        at_once = [asyncio.create_task(self.judges.ask(100_000, step, True)) for _ in range(count)]
+        await loop.run_in_executor(None, together.wait, 30)
+        await asyncio.gather(*at_once)
+        await asyncio.gather(*(self.judges.ask(100_000, step, False) for _ in range(5 * count)))
+        self.assertEqual(most, count)
 
     async def test_where_memory_is_wanting_one_after_the_other_goes_on(self) -> None:
         self.judges.keep(1)
@@ -681,6 +739,36 @@ class Recovery(NodeCase):
             task.cancel()
         await asyncio.gather(*tasks, return_exceptions=True)
 
+    async def test_a_scrub_reads_no_more_than_its_rate_and_does_not_make_up_for_lost_time(self) -> None:
+        for size in (900, 3_000, 2_000, 90, 2_500):
+            await self.put(self.drawn.randbytes(size))
+        now, sleep, check, read = 1_000.0, asyncio.sleep, self.shard.check, list[tuple[float, int]]()
+
+        async def sleeping(seconds: float) -> None:
+            nonlocal now
+            now += max(seconds, 0)
+            await sleep(0)
+
+        async def checking(identifier: bytes) -> tuple[int, bool]:
+            nonlocal now
+            begun, found = now, await check(identifier)
+            now += 30.0 if len(read) == 1 else 0.5  # in which it is judged; once for long
+            read.append((begun, found[0]))
+            return found
+
+        node = self.node({0: {0: self.shard}})
+        node.settings = types.SimpleNamespace(scrub=30.0, scrub_rate=1_000)
+        done = scrub.Scrub(node)
+        clock = types.SimpleNamespace(monotonic=lambda: now, time=lambda: now)
+        with mock.patch.object(scrub, "time", clock), mock.patch.object(asyncio, "sleep", sleeping):
+            with mock.patch.object(self.shard, "check", checking):
+                await done.scrub()
+        self.assertEqual((done.figures.blobs, done.figures.wrong, len(read)), (5, 0, 5))
+        self.assertGreater(min(size for _, size in read), 90)
+        ends = [begun for begun, _ in read[1:]] + [now]
+        for (begun, size), end in zip(read, ends):
+            self.assertGreaterEqual(end - begun, size / 1_000 - 1e-6)  # until the next one is read
+
     async def test_a_late_node_gives_its_word_for_all_that_it_holds(self) -> None:
         names = [await self.certified(b"held", of="bcd"), await self.certified(b"said"), await self.lacks(700)]
         names.append((await self.put(b"unsaid by all"))[1][1:33])
@@ -810,6 +898,18 @@ class Committees(NodeCase):
             left = [await recovery.settle(self.node({0: {0: self.shard}}), 0, [*blobs]) for _ in range(2)]
         self.assertEqual(left, [2, 0])
 
+    async def test_a_handover_goes_on_below_the_reserve(self) -> None:
+        names = [await self.lacks(size) for size in (700, LARGE)]
+        self.apply(OPERATOR, "begin", 1, 1, "a,b,c,e")
+        later = self.side(1)
+        later.reserve = 1.0
+        refused = await self.parts(b"new")
+        self.assertEqual(code_of(await later.put(refused[0])), shard.FULL)
+        node = self.node({0: {0: self.shard}, 1: {0: later}})
+        await handover.move(node)
+        self.assertEqual([later.settled(it) for it in names], [True, True])
+        self.assertEqual(node.posted, [entry_key("a", "ready", 1)])
+
     async def test_who_has_no_shard_yet_is_not_ready(self) -> None:
         name = await self.certified(b"owed")
         self.apply(OPERATOR, "begin", 1, 1, "a,b,c,e")
@@ -857,6 +957,70 @@ class Much(unittest.IsolatedAsyncioTestCase):
             blobs, settled, held, grown = map(int, ran.stdout.split())
             self.assertEqual((blobs, settled), (count, count))
             self.assertGreater(held, 10 * grown)
+
+
+PEAK = """
+import pathlib, sys
+from walrus import client, wire
+from walrus.network import judge
+from walrus.network.local import find_program
+
+def most():
+    return int(pathlib.Path("/proc/self/status").read_text().split("VmHWM:")[1].split()[0]) * 1024
+
+def read(path):
+    place = wire.memory(path.stat().st_size)
+    with path.open("rb", buffering=0) as file:
+        while len(place) > (count := file.readinto(place)):
+            sys.exit("a file came in parts")
+    return place
+
+judge.keep_memory()
+engine, before = judge.engine_of(find_program()), most()
+requests = [read(pathlib.Path(it)) for it in sys.argv[2:]]
+if sys.argv[1] == "judge":
+    judge.judge(engine, 1, 0, requests)
+else:
+    data = wire.joined(requests)
+    status, text = engine.run(["recover", sys.argv[1], "primary", "0"], data, len(data) + 4096)
+    assert not status, bytes(text[:200])
+print(most() - before)
+"""
+
+
+@unittest.skipIf(lacking(), f"{lacking()} is not here (network/install)")
+class Needs(ShardCase):
+    async def peak(self, how: str, requests: list[client.Data]) -> int:
+        """The memory that a process of its own takes in which one judge is asked this."""
+        paths = [self.path.with_name(f"{how}-{number}") for number in range(len(requests))]
+        for path, request in zip(paths, requests):
+            path.write_bytes(request)
+        words = {**os.environ, "PYTHONPATH": str(pathlib.Path(shard.__file__).parents[2])}
+        command = [sys.executable, "-c", PEAK, how, *map(str, paths)]
+        ran = await asyncio.to_thread(subprocess.run, command, env=words, capture_output=True)
+        self.assertEqual((ran.returncode, ran.stderr), (0, b""))
+        return int(ran.stdout)
+
+    async def test_a_judge_takes_no_more_than_it_is_counted_with(self) -> None:
+        if not isinstance(self.judges.engine, judge.Library):
+            self.skipTest("the library is not here, and of a process the peak is that of who began it too")
+        encoded = await self.walrus.encode(random.Random(6).randbytes(client.LARGEST_BLOB), 1)
+        name, told = encoded.identifier, [client.write_frame(client.RegisterEntry(encoded.identifier, 9))]
+        told.append(encoded.metadata)
+        primary, secondary = encoded.slivers[0]
+        for asked in (
+            [primary, client.write_frame(client.Read(name))],
+            [primary, secondary, client.write_frame(client.Read(name))],
+            [secondary, client.write_frame(client.Symbol(name, client.PRIMARY, 1))],
+            [client.write_frame(client.Read(name))],
+        ):
+            self.assertLess(await self.peak("judge", [*told, *asked]), judge.need_of(sum(map(len, asked))))
+        symbol, openings = client.write_frame(client.Symbol(name, client.PRIMARY, 0)), list[client.Data]()
+        for number in (1, 2, 3):
+            requests = [*told, encoded.slivers[number][1], symbol]
+            said = await asyncio.to_thread(judge.judge, self.judges.engine, 1, number, requests)
+            openings += [client.envelope(it) for it in said[-1][:-1]]
+        self.assertLess(await self.peak(name.hex(), openings), judge.need_of(2 * sum(map(len, openings))))
 
 
 STUB = """

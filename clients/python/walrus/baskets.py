@@ -27,19 +27,21 @@ class Basket:
     """Memory into which large payloads come at once, each in an envelope and one behind the other, so that all of them
     are one stream without a copy. In front of it is room for small ones. One that comes beside those that are wanted
     has the place of one that is slow, or else it is read past, as is what is not wanted any more: so what comes behind
-    it is in step, and its shard keeps nothing of it."""
+    it is in step, and its shard keeps nothing of it. `size` is what each has: one of another length is read past too,
+    unless it is as long as a proof."""
 
-    def __init__(self, count: int, most: int = 0) -> None:
-        self.count, self.most, self.size = count, max(count, most), 0  # places now and at most, and bytes of each
+    def __init__(self, count: int, most: int = 0, size: int = 0) -> None:
+        self.count, self.most, self.size = count, max(count, most), size  # places now and at most, and bytes of each
+        self.proofs: tuple[int, ...] = ()  # their bytes
         self.memory, self.places = memoryview(b""), list[Place]()
         self.is_read, self.is_closed = False, False
 
     def takes(self, size: int) -> bool:
-        """Whether a payload of so many bytes comes here: it is large, and as long as the first one."""
-        return size >= wire.LARGE and (self.is_closed or self.size in (0, size))
+        """Whether a payload of so many bytes comes here, or is read past."""
+        return size >= wire.LARGE and (self.is_closed or size not in self.proofs)
 
     async def receive(self, stream: wire.Wire, size: int) -> Data:
-        """A payload that comes here; `PASSED`, where it has no place."""
+        """A payload that comes here; `PASSED`, where it has no place, and nothing where it is not what is wanted."""
         place = self.place(stream, size)
         try:
             while place.came < size:
@@ -50,14 +52,18 @@ class Basket:
         except BaseException:
             self.empty(place)
             raise
-        return PASSED if place.memory is None else place.memory.toreadonly()
+        if place.memory is None:
+            return PASSED if self.is_closed or size == self.size else b""
+        return place.memory.toreadonly()
 
     def place(self, stream: wire.Wire, size: int) -> Place:
         """A place for a payload; one without memory, where there is none for it."""
-        if not self.memory and not self.is_closed:  # what is not written of it takes no memory
-            self.size, self.memory = size, wire.filling(wire.memory(FRONT + self.most * (HEAD.size + size)))
+        if self.is_closed or size != self.size:
+            return Place(stream)
+        if not self.memory:  # what is not written of it takes no memory
+            self.memory = wire.filling(wire.memory(FRONT + self.most * (HEAD.size + size)))
         number = self.vacant()
-        if self.is_closed or number >= self.count and not self.give_way():
+        if number >= self.count and not self.give_way():
             return Place(stream)
         number = self.vacant()
         start = FRONT + number * (HEAD.size + size)

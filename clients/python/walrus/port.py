@@ -67,10 +67,11 @@ class Port:
         self.reply, self.shape, self.bounds, self.own = reply, shape, bounds, own
         self.turns = asyncio.Semaphore(max(2, bounds.kept // shape.longest))  # so many requests are answered at once
         self.connections: dict[Connection, None] = {}
+        self.asking = set[Connection]()  # clients of whom a request is being answered, also those that were cut off
         self.answers, self.at_turn = set["asyncio.Task[Said]"](), set["asyncio.Task[Any]"]()  # under way; with a turn
         self.told: dict[tuple[str, str], float] = {}
         self.say: Callable[[str], None] = functools.partial(print, file=sys.stderr, flush=True)  # to an operator
-        self.kept = 0
+        self.kept, self.changed = 0, asyncio.Event()
         self.server: Optional[asyncio.Server] = None
 
     def tell(self, text: str, kind: str, client: object = "") -> None:
@@ -96,18 +97,28 @@ class Port:
             await asyncio.gather(*tasks, return_exceptions=True)
 
     def cut_off(self, client: Connection) -> None:
-        self.keep(client, -client.kept)
-        self.connections.pop(client, None)
+        self.let_go(client)
         client.task.cancel()
 
-    def keep(self, client: Connection, size: int) -> None:
-        """Keeps so many bytes more for a client, or fewer."""
-        if client not in self.connections:
-            return
+    def let_go(self, client: Connection) -> None:
+        """Has a client no more. What is kept for it counts until the request of it that is answered has its answer."""
+        self.connections.pop(client, None)
+        if client not in self.asking:
+            self.hold(client, -client.kept)
+
+    def hold(self, client: Connection, size: int) -> None:
         client.kept += size
         self.kept += size
+        self.changed.set()
+
+    def keep(self, client: Connection, size: int) -> None:
+        """Keeps so many bytes more for a client, or fewer. Who is cut off for it is nobody whose request is being
+        answered, as that would leave no less."""
+        if client not in self.connections:
+            return
+        self.hold(client, size)
         while size > 0 and self.kept > self.bounds.kept:
-            others = [it for it in self.connections if it.kept and it is not client]
+            others = [it for it in self.connections if it.kept and it is not client and it not in self.asking]
             if not others:
                 return
             other = min(others, key=lambda it: it.since)
@@ -132,8 +143,7 @@ class Port:
         wire.transport.set_write_buffer_limits(high=1, low=0)  # so that what is written is gone once it is drained
         with contextlib.suppress(asyncio.CancelledError):  # it is cut off
             await self.converse(client, wire)
-        self.keep(client, -client.kept)
-        self.connections.pop(client, None)
+        self.let_go(client)
         with contextlib.suppress(AttributeError):  # asyncio's, of a transport that is closed already
             wire.transport.abort()
 
@@ -170,9 +180,9 @@ class Port:
         task = asyncio.create_task(self.answer(client, sender, payload))
         self.answers.add(task)
         self.at_turn.add(task)
-        task.add_done_callback(self.answered)
+        self.asking.add(client)
+        task.add_done_callback(functools.partial(self.answered, client, len(payload or b"")))
         said = await asyncio.shield(task)  # who is cut off meanwhile does not disturb the shard
-        self.keep(client, said.size - len(payload or b""))
         await client.replies.put(said)
 
     async def begin(self, reader: Wire) -> bytes:
@@ -192,6 +202,8 @@ class Port:
         place, kept = self.place(size) if fits else memory(min(PIECE, size)), 0
         while size:
             piece = place[kept:][: min(SLICE, size)]
+            if fits:
+                await self.wait_for_answers(client, len(piece))
             await reader.readinto(piece)
             size -= len(piece)
             if fits:
@@ -200,6 +212,16 @@ class Port:
                 if kept == LARGE_PAGE:  # who has sent so much may take as much ahead
                     filling(place)
         return sender, place if fits else None
+
+    async def wait_for_answers(self, client: Connection, size: int) -> None:
+        """Waits before so many bytes are too many, as long as a client is at it for longest whose request is answered:
+        that one would leave no less if it were cut off."""
+        while self.kept + size > self.bounds.kept:
+            others = [it for it in {*self.connections, *self.asking} if it.kept > PIECE and it is not client]
+            if not others or min(others, key=lambda it: it.since) not in self.asking:
+                break
+            self.changed.clear()
+            await self.changed.wait()
 
     def longest(self) -> int:
         """The bytes of the longest request that is taken."""
@@ -235,11 +257,16 @@ class Port:
             self.at_turn.discard(task)
             self.turns.release()
 
-    def answered(self, task: "asyncio.Task[Said]") -> None:
+    def answered(self, client: Connection, size: int, task: "asyncio.Task[Said]") -> None:
+        """Keeps a reply in place of a request of so many bytes, or nothing for a client that was cut off."""
         self.end_turn(task)
         self.answers.discard(task)
-        if not task.cancelled():
-            task.exception()  # which who waits for the reply hears, if anybody does
+        self.asking.discard(client)
+        failed = task.cancelled() or task.exception()  # which who waits for the reply hears, if anybody does
+        if client not in self.connections:
+            self.hold(client, -client.kept)
+        elif not failed:
+            self.keep(client, task.result().size - size)
 
     async def send(self, client: Connection) -> None:
         """Sends the replies, each once what it rests on is on the disk."""

@@ -1,5 +1,6 @@
 """What follows from f, the number of shards that may lie, for the forms and lengths of what is said."""
 
+import hashlib
 import struct
 
 from .kinds import (
@@ -14,6 +15,17 @@ from .kinds import (
     SLIVER,
     SYMBOL,
 )
+
+
+def name_of(metadata: bytes) -> bytes:
+    """The identifier of the blob that a metadata is of."""
+    front = 11 + (metadata[0] == SECOND_METADATA)
+    level = [hashlib.sha256(b"\0" + leaf).digest() for (leaf,) in struct.iter_unpack("64s", metadata[front:])]
+    while len(level) > 1:
+        level += [bytes(32)] * (len(level) % 2)
+        level = [hashlib.sha256(b"\1" + one + two).digest() for one, two in zip(level[::2], level[1::2])]
+    form = b"\x02" if metadata[0] == METADATA else b"\x03"
+    return hashlib.sha256(form + metadata[1:front] + level[0]).digest()
 
 
 class Shape:
@@ -41,6 +53,18 @@ class Shape:
         ahead, count, beside = lengths.get(kind, (len(payload), 1, 0))  # a part has so many symbols, each beside others
         symbol, rest = divmod(len(payload) - ahead, count)
         return rest == 0 and symbol - beside in range(2, self.widest + 1, 2)
+
+    def symbol_of(self, metadata: bytes) -> int:
+        """The bytes of a symbol of a blob."""
+        front = 3 + (metadata[0] == SECOND_METADATA)
+        length = int.from_bytes(metadata[front:][:8], "big")
+        return 2 * max(1, -(-length // (2 * self.symbols[0] * self.symbols[1])))
+
+    def lengths_of(self, metadata: bytes, request: bytes) -> tuple[int, tuple[int, ...]]:
+        """The bytes of what a shard replies to a read or a request for a symbol of a blob, and those of proofs."""
+        symbol, opened = self.symbol_of(metadata), 7 + 32 * self.levels
+        length = 40 + self.symbols[PRIMARY] * symbol if request[0] == READ else 36 + opened + symbol
+        return length, tuple(38 + count * (symbol + opened) for count in self.symbols)
 
     def keeps(self, payload: bytes, request: bytes, shard: int) -> int:
         """The kind, of `KINDS`, of a payload that this shard may reply to a read or a request for a symbol, else 0."""

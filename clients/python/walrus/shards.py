@@ -9,8 +9,8 @@ from collections.abc import Iterable, Sequence
 from typing import NamedTuple, Optional, Union
 
 from .baskets import PASSED, Basket
-from .kinds import DONE, KINDS, Answer, Clash, Fault, in_words
-from .shapes import Shape
+from .kinds import DONE, KINDS, METADATA, SECOND_METADATA, Answer, Clash, Fault, in_words
+from .shapes import Shape, name_of
 from .streams import Sink, Source, Streams, take_envelope, write_in_slices
 from .wire import Data
 
@@ -37,6 +37,12 @@ class Asked(bytes):
         made = cls(payload)
         made.basket = Basket(count, most)
         return made
+
+    def hear(self, shape: Shape, payload: bytes) -> None:
+        """Has the lengths of what may come once the blob's own metadata did."""
+        is_metadata = payload[:1] in (bytes([METADATA]), bytes([SECOND_METADATA])) and shape.allows(payload)
+        if not self.basket.size and is_metadata and name_of(payload) == self[1:33]:
+            self.basket.size, self.basket.proofs = shape.lengths_of(payload, self)
 
 
 class Failed(Exception):
@@ -115,6 +121,8 @@ class Shard(contextlib.AbstractAsyncContextManager["Shard"]):
                 raise Fault(f"it says that it is shard {sender}: are the shards in their order?")
             if payload is PASSED:
                 kept[AGAIN] = PASSED
+            if isinstance(request, Asked):
+                request.hear(self.shape, payload)
             if payload[:1] == b"\x31":
                 return Reply(kept, Clash(payload))
             if payload[:1] == b"\x30":

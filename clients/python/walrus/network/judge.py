@@ -6,11 +6,9 @@ import asyncio
 import concurrent.futures
 import contextlib
 import ctypes
-import hashlib
 import mmap
 import os
 import pathlib
-import struct
 import threading
 from typing import AsyncIterator, Callable, Optional, TypeVar, Union
 
@@ -19,12 +17,13 @@ from ..envelopes import parts
 from walrus.engines import BUILT, Engine, Library, Program, Ran
 from ..frames import METADATA, PRIMARY, PROOF, SECONDARY, pages_of
 from ..serving import status_in_words
-from .. import wire
+from .. import shapes, wire
 
 Result = TypeVar("Result")
 PARTS = client.METADATA, client.SECOND_METADATA, client.SLIVER, client.PROOF
 NO_MEMORY, PATIENCE = 5, 20.0  # a status of the program; seconds until who finds no memory is told to come again
-BESIDE, TIMES = 8_388_608, 6  # memory of a judge: so much, and so many times the bytes that it is told and asked
+BESIDE, TIMES = 13_631_488, 6  # memory of a judge: so much, and so many times the bytes that it is told and asked
+LONG = 1_048_576  # bytes over which a judge's memory is given back to the system each time
 SHORT = 65_536  # bytes over which the library judges faster than another thread would begin to
 TRIM_THRESHOLD, MMAP_THRESHOLD, ARENA_MAX = -1, -3, -8  # options of `mallopt`
 
@@ -57,17 +56,19 @@ def keep_memory() -> None:
             ctypes.CDLL(None).mallopt(option, value)
 
 
+def trimmed(step: Callable[..., Result], *words: object) -> Result:
+    """What a step gives; of its memory the system has back what nobody needs any more."""
+    try:
+        return step(*words)
+    finally:
+        with contextlib.suppress(AttributeError):
+            ctypes.CDLL(None).malloc_trim(0)
+
+
 def name_of(payload: bytes) -> bytes:
     """The blob that a part is of. A metadata is looked up under this name, and the judge tells whether it is its."""
-    if payload[0] not in (client.METADATA, client.SECOND_METADATA):
-        return bytes(payload[1:33])
-    front = 11 + (payload[0] == client.SECOND_METADATA)
-    level = [hashlib.sha256(b"\0" + leaf).digest() for (leaf,) in struct.iter_unpack("64s", payload[front:])]
-    while len(level) > 1:
-        level += [bytes(32)] * (len(level) % 2)
-        level = [hashlib.sha256(b"\1" + one + two).digest() for one, two in zip(level[::2], level[1::2])]
-    form = b"\x02" if payload[0] == client.METADATA else b"\x03"
-    return hashlib.sha256(form + payload[1:front] + level[0]).digest()
+    is_metadata = payload[0] in (client.METADATA, client.SECOND_METADATA)
+    return shapes.name_of(payload) if is_metadata else bytes(payload[1:33])
 
 
 def judge(engine: Engine, faults: int, shard: int, requests: list[client.Data]) -> list[list[bytes]]:
@@ -133,13 +134,8 @@ class Room:
 
 
 def need_of(size: int) -> int:
-    """The memory that a judge takes which is told and asked so many bytes."""
+    """The memory that a judge takes which is told and asked so many bytes, by the library or as a process."""
     return BESIDE + TIMES * size
-
-
-def largest(faults: int) -> int:
-    """The memory of a judge of the largest request, over a sliver and a proof of the largest blob."""
-    return need_of(2 * client.Shape(faults).longest)
 
 
 class Judges:
@@ -153,9 +149,10 @@ class Judges:
         self.alone, self.count = threading.Lock(), 0
 
     def keep(self, faults: int) -> None:
-        """Keeps memory for one judge, by which one request after the other is answered whatever else wants memory."""
+        """Keeps memory for one judge, by which one request after the other is answered whatever else wants memory: of
+        the largest one, over a sliver and a proof of the largest blob."""
         if not self.least:
-            self.least = largest(faults)
+            self.least = need_of(2 * client.Shape(faults).longest)
             self.room.grow(self.least)
             self.kept = mmap.mmap(-1, self.least)
 
@@ -182,6 +179,8 @@ class Judges:
     async def ask(self, size: int, step: Callable[..., Result], *words: object) -> Result:
         """What a judge gives who is told and asked so many bytes."""
         async with self.room.take(need_of(size)):
+            if size > LONG:
+                return await self.work(trimmed, step, *words)
             return await self.work(step, *words, here=self.here(size))
 
     def here(self, size: int) -> bool:
@@ -196,7 +195,7 @@ class Judges:
             whole = wire.joined(data) if isinstance(data, list) else data
             return self.engine.run([*map(str, words)], whole, size + 4_096)
 
-        status, text = await self.ask(size, run)
+        status, text = await self.ask(2 * size, run)  # what it makes of that is as long
         return status, text if len(text) > SHORT else bytes(text)
 
     def close(self) -> None:

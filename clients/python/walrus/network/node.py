@@ -37,6 +37,7 @@ VOUCHES = {client.ACK: ACK, client.ATTEST: ATTEST}
 sslproto.SSLProtocol.max_size = 65_536  # bytes that each connection has ready, instead of four times as many
 REQUEST, IDLE, HANDSHAKE, COUNTED = 30.0, 60.0, 5.0, 13  # seconds, and the code of an answer
 BARE = 50_331_648  # bytes of a node that does nothing
+PAGES = 8_192  # KiB of the ledger's database that are kept in memory
 TAIL = 2  # epochs whose entries a node keeps, from which a ledger that was restored is made whole
 
 
@@ -48,7 +49,7 @@ class Node(View):
         self.store = Store(pathlib.Path(settings.database), settings.recorded)
         recorders = Recorders(settings.recorders, settings.authority, settings.certificate, settings.key)
         path = self.store.path.with_suffix(".ledger")
-        super().__init__(recorders, State.open(str(path), LAST_EPOCH if settings.recorded else TAIL))
+        super().__init__(recorders, State.open(str(path), LAST_EPOCH if settings.recorded else TAIL, PAGES))
         spare = max(0, settings.memory - settings.kept - BARE)
         self.judges, self.repairs = Judges(settings.program, 2 * spare // 3), Room(spare // 3)
         self.peers, self.sides = Peers(self.ledger, authority, 20), dict[int, dict[int, Shard]]()

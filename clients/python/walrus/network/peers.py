@@ -38,6 +38,11 @@ class Seat(client.Shard):
         except ssl.SSLCertVerificationError as fault:
             raise ConnectionError(f"it has no certificate of {self.name}: {fault.verify_message}") from None
 
+    async def ask(self, *requests: client.Request) -> list[client.Reply]:
+        if any(isinstance(it, list) for it in requests):  # what is stored is let go at once where nobody waits for it
+            return await self.exchange(requests)
+        return await super().ask(*requests)
+
     async def exchange(self, requests: Sequence[client.Request]) -> list[client.Reply]:
         async with self.turns:
             if self.fault:

@@ -100,7 +100,7 @@ async def settle(node: "Node", epoch: int, owed: Iterable[bytes]) -> int:
 
     async def measure(lack: Lack) -> None:
         if metadata := await find_metadata(node, *lack):
-            sizes[lack] = sum(node.port.shape.symbols) * symbol_of(node, metadata)
+            sizes[lack] = sum(node.port.shape.symbols) * node.port.shape.symbol_of(metadata)
             progress.of_bytes += sizes[lack]
 
     async def recover(lack: Lack) -> None:
@@ -122,14 +122,6 @@ async def settle(node: "Node", epoch: int, owed: Iterable[bytes]) -> int:
 def sides(node: "Node") -> list[Sequence[Seat]]:
     """The shards of the committee of now, and of the next one, which may be asked."""
     return [node.peers.seats(it, node.ledger.faults) for it in (node.ledger.now, node.ledger.next) if it]
-
-
-def symbol_of(node: "Node", metadata: bytes) -> int:
-    """The bytes of a symbol of a blob."""
-    front = 3 + (metadata[0] == client.SECOND_METADATA)
-    length = int.from_bytes(metadata[front:][:8], "big")
-    rows, columns = node.port.shape.symbols
-    return 2 * max(1, -(-length // (2 * rows * columns)))
 
 
 async def find_metadata(node: "Node", shard: Shard, identifier: bytes) -> bytes:
@@ -166,7 +158,7 @@ async def fill(node: "Node", shard: Shard, identifier: bytes) -> None:
     lacks = [part for part in shard.lacks(identifier) if part in columns]
     targets = {part: client.Symbol(identifier, part - PRIMARY, columns[part]) for part in lacks}
     counts = [shape.symbols[it.axis] for it in targets.values()]  # of symbols that come, and of which a sliver is made
-    size = (sum(counts) + max(counts, default=0)) * (symbol_of(node, metadata) + 1_024)
+    size = (sum(counts) + max(counts, default=0)) * (node.port.shape.symbol_of(metadata) + 1_024)
     async with node.repairs.take(size, None):
         for side in sides(node) if targets else ():
             wanted = {part: client.write_frame(it) for part, it in targets.items()}

@@ -17,11 +17,11 @@ from .entries import ACK, ATTEST, Chain, Entry
 from .ledger import Ledger
 
 CACHED, EACH, LATER = 8_192, 0.5, 1.0  # blobs kept as read; seconds between two commits, and if the disk is full
+PAGES = 32_768  # KiB of the database that are kept in memory
 TORN = sqlite3.SQLITE_CORRUPT, sqlite3.SQLITE_NOTADB, sqlite3.SQLITE_ERROR  # a database that is none, or another's
 TABLES = """
 PRAGMA journal_mode = WAL;
 PRAGMA synchronous = NORMAL;
-PRAGMA cache_size = -32768;
 PRAGMA cache_spill = OFF;
 CREATE TABLE IF NOT EXISTS blobs (identifier BLOB PRIMARY KEY, number INTEGER, until INTEGER, poster TEXT, votes TEXT,
     certified INTEGER, invalid INTEGER) WITHOUT ROWID;
@@ -165,7 +165,7 @@ class State:
     """A database of one process; what was entered since it was saved is not there at the next start. Where a tail of so
     many epochs is to be kept, the one of now among them, it has their entries too."""
 
-    def __init__(self, path: str = "", tail: int = 0):
+    def __init__(self, path: str = "", tail: int = 0, pages: int = PAGES):
         self.path, self.tail, self.lock = path, tail, open(f"{path}.lock", "ab") if path else None
         if self.lock:
             fcntl.flock(self.lock, fcntl.LOCK_EX | fcntl.LOCK_NB)
@@ -177,7 +177,7 @@ class State:
         self.fresh = list[Entry]()  # entries that the disk does not have yet
         self.again = self.due = 0.0  # when a full disk is tried again, and when what is to be kept soon is saved
         try:
-            self.base.executescript(TABLES + "BEGIN IMMEDIATE;")
+            self.base.executescript(f"PRAGMA cache_size = -{pages};{TABLES}BEGIN IMMEDIATE;")
             self.load()
         except BaseException:
             self.close()
@@ -192,19 +192,19 @@ class State:
             self.saved = self.ledger.epoch
 
     @classmethod
-    def open(cls, path: str, tail: int = 0) -> "State":
+    def open(cls, path: str, tail: int = 0, pages: int = PAGES) -> "State":
         """The state in a file; elsewhere for the time being if another process has it, and anew if it is torn, or of
         another version."""
         try:
-            return cls(path, tail)
+            return cls(path, tail, pages)
         except BlockingIOError:
-            return cls()
+            return cls(pages=pages)
         except (sqlite3.DatabaseError, ValueError, KeyError, TypeError) as fault:
             if getattr(fault, "sqlite_errorcode", sqlite3.SQLITE_CORRUPT) & 0xFF not in TORN:
                 raise OSError(f"{path} is not opened: {fault}") from fault  # such as a disk that is full
             for end in ("", "-wal", "-shm"):
                 pathlib.Path(path + end).unlink(missing_ok=True)
-            return cls(path, tail)
+            return cls(path, tail, pages)
 
     def fields(self) -> dict[str, Any]:
         """All that the ledger says beside its blobs, and how far it was heard."""
