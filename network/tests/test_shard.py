@@ -19,7 +19,7 @@ from unittest import mock
 
 from harness import lacking
 
-from walrus import client, engines, kinds, shards
+from walrus import client, kinds, shards
 from walrus.frames import METADATA, PRIMARY, SECONDARY, code_of
 from walrus.network import handover, judge, recovery, scrub, shard
 from walrus.network.judge import Busy, Judges, Unjudged
@@ -385,10 +385,8 @@ class Trouble(ShardCase):
                 self.assertEqual(code_of(await self.shard.put_whole(right)), 13)
                 self.assertEqual((write.call_count, len(self.files())), (3, 2))
 
-    async def test_small_blobs_that_come_at_once_are_judged_in_one_call(self) -> None:
+    async def test_of_small_blobs_that_come_at_once_each_has_its_own_judgement(self) -> None:
         assert self.store
-        if not isinstance(self.judges.engine, engines.Library):
-            self.skipTest("a process judges one blob at a time")
         wholes, count = [await self.whole(250 * size) for size in (1, 2, 3, 4)], self.judges.count
         wholes[1].parts[2][-1] ^= 1
         self.ledger.blobs.expire(9)
@@ -396,7 +394,7 @@ class Trouble(ShardCase):
             self.apply("x", "register", whole.identifier.hex(), 9)
         said = await asyncio.gather(*map(self.shard.put_whole, wholes))
         self.assertEqual([*map(code_of, said)], [13, kinds.UNVERIFIED, 13, shard.UNREGISTERED])
-        self.assertEqual(self.judges.count - count, 1)
+        self.assertEqual(self.judges.count - count, len(wholes))
         self.assertTrue(self.store.flush())
         self.open()
         for whole in (wholes[0], wholes[2]):
@@ -406,16 +404,14 @@ class Trouble(ShardCase):
 
     async def test_a_blob_over_which_no_judgement_comes_spoils_no_other(self) -> None:
         assert self.store
-        if not isinstance(self.judges.engine, engines.Library):
-            self.skipTest("a process judges one blob at a time")
-        wholes, all_of = [await self.whole(250 * size) for size in (1, 2, 3)], shard.judge_all
+        wholes, serve = [await self.whole(250 * size) for size in (1, 2, 3)], judge.serve
 
-        def judge_all(engine: Any, faults: int, number: int, some: Any, told: Any) -> Any:
-            if wholes[1] in some:
+        def judged(engine: Any, faults: int, number: int, pages: int, data: Any, *rest: int) -> Any:
+            if bytes(wholes[1].parts[1]) in bytes(data):
                 raise Unjudged("walrus serve ended")
-            return all_of(engine, faults, number, some, told)
+            return serve(engine, faults, number, pages, data, *rest)
 
-        with mock.patch("walrus.network.shard.judge_all", judge_all):
+        with mock.patch("walrus.network.judge.serve", judged):
             said = await asyncio.gather(*map(self.shard.put_whole, wholes), return_exceptions=True)
         self.assertIsInstance(said[1], Unjudged)
         self.assertEqual([code_of(it) for it in said[::2] if isinstance(it, list)], [13, 13])

@@ -28,7 +28,7 @@ from .recovery import Progress, passing, settle
 from .scrub import Scrub
 from .settings import Settings
 from .shard import DECLINED, FULL, NO_MEMORY, Past, Shard
-from .staged import SOON, TORN
+from .staged import TORN
 from .state import State
 from .store import Store
 from .whole import WHOLE
@@ -175,8 +175,7 @@ class Node(View):
         said = parts(reply, shard)
         if request[0] not in (*PARTS, WHOLE, client.FORGET) or code_of(reply) not in (client.DONE, client.HELD):
             return Said(said)
-        soon = 0 if request[0] == WHOLE and self.judges.here(len(request)) else SOON  # it has waited for others
-        return Said(said, self.store.written(soon), joined([answer(FULL, len(request) // 4096 + 1)], shard))
+        return Said(said, self.store.written(), joined([answer(FULL, len(request) // 4096 + 1)], shard))
 
     async def route(self, number: int, request: bytes) -> list[bytes]:
         """Asks the shard of the committee that a request is for."""

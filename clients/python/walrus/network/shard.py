@@ -16,8 +16,7 @@ from . import judge
 from .judge import Judges
 from .ledger import ACK, ATTEST, Ledger
 from .store import Part, Store
-from .together import Together
-from .whole import Whole, judge_all
+from .whole import Whole
 
 SMALL = 65_536  # bytes of the longest content that SQLite has
 UNREGISTERED, DECLINED, FULL, NO_MEMORY = 1, 5, 6, 7
@@ -73,9 +72,6 @@ class Shard:
     damaged: Callable[[bytes], None]
     reserve: float = 0
 
-    def __post_init__(self) -> None:
-        self.together = Together(self.judged_together)
-
     @property
     def title(self) -> str:
         return f"shard {self.number} of epoch {self.epoch}"
@@ -110,17 +106,15 @@ class Shard:
         self.must_serve()
         return Judged([request], *found, revision, losses, size)
 
-    async def judged_together(self, wholes: Sequence[Whole]) -> list[Judged]:
-        """What one call of the judge gives over blobs of which nothing is held. Who asks has them for himself."""
+    async def judged_whole(self, whole: Whole) -> Judged:
+        """What the judge gives over a blob of which nothing is held. Who asks has it for himself."""
         self.must_serve()
-        ledger, losses = self.ledger, self.store.losses
-        revision, told = ledger.revision, [entries_of(ledger, self.epoch, it.identifier) for it in wholes]
-        requests = [[*it.parts, it.wish] for it in wholes]
-        sizes = [sum(map(len, it)) for it in requests]
-        words = self.judges.engine, ledger.faults, self.number, wholes, told
-        found = await self.judges.ask(sum(sizes), judge_all, *words)
+        ledger, revision, losses = self.ledger, self.ledger.revision, self.store.losses
+        told, requests = entries_of(ledger, self.epoch, whole.identifier), [*whole.parts, whole.wish]
+        size = sum(map(len, requests))
+        found = await self.judges.ask(size, whole.judge, self.judges.engine, ledger.faults, self.number, told)
         self.must_serve()
-        return [Judged(*it, [], revision, losses, size) for it, size in zip(zip(requests, found), sizes)]
+        return Judged(requests, found, [], revision, losses, size)
 
     def over(self, request: bytes, told: list[bytes], held: Sequence[Part]) -> tuple[list[list[bytes]], list[int]]:
         """The judge's reply to a request over these entries and parts, and which parts are not what they should be."""
@@ -186,15 +180,13 @@ class Shard:
             if self.store.sizes(self.holding, self.epoch, identifier) or self.store.wrong(self.holding, identifier):
                 return []
             parts = dict(zip((METADATA, PRIMARY, SECONDARY), whole.parts))
-            if self.judges.here(whole.end - whole.start):
-                judged, writing = await self.together.judged(whole), None
-            else:
-                writing = self.write(identifier, parts) if pages(whole.parts) < self.free_pages() else None
-                try:
-                    [judged] = await self.judged_together([whole])
-                except BaseException:
-                    self.let_go(writing)
-                    raise
+            is_long = max(map(len, whole.parts)) > SMALL and pages(whole.parts) < self.free_pages()
+            writing = self.write(identifier, parts) if is_long else None
+            try:
+                judged = await self.judged_whole(whole)
+            except BaseException:
+                self.let_go(writing)
+                raise
             for reply in judged.replies[:3]:
                 if code_of(reply) != client.DONE:
                     self.let_go(writing)

@@ -77,25 +77,3 @@ class Whole:
     @functools.cached_property
     def wish(self) -> bytes:
         return client.write_frame(client.Ack(self.identifier))
-
-
-def judge_all(
-    engine: Engine, faults: int, shard: int, wholes: Sequence[Whole], told: Sequence[Sequence[bytes]]
-) -> list[list[list[bytes]]]:
-    """What a shard that holds nothing replies to the parts of several blobs and the wish for each, after what it is
-    told of that blob. One alone is judged where it lies."""
-    if len(wholes) == 1:
-        return [wholes[0].judge(engine, faults, shard, told[0])]
-    stream, pages, count = bytearray(), 0, 0
-    for whole, words in zip(wholes, told):
-        stream += b"".join(map(client.envelope, words))
-        stream += whole.memory[whole.start + 1 : whole.end]  # noqa: E203
-        stream += client.envelope(whole.wish)
-        pages += sum(pages_of(part) for part in whole.parts)
-        count += len(words) + 4
-    replies = judge.serve(engine, faults, shard, pages, stream, count, 512 * count)
-    found, place = list[list[list[bytes]]](), 0
-    for words in told:
-        place += len(words) + 4
-        found.append(replies[place - 4 : place])  # noqa: E203
-    return found
