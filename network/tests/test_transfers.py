@@ -20,6 +20,12 @@ DRAWN = random.Random(41)
 PIECE = 16_777_216
 MARK = b"\x00walrus list \x00\x00\x01"
 LIE = b"lie"
+TOLD = """import atexit, os, pathlib, re
+def tell():
+    told = re.search(r"VmHWM:\\s+(\\d+) kB", pathlib.Path("/proc/self/status").read_text())
+    pathlib.Path(os.environ["PEAK"]).write_text(told[1])
+atexit.register(tell)
+"""  # which Python runs before a command, so that it tells its largest resident memory at its end
 
 
 @unittest.skipUnless(os.access(find_program(), os.X_OK), f"the program {find_program()} is not here")
@@ -87,6 +93,14 @@ class Transfers(unittest.IsolatedAsyncioTestCase):
         self.assertEqual(error.count(b"\n"), bool(status), error)
         return out, error.decode()
 
+    async def peak_of(self, *words: Union[str, pathlib.Path]) -> int:
+        """The most bytes of resident memory that walrus-net has while it does this."""
+        (self.folder / "sitecustomize.py").write_text(TOLD)
+        told = self.folder / "peak"
+        with mock.patch.dict(os.environ, {"PYTHONPATH": str(self.folder), "PEAK": str(told)}):
+            await self.run_net(*words)
+        return int(told.read_text()) * 1_024
+
     def left(self) -> list[str]:
         return sorted(path.name for path in self.folder.iterdir())
 
@@ -140,6 +154,23 @@ class Transfers(unittest.IsolatedAsyncioTestCase):
         self.out.write_bytes(blob)
         self.assertIn(name.encode(), (await self.run_net("store", self.out, "--epochs", "1"))[0])
         self.assertTrue(self.bodies[-1] == blob)
+
+    async def test_of_a_long_file_two_pieces_are_in_memory_at_most(self) -> None:
+        pieces = [DRAWN.randbytes(PIECE) for _ in range(6)]
+        long, names = b"".join(pieces), b"".join([await self.id(piece) for piece in pieces])
+        name = (await self.id(MARK + len(long).to_bytes(8, "big") + names)).hex()
+        short, at = b"short", self.folder / "file"
+        bound = 3 * PIECE  # two of them, and what comes and goes beside them, which is far less than a third one
+        peaks = dict[str, list[int]](store=[], fetch=[])
+        for data, self.named in ((short, (await self.id(short)).hex()), (long, name)):
+            at.write_bytes(data)
+            self.files[self.named] = data
+            peaks["store"].append(await self.peak_of("store", at, "--epochs", "1"))
+            self.assertTrue(self.bodies.pop() == data)
+            peaks["fetch"].append(await self.peak_of("fetch", self.named, "--output", self.out))
+            self.assertTrue(self.out.read_bytes() == data)
+        for what, (least, most) in peaks.items():
+            self.assertLess(most - least, bound, what)
 
     async def test_what_is_stored_is_named_here_too(self) -> None:
         self.out.write_bytes(b"first")
