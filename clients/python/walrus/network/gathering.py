@@ -6,10 +6,11 @@ import hashlib
 import os
 import sqlite3
 import tempfile
-from typing import Any, AsyncIterator
+from typing import Any, AsyncIterator, Coroutine, Iterator
 
 from .archives import Coming, opened
 from .chunks import PIECE, Told, Writer
+from .groups import several
 from .manifest import MARK, Place, TooMany, Wrong
 from .packing import SMALL, WRITTEN, Folder
 from .problems import Problem
@@ -98,12 +99,8 @@ class Upload(Storing):
     def __init__(self, writer: Writer, costs: Costs, epochs: int, reserve: float, stored: list[bytes]):
         super().__init__(writer, costs, epochs, stored)
         self.folder, self.spool, self.end, self.reserve = Folder(), tempfile.TemporaryFile(buffering=0), 0, reserve
-        self.tasks = list["asyncio.Task[None]"]()
 
-    async def close(self) -> None:
-        for task in self.tasks:
-            task.cancel()
-        await asyncio.gather(*self.tasks, return_exceptions=True)
+    def close(self) -> None:
         self.folder.close()
         self.spool.close()
 
@@ -142,13 +139,6 @@ class Upload(Storing):
             await asyncio.sleep(0)
             yield os.pread(self.spool.fileno(), min(WRITTEN, start + length - at), at)
 
-    async def do(self, work: Any) -> None:
-        """Has something done beside the others, of which there are a few at once."""
-        self.tasks.append(asyncio.create_task(work))
-        if len(self.tasks) >= AHEAD:
-            await self.tasks[-AHEAD]
-            self.tasks = [task for task in self.tasks if not task.done() or task.exception()]
-
     async def store_file(self, path: str, length: int, start: int) -> None:
         told = await self.store(self.kept(length, start))
         self.folder.add(path, length, bytes.fromhex(told["blobId"]))
@@ -157,14 +147,17 @@ class Upload(Storing):
         told = await self.store(once(data))
         self.folder.place(number, bytes.fromhex(told["blobId"]))
 
-    async def finish(self) -> Told:
-        """Stores what was kept: large files, packs, and once all of these are stored the manifest."""
+    def parts(self) -> Iterator[Coroutine[Any, Any, None]]:
+        """Stores each large file, and each pack."""
         for file in self.folder.large():
-            await self.do(self.store_file(*file))
+            yield self.store_file(*file)
         for number, pack in enumerate(self.folder.packs()):
             data = b"".join(os.pread(self.spool.fileno(), length, at) for _, length, at in pack)  # type: ignore
-            await self.do(self.store_pack(number, data))
-        await asyncio.gather(*self.tasks)
+            yield self.store_pack(number, data)
+
+    async def finish(self) -> Told:
+        """Stores what was kept, and once all of it is stored the manifest."""
+        await several(self.parts(), AHEAD)
         told = await self.store(spread(self.folder))
         found = {"files": self.folder.count, "bytes": self.folder.bytes}
         return {**told, "alreadyCertified": not self.is_new, "folder": found}
@@ -190,7 +183,7 @@ async def store_folder(
     except sqlite3.Error as fault:
         raise Problem(503, f"the gateway cannot keep what it knows of the folder: {fault}; try again later") from None
     finally:
-        await upload.close()
+        upload.close()
 
 
 async def store_named(
