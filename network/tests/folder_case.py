@@ -34,11 +34,13 @@ def tar_of(files: Union[Files, Iterable[tuple[str, bytes]]], form: int = tarfile
     return out.getvalue()
 
 
-def odd_tar(kind: bytes, name: str = "odd", link: str = "", size: int = 0) -> bytes:
+def odd_tar(kind: bytes, name: str = "odd", link: str = "", size: int = 0, before: bytes = b"") -> bytes:
     """A tar of a file, and of an entry of another kind."""
     out = io.BytesIO()
     with tarfile.open(fileobj=out, mode="w") as made:
-        made.addfile(tarfile.TarInfo("before"), io.BytesIO())
+        file = tarfile.TarInfo("before")
+        file.size = len(before)
+        made.addfile(file, io.BytesIO(before))
         told = tarfile.TarInfo(name)
         told.type, told.linkname, told.size = kind, link, size
         made.addfile(told)

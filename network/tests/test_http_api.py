@@ -16,8 +16,8 @@ except ImportError:
     yaml = None
 
 PACKAGE = pathlib.Path(gateway.__file__).parent
-OWN = "access folders forms digests guard gateway listing page problems publishing ranges reading shares shelf"
-OWN += " source uploads"
+OWN = "access archives folders forms digests gathering guard gateway listing page problems publishing ranges reading"
+OWN += " shares shelf source uploads"
 NAME = "[A-Z][A-Za-z]*(?:-[A-Z][A-Za-z]*)+"  # of a header, with a hyphen
 READ = [rf'headers\.get(?:all)?\("({NAME}|[A-Z][a-z]+)"', rf'"({NAME}|[A-Z][a-z]+)" in request\.headers']
 GENERAL = {"Accept", "Host", "Authorization", "Content-Type", "Content-Length"}  # which HTTP itself has

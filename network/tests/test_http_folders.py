@@ -4,12 +4,14 @@ import base64
 import contextlib
 import hashlib
 import io
+import os
 import random
 import re
 import resource
 import sqlite3
 import tarfile
 import time
+import types
 import unittest
 import unittest.mock
 import urllib.parse
@@ -217,14 +219,15 @@ class Folders(GuardCase):
         self.assertEqual(headers["access-control-allow-origin"], "*")
         self.assertEqual((await self.ask("PUT", f"{at}/style.css", data=b""))[0], 405)
 
-    async def test_what_no_folder_has_is_refused_by_name_and_no_manifest_is_stored(self) -> None:
+    async def test_what_no_folder_has_is_refused_by_name_and_nothing_is_stored(self) -> None:
         await self.start()
+        film = bytes(3_145_728)  # which is stored on its own
         for what, (path, said) in HOSTILE.items():
             for form in (tarfile.PAX_FORMAT, tarfile.GNU_FORMAT):
-                told = await self.put_folder(tar_of([("before", b"1"), (path, b"2")], form), 400)
+                told = await self.put_folder(tar_of([("film", film), ("before", b"1"), (path, b"2")], form), 400)
                 self.assertIn(said, told["error"]["text"], what)
             if what not in ("control", "no UTF-8", "backslash"):  # which no form can say so
-                kind, data = form_of({"before": b"1", path: b"2"})
+                kind, data = form_of({"film": film, "before": b"1", path: b"2"})
                 self.assertIn(said, (await self.put_folder(data, 400, kind))["error"]["text"], what)
         for kind, link in ((tarfile.SYMTYPE, "../x"), (tarfile.LNKTYPE, "before"), (tarfile.CHRTYPE, "")):
             said = (await self.put_folder(odd_tar(kind, "odd", link), 400))["error"]["text"]
@@ -235,8 +238,12 @@ class Folders(GuardCase):
         for pair in (("a", "a"), ("a", "./a"), ("a", "a/b"), ("a/b", "a"), ("a/b/c", "a"), ("a", "a/b/c")):
             told = await self.put_folder(tar_of([(it, b"x") for it in pair]), 400)
             self.assertRegex(told["error"]["text"], "comes twice|both|as well as a file")
-        await self.put_folder(tar_of({"a": b"1", "a-b": b"2", "ab": b"3", "a.b/c": b"4"}))
-        self.assertEqual([it for it in self.stored if it.startswith(MARK)], self.stored[-1:])
+        whole = tar_of({"film": film, "a": b"x"})
+        for bad in (whole[: 3_145_728 + 3 * 512], whole[: 3_145_728 // 2], whole + b"x"):  # cut off, or continued
+            await self.put_folder(bad, 400)
+        self.assertEqual(self.stored, [])
+        await self.put_folder(tar_of({"a": b"1", "a-b": b"2", "ab": b"3", "a.b/c": b"4", "film": film}))
+        self.assertEqual(sorted(map(len, self.stored[:-1])), [4, len(film)])  # the film, a pack, and the manifest
 
     async def test_what_is_no_tar_and_no_form_is_refused(self) -> None:
         await self.start()
@@ -478,7 +485,7 @@ class Folders(GuardCase):
         self.assertEqual((await self.ask("POST", "/v1/uploads?epochs=5&filename=a", data=b"x"))[0], 400)
         self.assertEqual(len(self.stored), count)
 
-    async def test_a_folder_that_breaks_off_costs_what_may_be_stored(self) -> None:
+    async def test_a_folder_that_breaks_off_costs_nothing_and_one_that_fails_what_may_be_stored(self) -> None:
         shown = self.token("one", bytes=1_000_000, blobs=100)
         for module, name, size in (
             (gathering, "SMALL", 5_000),
@@ -489,6 +496,20 @@ class Folders(GuardCase):
         await self.start()
         whole = tar_of({"a": bytes(20_000), "b": bytes(300_000)})
         await self.put_folder(whole[: 512 + 20_480 + 512 + 120_000], 400, headers=shown)
+        self.assertEqual((self.used("one"), self.stored), ((0, 0), []))
+        true = self.gateway.publisher.writer.store
+
+        async def store(stream: AsyncIterator[bytes], epochs: int, stored: list[bytes]) -> dict[str, Any]:
+            data = b""
+            async for part in stream:
+                data += part
+                if len(data) > 120_000:
+                    raise client.Failed("it is told to fail", {})
+            return await true(gathering.once(data), epochs, stored)
+
+        self.enterContext(unittest.mock.patch.object(gathering, "WRITTEN", 20_000))  # which are read at once
+        with unittest.mock.patch.object(self.gateway.publisher.writer, "store", store):
+            await self.put_folder(whole, 503, headers=shown)
         self.assertEqual(self.used("one"), (20_000 + 100_000, 1 + 2))  # all of a, and two whole pieces of b
         await self.put_folder(whole, headers=shown)
         told = len(self.stored[-1])
@@ -544,7 +565,7 @@ class Folders(GuardCase):
         self.assertGreater(turned, 300)
 
     async def test_large_files_and_small_ones_have_bounds(self) -> None:
-        await self.start(room=40_000_000)
+        await self.start()
         self.enterContext(unittest.mock.patch.object(gathering, "SMALL", 5_000))
         self.enterContext(unittest.mock.patch.object(gathering, "PIECE", 50_000))
         files = {"long": bytes(300_000), "middle": b"m" * 20_000, "small": b"s" * 5_000}
@@ -556,11 +577,25 @@ class Folders(GuardCase):
         broken = unittest.mock.Mock(side_effect=sqlite3.OperationalError("database or disk is full"))
         with unittest.mock.patch.object(gathering.Folder, "begin", broken):
             self.assertIn("disk is full", (await self.put_folder(tar_of(files), 503))["error"]["text"])
-        self.gateway.options.room = 7_000
-        self.assertIn(
-            "parts", (await self.put_folder(tar_of({"a": b"a" * 4_000, "b": b"b" * 4_000}), 413))["error"]["text"]
-        )
-        await self.put_folder(tar_of({"a": b"a" * 4_000, "b": b"a" * 4_000}))  # kept once
+
+    async def test_a_folder_leaves_the_reserve_of_the_disk_free(self) -> None:
+        await self.start()
+
+        def disk(descriptor: int) -> types.SimpleNamespace:  # of 2,000,000 bytes, of which a twentieth stays free
+            taken = os.fstat(descriptor).st_size
+            return types.SimpleNamespace(f_frsize=2, f_blocks=1_000_000, f_bavail=(900_000 - taken) // 2)
+
+        self.enterContext(unittest.mock.patch.object(gathering.os, "fstatvfs", disk))
+        for files in ({"film": bytes(800_002)}, {it: it.encode() * 300_000 for it in "abc"}):
+            error = (await self.put_folder(tar_of(files), 507))["error"]
+            self.assertIn("use walrus-net store FOLDER, which checks the names first", error["text"])
+            kind, form = form_of(files)
+            await self.put_folder(form, 507, kind)
+        self.assertEqual(self.stored, [])
+        files = {it: b"x" * 250_000 for it in "abcd"}  # kept once
+        await self.holds((await self.put_folder(tar_of(files)))["blobId"], files)
+        files = {"film": bytes(799_000)}
+        await self.holds((await self.put_folder(tar_of(files)))["blobId"], files)
 
 
 if __name__ == "__main__":

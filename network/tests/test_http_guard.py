@@ -6,6 +6,7 @@ import os
 import re
 import ssl
 import time
+import types
 import unittest
 from typing import Any
 from unittest import mock
@@ -13,7 +14,8 @@ from unittest import mock
 import aiohttp
 from guard_case import GuardCase, other_address
 from harness import HERE, usage_of
-from walrus.network import chunks, connections, shares, tokens
+from walrus.network import chunks, connections, reading, shares, tokens
+from walrus.network import limits as limits_module
 from walrus.network.limits import Bucket, Limits, is_address, is_inner, key_of
 from walrus.network.certificates import make_authority
 from walrus.network.local import make_certificate
@@ -388,19 +390,20 @@ class Customers(GuardCase):
 
 class Impatient(GuardCase):
     async def test_too_many_requests(self) -> None:
+        clock = mock.Mock(return_value=1_000.0)  # of the limits alone
+        self.enterContext(mock.patch.object(limits_module, "time", types.SimpleNamespace(monotonic=clock)))
         await self.start(requests=5)
         self.token("anyone", "read")
         alice, bob = self.token("alice"), self.token("bob")
         found = [await self.ask("GET", "/v1/status", headers=alice) for _ in range(14)]
-        statuses = [status for status, _, _ in found]
-        self.assertEqual((set(statuses), statuses.count(200) in (10, 11)), ({200, 429}, True), statuses)
+        self.assertEqual([status for status, _, _ in found], [200] * 10 + [429] * 4)  # what two seconds bring
         _, headers, told = found[-1]
         self.assertEqual((headers["retry-after"], told["error"]["status"]), ("1", 429))
-        await asyncio.sleep(1.1)
+        clock.return_value += 1
         self.assertEqual((await self.ask("GET", "/v1/status", headers=bob))[0], 200)
         wrong = {"Authorization": "Bearer wrong"}
-        found = [(await self.ask("GET", "/v1/status", headers=wrong))[0] for _ in range(14)]
-        self.assertEqual((found[0], found[-1]), (401, 429))
+        statuses = [(await self.ask("GET", "/v1/status", headers=wrong))[0] for _ in range(14)]
+        self.assertEqual(statuses, [401] * 4 + [429] * 10)  # bob had the first one of his address
         limits = Limits(
             5, 0
         )  # a token has its limit whatever addresses it comes from, and an address whatever it shows
@@ -428,17 +431,23 @@ class Impatient(GuardCase):
         self.assertGreater(time.monotonic() - begun, 6.9)
 
     async def test_a_slow_reader_holds_up_nobody(self) -> None:
+        self.enterContext(mock.patch.object(reading, "SILENCE", 600.0))  # so that the slow ones stay
         await self.start(requests=0)
         self.files["1" * 64] = bytes(16_000_000)
-        slow = []
+
+        async def seconds() -> float:
+            """For which others read."""
+            begun = time.monotonic()
+            for _ in range(20):
+                self.assertEqual((await self.ask("GET", f"/v1/blobs/{'1' * 64}"))[0], 200)
+            return time.monotonic() - begun
+
+        alone, slow = await seconds(), []
         for _ in range(50):
             reader, writer = await asyncio.open_connection("127.0.0.1", self.port)
             writer.write(f"GET /v1/blobs/{'1' * 64} HTTP/1.1\r\nHost: x\r\n\r\n".encode())
             slow.append((reader, writer))
-        begun = time.monotonic()
-        for _ in range(20):
-            self.assertEqual((await self.ask("GET", f"/v1/blobs/{'1' * 64}"))[0], 200)
-        self.assertLess(time.monotonic() - begun, 15)
+        self.assertLess(await seconds(), max(15, 5 * alone))  # where the machine is busy it takes longer anyway
         for _, writer in slow:
             writer.transport.abort()
 

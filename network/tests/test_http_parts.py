@@ -16,7 +16,7 @@ sys.path.insert(0, str(pathlib.Path(__file__).resolve().parents[2] / "clients" /
 
 import walrus.network  # noqa: E402, F401
 from walrus import bundles, client  # noqa: E402
-from walrus.network import chunks, forms, pieces, problems, ranges, transfers  # noqa: E402
+from walrus.network import chunks, forms, groups, pieces, problems, ranges, transfers  # noqa: E402
 from walrus.network.cache import EXTRA, Cache  # noqa: E402
 from walrus.network.exposure import Options  # noqa: E402
 from walrus.network.reading import Pace, Reader  # noqa: E402
@@ -369,6 +369,60 @@ class Commands(unittest.IsolatedAsyncioTestCase):
         self.assertTrue(b"".join(call.args[0] for call in naming.add.call_args_list) == data)
         self.assertTrue(out.getvalue() == data)
         self.assertEqual((len(asked), asked[0]), (2, ""))
+
+
+class Groups(unittest.IsolatedAsyncioTestCase):
+    """What runs beside each other."""
+
+    async def asyncSetUp(self) -> None:
+        self.running = self.most = self.done = self.ended = 0
+
+    async def work(self, turns: int = 3) -> int:
+        self.running += 1
+        self.most = max(self.most, self.running)
+        try:
+            for _ in range(turns):
+                await asyncio.sleep(0)
+            self.done += 1
+        except asyncio.CancelledError:
+            self.ended += 1
+            raise
+        finally:
+            self.running -= 1
+        return turns
+
+    async def fail(self) -> int:
+        await asyncio.sleep(0)
+        raise client.Failed("it is told to fail", {})
+
+    async def test_all_run_at_once_and_what_they_return_is_in_their_order(self) -> None:
+        self.assertEqual(await groups.all_of(self.work(it) for it in (3, 1, 2)), [3, 1, 2])
+        self.assertEqual((self.most, self.done, await groups.all_of([])), (3, 3, []))
+
+    async def test_where_one_fails_the_others_are_ended_and_its_fault_is_raised(self) -> None:
+        for failing in (self.fail(), groups.all_of([self.fail(), self.work(10**9)])):
+            with self.assertRaises(client.Failed):
+                await groups.all_of([self.work(10**9), failing, self.work(10**9)])
+            self.assertEqual(self.running, 0)
+        self.assertEqual((self.done, self.ended), (0, 5))
+
+    async def test_who_is_ended_ends_all(self) -> None:
+        task = asyncio.create_task(groups.all_of([self.work(10**9), self.work(10**9)]))
+        while self.running < 2:
+            await asyncio.sleep(0)
+        task.cancel()
+        await asyncio.wait([task])
+        self.assertEqual((task.cancelled(), self.running, self.ended), (True, 0, 2))
+
+    async def test_so_many_run_at_once_and_none_begins_behind_a_fault(self) -> None:
+        await groups.several((self.work() for _ in range(20)), 3)
+        self.assertEqual((self.most, self.done), (3, 20))
+        left = iter(
+            [self.work(10**9), self.fail(), self.work(10**9), *[7] * 9]
+        )  # of which the last ones cannot run
+        with self.assertRaises(client.Failed):
+            await groups.several(left, 3)  # type: ignore[arg-type]
+        self.assertEqual((self.running, self.ended, len([*left])), (0, 2, 9))
 
 
 if __name__ == "__main__":

@@ -5,12 +5,13 @@ import json
 import os
 import pathlib
 import random
+import tarfile
 import unittest
 from typing import Any
 
 import aiohttp
 from browser import PROGRAM, Browser
-from folder_case import Files, manifest_of, site, tar_of
+from folder_case import Files, manifest_of, odd_tar, site, tar_of
 from harness import HERE, usage_of
 from http_case import GatewayCase, UpCase
 from walrus.network.gateway import Options
@@ -127,6 +128,17 @@ class Story(GatewayCase):
                 await browser.evaluate("film.play().then(() => 1)")
                 self.assertTrue(await browser.until("film.currentTime > 0"))
         self.assertEqual(len(blobs), count)
+
+    async def test_a_folder_with_a_link_behind_a_large_file_registers_nothing(self) -> None:
+        await self.start()
+        blobs, film, other = self.network.ledger.blobs, self.drawn.randbytes(3_145_728), self.drawn.randbytes(3_145_728)
+        data, kind = odd_tar(tarfile.SYMTYPE, "odd", "../x", 0, film), "Content-Type: application/x-tar"
+        status, _, body = await self.curl("/v1/folders?epochs=3", "-H", kind, data=data)
+        self.assertEqual((status, len(blobs)), (400, 0))
+        self.assertIn("'odd' is a link", json.loads(body)["error"]["text"])
+        name = (await self.put_folder({"film": other}))["blobId"]
+        names = {(await self.network.walrus.encode(other, 1)).identifier, bytes.fromhex(name)}
+        self.assertEqual({*blobs}, names)  # all that was registered before would be there, too
 
     async def test_a_page_of_a_folder_cannot_reach_the_gateways_own(self) -> None:
         await self.start()

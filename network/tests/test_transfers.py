@@ -1,5 +1,6 @@
 """walrus-net before a gateway that lies, is away, or is slow: what it says is checked, and no file is lost by it."""
 import asyncio
+import collections
 import contextlib
 import os
 import pathlib
@@ -20,6 +21,12 @@ DRAWN = random.Random(41)
 PIECE = 16_777_216
 MARK = b"\x00walrus list \x00\x00\x01"
 LIE = b"lie"
+TOLD = """import atexit, os, pathlib, re
+def tell():
+    told = re.search(r"VmHWM:\\s+(\\d+) kB", pathlib.Path("/proc/self/status").read_text())
+    pathlib.Path(os.environ["PEAK"]).write_text(told[1])
+atexit.register(tell)
+"""  # which Python runs before a command, so that it tells its largest resident memory at its end
 
 
 @unittest.skipUnless(os.access(find_program(), os.X_OK), f"the program {find_program()} is not here")
@@ -33,10 +40,12 @@ class Transfers(unittest.IsolatedAsyncioTestCase):
         self.addCleanup(made.cleanup)
         self.folder, self.walrus = pathlib.Path(made.name), client.Walrus(find_program())
         self.out, self.files, self.named, self.bodies = self.folder / "out", dict[str, bytes](), "", list[bytes]()
-        self.members, self.stalls = list[str](), False
+        self.members, self.stalls, self.resumes, self.paths = list[str](), False, False, list[str]()
         app = web.Application(client_max_size=2**30)
         app.add_routes([web.get("/v1/status", self.status), web.get("/v1/blobs/{name}", self.give)])
         app.add_routes([web.put("/v1/blobs", self.take), web.post("/v1/bundles", self.take)])
+        app.add_routes([web.post("/v1/uploads", self.begin), web.get("/v1/uploads/1", self.look)])
+        app.add_routes([web.patch("/v1/uploads/1", self.take)])
         runner = web.AppRunner(app)
         await runner.setup()
         self.addAsyncCleanup(runner.cleanup)
@@ -64,8 +73,15 @@ class Transfers(unittest.IsolatedAsyncioTestCase):
             await response.write(data[len(data) // 2 :])  # noqa: E203
         return response
 
+    async def begin(self, _: web.Request) -> web.Response:
+        return web.Response(status=201 if self.resumes else 404, headers={"Location": "/v1/uploads/1"})
+
+    async def look(self, _: web.Request) -> web.Response:
+        return web.json_response({"offset": 0, "complete": False, "endEpoch": 5, "file": None})
+
     async def take(self, request: web.Request) -> web.Response:
         self.bodies.append(await request.read())
+        self.paths.append(request.path)
         told = {"blobId": self.named, "size": 0, "pieces": 1, "endEpoch": 5, "alreadyCertified": False}
         members = [{"id": it, "name": "x", "size": 1} for it in self.members]
         return web.json_response(told | {"certificate": {"epoch": 0, "count": 4}, "members": members})
@@ -86,6 +102,15 @@ class Transfers(unittest.IsolatedAsyncioTestCase):
         self.assertEqual(process.returncode, status, error.decode())
         self.assertEqual(error.count(b"\n"), bool(status), error)
         return out, error.decode()
+
+    async def peak_of(self, *words: Union[str, pathlib.Path]) -> int:
+        """The most bytes of resident memory that walrus-net has while it does this."""
+        (self.folder / "sitecustomize.py").write_text(TOLD)
+        told = self.folder / "peak"
+        environment = {"PYTHONPATH": str(self.folder), "PEAK": str(told), "XDG_STATE_HOME": str(self.folder)}
+        with mock.patch.dict(os.environ, environment):
+            await self.run_net(*words)
+        return int(told.read_text()) * 1_024
 
     def left(self) -> list[str]:
         return sorted(path.name for path in self.folder.iterdir())
@@ -140,6 +165,25 @@ class Transfers(unittest.IsolatedAsyncioTestCase):
         self.out.write_bytes(blob)
         self.assertIn(name.encode(), (await self.run_net("store", self.out, "--epochs", "1"))[0])
         self.assertTrue(self.bodies[-1] == blob)
+
+    async def test_of_a_long_file_two_pieces_are_in_memory_at_most(self) -> None:
+        pieces = [DRAWN.randbytes(PIECE) for _ in range(6)]
+        long, names = b"".join(pieces), b"".join([await self.id(piece) for piece in pieces])
+        name = (await self.id(MARK + len(long).to_bytes(8, "big") + names)).hex()
+        short, at = b"short", self.folder / "file"
+        bound = 3 * PIECE  # two of them, and what comes and goes beside them, which is far less than a third one
+        ways, peaks = {"store": True, "store at once": False}, collections.defaultdict[str, list[int]](list)
+        for data, self.named in ((short, (await self.id(short)).hex()), (long, name)):
+            at.write_bytes(data)
+            self.files[self.named] = data
+            for way, self.resumes in ways.items():
+                peaks[way].append(await self.peak_of("store", at, "--epochs", "1"))
+                self.assertTrue(self.bodies.pop() == data)
+            peaks["fetch"].append(await self.peak_of("fetch", self.named, "--output", self.out))
+            self.assertTrue(self.out.read_bytes() == data)
+        self.assertEqual(self.paths, ["/v1/blobs", "/v1/blobs", "/v1/uploads/1", "/v1/blobs"])
+        for what, (least, most) in peaks.items():
+            self.assertLess(most - least, bound, what)
 
     async def test_what_is_stored_is_named_here_too(self) -> None:
         self.out.write_bytes(b"first")

@@ -10,6 +10,7 @@ from typing import Any, Optional, Sequence
 from .. import client, frames
 
 from .client import Network
+from .groups import all_of
 from .peers import Seat
 from .pieces import Memory, reading_needs
 from .problems import Problem
@@ -70,7 +71,7 @@ class Announcer:
         attest = frames.write_frame(frames.Attest(identifier))
         words = dict[int, str]()
         for step in (("store the proof", proof, (client.DONE, client.HELD)), ("attest", attest, client.COUNTS)):
-            said = await asyncio.gather(*(client.take_steps(seat, [step]) for seat in seats))
+            said = await all_of(client.take_steps(seat, [step]) for seat in seats)
             words = {it.number: words.get(it.number) or text for it, (_, text) in zip(seats, said)}  # one word a node
         await network.until(lambda it: it.invalid(identifier), HEARD)
         attested = [str(number) for number, text in words.items() if not text]

@@ -19,24 +19,27 @@ class Naming:
         self.walrus, self.faults, self.form = walrus, faults, form
         self.kept, self.names, self.size, self.first = bytearray(), b"", 0, b""
 
-    async def name(self, blob: bytes) -> bytes:
+    async def name(self, blob: client.Data) -> bytes:
         """The identifier of a blob."""
         return bytes.fromhex((await self.walrus.output("id", self.faults, "--format", self.form, data=blob)).decode())
 
     async def add(self, part: bytes) -> None:
-        self.kept += part
-        self.size += len(part)
-        while len(self.kept) > PIECE:  # a piece is named once something follows it
-            await self.add_piece(bytes(self.kept[:PIECE]))
-            del self.kept[:PIECE]
+        view, self.size = memoryview(part), self.size + len(part)
+        while len(self.kept) + len(view) > PIECE:  # a piece is named once something follows it
+            room = PIECE - len(self.kept)
+            self.kept += view[:room]
+            view, piece, self.kept = view[room:], self.kept, bytearray()
+            await self.add_piece(piece)
+        self.kept += view
 
-    async def add_piece(self, piece: bytes) -> None:
-        self.first = self.first or piece[: len(MARK)]
+    async def add_piece(self, piece: bytearray) -> None:
+        """Names a piece. The program is given it through a pipe, before which asyncio has it once more."""
+        self.first = self.first or bytes(piece[: len(MARK)])
         self.names += await self.name(piece)
 
     async def identifiers(self) -> list[bytes]:
         """The identifiers that name the file, which has ended: that of its list first, where a gateway makes one."""
-        last = bytes(self.kept)
+        last = self.kept
         await self.add_piece(last)
         if len(self.names) == NAME and self.first != MARK:
             return [self.names]

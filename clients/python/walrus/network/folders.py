@@ -84,7 +84,7 @@ class Folders:
     ) -> Told:
         """Stores what comes as a folder of this media type; what is told of it, with its own host."""
         publisher = self.publisher
-        told = await store_folder(publisher.writer, kind, costs, publisher.options.room, stream, epochs, stored)
+        told = await store_folder(publisher.writer, kind, costs, publisher.options.reserve, stream, epochs, stored)
         return {**told, "folder": {**told["folder"], **self.site_of(told["blobId"])}}
 
     def at_site(self, request: web.BaseRequest) -> Optional[bytes]:

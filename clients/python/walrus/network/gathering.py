@@ -1,23 +1,27 @@
-"""A folder that comes over HTTP is stored: large files as they come, small ones in packs, and the manifest last."""
+"""A folder that comes over HTTP waits in a file without a name until all of it has come, so that nothing is stored of
+one that is refused. Then large files are stored, small ones in packs, and the manifest last."""
 import asyncio
 import contextlib
 import hashlib
 import os
 import sqlite3
 import tempfile
-from typing import Any, AsyncIterator
+from typing import Any, AsyncIterator, Coroutine, Iterator
 
 from .archives import Coming, opened
 from .chunks import PIECE, Told, Writer
+from .groups import several
 from .manifest import MARK, Place, TooMany, Wrong
 from .packing import SMALL, WRITTEN, Folder
-from .pieces import Spool, write
 from .problems import Problem
 from .shares import Charge, count_of
 from .source import Source
 
 AT_ONCE, AHEAD = 16, 4  # folders that come at once; files and packs of one that are stored at once
-FULL = "the small files of a folder have more bytes than the gateway keeps at once: store the folder in parts"
+FULL = (
+    "the folder is not stored: the gateway keeps all of it on its disk until the last name is known, and has too little"
+    " room there; use walrus-net store FOLDER, which checks the names first and sends one file after the other"
+)
 
 
 class Costs(Charge):
@@ -90,79 +94,70 @@ class Storing:
 
 
 class Upload(Storing):
-    """A folder that comes. `most` is how many bytes its small files may have."""
+    """A folder that comes. `reserve` is the part of the disk that is left free."""
 
-    def __init__(self, writer: Writer, costs: Costs, epochs: int, most: int, stored: list[bytes]):
+    def __init__(self, writer: Writer, costs: Costs, epochs: int, reserve: float, stored: list[bytes]):
         super().__init__(writer, costs, epochs, stored)
-        self.folder, self.spool, self.end, self.most = Folder(), tempfile.TemporaryFile(buffering=0), 0, most
-        self.tasks = list["asyncio.Task[None]"]()
+        self.folder, self.spool, self.end, self.reserve = Folder(), tempfile.TemporaryFile(buffering=0), 0, reserve
 
-    async def close(self) -> None:
-        for task in self.tasks:
-            task.cancel()
-        await asyncio.gather(*self.tasks, return_exceptions=True)
+    def close(self) -> None:
         self.folder.close()
         self.spool.close()
 
     async def take(self, coming: Coming) -> None:
-        """Takes the next file, all of whose bytes are read."""
-        path, parts, held = coming.path, coming.parts, Spool()
+        """Keeps the next file until it is known which others come."""
+        path, start, digest = coming.path, self.end, hashlib.sha256()
         await asyncio.sleep(0)  # many files come in one part, and others go on between them
         try:
             self.folder.begin(path)
         except Wrong as fault:
             raise Problem(413 if isinstance(fault, TooMany) else 400, f"{fault}; no folder is stored") from None
-        try:
-            async for part in parts:
-                held.add(memoryview(part))
-                if held.size > PIECE:
-                    break
-            size, data = held.size, held.whole() if held.size else b""
-        finally:
-            held.close()
-        if size > PIECE:
-            await self.store_long(path, data, parts)
-        elif size > SMALL:
-            await self.do(self.store_file(path, data))
+        async for part in coming.parts:
+            self.keep(part)
+            if self.end - start <= SMALL:
+                digest.update(part)
+        size = self.end - start
+        if size > SMALL:
+            self.folder.add_large(path, size, start)
         elif size:
-            self.keep(path, data)
+            if self.folder.knows(digest.digest()):
+                self.end = start  # the next file takes its place
+            self.folder.add_small(path, size, digest.digest(), start)
 
-    def keep(self, path: str, data: bytes) -> None:
-        """Keeps a small file until it is known which others come."""
-        digest = hashlib.sha256(data).digest()
-        if not self.folder.knows(digest):
-            if self.end + len(data) > self.most:
-                raise Problem(413, FULL)
-            write(self.spool, memoryview(data))
-            self.end += len(data)
-        self.folder.add_small(path, len(data), digest, self.end - len(data))
+    def keep(self, data: bytes) -> None:
+        """Writes to the spool, unless its disk would have less left than its reserve."""
+        disk, view = os.fstatvfs(self.spool.fileno()), memoryview(data)
+        if disk.f_bavail * disk.f_frsize - len(data) < self.reserve * disk.f_blocks * disk.f_frsize:
+            raise Problem(507, FULL)
+        while view:
+            written = os.pwrite(self.spool.fileno(), view, self.end)
+            view, self.end = view[written:], self.end + written
 
-    async def do(self, work: Any) -> None:
-        """Has something done beside the others, of which there are a few at once."""
-        self.tasks.append(asyncio.create_task(work))
-        if len(self.tasks) >= AHEAD:
-            await self.tasks[-AHEAD]
-            self.tasks = [task for task in self.tasks if not task.done() or task.exception()]
+    async def kept(self, length: int, start: int) -> AsyncIterator[bytes]:
+        """What is in the spool from there on, so that others have their turn between its parts."""
+        for at in range(start, start + length, WRITTEN):
+            await asyncio.sleep(0)
+            yield os.pread(self.spool.fileno(), min(WRITTEN, start + length - at), at)
 
-    async def store_file(self, path: str, data: bytes) -> None:
-        told = await self.store(once(data))
-        self.folder.add(path, len(data), bytes.fromhex(told["blobId"]))
-
-    async def store_long(self, path: str, data: bytes, parts: AsyncIterator[bytes]) -> None:
-        """Stores a file of several pieces, the first bytes of which are there."""
-        told = await self.store(chained(data, parts))
-        self.folder.add(path, told["size"], bytes.fromhex(told["blobId"]))
+    async def store_file(self, path: str, length: int, start: int) -> None:
+        told = await self.store(self.kept(length, start))
+        self.folder.add(path, length, bytes.fromhex(told["blobId"]))
 
     async def store_pack(self, number: int, data: bytes) -> None:
         told = await self.store(once(data))
         self.folder.place(number, bytes.fromhex(told["blobId"]))
 
-    async def finish(self) -> Told:
-        """Stores the packs, and once all is stored the manifest."""
+    def parts(self) -> Iterator[Coroutine[Any, Any, None]]:
+        """Stores each large file, and each pack."""
+        for file in self.folder.large():
+            yield self.store_file(*file)
         for number, pack in enumerate(self.folder.packs()):
             data = b"".join(os.pread(self.spool.fileno(), length, at) for _, length, at in pack)  # type: ignore
-            await self.do(self.store_pack(number, data))
-        await asyncio.gather(*self.tasks)
+            yield self.store_pack(number, data)
+
+    async def finish(self) -> Told:
+        """Stores what was kept, and once all of it is stored the manifest."""
+        await several(self.parts(), AHEAD)
         told = await self.store(spread(self.folder))
         found = {"files": self.folder.count, "bytes": self.folder.bytes}
         return {**told, "alreadyCertified": not self.is_new, "folder": found}
@@ -172,14 +167,14 @@ async def store_folder(
     writer: Writer,
     kind: str,
     costs: Costs,
-    most: int,
+    reserve: float,
     stream: AsyncIterator[bytes],
     epochs: int,
     stored: list[bytes],
 ) -> Told:
     """Stores what comes as a folder of this media type."""
     source = Source(stream)
-    upload = Upload(writer, costs, epochs, most, stored)
+    upload = Upload(writer, costs, epochs, reserve, stored)
     try:
         async with contextlib.aclosing(opened(kind)(source)) as files:
             async for coming in files:
@@ -188,7 +183,7 @@ async def store_folder(
     except sqlite3.Error as fault:
         raise Problem(503, f"the gateway cannot keep what it knows of the folder: {fault}; try again later") from None
     finally:
-        await upload.close()
+        upload.close()
 
 
 async def store_named(
@@ -206,13 +201,6 @@ async def store_named(
 
 async def once(data: bytes) -> AsyncIterator[bytes]:
     yield data
-
-
-async def chained(data: bytes, parts: AsyncIterator[bytes]) -> AsyncIterator[bytes]:
-    for start in range(0, len(data), WRITTEN):
-        yield data[start : start + WRITTEN]  # noqa: E203
-    async for part in parts:
-        yield part
 
 
 async def spread(folder: Folder) -> AsyncIterator[bytes]:

@@ -1,5 +1,4 @@
 """Lists of blobs, and more time for those that are kept."""
-import asyncio
 import re
 
 from aiohttp import web
@@ -7,6 +6,7 @@ from aiohttp import web
 from .blobs import Blob
 from .client import Network
 from .dates import date_of
+from .groups import all_of
 from .problems import Problem, as_json
 from .reading import Reader
 from .shares import Charge
@@ -56,6 +56,6 @@ class Lister:
         if short:
             charge.extend(size, len(short))
         while short:
-            await asyncio.gather(*(network.register(piece, until) for piece in short[:PAGE]))
+            await all_of(network.register(piece, until) for piece in short[:PAGE])
             del short[:PAGE]
         return self.tell(name, network.ledger.blobs[name])

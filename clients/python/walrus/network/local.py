@@ -14,6 +14,7 @@ from typing import Any, Mapping, Optional, Sequence
 from . import TOP, certificates
 from .client import Network
 from .founding import PLAN
+from .groups import all_of
 from .ledger import OPERATOR
 from .machine import AUTHORITY, ETCD_AUTHORITY, Machine, Place
 
@@ -114,8 +115,8 @@ class Local:
         await self.found()
         self.recorders = sorted(it.stem for it in self.folder.glob("recorder-*.toml"))
         self.members = list(self.told()["etcd"])
-        await asyncio.gather(*map(self.start_etcd, self.members))
-        await asyncio.gather(*(self.start_recorder(name) for name in self.recorders))
+        await all_of(map(self.start_etcd, self.members))
+        await all_of(map(self.start_recorder, self.recorders))
 
     async def add_node(self, name: str) -> None:
         """Makes a node's certificate and settings, where there are none."""
@@ -166,7 +167,7 @@ class Local:
             for name in dict.fromkeys([*names, *self.sides[0], *self.sides[1]])
             if (self.folder / f"{name}.toml").exists()
         ]
-        await asyncio.gather(*(self.start_node(name) for name in known))
+        await all_of(map(self.start_node, known))
 
     def hear(self, network: Network) -> None:
         """Notes which nodes have the shards of the committees."""

@@ -18,6 +18,7 @@ from ..port import Bounds, Said
 from . import handover
 from .figures import NodePort
 from .follower import Recorders, Refused, Unreachable, View
+from .groups import first_of
 from .intake import Intake
 from .judge import PARTS, Busy, Clash, Judges, Room
 from .entries import LAST_EPOCH
@@ -90,10 +91,8 @@ class Node(View):
 
     def fail(self, fault: Optional[Exception]) -> None:
         """Ends the node: as it was told, or as it must."""
-        while isinstance(fault, ExceptionGroup):
-            fault = fault.exceptions[0]
         if not self.failed.done():
-            self.failed.set_exception(fault) if fault else self.failed.set_result(None)
+            self.failed.set_exception(first_of(fault)) if fault else self.failed.set_result(None)
 
     async def tell_past(self) -> None:
         """Tells the ledger each epoch that is on the disk here, so that what was before may go."""

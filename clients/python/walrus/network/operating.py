@@ -1,6 +1,5 @@
 """What an operator does: begins and plans epochs, gives shares of the ledger, expels, has nodes scrub their disks."""
 import argparse
-import asyncio
 import collections
 import datetime
 import json
@@ -13,6 +12,7 @@ from .. import client
 from .client import Network
 from .dates import seconds_of
 from .entries import NAME, OPERATOR, entry_key
+from .groups import all_of
 from .peers import SCRUB, Seat
 from .transfers import Failure
 
@@ -56,7 +56,7 @@ async def must_answer(network: Network, owners: list[str], faults: int, force: b
                 return f"{name} does not answer ({fault})"
         return ""
 
-    said = dict(zip(names, await asyncio.gather(*map(fault, names))))
+    said = dict(zip(names, await all_of(map(fault, names))))
     lost = sum(bool(said[name]) for name in owners)
     text = "; ".join(filter(None, said.values()))
     if lost > faults:

@@ -3,7 +3,7 @@
 What is known of them is in a database of SQLite without a name, so that a long folder takes no memory."""
 import os
 import sqlite3
-from typing import Iterator, Optional
+from typing import Any, Iterator, Optional
 
 from .chunks import LONGEST
 from .manifest import MARK, MOST_BYTES, MOST_FILES, Place, TooMany, Wrong, kind_of, shown
@@ -12,6 +12,7 @@ SMALL, PACK, MANY = 524_288, 1_048_576, 1_024  # bytes of a file that lies in a 
 WRITTEN = 131_072  # bytes of a manifest that are made at once
 MADE = """
 CREATE TABLE files (path BLOB PRIMARY KEY, length INTEGER, file BLOB, digest BLOB) WITHOUT ROWID;
+CREATE TABLE large (path BLOB PRIMARY KEY, length INTEGER, at) WITHOUT ROWID;
 CREATE TABLE contents (digest BLOB PRIMARY KEY, length INTEGER, at) WITHOUT ROWID;
 CREATE TABLE packed (digest BLOB PRIMARY KEY, pack INTEGER, offset INTEGER) WITHOUT ROWID;
 CREATE TABLE packs (pack INTEGER PRIMARY KEY, file BLOB);
@@ -22,7 +23,7 @@ LEFT JOIN packed USING (digest) LEFT JOIN packs USING (pack) ORDER BY path"""
 
 
 class Folder:
-    """The files of a folder. `at` is where whoever gathers them finds a small one again."""
+    """The files of a folder. `at` is where whoever gathers them finds one again."""
 
     def __init__(self) -> None:
         self.base = sqlite3.connect("", isolation_level=None)
@@ -60,6 +61,15 @@ class Folder:
     def add(self, path: str, length: int, file: bytes) -> None:
         """Tells of a file that is stored on its own, or is empty."""
         self.tell(path, length, file, None)
+
+    def add_large(self, path: str, length: int, at: object) -> None:
+        """Keeps where a file is that will be stored on its own."""
+        self.base.execute("INSERT INTO large VALUES (?, ?, ?)", (path.encode(), length, at))
+
+    def large(self) -> Iterator[tuple[str, int, Any]]:
+        """The paths, lengths and places of these."""
+        for path, length, at in self.base.execute("SELECT * FROM large ORDER BY path"):
+            yield path.decode(), length, at
 
     def add_small(self, path: str, length: int, digest: bytes, at: object) -> None:
         """Tells of a file that will be in a pack; `digest` is the SHA-256 of its bytes."""

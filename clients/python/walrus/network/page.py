@@ -16,6 +16,7 @@ from . import health
 from .client import Network
 from .dates import calendar_of, date_of
 from .follower import AWAY
+from .groups import all_of
 from .ledger import ACK, ATTEST
 from .peers import FIGURES, Peers, Seat
 from .problems import NO_BLOB, Problem
@@ -74,7 +75,7 @@ class Watch:
         self.held: "collections.Counter[str]" = collections.Counter()
         self.announced: Iterable[dict[str, Any]] = ()  # badly encoded blobs that were found, and what came of it
         self.told: tuple[float, bytes] = (-FRESH, b"")  # when the status was told last, and what it was
-        self.task = asyncio.gather(self.probe(), self.challenge_some())
+        self.task = asyncio.create_task(all_of([self.probe(), self.challenge_some()]))
 
     async def close(self) -> None:
         self.task.cancel()
@@ -93,7 +94,7 @@ class Watch:
 
     async def probe(self) -> None:
         while True:
-            await asyncio.gather(*map(self.ask, self.nodes()), self.learn())
+            await all_of([*map(self.ask, self.nodes()), self.learn()])
             await asyncio.sleep(self.pause)
 
     async def learn(self) -> None:

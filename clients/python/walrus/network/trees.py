@@ -1,5 +1,4 @@
 """Folders of this machine to a gateway, which is not believed: all that is stored is named here, too."""
-import asyncio
 import functools
 import hashlib
 import os
@@ -9,6 +8,7 @@ from typing import Any, AsyncIterator, Awaitable, Callable, Iterable, Iterator
 import aiohttp
 
 from .checked import Naming
+from .groups import all_of
 from .manifest import Wrong, as_path, label_of, shown
 from .packing import SMALL, Folder
 from .transfers import PART, Bar, Failure, ask, must_name, naming_of
@@ -31,13 +31,7 @@ async def several(works: Iterable[Work]) -> None:
             if faults:
                 return
 
-    tasks = [asyncio.create_task(go_on()) for _ in range(WIDTH)]
-    try:
-        await asyncio.gather(*tasks)
-    finally:
-        for task in tasks:
-            task.cancel()
-        await asyncio.gather(*tasks, return_exceptions=True)
+    await all_of(go_on() for _ in range(WIDTH))
     if faults:
         raise faults[0]
 
