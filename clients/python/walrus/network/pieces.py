@@ -139,7 +139,7 @@ class Memory:
     def __init__(self, size: int):
         self.size, self.taken, self.grown = size, 0, 0  # what is taken, and what of it is more that was wanted later
         self.waiting, self.growing = collections.deque[Wish](), list[Wish]()
-        self.late = set["asyncio.Task[Any]"]()  # what is ended where others want the memory that it has
+        self.late: "set[asyncio.Task[Any]]" = set()  # what is ended where others want the memory that it has
 
     def end_late(self) -> None:
         for task in self.late:
