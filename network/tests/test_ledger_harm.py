@@ -5,12 +5,13 @@ import io
 import pathlib
 import ssl
 import tempfile
+import time
 import unittest
 from unittest import mock
 
 from ledger_case import FOUNDED, Chain, LedgerCase, Memory, registration
 from walrus import client
-from walrus.network import certificates, recorder
+from walrus.network import certificates, recorder, recording
 from walrus.network.entries import ADDRESS, Entry, entry_key
 from walrus.network.etcd import Batch, Gone
 from walrus.network.follower import Refused
@@ -47,10 +48,11 @@ class Waiting(unittest.IsolatedAsyncioTestCase):
     async def test_nobody_waits_behind_all_that_another_one_posts(self) -> None:
         self.etcd.plan = {}
         many = [registration("x", number) for number in range(8_000)]  # more than two batches
-        flood = asyncio.create_task(self.made.post(many))
+        flood = self.made.post(many)
         await asyncio.sleep(0)
         places = await asyncio.gather(*(self.made.post([registration(name, 1)]) for name in "yz"))
-        self.assertLess(max(place for [place] in places), 4_000)  # behind the batch that was under way
+        under_way = recorder.TOGETHER + len(places)
+        self.assertLessEqual(max(place for [place] in places), 1 + under_way)  # behind the batch that was under way
         self.assertFalse(flood.done())
         self.assertEqual(sorted(await flood), [it for it in range(2, 8_004) if [it] not in places])
         self.assertEqual([it for it in self.etcd.all if it.startswith("x/")], many)  # in their order
@@ -63,6 +65,36 @@ class Waiting(unittest.IsolatedAsyncioTestCase):
         self.assertEqual([str(it) for it in said], ["it has not the form of an entry"] * 5)
         self.assertTrue(all(isinstance(it, Refused) for it in said))
         self.assertEqual(self.etcd.all, [FOUNDED])
+
+
+class Bodies(unittest.IsolatedAsyncioTestCase):
+    """Bodies at a recorder, of which it does nothing else while it takes one."""
+
+    async def asyncSetUp(self) -> None:
+        asyncio.get_running_loop().set_debug(False)
+
+    async def test_a_name_has_at_most_half_of_the_time_for_its_bodies(self) -> None:
+        made = Recorder(Memory())
+        self.addCleanup(made.state.close)
+        service, taken = recording.Service(made, mock.Mock()), list[tuple[str, float, float]]()
+
+        def take(texts: list[str]) -> "asyncio.Future[list[recorder.Answer]]":
+            begun = time.monotonic()
+            time.sleep(0.05)
+            taken.append((texts[0].partition("/")[0], begun, time.monotonic()))
+            return asyncio.gather()
+
+        async def post(name: str) -> None:
+            request = mock.MagicMock(read=mock.AsyncMock(return_value=b'["ready/1"]'))
+            request.__getitem__.return_value = name
+            self.assertEqual((await service.post(request)).status, 200)
+
+        with mock.patch.object(made, "post", take):
+            await asyncio.gather(*(post("mallory") for _ in range(6)), post("publisher"))
+        self.assertEqual([name for name, _, _ in taken], ["mallory", "publisher", *["mallory"] * 5])
+        own = [times for name, *times in taken if name == "mallory"]
+        for (begun, end), (later, _) in zip(own, own[1:]):
+            self.assertGreaterEqual(later - end, 0.99 * (end - begun))
 
 
 class Places(unittest.IsolatedAsyncioTestCase):

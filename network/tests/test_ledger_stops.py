@@ -2,6 +2,7 @@
 import asyncio
 import contextlib
 import json
+import re
 import shutil
 import signal
 import time
@@ -9,6 +10,7 @@ import unittest
 from typing import AsyncIterator
 from unittest import mock
 
+import aiohttp
 from harness import FOUR
 from http_case import DRAWN, GatewayCase
 from walrus import client
@@ -17,6 +19,7 @@ from walrus.network.client import Away
 from walrus.network.entries import Chain
 from walrus.network.follower import News, View
 from walrus.network.gateway import Options
+from walrus.network.local import free_port
 from walrus.network.problems import problem_of
 
 
@@ -160,6 +163,46 @@ class Stops(GatewayCase):
         self.assertIn(f"\nwalrus_ledger_stale {float(stale)}\n", metrics)
         self.assertEqual("\nwalrus_ledger_away_seconds 0.0\n" in metrics, not stale)
         return str(told["said"])
+
+    async def silence(self, port: int, away: bool) -> None:
+        """Waits until a node's own numbers say that the ledger is away for more than `stale` seconds, or is not."""
+        async with aiohttp.ClientSession() as session:
+            for _ in range(300):
+                async with session.get(f"http://127.0.0.1:{port}/metrics") as said:
+                    found = re.search(r"^walrus_ledger_away_seconds (\S+)$", await said.text(), re.MULTILINE)
+                assert found, "a node tells nothing of the ledger"
+                seconds = float(found[1])
+                if (seconds > self.options.stale) == away:
+                    return
+                await asyncio.sleep(0.1)
+        self.fail(f"the ledger is away for {seconds} s")
+
+    async def test_nodes_serve_what_they_have_and_tell_that_the_ledger_is_away(self) -> None:
+        port = free_port()
+        await self.local.start_ledger()
+        await self.local.add_node("node-0")
+        with open(self.folder / "node-0.toml", "a") as out:
+            out.write(f'metrics = "{port}"\n')
+        await self.start()
+        data = DRAWN.randbytes(900)
+        name = (await self.network.store(data, 5)).identifier
+        self.assertEqual((await self.get(name.hex()))[2], data)
+        await self.silence(port, False)
+        await self.local.end("etcd")
+        await self.ledger_told(True)
+        await self.silence(port, True)
+        for node in ("node-2", "node-3", "node-1"):
+            await self.local.end(node)
+        await self.local.start_node("node-1")
+        self.assertIn("node-1: the ledger is away; this serves what is on the disk", self.log("node-1"))
+        await self.refused(503, f"/v1/blobs/{name.hex()}")
+        self.assertEqual(await self.network.fetch(name), data)  # of node-0 and node-1, as it needs two
+        await self.silence(port, True)
+        await self.local.start_etcd()
+        await asyncio.gather(self.local.start_node("node-2"), self.local.start_node("node-3"))
+        await self.silence(port, False)
+        await self.ledger_told(False)
+        await self.stores_soon()
 
     async def test_all_go_on_after_a_minute_without_etcd(self) -> None:
         await self.start()

@@ -22,6 +22,7 @@ from .state import State
 from .waiting import Waiting
 
 MOST_BATCH, HELD, RECENT = 262_144, 1_048_576, 4_194_304  # bytes of a batch, kept for each follower, and for all
+TOGETHER = 1_000  # entries of a batch at most, as nobody else is heard while they are judged or entered
 BEAT, POLL, FRESH = 1.0, 1.0, 5.0  # seconds
 GRACE = 60.0  # seconds in which a checkpoint is left to the recorder that has appended the turn of the epoch
 Answer = Union[int, Refused]  # the place of an entry that was posted, or why it is not taken
@@ -89,19 +90,16 @@ class Recorder:
         if json.loads(head)["place"] > max(self.own, self.chain.place):
             self.bell.set()
 
-    async def post(self, texts: list[str]) -> list[Answer]:
+    def post(self, texts: list[str]) -> asyncio.Future[list[Answer]]:
         """The places of entries, once they are appended; of one that is not taken, why."""
         taken = dict[Taken, str]((asyncio.Future(), text) for text in texts)
         for it, text in taken.items():
             if not Entry(0, text).words:
                 it.set_result(Refused(FORMLESS))
+            it.add_done_callback(self.waiting.pop)
         self.waiting |= taken
         self.bell.set()
-        try:
-            return await asyncio.gather(*taken)
-        finally:
-            for it in taken:
-                del self.waiting[it]
+        return asyncio.gather(*taken)
 
     def head(self, chain: Chain) -> str:
         """What stands at the head in etcd where the ledger ends so."""
@@ -219,7 +217,7 @@ class Recorder:
         numbers = collections.defaultdict[str, Iterator[int]](itertools.count)  # of entries among their poster's
         waiting = [it for it in self.waiting.items() if not it[0].done()]
         waiting.sort(key=lambda it: next(numbers[it[1].partition("/")[0]]))
-        for (taken, _), text in zip(waiting, fitting((text for _, text in waiting), MOST_BATCH)):
+        for (taken, _), text in zip(waiting, fitting((text for _, text in waiting[:TOGETHER]), MOST_BATCH)):
             entry = Entry(self.chain.place + len(places) + 1, text)
             if place := places.get(text) or self.ledger.stands(entry) and self.place_of(text):
                 answers[taken] = place

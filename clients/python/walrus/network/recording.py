@@ -6,7 +6,7 @@ import json
 import sqlite3
 import ssl
 import sys
-from typing import Any, Awaitable, Callable
+from typing import Any, Awaitable, Callable, Union
 
 from aiohttp import web
 
@@ -17,7 +17,7 @@ from .follower import NAME as RECORDER, PARTED
 from .gateway import ending
 from .keeping import Keeper
 from .notify import ready
-from .recorder import BEAT, MOST_BATCH, Broken, Recorder
+from .recorder import BEAT, MOST_BATCH, Answer, Broken, Recorder
 from .settings import RecorderSettings
 from .state import State
 
@@ -36,6 +36,7 @@ class Service(Server):
         self.recorder, self.settings = recorder, settings
         self.busy, self.asked = collections.Counter[str](), collections.Counter[str]()  # requests, and entries, by name
         self.connected = collections.Counter[str]()  # connections, by name
+        self.turns = collections.defaultdict[str, asyncio.Lock](asyncio.Lock)  # to have a body taken, by name
         self.places: dict[str, int] = {}  # how far each name was told
 
     async def listen(self) -> int:
@@ -81,28 +82,46 @@ class Service(Server):
             self.busy[name] -= 1
 
     async def post(self, request: web.Request) -> web.Response:
-        """Takes entries, and answers once the ledger has them."""
-        name, recorder = request["name"], self.recorder
+        """Takes entries, and answers once the ledger has them. The bodies of a name are taken one after the other, and
+        behind each of them that name waits for as long as it took: so others have half of the time at least."""
+        name, turn, loop = request["name"], self.turns[request["name"]], asyncio.get_running_loop()
         try:
             async with asyncio.timeout(REQUEST):
-                texts = json.loads(await request.read())
-        except (TimeoutError, OSError, ValueError, RecursionError, web.PayloadAccessError):
+                body = await request.read()
+        except (TimeoutError, OSError, ValueError, web.PayloadAccessError):
+            body = b""
+        await turn.acquire()
+        begun = loop.time()
+        try:
+            taken = self.take(name, body)
+        finally:
+            loop.call_later(loop.time() - begun, turn.release)
+        if isinstance(taken, web.Response):
+            return taken
+        try:
+            async with asyncio.timeout(ANSWER):
+                said = await taken
+        except TimeoutError:
+            return wrong(503, f"it is not appended yet: {self.recorder.slow}; post it again")
+        return web.json_response([{"place": it} if isinstance(it, int) else {"refused": str(it)} for it in said])
+
+    def take(self, name: str, body: bytes) -> Union[web.Response, asyncio.Future[list[Answer]]]:
+        """Has the entries of a body appended, or says what is wrong with it."""
+        recorder = self.recorder
+        try:
+            texts = json.loads(body)
+        except (ValueError, RecursionError):
             return wrong(400, "the body is no JSON, or came too slowly or not at all")
-        if not isinstance(texts, list) or not all(isinstance(it, str) for it in texts) or len(texts) > MOST_ENTRIES:
+        if not isinstance(texts, list) or len(texts) > MOST_ENTRIES or not all(isinstance(it, str) for it in texts):
             return wrong(400, f"the body is a list of at most {MOST_ENTRIES} texts KIND/FIELDS")
         if self.asked[name] + len(texts) > 2 * MOST_ENTRIES:
             return wrong(429, f"{name} has {self.asked[name]} entries under way")
         if len(recorder.waiting) + len(texts) > MOST_WAITING:
             return wrong(503, f"{len(recorder.waiting)} entries wait already: post them again")
         self.asked[name] += len(texts)
-        try:
-            async with asyncio.timeout(ANSWER):
-                said = await recorder.post([f"{name}/{it}" for it in texts])
-        except TimeoutError:
-            return wrong(503, f"it is not appended yet: {recorder.slow}; post it again")
-        finally:
-            self.asked[name] -= len(texts)
-        return web.json_response([{"place": it} if isinstance(it, int) else {"refused": str(it)} for it in said])
+        taken = recorder.post([f"{name}/{it}" for it in texts])
+        taken.add_done_callback(lambda _: self.asked.subtract({name: len(texts)}))
+        return taken
 
     async def follow(self, request: web.Request) -> web.StreamResponse:
         """Tells entries behind a place, and then those that come, without end."""
