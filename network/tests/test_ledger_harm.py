@@ -51,8 +51,8 @@ class Waiting(unittest.IsolatedAsyncioTestCase):
         flood = self.made.post(many)
         await asyncio.sleep(0)
         places = await asyncio.gather(*(self.made.post([registration(name, 1)]) for name in "yz"))
-        under_way = recorder.TOGETHER + len(places)
-        self.assertLessEqual(max(place for [place] in places), 1 + under_way)  # behind the batch that was under way
+        ahead = 1 + recorder.TOGETHER  # those before, and the batch that was under way; then one entry of each poster
+        self.assertLessEqual(max(place for [place] in places), ahead + 1 + len(places))
         self.assertFalse(flood.done())
         self.assertEqual(sorted(await flood), [it for it in range(2, 8_004) if [it] not in places])
         self.assertEqual([it for it in self.etcd.all if it.startswith("x/")], many)  # in their order
