@@ -1,6 +1,7 @@
 """A shard over its disk: what it answers, and what a bad disk, a crash or a busy machine does to that."""
 import asyncio
 import contextlib
+import ctypes
 import os
 import pathlib
 import random
@@ -402,6 +403,13 @@ class Trouble(ShardCase):
         for whole in (wholes[1], wholes[3]):
             self.assertEqual(self.shard.lacks(whole.identifier), [0, 1, 2])
 
+    async def test_a_request_is_after_its_judgement_as_it_came(self) -> None:
+        whole = await self.whole(250)
+        request = whole.memory[whole.start :][: whole.end - whole.start]  # noqa: E203
+        came = bytes(request)
+        self.assertEqual(code_of(await self.shard.put_whole(whole)), 13)
+        self.assertEqual(bytes(request), came)  # its reply waits for the disk by its kind
+
     async def test_a_blob_over_which_no_judgement_comes_spoils_no_other(self) -> None:
         assert self.store
         wholes, serve = [await self.whole(250 * size) for size in (1, 2, 3)], judge.serve
@@ -490,6 +498,7 @@ class Trouble(ShardCase):
             had = [bytearray(b"x" * 1_000_000) for _ in range(60)]
             return b"y" * (100_000 + len(had))  # which lies behind it
 
+        ctypes.CDLL(None).malloc_trim(0)
         before = resident()
         kept = [await self.judges.ask(2_000_000, judged)]
         self.assertLess(resident() - before, 20_000_000)

@@ -141,11 +141,13 @@ class Port:
         client = Connection(task, wire)
         self.make_room(client)
         wire.transport.set_write_buffer_limits(high=1, low=0)  # so that what is written is gone once it is drained
-        with contextlib.suppress(asyncio.CancelledError):  # it is cut off
-            await self.converse(client, wire)
-        self.let_go(client)
-        with contextlib.suppress(AttributeError):  # asyncio's, of a transport that is closed already
-            wire.transport.abort()
+        try:
+            with contextlib.suppress(asyncio.CancelledError):  # it is cut off
+                await self.converse(client, wire)
+        finally:
+            self.let_go(client)
+            with contextlib.suppress(AttributeError):  # asyncio's, of a transport that is closed already
+                wire.transport.abort()
 
     async def converse(self, client: Connection, reader: Wire) -> None:
         """Takes requests and sends replies until there are no more, or what is wrong is told."""

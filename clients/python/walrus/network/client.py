@@ -18,6 +18,7 @@ from .whole import request_of
 Result = TypeVar("Result")
 GRACE, LATE = 0.1, 10.0  # seconds that nodes beyond 2f+1 have at least, and those that are behind at most
 BEHIND = 16_777_216  # bytes that a node may be behind with, or one blob
+FEW = 3  # faults up to which a short call of the program takes less than another thread needs to begin, or little more
 # A certified blob: its name, the epoch and the number of shards of its certificate, and until when it is kept.
 Stored = NamedTuple("Stored", [("identifier", bytes), ("epoch", int), ("count", int), ("until", int)])
 
@@ -67,6 +68,7 @@ class Network(View):
         self.peers = Peers(self.ledger, self.authority, seconds)
         self.task: Optional["asyncio.Task[None]"] = None
         self.late, self.behind = set["asyncio.Task[dict[int, str]]"](), collections.Counter[str]()
+        self.walrus.few = lambda: self.ledger.faults <= FEW
 
     async def __aenter__(self) -> "Network":
         self.task = asyncio.create_task(self.follow())

@@ -24,8 +24,11 @@ Sent = NamedTuple("Sent", [("name", str), ("field", str), ("parts", Parts)])
 
 async def files_of(kind: str, source: Source, asked: str) -> AsyncGenerator[Sent, None]:
     """The files of a form of this media type. What is none is refused, with a word of what is asked."""
-    told = email.message_from_string(f"Content-Type: {kind}\n\n")
-    bound = told.get_boundary() or ""
+    try:
+        told = email.message_from_string(f"Content-Type: {kind}\n\n")
+        bound = told.get_boundary() or ""
+    except (ValueError, TypeError, LookupError):
+        raise Problem(415, asked) from None
     if told.get_content_type() != "multipart/form-data" or not 1 <= len(bound) <= 70:
         raise Problem(415, asked)
     reader = MultipartReader({"Content-Type": f'multipart/form-data; boundary="{bound}"'}, source)  # type: ignore

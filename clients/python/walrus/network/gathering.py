@@ -83,7 +83,7 @@ class Storing:
             self.costs.begin()
             epochs = max(0, self.until - self.writer.network.ledger.writing_epoch)
             told = await self.writer.store(counted(), epochs, self.stored)
-        except Exception:
+        except BaseException:  # such as that another file of the folder failed
             self.costs.broke(size)
             raise
         if told["alreadyCertified"]:

@@ -6,6 +6,7 @@ import asyncio
 import concurrent.futures
 import contextlib
 import ctypes
+import errno
 import mmap
 import os
 import pathlib
@@ -160,8 +161,13 @@ class Judges:
         """What a step gives that must not hold up all others; it has a thread of its own, unless told otherwise."""
         self.count += 1
         loop = asyncio.get_running_loop()
-        with contextlib.suppress(MemoryError):
+        try:
             return step(*words) if here else await loop.run_in_executor(self.pool, step, *words)
+        except MemoryError:
+            pass
+        except OSError as fault:
+            if fault.errno != errno.ENOMEM:  # memory that is mapped is refused so
+                raise
         return await loop.run_in_executor(self.pool, self.with_kept, step, *words)
 
     def with_kept(self, step: Callable[..., Result], *words: object) -> Result:

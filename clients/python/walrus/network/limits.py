@@ -111,4 +111,4 @@ def is_inner(address: str) -> bool:
 def is_address(host: str) -> bool:
     """Whether ADDRESS or ADDRESS:PORT is asked for, and no name."""
     found = re.fullmatch(r"\[(.*)\](:[0-9]*)?|([0-9.]+)(:[0-9]*)?", host)
-    return found is not None and read_address(found[1] or found[3]) is not None
+    return found is not None and read_address(found[1] or found[3] or "") is not None

@@ -13,7 +13,7 @@ from typing import Any, Coroutine, Optional, Sequence
 from .. import client, loop
 from ..envelopes import parts
 from ..frames import answer, code_of, joined
-from ..port import Bounds, Said
+from ..port import PIECE, Bounds, Said
 
 from . import handover
 from .figures import NodePort
@@ -171,7 +171,9 @@ class Node(View):
         except (Clash, sqlite3.Error) as fault:
             self.fail(fault)
             raise ConnectionError(str(fault)) from fault
-        said = parts(reply, shard)
+        said: list[client.Data] = [*parts(reply, shard)]
+        if sum(map(len, said)) <= PIECE:  # a small one keeps no more memory than it has bytes
+            said = [b"".join(said)]
         if request[0] not in (*PARTS, WHOLE, client.FORGET) or code_of(reply) not in (client.DONE, client.HELD):
             return Said(said)
         return Said(said, self.store.written(), joined([answer(FULL, len(request) // 4096 + 1)], shard))

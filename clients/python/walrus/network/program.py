@@ -20,6 +20,7 @@ class Calls(client.Walrus):
     engine: Union[Library, Program]
     pool: concurrent.futures.ThreadPoolExecutor
     turn: Callable[[], AbstractAsyncContextManager[None]] = contextlib.nullcontext  # what a call waits for
+    few: Callable[[], bool] = bool  # whether there are so few shards that a short call is made in place
 
     @classmethod
     def of(cls, path: str) -> "Calls":
@@ -31,13 +32,13 @@ class Calls(client.Walrus):
     def within(self, turn: Callable[[], AbstractAsyncContextManager[None]]) -> "Calls":
         """The same, of which each call waits for a turn, and has it while it runs."""
         made = type(self)(self.path)
-        made.engine, made.pool, made.turn = self.engine, self.pool, turn
+        made.engine, made.pool, made.turn, made.few = self.engine, self.pool, turn, self.few
         return made
 
     async def run(self, *words: object, data: Union[Data, Sequence[Data]] = b"") -> tuple[int, bytes]:
         size = sum(map(len, data)) if isinstance(data, list) else len(data)
         async with self.turn():
-            if isinstance(self.engine, Library) and room_for(words, size) < SHORT:
+            if self.few() and isinstance(self.engine, Library) and room_for(words, size) < SHORT:
                 status, text = self.call(words, data)
             else:
                 status, text = await asyncio.get_running_loop().run_in_executor(self.pool, self.call, words, data)

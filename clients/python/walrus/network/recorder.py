@@ -51,6 +51,7 @@ class Recorder:
         self.appended, self.turned = 0.0, 0.0  # when something was; from when on a checkpoint is this recorder's work
         self.bell, self.news, self.own = asyncio.Event(), Waiting(), 0  # the place up to which it appends just now
         self.turn = asyncio.Lock()  # of followers who need what is in etcd alone
+        self.turns = collections.defaultdict[str, asyncio.Lock](asyncio.Lock)  # in which each name waits in one place
 
     @property
     def fresh(self) -> bool:
@@ -170,9 +171,9 @@ class Recorder:
             if state_of(pieces) != mark.state:
                 raise Broken(f"the checkpoint of place {mark.place} in etcd is not what was written")
             self.state.take(pieces)
-            await self.forget(mark.place)
             self.recent.clear()
             self.size, self.chain = 0, mark.chain
+            await self.forget(mark.place)
 
     def enter(self, batch: Batch, own: bool = False) -> None:
         """Enters a batch that etcd has, or what of it was not entered yet, or that this recorder has just appended."""
@@ -230,11 +231,11 @@ class Recorder:
                 fork.enter(entry)
         return answers, Batch(self.chain, [*places]) if places else None
 
-    async def behind(self, place: int) -> tuple[Chain, list[str]]:
+    async def behind(self, place: int, name: str = "") -> tuple[Chain, list[str]]:
         """What the ledger was behind a place, and some of the entries from there on; or raises `Gone`."""
         found = [*itertools.takewhile(lambda it: it.last > place, reversed(self.recent))][::-1]
         if place < (found[0].before.place if found else self.chain.place):
-            async with self.turn:
+            async with self.turns[name], self.turn:
                 found = await self.etcd.batches(place)
         if not found:
             return self.chain, []

@@ -137,7 +137,7 @@ class Service(Server):
             chain, texts = mark.chain, list[str]()
             line |= {"place": mark.place, "pieces": mark.pieces, "state": mark.state}
         else:
-            (chain, texts), mark = await recorder.behind(after), None
+            (chain, texts), mark = await recorder.behind(after, name), None
         response = web.StreamResponse(headers={"Content-Type": "application/x-ndjson", "Cache-Control": "no-store"})
 
         async def tell(line: dict[str, Any]) -> None:
@@ -148,7 +148,7 @@ class Service(Server):
         try:
             await tell(line | {"digest": chain.digest.hex()})
             for count in range(mark.pieces) if mark else ():
-                async with recorder.turn:
+                async with recorder.turns[name], recorder.turn:
                     piece = await recorder.etcd.piece(chain.place, count)
                 await tell({"piece": base64.b64encode(piece).decode()})
             while request.transport and not request.transport.is_closing() and name not in recorder.ledger.expelled:
@@ -157,7 +157,7 @@ class Service(Server):
                 await tell({"entries": told, "digest": chain.digest.hex()})
                 self.places[name] = place = chain.place
                 if not texts and await recorder.news.until(lambda: recorder.chain.place > place, BEAT):
-                    _, texts = await recorder.behind(place)
+                    _, texts = await recorder.behind(place, name)
                 elif not texts and not recorder.fresh:  # another recorder may see more
                     await tell({"error": recorder.slow})
                     break

@@ -180,8 +180,9 @@ class Shard:
             if self.store.sizes(self.holding, self.epoch, identifier) or self.store.wrong(self.holding, identifier):
                 return []
             parts = dict(zip((METADATA, PRIMARY, SECONDARY), whole.parts))
-            is_long = max(map(len, whole.parts)) > SMALL and pages(whole.parts) < self.free_pages()
-            writing = self.write(identifier, parts) if is_long else None
+            is_long, told = max(map(len, whole.parts)) > SMALL, entries_of(self.ledger, self.epoch, identifier)
+            fits = is_long and told and pages(whole.parts) < self.free_pages()  # what is not registered is judged alone
+            writing = self.write(identifier, parts) if fits else None
             try:
                 judged = await self.judged_whole(whole)
             except BaseException:
@@ -190,6 +191,8 @@ class Shard:
             for reply in judged.replies[:3]:
                 if code_of(reply) != client.DONE:
                     self.let_go(writing)
+                    if writing:
+                        await asyncio.wait([writing])  # the request is in memory as long
                     return reply
             return await self.keep(identifier, judged, parts, writing=writing)
 

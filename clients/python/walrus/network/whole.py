@@ -72,7 +72,10 @@ class Whole:
         self.memory[self.end :][:WISH] = client.envelope(self.wish)  # noqa: E203
         pages = sum(pages_of(part) for part in self.parts)
         data, count = self.memory[begin:][: len(words) + self.end - self.start - 1 + WISH], len(told) + 4
-        return judge.serve(engine, faults, shard, pages, data, count, 512 * count)[len(told) :]  # noqa: E203
+        try:
+            return judge.serve(engine, faults, shard, pages, data, count, 512 * count)[len(told) :]  # noqa: E203
+        finally:
+            self.memory[self.start] = WHOLE  # the request is as it came: who replies looks at its kind
 
     @functools.cached_property
     def wish(self) -> bytes:
