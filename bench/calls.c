@@ -1,9 +1,12 @@
-/* Prints the microseconds that calls of libwalrus take in one process: the best of several, of one call alone, and of
- * one in each of several threads at once.
+/* Prints what calls of libwalrus take in one process: alone, and in several threads at once.
  *
- *     calls THREADS TIMES FILE WORD..
+ *     calls THREADS ROUNDS TIMES FILE WORD..
  *
- * The input is the file, and is read before the clock starts. All calls give the same status and bytes, or it fails. */
+ * A round has two parts, which follow each other: one thread makes so many calls one after the other, then each of so
+ * many threads makes as many. What is printed are microseconds a call of the best round of one thread, microseconds of
+ * the median round for a call of one thread, and for a call in each of the threads at once, and the median over the
+ * rounds of how many times the work of one thread they all do in the same time. The input is the file, and is read
+ * before the clock starts. All calls give the same status and bytes, or it fails. */
 #include <pthread.h>
 #include <stdio.h>
 #include <stdlib.h>
@@ -24,6 +27,7 @@ struct call {
 };
 
 static struct text words, input;
+static int times;
 
 static void fail(const char *what) {
     fprintf(stderr, "calls: %s\n", what);
@@ -53,12 +57,15 @@ static void read_words(int count, char **given) {
     for (int each = 0; each < count; each++) place = (uint8_t *)stpcpy((char *)place, given[each]) + 1;
 }
 
-static void *make(void *given) {
-    struct call *call = given;
+static void make(struct call *call) {
     uint64_t needed;
     call->status = walrus_run(words.bytes, words.length, input.bytes, input.length, call->room.bytes, call->room.length,
                               &call->written, &needed);
     if (call->status == WALRUS_NO_ROOM) call->room.length = needed;
+}
+
+static void *make_all(void *given) {
+    for (int time = 0; time < times; time++) make(given);
     return NULL;
 }
 
@@ -68,37 +75,51 @@ static double now(void) {
     return time.tv_sec * 1e6 + time.tv_nsec / 1e3;
 }
 
-/* The microseconds of one call in each of so many threads. */
+/* The microseconds a call of all calls in each of so many threads. */
 static double timed(struct call *calls, int threads) {
     pthread_t running[threads];
     double start = now();
     for (int each = 1; each < threads; each++)
-        if (pthread_create(&running[each], NULL, make, &calls[each])) fail("no thread can be started");
-    make(&calls[0]);
+        if (pthread_create(&running[each], NULL, make_all, &calls[each])) fail("no thread can be started");
+    make_all(&calls[0]);
     for (int each = 1; each < threads; each++) pthread_join(running[each], NULL);
-    return now() - start;
+    return (now() - start) / times;
+}
+
+static int compare(const void *left, const void *right) {
+    double a = *(const double *)left, b = *(const double *)right;
+    return (a > b) - (a < b);
+}
+
+static double median(double *figures, int count) {
+    qsort(figures, count, sizeof *figures, compare);
+    return (figures[(count - 1) / 2] + figures[count / 2]) / 2;
 }
 
 int main(int count, char **given) {
-    if (count < 5) fail("usage: calls THREADS TIMES FILE WORD..");
-    int threads = atoi(given[1]), times = atoi(given[2]);
-    if (threads < 1 || threads > 64 || times < 1) fail("there are 1 to 64 threads, and one time at least");
-    read_input(given[3]);
-    read_words(count - 4, given + 4);
+    if (count < 6) fail("usage: calls THREADS ROUNDS TIMES FILE WORD..");
+    int threads = atoi(given[1]), rounds = atoi(given[2]);
+    times = atoi(given[3]);
+    if (threads < 1 || threads > 64 || rounds < 1 || rounds > 1000 || times < 1)
+        fail("there are 1 to 64 threads, 1 to 1000 rounds, and one call at least");
+    read_input(given[4]);
+    read_words(count - 5, given + 5);
     struct call *calls = taken(threads * sizeof *calls);
     struct call first = {{taken(1), 0}, 0, 0};
     make(&first); /* how much room it needs */
-    double best = 0;
     for (int each = 0; each < threads; each++)
         calls[each] = (struct call){{memset(taken(first.room.length), 1, first.room.length), first.room.length}, 0, 0};
-    for (int time = 0; time < times; time++) {
-        double took = timed(calls, threads);
-        best = time && best < took ? best : took;
+    double alone[rounds], together[rounds], work[rounds];
+    for (int round = 0; round < rounds; round++) {
+        alone[round] = timed(calls, 1);
+        together[round] = timed(calls, threads);
+        work[round] = threads * alone[round] / together[round];
     }
     for (int each = 0; each < threads; each++)
         if (calls[each].status || calls[each].written != first.room.length ||
             memcmp(calls[each].room.bytes, calls[0].room.bytes, first.room.length))
             fail("a call did not give the whole text, or another one than a call beside it");
-    printf("%.1f\n", best);
+    double middle = median(alone, rounds); /* which leaves the best round first */
+    printf("%.1f %.1f %.1f %.2f\n", alone[0], middle, median(together, rounds), median(work, rounds));
     return 0;
 }
