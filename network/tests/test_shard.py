@@ -108,8 +108,8 @@ class ShardCase(unittest.IsolatedAsyncioTestCase):
         return sorted(it for it in self.store.files.folder.glob("*/*") if it.is_file())
 
     async def left(self, count: int) -> None:
-        """Waits until so many files are left."""
-        for _ in range(200):
+        """Waits until so many files are left; a busy disk takes its time."""
+        for _ in range(2_400):
             if len(self.files()) == count:
                 break
             await asyncio.sleep(0.05)
