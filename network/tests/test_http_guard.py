@@ -590,6 +590,7 @@ class Parts(unittest.TestCase):
         hosts = "1.2.3.4", "1.2.3.4:80", "[::1]", "[fd00::1]:80"
         self.assertEqual([it for it in hosts if not is_address(it)], [])
         names = "", "x", "1.2.3.4.example", "1.2.3:80", "1.2.3.4:x", "1.2.3.4@example", "[x]", "[::1]x", "localhost:80"
+        names += "[]", "[]:80", ":80", "[", "]", "[[]]", ":"
         self.assertEqual([it for it in names if is_address(it)], [])
 
 
