@@ -1,7 +1,9 @@
 """What a folder costs of a share, however storing it ends, and where it waits until all of it has come."""
 import asyncio
+import os
 import pathlib
 import tempfile
+import threading
 import types
 import unittest
 from typing import Any, AsyncIterator, Optional
@@ -94,6 +96,71 @@ class Costing(unittest.IsolatedAsyncioTestCase):
         storing = self.storing()
         await storing.store(self.parts(b"x" * 1_500, b"there"))
         self.assertEqual((storing.is_new, self.used()), (False, (0, 0)))
+
+
+class Spooled(unittest.IsolatedAsyncioTestCase):
+    """What comes of a folder, over a disk that is slow."""
+
+    async def asyncSetUp(self) -> None:
+        asyncio.get_running_loop().set_debug(False)
+        self.enterContext(mock.patch.object(gathering, "WRITTEN", 10))
+        self.spool = gathering.Spool(0.0)
+
+    def held(self, name: str) -> tuple[threading.Event, threading.Event]:
+        """Holds up a call of the system from here on: what is set once it is made, and what lets it go on."""
+        made, goes_on, call = threading.Event(), threading.Event(), getattr(os, name)
+
+        def slow(*words: Any) -> Any:
+            made.set()
+            goes_on.wait()
+            return call(*words)
+
+        self.enterContext(mock.patch.object(gathering.os, name, slow))
+        self.addCleanup(goes_on.set)
+        return made, goes_on
+
+    async def test_what_came_is_read_wherever_parts_and_files_end(self) -> None:
+        for part in (b"", b"first ", b"part", b" and a long part behind it", b"."):
+            await self.spool.add(part)
+        end = self.spool.end
+        await self.spool.add(b"which goes ag")  # some of it is on the disk
+        self.spool.cut(end)
+        await self.spool.add(b" End")
+        self.spool.cut(end + 1)  # all of it is in memory
+        await self.spool.add(b"Over")
+        await self.spool.flush()
+        whole = b"first part and a long part behind it. Over"
+        self.assertEqual((self.spool.end, await self.spool.read((len(whole), 0))), (len(whole), whole))
+        self.assertEqual(await self.spool.read((4, 38), (6, 0), (0, 5)), b"Overfirst ")
+
+    async def test_a_slow_disk_holds_up_nobody_else(self) -> None:
+        for name, work in (
+            ("pwrite", lambda: self.spool.add(b"longer than ten bytes")),
+            ("pread", lambda: self.spool.read((21, 0))),
+        ):
+            made, goes_on = self.held(name)
+            task = asyncio.create_task(work())
+            while not made.is_set():
+                await asyncio.sleep(0.001)
+            self.assertFalse(task.done())  # and this test goes on
+            goes_on.set()
+            await task
+        self.assertEqual(task.result(), b"longer than ten bytes")
+
+    async def test_its_file_stays_as_long_as_a_thread_is_at_it(self) -> None:
+        made, goes_on = self.held("pwrite")
+        task = asyncio.create_task(self.spool.add(b"longer than ten bytes"))
+        while not made.is_set():
+            await asyncio.sleep(0.001)
+        task.cancel()
+        with self.assertRaises(asyncio.CancelledError):
+            await task
+        self.spool.close()
+        await asyncio.sleep(0.01)
+        self.assertFalse(self.spool.file.closed)  # else another file may have its number, and be written to
+        goes_on.set()
+        while not self.spool.file.closed:
+            await asyncio.sleep(0.001)
 
 
 if __name__ == "__main__":
