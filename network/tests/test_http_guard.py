@@ -436,18 +436,23 @@ class Impatient(GuardCase):
         self.files["1" * 64] = bytes(16_000_000)
 
         async def seconds() -> float:
-            """For which others read."""
-            begun = time.monotonic()
+            """Of this process alone, in which others read; of the machine's they may take any number."""
+            begun = time.process_time()
             for _ in range(20):
-                self.assertEqual((await self.ask("GET", f"/v1/blobs/{'1' * 64}"))[0], 200)
-            return time.monotonic() - begun
+                self.assertEqual((await self.ask("GET", f"/v1/blobs/{'1' * 64}"))[2], self.files["1" * 64])
+            return time.process_time() - begun
 
         alone, slow = await seconds(), []
         for _ in range(50):
             reader, writer = await asyncio.open_connection("127.0.0.1", self.port)
             writer.write(f"GET /v1/blobs/{'1' * 64} HTTP/1.1\r\nHost: x\r\n\r\n".encode())
+            self.assertIn(b"200", await reader.readline())
             slow.append((reader, writer))
-        self.assertLess(await seconds(), max(15, 5 * alone))  # where the machine is busy it takes longer anyway
+        sent = self.gateway.reader.bytes
+        async with asyncio.timeout(300):  # for less than they may be slow
+            self.assertLess(await seconds(), 5 * alone)
+        self.assertLess(sent['way="out"'], (20 + 20 + 25) * 16_000_000)  # nobody has taken what a slow one is sent
+        self.assertEqual([bool(reader.exception()) for reader, _ in slow], [False] * 50)
         for _, writer in slow:
             writer.transport.abort()
 
