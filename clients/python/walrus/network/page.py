@@ -170,8 +170,7 @@ class Watch:
     async def proves(self, seat: Seat, identifier: bytes) -> bool:
         """Whether a shard gives a proof of bad encoding, which it may hold in place of slivers."""
         _, kept, _ = await client.listen(seat, client.write_frame(client.Read(identifier)))
-        data = b"".join(client.envelope(kept[kind]) for kind in (client.METADATA, client.PROOF) if kind in kept)
-        return client.PROOF in kept and (await self.network.walrus.run("check", identifier.hex(), data=data))[0] == 3
+        return await client.proves(kept, identifier, self.network.walrus)
 
     def blob(self, identifier: bytes) -> dict[str, Any]:
         """What the ledger says of a blob, and how many of its shards are there now."""
