@@ -301,7 +301,7 @@ class Customers(GuardCase):
             reader, writer = await asyncio.open_connection("127.0.0.1", self.port)
             head = f"PUT /v1/blobs?epochs=1 HTTP/1.1\r\nHost: x\r\nAuthorization: {shown}\r\nExpect: 100-Continue\r\n"
             writer.write(f"{head}Content-Length: {size}\r\nConnection: close\r\n\r\n".encode())
-            async with asyncio.timeout(10):
+            async with asyncio.timeout(120):
                 self.assertEqual((await reader.readuntil(b"\r\n"))[9:12], first)
                 if first == b"100":
                     writer.write(bytes(size))
@@ -365,7 +365,7 @@ class Customers(GuardCase):
                 shown = f"PUT /v1/blobs?epochs=1 HTTP/1.1\r\nHost: x\r\nAuthorization: {alice['Authorization']}\r\n"
                 writer.write(f"{shown}Content-Length: 9000\r\n\r\n".encode() + bytes(size))
                 await writer.drain()
-                async with asyncio.timeout(10):
+                async with asyncio.timeout(120):
                     while self.used("alice")[0] < before[0] + size:
                         await asyncio.sleep(0.02)
                     writer.close()
@@ -467,7 +467,7 @@ class Impatient(GuardCase):
             for data in (head, *[part] * 8):
                 writer.write(data)
                 await writer.drain()
-        async with asyncio.timeout(10):
+        async with asyncio.timeout(120):
             while moved['way="in"'] < 12 * 8_000_000:
                 await asyncio.sleep(0.02)
         self.assertLess(usage_of(os.getpid())[0] - before, 12 * 8_000_000 // 2)
@@ -480,7 +480,7 @@ class Impatient(GuardCase):
         with mock.patch.object(chunks.bundles, "join", mock.AsyncMock(return_value=b"bundle")) as join:
             async with memory.share(memory.size):
                 sending = asyncio.create_task(self.ask("POST", "/v1/bundles?epochs=1", data=self.form(b"1")))
-                async with asyncio.timeout(10):
+                async with asyncio.timeout(120):
                     while not memory.waiting:
                         await asyncio.sleep(0.02)
                 self.assertEqual(join.call_count, 0)
@@ -490,12 +490,20 @@ class Impatient(GuardCase):
         self.enterContext(mock.patch.object(connections, "EACH", 20))
         await self.start()
         opened = [await asyncio.open_connection("127.0.0.1", self.port) for _ in range(30)]
-        await asyncio.sleep(0.3)
-        ended = sum(reader.at_eof() or bool(reader.exception()) for reader, _ in opened)
-        self.assertEqual(ended, 10)
+        left = list[tuple[asyncio.StreamReader, asyncio.StreamWriter]](opened)
+        async with asyncio.timeout(120):
+            while len(left) > 20:
+                await asyncio.sleep(0.02)
+                left = [it for it in opened if not it[0].at_eof() and not it[0].exception()]
+            for reader, writer in left:  # and these have what they ask for
+                writer.write(b"GET /livez HTTP/1.1\r\nHost: x\r\n\r\n")
+                self.assertIn(b"200", await reader.readline())
+        self.assertEqual(len(left), 20)
         for _, writer in opened:
             writer.transport.abort()
-        await asyncio.sleep(0.3)
+        async with asyncio.timeout(120):
+            while self.gateway.each:
+                await asyncio.sleep(0.02)
         self.assertEqual(((await self.ask("GET", "/livez"))[0], len(self.gateway.each)), (200, 1))
 
     async def test_requests_that_wait_on_one_connection_are_bounded(self) -> None:
@@ -505,7 +513,7 @@ class Impatient(GuardCase):
             writer.write(b"GET /livez HTTP/1.1\r\nHost: x\r\n\r\n" * count)
             said = b""
             with contextlib.suppress(OSError):
-                async with asyncio.timeout(10):
+                async with asyncio.timeout(120):
                     while said.count(b"HTTP/1.1 200 ") < count and (more := await reader.read(65_536)):
                         said += more
             found = said.count(b"HTTP/1.1 200 ")
@@ -524,7 +532,7 @@ class Logs(GuardCase):
         await self.ask("GET", "/v1/status", headers={"Authorization": "Bearer wrong", "X-Forwarded-For": "203.0.113.9"})
         _, writer = await asyncio.open_connection("127.0.0.1", self.port)
         writer.write(b'GET /"\\x\xff HTTP/1.1\r\nHost: x\r\n\r\n')
-        async with asyncio.timeout(10):
+        async with asyncio.timeout(120):
             while log.read_text().count("\n") < 4:
                 await asyncio.sleep(0.05)
         writer.close()

@@ -249,7 +249,7 @@ class Disk(ShardCase):
         parts, ends, loop = await self.put(b"held"), threading.Event(), asyncio.get_running_loop()
         lookups = [loop.run_in_executor(None, ends.wait) for _ in range(64)]
         try:
-            async with asyncio.timeout(10):
+            async with asyncio.timeout(120):
                 self.assertEqual(await self.store.settled(self.shard.holding, 0), {parts[1][1:33]})
         finally:
             ends.set()

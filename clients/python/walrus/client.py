@@ -240,7 +240,7 @@ async def gather(
     """The same, of a request for which so many replies are needed first."""
     count, patience, said, listening = 0, 1, dict[int, str](), Listening(shards, asked)
     heard, proofs = list[bytes](), dict[bytes, bytes]()  # each once, in order; a proof with its metadata
-    offers = dict[int, None]()  # shards that have a long one
+    offers = set[int]()  # shards that have a long one
     listening.ask(needed)
     try:
         while not listening.is_over():
@@ -251,7 +251,7 @@ async def gather(
                     listening.again(number)
                 if PROVES in kept:
                     del kept[PROVES]
-                    offers[number] = None
+                    offers.add(number)
                 if PROOF in kept:
                     proofs[kept.pop(PROOF)] = kept.get(METADATA, b"")
                     asked.basket.want(needed + len(proofs))
