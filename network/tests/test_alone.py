@@ -152,8 +152,9 @@ class Ports(unittest.IsolatedAsyncioTestCase):
             with contextlib.suppress(ConnectionResetError):
                 self.assertEqual(await own.read(1), b"")
             own.transport.abort()
-            while served.connections or served.kept or served.asking:
-                await asyncio.sleep(0.001)
+            async with asyncio.timeout(120):
+                while served.connections or served.kept or served.asking:
+                    await asyncio.sleep(0.001)
         own = await wire.connect("127.0.0.1", number)
         self.addCleanup(own.transport.abort)
         own.write(asked)

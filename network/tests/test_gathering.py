@@ -112,7 +112,7 @@ class Spooled(unittest.IsolatedAsyncioTestCase):
 
         def slow(*words: Any) -> Any:
             made.set()
-            goes_on.wait()
+            goes_on.wait(120)
             return call(*words)
 
         self.enterContext(mock.patch.object(gathering.os, name, slow))
