@@ -431,7 +431,7 @@ class Impatient(GuardCase):
         self.assertGreater(time.monotonic() - begun, 6.9)
 
     async def test_a_slow_reader_holds_up_nobody(self) -> None:
-        self.enterContext(mock.patch.object(reading, "SILENCE", 600.0))  # so that the slow ones stay
+        self.enterContext(mock.patch.multiple(reading, SILENCE=600.0, GRACE=600.0))  # so that the slow ones stay
         await self.start(requests=0)
         self.files["1" * 64] = bytes(16_000_000)
 

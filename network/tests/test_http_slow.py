@@ -29,8 +29,9 @@ class Slow(GatewayCase):
     async def asyncSetUp(self) -> None:
         await super().asyncSetUp()
         self.local.options |= {"heal": 3_600}
-        for name in ("SILENCE", "GRACE"):  # of clients
-            self.enterContext(mock.patch.object(reading, name, LONG))
+        names = ["network.reading.SILENCE", "network.reading.GRACE", "network.client.LATE"]  # of clients, and of nodes
+        for name in (*(f"walrus.{it}" for it in names), "asyncio.constants.SSL_HANDSHAKE_TIMEOUT"):
+            self.enterContext(mock.patch(name, LONG))
         await self.start()
 
     async def test_sixteen_slow_uploads_beside_a_fast_one(self) -> None:
@@ -123,7 +124,6 @@ class Slow(GatewayCase):
         self.assertLessEqual((graces, reads), (1, 1))
 
     async def test_a_node_that_is_stopped(self) -> None:
-        self.enterContext(mock.patch("walrus.network.client.LATE", LONG))
         await self.put(b"before")
         hung = self.local.processes["node-2"]
         self.addCleanup(lambda: hung.returncode is None and hung.send_signal(signal.SIGCONT))
@@ -160,8 +160,6 @@ class Slow(GatewayCase):
     @contextlib.asynccontextmanager
     async def in_place_of(self, node: str, drips: bool) -> AsyncIterator[None]:
         """A port where a node was, which takes connections: it says a byte now and then, or nothing at all."""
-        self.enterContext(mock.patch("walrus.network.client.LATE", LONG))
-        self.enterContext(mock.patch("asyncio.constants.SSL_HANDSHAKE_TIMEOUT", LONG))
         await self.local.end(node, kill=True)
 
         async def connect(reader: asyncio.StreamReader, writer: asyncio.StreamWriter) -> None:
