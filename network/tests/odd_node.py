@@ -1,4 +1,4 @@
-"""A node that lies, keeps short contents in files, or tells odd figures, as its environment says."""
+"""A node that lies, keeps short contents in files, waits for long, or tells odd figures, as its environment says."""
 import json
 import os
 import pathlib
@@ -7,7 +7,7 @@ import sys
 
 sys.path.insert(0, str(pathlib.Path(__file__).resolve().parents[2] / "clients" / "python"))
 
-from walrus.network import figures, node, shard  # noqa: E402
+from walrus.network import figures, follower, intake, node, shard  # noqa: E402
 
 
 class Liar(node.Node):
@@ -29,6 +29,9 @@ class Liar(node.Node):
 
 
 shard.SMALL = int(os.environ.get("ODD_SMALL", shard.SMALL))  # so that short contents are files too
+if "ODD_PATIENCE" in os.environ:  # seconds for which what was asked of it waits for the ledger
+    intake.HEARD = float(os.environ["ODD_PATIENCE"])
+    follower.Recorders.post.__defaults__ = (intake.HEARD,)
 if "ODD_FIGURES" in os.environ:
     figures.NodePort.figures = lambda port: json.loads(os.environ["ODD_FIGURES"])  # type: ignore[method-assign]
 sys.exit(node.main(Liar if "ODD_LIES" in os.environ else node.Node))

@@ -56,7 +56,7 @@ class Announced(unittest.IsolatedAsyncioTestCase):
         return bool(holds(self.ledger))
 
     async def all_done(self) -> dict[str, Any]:
-        async with asyncio.timeout(10):
+        async with asyncio.timeout(120):
             while self.announcer.tasks:
                 await asyncio.sleep(0.01)
         return dict(self.announcer.findings[0])
@@ -93,7 +93,7 @@ class Announced(unittest.IsolatedAsyncioTestCase):
     async def test_who_is_away_is_asked_again(self) -> None:
         self.seats[0].refuses = self.seats[1].refuses = "it is away"
         self.announcer.hear(BAD)
-        async with asyncio.timeout(10):
+        async with asyncio.timeout(120):
             while len(self.said) < 8:
                 await asyncio.sleep(0.001)
         self.seats[1].refuses = ""

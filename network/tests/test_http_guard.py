@@ -1,6 +1,7 @@
 """Who may what at a gateway: pages from elsewhere, strangers, customers and their shares, impatient and slow ones."""
 import asyncio
 import contextlib
+import importlib.util
 import json
 import os
 import re
@@ -155,7 +156,7 @@ class Customers(GuardCase):
             ("GET", "/v1/blobs"),
             ("GET", "/v1/status"),
         ]
-        paths += [("GET", "/metrics")]
+        paths += [("GET", "/metrics")] if importlib.util.find_spec("prometheus_client") else []
         for method, path in paths:
             found = [(await self.ask(method, path, headers=it))[0] for it in ({}, reader, writer)]
             self.assertEqual(found, [200, 200, 403], path)
@@ -301,7 +302,7 @@ class Customers(GuardCase):
             reader, writer = await asyncio.open_connection("127.0.0.1", self.port)
             head = f"PUT /v1/blobs?epochs=1 HTTP/1.1\r\nHost: x\r\nAuthorization: {shown}\r\nExpect: 100-Continue\r\n"
             writer.write(f"{head}Content-Length: {size}\r\nConnection: close\r\n\r\n".encode())
-            async with asyncio.timeout(10):
+            async with asyncio.timeout(120):
                 self.assertEqual((await reader.readuntil(b"\r\n"))[9:12], first)
                 if first == b"100":
                     writer.write(bytes(size))
@@ -365,7 +366,7 @@ class Customers(GuardCase):
                 shown = f"PUT /v1/blobs?epochs=1 HTTP/1.1\r\nHost: x\r\nAuthorization: {alice['Authorization']}\r\n"
                 writer.write(f"{shown}Content-Length: 9000\r\n\r\n".encode() + bytes(size))
                 await writer.drain()
-                async with asyncio.timeout(10):
+                async with asyncio.timeout(120):
                     while self.used("alice")[0] < before[0] + size:
                         await asyncio.sleep(0.02)
                     writer.close()
@@ -431,23 +432,28 @@ class Impatient(GuardCase):
         self.assertGreater(time.monotonic() - begun, 6.9)
 
     async def test_a_slow_reader_holds_up_nobody(self) -> None:
-        self.enterContext(mock.patch.object(reading, "SILENCE", 600.0))  # so that the slow ones stay
+        self.enterContext(mock.patch.multiple(reading, SILENCE=600.0, GRACE=600.0))  # so that the slow ones stay
         await self.start(requests=0)
         self.files["1" * 64] = bytes(16_000_000)
 
         async def seconds() -> float:
-            """For which others read."""
-            begun = time.monotonic()
+            """Of this process alone, in which others read; of the machine's they may take any number."""
+            begun = time.process_time()
             for _ in range(20):
-                self.assertEqual((await self.ask("GET", f"/v1/blobs/{'1' * 64}"))[0], 200)
-            return time.monotonic() - begun
+                self.assertEqual((await self.ask("GET", f"/v1/blobs/{'1' * 64}"))[2], self.files["1" * 64])
+            return time.process_time() - begun
 
         alone, slow = await seconds(), []
         for _ in range(50):
             reader, writer = await asyncio.open_connection("127.0.0.1", self.port)
             writer.write(f"GET /v1/blobs/{'1' * 64} HTTP/1.1\r\nHost: x\r\n\r\n".encode())
+            self.assertIn(b"200", await reader.readline())
             slow.append((reader, writer))
-        self.assertLess(await seconds(), max(15, 5 * alone))  # where the machine is busy it takes longer anyway
+        sent = self.gateway.reader.bytes
+        async with asyncio.timeout(300):  # for less than they may be slow
+            self.assertLess(await seconds(), 5 * alone)
+        self.assertLess(sent['way="out"'], (20 + 20 + 25) * 16_000_000)  # nobody has taken what a slow one is sent
+        self.assertEqual([bool(reader.exception()) for reader, _ in slow], [False] * 50)
         for _, writer in slow:
             writer.transport.abort()
 
@@ -462,7 +468,7 @@ class Impatient(GuardCase):
             for data in (head, *[part] * 8):
                 writer.write(data)
                 await writer.drain()
-        async with asyncio.timeout(10):
+        async with asyncio.timeout(120):
             while moved['way="in"'] < 12 * 8_000_000:
                 await asyncio.sleep(0.02)
         self.assertLess(usage_of(os.getpid())[0] - before, 12 * 8_000_000 // 2)
@@ -475,7 +481,7 @@ class Impatient(GuardCase):
         with mock.patch.object(chunks.bundles, "join", mock.AsyncMock(return_value=b"bundle")) as join:
             async with memory.share(memory.size):
                 sending = asyncio.create_task(self.ask("POST", "/v1/bundles?epochs=1", data=self.form(b"1")))
-                async with asyncio.timeout(10):
+                async with asyncio.timeout(120):
                     while not memory.waiting:
                         await asyncio.sleep(0.02)
                 self.assertEqual(join.call_count, 0)
@@ -485,12 +491,20 @@ class Impatient(GuardCase):
         self.enterContext(mock.patch.object(connections, "EACH", 20))
         await self.start()
         opened = [await asyncio.open_connection("127.0.0.1", self.port) for _ in range(30)]
-        await asyncio.sleep(0.3)
-        ended = sum(reader.at_eof() or bool(reader.exception()) for reader, _ in opened)
-        self.assertEqual(ended, 10)
+        left = list[tuple[asyncio.StreamReader, asyncio.StreamWriter]](opened)
+        async with asyncio.timeout(120):
+            while len(left) > 20:
+                await asyncio.sleep(0.02)
+                left = [it for it in opened if not it[0].at_eof() and not it[0].exception()]
+            for reader, writer in left:  # and these have what they ask for
+                writer.write(b"GET /livez HTTP/1.1\r\nHost: x\r\n\r\n")
+                self.assertIn(b"200", await reader.readline())
+        self.assertEqual(len(left), 20)
         for _, writer in opened:
             writer.transport.abort()
-        await asyncio.sleep(0.3)
+        async with asyncio.timeout(120):
+            while self.gateway.each:
+                await asyncio.sleep(0.02)
         self.assertEqual(((await self.ask("GET", "/livez"))[0], len(self.gateway.each)), (200, 1))
 
     async def test_requests_that_wait_on_one_connection_are_bounded(self) -> None:
@@ -500,7 +514,7 @@ class Impatient(GuardCase):
             writer.write(b"GET /livez HTTP/1.1\r\nHost: x\r\n\r\n" * count)
             said = b""
             with contextlib.suppress(OSError):
-                async with asyncio.timeout(10):
+                async with asyncio.timeout(120):
                     while said.count(b"HTTP/1.1 200 ") < count and (more := await reader.read(65_536)):
                         said += more
             found = said.count(b"HTTP/1.1 200 ")
@@ -519,7 +533,7 @@ class Logs(GuardCase):
         await self.ask("GET", "/v1/status", headers={"Authorization": "Bearer wrong", "X-Forwarded-For": "203.0.113.9"})
         _, writer = await asyncio.open_connection("127.0.0.1", self.port)
         writer.write(b'GET /"\\x\xff HTTP/1.1\r\nHost: x\r\n\r\n')
-        async with asyncio.timeout(10):
+        async with asyncio.timeout(120):
             while log.read_text().count("\n") < 4:
                 await asyncio.sleep(0.05)
         writer.close()
@@ -590,6 +604,7 @@ class Parts(unittest.TestCase):
         hosts = "1.2.3.4", "1.2.3.4:80", "[::1]", "[fd00::1]:80"
         self.assertEqual([it for it in hosts if not is_address(it)], [])
         names = "", "x", "1.2.3.4.example", "1.2.3:80", "1.2.3.4:x", "1.2.3.4@example", "[x]", "[::1]x", "localhost:80"
+        names += "[]", "[]:80", ":80", "[", "]", "[[]]", ":"
         self.assertEqual([it for it in names if is_address(it)], [])
 
 

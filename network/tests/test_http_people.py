@@ -103,7 +103,7 @@ class People(UpCase):
         self.assertEqual(await self.words("fetch", long), "7")
         for name in ("node-3", "node-1"):  # the first has no shards any more
             os.kill(self.process_of(folder, name), signal.SIGKILL)
-        async with asyncio.timeout(30):
+        async with asyncio.timeout(120):
             while "node-1 has ended" not in self.log("up").rpartition("the network is up")[2]:
                 await asyncio.sleep(0.1)
         await self.words("store", "-", "--epochs", 2, data=b"three of four")
@@ -134,7 +134,7 @@ class People(UpCase):
             )
         finally:
             os.kill(int(found[1]), signal.SIGTERM)
-        async with asyncio.timeout(30):
+        async with asyncio.timeout(120):
             while any(str(folder).encode() in self.line(it) for it in pathlib.Path("/proc").glob("[0-9]*/cmdline")):
                 await asyncio.sleep(0.1)
 

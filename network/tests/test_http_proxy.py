@@ -38,7 +38,7 @@ class Proxied(GuardCase):
             process = await asyncio.create_subprocess_exec(*self.line(), stdout=said, stderr=said)
         self.addAsyncCleanup(process.wait)
         self.addCleanup(lambda: process.returncode is None and process.terminate())
-        async with asyncio.timeout(30):
+        async with asyncio.timeout(120):
             while True:
                 with contextlib.suppress(OSError):
                     _, writer = await asyncio.open_connection(*self.place)

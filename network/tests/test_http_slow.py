@@ -1,4 +1,6 @@
-"""Who is slow holds up nobody: clients that drip, nodes that hang, drip or take nothing, and what a read moves."""
+"""Who is slow holds up nobody: clients that drip, nodes that hang, drip or take nothing, and what a read moves.
+
+Who is slow here is so for longer than any test may take: so what ends did not wait for it, on a busy machine too."""
 import asyncio
 import collections
 import contextlib
@@ -6,24 +8,30 @@ import os
 import signal
 import ssl
 import threading
-import time
 import unittest
-from typing import AsyncIterator, Sequence
+from typing import Any, AsyncIterator, Sequence
 from unittest import mock
 
-from harness import usage_of
+from harness import ODD, usage_of
 from http_case import DRAWN, GatewayCase
 from walrus import client
 from walrus.frames import answer
 from walrus.network import chunks, peers, reading, shard, whole
+from walrus.network.gateway import Options
 
 SLOW, STEP = 16, 4_096  # clients; bytes that each moves in a tenth of a second
+LONG, ENOUGH = 1_200.0, 300.0  # seconds for which who is slow is waited for, and in which a test ends else
 
 
 class Slow(GatewayCase):
+    options = Options(seconds=1, challenge=0, patience=LONG)
+
     async def asyncSetUp(self) -> None:
         await super().asyncSetUp()
         self.local.options |= {"heal": 3_600}
+        names = ["network.reading.SILENCE", "network.reading.GRACE", "network.client.LATE"]  # of clients, and of nodes
+        for name in (*(f"walrus.{it}" for it in names), "asyncio.constants.SSL_HANDSHAKE_TIMEOUT"):
+            self.enterContext(mock.patch(name, LONG))
         await self.start()
 
     async def test_sixteen_slow_uploads_beside_a_fast_one(self) -> None:
@@ -35,6 +43,8 @@ class Slow(GatewayCase):
             head = f"PUT /v1/blobs?epochs=2 HTTP/1.1\r\nHost: localhost:{self.port}\r\nConnection: close\r\n"
             writer.write(f"{head}Content-Length: {size}\r\n\r\n".encode())
             for place in range(0, size, STEP):
+                if place == size - STEP:  # a drip is left of it as long as the others go in
+                    await ends.wait()
                 writer.write(DRAWN.randbytes(STEP))
                 if not ends.is_set():
                     await asyncio.sleep(0.1)
@@ -42,12 +52,11 @@ class Slow(GatewayCase):
             writer.close()
 
         tasks = [asyncio.create_task(drip()) for _ in range(SLOW)]
-        await asyncio.sleep(1)
-        begun = time.monotonic()
+        while self.gateway.reader.bytes['way="in"'] < SLOW * STEP:
+            await asyncio.sleep(0.1)
         for _ in range(3):
             await self.put(DRAWN.randbytes(1_000_000))
         self.assertEqual(done, [])  # they drip still
-        self.assertLess(time.monotonic() - begun, 9)
         ends.set()
         await asyncio.gather(*tasks)
         self.assertEqual(done, [b"HTTP/1.1 201"] * SLOW)
@@ -63,9 +72,9 @@ class Slow(GatewayCase):
         after, _ = usage_of(os.getpid())
         self.assertEqual(self.gateway.reader.memory.taken, 0)
         self.assertLess(after - before, 4_000_000 * SLOW // 2)
-        begun = time.monotonic()
         self.assertEqual((await self.get(small))[2], b"small")
-        self.assertLess(time.monotonic() - begun, 2)
+        self.assertLess(self.gateway.reader.bytes['way="out"'], 4_000_000 * SLOW)  # they have not taken all of it
+        self.assertEqual([bool(reader.exception()) for reader, _ in readers], [False] * SLOW)
         for _, writer in readers:
             writer.transport.abort()
 
@@ -82,32 +91,55 @@ class Slow(GatewayCase):
         self.assertGreaterEqual(self.network.peers.heard - before, needed)
         self.assertLessEqual(self.network.peers.heard - before, 1.1 * needed)
 
-    async def moves_on(self, most: float) -> None:
-        """Files go in and out beside a node that is no use, each in so many seconds."""
-        for _ in range(6):
-            data, begun = DRAWN.randbytes(9_000), time.monotonic()
-            name = (await self.put(data))["blobId"]
-            self.gateway.reader.cache.entries.clear()
-            self.assertEqual((await self.get(name))[2], data)
-            self.assertLess(time.monotonic() - begun, most)
+    async def moves_on(self, useless: str) -> None:
+        """Files go in and out beside a node that is no use. Each store but the first one waits for the others alone,
+        and who reads asks it once at most, until others are asked in its place."""
+        for name in ("LEAST", "MOST"):  # so that no other node is taken for late
+            self.enterContext(mock.patch(f"walrus.shards.{name}", 20.0))
+        exchange, wait, ended = peers.Seat.exchange, asyncio.wait, list[object]()
+        storing, reads, graces = set["asyncio.Task[Any] | None"](), 0, 0
+
+        async def watched(seat: peers.Seat, requests: Sequence[client.Request]) -> list[client.Reply]:
+            nonlocal reads
+            if seat.name != useless or seat.peers is not self.network.peers:
+                return await exchange(seat, requests)
+            storing.update([asyncio.current_task()] if isinstance(requests[0], list) else [])
+            reads += requests[0][:1] == bytes([client.READ])
+            said = await exchange(seat, requests)
+            ended.append(said)
+            return said
+
+        async def waited(tasks: Any, **words: Any) -> Any:
+            nonlocal graces
+            graces += bool(words.get("timeout") and storing & {*tasks})
+            return await wait(tasks, **words)
+
+        with mock.patch.object(peers.Seat, "exchange", watched), mock.patch.object(asyncio, "wait", waited):
+            for _ in range(6):
+                data = DRAWN.randbytes(9_000)
+                name = (await self.put(data))["blobId"]  # curl gives up after 120 s
+                self.gateway.reader.cache.entries.clear()
+                self.assertEqual((await self.get(name))[2], data)
+        self.assertEqual((len(storing), ended), (6, []))  # all of it waits still, and nobody for that
+        self.assertLessEqual((graces, reads), (1, 1))
 
     async def test_a_node_that_is_stopped(self) -> None:
         await self.put(b"before")
         hung = self.local.processes["node-2"]
         self.addCleanup(lambda: hung.returncode is None and hung.send_signal(signal.SIGCONT))
         hung.send_signal(signal.SIGSTOP)
-        await self.moves_on(4)
+        await self.moves_on("node-2")
         hung.send_signal(signal.SIGCONT)
-        async with asyncio.timeout(40):  # it is one of all again once it answers
+        async with asyncio.timeout(ENOUGH):  # it is one of all again once it answers
             while self.network.late or any(self.network.behind.values()):
                 await asyncio.sleep(0.1)
         name = (await self.network.store(b"after", 5)).identifier
-        self.assertTrue(await self.network.until(lambda it: it.certificate(name) == (0, 4)))
+        self.assertTrue(await self.network.until(lambda it: it.certificate(name) == (0, 4), ENOUGH))
 
     async def test_a_node_that_hangs_is_waited_for_once(self) -> None:
         """Those pieces of a file that were asked of it when it was found out are late, and no others."""
-        self.enterContext(mock.patch("walrus.shards.LEAST", 5.0))  # so that no other node is taken for late
-        self.enterContext(mock.patch("walrus.shards.MOST", 5.0))
+        self.enterContext(mock.patch("walrus.shards.LEAST", 20.0))  # so that no other node is taken for late
+        self.enterContext(mock.patch("walrus.shards.MOST", 20.0))
         self.enterContext(mock.patch.object(chunks, "PIECE", 100_000))
         data = DRAWN.randbytes(4_000_000)
         name = (await self.put(data))["blobId"]
@@ -116,7 +148,7 @@ class Slow(GatewayCase):
         hung.send_signal(signal.SIGSTOP)
 
         async def counted(seat: peers.Seat, requests: Sequence[client.Request]) -> list[client.Reply]:
-            asked[seat.name] += 1
+            asked[seat.name] += seat.peers is self.network.peers  # and not by who asks whether nodes answer
             return await exchange(seat, requests)
 
         self.enterContext(mock.patch.object(peers.Seat, "exchange", counted))
@@ -148,63 +180,79 @@ class Slow(GatewayCase):
     async def test_a_port_that_takes_nothing(self) -> None:
         await self.put(b"before")
         async with self.in_place_of("node-1", False):
-            await self.moves_on(4)
+            await self.moves_on("node-1")
 
     async def test_a_node_that_drips(self) -> None:
         await self.put(b"before")
         async with self.in_place_of("node-3", True):
-            await self.moves_on(4)
+            await self.moves_on("node-3")
 
     async def test_names_that_are_looked_up_for_long_hold_up_no_read(self) -> None:
         name, ends, loop = (await self.put(bytes(4_000_000)))["blobId"], threading.Event(), asyncio.get_running_loop()
         self.gateway.reader.cache.entries.clear()
         lookups = [loop.run_in_executor(None, ends.wait) for _ in range(64)]
         try:
-            async with asyncio.timeout(20):
-                self.assertEqual(len((await self.get(name))[2]), 4_000_000)
+            self.assertEqual(len((await self.get(name))[2]), 4_000_000)
         finally:
             ends.set()
             await asyncio.gather(*lookups)
 
-    async def stranger(self, number: int, request: bytes) -> bytes:
-        """What a node first replies, for its shard, to who has no certificate."""
+    async def asked(self, number: int, request: bytes) -> tuple[asyncio.StreamReader, asyncio.StreamWriter]:
+        """A connection to a node on which somebody who has no certificate has sent a request for its shard."""
         context = ssl.create_default_context()
         context.check_hostname, context.verify_mode = False, ssl.CERT_NONE
         address = self.network.ledger.addresses[f"node-{number}"]
         reader, writer = await asyncio.open_connection(*address, ssl=context)
+        writer.transport.set_write_buffer_limits(0)
+        writer.write(client.envelope(request, number))
+        await writer.drain()
+        return reader, writer
+
+    async def stranger(self, number: int, request: bytes) -> bytes:
+        """What a node first replies to that."""
+        reader, writer = await self.asked(number, request)
         with contextlib.closing(writer):
-            writer.write(client.envelope(request, number))
             return (await client.take_envelope(reader, 99_999))[1]
 
     @contextlib.asynccontextmanager
     async def waiting(self, number: int, requests: list[bytes]) -> AsyncIterator[None]:
-        """Strangers who ask the node of a shard what waits for the ledger, and wait still at the end."""
-        tasks = [asyncio.create_task(self.stranger(number, request)) for request in requests]
+        """Strangers who have asked the node of a shard what waits for the ledger, and wait still at the end. The node
+        has what they sent before anything of who comes behind them."""
+        asked = [await self.asked(number, request) for request in requests]
+        tasks = [asyncio.create_task(client.take_envelope(reader, 99_999)) for reader, _ in asked]
         try:
-            await asyncio.sleep(1)
-            yield
+            async with asyncio.timeout(ENOUGH):
+                yield
             self.assertEqual([task.done() for task in tasks], [False] * len(tasks))
         finally:
-            for task in tasks:
+            for task, (_, writer) in zip(tasks, asked):
                 task.cancel()
+                writer.transport.abort()
             await asyncio.gather(*tasks, return_exceptions=True)
+
+    async def patient(self, node: str) -> None:
+        """Has a node wait for the ledger for longer than this test takes."""
+        await self.local.end(node)
+        await self.local.start_node(node, ODD, {"ODD_PATIENCE": str(LONG)})
 
     async def test_strangers_whose_blobs_nobody_registers(self) -> None:
         name, requests = bytes.fromhex((await self.put(b"before"))["blobId"]), list[bytes]()
         for _ in range(9):
             encoded = await self.network.walrus.encode(DRAWN.randbytes(900), 1)
             requests.append(b"".join(map(bytes, whole.request_of(encoded, 2))))
-        async with self.waiting(2, requests), asyncio.timeout(5):
+        self.assertEqual(await self.stranger(2, requests[0]), answer(shard.UNREGISTERED))  # once it has waited
+        await self.patient("node-2")
+        async with self.waiting(2, requests):
             self.assertEqual((await self.stranger(2, client.write_frame(client.Read(name))))[0], client.METADATA)
-        self.assertEqual(await self.stranger(2, requests[0]), answer(shard.UNREGISTERED))
         encoded = await self.network.walrus.encode(b"registered late", 1)
         request = b"".join(map(bytes, whole.request_of(encoded, 2)))
-        async with self.waiting(2, requests), asyncio.timeout(5):
+        async with self.waiting(2, requests):
             late = asyncio.create_task(self.stranger(2, request))
             await self.network.register(encoded.identifier, 3)
             self.assertEqual(await late, answer(client.DONE))
 
     async def test_words_that_wait_for_the_ledger(self) -> None:
+        await self.patient("node-1")
         encoded = await self.network.walrus.encode(b"stored while the ledger is away", 1)
         await self.network.register(encoded.identifier, 3)
         while await self.stranger(1, bytes(encoded.metadata)) == answer(shard.UNREGISTERED):
@@ -213,20 +261,23 @@ class Slow(GatewayCase):
         for sliver in encoded.slivers[1]:
             self.assertEqual(await self.stranger(1, bytes(sliver)), answer(client.DONE))
         ack, read = (client.write_frame(it(encoded.identifier)) for it in (client.Ack, client.Read))
-        async with self.waiting(1, [ack] * 9), asyncio.timeout(5):
+        async with self.waiting(1, [ack] * 9):
             self.assertEqual((await self.stranger(1, read))[0], client.METADATA)
 
     async def test_a_large_file_overlaps(self) -> None:
         """A piece is taken while others are stored, and all of it comes back in its order."""
         self.enterContext(mock.patch.object(chunks, "PIECE", 300_000))
         data, most, store = DRAWN.randbytes(3_000_000), 0, self.network.publish
-        under_way = 0
+        under_way, overlaps = 0, asyncio.Event()
 
         async def counted(encoded: client.Encoded, until: int) -> object:
             nonlocal under_way, most
             under_way += 1
             most = max(most, under_way)
             try:
+                if most > 1:
+                    overlaps.set()
+                await overlaps.wait()  # for ever, unless another one is taken meanwhile
                 return await store(encoded, until)
             finally:
                 under_way -= 1

@@ -76,7 +76,7 @@ class Trouble(GatewayCase):
         """All that comes back for some bytes, until the gateway ends the connection, or behind the end of input."""
         reader, writer = await asyncio.open_connection("127.0.0.1", self.port)
         try:
-            async with asyncio.timeout(20):
+            async with asyncio.timeout(120):
                 writer.write(data)
                 heard = asyncio.create_task(reader.read(-1))
                 if not wait:

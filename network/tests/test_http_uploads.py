@@ -83,7 +83,7 @@ class UploadCase(GuardCase):
     async def comes(self, path: str, size: int) -> None:
         """Waits until so much of an upload has come to the disk."""
         folder = pathlib.Path(self.folder, "tokens.uploads", path.rpartition("/")[2])
-        async with asyncio.timeout(10):
+        async with asyncio.timeout(120):
             while unfinished.Upload(folder).offset < size:
                 await asyncio.sleep(0.02)
 
@@ -154,7 +154,7 @@ class Going(UploadCase):
             f"POST /v1/uploads?epochs=5 HTTP/1.1\r\nHost: 127.0.0.1:{self.port}\r\nUpload-Draft-Interop-Version: 6\r\n"
         )
         writer.write(f"{head}Upload-Complete: ?1\r\nContent-Length: 9\r\n\r\n".encode() + b"part")
-        async with asyncio.timeout(10):
+        async with asyncio.timeout(120):
             said = (await reader.readuntil(b"\r\n\r\n")).decode()
         self.assertEqual(said.partition("\r\n")[0], "HTTP/1.1 104 Upload Resumption Supported")
         told = dict(line.split(": ", 1) for line in said.split("\r\n")[1:] if line)

@@ -60,7 +60,7 @@ class Waiting(unittest.IsolatedAsyncioTestCase):
     async def test_what_has_no_form_waits_for_nothing(self) -> None:
         """Else it would stand before what others post, a batch's size of it for each call of etcd."""
         texts = ["x", "x/" + "y" * 1_000_000, "x/ready/01", "x/register/\ud800/1", ""]
-        async with asyncio.timeout(5):
+        async with asyncio.timeout(120):
             said = await self.made.post(texts)
         self.assertEqual([str(it) for it in said], ["it has not the form of an entry"] * 5)
         self.assertTrue(all(isinstance(it, Refused) for it in said))

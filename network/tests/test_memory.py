@@ -18,7 +18,7 @@ sys.path.insert(0, str(pathlib.Path(__file__).resolve().parents[2] / "clients" /
 from walrus import client, frames, port, wire  # noqa: E402
 from walrus.network import certificates, peers, pieces  # noqa: E402
 from walrus.network.pieces import Memory  # noqa: E402
-from walrus.baskets import PASSED, Basket  # noqa: E402
+from walrus.baskets import OFFERED, PASSED, Basket  # noqa: E402
 from walrus.streams import take_envelope, write_in_slices  # noqa: E402
 
 try:
@@ -287,15 +287,16 @@ class Baskets(unittest.IsolatedAsyncioTestCase):
         stream = basket.stream([first, await self.take(1, basket)])
         self.assertEqual(bytes(stream), b"".join(map(client.envelope, self.large[:2])))
 
-    async def test_what_has_another_length_is_read_past_unless_it_is_a_proof(self) -> None:
-        """Whoever comes first: so nobody who lies has memory, or keeps it from others."""
+    async def test_what_has_another_length_is_read_past(self) -> None:
+        """Whoever comes first, and as a proof too: so nobody who lies has memory, or keeps it from others."""
         basket, long, proof = Basket(1, 2), bytes(500_000), bytes(600_000)
         self.ends[0][1].write(client.envelope(long) + client.envelope(self.small))
         self.assertEqual([await self.take(0, basket) for _ in range(2)], [b"", self.small])
         basket.size, basket.proofs = 400_000, (600_000,)
         self.ends[0][1].write(client.envelope(long) + client.envelope(proof) + client.envelope(self.small))
         found = [await self.take(0, basket) for _ in range(3)]
-        self.assertEqual((found, len(basket.memory)), ([b"", proof, self.small], 0))
+        self.assertEqual((found, len(basket.memory)), ([b"", b"", self.small], 0))
+        self.assertEqual([it is OFFERED for it in found], [False, True, False])
         self.ends[1][1].write(client.envelope(self.large[0]))
         first = await self.take(1, basket)
         self.assertEqual(bytes(first), self.large[0])

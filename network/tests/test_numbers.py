@@ -90,7 +90,7 @@ class Node(NetworkCase):
             identifier = await self.store(network, 200_000)
             await network.fetch(identifier)
         async with aiohttp.ClientSession() as session:
-            async with asyncio.timeout(30):
+            async with asyncio.timeout(120):
                 while True:
                     async with session.get(f"http://127.0.0.1:{port}/metrics") as said:
                         self.assertEqual(said.status, 200, self.log("node-0"))

@@ -23,7 +23,7 @@ import aiohttp
 import harness
 from aiohttp import web
 from ledger_case import FOUNDED, LedgerCase, Memory, registration
-from walrus.network import certificates, follower, keeping, recorder, recording, state
+from walrus.network import certificates, connections, follower, keeping, recorder, recording, state
 from walrus.network.etcd import Batch, Failed
 from walrus.network.follower import Parted, Recorders, Refused, Unreachable, View
 from walrus.network.entries import ACK, ADDRESS, OPERATOR, Chain, Entry, entry_key
@@ -139,14 +139,15 @@ class Adversary(LedgerCase):
         host, _, port = self.local.told()["recorders"][0].rpartition(":")
         head = "POST /v1/entries HTTP/1.1\r\nHost: x\r\nContent-Length: 5000\r\n\r\n[".encode()
         opened = []
+        self.enterContext(mock.patch.object(recording, "REQUEST", 600.0))
+        self.enterContext(mock.patch.object(connections, "FIRST", 600.0))
         for sent in (head, head[:20], b"", b"GET / HTTP/1.1\r\n" + b"X: y\r\n" * 5_000, b"\x16\x03" * 99):
             for _ in range(8):
                 _, writer = await asyncio.open_connection(host, int(port), ssl=self.context("publisher"))
                 writer.write(sent)
                 opened.append(writer)
-        begun = time.monotonic()
-        await self.user("publisher", 0).post(registration("publisher", 1))
-        self.assertLess(time.monotonic() - begun, 15)
+        await self.user("publisher", 0).post(registration("publisher", 1), 120)
+        self.assertGreaterEqual(self.services[0].connected["publisher"], 24)  # these wait still
         for writer in opened:
             writer.transport.abort()
 
@@ -166,7 +167,7 @@ class Adversary(LedgerCase):
         for reader, writer in opened:
             with contextlib.suppress(OSError, asyncio.IncompleteReadError, TimeoutError):
                 writer.write(b"GET /v1/status HTTP/1.1\r\nHost: x\r\n\r\n")
-                async with asyncio.timeout(5):
+                async with asyncio.timeout(60):
                     head = await reader.readuntil(b"\r\n\r\n")
                     await reader.readexactly(int(head.lower().partition(b"content-length: ")[2].split()[0]))
                 found += head.startswith(f"HTTP/1.1 {status} ".encode())
@@ -182,7 +183,7 @@ class Adversary(LedgerCase):
         await self.user(OPERATOR, 0).post(entry_key(OPERATOR, "expel", "mallory"))
         self.assertIn("mallory", recorder.ledger.expelled)
         self.assertEqual(await self.answered(many, 403), recording.OF_NAME)
-        async with asyncio.timeout(10):
+        async with asyncio.timeout(120):
             while connected["mallory"]:
                 await asyncio.sleep(0.05)
         self.assertEqual(await self.answered(await self.opened("mallory", 20), 403), recording.OF_OTHERS)
@@ -191,7 +192,7 @@ class Adversary(LedgerCase):
         with mock.patch.object(recording, "CONNECTIONS", 20):
             opened = await self.opened("publisher", 30)
             self.assertLessEqual(await self.answered(opened, 200), 20)
-            async with asyncio.timeout(10):
+            async with asyncio.timeout(120):
                 while self.services[0].connected.total() > 20:
                     await asyncio.sleep(0.05)
             self.assertGreaterEqual(sum(reader.at_eof() or bool(reader.exception()) for reader, _ in opened), 10)
@@ -255,13 +256,12 @@ class Adversary(LedgerCase):
     async def test_a_poster_has_its_share_and_others_are_not_kept_waiting(self) -> None:
         mallory = await self.newcomer("mallory")
         await self.operator.post(entry_key(OPERATOR, "share", "mallory", 3_000))
-        posts = [mallory.post(registration("mallory", number), 120) for number in range(1, 9_001)]
-        flood = asyncio.gather(*posts, return_exceptions=True)
-        await asyncio.sleep(0.2)
-        begun = time.monotonic()
-        await self.publisher.post(registration("publisher", 10**6))
-        self.assertLess(time.monotonic() - begun, 5)
-        said = await flood
+        posts = [mallory.post(registration("mallory", number), 300) for number in range(1, 9_001)]
+        flood = [*map(asyncio.create_task, posts)]
+        await flood[0]
+        await self.publisher.post(registration("publisher", 10**6), 300)
+        self.assertFalse(flood[-1].done())
+        said = await asyncio.gather(*flood, return_exceptions=True)
         self.assertEqual(sum(isinstance(it, int) for it in said), 3_000)
         refused = {str(it) for it in said if isinstance(it, Refused)}
         self.assertEqual(refused, {"mallory has its share of 3000 registrations in this epoch"})
@@ -277,7 +277,7 @@ class Adversary(LedgerCase):
         with self.assertRaises(Refused) as caught:
             await mallory.post(registration("mallory", 2))
         self.assertEqual(str(caught.exception), "mallory is expelled")
-        async with asyncio.timeout(20):  # until this recorder has heard it
+        async with asyncio.timeout(120):  # until this recorder has heard it
             while (await self.ask("mallory", "GET", "/v1/entries", recorder=0))[0] != 403:
                 await asyncio.sleep(0.05)
         async with self.following(self.user("publisher")) as view:

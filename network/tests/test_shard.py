@@ -108,8 +108,8 @@ class ShardCase(unittest.IsolatedAsyncioTestCase):
         return sorted(it for it in self.store.files.folder.glob("*/*") if it.is_file())
 
     async def left(self, count: int) -> None:
-        """Waits until so many files are left."""
-        for _ in range(200):
+        """Waits until so many files are left; a busy disk takes its time."""
+        for _ in range(2_400):
             if len(self.files()) == count:
                 break
             await asyncio.sleep(0.05)
@@ -249,7 +249,7 @@ class Disk(ShardCase):
         parts, ends, loop = await self.put(b"held"), threading.Event(), asyncio.get_running_loop()
         lookups = [loop.run_in_executor(None, ends.wait) for _ in range(64)]
         try:
-            async with asyncio.timeout(10):
+            async with asyncio.timeout(120):
                 self.assertEqual(await self.store.settled(self.shard.holding, 0), {parts[1][1:33]})
         finally:
             ends.set()

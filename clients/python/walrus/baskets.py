@@ -14,6 +14,7 @@ PART = 262_144  # bytes of a payload that are read at once
 PATIENCE = 1.0  # seconds in which a payload is to come; then one that comes beside those that are wanted has its place
 PAST = memoryview(bytearray(65_536))  # where bytes come that nobody wants
 PASSED = memoryview(b"")  # stands for a payload that was read past
+OFFERED = memoryview(b"")  # and for one as long as a proof
 
 
 class Place:
@@ -27,8 +28,8 @@ class Basket:
     """Memory into which large payloads come at once, each in an envelope and one behind the other, so that all of them
     are one stream without a copy. In front of it is room for small ones. One that comes beside those that are wanted
     has the place of one that is slow, or else it is read past, as is what is not wanted any more: so what comes behind
-    it is in step, and its shard keeps nothing of it. `size` is what each has: one of another length is read past too,
-    unless it is as long as a proof."""
+    it is in step, and its shard keeps nothing of it. `size` is what each has: one of another length is read past too.
+    One that is as long as a proof, which anybody may send, is offered so: who wants it asks for it alone."""
 
     def __init__(self, count: int, most: int = 0, size: int = 0) -> None:
         self.count, self.most, self.size = count, max(count, most), size  # places now and at most, and bytes of each
@@ -38,10 +39,11 @@ class Basket:
 
     def takes(self, size: int) -> bool:
         """Whether a payload of so many bytes comes here, or is read past."""
-        return size >= wire.LARGE and (self.is_closed or size not in self.proofs)
+        return size >= wire.LARGE
 
     async def receive(self, stream: wire.Wire, size: int) -> Data:
-        """A payload that comes here; `PASSED`, where it has no place, and nothing where it is not what is wanted."""
+        """A payload that comes here; `PASSED` where it has no place, `OFFERED` where it is as long as a proof, and
+        nothing where it is not what is wanted."""
         place = self.place(stream, size)
         try:
             while place.came < size:
@@ -53,7 +55,7 @@ class Basket:
             self.empty(place)
             raise
         if place.memory is None:
-            return PASSED if self.is_closed or size == self.size else b""
+            return PASSED if self.is_closed or size == self.size else OFFERED if size in self.proofs else b""
         return place.memory.toreadonly()
 
     def place(self, stream: wire.Wire, size: int) -> Place:

@@ -51,6 +51,7 @@ from .shards import (
     AGAIN,
     Asked,
     Failed,
+    PROVES,
     Reply,
     Request,
     SECONDS,
@@ -130,6 +131,7 @@ __all__ = [
     "in_words",
     "listen",
     "patience_for",
+    "proves",
     "publish",
     "recover",
     "shape_of",
@@ -225,7 +227,7 @@ async def collect(shards: Shards, request: Union[Read, Symbol], walrus: Walrus, 
     """What the program makes of replies to a request: status 0 or 3, and its text; else `Refused` is raised. No more
     shards are asked than are needed, and others once one is late or of no use. The program runs once enough was heard,
     and again once more can be enough. Where all of it is too little, a proof of bad encoding will do: status 3, and the
-    proof in an envelope."""
+    proof in an envelope. Long ones are asked for one by one, and not before: who lies has no memory by them."""
     needed = shape_of(shards).symbols[getattr(request, "axis", SECONDARY)]
     asked = Asked.of(write_frame(request), needed, len(shards))
     with contextlib.closing(asked.basket):
@@ -238,6 +240,7 @@ async def gather(
     """The same, of a request for which so many replies are needed first."""
     count, patience, said, listening = 0, 1, dict[int, str](), Listening(shards, asked)
     heard, proofs = list[bytes](), dict[bytes, bytes]()  # each once, in order; a proof with its metadata
+    offers = set[int]()  # shards that have a long one
     listening.ask(needed)
     try:
         while not listening.is_over():
@@ -246,6 +249,9 @@ async def gather(
                 if AGAIN in kept:
                     del kept[AGAIN]
                     listening.again(number)
+                if PROVES in kept:
+                    del kept[PROVES]
+                    offers.add(number)
                 if PROOF in kept:
                     proofs[kept.pop(PROOF)] = kept.get(METADATA, b"")
                     asked.basket.want(needed + len(proofs))
@@ -265,11 +271,21 @@ async def gather(
             listening.ask(max(needed - count - len(listening.pending) * bool(found), not listening.pending))
     finally:
         await listening.end()
-    for proof, metadata in proofs.items():
-        checked, _ = await walrus.run("check", request.identifier.hex(), data=envelope(metadata) + envelope(proof))
-        if checked == 3:
-            return 3, envelope(proof)
+    asked.basket.close()  # what it had is more than one proof has
+    for kept in [{PROOF: proof, METADATA: metadata} for proof, metadata in proofs.items()]:
+        if await proves(kept, request.identifier, walrus):
+            return 3, envelope(kept[PROOF])
+    for shard in [it for it in shards if it.number in offers]:
+        _, kept, _ = await listen(shard, bytes(asked))
+        if await proves(kept, request.identifier, walrus):
+            return 3, envelope(kept[PROOF])
     raise TooFew(status, text, said)
+
+
+async def proves(kept: dict[int, bytes], identifier: bytes, walrus: Walrus) -> bool:
+    """Whether what was heard of a shard has a proof that the blob was badly encoded."""
+    data = b"".join(envelope(kept[kind]) for kind in (METADATA, PROOF) if kind in kept)
+    return PROOF in kept and (await walrus.run("check", identifier.hex(), data=data))[0] == 3
 
 
 async def fetch(shards: Shards, identifier: bytes, walrus: Walrus) -> bytes:

@@ -8,7 +8,7 @@ import time
 from collections.abc import Iterable, Sequence
 from typing import NamedTuple, Optional, Union
 
-from .baskets import PASSED, Basket
+from .baskets import OFFERED, PASSED, Basket
 from .kinds import DONE, KINDS, METADATA, SECOND_METADATA, Answer, Clash, Fault, in_words
 from .shapes import Shape, name_of
 from .streams import Sink, Source, Streams, take_envelope, write_in_slices
@@ -16,7 +16,7 @@ from .wire import Data
 
 SECONDS = 10.0  # a deadline for what is asked at once
 LONGEST_REPLY = 4  # the frames of a reply, with the last answer
-AGAIN = 0  # in place of a kind, where something was read past that may be asked for again
+AGAIN, PROVES = 0, -1  # in place of a kind, where something was read past that may be asked for again, or as a proof
 LEAST = 0.2  # seconds until others are asked as well, at least
 MOST = 1.0  # and at most
 USUAL = 0.2  # seconds for which a shard is taken to need first
@@ -119,8 +119,8 @@ class Shard(contextlib.AbstractAsyncContextManager["Shard"]):
             sender, payload = await take_envelope(reader, self.shape.longest, basket)
             if sender != self.number:
                 raise Fault(f"it says that it is shard {sender}: are the shards in their order?")
-            if payload is PASSED:
-                kept[AGAIN] = PASSED
+            if payload is PASSED or payload is OFFERED:
+                kept[AGAIN if payload is PASSED else PROVES] = payload
             if isinstance(request, Asked):
                 request.hear(self.shape, payload)
             if payload[:1] == b"\x31":
@@ -193,7 +193,7 @@ async def listen(shard: Shard, request: bytes) -> tuple[int, dict[int, bytes], s
         [reply] = await shard.ask(request)
     except ConnectionError as error:
         return shard.number, {}, str(error)
-    words = ", ".join(KINDS[kind] for kind in reply.kept if kind) or "nothing of it"
+    words = ", ".join(KINDS[kind] for kind in reply.kept if kind > 0) or "nothing of it"
     done = getattr(reply.end, "code", None) == DONE
     return (shard.number, reply.kept, words) if done else (shard.number, {}, in_words(reply.end))
 

@@ -179,16 +179,16 @@ class Network(View):
             await self.until(lambda it: not pending or is_over(it), None)
             if prompt := [task for name, task in tasks.items() if task in pending and not self.behind[name]]:
                 await asyncio.wait(prompt, timeout=max(GRACE, time.monotonic() - begun))
-        except BaseException:  # nobody waits for it any more, or the ledger is not followed
+            for name, task in tasks.items():
+                if task.done():
+                    said |= task.result()
+                else:
+                    self.leave_behind(name, task, size)
+            return said
+        except BaseException:  # nobody waits for it any more, the ledger is not followed, or one has failed
             for task in tasks.values():
                 task.cancel()
             raise
-        for name, task in tasks.items():
-            if task.done():
-                said |= task.result()
-            else:
-                self.leave_behind(name, task, size)
-        return said
 
     async def put_at(self, seats: Sequence[Seat], encoded: client.Encoded) -> dict[int, str]:
         """Stores a blob at the shards of one node; what of it would not do, by shard."""

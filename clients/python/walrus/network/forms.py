@@ -31,8 +31,8 @@ async def files_of(kind: str, source: Source, asked: str) -> AsyncGenerator[Sent
         raise Problem(415, asked) from None
     if told.get_content_type() != "multipart/form-data" or not 1 <= len(bound) <= 70:
         raise Problem(415, asked)
-    reader = MultipartReader({"Content-Type": f'multipart/form-data; boundary="{bound}"'}, source)  # type: ignore
     with must_be_form(asked):
+        reader = MultipartReader({"Content-Type": f'multipart/form-data; boundary="{bound}"'}, source)  # type: ignore
         while part := await reader.next():
             if not isinstance(part, BodyPartReader):
                 raise Problem(400, f"a form has no forms in it: {asked}")

@@ -1,12 +1,14 @@
 """A folder that comes over HTTP waits in a file without a name until all of it has come, so that nothing is stored of
 one that is refused. Then large files are stored, small ones in packs, and the manifest last."""
 import asyncio
+import concurrent.futures
 import contextlib
 import hashlib
 import os
 import sqlite3
 import tempfile
-from typing import Any, AsyncIterator, Coroutine, Iterator
+import threading
+from typing import Any, AsyncIterator, Coroutine, Iterator, Sequence
 
 from .archives import Coming, opened
 from .chunks import PIECE, Told, Writer
@@ -18,6 +20,7 @@ from .shares import Charge, count_of
 from .source import Source
 
 AT_ONCE, AHEAD = 16, 4  # folders that come at once; files and packs of one that are stored at once
+DISK = concurrent.futures.ThreadPoolExecutor(AHEAD, "spool")  # asyncio's own looks names up, perhaps for long
 FULL = (
     "the folder is not stored: the gateway keeps all of it on its disk until the last name is known, and has too little"
     " room there; use walrus-net store FOLDER, which checks the names first and sends one file after the other"
@@ -93,12 +96,66 @@ class Storing:
         return told
 
 
+class Spool:
+    """A file without a name for what comes, of which a little is in memory. Threads write and read it, so that a busy
+    disk holds up nobody else. `reserve` is the part of the disk that is left free."""
+
+    def __init__(self, reserve: float):
+        self.reserve, self.file, self.turn = reserve, tempfile.TemporaryFile(buffering=0), threading.Lock()
+        self.kept, self.start = bytearray(), 0  # what is not written yet, and where it will be
+
+    @property
+    def end(self) -> int:
+        return self.start + len(self.kept)
+
+    async def add(self, data: bytes) -> None:
+        self.kept += data
+        if len(self.kept) >= WRITTEN:
+            await self.flush()
+
+    async def flush(self) -> None:
+        """Writes what is not written yet; raises where its disk would have less left than its reserve."""
+        data = bytes(self.kept)
+        await asyncio.get_running_loop().run_in_executor(DISK, self.write, data, self.start)
+        self.kept, self.start = bytearray(), self.end
+
+    def write(self, data: bytes, place: int) -> None:
+        with self.turn:
+            view, disk = memoryview(data), os.fstatvfs(self.file.fileno())
+            if disk.f_bavail * disk.f_frsize - len(data) < self.reserve * disk.f_blocks * disk.f_frsize:
+                raise Problem(507, FULL)
+            while view:
+                written = os.pwrite(self.file.fileno(), view, place)
+                view, place = view[written:], place + written
+
+    def cut(self, end: int) -> None:
+        """Has what comes next take the place of what came behind this one."""
+        del self.kept[max(0, end - self.start) :]  # noqa: E203
+        self.start = min(self.start, end)
+
+    async def read(self, *spans: tuple[int, int]) -> bytes:
+        """What was written at some places, each with its length, one behind the other."""
+        return await asyncio.get_running_loop().run_in_executor(DISK, self.read_spans, spans)
+
+    def read_spans(self, spans: Sequence[tuple[int, int]]) -> bytes:
+        with self.turn:
+            return b"".join(os.pread(self.file.fileno(), length, at) for length, at in spans)
+
+    def close(self) -> None:
+        """Has the file go once no thread is at it: its number may be another file's from then on."""
+        DISK.submit(self.end_file)
+
+    def end_file(self) -> None:
+        with self.turn:
+            self.file.close()
+
+
 class Upload(Storing):
     """A folder that comes. `reserve` is the part of the disk that is left free."""
 
     def __init__(self, writer: Writer, costs: Costs, epochs: int, reserve: float, stored: list[bytes]):
         super().__init__(writer, costs, epochs, stored)
-        self.folder, self.spool, self.end, self.reserve = Folder(), tempfile.TemporaryFile(buffering=0), 0, reserve
+        self.folder, self.spool = Folder(), Spool(reserve)
 
     def close(self) -> None:
         self.folder.close()
@@ -106,45 +163,35 @@ class Upload(Storing):
 
     async def take(self, coming: Coming) -> None:
         """Keeps the next file until it is known which others come."""
-        path, start, digest = coming.path, self.end, hashlib.sha256()
+        path, start, digest = coming.path, self.spool.end, hashlib.sha256()
         await asyncio.sleep(0)  # many files come in one part, and others go on between them
         try:
             self.folder.begin(path)
         except Wrong as fault:
             raise Problem(413 if isinstance(fault, TooMany) else 400, f"{fault}; no folder is stored") from None
         async for part in coming.parts:
-            self.keep(part)
-            if self.end - start <= SMALL:
+            await self.spool.add(part)
+            if self.spool.end - start <= SMALL:
                 digest.update(part)
-        size = self.end - start
+        size = self.spool.end - start
         if size > SMALL:
             self.folder.add_large(path, size, start)
         elif size:
             if self.folder.knows(digest.digest()):
-                self.end = start  # the next file takes its place
+                self.spool.cut(start)  # the next file takes its place
             self.folder.add_small(path, size, digest.digest(), start)
-
-    def keep(self, data: bytes) -> None:
-        """Writes to the spool, unless its disk would have less left than its reserve."""
-        disk, view = os.fstatvfs(self.spool.fileno()), memoryview(data)
-        if disk.f_bavail * disk.f_frsize - len(data) < self.reserve * disk.f_blocks * disk.f_frsize:
-            raise Problem(507, FULL)
-        while view:
-            written = os.pwrite(self.spool.fileno(), view, self.end)
-            view, self.end = view[written:], self.end + written
 
     async def kept(self, length: int, start: int) -> AsyncIterator[bytes]:
         """What is in the spool from there on, so that others have their turn between its parts."""
         for at in range(start, start + length, WRITTEN):
-            await asyncio.sleep(0)
-            yield os.pread(self.spool.fileno(), min(WRITTEN, start + length - at), at)
+            yield await self.spool.read((min(WRITTEN, start + length - at), at))
 
     async def store_file(self, path: str, length: int, start: int) -> None:
         told = await self.store(self.kept(length, start))
         self.folder.add(path, length, bytes.fromhex(told["blobId"]))
 
-    async def store_pack(self, number: int, data: bytes) -> None:
-        told = await self.store(once(data))
+    async def store_pack(self, number: int, pack: list[tuple[int, int, Any]]) -> None:
+        told = await self.store(once(await self.spool.read(*((length, at) for _, length, at in pack))))
         self.folder.place(number, bytes.fromhex(told["blobId"]))
 
     def parts(self) -> Iterator[Coroutine[Any, Any, None]]:
@@ -152,11 +199,11 @@ class Upload(Storing):
         for file in self.folder.large():
             yield self.store_file(*file)
         for number, pack in enumerate(self.folder.packs()):
-            data = b"".join(os.pread(self.spool.fileno(), length, at) for _, length, at in pack)  # type: ignore
-            yield self.store_pack(number, data)
+            yield self.store_pack(number, pack)
 
     async def finish(self) -> Told:
         """Stores what was kept, and once all of it is stored the manifest."""
+        await self.spool.flush()
         await several(self.parts(), AHEAD)
         told = await self.store(spread(self.folder))
         found = {"files": self.folder.count, "bytes": self.folder.bytes}

@@ -134,6 +134,12 @@ class Room:
             self.freed.set()
 
 
+def must_want_memory(fault: Union[MemoryError, OSError]) -> None:
+    """Raises a fault that is another one than want of memory, which the system tells so where it is to be mapped."""
+    if isinstance(fault, OSError) and fault.errno != errno.ENOMEM:
+        raise fault
+
+
 def need_of(size: int) -> int:
     """The memory that a judge takes which is told and asked so many bytes, by the library or as a process."""
     return BESIDE + TIMES * size
@@ -163,11 +169,8 @@ class Judges:
         loop = asyncio.get_running_loop()
         try:
             return step(*words) if here else await loop.run_in_executor(self.pool, step, *words)
-        except MemoryError:
-            pass
-        except OSError as fault:
-            if fault.errno != errno.ENOMEM:  # memory that is mapped is refused so
-                raise
+        except (MemoryError, OSError) as fault:
+            must_want_memory(fault)
         return await loop.run_in_executor(self.pool, self.with_kept, step, *words)
 
     def with_kept(self, step: Callable[..., Result], *words: object) -> Result:
@@ -176,7 +179,8 @@ class Judges:
             self.kept = None
             try:
                 return step(*words)
-            except MemoryError:
+            except (MemoryError, OSError) as fault:
+                must_want_memory(fault)
                 raise Unjudged("there is no memory, not even for one judge") from None
             finally:
                 with contextlib.suppress(OSError):

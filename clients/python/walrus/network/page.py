@@ -1,7 +1,6 @@
 """What the gateway tells of the network: for its page and programs as JSON, and for Prometheus as text."""
 import asyncio
 import collections
-import contextlib
 import itertools
 import json
 import pathlib
@@ -144,9 +143,11 @@ class Watch:
             await asyncio.sleep(self.between)
             ledger = self.network.ledger
             drawn = [it for it in (ledger.blobs.draw(DRAWN) for _ in range(DRAWS)) if it and ledger.certificate(it)]
-            with contextlib.suppress(OSError):  # no process for the program just now
+            try:
                 for identifier in [it for it in drawn if not ledger.invalid(it)][:1]:
                     await self.challenge(identifier, DRAWN.choice(ledger.owners(ledger.home_epoch(identifier))))
+            except Exception as fault:  # whatever a node shows: the nodes are asked still, and the next one challenged
+                print(f"a challenge fails: {type(fault).__name__}: {fault}", file=sys.stderr, flush=True)
 
     async def challenge(self, identifier: bytes, name: str) -> Finding:
         """Has a node show symbols at drawn places of a blob, which are verified."""
@@ -169,8 +170,7 @@ class Watch:
     async def proves(self, seat: Seat, identifier: bytes) -> bool:
         """Whether a shard gives a proof of bad encoding, which it may hold in place of slivers."""
         _, kept, _ = await client.listen(seat, client.write_frame(client.Read(identifier)))
-        data = b"".join(client.envelope(kept[kind]) for kind in (client.METADATA, client.PROOF) if kind in kept)
-        return client.PROOF in kept and (await self.network.walrus.run("check", identifier.hex(), data=data))[0] == 3
+        return await client.proves(kept, identifier, self.network.walrus)
 
     def blob(self, identifier: bytes) -> dict[str, Any]:
         """What the ledger says of a blob, and how many of its shards are there now."""

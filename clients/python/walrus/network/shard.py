@@ -186,13 +186,11 @@ class Shard:
             try:
                 judged = await self.judged_whole(whole)
             except BaseException:
-                self.let_go(writing)
+                await self.let_go(writing)
                 raise
             for reply in judged.replies[:3]:
                 if code_of(reply) != client.DONE:
-                    self.let_go(writing)
-                    if writing:
-                        await asyncio.wait([writing])  # the request is in memory as long
+                    await self.let_go(writing)
                     return reply
             return await self.keep(identifier, judged, parts, writing=writing)
 
@@ -201,8 +199,9 @@ class Shard:
         long = [it for it in parts.values() if len(it) > SMALL]
         return asyncio.create_task(self.judges.work(self.store.files.write, identifier, *long))
 
-    def let_go(self, writing: Optional[Writing]) -> None:
-        """Has files removed, once they are written, that nobody wants."""
+    async def let_go(self, writing: Optional[Writing]) -> None:
+        """Has files removed that nobody wants once they are written, and waits for that: what comes to them is in
+        memory as long."""
 
         def written(task: Writing) -> None:
             if not task.cancelled() and not task.exception():
@@ -210,6 +209,7 @@ class Shard:
 
         if writing:
             writing.add_done_callback(written)
+            await asyncio.wait([writing])
 
     def free_pages(self) -> int:
         """The pages of the disk that are free beside the reserve."""
@@ -226,22 +226,24 @@ class Shard:
     ) -> list[bytes]:
         """Stages parts that the judge takes, which are perhaps being written to files already; its last reply, or that
         the disk does not take what that rests on."""
-        needed, free = pages(judged.requests), self.free_pages()
-        fits = needed <= free or mends or writing
+        needed = pages(judged.requests)
+        fits = writing or mends or needed <= self.free_pages()
         if not parts or fits and await self.stage(identifier, parts, judged.losses, writing):
             reply = self.note(judged)
             if self.store.losses == judged.losses:
                 return reply
-        return [answer(FULL, needed, free)]
+        return [answer(FULL, needed, self.free_pages())]
 
     async def stage(
         self, identifier: bytes, parts: Mapping[int, Data], losses: int, writing: Optional[Writing] = None
     ) -> bool:
-        """Stages parts, long ones in files, unless something was lost meanwhile; whether the disk takes them so far."""
+        """Stages parts, long ones in files, unless something was lost meanwhile; whether the disk takes them so far.
+        Where it does not, or who asks is told to end, no file stays."""
         long, names, kept = [part for part, it in parts.items() if len(it) > SMALL], list[str](), False
+        writing = writing or (self.write(identifier, parts) if long else None)
         try:
-            if long:
-                names = await (writing or self.write(identifier, parts))
+            if writing:
+                names = await asyncio.shield(writing)
                 self.must_serve()
             if self.store.losses == losses:
                 files = dict(zip(long, names))
@@ -256,7 +258,7 @@ class Shard:
             self.store.tell(fault)
         finally:
             if not kept:
-                self.store.abandon(names)
+                await self.let_go(writing)
         return kept
 
     async def forget(self, request: bytes) -> list[bytes]:

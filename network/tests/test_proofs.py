@@ -1,0 +1,126 @@
+"""Long proofs of bad encoding: a reader asks for them one by one where slivers are too few, and who lies takes none of
+its memory by what is as long."""
+import asyncio
+import struct
+import unittest
+from typing import Any, Sequence
+from unittest import mock
+
+import harness  # noqa: F401  # which says where walrus is
+from walrus import client, shapes, wire
+
+LENGTH, SYMBOL = 3_000_000, 500_000  # bytes of a blob, and of one of its symbols at f = 1
+METADATA = bytes([client.METADATA]) + struct.pack(">HQ", 1, LENGTH) + bytes(range(256))
+NAME = shapes.name_of(METADATA)
+DONE = bytes([client.ANSWER, client.DONE]) + bytes(8)
+PROOF = 38 + 3 * (SYMBOL + 71)  # bytes of a proof of a row
+
+
+def sliver(shard: int) -> bytes:
+    front = bytes([client.SLIVER]) + NAME + struct.pack(">BHI", client.PRIMARY, shard, 3 * SYMBOL)
+    return front + bytes([shard]) * (3 * SYMBOL)
+
+
+def proof(word: bytes) -> bytes:
+    """As long as a proof of this blob, and with the front of one."""
+    return (bytes([client.PROOF]) + NAME + struct.pack(">BHH", client.PRIMARY, 0, 3) + word).ljust(PROOF, b"p")
+
+
+class Walrus:
+    """Takes two slivers for a blob, and what says so for a proof."""
+
+    def __init__(self) -> None:
+        self.ran, self.checked = list[str](), list[int]()
+
+    async def run(self, *words: object, data: Any = b"") -> tuple[int, bytes]:
+        payloads = [it for _, it in client.split(b"".join(data) if isinstance(data, list) else bytes(data))]
+        self.ran.append(str(words[0]))
+        if words[0] == "check":
+            self.checked.append(len(payloads))
+            return (3 if payloads[:1] == [METADATA] and payloads[-1] == proof(b"true") else 2), b""
+        slivers = [it for it in payloads if it[0] == client.SLIVER]
+        return (0, b"the blob") if len(slivers) > 1 else (4, b"short: %d of 2" % len(slivers))
+
+
+class Shard(client.Shard):
+    """A shard behind a connection of its own, whose bytes come where they are wanted."""
+
+    def __init__(self, number: int, port: int):
+        super().__init__(number, 1, 60)
+        self.port = port
+
+    async def open(self) -> Any:
+        if not self.streams:
+            found = await wire.connect("127.0.0.1", self.port)
+            self.streams = found, found
+        return self.streams
+
+
+class Reading(unittest.IsolatedAsyncioTestCase):
+    async def asyncSetUp(self) -> None:
+        asyncio.get_running_loop().set_debug(False)
+        self.enterContext(mock.patch("walrus.shards.LEAST", 60.0))  # nobody is late
+        self.enterContext(mock.patch("walrus.shards.MOST", 60.0))
+        self.enterContext(mock.patch("random.sample", lambda found, count: [*found]))
+        self.asked, self.memory, self.walrus, real = list[int](), list[int](), Walrus(), wire.memory
+
+        def counted(size: int) -> memoryview:
+            self.memory.append(size)
+            return real(size)
+
+        self.enterContext(mock.patch.object(wire, "memory", counted))
+
+    async def shards(self, replies: Sequence[Sequence[bytes]]) -> list[client.Shard]:
+        """Shards that reply so to whatever they are asked."""
+        made = list[client.Shard]()
+        for number, reply in enumerate(replies):
+
+            async def answer(reader: Any, writer: Any, number: int = number, reply: Sequence[bytes] = reply) -> None:
+                while True:
+                    try:
+                        await client.take_envelope(reader, 99)
+                    except EOFError:
+                        return writer.close()
+                    self.asked.append(number)
+                    for payload in reply:
+                        writer.write(client.envelope(payload, number))
+
+            server = await asyncio.start_server(answer, "127.0.0.1", 0)
+            self.addCleanup(server.close)
+            made.append(await self.enterAsyncContext(Shard(number, server.sockets[0].getsockname()[1])))
+        return made
+
+    async def test_who_lies_by_what_is_as_long_as_a_proof_has_no_memory(self) -> None:
+        lies = [METADATA, *[proof(b"false")] * 2, DONE]
+        shards = await self.shards([lies, *([METADATA, sliver(it), DONE] for it in (1, 2, 3))])
+        self.assertEqual(await client.fetch(shards, NAME, self.walrus), b"the blob")  # type: ignore[arg-type]
+        self.assertEqual(self.asked, [0, 1, 2])
+        self.assertNotIn(PROOF, self.memory)
+        self.assertEqual(self.walrus.ran, ["read"])
+
+    async def test_a_long_proof_is_asked_for_where_slivers_are_too_few(self) -> None:
+        lies = [METADATA, proof(b"false"), DONE]
+        told = [[METADATA, proof(b"true"), DONE], [METADATA, sliver(3), proof(b"true"), DONE]]
+        shards = await self.shards([lies, lies, *told])
+        status, text = await client.collect(  # type: ignore[arg-type]
+            shards, client.Read(NAME), self.walrus, "read", NAME.hex()  # type: ignore[arg-type]
+        )
+        self.assertEqual((status, text), (3, client.envelope(proof(b"true"))))
+        self.assertEqual(sorted(self.asked[:4]), [0, 1, 2, 3])
+        self.assertEqual(self.asked[4:], [0, 1, 2])  # one after the other, until one proves it
+        self.assertEqual((self.memory.count(PROOF), self.walrus.checked), (3, [2, 2, 2]))
+        with self.assertRaises(client.Refused) as caught:
+            await client.fetch(shards, NAME, self.walrus)  # type: ignore[arg-type]
+        self.assertEqual(caught.exception.status, 3)
+
+    async def test_where_nobody_proves_it_too_little_is_heard(self) -> None:
+        lies = [METADATA, proof(b"false"), DONE]
+        shards = await self.shards([lies, lies, [METADATA, sliver(2), DONE], [DONE]])
+        with self.assertRaises(client.TooFew) as caught:
+            await client.fetch(shards, NAME, self.walrus)  # type: ignore[arg-type]
+        self.assertEqual((caught.exception.held, caught.exception.needed), (1, 2))
+        self.assertEqual((self.memory.count(PROOF), self.walrus.checked), (2, [2, 2]))
+
+
+if __name__ == "__main__":
+    unittest.main()

@@ -1,0 +1,122 @@
+"""A recorder's turns: who asks for much of what etcd alone has, and a recorder that takes a checkpoint meanwhile."""
+import asyncio
+import collections
+import json
+import unittest
+from typing import Any
+from unittest import mock
+
+import aiohttp
+from ledger_case import FOUNDED, LedgerCase, Memory, registration
+from test_checkpoints import turn
+
+from walrus.network.checkpoint import Mark
+from walrus.network.etcd import Batch
+from walrus.network.keeping import Keeper
+from walrus.network.recorder import Recorder
+
+
+async def settled() -> None:
+    """Lets all tasks go on as far as they can."""
+    for _ in range(50):
+        await asyncio.sleep(0)
+
+
+class Noting(collections.defaultdict[str, asyncio.Lock]):
+    """The turns of names, which notes of whom they were taken."""
+
+    def __init__(self) -> None:
+        super().__init__(asyncio.Lock)
+        self.taken = list[str]()
+
+    def __getitem__(self, name: str) -> asyncio.Lock:
+        self.taken.append(name)
+        return super().__getitem__(name)
+
+
+class Turns(unittest.IsolatedAsyncioTestCase):
+    async def asyncSetUp(self) -> None:
+        asyncio.get_running_loop().set_debug(False)
+        self.etcd = Memory()
+
+    async def recorder(self, *texts: str) -> Recorder:
+        """A recorder that has heard all that etcd has, and then appends these, each in a batch of its own."""
+        made = Recorder(self.etcd)
+        self.addCleanup(made.state.close)
+        await made.catch_up()
+        for text in texts:
+            self.assertTrue(await made.step(Batch(made.chain, [text])))
+        return made
+
+    async def test_a_name_waits_in_one_place_however_often_it_asks(self) -> None:
+        made = await self.recorder(FOUNDED, registration("x", 1))
+        made.recent.clear()  # so that etcd alone has them
+        goes_on, answered, batches = asyncio.Semaphore(0), list[str](), self.etcd.batches
+
+        async def slow(place: int) -> list[Batch]:
+            await goes_on.acquire()
+            return await batches(place)
+
+        async def ask(name: str) -> None:
+            self.assertEqual((await made.behind(0, name))[1], [FOUNDED, registration("x", 1)])
+            answered.append(name)
+
+        with mock.patch.object(self.etcd, "batches", slow):
+            tasks = [asyncio.create_task(ask(name)) for name in "aaaaabbc"]
+            await settled()
+            for count in range(len(tasks)):
+                self.assertEqual(len(answered), count)  # one is asked for at a time
+                goes_on.release()
+                await settled()
+        self.assertEqual("".join(answered[:3]), "abc")
+        self.assertEqual(sorted(answered), [*"aaaaabbc"])
+
+    async def test_what_was_before_a_checkpoint_is_told_to_nobody_who_asks_behind_it(self) -> None:
+        late = await self.recorder(FOUNDED, registration("x", 1))
+        ahead = await self.recorder(*turn(1), registration("x", 2))
+        self.assertTrue(ahead.state.settle())
+        await Keeper(ahead, 0.0).write(None)
+        [mark] = self.etcd.marked
+        await self.etcd.put_mark(mark._replace(dropped=True), mark)
+        await self.etcd.drop(mark)
+        seen, forget = list[Any](), late.forget
+
+        async def watched(place: int) -> None:
+            seen.append((place, late.chain, late.size, [*late.recent], await late.behind(mark.place)))
+            await forget(place)
+
+        self.assertGreater(late.size, 0)
+        with mock.patch.object(late, "forget", watched):
+            await late.catch_up()
+        self.assertEqual(seen, [(mark.place, mark.chain, 0, [], (mark.chain, []))])
+        self.assertEqual((late.ledger.epoch, late.place_of(registration("x", 1))), (1, None))
+
+
+class Names(LedgerCase):
+    async def test_each_name_has_its_own_turn_for_entries_and_for_pieces(self) -> None:
+        one = self.recorders[0]
+        one.turns = noting = Noting()
+        await self.publisher.post(registration("publisher", 1))
+        await one.refresh()
+        one.recent.clear()
+        self.assertEqual(await self.first_lines("publisher", 2), 2)
+        self.assertEqual({*noting.taken}, {"publisher"})
+        mark, pieces = one.chain, [*one.state.written()]
+        told = Mark(mark.place, 0, mark.digest.hex(), "", len(pieces), 0.0, True)
+        await self.newcomer("mallory")
+        with mock.patch.multiple(
+            one.etcd, mark=mock.AsyncMock(return_value=told), piece=mock.AsyncMock(return_value=b"")
+        ):
+            self.assertEqual(await self.first_lines("mallory", 1 + len(pieces)), 1 + len(pieces))
+        self.assertEqual({*noting.taken}, {"publisher", "mallory"})
+
+    async def first_lines(self, name: str, count: int) -> int:
+        """How many of the first lines that a follower is told are JSON, of so many."""
+        async with aiohttp.ClientSession() as session:
+            url = f"https://{self.local.told()['recorders'][0]}/v1/entries?after=0"
+            async with session.get(url, ssl=self.context(name)) as said:
+                return sum(isinstance(json.loads(await said.content.readline()), dict) for _ in range(count))
+
+
+if __name__ == "__main__":
+    unittest.main()

@@ -1,0 +1,153 @@
+"""A gateway asks the nodes, challenges them and stores at them, whatever one of them does that nobody foresaw."""
+import asyncio
+import collections
+import contextlib
+import io
+import pathlib
+import types
+import unittest
+from typing import Any, Callable
+from unittest import mock
+
+import harness  # noqa: F401  # which says where walrus is
+from walrus import audit, client
+from walrus.network import page
+from walrus.network.client import Network
+from walrus.network.ledger import OPERATOR, Entry, Ledger, entry_key
+from walrus.network.problems import Problem
+from walrus.network.waiting import Waiting
+
+NAME = bytes(range(32))
+
+
+async def settled() -> None:
+    """Lets all tasks go on as far as they can."""
+    for _ in range(50):
+        await asyncio.sleep(0)
+
+
+class Challenges(unittest.IsolatedAsyncioTestCase):
+    async def asyncSetUp(self) -> None:
+        asyncio.get_running_loop().set_debug(False)
+        self.ledger, self.asked = Ledger(), 0
+        for poster, kind, *fields in (
+            (OPERATOR, "begin", 0, 1, "a,b,c,d"),
+            ("x", "register", NAME.hex(), 9),
+            *((it, "ack", 0, NAME.hex()) for it in "abc"),
+        ):
+            self.assertTrue(self.ledger.apply(Entry(self.ledger.revision + 1, entry_key(poster, kind, *fields))))
+        network: Any = types.SimpleNamespace(ledger=self.ledger, walrus=None)
+        self.enterContext(mock.patch.object(page, "Peers"))
+        self.enterContext(mock.patch.object(page.Watch, "ask", self.ask))
+        self.enterContext(mock.patch.object(page.Watch, "seat", lambda *_: types.SimpleNamespace(number=0)))
+        self.enterContext(mock.patch.object(page.Watch, "proves", mock.AsyncMock(return_value=False)))
+        self.watch = page.Watch(network, pathlib.Path("authority"), 0.0001, 0.0001, 60)
+        self.watch.peers = mock.AsyncMock()
+        self.addAsyncCleanup(self.watch.close)
+
+    async def ask(self, name: str) -> None:
+        self.asked += 1
+
+    async def test_a_challenge_that_fails_in_any_way_ends_nothing(self) -> None:
+        faults = [
+            ZeroDivisionError("unforeseen"),
+            ValueError("a beacon has 32 bytes"),
+            Problem(404, "no node of this name"),
+            client.Failed("told to fail", {}),
+            client.Refused(4, b"", {}),
+            OSError(11, "no process can be had"),
+        ]
+        count, shown = len(faults), audit.Audit(True, "accept")
+
+        async def challenged(*_: object) -> audit.Audit:
+            if faults:
+                raise faults.pop()
+            return shown
+
+        with contextlib.redirect_stderr(io.StringIO()) as said, mock.patch.object(audit, "audit", challenged):
+            while not self.watch.findings:
+                self.assertFalse(self.watch.task.done())
+                await asyncio.sleep(0.001)
+            before = self.asked
+            while self.asked == before:  # nor do the nodes go unasked
+                await asyncio.sleep(0.001)
+        self.assertEqual((faults, self.watch.task.done(), self.watch.findings[0]["holds"]), ([], False, True))
+        lines = said.getvalue().splitlines()
+        self.assertEqual([it.partition(":")[0] for it in lines], ["a challenge fails"] * count)
+        self.assertEqual(lines[-1], "a challenge fails: ZeroDivisionError: unforeseen")
+
+
+class Storing(unittest.IsolatedAsyncioTestCase):
+    """What a publisher stores at several nodes at once."""
+
+    async def asyncSetUp(self) -> None:
+        asyncio.get_running_loop().set_debug(False)
+        self.ends = {name: asyncio.get_running_loop().create_future() for name in "abcd"}
+        self.ended = dict[str, str]()
+        self.network: Any = types.SimpleNamespace(
+            waiting=Waiting(), behind=collections.Counter[str](), late=set[Any](), put_at=self.put_at, ledger=Ledger()
+        )
+        self.network.leave_behind = types.MethodType(Network.leave_behind, self.network)
+        self.seats: Any = [types.SimpleNamespace(name=name, number=number) for number, name in enumerate("abcd")]
+        self.encoded = client.Encoded(NAME, b"metadata", [(b"primary", b"secondary")] * 4)
+
+        async def until(holds: Callable[[Ledger], object], seconds: object) -> bool:
+            return await self.network.waiting.until(lambda: holds(self.network.ledger), None)
+
+        self.network.until = until
+
+    async def put_at(self, seats: Any, encoded: client.Encoded) -> dict[int, str]:
+        name = seats[0].name
+        try:
+            said: str = await self.ends[name]
+        except asyncio.CancelledError:
+            self.ended[name] = "let go"
+            raise
+        self.ended[name] = said
+        return {seats[0].number: said}
+
+    async def put_all(self, is_over: Callable[[Ledger], bool] = lambda _: False) -> dict[int, str]:
+        return await Network.put_all(self.network, self.encoded, self.seats, is_over)
+
+    async def test_what_each_said_is_told(self) -> None:
+        storing = asyncio.create_task(self.put_all())
+        for number, name in enumerate("abcd"):
+            await settled()
+            self.assertFalse(storing.done())
+            self.ends[name].set_result("" if number else "refused")
+        self.assertEqual(await storing, {0: "refused", 1: "", 2: "", 3: ""})
+
+    async def test_where_one_fails_in_a_way_that_nobody_foresaw_the_others_are_let_go(self) -> None:
+        over = False
+        storing = asyncio.create_task(self.put_all(lambda _: over))
+        await settled()
+        self.ends["b"].set_exception(ZeroDivisionError("unforeseen"))
+        self.ends["a"].set_result("")
+        self.network.behind |= {"d": 1, "c": 1}  # nobody waits for these
+        over = True
+        self.network.waiting.tell()
+        with self.assertRaisesRegex(ZeroDivisionError, "unforeseen"):
+            await storing
+        await settled()
+        self.assertEqual(self.ended, {"a": "", "c": "let go", "d": "let go"})
+        self.assertEqual((self.network.late, +self.network.behind), (set(), {"c": 1, "d": 1}))
+
+    async def test_who_is_late_goes_on_alone(self) -> None:
+        over = False
+        storing = asyncio.create_task(self.put_all(lambda _: over))
+        await settled()
+        for name in "abc":
+            self.ends[name].set_result("")
+        await settled()
+        self.network.behind["d"] = 1
+        over = True
+        self.network.waiting.tell()
+        self.assertEqual(await storing, {0: "", 1: "", 2: ""})
+        self.assertEqual(len(self.network.late), 1)
+        self.ends["d"].set_result("")
+        await settled()
+        self.assertEqual((self.ended["d"], self.network.late, self.network.behind["d"]), ("", set(), 1))
+
+
+if __name__ == "__main__":
+    unittest.main()
