@@ -170,7 +170,10 @@ class Watch:
         """Whether a shard gives a proof of bad encoding, which it may hold in place of slivers."""
         _, kept, _ = await client.listen(seat, client.write_frame(client.Read(identifier)))
         data = b"".join(client.envelope(kept[kind]) for kind in (client.METADATA, client.PROOF) if kind in kept)
-        return client.PROOF in kept and (await self.network.walrus.run("check", identifier.hex(), data=data))[0] == 3
+        walrus = self.network.walrus
+        return client.PROOF in kept and (
+            walrus.code(*await walrus.run("check", identifier.hex(), data=data)) is client.Code.INCONSISTENT
+        )
 
     def blob(self, identifier: bytes) -> dict[str, Any]:
         """What the ledger says of a blob, and how many of its shards are there now."""
