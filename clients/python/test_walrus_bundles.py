@@ -7,6 +7,7 @@ import tempfile
 import unittest
 
 import example_tools
+import test_walrus_codes
 from walrus import bundles, client, files as walrus_files, front as walrus_front, loop
 
 loop.wait_without_threads()
@@ -118,22 +119,56 @@ class Members(unittest.IsolatedAsyncioTestCase):
     async def test_what_is_refused(self) -> None:
         shards = await self.start(1)
         name = await self.store(shards, TWO)
-        with self.assertRaisesRegex(client.Refused, r"^no member of 2 \(status 4\)"):
+        with self.assertRaisesRegex(client.NoMember, r"^no member of 2 \(status 4\)") as caught:
             await bundles.fetch_member(shards, name, 2, self.walrus)
+        self.assertEqual(caught.exception.count, 2)
         with self.assertRaisesRegex(
-            client.Refused, r"^no metadata .*; shard 0: it does not hold column 0; .*; shard 3: "
+            client.TooFew, r"^no metadata .*; shard 0: it does not hold column 0; .*; shard 3: "
         ):
             await bundles.fetch_member(shards, bytes(32), 0, self.walrus)
-        with self.assertRaisesRegex(client.Refused, r"^too many members \(status 4\)$"):
+        with self.assertRaisesRegex(client.Refused, r"^too many members \(status 4\)$") as refused:
             await bundles.join([b""] * 3, 1, self.walrus)
+        self.assertIs(refused.exception.code, client.Code.TOO_MANY_MEMBERS)
         blob = await self.walrus.encode(example_tools.SIX_WORDS, 1)
         await client.publish(shards, blob, until=9)
-        with self.assertRaisesRegex(client.Refused, r"^bad index \(status 3\)$"):
+        with self.assertRaisesRegex(client.NoBundle, r"^bad index \(status 3\)$"):
             await bundles.fetch_member(shards, blob.identifier, 0, self.walrus)
         await shards[2].close()
         await shards[3].close()
-        with self.assertRaisesRegex(client.Refused, r"^short 1 of 2 \(status 4\); .*; shard 3: it is closed$"):
+        with self.assertRaisesRegex(client.TooFew, r"^short 1 of 2 \(status 4\); .*; shard 3: it is closed$") as few:
             await bundles.fetch_member([shards[0], *shards[2:]], name, 1, self.walrus)
+        self.assertEqual((few.exception.held, few.exception.needed), (1, 2))
+
+    async def test_other_words_change_nothing(self) -> None:
+        """A program whose refusals have no word of English: the same is read, and refused in the same way."""
+        foreign = test_walrus_codes.Foreign(self.walrus.path)
+        shards = await self.start(1, liars=(0,))
+        name = await self.store(shards, TWO)
+        for number, member in enumerate(TWO):
+            self.assertEqual(await bundles.fetch_member(shards, name, number, foreign), member)
+        with self.assertRaises(client.NoMember) as caught:
+            await bundles.fetch_member(shards, name, 2, foreign)
+        self.assertEqual(caught.exception.count, 2)
+        blob = await self.walrus.encode(example_tools.SIX_WORDS, 1)
+        await client.publish(shards, blob, until=9)
+        with self.assertRaises(client.NoBundle):
+            await bundles.fetch_member(shards, blob.identifier, 0, foreign)
+        for wanted in shards[2:]:
+            await wanted.close()
+        self.assertEqual(await client.fetch(shards, blob.identifier, foreign), example_tools.SIX_WORDS)
+        with self.assertRaises(client.TooFew) as few:
+            await client.fetch(shards[1:], blob.identifier, foreign)
+        self.assertEqual((few.exception.held, few.exception.needed), (1, 2))
+
+    async def test_a_column_that_was_badly_encoded(self) -> None:
+        """The proof that its openings make is no sliver: nobody can read the bundle."""
+        shards = await self.start(1)
+        bad = await example_tools.encode_badly(self.walrus)
+        await client.publish(shards, bad, until=9)
+        columns = bundles.Columns([shards[1], shards[3]], bad.identifier, self.walrus)
+        with self.assertRaisesRegex(client.BadlyEncoded, "^the bundle was badly encoded") as caught:
+            await columns.recover(2)
+        self.assertIs(caught.exception.code, client.Code.PROOF)
 
     async def test_a_folder(self) -> None:
         """Files in bundles, one of them by its name, and all of them, while one shard is lost."""

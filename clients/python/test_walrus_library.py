@@ -7,7 +7,6 @@ import asyncio
 import mmap
 import os
 import pathlib
-import pickle
 import subprocess
 import sys
 import tempfile
@@ -19,7 +18,7 @@ TOP = pathlib.Path(__file__).resolve().parents[2]
 sys.path[:0] = [str(TOP / "tests"), str(TOP / "clients" / "python")]
 
 import walrus  # noqa: E402
-from walrus import client as walrus_client, engines, library as walrus_library  # noqa: E402
+from walrus import Code, client as walrus_client, engines, library as walrus_library  # noqa: E402
 from walrus.engines import BUILT, PROGRAM  # noqa: E402
 from worked import ELEVEN, FALSE, HONEST, PRIMARY, SECOND, SECONDARY, SIX_WORDS, envelope, ladder  # noqa: E402
 
@@ -115,12 +114,14 @@ class Calls:
         with self.assertRaises(walrus.Lacking) as caught:
             walrus.read(made.identifier, [made.metadata, primary[3]])
         self.assertEqual((caught.exception.status, caught.exception.words), (4, "short 1 of 2"))
+        self.assertEqual(caught.exception.code, Code.TOO_FEW)
         with self.assertRaises(walrus.Lacking) as caught:
             walrus.read(made.identifier, b"")
-        self.assertEqual(caught.exception.words, "no metadata")
+        self.assertEqual((caught.exception.words, caught.exception.code), ("no metadata", Code.NO_METADATA))
         with self.assertRaises(walrus.BadlyEncoded) as rejected:
             walrus.read(ELEVEN.id, [ELEVEN.metadata, *(ELEVEN.sliver(PRIMARY, row) for row in (0, 1))])
         self.assertEqual((rejected.exception.words, rejected.exception.proof), ("reject", b""))
+        self.assertEqual(rejected.exception.code, Code.REJECT)
 
     def test_recover(self) -> None:
         openings = [HONEST.opening(PRIMARY, 2, cross) for cross in range(3)]
@@ -134,20 +135,20 @@ class Calls:
             walrus.recover(FALSE.id, "primary", 3, false)
         proof = caught.exception.proof
         self.assertEqual(proof, FALSE.proof(PRIMARY, 3, 0, 1, 2))
+        self.assertEqual((caught.exception.code, caught.exception.words), (Code.PROOF, ""))  # it is no line
         self.assertTrue(walrus.check(FALSE.id, [FALSE.metadata, proof]))
 
     def test_check(self) -> None:
         false = FALSE.metadata, FALSE.proof(PRIMARY, 3, 0, 1, 2)
-        self.assertEqual(walrus.check(FALSE.id, false), walrus.Verdict(True, "inconsistent"))
-        for proof, words in (
-            (HONEST.proof(PRIMARY, 3, 0, 1, 2), "consistent"),
-            (HONEST.proof(PRIMARY, 3, 0, 1), "wrong count"),
-            (HONEST.proof(PRIMARY, 3, 0, 1, 1), "repeated"),
-            (HONEST.proof(PRIMARY, 3, 0, 1, 2)[:-1] + b"!", "bad opening 2"),
+        self.assertEqual(walrus.check(FALSE.id, false), walrus.Verdict(True, "inconsistent", Code.INCONSISTENT))
+        for proof, words, code in (
+            (HONEST.proof(PRIMARY, 3, 0, 1, 2), "consistent", Code.CONSISTENT),
+            (HONEST.proof(PRIMARY, 3, 0, 1), "wrong count", Code.PROOF_COUNT),
+            (HONEST.proof(PRIMARY, 3, 0, 1, 1), "repeated", Code.PROOF_REPEATS),
+            (HONEST.proof(PRIMARY, 3, 0, 1, 2)[:-1] + b"!", "bad opening 2", Code.BAD_OPENING),
         ):
             with self.subTest(words=words):
-                verdict = walrus.check(HONEST.id, [HONEST.metadata, proof])
-                self.assertEqual((bool(verdict), verdict.words), (False, words))
+                self.assertEqual(walrus.check(HONEST.id, [HONEST.metadata, proof]), walrus.Verdict(False, words, code))
         for payloads, words in (([], "no metadata"), ([HONEST.metadata], "no proof")):
             with self.assertRaisesRegex(walrus.Lacking, words):
                 walrus.check(HONEST.id, payloads)
@@ -162,9 +163,10 @@ class Calls:
         self.assertEqual(walrus.member(made.identifier, 1, [made.metadata, columns[2], columns[0]]), b"\xcc")
         with self.assertRaises(walrus.Lacking) as caught:
             walrus.member(made.identifier, 1, [made.metadata, columns[0]])
-        self.assertEqual(caught.exception.words, "missing column 2")
-        with self.assertRaisesRegex(walrus.Lacking, "too many members"):
+        self.assertEqual((caught.exception.words, caught.exception.code), ("missing column 2", Code.MISSING_COLUMN))
+        with self.assertRaisesRegex(walrus.Lacking, "too many members") as caught:
             walrus.bundle([b"", b"", b""], 1)
+        self.assertEqual(caught.exception.code, Code.TOO_MANY_MEMBERS)
 
     def test_one_call_is_enough(self) -> None:
         """The library says the room of an answer to many draws, which is longer than the input, and of a bundle."""
@@ -190,8 +192,12 @@ class Calls:
         )
         self.assertEqual(walrus.verify(made.identifier, 1, bytes(32), 5, [made.metadata, *shown]).words[:6], "wrong ")
         self.assertFalse(walrus.verify(made.identifier, 1, bytes(32), 5, [made.metadata, *shown]))
-        with self.assertRaisesRegex(walrus.Lacking, "wrong count 4 of 5"):
+        self.assertEqual(
+            walrus.verify(made.identifier, 1, bytes(32), 5, [made.metadata, *shown]).code, Code.WRONG_OPENING
+        )
+        with self.assertRaisesRegex(walrus.Lacking, "wrong count 4 of 5") as caught:
             walrus.verify(made.identifier, 1, BEACON, 5, [made.metadata, *shown[1:]])
+        self.assertEqual(caught.exception.code, Code.DRAW_COUNT)
 
     def test_serve(self) -> None:
         made = walrus.encode(SIX_WORDS, 1)
@@ -209,6 +215,7 @@ class Calls:
         with self.assertRaises(walrus.Malformed) as caught:
             walrus.serve(1, 1, envelope(0, register(made.identifier)) + b"\0")
         self.assertEqual((caught.exception.status, len(caught.exception.text)), (8, 17))
+        self.assertEqual((caught.exception.code, caught.exception.words), (Code.BROKEN_REQUEST, ""))
 
     def test_more_is_written_than_was_guessed(self) -> None:
         """Many reads of one blob: the answers are several times as long as the requests."""
@@ -230,7 +237,7 @@ class Calls:
         ):
             with self.assertRaises(walrus.WrongWords) as caught:
                 call()
-            self.assertEqual(caught.exception.status, 2)
+            self.assertEqual((caught.exception.status, caught.exception.code), (2, Code.USAGE))
             self.assertIsInstance(caught.exception, ValueError)
         with self.assertRaisesRegex(walrus.Malformed, r"walrus read: malformed at 0 \(status 8\): the input is cut"):
             walrus.read(HONEST.id, b"x")
@@ -239,8 +246,6 @@ class Calls:
         self.assertEqual(walrus.run("id", "\udcff").status, 11)
         with self.assertRaisesRegex(ValueError, "zero byte"):
             walrus.run("id\0")
-        fault = pickle.loads(pickle.dumps(walrus.Lacking("read", 4, b"short 1 of 2\n")))
-        self.assertEqual((type(fault), fault.status, fault.words), (walrus.Lacking, 4, "short 1 of 2"))
 
     def test_threads(self) -> None:
         """Eight at once, each with blobs of its own: all have what they have alone."""
@@ -284,6 +289,7 @@ class WithLibrary(Calls, unittest.TestCase):
         with self.assertRaises(walrus_client.Refused) as caught:
             asyncio.run(found.output("read", SECOND.id.hex(), data=b""))
         self.assertEqual((caught.exception.status, caught.exception.text), (4, b"no metadata\n"))
+        self.assertEqual((type(caught.exception), caught.exception.code), (walrus_client.TooFew, Code.NO_METADATA))
 
     def test_memory_with_gaps(self) -> None:
         with self.assertRaises(BufferError):

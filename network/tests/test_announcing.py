@@ -45,7 +45,7 @@ class Announced(unittest.IsolatedAsyncioTestCase):
         self.targets.append(target)
         status, frame = self.outcomes(target)
         if status == 4:
-            raise client.Refused(4, b"1 of 2 needed", {})
+            raise client.TooFew(4, b"short 1 of 2\n", {}, client.Code.TOO_FEW)
         return status, frame
 
     async def until(self, holds: Any, _: float) -> bool:

@@ -15,7 +15,9 @@ from aiohttp.test_utils import TestServer
 sys.path.insert(0, str(pathlib.Path(__file__).resolve().parents[2] / "clients" / "python"))
 
 import walrus.network  # noqa: E402, F401
-from walrus import bundles, client  # noqa: E402
+from walrus import client  # noqa: E402
+from walrus.codes import Code  # noqa: E402
+from walrus.executable import refusal  # noqa: E402
 from walrus.network import chunks, forms, groups, pieces, problems, ranges, transfers  # noqa: E402
 from walrus.network.cache import EXTRA, Cache  # noqa: E402
 from walrus.network.exposure import Options  # noqa: E402
@@ -209,21 +211,6 @@ class Forms(unittest.IsolatedAsyncioTestCase):
                 self.assertIn(problem.status, (400, 415))
 
 
-class Problems(unittest.TestCase):
-    def test_what_a_read_lacks_is_told_by_types(self) -> None:
-        for fault, status, text, lacking in (
-            (client.TooFew(4, b"short 1 of 3\n", {}), 503, "1 of 3 needed slivers are heard", 2),
-            (client.TooFew(4, b"no metadata\n", {}), 503, "too little of the blob is heard", None),
-            (client.Refused(4, b"missing column 7\n", {}), 503, "too little of the blob is heard", None),
-            (client.Refused(3, b"reject\n", {}), 410, "badly encoded", None),
-            (bundles.NoBundle(3, b"bad index\n", {}), 404, "is no bundle", None),
-            (bundles.NoMember(4, b"no member of 2\n", {}), 404, "has 2 members", None),
-        ):
-            problem = problems.problem_of(fault)
-            self.assertEqual((problem.status, problem.more.get("lacking")), (status, lacking), fault)
-            self.assertIn(text, str(problem))
-
-
 class Caches(unittest.IsolatedAsyncioTestCase):
     """A cache with room for two blobs that are being read."""
 
@@ -239,8 +226,8 @@ class Caches(unittest.IsolatedAsyncioTestCase):
         await self.gate.wait()
         if identifier == b"bad":
             raise ValueError("no blob")
-        if identifier == b"never":
-            raise client.Refused(3, b"reject\n", {})
+        if code := {b"never": Code.REJECT, b"never a bundle": Code.BAD_INDEX}.get(identifier):
+            raise refusal(3, b"in other words\n", {}, code)
         return identifier * 1_000
 
     async def want(self, identifier: bytes) -> bytes:
@@ -271,6 +258,10 @@ class Caches(unittest.IsolatedAsyncioTestCase):
                 await self.want(b"never")
             lengths.append(len(traceback.extract_tb(raised.exception.__traceback__)))
         self.assertEqual((self.reads, self.cache.size), ([b"never"], EXTRA))
+        for _ in range(2):
+            with self.assertRaises(client.NoBundle):
+                await self.want(b"never a bundle")
+        self.assertEqual(self.reads, [b"never", b"never a bundle"])
         self.assertEqual(set(lengths[1:]), {lengths[1]})  # what was raised before is not kept with it
 
     async def test_its_size_stays_in_bounds_and_who_waits_is_served(self) -> None:

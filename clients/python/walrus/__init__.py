@@ -5,8 +5,9 @@
     walrus.read(encoded.identifier, [encoded.metadata, encoded.slivers[0][0], encoded.slivers[2][0]])
 
 Each call is a command of the program (README.md, 'Which command for what'), and gives a view of its result. It raises a
-`Refused`, with the program's status and words, where there is none. With the library a call starts no process, copies
-no input, and lets go of the interpreter's lock: threads may call at once, as `asyncio.to_thread(walrus.read, ..)` does.
+`Refused` where there is none, with the program's status and words, and a `Code` by which a program tells why. With the
+library a call starts no process, copies no input, and lets go of the interpreter's lock: threads may call at once, as
+`asyncio.to_thread(walrus.read, ..)` does.
 While a call lasts nobody may write into its input. A process with threads that forks may not call in the child.
 """
 
@@ -26,6 +27,7 @@ from .calls import (
     serve,
     verify,
 )
+from .codes import Code
 from .engines import Engine, Library, NotFound, Program, Ran, engine, use
 from .envelopes import Envelope, split, stream
 from .faults import BadlyEncoded, Collision, Lacking, Malformed, OutOfMemory, Refused, WrongWords
@@ -33,6 +35,7 @@ from .faults import BadlyEncoded, Collision, Lacking, Malformed, OutOfMemory, Re
 __all__ = [
     "Axis",
     "BadlyEncoded",
+    "Code",
     "Collision",
     "Encoded",
     "Engine",

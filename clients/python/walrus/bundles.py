@@ -11,20 +11,10 @@ from collections.abc import Sequence
 
 from . import client
 from .client import METADATA, OPENING, SECOND_METADATA, SLIVER
+from .codes import BADLY_ENCODED, Code, numbers_of
+from .executable import refusal
 
 COUNT, ENTRY = struct.Struct(">H"), struct.Struct(">HI")  # of the index: how many; a member's first column and length
-
-
-class NoBundle(client.Refused):
-    """A blob that was heard is no bundle."""
-
-
-class NoMember(client.Refused):
-    """A bundle has `count` members, and none of the number that was asked for."""
-
-    def __init__(self, status: int, text: bytes, said: dict[int, str]) -> None:
-        super().__init__(status, text, said)
-        self.count = int(text.split()[-1])
 
 
 def lines_of(size: int, column: int) -> int:
@@ -157,10 +147,10 @@ class Columns:
             openings += [kept[OPENING]] if OPENING in kept else []
         data = b"".join(map(client.envelope, [*self.metadata, *openings]))
         status, text = await self.walrus.run("recover", self.identifier.hex(), "secondary", column, data=data)
-        if status == 3:
-            raise client.Refused(status, b"the bundle was badly encoded", self.said)
+        if (code := self.walrus.code(status, text)) in BADLY_ENCODED:
+            raise client.BadlyEncoded(status, b"the bundle was badly encoded", self.said, code)
         if status:
-            raise client.TooFew(status, text, self.said)
+            raise refusal(status, text, self.said, code)
         self.slivers[column] = client.split(text)[0][1][40:]
 
     async def find(self, column: int, number: int) -> bool:
@@ -190,9 +180,9 @@ async def fetch_member(shards: client.Shards, identifier: bytes, number: int, wa
         status, text = await walrus.run("member", identifier.hex(), number, data=columns.stream())
         if status == 0:
             return text
-        if text.startswith(b"missing column "):
-            column = int(text.split()[-1])
-        elif text != b"no metadata\n":
+        code = walrus.code(status, text)
+        if code is Code.MISSING_COLUMN:
+            [column] = numbers_of(text)
+        elif code is not Code.NO_METADATA:
             break
-    kind = NoBundle if status == 3 else NoMember if text.startswith(b"no member of ") else client.Refused
-    raise kind(status, text, columns.said)
+    raise refusal(status, text, columns.said, code)

@@ -5,21 +5,23 @@ from dataclasses import dataclass
 from typing import Literal, NamedTuple, Optional
 
 from .buffers import Buffer
+from .codes import SHOWS_NOTHING, Code
 from .engines import ROOM, Ran, engine
 from .envelopes import Payloads, split, stream, streamed
 from .faults import BadlyEncoded, Lacking, refused
 
 Axis = Literal["primary", "secondary"]
 LARGEST_BLOB = 16_777_216
-CAUSES = "consistent", "wrong count", "repeated", "bad opening"  # why a proof of bad encoding shows nothing
 
 
 @dataclass(frozen=True)
 class Verdict:
-    """What was found of a proof or an answer, true where it is one; `words` are the program's."""
+    """What was found of a proof or an answer, true where it is one; `words` are the program's. `code` says what is
+    wrong with it, or that a proof shows what it should."""
 
     holds: bool
     words: str
+    code: Code = Code.NONE
 
     def __bool__(self) -> bool:
         return self.holds
@@ -45,7 +47,7 @@ def result(*words: object, data: Buffer = b"", room: Optional[int] = None) -> me
     """What a command wrote; raises `Refused` for a status other than 0."""
     status, text = run(*words, data=data, room=room)
     if status:
-        raise refused(str(words[0]), status, bytes(text))
+        raise refused(str(words[0]), status, bytes(text), engine().code(status, text))
     return text
 
 
@@ -85,10 +87,10 @@ def check(identifier: bytes, payloads: Payloads) -> Verdict:
     try:
         result("check", identifier.hex(), data=streamed(payloads))
     except BadlyEncoded as shown:
-        return Verdict(True, shown.words)
+        return Verdict(True, shown.words, shown.code)
     except Lacking as fault:
-        if fault.words.startswith(CAUSES):
-            return Verdict(False, fault.words)
+        if fault.code in SHOWS_NOTHING:
+            return Verdict(False, fault.words, fault.code)
         raise
     raise RuntimeError("check ended with status 0, which it never does: library and package do not fit")
 
@@ -113,8 +115,8 @@ def verify(identifier: bytes, shard: int, beacon: bytes, count: int, payloads: P
     """Whether openings answer these draws; raises `Lacking` where there are fewer or more of them, or no metadata."""
     try:
         text = result("verify", identifier.hex(), shard, beacon.hex(), count, data=streamed(payloads))
-    except BadlyEncoded as fault:  # status 3: it is not what was drawn
-        return Verdict(False, fault.words)
+    except BadlyEncoded as fault:  # it is not what was drawn
+        return Verdict(False, fault.words, fault.code)
     return Verdict(True, str(text, "ascii").strip())
 
 

@@ -9,7 +9,8 @@ import random
 from typing import NamedTuple, Union
 
 from .envelopes import HEAD, MARK
-from .executable import Encoded, Refused, TooFew, Walrus
+from .codes import BADLY_ENCODED, Code
+from .executable import BadlyEncoded, Encoded, NoBundle, NoMember, Refused, TooFew, Walrus, refusal
 from .kinds import (
     ACK,
     ACK_ENTRY,
@@ -78,9 +79,11 @@ __all__ = [
     "Ack",
     "AckEntry",
     "Answer",
+    "BadlyEncoded",
     "CLASH",
     "COUNTS",
     "Clash",
+    "Code",
     "DONE",
     "Data",
     "Encoded",
@@ -96,6 +99,8 @@ __all__ = [
     "MARK",
     "METADATA",
     "MOST_FAULTS",
+    "NoBundle",
+    "NoMember",
     "NoQuorum",
     "OPENING",
     "PRIMARY",
@@ -260,11 +265,12 @@ async def gather(
             if count >= needed or listening.is_over():
                 status, text = await walrus.run(*words, data=asked.basket.stream(heard))
                 asked.basket.is_read = False
-                if status in (0, 3):
+                code = walrus.code(status, text)
+                if not status or code in BADLY_ENCODED:
                     return status, text
-                if status != 4:
-                    raise Refused(status, text, said)
-                lacking = TooFew(status, text, said)
+                lacking = refusal(status, text, said, code)
+                if not isinstance(lacking, TooFew):
+                    raise lacking
                 needed = count + patience * max(1, lacking.needed - lacking.held)
                 patience *= 2  # so liars cause few runs
                 asked.basket.want(needed + len(proofs))
@@ -279,20 +285,20 @@ async def gather(
         _, kept, _ = await listen(shard, bytes(asked))
         if await proves(kept, request.identifier, walrus):
             return 3, envelope(kept[PROOF])
-    raise TooFew(status, text, said)
+    raise lacking
 
 
 async def proves(kept: dict[int, bytes], identifier: bytes, walrus: Walrus) -> bool:
     """Whether what was heard of a shard has a proof that the blob was badly encoded."""
     data = b"".join(envelope(kept[kind]) for kind in (METADATA, PROOF) if kind in kept)
-    return PROOF in kept and (await walrus.run("check", identifier.hex(), data=data))[0] == 3
+    return PROOF in kept and walrus.code(*await walrus.run("check", identifier.hex(), data=data)) is Code.INCONSISTENT
 
 
 async def fetch(shards: Shards, identifier: bytes, walrus: Walrus) -> bytes:
     """The blob of an identifier, from what shards reply; raises `Refused` where it cannot be read."""
     status, text = await collect(shards, Read(identifier), walrus, "read", identifier.hex())
     if status:
-        raise Refused(status, b"reject: the blob was badly encoded", {})
+        raise BadlyEncoded(status, b"reject: the blob was badly encoded", {}, walrus.code(status, text))
     return text
 
 

@@ -10,6 +10,7 @@ from collections.abc import Sequence
 from typing import NamedTuple, Optional, Protocol, Union
 
 from .buffers import Buffer, Room, pinned
+from .codes import Code
 
 HERE = pathlib.Path(__file__).resolve().parent
 BUILT = pathlib.Path("clients", "c", "out", "libwalrus.so"), pathlib.Path("crates", "walrus_c", "out", "libwalrus.so")
@@ -34,6 +35,10 @@ class Engine(Protocol):
     def run(self, words: Sequence[str], data: Buffer = b"", room: Optional[int] = None) -> Ran:
         ...
 
+    def code(self, status: int, text: Buffer) -> Code:
+        """Which refusal a run told."""
+        ...
+
 
 class NotFound(OSError):
     """There is neither the library nor the program."""
@@ -54,6 +59,9 @@ class Library:
         self.call.restype = ctypes.c_uint8
         self.room.argtypes = [ctypes.c_char_p, size, ctypes.c_uint64]
         self.room.restype = ctypes.c_uint64
+        self.told = getattr(library, "walrus_code", None)  # which an older library lacks
+        if self.told:
+            self.told.argtypes, self.told.restype = [ctypes.c_uint8, address, size], ctypes.c_uint32
 
     def run(self, words: Sequence[str], data: Buffer = b"", room: Optional[int] = None) -> Ran:
         told = b"".join(spelled(word) + b"\0" for word in words)
@@ -75,6 +83,12 @@ class Library:
                     )
                 room = needed.value
 
+    def code(self, status: int, text: Buffer) -> Code:
+        if not self.told:
+            return Code.of(status, text)
+        with pinned(text) as (address, size):
+            return Code(self.told(status, address, size))
+
     def __repr__(self) -> str:
         return f"Library({self.path!r})"
 
@@ -93,6 +107,9 @@ class Program:
         if ran.returncode < 0:
             raise ChildProcessError(f"{self.path} {words[:1]} was ended by signal {-ran.returncode}")
         return Ran(ran.returncode, memoryview(ran.stdout))
+
+    def code(self, status: int, text: Buffer) -> Code:
+        return Code.of(status, text)
 
     def __repr__(self) -> str:
         return f"Program({self.path!r})"

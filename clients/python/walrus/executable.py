@@ -9,6 +9,7 @@ from collections.abc import Sequence
 from subprocess import PIPE
 from typing import NamedTuple, Union
 
+from .codes import BADLY_ENCODED, TOO_LITTLE, Code, numbers_of
 from .shards import Failed
 from .streams import split
 from .wire import Data
@@ -17,20 +18,50 @@ Encoded = NamedTuple("Encoded", [("identifier", bytes), ("metadata", bytes), ("s
 
 
 class Refused(Failed):
-    """The program walrus gave no result: its status, its text, and what the shards had said."""
+    """The program walrus gave no result: its status, its text, what the shards had said, and the code of the refusal,
+    by which programs tell one from another."""
 
-    def __init__(self, status: int, text: bytes, said: dict[int, str]) -> None:
+    def __init__(self, status: int, text: bytes, said: dict[int, str], code: Code) -> None:
         super().__init__(f"{text.decode('ascii', 'replace').strip() or 'walrus'} (status {status})", said)
-        self.status, self.text = status, text
+        self.status, self.text, self.code = status, text, code
+
+
+class BadlyEncoded(Refused):
+    """The blob was badly encoded by its writer: no other reply mends that."""
 
 
 class TooFew(Refused):
     """Too little was heard: `held` verifies of what is `needed`, as far as the program tells that; else both are 0."""
 
-    def __init__(self, status: int, text: bytes, said: dict[int, str]) -> None:
-        super().__init__(status, text, said)
-        numbers = [int(word) for word in text.split() if word.isdigit()]
-        self.held, self.needed = numbers if len(numbers) == 2 else (0, 0)
+    def __init__(self, status: int, text: bytes, said: dict[int, str], code: Code) -> None:
+        super().__init__(status, text, said, code)
+        self.held, self.needed = numbers_of(text) if code is Code.TOO_FEW else (0, 0)
+
+
+class NoBundle(Refused):
+    """A blob that was heard is no bundle."""
+
+
+class NoMember(Refused):
+    """A bundle has `count` members, and none of the number that was asked for."""
+
+    def __init__(self, status: int, text: bytes, said: dict[int, str], code: Code) -> None:
+        super().__init__(status, text, said, code)
+        [self.count] = numbers_of(text)
+
+
+def refusal(status: int, text: Data, said: dict[int, str], code: Code) -> Refused:
+    """What is raised for a run that was refused: its code tells of which kind it is."""
+    kind = Refused
+    if code in BADLY_ENCODED:
+        kind = BadlyEncoded
+    elif code in TOO_LITTLE:
+        kind = TooFew
+    elif code is Code.BAD_INDEX:
+        kind = NoBundle
+    elif code is Code.NO_MEMBER:
+        kind = NoMember
+    return kind(status, bytes(text), said, code)
 
 
 class Walrus(NamedTuple):
@@ -47,7 +78,7 @@ class Walrus(NamedTuple):
             ran = subprocess.run([path], stdin=subprocess.DEVNULL, stdout=PIPE)
         except OSError as error:
             raise ValueError(f"{path}: {error.strerror}; the variable WALRUS can name the program walrus") from None
-        if ran.returncode != 2 or not ran.stdout.startswith(b"usage: walrus "):
+        if Code.of(ran.returncode, ran.stdout) is not Code.USAGE:
             raise ValueError(f"{path} is not the program walrus: it ends with status {ran.returncode}")
         built = pathlib.Path(path).resolve().parent / "crates" / "walrus" / "out" / "walrus"
         return cls(str(built) if built.exists() else path)
@@ -66,8 +97,12 @@ class Walrus(NamedTuple):
     async def output(self, *words: object, data: Union[Data, Sequence[Data]] = b"") -> bytes:
         status, text = await self.run(*words, data=data)
         if status:
-            raise Refused(status, text, {})
+            raise refusal(status, text, {}, self.code(status, text))
         return text
+
+    def code(self, status: int, text: Data) -> Code:
+        """The code of a run's refusal, by its status and its text."""
+        return Code.of(status, text)
 
     async def encode(self, blob: bytes, faults: int, form: int = 1) -> Encoded:
         """Encodes a blob in a format; its identifier is what its slivers tell."""

@@ -1,5 +1,7 @@
 """What the calls raise: the words and the status with which a run ended, and what to do about it."""
 
+from .codes import Code
+
 ADVICE = {
     2: "a number, an identifier or a name is out of its range",
     3: "the writer encoded it badly, or it is not what the identifier names: no other reply mends that",
@@ -15,17 +17,22 @@ ADVICE = {
 }
 
 
-class Refused(Exception):
-    """A call gave no result. `status` is that of the program, `words` what it wrote, as text, and `text` as bytes."""
+ENVELOPE = b"\x57"  # how the text begins that is no line: a proof, or what a shard answered before
 
-    def __init__(self, command: str, status: int, text: bytes) -> None:
-        self.command, self.status, self.text = command, status, text
-        self.words = "" if status == 2 else text[:300].decode("ascii", "replace").strip()
+
+class Refused(Exception):
+    """A call gave no result. `code` says which refusal it is, and `status` is that of the program; `text` is what it
+    wrote, and `words` its line for people."""
+
+    def __init__(self, command: str, status: int, text: bytes, code: Code) -> None:
+        self.command, self.status, self.text, self.code = command, status, text, code
+        is_line = code is not Code.USAGE and text[:1] != ENVELOPE
+        self.words = text[:300].decode("ascii", "replace").strip() if is_line else ""
         said = f"{self.words} (status {status})" if self.words else f"status {status}"
         super().__init__(f"walrus {command}: {said}: {ADVICE.get(status, 'this status is not known')}")
 
-    def __reduce__(self) -> tuple[type["Refused"], tuple[str, int, bytes]]:
-        return type(self), (self.command, self.status, self.text)
+    def __reduce__(self) -> tuple[type["Refused"], tuple[str, int, bytes, Code]]:
+        return type(self), (self.command, self.status, self.text, self.code)
 
 
 class WrongWords(Refused, ValueError):
@@ -37,11 +44,11 @@ class BadlyEncoded(Refused):
 
     @property
     def proof(self) -> bytes:
-        return self.text[7:] if self.text[:1] == b"\x57" else b""
+        return self.text[7:] if self.code is Code.PROOF else b""
 
 
 class Lacking(Refused):
-    """Status 4: something is missing, which `words` names."""
+    """Status 4: something is missing, which `code` names, and `words` for people."""
 
 
 class OutOfMemory(Refused, MemoryError):
@@ -68,6 +75,6 @@ KINDS: dict[int, type[Refused]] = {
 }
 
 
-def refused(command: str, status: int, text: bytes) -> Refused:
+def refused(command: str, status: int, text: bytes, code: Code) -> Refused:
     """The exception for a status other than 0."""
-    return KINDS.get(status, Refused)(command, status, text)
+    return KINDS.get(status, Refused)(command, status, text, code)

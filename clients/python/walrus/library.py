@@ -7,6 +7,7 @@ from collections.abc import Sequence
 from typing import Union
 
 from . import client
+from .codes import Code
 from .engines import Library, NotFound
 from .engines import find as find_engine
 
@@ -21,6 +22,9 @@ class InProcess(client.Walrus):
         told = list(map(str, words)), whole, 2 * len(whole) + 65_536
         status, text = await asyncio.to_thread(library(self.path).run, *told)
         return status, bytes(text)
+
+    def code(self, status: int, text: client.Data) -> Code:
+        return library(self.path).code(status, text)
 
 
 def find(path: str = "") -> client.Walrus:

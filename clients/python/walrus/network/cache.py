@@ -79,7 +79,7 @@ class Cache:
     def loaded(self, identifier: bytes, task: "asyncio.Task[bytes]") -> None:
         entry, fault = self.entries[identifier], None if task.cancelled() else task.exception()
         self.size -= entry.size
-        if task.cancelled() or fault and not (isinstance(fault, client.Refused) and fault.status == 3):
+        if task.cancelled() or fault and not isinstance(fault, (client.BadlyEncoded, client.NoBundle)):
             del self.entries[identifier]
         else:  # it is there, or no blob, which stays so
             entry.size = EXTRA + (0 if fault else cost_of(task.result()))

@@ -10,7 +10,7 @@ import itertools
 import struct
 from typing import Any, AsyncIterator, Callable, Iterator, Optional, Sequence, Union
 
-from .. import bundles, client
+from .. import bundles, client, codes
 
 from . import pieces
 from .client import Network
@@ -144,7 +144,7 @@ class Writer:
                 async with self.turns:
                     made = await bundles.join(files, faults, self.network.walrus)
             except client.Refused as refused:
-                raise Problem(413, UNFIT) if refused.status == 4 else refused from None
+                raise Problem(413, UNFIT) if refused.code in codes.DO_NOT_FIT else refused from None
             return pieces.put_away(made), members
 
     async def store_blob(self, blob: bytes, until: int) -> tuple[bytes, bool]:

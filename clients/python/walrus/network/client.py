@@ -230,7 +230,7 @@ class Network(View):
                         return await client.fetch(seats, identifier, walrus)
                     return await bundles.fetch_member(seats, identifier, member, walrus)
                 except client.Refused as refused:
-                    if refused.status != 4 or isinstance(refused, bundles.NoMember):
+                    if not isinstance(refused, client.TooFew):
                         raise
                     lacking = refused
             if loop.time() + pause > end or identifier not in ledger.blobs:

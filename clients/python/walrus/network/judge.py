@@ -208,6 +208,9 @@ class Judges:
         status, text = await self.ask(2 * size, run)  # what it makes of that is as long
         return status, text if len(text) > SHORT else bytes(text)
 
+    def code(self, status: int, text: client.Data) -> client.Code:
+        return self.engine.code(status, text)
+
     def close(self) -> None:
         self.pool.shutdown(wait=False, cancel_futures=True)
 

@@ -3,7 +3,7 @@ import json
 from typing import Any, Optional
 
 from aiohttp import web
-from .. import bundles, client
+from .. import client
 
 from .client import Away
 from .follower import Refused, Unreachable
@@ -43,16 +43,16 @@ def problem_of(fault: Exception) -> Problem:
         if isinstance(fault, web.HTTPMethodNotAllowed) and fault.method == "DELETE":
             return Problem(405, "nothing is deleted: a blob ends with its last epoch, for which it was stored", headers)
         return Problem(fault.status, f"{fault.reason}: GET /v1/api tells what can be asked", headers)
-    if isinstance(fault, bundles.NoBundle):
+    if isinstance(fault, client.NoBundle):
         return Problem(404, "the blob is no bundle: read it under /v1/blobs")
-    if isinstance(fault, bundles.NoMember):
+    if isinstance(fault, client.NoMember):
         return Problem(404, f"the bundle has {fault.count} members, whose numbers begin with 0")
-    if isinstance(fault, client.Refused) and fault.status == 3:
+    if isinstance(fault, client.BadlyEncoded):
         return Problem(410, BAD, invalid=True)
-    if isinstance(fault, client.Refused) and fault.status == 4:
-        held, needed = (fault.held, fault.needed) if isinstance(fault, client.TooFew) else (0, 0)
-        heard = f"{held} of {needed} needed slivers are heard" if needed else "too little of the blob is heard"
-        return Problem(503, f"{heard}: try again once more nodes answer", lacking=needed - held or None, shards=said)
+    if isinstance(fault, client.TooFew):
+        lacking = fault.needed - fault.held
+        heard = f"{fault.held} of {fault.needed} needed slivers are" if lacking else "too little of the blob is"
+        return Problem(503, f"{heard} heard: try again once more nodes answer", lacking=lacking or None, shards=said)
     if isinstance(fault, Away):
         return ledger_away(str(fault), shards=said)
     if isinstance(fault, client.Failed):

@@ -6,6 +6,7 @@ import os
 from contextlib import AbstractAsyncContextManager
 from typing import Callable, Sequence, Union
 
+from walrus.codes import Code
 from walrus.engines import Library, Program
 from .. import client
 from ..client import Data
@@ -47,6 +48,9 @@ class Calls(client.Walrus):
     def call(self, words: Sequence[object], data: Union[Data, Sequence[Data]]) -> tuple[int, memoryview]:
         whole = wire.joined(data) if isinstance(data, list) else data
         return self.engine.run([*map(str, words)], whole, room_for(words, len(whole)))  # type: ignore[arg-type]
+
+    def code(self, status: int, text: Data) -> Code:
+        return self.engine.code(status, text)
 
     def close(self) -> None:
         self.pool.shutdown(wait=False, cancel_futures=True)

@@ -69,9 +69,8 @@ class Reader:
             calls = self.network.walrus.within(lambda: share.more(later))
             try:
                 blob = await self.network.fetch(name[:NAME], self.options.seconds, number, calls)
-            except client.Refused as refused:
-                if refused.status == 3 and number is None:
-                    self.rejected(name[:NAME])
+            except client.BadlyEncoded:
+                self.rejected(name[:NAME])
                 raise
             pool = self.network.walrus.pool  # and not asyncio's own, which looks names up, perhaps for long
             return await asyncio.get_running_loop().run_in_executor(pool, put_away, blob) if len(blob) > SLICE else blob

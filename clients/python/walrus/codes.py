@@ -1,0 +1,108 @@
+"""The refusals of the program, each with a code, as clients/c/walrus.h lists them.
+
+The library gives the code of a run. A process gives its status and its text alone, and an older library has no codes:
+their codes are looked up here, in the table that the library has too."""
+
+import enum
+import re
+
+from .buffers import Buffer
+
+
+class Code(enum.IntEnum):
+    """A refusal: a hundred times its status, and its place there. A number is never given to another one."""
+
+    NONE = 0  # no refusal, or one that only a later version knows
+    USAGE = 201
+    REJECT = 301
+    INCONSISTENT = 302
+    BAD_INDEX = 303
+    WRONG_OPENING = 304
+    PROOF = 305
+    NO_METADATA = 401
+    TOO_FEW = 402
+    NO_PROOF = 403
+    PROOF_COUNT = 404
+    PROOF_REPEATS = 405
+    BAD_OPENING = 406
+    CONSISTENT = 407
+    DISK_FULL = 408
+    TOO_MANY_MEMBERS = 409
+    BUNDLE_TOO_LONG = 410
+    MISSING_COLUMN = 411
+    NO_MEMBER = 412
+    NO_SHARD = 413
+    NO_PRIMARY = 414
+    NO_SECONDARY = 415
+    DRAW_COUNT = 416
+    NO_MEMORY = 501
+    INPUT_FAILED = 601
+    NO_ROOM = 701
+    MALFORMED = 801
+    NOT_JSON = 802
+    BAD_SCHEDULE = 803
+    TOO_MANY_EVENTS = 804
+    BAD_EVENT = 805
+    BROKEN_REQUEST = 806
+    TOO_LONG = 901
+    COLLISION = 1001
+    NO_WORDS = 1101
+
+    @classmethod
+    def _missing_(cls, value: object) -> "Code":
+        return cls.NONE
+
+    @classmethod
+    def of(cls, status: int, text: Buffer) -> "Code":
+        """The refusal of a run that ended with this status and wrote this text."""
+        front = bytes(memoryview(text)[:LONGEST])
+        return next((it for it, begins in TABLE.items() if it // 100 == status and front.startswith(begins)), cls.NONE)
+
+
+TABLE = {  # how the text of each begins; the first one of a status that fits counts
+    Code.USAGE: b"usage: ",
+    Code.REJECT: b"reject\n",
+    Code.INCONSISTENT: b"inconsistent\n",
+    Code.BAD_INDEX: b"bad index\n",
+    Code.WRONG_OPENING: b"wrong ",
+    Code.PROOF: b"\x57",  # an envelope
+    Code.NO_METADATA: b"no metadata\n",
+    Code.TOO_FEW: b"short ",
+    Code.NO_PROOF: b"no proof\n",
+    Code.PROOF_COUNT: b"wrong count\n",
+    Code.PROOF_REPEATS: b"repeated\n",
+    Code.BAD_OPENING: b"bad opening ",
+    Code.CONSISTENT: b"consistent\n",
+    Code.DISK_FULL: b"disk full needed ",
+    Code.TOO_MANY_MEMBERS: b"too many members\n",
+    Code.BUNDLE_TOO_LONG: b"bundle too long\n",
+    Code.MISSING_COLUMN: b"missing column ",
+    Code.NO_MEMBER: b"no member of ",
+    Code.NO_SHARD: b"no shard\n",
+    Code.NO_PRIMARY: b"no primary\n",
+    Code.NO_SECONDARY: b"no secondary\n",
+    Code.DRAW_COUNT: b"wrong count ",
+    Code.NO_MEMORY: b"",
+    Code.INPUT_FAILED: b"",
+    Code.NO_ROOM: b"",
+    Code.MALFORMED: b"malformed at ",
+    Code.NOT_JSON: b"not json\n",
+    Code.BAD_SCHEDULE: b"bad schedule\n",
+    Code.TOO_MANY_EVENTS: b"too many events\n",
+    Code.BAD_EVENT: b"bad event ",
+    Code.BROKEN_REQUEST: b"",
+    Code.TOO_LONG: b"",
+    Code.COLLISION: b"",
+    Code.NO_WORDS: b"",
+}
+LONGEST = max(map(len, TABLE.values()))
+
+BADLY_ENCODED = {Code.REJECT, Code.INCONSISTENT, Code.PROOF}  # by its writer, which no other reply mends
+TOO_LITTLE = {Code.NO_METADATA, Code.TOO_FEW, Code.MISSING_COLUMN}  # is known of a blob, which further replies may mend
+SHOWS_NOTHING = {Code.PROOF_COUNT, Code.PROOF_REPEATS, Code.BAD_OPENING, Code.CONSISTENT}  # what a proof may do
+DO_NOT_FIT = {Code.TOO_MANY_MEMBERS, Code.BUNDLE_TOO_LONG}  # files, into one bundle
+
+
+def numbers_of(text: bytes) -> list[int]:
+    """The numbers of a line, in their order."""
+    return [int(digits) for digits in re.findall(rb"[0-9]+", text)]
