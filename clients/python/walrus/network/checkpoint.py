@@ -55,7 +55,7 @@ def lines_of(fields: dict[str, Any], rows: Iterable[Row]) -> Iterator[bytes]:
         yield line_of([identifier.hex(), *rest])
 
 
-def line_of(values: list[Any]) -> bytes:
+def line_of(values: Any) -> bytes:
     return json.dumps(values, separators=(",", ":")).encode() + b"\n"
 
 
