@@ -245,7 +245,7 @@ class Rules(unittest.TestCase):
                 each.ledger.apply(Entry(place, entry_key("x", "register", name, 2)))
             each.save(chain.behind(kept))
         pieces = [zlib.compress(it) for it in other.written()]
-        with self.assertRaises(checkpoint.Torn):
+        with self.assertRaisesRegex(ValueError, "a piece of the checkpoint is torn"):
             checkpoint.state_of([pieces[0][:-9]])
         self.assertNotEqual(checkpoint.state_of(pieces), checkpoint.state_of(pieces * 2))
         self.assertEqual(one.take(pieces), [bytes.fromhex(names[0])])

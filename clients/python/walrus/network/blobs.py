@@ -49,8 +49,7 @@ def coded(votes: Mapping[int, frozenset[int]]) -> dict[int, int]:
 
 def decoded(votes: dict[str, int]) -> dict[int, frozenset[int]]:
     """The shards that such numbers tell."""
-    shards = {int(epoch): range(bits.bit_length()) for epoch, bits in votes.items()}
-    return {epoch: frozenset(it for it in shards[epoch] if votes[str(epoch)] >> it & 1) for epoch in shards}
+    return {int(it): frozenset(n for n in range(bits.bit_length()) if bits >> n & 1) for it, bits in votes.items()}
 
 
 def blob_of(until: int, poster: str, votes: str) -> Blob:
