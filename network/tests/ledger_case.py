@@ -1,20 +1,23 @@
 """What the tests of the ledger share: etcd and two recorders in a folder, and users of them."""
 import asyncio
 import atexit
+import collections
 import contextlib
+import heapq
 import pathlib
 import shutil
 import ssl
 import tempfile
 import unittest
-from typing import Any, Callable, Optional
+from typing import Any, Callable, Iterator, Optional
 
 import aiohttp
 import harness
 from walrus.network import recording
+from walrus.network.blobs import Blob, Blobs
 from walrus.network.checkpoint import Mark
 from walrus.network.etcd import Batch, Etcd, Failed, Gone
-from walrus.network.entries import Chain
+from walrus.network.entries import ACK, ATTEST, Chain
 from walrus.network.follower import Recorders, View
 from walrus.network.keeping import Keeper
 from walrus.network.settings import RecorderSettings
@@ -118,6 +121,46 @@ class LedgerCase(unittest.IsolatedAsyncioTestCase):
                 return said.status, await said.json(content_type=None)
 
 
+class Plain(Blobs):
+    """Blobs in memory alone, as their definitions say it: what a database of them is compared with."""
+
+    def __init__(self) -> None:
+        self.kept = {}
+
+    def __getitem__(self, identifier: bytes) -> Blob:
+        return self.kept[identifier]
+
+    def __setitem__(self, identifier: bytes, blob: Blob) -> None:
+        self.kept[identifier] = blob
+
+    def __iter__(self) -> Iterator[bytes]:
+        return iter(self.kept)
+
+    def __reversed__(self) -> Iterator[bytes]:
+        return reversed(self.kept)
+
+    def __len__(self) -> int:
+        return len(self.kept)
+
+    def expire(self, epoch: int) -> None:
+        self.kept = {identifier: blob for identifier, blob in self.kept.items() if blob.until > epoch}
+
+    def posters(self) -> "collections.Counter[str]":
+        return collections.Counter(blob.poster for blob in self.values())
+
+    def counts(self) -> dict[str, int]:
+        votes = [[bool(blob.quorum(kind, self.needed)) for kind in (ACK, ATTEST)] for blob in self.values()]
+        certified, invalid = map(sum, zip(*votes)) if votes else (0, 0)
+        return {"registered": len(votes), "certified": certified, "invalid": invalid}
+
+    def ending(self, after: bytes, last: int, count: int) -> list[bytes]:
+        return heapq.nsmallest(count, (it for it, blob in self.items() if it > after and blob.until <= last))
+
+    def owed(self, until: int, certified: int) -> list[bytes]:
+        live = sorted((it, blob.quorum(ACK, self.needed)) for it, blob in self.items() if blob.until > until)
+        return [identifier for identifier, found in live if found and found[0] <= certified]
+
+
 class Memory(Etcd):
     """What etcd does, in memory. `plan` says which calls fail, or end who asks: before they are done, or behind it."""
 
@@ -219,4 +262,4 @@ class Memory(Etcd):
         return found
 
 
-__all__ = ["FOUNDED", "FOUR", "Chain", "LedgerCase", "Memory", "registration"]
+__all__ = ["FOUNDED", "FOUR", "Chain", "LedgerCase", "Memory", "Plain", "registration"]

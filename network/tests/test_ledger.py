@@ -15,7 +15,8 @@ from typing import Any, Optional
 from unittest import mock
 
 import harness
-from walrus.network import checkpoint
+from ledger_case import Plain
+from walrus.network import blobs, checkpoint
 from walrus.network import ledger as rules
 from walrus.network import state
 from walrus.network.entries import OPERATOR, Chain, Entry, entry_key, fitting, number
@@ -196,9 +197,9 @@ class Rules(unittest.TestCase):
         self.assertGreater(len(words), 20)
 
     def test_a_ledger_in_a_database_is_the_same_at_each_place_and_each_start(self) -> None:
-        with tempfile.TemporaryDirectory() as folder, mock.patch.object(state, "CACHED", 2):
+        with tempfile.TemporaryDirectory() as folder, mock.patch.object(blobs, "CACHED", 2):
             for seed in range(8):
-                drawn, ledger, chain = random.Random(seed), Ledger(), Chain(0, bytes(32))
+                drawn, ledger, chain = random.Random(seed), Ledger(Plain()), Chain(0, bytes(32))
                 path = f"{folder}/{seed}"
                 kept = State.open(path)
                 for entry in random_entries(drawn, [list("abcd"), list("abce"), list("aabb")]):
@@ -214,7 +215,7 @@ class Rules(unittest.TestCase):
 
     def test_a_checkpoint_at_each_place_leads_to_what_all_entries_lead_to(self) -> None:
         """Whoever takes it and hears what follows has the same ledger, and would write the same checkpoint."""
-        with mock.patch.object(state, "CACHED", 3), mock.patch.object(checkpoint, "LONGEST", 200):
+        with mock.patch.object(blobs, "CACHED", 3), mock.patch.object(checkpoint, "LONGEST", 200):
             for seed in range(3):
                 drawn, whole, chain = random.Random(seed), State(), Chain(0, bytes(32))
                 entries, others = random_entries(drawn, COMMITTEES)[:150], list[State]()
@@ -244,7 +245,7 @@ class Rules(unittest.TestCase):
                 each.ledger.apply(Entry(place, entry_key("x", "register", name, 2)))
             each.save(chain.behind(kept))
         pieces = [zlib.compress(it) for it in other.written()]
-        with self.assertRaises(checkpoint.Torn):
+        with self.assertRaisesRegex(ValueError, "a piece of the checkpoint is torn"):
             checkpoint.state_of([pieces[0][:-9]])
         self.assertNotEqual(checkpoint.state_of(pieces), checkpoint.state_of(pieces * 2))
         self.assertEqual(one.take(pieces), [bytes.fromhex(names[0])])
@@ -279,14 +280,14 @@ class Rules(unittest.TestCase):
             kept.ledger.apply(Entry(1, entry_key(OPERATOR, "begin", 0, 1, "a,b,c,d")))
             kept.save(Chain(1, bytes(32)))
             other = State.open(str(path))  # as long as another process has it
-            self.assertEqual((other.path, other.chain), ("", None))
+            self.assertEqual((other.name, other.chain), ("", None))
             kept.close()
             whole = path.read_bytes()
             garbage, older = whole[:4096] + b"\xa5" * (len(whole) - 4096), whole.replace(b'"turns"', b'"tunes"')
             for torn in (b"no database" * 500, garbage, older):
                 path.write_bytes(torn)
                 kept = State.open(str(path))
-                self.assertEqual((kept.path, kept.chain, kept.ledger.now), (str(path), None, ()))
+                self.assertEqual((kept.name, kept.chain, kept.ledger.now), (str(path), None, ()))
                 kept.close()
             path.write_bytes(whole)
             kept = State.open(str(path))
@@ -355,10 +356,12 @@ class Rules(unittest.TestCase):
                 return super().execute(words, *values)
 
         full, connect = False, sqlite3.connect
-        with tempfile.TemporaryDirectory() as folder, mock.patch.multiple(state, CACHED=3, LATER=0):
+        self.enterContext(mock.patch.object(blobs, "CACHED", 3))
+        self.enterContext(mock.patch.object(state, "LATER", 0))
+        with tempfile.TemporaryDirectory() as folder:
             with mock.patch.object(state.sqlite3, "connect", lambda *it, **to: connect(*it, **to, factory=Full)):
                 kept = State(f"{folder}/kept", 2)
-            ledger, chain = Ledger(), Chain(0, bytes(32))
+            ledger, chain = Ledger(Plain()), Chain(0, bytes(32))
             for place, entry in enumerate(random_entries(random.Random(7), COMMITTEES)):
                 full = place % 50 > 20
                 self.assertEqual(kept.ledger.apply(entry), ledger.apply(entry))
@@ -380,7 +383,7 @@ class Rules(unittest.TestCase):
         names = ["faults", "epoch", "revision", "now", "next", "ready", "posted", "shares", "expelled", "addresses"]
         names += ["past", "concentrated", "calendar"]
         self.assertEqual([getattr(one, it) for it in names], [getattr(other, it) for it in names])
-        for it in (dict, len, list, lambda blobs: [*reversed(blobs)], lambda blobs: blobs.posters()):
+        for it in (dict, len, list, lambda kept: [*reversed(kept)], lambda kept: kept.posters()):
             self.assertEqual(it(one.blobs), it(other.blobs))
         self.assertEqual(one.blobs.counts(), other.blobs.counts())
         self.assertEqual(one.must_hold(), other.must_hold())

@@ -203,9 +203,9 @@ class Reading(LedgerCase):
             for place in sorted(inside):
                 batch = (await etcd.batches(place))[0]
                 self.assertEqual((batch.before, batch.after), (before, behind), place)
-                chain, texts = await self.recorders[1].behind(place)
-                self.assertEqual(chain, before.behind(batch.entries[: place - before.place]))
-                self.assertEqual(chain.behind(texts).place, place + len(texts))
+                found = await self.recorders[1].behind(place)
+                self.assertEqual(found[0].before, before.behind(batch.entries[: place - before.place]))
+                self.assertEqual([it.after for it in found[:-1]], [it.before for it in found[1:]])
         for place in (last, last + 300_000):
             with self.assertRaises(Gone):
                 await etcd.batches(place)

@@ -691,11 +691,16 @@ class Heads(unittest.IsolatedAsyncioTestCase):
         self.assertTrue(0 < one.size <= 1_000 and one.size == sum(it.size for it in one.recent))
         for made in self.recorders:
             for place in range(len(texts)):
-                chain, found = await made.behind(place)
+                batches = await made.behind(place)
+                found = [text for batch in batches for text in batch.entries]
                 self.assertEqual(found, texts[place:][: len(found)])
                 self.assertGreater(len(found), 0)
-                self.assertEqual(chain, Chain(0, bytes.fromhex(made.identity)).behind(texts[:place]))
-            self.assertEqual(await made.behind(len(texts)), (made.chain, []))
+                chain = Chain(0, bytes.fromhex(made.identity)).behind(texts[:place])
+                self.assertEqual(batches[0].before, chain)
+                told = [json.loads(batch.line) for batch in batches]
+                self.assertEqual([it["entries"] for it in told], [it.entries for it in batches])
+                self.assertEqual(told[-1]["digest"], chain.behind(found).digest.hex())
+            self.assertEqual(await made.behind(len(texts)), [])
 
 
 class Waits(unittest.IsolatedAsyncioTestCase):

@@ -31,10 +31,6 @@ class Mark(NamedTuple):
         return Chain(self.place, bytes.fromhex(self.digest))
 
 
-class Torn(ValueError):
-    """The pieces of a checkpoint are not as they were written."""
-
-
 def written(fields: dict[str, Any], rows: Iterable[Row]) -> Iterator[bytes]:
     """The lines of a checkpoint, in pieces."""
     lines, size = list[bytes](), 0
@@ -55,7 +51,7 @@ def lines_of(fields: dict[str, Any], rows: Iterable[Row]) -> Iterator[bytes]:
         yield line_of([identifier.hex(), *rest])
 
 
-def line_of(values: list[Any]) -> bytes:
+def line_of(values: Any) -> bytes:
     return json.dumps(values, separators=(",", ":")).encode() + b"\n"
 
 
@@ -73,11 +69,11 @@ def read(pieces: Iterable[bytes], fields: dict[str, Any]) -> Iterator[Row]:
 
 
 def state_of(pieces: Iterable[bytes]) -> str:
-    """The digest of a checkpoint's packed pieces."""
+    """The digest of a checkpoint's packed pieces; raises `ValueError` where one is not as it was written."""
     digest = hashlib.sha256()
     try:
         for piece in pieces:
             digest.update(zlib.decompress(piece))
     except zlib.error as fault:
-        raise Torn(f"a piece of the checkpoint is torn: {fault}") from None
+        raise ValueError(f"a piece of the checkpoint is torn: {fault}") from None
     return digest.hexdigest()

@@ -16,6 +16,7 @@ LONGEST = 16_384  # bytes of an entry
 DIGITS = 12  # of a number; of a place all, as etcd's keys have them
 LAST_MINUTE = 99_999_999  # since 1970
 NAME, HOST = re.compile("[A-Za-z0-9][A-Za-z0-9._-]{0,63}"), re.compile("[A-Za-z0-9:][A-Za-z0-9.:-]{0,252}")
+IDENTIFIER = re.compile("[0-9a-f]{64}")
 
 
 def number(text: str, most: int) -> Optional[int]:
@@ -26,7 +27,7 @@ def number(text: str, most: int) -> Optional[int]:
 
 def as_identifier(digits: str) -> Optional[bytes]:
     """The identifier that 64 lower-case digits spell."""
-    return bytes.fromhex(digits) if re.fullmatch("[0-9a-f]{64}", digits) else None
+    return bytes.fromhex(digits) if IDENTIFIER.fullmatch(digits) else None
 
 
 def as_name(text: str) -> Optional[str]:
@@ -39,48 +40,36 @@ def as_committee(text: str) -> Optional[tuple[str, ...]]:
     return names if len(names) <= 3 * MOST_FAULTS + 1 and all(map(NAME.fullmatch, names)) else None
 
 
-def up_to(most: int) -> Callable[[str], Optional[int]]:
-    return lambda text: number(text, most)
-
-
-EPOCH: Callable[[str], Optional[int]] = up_to(LAST_EPOCH)
+EPOCH = functools.partial(number, most=LAST_EPOCH)
+BEHIND = functools.partial(number, most=LAST_EPOCH + 1)  # an epoch that may be the one behind the last
+MINUTES = functools.partial(number, most=LAST_MINUTE)
 FIELDS: dict[str, tuple[Callable[[str], object], ...]] = {
-    REGISTER: (as_identifier, up_to(LAST_UNTIL)),
+    REGISTER: (as_identifier, functools.partial(number, most=LAST_UNTIL)),
     ACK: (EPOCH, as_identifier),
     ATTEST: (EPOCH, as_identifier),
-    "begin": (up_to(LAST_EPOCH + 1), up_to(MOST_FAULTS), as_committee),
+    "begin": (BEHIND, functools.partial(number, most=MOST_FAULTS), as_committee),
     "ready": (EPOCH,),
     "finish": (EPOCH,),
     PAST: (EPOCH,),
     ADDRESS: (lambda text: text if HOST.fullmatch(text) else None, lambda text: number(text, 65_535) or None),
-    "share": (as_name, up_to(MOST_SHARE)),
+    "share": (as_name, functools.partial(number, most=MOST_SHARE)),
     "expel": (as_name,),
-    "concentrated": (up_to(LAST_EPOCH + 1),),
-    "calendar": (EPOCH, up_to(LAST_MINUTE), up_to(LAST_MINUTE)),
+    "concentrated": (BEHIND,),
+    "calendar": (EPOCH, MINUTES, MINUTES),
 }
 
 
-@dataclasses.dataclass(frozen=True, order=True)
+@dataclasses.dataclass(order=True)
 class Entry:
-    """An entry: its place, and its text."""
+    """An entry: its place, and its text; poster, kind and fields, and what these say, unless it has not the form."""
 
     revision: int
     key: str
+    words: list[str] = dataclasses.field(init=False, repr=False, compare=False)
+    values: list[Any] = dataclasses.field(init=False, repr=False, compare=False)
 
-    @functools.cached_property
-    def said(self) -> tuple[list[str], list[Any]]:
-        """The words, and what the fields say."""
-        return read(self.key)
-
-    @property
-    def words(self) -> list[str]:
-        """The poster, the kind and the fields; nothing where the text has not the form of an entry."""
-        return self.said[0]
-
-    @property
-    def values(self) -> list[Any]:
-        """What the fields say."""
-        return self.said[1]
+    def __post_init__(self) -> None:
+        self.words, self.values = read(self.key)
 
 
 def read(text: str) -> tuple[list[str], list[Any]]:

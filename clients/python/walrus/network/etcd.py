@@ -10,7 +10,7 @@ from typing import Any, Callable, Optional
 
 import aiohttp
 
-from .checkpoint import Mark
+from .checkpoint import Mark, line_of
 from .entries import Chain
 
 FIRST, LAST, HEAD = "/walrus/000000000001", "/walrus/999999999999", "/walrus/head"
@@ -69,6 +69,16 @@ class Batch:
     @functools.cached_property
     def size(self) -> int:
         return sum(map(len, self.entries))
+
+    @functools.cached_property
+    def line(self) -> bytes:
+        """What is told to whoever has heard the ledger up to here; it is made once for all of them."""
+        return line_of({"entries": self.entries, "digest": self.after.digest.hex()})
+
+    def behind(self, place: int) -> "Batch":
+        """What of it comes behind a place."""
+        known = max(0, place - self.before.place)
+        return Batch(self.before.behind(self.entries[:known]), self.entries[known:]) if known else self
 
     def value(self) -> str:
         return json.dumps({"before": self.before.digest.hex(), "entries": self.entries}, separators=(",", ":"))

@@ -236,9 +236,10 @@ class Ledger:
             return "unregistered"
         if blob.until <= epoch:
             return "expires"
-        if self.voted(kind, identifier, poster):
+        said, own = blob.votes[kind].get(epoch, frozenset()), owned(self.writing, poster)
+        if own <= said:
             return "already"
-        count = len(blob.votes[kind].get(epoch, frozenset()) | owned(self.writing, poster))
+        count = len(said | own)
         return f"{('certified' if kind == ACK else 'invalid') if count >= self.quorum else 'counted'} {count}"
 
     def _vote(self, poster: str, kind: str, epoch: int, identifier: bytes) -> None:

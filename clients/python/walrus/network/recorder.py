@@ -177,10 +177,10 @@ class Recorder:
 
     def enter(self, batch: Batch, own: bool = False) -> None:
         """Enters a batch that etcd has, or what of it was not entered yet, or that this recorder has just appended."""
-        known, epoch = batch.entries[: self.chain.place - batch.before.place], self.ledger.epoch
-        if batch.before.behind(known) != self.chain:
+        rest, epoch = batch.behind(self.chain.place), self.ledger.epoch
+        if rest.before != self.chain:
             raise Broken(f"the batch in etcd behind place {batch.before.place} does not follow on what was read")
-        entries = self.chain.followed(batch.entries[len(known) :])  # noqa: E203
+        entries = self.chain.followed(rest.entries)
         for entry in entries:
             self.apply(entry)
         if self.ledger.epoch != epoch:
@@ -231,16 +231,14 @@ class Recorder:
                 fork.enter(entry)
         return answers, Batch(self.chain, [*places]) if places else None
 
-    async def behind(self, place: int, name: str = "") -> tuple[Chain, list[str]]:
-        """What the ledger was behind a place, and some of the entries from there on; or raises `Gone`."""
+    async def behind(self, place: int, name: str = "") -> list[Batch]:
+        """What comes behind a place, or some of it; or raises `Gone`."""
         found = [*itertools.takewhile(lambda it: it.last > place, reversed(self.recent))][::-1]
         if place < (found[0].before.place if found else self.chain.place):
             async with self.turns[name], self.turn:
                 found = await self.etcd.batches(place)
-        if not found:
-            return self.chain, []
-        texts, count = [text for it in found for text in it.entries], place - found[0].before.place
-        return found[0].before.behind(texts[:count]), fitting(texts[count:], HELD)
+        sizes = itertools.accumulate(it.size for it in found)
+        return [it.behind(place) for it, size in zip(found, sizes) if size <= HELD]
 
     async def refresh(self) -> None:
         """Waits until this has all that the ledger has now."""

@@ -11,13 +11,14 @@ from typing import Any, Awaitable, Callable, Union
 from aiohttp import web
 
 from .connections import Named, Server
-from .entries import fitting, number
-from .etcd import Etcd, Failed, Gone
+from .checkpoint import line_of
+from .entries import number
+from .etcd import Batch, Etcd, Failed, Gone
 from .follower import NAME as RECORDER, PARTED
 from .gateway import ending
 from .keeping import Keeper
 from .notify import ready
-from .recorder import BEAT, MOST_BATCH, Answer, Broken, Recorder
+from .recorder import BEAT, Answer, Broken, Recorder
 from .settings import RecorderSettings
 from .state import State
 
@@ -134,32 +135,33 @@ class Service(Server):
         line: dict[str, Any] = {"ledger": recorder.identity, "head": end, "entries": []}
         mark = await recorder.etcd.mark()
         if mark and after < mark.place and (mark.dropped or not after):
-            chain, texts = mark.chain, list[str]()
+            chain, batches = mark.chain, list[Batch]()
             line |= {"place": mark.place, "pieces": mark.pieces, "state": mark.state}
         else:
-            (chain, texts), mark = await recorder.behind(after, name), None
+            mark, batches = None, await recorder.behind(after, name)
+            chain = batches[0].before if batches else recorder.chain
         response = web.StreamResponse(headers={"Content-Type": "application/x-ndjson", "Cache-Control": "no-store"})
 
-        async def tell(line: dict[str, Any]) -> None:
+        async def tell(lines: bytes) -> None:
             async with asyncio.timeout(REQUEST):
-                await response.write(json.dumps(line, separators=(",", ":")).encode() + b"\n")
+                await response.write(lines)
 
         await response.prepare(request)
         try:
-            await tell(line | {"digest": chain.digest.hex()})
+            await tell(line_of(line | {"digest": chain.digest.hex()}))
             for count in range(mark.pieces) if mark else ():
                 async with recorder.turns[name], recorder.turn:
                     piece = await recorder.etcd.piece(chain.place, count)
-                await tell({"piece": base64.b64encode(piece).decode()})
+                await tell(line_of({"piece": base64.b64encode(piece).decode()}))
             while request.transport and not request.transport.is_closing() and name not in recorder.ledger.expelled:
-                told = fitting(texts, MOST_BATCH)
-                chain, texts = chain.behind(told), texts[len(told) :]  # noqa: E203
-                await tell({"entries": told, "digest": chain.digest.hex()})
+                batches = batches or [Batch(chain, [])]
+                await tell(b"".join(it.line for it in batches))
+                chain = batches[-1].after
                 self.places[name] = place = chain.place
-                if not texts and await recorder.news.until(lambda: recorder.chain.place > place, BEAT):
-                    _, texts = await recorder.behind(place, name)
-                elif not texts and not recorder.fresh:  # another recorder may see more
-                    await tell({"error": recorder.slow})
+                heard = await recorder.news.until(lambda: recorder.chain.place > place, BEAT)
+                batches = await recorder.behind(place, name) if heard else []
+                if not heard and not recorder.fresh:  # another recorder may see more
+                    await tell(line_of({"error": recorder.slow}))
                     break
         except (TimeoutError, OSError, Gone):  # who follows does not read, or is gone, or far behind; or etcd is away
             if request.transport:

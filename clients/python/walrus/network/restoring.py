@@ -27,11 +27,8 @@ class Restoring(Service):
         self.told, self.progress = asyncio.Event(), time.monotonic()
 
     def routes(self) -> list[web.RouteDef]:
-        return [
-            web.get("/v1/entries", self.follow),
-            web.post("/v1/tail", self.hear),
-            web.post("/v1/entries", self.post),
-        ]
+        entries = "/v1/entries"
+        return [web.get(entries, self.follow), web.post(entries, self.post), web.post("/v1/tail", self.hear)]
 
     async def post(self, request: web.Request) -> web.Response:
         return wrong(503, NOTHING)

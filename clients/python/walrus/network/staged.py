@@ -2,13 +2,12 @@
 import asyncio
 import concurrent.futures
 import contextlib
-import fcntl
 import functools
 import pathlib
 import sqlite3
-import sys
 from typing import Callable, Iterable, Optional
 
+from .database import Database
 from .files import Files
 
 TORN = "the database is torn: move it away and start the node without it, and the others fill it (network/OPERATING.md)"
@@ -16,37 +15,27 @@ THREADS = 4  # for what takes long on the disk
 SOON, LATER = 0.002, 0.5  # seconds until what waits is committed: what a reply waits for, and what nobody waits for
 
 
-class Staged:
+class Staged(Database):
     """A database. What is staged goes to the disk together, soon; where it cannot, all of it is lost."""
 
     def __init__(self, path: pathlib.Path):
-        self.path = path = path.resolve()
-        self.fault, self.losses = "", 0  # how often what was staged was lost
-        self.lock = open(path.with_name(path.name + ".lock"), "ab")
-        try:
-            fcntl.flock(self.lock, fcntl.LOCK_EX | fcntl.LOCK_NB)
-        except BlockingIOError:
-            self.lock.close()
-            raise OSError(f"another process runs over {path}: end that one first, or name another database") from None
+        self.path, self.losses = path.resolve(), 0  # how often what was staged was lost
         self.pending: Optional["asyncio.Future[bool]"] = None  # whether what is staged came to the disk
         self.flushed: Optional[asyncio.TimerHandle] = None  # when that is tried
-        self.files = Files(path.with_suffix(".parts"))
-        self.pool = concurrent.futures.ThreadPoolExecutor(THREADS, "disk")  # asyncio's own looks names up, perhaps long
         self.named, self.dropped = list[str](), list[str]()  # files that what is staged names, and no longer names
-        self.base = sqlite3.connect(path, isolation_level=None)
         try:
-            self.base.executescript("PRAGMA journal_mode=WAL; PRAGMA synchronous=FULL")
-            self.base.text_factory = functools.partial(str, encoding="utf-8", errors="replace")
-            if self.base.execute("PRAGMA quick_check(1)").fetchone() != ("ok",):
-                raise sqlite3.DatabaseError("its pages do not fit together")
-            self.open_tables()
-        except BaseException:
-            self.base.close()
-            self.lock.close()
-            raise
+            super().__init__(str(self.path))
+        except BlockingIOError:
+            words = "end that one first, or name another database"
+            raise OSError(f"another process runs over {self.path}: {words}") from None
+        self.files = Files(self.path.with_suffix(".parts"))
+        self.pool = concurrent.futures.ThreadPoolExecutor(THREADS, "disk")  # asyncio's own looks names up, perhaps long
 
     def open_tables(self) -> None:
-        """Finds the tables, or makes them."""
+        self.base.execute("PRAGMA synchronous = FULL")
+        self.base.text_factory = functools.partial(str, encoding="utf-8", errors="replace")
+        if self.base.execute("PRAGMA quick_check(1)").fetchone() != ("ok",):
+            raise sqlite3.DatabaseError("its pages do not fit together")
 
     def stage(self, words: str, *values: object) -> sqlite3.Cursor:
         """Runs a statement in the transaction that is committed next."""
@@ -60,12 +49,6 @@ class Staged:
         except sqlite3.Error as fault:
             self.lose(fault)
             raise
-
-    def tell(self, fault: Exception) -> None:
-        """Says what the disk does not take, once until it takes something again."""
-        if str(fault) != self.fault:
-            print(f"the disk does not take what came: {fault}; it is tried again", file=sys.stderr, flush=True)
-        self.fault = str(fault)
 
     def lose(self, fault: Exception) -> None:
         """Rolls back what was staged, and tells at once who relied on it."""
@@ -127,5 +110,4 @@ class Staged:
     def close(self) -> None:
         self.flush()
         self.pool.shutdown()
-        self.base.close()
-        self.lock.close()
+        super().close()

@@ -2,38 +2,27 @@
 import collections
 import contextlib
 import copy
-import fcntl
 import json
 import pathlib
-import random
 import sqlite3
-import sys
 import time
 from typing import Any, Callable, Iterable, Iterator, Optional
 
 from . import checkpoint
-from .blobs import Blob, Blobs, blob_of, coded
-from .entries import ACK, ATTEST, Chain, Entry
+from .blobs import ALL, Blobs
+from .database import Database
+from .entries import Chain, Entry
 from .ledger import Ledger
 
-CACHED, EACH, LATER = 8_192, 0.5, 1.0  # blobs kept as read; seconds between two commits, and if the disk is full
+EACH, LATER = 0.5, 1.0  # seconds between two commits, and if the disk is full
 PAGES = 32_768  # KiB of the database that are kept in memory
 TORN = sqlite3.SQLITE_CORRUPT, sqlite3.SQLITE_NOTADB, sqlite3.SQLITE_ERROR  # a database that is none, or another's
 TABLES = """
-PRAGMA journal_mode = WAL;
 PRAGMA synchronous = NORMAL;
 PRAGMA cache_spill = OFF;
-CREATE TABLE IF NOT EXISTS blobs (identifier BLOB PRIMARY KEY, number INTEGER, until INTEGER, poster TEXT, votes TEXT,
-    certified INTEGER, invalid INTEGER) WITHOUT ROWID;
 CREATE TABLE IF NOT EXISTS entries (place INTEGER PRIMARY KEY, text TEXT);
 CREATE TABLE IF NOT EXISTS told (one INTEGER PRIMARY KEY CHECK (one = 1), value TEXT);
 """
-INDEXES = {"of_epoch": "until", "of_number": "number"}
-TABLES += "".join(f"CREATE INDEX IF NOT EXISTS {name} ON blobs ({column});" for name, column in INDEXES.items())
-ALL = "SELECT identifier, number, until, poster, votes, certified, invalid FROM blobs ORDER BY identifier"
-INSERT = "INSERT INTO blobs VALUES (?, ?, ?, ?, ?, ?, ?)"
-PUT = f"""{INSERT} ON CONFLICT (identifier) DO UPDATE SET until = excluded.until, poster = excluded.poster,
-    votes = excluded.votes, certified = excluded.certified, invalid = excluded.invalid"""
 # What a ledger says beside its blobs, and how that is made of what a file says.
 FORMS: dict[str, Callable[[Any], Any]] = dict.fromkeys(("faults", "epoch", "revision", "concentrated"), int)
 FORMS |= {"now": tuple, "next": tuple, "calendar": tuple, "ready": frozenset, "expelled": frozenset}
@@ -41,147 +30,24 @@ FORMS |= {"posted": collections.Counter, "shares": dict}
 FORMS |= {"addresses": lambda told: {name: (host, port) for name, (host, port) in dict(told).items()}, "past": dict}
 
 
-class Kept(Blobs):
-    """Blobs in SQLite, some of them in memory too. What is set goes there when something else is asked of it."""
-
-    def __init__(self, base: sqlite3.Connection, sizes: Optional[dict[str, int]] = None):
-        super().__init__()
-        self.base, self.numbers = base, dict[bytes, int]()  # of the blobs that were set since
-        self.absent = set[bytes]()  # some that are not there
-        self.sizes = {"registered": 0, "certified": 0, "invalid": 0, "number": 0} | (sizes or {})
-
-    def __getitem__(self, identifier: bytes) -> Blob:
-        if identifier not in self.kept:
-            words = "SELECT until, poster, votes FROM blobs WHERE identifier = ?"
-            row = None if identifier in self.absent else self.base.execute(words, (identifier,)).fetchone()
-            if row is None:
-                self.absent.add(identifier) if len(self.absent) < CACHED else self.absent.clear()
-                raise KeyError(identifier)
-            self.keep(identifier, blob_of(*row))
-        return self.kept[identifier]
-
-    def keep(self, identifier: bytes, blob: Blob) -> None:
-        if len(self.kept) >= CACHED and identifier not in self.kept:
-            self.flush()
-            for some in [*self.kept][: CACHED // 4 + 1]:
-                del self.kept[some]
-        self.kept[identifier] = blob
-        self.absent.discard(identifier)
-
-    def flush(self) -> sqlite3.Connection:
-        """The database once it has all that was set."""
-        rows = [self.row(identifier, number) for identifier, number in self.numbers.items()]
-        self.numbers.clear()
-        self.base.executemany(PUT, rows)
-        return self.base
-
-    def row(self, identifier: bytes, number: int) -> checkpoint.Row:
-        blob = self.kept[identifier]
-        votes = json.dumps([coded(blob.votes[kind]) for kind in (ACK, ATTEST)], separators=(",", ":"))
-        first = [(blob.quorum(kind, self.needed) or (None,))[0] for kind in (ACK, ATTEST)]
-        return identifier, number, blob.until, blob.poster, votes, first[0], first[1]
-
-    def __setitem__(self, identifier: bytes, blob: Blob) -> None:
-        old = self.get(identifier)
-        for name, kind in (("certified", ACK), ("invalid", ATTEST)):
-            if not old or old.votes[kind] is not blob.votes[kind]:
-                was = bool(old and old.quorum(kind, self.needed))
-                self.sizes[name] += bool(blob.quorum(kind, self.needed)) - was
-        self.keep(identifier, blob)
-        if not old:
-            self.sizes["registered"] += 1
-            self.sizes["number"] += 1
-        self.numbers.setdefault(identifier, 0 if old else self.sizes["number"])
-
-    def __delitem__(self, identifier: bytes) -> None:
-        raise TypeError("blobs are dropped when they expire")
-
-    def __iter__(self) -> Iterator[bytes]:
-        return (it for it, in self.flush().execute("SELECT identifier FROM blobs ORDER BY number"))
-
-    def __reversed__(self) -> Iterator[bytes]:
-        return (it for it, in self.flush().execute("SELECT identifier FROM blobs ORDER BY number DESC"))
-
-    def __len__(self) -> int:
-        return self.sizes["registered"]
-
-    def page(self, after: bytes, count: int = 1_000) -> list[tuple[bytes, Blob]]:
-        words = "SELECT identifier, until, poster, votes FROM blobs WHERE identifier > ? ORDER BY identifier LIMIT ?"
-        return [(row[0], blob_of(*row[1:])) for row in self.flush().execute(words, (after, count))]
-
-    def expire(self, epoch: int) -> None:
-        words = "SELECT count(*), count(certified), count(invalid) FROM blobs WHERE until <= ?"
-        gone = self.flush().execute(words, (epoch,)).fetchone()
-        for name, count in zip(("registered", "certified", "invalid"), gone):
-            self.sizes[name] -= count
-        super().expire(epoch)
-        self.base.execute("DELETE FROM blobs WHERE until <= ?", (epoch,))
-
-    def posters(self) -> "collections.Counter[str]":
-        words = "SELECT poster, count(*) FROM blobs GROUP BY poster"
-        return collections.Counter(dict(self.flush().execute(words)))
-
-    def counts(self) -> dict[str, int]:
-        return {name: self.sizes[name] for name in ("registered", "certified", "invalid")}
-
-    def ending(self, after: bytes, last: int, count: int) -> list[bytes]:
-        words = "SELECT identifier FROM blobs WHERE identifier > ? AND until <= ? ORDER BY identifier LIMIT ?"
-        return [it for it, in self.flush().execute(words, (after, last, count))]
-
-    def owed(self, until: int, certified: int) -> list[bytes]:
-        words = "SELECT identifier FROM blobs WHERE until > ? AND certified <= ? ORDER BY identifier"
-        return [it for it, in self.flush().execute(words, (until, certified))]
-
-    def draw(self, drawn: random.Random) -> Optional[bytes]:
-        words = "SELECT identifier FROM blobs WHERE identifier >= ? ORDER BY identifier LIMIT 1"
-        for start in (drawn.randbytes(32), bytes(32)):
-            if found := self.flush().execute(words, (start,)).fetchone():
-                return bytes(found[0])
-        return None
-
-    def forget(self) -> None:
-        """Forgets what was set and is not in the database."""
-        self.kept.clear()
-        self.absent.clear()
-        self.numbers.clear()
-
-    def take(self, rows: Iterator[checkpoint.Row]) -> list[bytes]:
-        """Has these blobs alone; those that were here and are no more."""
-        self.flush().execute("CREATE TEMP TABLE before AS SELECT identifier FROM blobs")
-        self.forget()
-        self.base.execute("DELETE FROM blobs")
-        for name in INDEXES:  # made at once they cost less
-            self.base.execute(f"DROP INDEX {name}")
-        self.base.executemany(INSERT, rows)
-        for name, column in INDEXES.items():
-            self.base.execute(f"CREATE INDEX {name} ON blobs ({column})")
-        gone = self.base.execute("SELECT identifier FROM before WHERE identifier NOT IN (SELECT identifier FROM blobs)")
-        found = [it for it, in gone]
-        self.base.execute("DROP TABLE before")
-        return found
-
-
-class State:
+class State(Database):
     """A database of one process; what was entered since it was saved is not there at the next start. Where a tail of so
     many epochs is to be kept, the one of now among them, it has their entries too."""
 
     def __init__(self, path: str = "", tail: int = 0, pages: int = PAGES):
-        self.path, self.tail, self.lock = path, tail, open(f"{path}.lock", "ab") if path else None
-        if self.lock:
-            fcntl.flock(self.lock, fcntl.LOCK_EX | fcntl.LOCK_NB)
-        self.base = sqlite3.connect(path, isolation_level=None, timeout=20)
-        self.blobs, self.identity, self.turns = Kept(self.base), "", list[int]()
-        self.ledger, self.saved = Ledger(self.blobs), 0  # the epoch that was saved
+        self.tail, self.pages, self.identity, self.turns = tail, pages, "", list[int]()
         self.chain: Optional[Chain] = None
-        self.apply: Callable[[Entry], Optional[str]] = self.ledger.apply  # enters again what the disk did not take
         self.fresh = list[Entry]()  # entries that the disk does not have yet
         self.again = self.due = 0.0  # when a full disk is tried again, and when what is to be kept soon is saved
-        try:
-            self.base.executescript(f"PRAGMA cache_size = -{pages};{TABLES}BEGIN IMMEDIATE;")
-            self.load()
-        except BaseException:
-            self.close()
-            raise
+        super().__init__(path)
+
+    def open_tables(self) -> None:
+        self.base.executescript(f"PRAGMA cache_size = -{self.pages};{TABLES}")
+        self.blobs = Blobs(self.base)
+        self.ledger, self.saved = Ledger(self.blobs), 0  # the epoch that was saved
+        self.apply: Callable[[Entry], Optional[str]] = self.ledger.apply  # enters again what the disk did not take
+        self.base.execute("BEGIN IMMEDIATE")
+        self.load()
 
     def load(self) -> None:
         """Takes what was saved."""
@@ -241,11 +107,10 @@ class State:
                 self.base.execute("DELETE FROM entries WHERE place <= ?", (self.turns.pop(0),))
         try:
             self.commit()
-            self.again, self.due = 0.0, time.monotonic() + EACH
+            self.again, self.due, self.fault = 0.0, time.monotonic() + EACH, ""
             self.fresh.clear()
         except sqlite3.OperationalError as fault:  # SQLite has rolled back what came since it last took something
-            if not self.again:
-                print(f"the disk does not take {self.path}: {fault}; it is tried again", file=sys.stderr, flush=True)
+            self.tell(fault)
             self.base.execute("BEGIN IMMEDIATE")
             self.blobs.forget()
             self.load()
@@ -276,9 +141,9 @@ class State:
     def written(self) -> Iterator[bytes]:
         """A checkpoint of what was entered, piece by piece, whatever is saved meanwhile."""
         self.settle()
-        base = sqlite3.connect(self.path, check_same_thread=False) if self.path else self.base
+        base = sqlite3.connect(self.name, check_same_thread=False) if self.name else self.base
         rows = base.execute(ALL)
-        return checkpoint.written(self.fields(), rows if self.path else rows.fetchall())
+        return checkpoint.written(self.fields(), rows if self.name else rows.fetchall())
 
     def entries(self, after: int = -1, count: int = -1) -> list[Entry]:
         """The tail behind a place, or so many entries of it."""
@@ -295,6 +160,4 @@ class State:
     def close(self) -> None:
         with contextlib.suppress(sqlite3.Error):
             self.settle()
-        self.base.close()
-        if self.lock:
-            self.lock.close()
+        super().close()

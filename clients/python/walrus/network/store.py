@@ -72,6 +72,7 @@ class Store(Staged):
 
     def open_tables(self) -> None:
         """Finds the tables whole and of this version, or makes them."""
+        super().open_tables()
         [(version,)] = self.base.execute("PRAGMA user_version")
         if version > VERSION:
             raise OSError(errno.EINVAL, f"the database {self.path} is of a later version of this package")

@@ -1,0 +1,32 @@
+"""A database in SQLite that one process has at a time."""
+import contextlib
+import fcntl
+import sqlite3
+import sys
+
+
+class Database:
+    """A database, or one of this object alone where no path is named."""
+
+    def __init__(self, name: str):
+        self.name, self.fault = name, ""
+        with contextlib.ExitStack() as opened:
+            if name:
+                fcntl.flock(opened.enter_context(open(f"{name}.lock", "ab")), fcntl.LOCK_EX | fcntl.LOCK_NB)
+            base = sqlite3.connect(name, isolation_level=None, timeout=20)
+            self.base = opened.enter_context(contextlib.closing(base))
+            self.base.execute("PRAGMA journal_mode = WAL")
+            self.open_tables()
+            self.opened = opened.pop_all()
+
+    def open_tables(self) -> None:
+        """Finds the tables, or makes them."""
+
+    def tell(self, fault: Exception) -> None:
+        """Says what the disk does not take, once until it takes something again."""
+        if str(fault) != self.fault:
+            print(f"the disk does not take {self.name}: {fault}; it is tried again", file=sys.stderr, flush=True)
+        self.fault = str(fault)
+
+    def close(self) -> None:
+        self.opened.close()
