@@ -47,6 +47,7 @@ class GivenUp(ShardCase):
     async def nothing_stays(self, storing: Awaitable[object], ends: Any, fault: type[BaseException]) -> None:
         """Who stores gives up while files are being written: none of them is there once that has ended."""
         held, task = Held(), asyncio.ensure_future(storing)
+        self.addCleanup(held.goes_on.set)
         with mock.patch.object(Files, "write", lambda *words: held.write(*words)):
             while not held.begun:
                 await asyncio.sleep(0.002)
