@@ -4,6 +4,7 @@ Who is slow here is so for longer than any test may take: so what ends did not w
 import asyncio
 import collections
 import contextlib
+import itertools
 import os
 import signal
 import ssl
@@ -159,14 +160,16 @@ class Slow(GatewayCase):
 
     @contextlib.asynccontextmanager
     async def in_place_of(self, node: str, drips: bool) -> AsyncIterator[None]:
-        """A port where a node was, which takes connections: it says a byte now and then, or nothing at all."""
+        """A port where a node was, which takes connections: it says a byte of a long reply now and then, or nothing."""
         await self.local.end(node, kill=True)
 
         async def connect(reader: asyncio.StreamReader, writer: asyncio.StreamWriter) -> None:
             with contextlib.suppress(OSError):
-                while not writer.transport.is_closing():
-                    writer.write(b"\x57" if drips else b"")
+                for byte in itertools.chain(client.HEAD.pack(client.MARK, 3, 5_000_000), itertools.repeat(0)):
+                    writer.write(bytes([byte]) if drips else b"")
                     await asyncio.sleep(0.1)
+                    if writer.transport.is_closing():
+                        break
 
         context = ssl.create_default_context(ssl.Purpose.CLIENT_AUTH)
         context.load_cert_chain(self.folder / f"{node}.crt", self.folder / f"{node}.key")

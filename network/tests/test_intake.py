@@ -47,6 +47,7 @@ class GivenUp(ShardCase):
     async def nothing_stays(self, storing: Awaitable[object], ends: Any, fault: type[BaseException]) -> None:
         """Who stores gives up while files are being written: none of them is there once that has ended."""
         held, task = Held(), asyncio.ensure_future(storing)
+        self.addCleanup(held.goes_on.set)
         with mock.patch.object(Files, "write", lambda *words: held.write(*words)):
             while not held.begun:
                 await asyncio.sleep(0.002)
@@ -64,7 +65,6 @@ class GivenUp(ShardCase):
         metadata, primary, _ = await self.parts(bytes(LARGE))
         self.assertEqual(code_of(await self.shard.put(metadata)), client.DONE)
         await self.nothing_stays(self.shard.put(primary), asyncio.Task.cancel, asyncio.CancelledError)
-        self.assertEqual(code_of(await self.shard.put(metadata)), client.DONE)
         self.assertEqual(code_of(await self.shard.put(primary)), client.DONE)
 
     async def test_a_blob_for_which_nobody_waits_leaves_no_file(self) -> None:
@@ -115,13 +115,14 @@ class Told(ShardCase):
 
     async def test_nothing_is_told_before_it_is_on_the_disk(self) -> None:
         assert self.store
-        request = self.request(await self.whole(250))
+        request, flush = self.request(await self.whole(250)), self.store.flush
+        self.enterContext(mock.patch.object(self.store, "flush"))  # the disk takes nothing before it is told to
         said = await Node.reply(self.node, 0, request)  # type: ignore[arg-type]
         self.assertEqual(client.split(b"".join(said.parts)), [(0, b"\x30" + bytes([client.DONE]) + bytes(8))])
         assert said.written
         await turns()
         self.assertEqual((said.written.done(), self.node.posted), (False, []))  # nor is a word given for it
-        self.assertTrue(self.store.flush())
+        self.assertTrue(flush())
         self.assertTrue(await said.written)
         await turns()
         self.assertEqual([it.split("/")[:2] for it in self.node.posted], [["a", "ack"]])
@@ -153,7 +154,7 @@ class Told(ShardCase):
     async def test_a_small_reply_keeps_no_more_memory_than_it_has_bytes(self) -> None:
         metadata, primary, _ = await self.put(b"read")
         said = await Node.reply(self.node, 0, client.write_frame(client.Read(primary[1:33])))
-        answered = b"\x30" + bytes([client.DONE]) + bytes(8)
+        answered = bytes([client.ANSWER, client.DONE, 0, 0, 0, 2]) + bytes(4)  # behind two frames
         self.assertEqual(client.split(b"".join(said.parts)), [(0, metadata), (0, primary), (0, answered)])
         self.assertEqual([len(memoryview(memoryview(it).obj)) for it in said.parts], [said.size])
 
