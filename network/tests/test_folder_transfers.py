@@ -2,6 +2,7 @@
 import asyncio
 import os
 import pathlib
+import socket
 import stat
 import tempfile
 import unittest
@@ -12,7 +13,7 @@ from aiohttp import web
 from folder_case import Files, manifest_of, site
 from harness import HERE, lacking
 from walrus import client
-from walrus.network import places
+from walrus.network import places, trees
 from walrus.network.local import find_program
 from walrus.network.manifest import MARK, Manifest, Place
 from walrus.network.transfers import Failure
@@ -83,7 +84,7 @@ class Trees(unittest.IsolatedAsyncioTestCase):
         self.tree, self.out, self.walrus = self.top / "tree", self.top / "out", client.Walrus(find_program())
         self.files, self.asked, self.puts, self.lie = dict[str, bytes](), list[str](), list[str](), None
         self.lie: Optional[bytes]
-        self.pause = 0.0
+        self.pause, self.beside, self.least = 0.0, 0, 0
         app = web.Application(client_max_size=2**30)
         app.add_routes([web.get("/v1/status", self.status), web.get("/v1/blobs/{name}", self.give)])
         app.add_routes([web.put("/v1/blobs", self.take), web.get("/v1/status/{name}", self.status_of)])
@@ -110,6 +111,10 @@ class Trees(unittest.IsolatedAsyncioTestCase):
 
     async def take(self, request: web.Request) -> web.Response:
         body = await request.read()
+        self.beside += 1
+        while self.beside < self.least:  # the first ones wait for one another
+            await asyncio.sleep(0.02)
+        self.least = 0
         await asyncio.sleep(self.pause)
         name = (await self.add(body)) if self.lie is None else self.lie.hex()
         self.puts.append(name)
@@ -176,6 +181,14 @@ class Trees(unittest.IsolatedAsyncioTestCase):
         self.assertEqual(len(self.puts), puts + 3)  # a pack and a manifest
         self.assertNotIn(hash(files["film.webm"]), [hash(self.files[it]) for it in self.puts[puts:]])
 
+    async def test_files_go_side_by_side(self) -> None:
+        files = {str(number): bytes([number]) * 600_000 for number in range(6)}
+        self.write(files)
+        self.least = trees.WIDTH
+        async with asyncio.timeout(120):
+            name = await self.store()
+        self.assertEqual((self.puts[-1], len(self.puts)), (name, 7))
+
     async def test_a_terminal_shows_how_far_it_is(self) -> None:
         self.write(site())
         self.pause = 1.5
@@ -197,8 +210,14 @@ class Trees(unittest.IsolatedAsyncioTestCase):
                 pass
             self.assertIn(said, await self.run_net("store", self.tree, "--epochs", "5", status=1))
             os.unlink(place)
-        for name, make in {"link": lambda it: it.symlink_to("first"), "pipe": os.mkfifo}.items():
-            make(self.tree / name)
+        kinds: dict[str, Any] = {"link": lambda it: it.symlink_to("first"), "pipe": os.mkfifo}
+        kinds["socket"] = lambda it: socket.socket(socket.AF_UNIX).bind(str(it))
+        kinds["device"] = lambda it: os.mknod(it, stat.S_IFCHR | 0o600, os.makedev(1, 3))
+        for name, make in kinds.items():
+            try:
+                make(self.tree / name)
+            except PermissionError:  # who is not root makes no devices
+                continue
             said = await self.run_net("store", self.tree, "--epochs", "5", status=1)
             self.assertIn(f"'{name}' is a {name}", said)
             (self.tree / name).unlink()

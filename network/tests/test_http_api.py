@@ -74,6 +74,39 @@ class Told(UploadCase):
             rows += [rf"`[A-Z, `]*{method}[A-Z, `]* {plain}[?`]"] if method != "HEAD" else []
             self.assertEqual([it for it in rows if not re.search(it, self.page)], [], "no row of the page tells of it")
 
+    def paths(self) -> dict[str, set[str]]:
+        """Each path with something in its places, and the methods that the page tells for it."""
+        found = dict[str, set[str]]()
+        for path, methods in self.api["paths"].items():
+            place = path.replace("{id}", "0" * 64).replace("{number}", "0").replace("{node}", "node-0")
+            named = {it.upper() for it in methods if it != "parameters"}
+            found[re.sub(r"\{\w+\}", "a", place)] = named | ({"HEAD"} if "GET" in named else set())
+        return found
+
+    async def test_each_path_says_its_methods(self) -> None:
+        await self.start()
+        for path, methods in self.paths().items():
+            status, headers, _ = await self.ask("OPTIONS", path)
+            self.assertEqual((status, {*headers["allow"].split(", ")}), (204, methods | {"OPTIONS"}), path)
+            for method in {"GET", "PUT", "POST", "PATCH", "DELETE"} - methods:
+                status, headers, told = await self.ask(method, path)
+                self.assertEqual((status, {*headers["allow"].split(",")}), (405, methods), (method, path))
+                self.assertIn("nothing is deleted" if method == "DELETE" else "GET /v1/api", told["error"]["text"])
+        self.assertEqual((await self.ask("OPTIONS", "/v2"))[0], 404)
+
+    async def test_no_request_takes_a_word_that_is_not_told(self) -> None:
+        await self.start()
+        self.files["0" * 64] = b"no folder"
+        for path, methods in self.paths().items():
+            for method in methods - {"HEAD"}:
+                status, _, told = await self.ask(method, f"{path}?epohcs=1", data=b"x" if method[0] == "P" else None)
+                if method == "GET" and path.startswith("/v1/folders/"):  # pages have words for themselves
+                    self.assertEqual((status, told["error"]["text"][:21]), (404, "the blob is no folder"), path)
+                else:
+                    self.assertEqual(status, 400, (method, path, told))
+                    self.assertIn("'epohcs' is no word of this request's query", told["error"]["text"], (method, path))
+        self.assertEqual(self.stored, [])
+
     async def test_each_header_is_told(self) -> None:
         text = self.page + (HERE.parent / "OPERATING.md").read_text() + (PACKAGE / "openapi.yaml").read_text()
         read = {name for form in READ for name in re.findall(form, code())}

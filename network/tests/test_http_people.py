@@ -35,6 +35,7 @@ class People(UpCase):
 
     async def test_the_command_and_the_page(self) -> None:
         folder = await self.up("--stale", "2")
+        self.assertTrue(self.log("up").endswith("\nready\n"))  # a line that a script can wait for
         file, once = self.folder / "file", ("--epochs", 1)
         file.write_bytes(DRAWN.randbytes(50_000))
         told = json.loads(await self.words("store", file, "--epochs", "4", "--json"))
@@ -48,7 +49,8 @@ class People(UpCase):
         )
         self.assertIn("node-1 holds it", await self.words("challenge", name, "node-1"))
         await self.bundles(file)
-        await self.encrypted(file)
+        with self.subTest("the example with age"):
+            await self.encrypted(file)
         self.assertIn("no such blob", await self.words("fetch", "0" * 64, status=4))
         self.assertIn("No such file", await self.words("store", self.folder / "none", *once, status=1))
         self.assertIn("is the gateway running", await self.words("status", "--gateway", "http://127.0.0.1:1", status=1))
@@ -163,7 +165,7 @@ class People(UpCase):
     async def encrypted(self, file: pathlib.Path) -> None:
         """The example with age in HTTP.md: what is stored is no longer the file, and comes back as it."""
         if not shutil.which("age"):
-            return
+            self.skipTest("age is not here (apt-get install age)")
         page = (HERE.parent / "HTTP.md").read_text()
         lines = [it[2:] for it in page.splitlines() if it.startswith("$ age") or "| age -d" in it]
         self.assertEqual(len(lines), 3)

@@ -5,6 +5,7 @@ import json
 import os
 import pathlib
 import random
+import re
 import tarfile
 import unittest
 from typing import Any
@@ -190,6 +191,15 @@ class Many(UpCase):
         watching.cancel()
         self.assertLess(blobs, count / 50 + 10)
         self.assertLess(most, 300e6)
+
+    async def test_what_a_folder_takes_is_told(self) -> None:
+        line = [str(HERE.parent / "bench-http"), "--parts", "folders", "--folders", "60", "--folder", str(self.folder)]
+        process = await asyncio.create_subprocess_exec(*line, stdout=-1, stderr=-2)
+        said = (await process.communicate())[0].decode()
+        self.assertEqual(process.returncode, 0, said)
+        for what in ("a folder of 60 files in, each", "the same again, each", "60 files of it out, each"):
+            form = rf"^{what}: \d+\.\d{{3}} s, \d+\.\d a second; processors: .*gateway \d+\.\d\d, nodes \d+\.\d\d"
+            self.assertEqual(len(re.findall(form, said, re.MULTILINE)), 1, said)
 
 
 if __name__ == "__main__":

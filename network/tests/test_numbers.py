@@ -6,10 +6,17 @@ import unittest
 import aiohttp
 from guard_case import GuardCase
 from harness import FOUR, NetworkCase
-from prometheus_client.parser import text_string_to_metric_families
 from walrus.network import checking
 from walrus.network.local import free_port
 from walrus.network.times import BOUNDS, Times
+
+try:
+    from prometheus_client.parser import text_string_to_metric_families
+except ImportError:
+    text_string_to_metric_families = None
+needs_client = unittest.skipIf(
+    text_string_to_metric_families is None, "python3-prometheus-client is not here (network/install)"
+)
 
 Samples = dict[tuple[str, tuple[tuple[str, str], ...]], float]
 
@@ -25,6 +32,7 @@ def samples(text: str) -> Samples:
 
 
 class Gateway(GuardCase):
+    @needs_client
     async def test_requests_bytes_and_times_are_counted(self) -> None:
         await self.start()
         self.assertEqual(await self.put(b"12345"), 201)
@@ -78,6 +86,7 @@ class Settings(unittest.TestCase):
             self.assertIn(f"metrics {bad} is no PORT", fault)
 
 
+@needs_client
 class Node(NetworkCase):
     async def test_a_node_tells_its_own(self) -> None:
         port = free_port()

@@ -8,38 +8,13 @@ import unittest
 from typing import Any
 from unittest import mock
 
-from browser import PROGRAM, Browser
-from test_http_uploads import UploadCase
+from page_case import PIECE, SENT, PageCase
 from walrus.network import gateway
 
-PIECE = 16_777_216
-SENT = "document.getElementById('sending').textContent"
 NAME = "<img src=x onerror=document.title='bad'>.txt"
 
 
-@unittest.skipUnless(PROGRAM, "chromium is not here (apt-get install chromium)")
-class Page(UploadCase):
-    size = PIECE
-
-    async def asyncSetUp(self) -> None:
-        await super().asyncSetUp()
-        await self.start()
-        self.browser = await self.enterAsyncContext(Browser())
-        await self.browser.look(320, 900, True)
-
-    async def open(self, shown: str = "store") -> None:
-        await self.browser.open(self.url + "/")
-        self.assertTrue(await self.browser.until(f"document.getElementById('{shown}')?.offsetHeight > 0"))
-
-    def file(self, name: str, data: bytes) -> pathlib.Path:
-        path = self.folder / name
-        path.write_bytes(data)
-        return path
-
-    async def fill(self, name: str, text: str) -> None:
-        await self.browser.evaluate(f"document.getElementById('{name}').focus()")
-        await self.browser.type(text)
-
+class Page(PageCase):
     async def test_files_are_dropped_and_chosen(self) -> None:
         await self.open()
         browser, small, large = self.browser, b"small", os.urandom(2 * PIECE + 5)

@@ -14,7 +14,8 @@ def seconds_of(text: str) -> int:
     """The seconds that a length of time has, such as 90d; raises `ValueError`."""
     found = re.fullmatch("([1-9][0-9]{0,6})([mhdw])", text)
     if not found:
-        raise ValueError(f"{text} is no length of time: it is a number and m, h, d or w for its unit, such as 90d")
+        said = f"{text[:40]!r} is no length of time: it is a number and m, h, d or w for its unit, such as 90d"
+        raise ValueError(said)
     return int(found[1]) * SECONDS[found[2]]
 
 
@@ -37,6 +38,6 @@ def epochs_for(status: dict[str, Any], text: str) -> int:
     """For how many epochs a blob is kept at least so long, as far as the plan in a gateway's status goes."""
     seconds, plan = seconds_of(text), status.get("calendar")
     if not plan:
-        raise ValueError(f"the network has no calendar by which {text} could be counted: say --epochs")
+        raise ValueError(f"the network has no calendar by which {text} could be counted: say a number of epochs")
     until: int = plan["epoch"] + math.ceil((time.time() + seconds - plan["since"]) / plan["seconds"])
     return max(1, until - int(status["epoch"]) - int(status["moving"]))

@@ -44,8 +44,8 @@ STORING = (
     ("POST", "/v1/bundles"),
     ("POST", "/v1/uploads"),
 )
-TAKEN = dict.fromkeys([*STORING, ("PUT", "/v1/folders")], ["epochs"])  # the words of queries
-TAKEN |= {("GET", "/v1/blobs"): ["within", "after"], ("PUT", "/v1/blobs"): ["epochs", "filename"]}
+TAKEN = dict.fromkeys([*STORING, ("PUT", "/v1/folders")], ["epochs", "for"])  # the words of queries
+TAKEN |= {("GET", "/v1/blobs"): ["within", "after"], ("PUT", "/v1/blobs"): ["epochs", "for", "filename"]}
 RESTING = (
     "/v1/blobs",
     "/v1/bundles",
@@ -67,7 +67,7 @@ def must_be_known(request: web.Request) -> None:
     taken = TAKEN.get((request.method, resource.canonical if resource else ""), [])
     unknown = [word for word in request.query if word not in taken]
     if request.match_info.http_exception is None and unknown:
-        asked = f"it takes {' and '.join(taken)}" if taken else "it takes none"
+        asked = f"it takes {', '.join(taken)}" if taken else "it takes none"
         raise Problem(400, f"{unknown[0][:40]!r} is no word of this request's query: {asked}")
     if len(request.query) > len(set(request.query)):
         raise Problem(400, "a word of the query stands twice")

@@ -12,6 +12,7 @@ from .. import client
 from . import digests
 from .chunks import LONGEST, Told, Writer
 from .client import Network
+from .dates import calendar_of, epochs_for
 from .entries import LAST_EPOCH, LAST_UNTIL
 from .exposure import Options
 from .listing import Lister
@@ -124,13 +125,29 @@ class Publisher:
         return self.options.epochs if bound is None else min(bound, self.options.epochs)
 
     def epochs(self, request: web.Request) -> int:
-        """For how many epochs a file is to be kept."""
-        epochs, longest = request.query.get("epochs", ""), self.longest(request)
-        if not re.fullmatch("[1-9][0-9]{0,4}", epochs) or int(epochs) > longest:
-            raise Problem(400, f"say for how many epochs the file is kept, as ?epochs=N, 1 to {longest}")
-        if self.network.ledger.writing_epoch + int(epochs) > LAST_UNTIL:
+        """For how many epochs a file is to be kept: so many, or as many as a length of time has by the calendar."""
+        told, length, longest = request.query.get("epochs"), request.query.get("for"), self.longest(request)
+        if told is not None and length is not None:
+            raise Problem(400, "say epochs or for, and not both")
+        epochs = int(told) if told and re.fullmatch("[1-9][0-9]{0,4}", told) else 0
+        if length is not None:
+            epochs = self.epochs_in(length)
+        if not 1 <= epochs <= longest:
+            said = "" if length is None else f"; {length} are {epochs} epochs"
+            asked = f"as ?epochs=N, 1 to {longest}, or for how long, as ?for=90d"
+            raise Problem(400, f"say for how many epochs the file is kept, {asked}{said}")
+        if self.network.ledger.writing_epoch + epochs > LAST_UNTIL:
             raise Problem(400, f"the last epoch is {LAST_EPOCH}: say fewer epochs")
-        return int(epochs)
+        return epochs
+
+    def epochs_in(self, length: str) -> int:
+        """For how many epochs a blob is kept at least so long, as far as the operator's calendar goes."""
+        ledger = self.network.ledger
+        told = {"calendar": calendar_of(ledger), "epoch": ledger.epoch, "moving": ledger.moving}
+        try:
+            return epochs_for(told, length)
+        except ValueError as fault:
+            raise Problem(400, str(fault)) from None
 
     async def extend(self, request: web.Request) -> web.Response:
         epochs, charge, name = self.epochs(request), self.charge(request), named(request)

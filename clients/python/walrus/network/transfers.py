@@ -1,4 +1,5 @@
-"""Files to and from a gateway, which is not believed: what they are named is computed here, by the program walrus."""
+"""Files to and from a gateway, which is not believed: what they are named is computed here, by the program walrus or
+its library."""
 import asyncio
 import contextlib
 import os
@@ -9,7 +10,7 @@ import time
 from typing import IO, Any, AsyncIterator, Optional
 
 import aiohttp
-from .. import bundles, client
+from .. import bundles, client, library
 
 from .checked import Naming, is_named
 from .local import find_program
@@ -69,17 +70,25 @@ async def ask(session: aiohttp.ClientSession, method: str, path: str, **words: A
         return await response.json()
 
 
+def find_walrus() -> client.Walrus:
+    """What computes identifiers: the program, whose memory is its own, or else the library."""
+    program = find_program()
+    if not program.endswith(".so") and os.access(program, os.X_OK):
+        return client.Walrus(program)
+    try:
+        return library.find()
+    except (ValueError, OSError) as fault:
+        said = f"neither the program walrus nor its library is here, which compute identifiers ({fault})"
+        raise Failure(f"{said}: build one with ./walrus, or name it in WALRUS", 1) from None
+
+
 async def naming_of(session: aiohttp.ClientSession) -> Naming:
     """What computes identifiers for a gateway's network; where it tells a false f, identifiers differ."""
-    program = find_program()
-    if not os.access(program, os.X_OK):
-        raise Failure(
-            f"{program} is not there, which computes identifiers: build it with ./walrus, or name it in WALRUS", 1
-        )
+    walrus = find_walrus()
     faults = (await ask(session, "GET", "/v1/status"))["faults"]
     if not isinstance(faults, int) or not 1 <= faults <= client.MOST_FAULTS:
         raise Failure("the network has no committee yet", 1)
-    return Naming(client.Walrus(program), faults)
+    return Naming(walrus, faults)
 
 
 def must_name(told: Any, names: list[bytes], what: str) -> None:

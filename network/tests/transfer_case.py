@@ -1,0 +1,118 @@
+"""What the tests of walrus-net share: a gateway of their own, which gives and names whatever it is told to."""
+import asyncio
+import contextlib
+import os
+import pathlib
+import signal
+import tempfile
+import unittest
+from typing import Union
+from unittest import mock
+
+from aiohttp import web
+
+from harness import HERE
+from walrus import client
+from walrus.network.local import find_program
+
+TOLD = """import atexit, os, pathlib, re
+def tell():
+    told = re.search(r"VmHWM:\\s+(\\d+) kB", pathlib.Path("/proc/self/status").read_text())
+    pathlib.Path(os.environ["PEAK"]).write_text(told[1])
+atexit.register(tell)
+"""  # which Python runs before a command, so that it tells its largest resident memory at its end
+
+
+@unittest.skipUnless(os.access(find_program(), os.X_OK), f"the program {find_program()} is not here")
+class TransferCase(unittest.IsolatedAsyncioTestCase):
+    """A gateway that gives `files` by name and calls what is stored `named`."""
+
+    async def asyncSetUp(self) -> None:
+        asyncio.get_running_loop().set_debug(False)
+        signal.signal(signal.SIGINT, signal.default_int_handler)  # what a shell starts behind & ignores interrupts
+        made = tempfile.TemporaryDirectory(prefix="walrus-transfers-")
+        self.addCleanup(made.cleanup)
+        self.folder, self.walrus = pathlib.Path(made.name), client.Walrus(find_program())
+        self.out, self.files, self.named, self.bodies = self.folder / "out", dict[str, bytes](), "", list[bytes]()
+        self.members, self.stalls, self.resumes, self.paths = list[str](), False, False, list[str]()
+        self.program, self.came = find_program(), 0  # bytes of what is being stored
+        app = web.Application(client_max_size=2**30)
+        app.add_routes([web.get("/v1/status", self.status), web.get("/v1/blobs/{name}", self.give)])
+        app.add_routes([web.put("/v1/blobs", self.take), web.post("/v1/bundles", self.take)])
+        app.add_routes([web.post("/v1/uploads", self.begin), web.get("/v1/uploads/1", self.look)])
+        app.add_routes([web.patch("/v1/uploads/1", self.take)])
+        runner = web.AppRunner(app)
+        await runner.setup()
+        self.addAsyncCleanup(runner.cleanup)
+        site = web.TCPSite(runner, "127.0.0.1", 0, shutdown_timeout=0.1)
+        await site.start()
+        host, port = runner.addresses[0][:2]
+        self.url = f"http://{host}:{port}"
+
+    async def status(self, _: web.Request) -> web.Response:
+        told = {"name": "node", "shards": [0], "next": [], "state": "answers", "said": ""}
+        status = {"epoch": 0, "moving": False, "faults": 1, "blobs": {}, "nodes": [told] * 9_000, "recent": []}
+        status["ledger"] = {"away": 0.0, "stale": False, "said": ""}
+        return web.json_response(status)
+
+    async def give(self, request: web.Request) -> web.StreamResponse:
+        data = self.files.get(request.match_info["name"])
+        if data is None:
+            return web.json_response({"error": {"status": 404, "text": "no such blob"}}, status=404)
+        response = web.StreamResponse(headers={"Content-Length": str(len(data))})
+        await response.prepare(request)
+        await response.write(data[: len(data) // 2])
+        while self.stalls:
+            await asyncio.sleep(0.1)
+        with contextlib.suppress(ConnectionError):  # who was interrupted has gone
+            await response.write(data[len(data) // 2 :])  # noqa: E203
+        return response
+
+    async def begin(self, _: web.Request) -> web.Response:
+        return web.Response(status=201 if self.resumes else 404, headers={"Location": "/v1/uploads/1"})
+
+    async def look(self, _: web.Request) -> web.Response:
+        return web.json_response({"offset": 0, "complete": False, "endEpoch": 5, "file": None})
+
+    async def take(self, request: web.Request) -> web.Response:
+        parts = list[bytes]()
+        async for part in request.content.iter_any():
+            self.came += len(part)
+            parts.append(part)
+        self.bodies.append(b"".join(parts))
+        self.paths.append(request.path)
+        told = {"blobId": self.named, "size": 0, "pieces": 1, "endEpoch": 5, "alreadyCertified": False}
+        members = [{"id": it, "name": "x", "size": 1} for it in self.members]
+        return web.json_response(told | {"certificate": {"epoch": 0, "count": 4}, "members": members})
+
+    async def id(self, blob: bytes, form: int = 1) -> bytes:
+        return bytes.fromhex((await self.walrus.output("id", 1, "--format", form, data=blob)).decode())
+
+    async def start(self, *words: Union[str, pathlib.Path], out: int = -1) -> asyncio.subprocess.Process:
+        environment = {**os.environ, "WALRUS_GATEWAY": self.url, "WALRUS": self.program}
+        pipes = {"stdin": asyncio.subprocess.PIPE, "stdout": out, "stderr": asyncio.subprocess.PIPE}
+        line = [str(HERE.parent / "walrus-net"), *map(str, words)]
+        return await asyncio.create_subprocess_exec(*line, env=environment, **pipes)
+
+    async def run_net(self, *words: Union[str, pathlib.Path], data: bytes = b"", status: int = 0) -> tuple[bytes, str]:
+        """What walrus-net writes and says, with this exit status; where it fails, in one line."""
+        process = await self.start(*words)
+        out, error = await process.communicate(data)
+        self.assertEqual(process.returncode, status, error.decode())
+        self.assertEqual(error.count(b"\n"), bool(status), error)
+        return out, error.decode()
+
+    async def peak_of(self, *words: Union[str, pathlib.Path]) -> int:
+        """The most bytes of resident memory that walrus-net has while it does this."""
+        (self.folder / "sitecustomize.py").write_text(TOLD)
+        told = self.folder / "peak"
+        environment = {"PYTHONPATH": str(self.folder), "PEAK": str(told), "XDG_STATE_HOME": str(self.folder)}
+        with mock.patch.dict(os.environ, environment):
+            await self.run_net(*words)
+        return int(told.read_text()) * 1_024
+
+    def left(self) -> list[str]:
+        return sorted(path.name for path in self.folder.iterdir())
+
+
+__all__ = ["TransferCase"]
