@@ -115,7 +115,8 @@ class Names(LedgerCase):
         async with aiohttp.ClientSession() as session:
             url = f"https://{self.local.told()['recorders'][0]}/v1/entries?after=0"
             async with session.get(url, ssl=self.context(name)) as said:
-                return sum(isinstance(json.loads(await said.content.readline()), dict) for _ in range(count))
+                lines = [json.loads(await said.content.readline()) for _ in range(count)]
+                return sum(isinstance(it, dict) for it in lines)
 
 
 if __name__ == "__main__":
