@@ -378,6 +378,28 @@ class Rules(unittest.TestCase):
             self.assertEqual(kept.entries()[-1].revision, chain.place)
             kept.close()
 
+    def test_what_a_disk_did_not_take_at_first_is_entered_once(self) -> None:
+        blobs = [entry_key("x", "register", f"{it:064}", 5) for it in range(200)]
+        with tempfile.TemporaryDirectory() as folder, contextlib.redirect_stderr(io.StringIO()):
+            kept, chain = State(f"{folder}/kept"), Chain(0, bytes(32))
+            entries = chain.followed([entry_key(OPERATOR, "begin", 0, 1, "a,b,c,d"), *blobs])
+            for entry in entries:
+                kept.ledger.apply(entry)
+            kept.base.execute("PRAGMA max_page_count = 1")  # no more than it has
+            for _ in range(2):
+                kept.again, kept.identity = 0.0, "ab"
+                kept.save(chain.behind(it.key for it in entries), [] if kept.fresh else entries)
+                self.assertEqual((kept.whole, kept.identity), (False, "ab"))
+            kept.base.execute("PRAGMA max_page_count = 100000")
+            kept.again = 0.0
+            self.assertTrue(kept.settle())
+            for _ in range(2):
+                self.assertEqual((len(kept.blobs), len([*kept.blobs]), kept.ledger.posted["x"]), (200, 200, 200))
+                self.assertEqual((kept.identity, kept.chain and kept.chain.place), ("ab", 201))
+                kept.close()
+                kept = State(f"{folder}/kept")
+            kept.close()
+
     def same(self, one: Ledger, other: Ledger) -> None:
         """Both say the same of all that there is."""
         names = ["faults", "epoch", "revision", "now", "next", "ready", "posted", "shares", "expelled", "addresses"]

@@ -37,9 +37,13 @@ class Walrus:
         self.ran.append(str(words[0]))
         if words[0] == "check":
             self.checked.append(len(payloads))
-            return (3 if payloads[:1] == [METADATA] and payloads[-1] == proof(b"true") else 2), b""
+            is_true = payloads[:1] == [METADATA] and payloads[-1] == proof(b"true")
+            return (3, b"inconsistent\n") if is_true else (4, b"consistent\n")
         slivers = [it for it in payloads if it[0] == client.SLIVER]
-        return (0, b"the blob") if len(slivers) > 1 else (4, b"short: %d of 2" % len(slivers))
+        return (0, b"the blob") if len(slivers) > 1 else (4, b"short %d of 2\n" % len(slivers))
+
+    def code(self, status: int, text: bytes) -> client.Code:
+        return client.Code.of(status, text)
 
 
 class Shard(client.Shard):
@@ -70,8 +74,8 @@ class Reading(unittest.IsolatedAsyncioTestCase):
 
         self.enterContext(mock.patch.object(wire, "memory", counted))
 
-    async def shards(self, replies: Sequence[Sequence[bytes]]) -> list[client.Shard]:
-        """Shards that reply so to whatever they are asked."""
+    async def shards(self, replies: Sequence[Sequence[bytes]], silent: Sequence[int] = ()) -> list[client.Shard]:
+        """Shards that reply so to whatever they are asked; some of them once alone."""
         made = list[client.Shard]()
         for number, reply in enumerate(replies):
 
@@ -82,6 +86,8 @@ class Reading(unittest.IsolatedAsyncioTestCase):
                     except EOFError:
                         return writer.close()
                     self.asked.append(number)
+                    if number in silent and self.asked.count(number) > 1:
+                        continue
                     for payload in reply:
                         writer.write(client.envelope(payload, number))
 
@@ -112,6 +118,25 @@ class Reading(unittest.IsolatedAsyncioTestCase):
         with self.assertRaises(client.Refused) as caught:
             await client.fetch(shards, NAME, self.walrus)  # type: ignore[arg-type]
         self.assertEqual(caught.exception.status, 3)
+
+    async def test_who_is_late_with_a_proof_holds_up_nobody(self) -> None:
+        self.enterContext(mock.patch("walrus.shards.LEAST", 0.3))
+        self.enterContext(mock.patch("walrus.shards.MOST", 0.3))
+        lies, told = [METADATA, proof(b"false"), DONE], [METADATA, proof(b"true"), DONE]
+        shards = await self.shards([lies, [DONE], [DONE], told], silent=[0])
+        async with asyncio.timeout(30):  # a shard may take 60 s
+            with self.assertRaises(client.BadlyEncoded):
+                await client.fetch(shards, NAME, self.walrus)  # type: ignore[arg-type]
+        self.assertEqual((self.asked.count(0), self.asked.count(3), self.walrus.checked), (2, 2, [2]))
+
+    async def test_of_who_is_late_no_more_are_asked_than_slivers_are_needed(self) -> None:
+        self.enterContext(mock.patch("walrus.shards.LEAST", 0.3))
+        self.enterContext(mock.patch("walrus.shards.MOST", 0.3))
+        shards = await self.shards([[METADATA, proof(b"false"), DONE]] * 4, silent=range(4))
+        reading = asyncio.create_task(client.fetch(shards, NAME, self.walrus))  # type: ignore[arg-type]
+        await asyncio.wait([reading], timeout=3)
+        self.assertEqual((reading.done(), sorted(self.asked)[:4], len(self.asked)), (False, [0, 0, 1, 1], 6))
+        reading.cancel()
 
     async def test_where_nobody_proves_it_too_little_is_heard(self) -> None:
         lies = [METADATA, proof(b"false"), DONE]

@@ -232,7 +232,8 @@ async def collect(shards: Shards, request: Union[Read, Symbol], walrus: Walrus, 
     """What the program makes of replies to a request: status 0 or 3, and its text; else `Refused` is raised. No more
     shards are asked than are needed, and others once one is late or of no use. The program runs once enough was heard,
     and again once more can be enough. Where all of it is too little, a proof of bad encoding will do: status 3, and the
-    proof in an envelope. Long ones are asked for one by one, and not before: who lies has no memory by them."""
+    proof in an envelope. Long ones are asked for then, the next one where one is late or shows nothing, and of f+1 shards
+    at once at most: so who lies takes no memory beside that of slivers, and little time."""
     needed = shape_of(shards).symbols[getattr(request, "axis", SECONDARY)]
     asked = Asked.of(write_frame(request), needed, len(shards))
     with contextlib.closing(asked.basket):
@@ -281,10 +282,15 @@ async def gather(
     for kept in [{PROOF: proof, METADATA: metadata} for proof, metadata in proofs.items()]:
         if await proves(kept, request.identifier, walrus):
             return 3, envelope(kept[PROOF])
-    for shard in [it for it in shards if it.number in offers]:
-        _, kept, _ = await listen(shard, bytes(asked))
-        if await proves(kept, request.identifier, walrus):
-            return 3, envelope(kept[PROOF])
+    offering = Listening([it for it in shards if it.number in offers], bytes(asked))
+    try:
+        while not offering.is_over():
+            offering.ask(len(offering.pending) <= shards[0].shape.faults)
+            for _, kept, _ in await offering.next():
+                if await proves(kept, request.identifier, walrus):
+                    return 3, envelope(kept[PROOF])
+    finally:
+        await offering.end()
     raise lacking
 
 

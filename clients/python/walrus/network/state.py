@@ -46,16 +46,19 @@ class State(Database):
         self.blobs = Blobs(self.base)
         self.ledger, self.saved = Ledger(self.blobs), 0  # the epoch that was saved
         self.apply: Callable[[Entry], Optional[str]] = self.ledger.apply  # enters again what the disk did not take
+        self.born = json.dumps({**self.fields(), "turns": []})
         self.base.execute("BEGIN IMMEDIATE")
         self.load()
 
     def load(self) -> None:
-        """Takes what was saved."""
-        if row := self.base.execute("SELECT value FROM told").fetchone():
-            told = json.loads(row[0])
-            self.turns = told.pop("turns")
-            self.put(told)
-            self.saved = self.ledger.epoch
+        """Takes what was saved; where nothing was, what a ledger says before its first entry."""
+        row = self.base.execute("SELECT value FROM told").fetchone()
+        told = json.loads(row[0]) if row else json.loads(self.born) | {"ledger": self.identity}
+        self.turns = told.pop("turns")
+        self.put(told)
+        self.saved = self.ledger.epoch
+        if not row:
+            self.chain = None
 
     @classmethod
     def open(cls, path: str, tail: int = 0, pages: int = PAGES) -> "State":
