@@ -61,49 +61,50 @@ uint64_t walrus_room(const uint8_t *words, size_t words_len, uint64_t input_len)
 #define WALRUS_ROOM_UNKNOWN UINT64_MAX
 #define WALRUS_ROOM_NO_MEMORY (UINT64_MAX - 1)
 
-/* Which refusal a call of walrus_run reported: one of the numbers below for its status and the text that it wrote, the
- * first *written bytes of its output. With status 0 it is WALRUS_CODE_NONE, and with another status it is only that if
- * the text is none of that status. A number is never given to another refusal; later versions may have further ones.
+/* Reports which refusal a call of walrus_run wrote: the number below for its status and its text, which is the first
+ * *written bytes of its output. It is WALRUS_CODE_NONE with status 0, and if no refusal of the status begins as the text
+ * does, which is so of no text that a call wrote.
  *
  * output points to output_len bytes, and is not null even where that is 0. */
 uint32_t walrus_code(uint8_t status, const uint8_t *output, size_t output_len);
 
-/* The refusals, each a hundred times its status and its place there. Letters stand for decimal numbers in the text. */
+/* The refusals. Each number is a hundred times the status, and a place. It keeps its meaning in later versions, which may
+ * have further numbers. A text in quotes is the line that is written, with decimal numbers for its letters. */
 enum {
-    WALRUS_CODE_NONE = 0,               /* no refusal */
-    WALRUS_CODE_USAGE = 201,            /* the usage text: the command line matches no command */
+    WALRUS_CODE_NONE = 0,
+    WALRUS_CODE_USAGE = 201,            /* the words match no command; the text is the usage */
     WALRUS_CODE_REJECT = 301,           /* 'reject': the blob was badly encoded */
     WALRUS_CODE_INCONSISTENT = 302,     /* 'inconsistent': the proof shows that the blob was badly encoded */
     WALRUS_CODE_BAD_INDEX = 303,        /* 'bad index': the blob is no bundle */
-    WALRUS_CODE_WRONG_OPENING = 304,    /* 'wrong D': the opening for draw D is not the one that was drawn, or not held */
-    WALRUS_CODE_PROOF = 305,            /* an envelope of recover: the proof that the blob was badly encoded */
-    WALRUS_CODE_NO_METADATA = 401,      /* 'no metadata': no envelope has metadata of the identifier */
-    WALRUS_CODE_TOO_FEW = 402,          /* 'short K of N': of N slivers or openings that are needed, K are held */
-    WALRUS_CODE_NO_PROOF = 403,         /* 'no proof': no envelope has a proof of the identifier */
-    WALRUS_CODE_PROOF_COUNT = 404,      /* 'wrong count': the proof has another number of openings than it needs */
+    WALRUS_CODE_WRONG_OPENING = 304,    /* 'wrong D': the opening for draw D is not the drawn one, or is not held */
+    WALRUS_CODE_PROOF = 305,            /* recover: the text is an envelope with a proof of bad encoding */
+    WALRUS_CODE_NO_METADATA = 401,      /* 'no metadata': the input has no metadata of the identifier */
+    WALRUS_CODE_TOO_FEW = 402,          /* 'short K of N': N slivers or openings are needed, and K are held */
+    WALRUS_CODE_NO_PROOF = 403,         /* 'no proof': the input has no proof of the identifier */
+    WALRUS_CODE_PROOF_COUNT = 404,      /* 'wrong count': the proof has too few openings, or too many */
     WALRUS_CODE_PROOF_REPEATS = 405,    /* 'repeated': two openings of the proof have one cross */
     WALRUS_CODE_BAD_OPENING = 406,      /* 'bad opening P': opening P of the proof is not held */
     WALRUS_CODE_CONSISTENT = 407,       /* 'consistent': the proof shows no bad encoding */
     WALRUS_CODE_DISK_FULL = 408,        /* 'disk full needed N free M': a record needs N bytes, and M are free */
-    WALRUS_CODE_TOO_MANY_MEMBERS = 409, /* 'too many members': a bundle has fewer */
+    WALRUS_CODE_TOO_MANY_MEMBERS = 409, /* 'too many members': there are more files than a bundle may have */
     WALRUS_CODE_BUNDLE_TOO_LONG = 410,  /* 'bundle too long': no blob has room for the files */
-    WALRUS_CODE_MISSING_COLUMN = 411,   /* 'missing column J': so is secondary sliver J, and enough openings of it */
+    WALRUS_CODE_MISSING_COLUMN = 411,   /* 'missing column J': sliver J is missing, and so are enough openings of it */
     WALRUS_CODE_NO_MEMBER = 412,        /* 'no member of N': the bundle has only N files */
     WALRUS_CODE_NO_SHARD = 413,         /* 'no shard': the blob has no shard of this number */
-    WALRUS_CODE_NO_PRIMARY = 414,       /* 'no primary': no held primary sliver of the shard */
-    WALRUS_CODE_NO_SECONDARY = 415,     /* 'no secondary': no held secondary sliver of the shard */
-    WALRUS_CODE_DRAW_COUNT = 416,       /* 'wrong count K of N': there are K openings for N draws */
-    WALRUS_CODE_NO_MEMORY = 501,        /* memory ran out, whatever was written before */
-    WALRUS_CODE_INPUT_FAILED = 601,     /* the input could not be read, which no call reports: it is the program's */
-    WALRUS_CODE_NO_ROOM = 701,          /* the output is too small; the program's output could not be written */
-    WALRUS_CODE_MALFORMED = 801,        /* 'malformed at N': no whole envelope, or no record, begins at byte N */
-    WALRUS_CODE_NOT_JSON = 802,         /* 'not json' */
+    WALRUS_CODE_NO_PRIMARY = 414,       /* 'no primary': no primary sliver of the shard is held */
+    WALRUS_CODE_NO_SECONDARY = 415,     /* 'no secondary': no secondary sliver of the shard is held */
+    WALRUS_CODE_DRAW_COUNT = 416,       /* 'wrong count K of N': there are K openings, and N draws */
+    WALRUS_CODE_NO_MEMORY = 501,        /* memory ran out, whatever the text is */
+    WALRUS_CODE_INPUT_FAILED = 601,     /* status 6, which the program has and no call */
+    WALRUS_CODE_NO_ROOM = 701,          /* the text is longer than the output */
+    WALRUS_CODE_MALFORMED = 801,        /* 'malformed at N': at byte N no whole envelope begins, or no record */
+    WALRUS_CODE_NOT_JSON = 802,         /* 'not json': the schedule is not JSON */
     WALRUS_CODE_BAD_SCHEDULE = 803,     /* 'bad schedule': the input is JSON, but no schedule */
-    WALRUS_CODE_TOO_MANY_EVENTS = 804,  /* 'too many events' */
-    WALRUS_CODE_BAD_EVENT = 805,        /* 'bad event N': event N of the schedule is none, or not in range */
-    WALRUS_CODE_BROKEN_REQUEST = 806,   /* serve: no whole envelope follows those that it answered in the text */
-    WALRUS_CODE_TOO_LONG = 901,         /* 'too long', or the answers of serve before: the input exceeds the limit */
-    WALRUS_CODE_COLLISION = 1001,       /* two texts with one digest: the last line, or the last envelope of serve */
+    WALRUS_CODE_TOO_MANY_EVENTS = 804,  /* 'too many events': the schedule has more than 65536 */
+    WALRUS_CODE_BAD_EVENT = 805,        /* 'bad event N': event N is none, or a number of it is out of range */
+    WALRUS_CODE_BROKEN_REQUEST = 806,   /* serve: behind the requests that the text answers, no whole envelope begins */
+    WALRUS_CODE_TOO_LONG = 901,         /* 'too long', or from serve its answers: the input is beyond the limit */
+    WALRUS_CODE_COLLISION = 1001,       /* a hash collision: the last line, or from serve the last envelope */
     WALRUS_CODE_NO_WORDS = 1101         /* the words are not UTF-8, or no zero byte stands behind the last one */
 };
 
