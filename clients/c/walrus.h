@@ -62,14 +62,14 @@ uint64_t walrus_room(const uint8_t *words, size_t words_len, uint64_t input_len)
 #define WALRUS_ROOM_NO_MEMORY (UINT64_MAX - 1)
 
 /* Reports which refusal a call of walrus_run wrote: the number below for its status and its text, which is the first
- * *written bytes of its output. It is WALRUS_CODE_NONE with status 0, and if no refusal of the status begins as the text
- * does, which is so of no text that a call wrote.
+ * *written bytes of its output. It is WALRUS_CODE_NONE with status 0, and if the text begins like no refusal of the
+ * status, as no text of a call does.
  *
  * output points to output_len bytes, and is not null even where that is 0. */
 uint32_t walrus_code(uint8_t status, const uint8_t *output, size_t output_len);
 
-/* The refusals. Each number is a hundred times the status, and a place. It keeps its meaning in later versions, which may
- * have further numbers. A text in quotes is the line that is written, with decimal numbers for its letters. */
+/* The refusals. Each number is a hundred times the status, and a place. It keeps its meaning in later versions, which
+ * may have further numbers. A text in quotes is the line that is written, with decimal numbers for its letters. */
 enum {
     WALRUS_CODE_NONE = 0,
     WALRUS_CODE_USAGE = 201,            /* the words match no command; the text is the usage */
