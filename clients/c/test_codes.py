@@ -86,6 +86,13 @@ class Header(unittest.TestCase):
         wanted = {number: text for number, (_, text) in CODES.items()}
         self.assertEqual({**quoted, 1001: "collision LEFT RIGHT"}, wanted)  # which need not be the whole text
 
+    def test_the_manual_of_the_library_lists_them(self) -> None:
+        rows = re.findall(r"^(\d+)\tWALRUS_CODE_(\w+)\t(.+)$", (TOP / "docs" / "walrus.3").read_text(), re.M)
+        self.assertEqual([(int(number), name) for number, name, _ in rows], [(it, CODES[it][0]) for it in CODES])
+        lines = {int(number): re.sub(r"\\f[BIR]", "", line) for number, _, line in rows if line.startswith("\\fB")}
+        texts = {number: text for number, (_, text) in CODES.items() if text}
+        self.assertEqual({**lines, 806: "", 901: "too long", 1001: ""}, {**texts, 806: "", 1001: ""})
+
     def test_it_has_each_status_and_each_text_of_the_manual(self) -> None:
         told = {(number // 100, text) for number, (_, text) in CODES.items()}
         manual = test_statuses.read_manual()
