@@ -24,10 +24,12 @@ class Caller:
     """Calls a library, with room for its output that is used again and again."""
 
     def __init__(self, path):
-        self.call = ctypes.CDLL(path).walrus_run
+        library = ctypes.CDLL(path)
+        self.call, self.code = library.walrus_run, library.walrus_code
         size, number = ctypes.c_size_t, ctypes.POINTER(ctypes.c_uint64)
         self.call.argtypes = [ctypes.c_char_p, size, ctypes.c_void_p, size, ctypes.c_void_p, size, number, number]
         self.call.restype = ctypes.c_uint8
+        self.code.argtypes, self.code.restype = [ctypes.c_uint8, ctypes.c_char_p, size], ctypes.c_uint32
         self.room = bytearray(ROOM)
 
     def run(self, words, content, limits):
@@ -93,7 +95,13 @@ def beside_program(trial, random):
     return None if checks.same(outcome, trial.whole) else f"the program ends with status {outcome.status}, or says more"
 
 
-CHECKS = [checks.same_again, small_room, small_room, beside_program, checks.front, checks.way_back]
+def coded(trial, random):
+    """Its code is one of its status, or none where that is 0."""
+    code = trial.runner.code(trial.whole.status, trial.whole.text, len(trial.whole.text))
+    return None if code // 100 == trial.whole.status else f"code {code} with status {trial.whole.status}"
+
+
+CHECKS = [checks.same_again, small_room, small_room, beside_program, checks.front, checks.way_back, coded]
 
 
 def in_child(work):

@@ -30,10 +30,17 @@ class Library:
         self.room_for = library.walrus_room
         self.room_for.argtypes = [text, size, ctypes.c_uint64]
         self.room_for.restype = ctypes.c_uint64
+        self.code_of = library.walrus_code
+        self.code_of.argtypes = [ctypes.c_uint8, text, size]
+        self.code_of.restype = ctypes.c_uint32
 
     def room(self, words: bytes, length: int) -> int:
         """How much room is told for words and an input of some length."""
         return int(self.room_for(words, len(words), length))
+
+    def code(self, status: int, text: bytes) -> int:
+        """The number of the refusal that a call reported."""
+        return int(self.code_of(status, text, len(text)))
 
     def call(self, words: bytes, data: bytes, room: int) -> tuple[int, bytes, int]:
         """The status, what of the room is the text's, and how long the whole text is."""

@@ -61,6 +61,53 @@ uint64_t walrus_room(const uint8_t *words, size_t words_len, uint64_t input_len)
 #define WALRUS_ROOM_UNKNOWN UINT64_MAX
 #define WALRUS_ROOM_NO_MEMORY (UINT64_MAX - 1)
 
+/* Reports which refusal a call of walrus_run wrote: the number below for its status and its text, which is the first
+ * *written bytes of its output. It is WALRUS_CODE_NONE with status 0, and if the text begins like no refusal of the
+ * status, as no text of a call does.
+ *
+ * output points to output_len bytes, and is not null even where that is 0. */
+uint32_t walrus_code(uint8_t status, const uint8_t *output, size_t output_len);
+
+/* The refusals. Each number is a hundred times the status, and a place. It keeps its meaning in later versions, which
+ * may have further numbers. A text in quotes is the line that is written, with decimal numbers for its letters. */
+enum {
+    WALRUS_CODE_NONE = 0,
+    WALRUS_CODE_USAGE = 201,            /* the words match no command; the text is the usage */
+    WALRUS_CODE_REJECT = 301,           /* 'reject': the blob was badly encoded */
+    WALRUS_CODE_INCONSISTENT = 302,     /* 'inconsistent': the proof shows that the blob was badly encoded */
+    WALRUS_CODE_BAD_INDEX = 303,        /* 'bad index': the blob is no bundle */
+    WALRUS_CODE_WRONG_OPENING = 304,    /* 'wrong D': the opening for draw D is not the drawn one, or is not held */
+    WALRUS_CODE_PROOF = 305,            /* recover: the text is an envelope with a proof of bad encoding */
+    WALRUS_CODE_NO_METADATA = 401,      /* 'no metadata': the input has no metadata of the identifier */
+    WALRUS_CODE_TOO_FEW = 402,          /* 'short K of N': N slivers or openings are needed, and K are held */
+    WALRUS_CODE_NO_PROOF = 403,         /* 'no proof': the input has no proof of the identifier */
+    WALRUS_CODE_PROOF_COUNT = 404,      /* 'wrong count': the proof has too few openings, or too many */
+    WALRUS_CODE_PROOF_REPEATS = 405,    /* 'repeated': two openings of the proof have one cross */
+    WALRUS_CODE_BAD_OPENING = 406,      /* 'bad opening P': opening P of the proof is not held */
+    WALRUS_CODE_CONSISTENT = 407,       /* 'consistent': the proof shows no bad encoding */
+    WALRUS_CODE_DISK_FULL = 408,        /* 'disk full needed N free M': a record needs N bytes, and M are free */
+    WALRUS_CODE_TOO_MANY_MEMBERS = 409, /* 'too many members': there are more files than a bundle may have */
+    WALRUS_CODE_BUNDLE_TOO_LONG = 410,  /* 'bundle too long': no blob has room for the files */
+    WALRUS_CODE_MISSING_COLUMN = 411,   /* 'missing column J': sliver J is missing, and so are enough openings of it */
+    WALRUS_CODE_NO_MEMBER = 412,        /* 'no member of N': the bundle has only N files */
+    WALRUS_CODE_NO_SHARD = 413,         /* 'no shard': the blob has no shard of this number */
+    WALRUS_CODE_NO_PRIMARY = 414,       /* 'no primary': no primary sliver of the shard is held */
+    WALRUS_CODE_NO_SECONDARY = 415,     /* 'no secondary': no secondary sliver of the shard is held */
+    WALRUS_CODE_DRAW_COUNT = 416,       /* 'wrong count K of N': there are K openings, and N draws */
+    WALRUS_CODE_NO_MEMORY = 501,        /* memory ran out, whatever the text is */
+    WALRUS_CODE_INPUT_FAILED = 601,     /* status 6, which the program has and no call */
+    WALRUS_CODE_NO_ROOM = 701,          /* the text is longer than the output */
+    WALRUS_CODE_MALFORMED = 801,        /* 'malformed at N': at byte N no whole envelope begins, or no record */
+    WALRUS_CODE_NOT_JSON = 802,         /* 'not json': the schedule is not JSON */
+    WALRUS_CODE_BAD_SCHEDULE = 803,     /* 'bad schedule': the input is JSON, but no schedule */
+    WALRUS_CODE_TOO_MANY_EVENTS = 804,  /* 'too many events': the schedule has more than 65536 */
+    WALRUS_CODE_BAD_EVENT = 805,        /* 'bad event N': event N is none, or a number of it is out of range */
+    WALRUS_CODE_BROKEN_REQUEST = 806,   /* serve: behind the requests that the text answers, no whole envelope begins */
+    WALRUS_CODE_TOO_LONG = 901,         /* 'too long', or from serve its answers: the input is beyond the limit */
+    WALRUS_CODE_COLLISION = 1001,       /* a hash collision: the last line, or from serve the last envelope */
+    WALRUS_CODE_NO_WORDS = 1101         /* the words are not UTF-8, or no zero byte stands behind the last one */
+};
+
 #ifdef __cplusplus
 }
 #endif

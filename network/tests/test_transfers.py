@@ -78,7 +78,7 @@ class Transfers(TransferCase):
         pieces = [DRAWN.randbytes(PIECE) for _ in range(6)]
         long, names = b"".join(pieces), b"".join([await self.id(piece) for piece in pieces])
         name = (await self.id(MARK + len(long).to_bytes(8, "big") + names)).hex()
-        short, at = b"short", self.folder / "file"
+        short, at, program = b"short", self.folder / "file", self.program
         bound = 3 * PIECE  # two of them, and what comes and goes beside them, which is far less than a third one
         ways, peaks = {"store": True, "store at once": False}, collections.defaultdict[str, list[int]](list)
         for data, self.named in ((short, (await self.id(short)).hex()), (long, name)):
@@ -87,8 +87,10 @@ class Transfers(TransferCase):
             for way, self.resumes in ways.items():
                 peaks[way].append(await self.peak_of("store", at, "--epochs", "1"))
                 self.assertTrue(self.bodies.pop() == data)
-            peaks["fetch"].append(await self.peak_of("fetch", self.named, "--output", self.out))
-            self.assertTrue(self.out.read_bytes() == data)
+            for self.program in filter(None, (program, LIBRARY)):
+                peaks[f"fetch by {self.program}"].append(await self.peak_of("fetch", self.named, "--output", self.out))
+                self.assertTrue(self.out.read_bytes() == data)
+            self.program = program
         self.assertEqual(self.paths, ["/v1/blobs", "/v1/blobs", "/v1/uploads/1", "/v1/blobs"])
         for what, (least, most) in peaks.items():
             self.assertLess(most - least, bound, what)
@@ -145,7 +147,7 @@ class Transfers(TransferCase):
                 with self.assertRaisesRegex(transfers.Failure, "neither the program walrus nor its library is here"):
                     transfers.find_walrus()
         with mock.patch.object(transfers, "find_program", return_value=program):
-            self.assertIs(type(transfers.find_walrus()), client.Walrus)  # which takes no memory of this process
+            self.assertIs(type(transfers.find_walrus()), client.Walrus)
 
     async def test_what_comes_on_standard_input_goes_on_at_once(self) -> None:
         """A stream is stored as it comes: its end need not be known, and nothing keeps all of it."""

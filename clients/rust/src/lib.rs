@@ -1,9 +1,11 @@
 //! Blobs that outlive lost and lying shards: the program `walrus` as calls, with all that is proved of it.
 //!
 //! Each call is a command of the program (README.md, 'Which command for what'). It starts no process, keeps no state,
-//! and may run in several threads at once. An [`Error`] has the program's status and words.
+//! and may run in several threads at once. An [`Error`] has the program's status and words, and the code of the refusal.
 
 use std::fmt;
+
+pub mod codes;
 
 extern "C" {
     fn walrus_run(
@@ -16,6 +18,8 @@ extern "C" {
         written: *mut u64,
         needed: *mut u64,
     ) -> u8;
+
+    fn walrus_code(status: u8, output: *const u8, output_len: usize) -> u32;
 }
 
 /// The status of a call whose output has too little room.
@@ -26,7 +30,6 @@ pub const LARGEST_BLOB: usize = 16_777_216;
 pub const MOST_FAULTS: u32 = 333;
 
 const ROOM: usize = 4_096; // where no more is known of what a command writes
-const PROOF_FAULTS: [&str; 4] = ["consistent", "wrong count", "repeated", "bad opening"];
 
 /// What a call into room of the caller did.
 #[derive(Clone, Copy, Debug, PartialEq, Eq)]
@@ -60,6 +63,12 @@ impl Error {
     pub fn words(&self) -> String {
         let front = &self.text[..self.text.len().min(300)];
         String::from_utf8_lossy(front).trim().to_string()
+    }
+
+    /// Which refusal it is: one of [`codes`].
+    pub fn code(&self) -> u32 {
+        // The text is where it is said to be for the whole call, and the pointer of a vector is never null.
+        unsafe { walrus_code(self.status, self.text.as_ptr(), self.text.len()) }
     }
 }
 
@@ -222,9 +231,11 @@ pub fn check(identifier: &[u8; 32], envelopes: &[u8]) -> Result<Verdict, Error> 
         Err(shown) => shown,
     };
     let words = shown.words();
-    match shown.status {
-        3 => Ok(Verdict { holds: true, words }),
-        4 if PROOF_FAULTS.iter().any(|fault| words.starts_with(fault)) => Ok(Verdict { holds: false, words }),
+    match shown.code() {
+        codes::INCONSISTENT => Ok(Verdict { holds: true, words }),
+        codes::PROOF_COUNT | codes::PROOF_REPEATS | codes::BAD_OPENING | codes::CONSISTENT => {
+            Ok(Verdict { holds: false, words })
+        }
         _ => Err(shown),
     }
 }
@@ -262,7 +273,7 @@ pub fn verify(
     let words = ["verify", &hex(identifier), &shard.to_string(), &hex(beacon), &count.to_string()];
     match result(&words, envelopes, ROOM) {
         Ok(_) => Ok(Verdict { holds: true, words: "accepted".to_string() }),
-        Err(fault) if fault.status == 3 => Ok(Verdict { holds: false, words: fault.words() }),
+        Err(fault) if fault.code() == codes::WRONG_OPENING => Ok(Verdict { holds: false, words: fault.words() }),
         Err(fault) => Err(fault),
     }
 }

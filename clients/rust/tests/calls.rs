@@ -2,7 +2,7 @@
 
 use std::thread;
 
-use walrus::{envelope, hex, split, Axis};
+use walrus::{codes, envelope, hex, split, Axis, Error};
 
 const SIX_WORDS: [u8; 12] = [0, 1, 0, 2, 0, 3, 0, 4, 0, 5, 0, 6];
 const WORKED: &str = "e02bba4bcbf5e38690b9d44c477647094b390c35d101726424629de2f5ab48fa";
@@ -88,6 +88,40 @@ fn words_that_are_none() {
     assert_eq!(walrus::encode(b"", 1, 3).unwrap_err().status, 2);
     assert_eq!(walrus::run(&[], b"", 0).status, 2);
     assert_eq!(walrus::read(&[0; 32], b"x").unwrap_err().words(), "malformed at 0");
+}
+
+#[test]
+fn codes_of_refusals() {
+    let identifier = walrus::identifier(&SIX_WORDS, 1, 1).unwrap();
+    let encoded = walrus::encode(&SIX_WORDS, 1, 1).unwrap();
+    let frames = split(&encoded);
+    let lonely = stream(&[frames[0].1, frames[7].1]);
+    assert_eq!(walrus::read(&identifier, b"").unwrap_err().code(), codes::NO_METADATA);
+    assert_eq!(walrus::read(&identifier, &lonely).unwrap_err().code(), codes::TOO_FEW);
+    assert_eq!(walrus::read(&identifier, b"x").unwrap_err().code(), codes::MALFORMED);
+    assert_eq!(walrus::check(&identifier, &encoded).unwrap_err().code(), codes::NO_PROOF);
+    assert_eq!(walrus::member(&identifier, 0, &encoded).unwrap_err().code(), codes::BAD_INDEX);
+    assert_eq!(walrus::verify(&identifier, 4, &[7; 32], 1, &encoded).unwrap_err().code(), codes::NO_SHARD);
+    assert_eq!(walrus::verify(&identifier, 0, &[7; 32], 3, &encoded).unwrap_err().code(), codes::DRAW_COUNT);
+    assert_eq!(walrus::challenge(&identifier, 0, &[7; 32], 1, &lonely).unwrap_err().code(), codes::NO_PRIMARY);
+    assert_eq!(walrus::bundle(&stream(&[b"", b"", b""]), 1).unwrap_err().code(), codes::TOO_MANY_MEMBERS);
+    assert_eq!(walrus::identifier(b"", 0, 1).unwrap_err().code(), codes::USAGE);
+    assert_eq!(walrus::serve(1, 0, 4, b"x").unwrap_err().code(), codes::BROKEN_REQUEST);
+    let none = Error { command: String::new(), status: 0, text: Vec::new() };
+    assert_eq!(none.code(), codes::NONE);
+}
+
+/// The numbers are those of the header, under the same names.
+#[test]
+fn codes_of_the_header() {
+    let listed = |text: &str, front: &str| -> Vec<(String, u32)> {
+        let rows = text.lines().filter_map(|line| line.trim_start().strip_prefix(front)?.split_once(" = "));
+        let number = |text: &str| text.split(&[',', ';', ' '][..]).next().unwrap().parse().unwrap();
+        rows.map(|(name, rest)| (name.trim_end_matches(": u32").to_string(), number(rest))).collect()
+    };
+    let here = listed(include_str!("../src/codes.rs"), "pub const ");
+    assert_eq!(here.len(), 35);
+    assert_eq!(here, listed(include_str!("../../c/walrus.h"), "WALRUS_CODE_"));
 }
 
 #[test]

@@ -18,5 +18,6 @@ mod RecoverTexts
 mod Rooms
 mod ServeTexts
 mod ServedTexts
+mod Shown
 mod Splits
 mod Streams

@@ -1,5 +1,7 @@
 pub mod Words
 pub mod Call
+pub mod Codes
+pub mod Causes
 pub mod Encoded
 pub mod Room
 pub mod inside

@@ -1,15 +1,20 @@
 //! The program as one call from C: the words, the input and the room for the output are slices.
 #![tactic(auto)]
 
+ghost use Rattle.std.specs.Prelude.{◌≡◌};
 ghost use Rattle.sha2.specs.Sha256.{sha256};
 ghost use Rattle.walrus_c.specs.Call.{Returns};
+ghost use Rattle.walrus_c.specs.Causes.{ShowsWhy};
+ghost use Rattle.walrus_c.specs.Codes.{code_of};
 ghost use Rattle.walrus_c.specs.Room.{IsRoom, Suffices};
 
 mod call;
+mod codes;
 mod room;
 mod words;
 
 use call::{run_over, status_told};
+use codes::code_of;
 use room::{room_for, untold};
 use std::alloc::Global;
 use words::words_of;
@@ -56,4 +61,16 @@ pub extern "C" fn walrus_room(alloc: Global, words: &[u8], input_len: u64) -> u6
         Ok(words) => room_for(alloc, &words, input_len),
         Err(status) => untold(status),
     }
+}
+
+/// Which refusal a call of `walrus_run` reported, by its status and the text that it wrote: a number of the table, or 0 if it
+/// reported none.
+#[unsafe(no_mangle)]
+pub extern "C" fn walrus_code(status: u8, output: &[u8]) -> u32
+    // The table.
+    ensures exact { result ≡ code_of status output.now }
+    // Whatever words and input the run had that wrote this with this status: unless that is 0, the code shows why.
+    ensures why { ShowsWhy sha256 status output.now result }
+{
+    code_of(status, output)
 }

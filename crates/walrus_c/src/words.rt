@@ -8,7 +8,7 @@ use std::alloc::Global;
 use wal_run::NO_MEMORY;
 
 /// The status of a text that is no words.
-const NO_WORDS: u8 = 11;
+pub const NO_WORDS: u8 = 11;
 
 /// The words of the text, or the status that tells why there are none.
 pub fn words_of(alloc: Global, text: &[u8]) -> Result<Vec<String>, u8>

@@ -71,7 +71,7 @@ async def ask(session: aiohttp.ClientSession, method: str, path: str, **words: A
 
 
 def find_walrus() -> client.Walrus:
-    """What computes identifiers: the program, whose memory is its own, or else the library."""
+    """What computes identifiers: the program, or else the library."""
     program = find_program()
     if not program.endswith(".so") and os.access(program, os.X_OK):
         return client.Walrus(program)

@@ -1,0 +1,37 @@
+//! What [`Error::code`](crate::Error::code) reports: a number for each refusal, as in `walrus.h`, where each is explained.
+
+pub const NONE: u32 = 0;
+pub const USAGE: u32 = 201;
+pub const REJECT: u32 = 301;
+pub const INCONSISTENT: u32 = 302;
+pub const BAD_INDEX: u32 = 303;
+pub const WRONG_OPENING: u32 = 304;
+pub const PROOF: u32 = 305;
+pub const NO_METADATA: u32 = 401;
+pub const TOO_FEW: u32 = 402;
+pub const NO_PROOF: u32 = 403;
+pub const PROOF_COUNT: u32 = 404;
+pub const PROOF_REPEATS: u32 = 405;
+pub const BAD_OPENING: u32 = 406;
+pub const CONSISTENT: u32 = 407;
+pub const DISK_FULL: u32 = 408;
+pub const TOO_MANY_MEMBERS: u32 = 409;
+pub const BUNDLE_TOO_LONG: u32 = 410;
+pub const MISSING_COLUMN: u32 = 411;
+pub const NO_MEMBER: u32 = 412;
+pub const NO_SHARD: u32 = 413;
+pub const NO_PRIMARY: u32 = 414;
+pub const NO_SECONDARY: u32 = 415;
+pub const DRAW_COUNT: u32 = 416;
+pub const NO_MEMORY: u32 = 501;
+pub const INPUT_FAILED: u32 = 601;
+pub const NO_ROOM: u32 = 701;
+pub const MALFORMED: u32 = 801;
+pub const NOT_JSON: u32 = 802;
+pub const BAD_SCHEDULE: u32 = 803;
+pub const TOO_MANY_EVENTS: u32 = 804;
+pub const BAD_EVENT: u32 = 805;
+pub const BROKEN_REQUEST: u32 = 806;
+pub const TOO_LONG: u32 = 901;
+pub const COLLISION: u32 = 1001;
+pub const NO_WORDS: u32 = 1101;

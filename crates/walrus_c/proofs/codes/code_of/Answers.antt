@@ -1,0 +1,9 @@
+-- The rows of the code are those of the table.
+use Rattle.std.proofs.Common.{rules, arith}
+use Rattle.std.proofs.lemmas.Grind.{common_steps}
+use Rattle.walrus_c.specs.Codes.{code_of, refusals}
+use Rattle.walrus_c.proofs.codes.code_of.Goals as goal
+
+pub returns : goal.returns
+unfolding code_of refusals
+returns c = first_of (search rules, grind (arith, common_steps))

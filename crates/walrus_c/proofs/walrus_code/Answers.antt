@@ -1,0 +1,7 @@
+-- The code is that of the table, which shows the cause.
+use Rattle.sha2.specs.Sha256.{sha256}
+use Rattle.walrus_c.proofs.Shown.{shows_why}
+use Rattle.walrus_c.proofs.walrus_code.Goals as goal
+
+pub returns-clause-why : goal.returns-clause-why
+returns-clause-why c = shows_why sha256 c.args.status c.args.output.now _ c.code_of.ensures
