@@ -93,7 +93,6 @@ class Turns(unittest.IsolatedAsyncioTestCase):
         self.assertEqual(seen, [(mark.place, mark.chain, 0, [], [])])
         self.assertEqual((late.ledger.epoch, late.place_of(registration("x", 1))), (1, None))
 
-
     async def test_a_follower_is_told_parts_of_a_batch_s_size_each_with_a_deadline_of_its_own(self) -> None:
         made, told = await self.recorder(FOUNDED), list[bytes]()
         for size in (1, 1, 15, 15, 15, 1, 1):
@@ -116,7 +115,7 @@ class Turns(unittest.IsolatedAsyncioTestCase):
                 async with real(30):
                     await service.follow(request)
         self.assertEqual(b"".join(told[1:]), b"".join(lines))
-        self.assertEqual([it.count(b"\n") for it in told[1:]], [3, 1, 1, 1, 2])  # 16 entries are longer with their digest
+        self.assertEqual([it.count(b"\n") for it in told[1:]], [3, 1, 1, 1, 2])  # a line has its digest too
         self.assertEqual(deadlines.call_args_list.count(mock.call(recording.REQUEST)), len(told))
 
     async def test_a_batch_that_is_longer_than_what_waits_for_a_follower_is_told_all_the_same(self) -> None:

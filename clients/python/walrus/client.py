@@ -232,8 +232,8 @@ async def collect(shards: Shards, request: Union[Read, Symbol], walrus: Walrus, 
     """What the program makes of replies to a request: status 0 or 3, and its text; else `Refused` is raised. No more
     shards are asked than are needed, and others once one is late or of no use. The program runs once enough was heard,
     and again once more can be enough. Where all of it is too little, a proof of bad encoding will do: status 3, and the
-    proof in an envelope. Long ones are asked for then, the next one where one is late or shows nothing, and of f+1 shards
-    at once at most: so who lies takes no memory beside that of slivers, and little time."""
+    proof in an envelope. Long ones are asked for then, of the next one where one is late or shows nothing, and of f+1
+    shards at once at most: so who lies takes little memory and little time."""
     needed = shape_of(shards).symbols[getattr(request, "axis", SECONDARY)]
     asked = Asked.of(write_frame(request), needed, len(shards))
     with contextlib.closing(asked.basket):
