@@ -10,6 +10,7 @@ import aiohttp
 from ledger_case import FOUNDED, LedgerCase, Memory, registration
 from test_checkpoints import turn
 
+from walrus.network import recording
 from walrus.network.checkpoint import Mark
 from walrus.network.etcd import Batch
 from walrus.network.keeping import Keeper
@@ -58,7 +59,8 @@ class Turns(unittest.IsolatedAsyncioTestCase):
             return await batches(place)
 
         async def ask(name: str) -> None:
-            self.assertEqual((await made.behind(0, name))[1], [FOUNDED, registration("x", 1)])
+            found = await made.behind(0, name)
+            self.assertEqual([text for it in found for text in it.entries], [FOUNDED, registration("x", 1)])
             answered.append(name)
 
         with mock.patch.object(self.etcd, "batches", slow):
@@ -88,8 +90,39 @@ class Turns(unittest.IsolatedAsyncioTestCase):
         self.assertGreater(late.size, 0)
         with mock.patch.object(late, "forget", watched):
             await late.catch_up()
-        self.assertEqual(seen, [(mark.place, mark.chain, 0, [], (mark.chain, []))])
+        self.assertEqual(seen, [(mark.place, mark.chain, 0, [], [])])
         self.assertEqual((late.ledger.epoch, late.place_of(registration("x", 1))), (1, None))
+
+
+    async def test_a_follower_is_told_parts_of_a_batch_s_size_each_with_a_deadline_of_its_own(self) -> None:
+        made, told = await self.recorder(FOUNDED), list[bytes]()
+        for size in (1, 1, 15, 15, 15, 1, 1):
+            self.assertTrue(await made.step(Batch(made.chain, [f"x/{it}/".ljust(16_384, "y") for it in range(size)])))
+        lines = [it.line for it in made.recent]
+
+        class Response(mock.MagicMock):
+            async def write(self, part: bytes) -> None:
+                told.append(part)
+                if sum(map(len, told[1:])) >= sum(map(len, lines)):
+                    raise ConnectionResetError
+
+        request, real = mock.MagicMock(), asyncio.timeout
+        request.query.get.return_value, request.transport.is_closing.return_value = "0", False
+        request.__getitem__.return_value = "x"
+        service, running = recording.Service(made, mock.Mock()), asyncio.create_task(made.run())
+        self.addCleanup(running.cancel)
+        with mock.patch.object(recording.web, "StreamResponse", lambda **_: Response(prepare=mock.AsyncMock())):
+            with mock.patch.object(recording.asyncio, "timeout", side_effect=real) as deadlines:
+                async with real(30):
+                    await service.follow(request)
+        self.assertEqual(b"".join(told[1:]), b"".join(lines))
+        self.assertEqual([it.count(b"\n") for it in told[1:]], [3, 1, 1, 1, 2])  # 16 entries are longer with their digest
+        self.assertEqual(deadlines.call_args_list.count(mock.call(recording.REQUEST)), len(told))
+
+    async def test_a_batch_that_is_longer_than_what_waits_for_a_follower_is_told_all_the_same(self) -> None:
+        made = await self.recorder(FOUNDED, registration("x", 1), registration("x", 2))
+        with mock.patch("walrus.network.recorder.HELD", 1):
+            self.assertEqual([it.entries for it in await made.behind(1)], [[registration("x", 1)]])
 
 
 class Names(LedgerCase):

@@ -33,14 +33,19 @@ class Mark(NamedTuple):
 
 def written(fields: dict[str, Any], rows: Iterable[Row]) -> Iterator[bytes]:
     """The lines of a checkpoint, in pieces."""
-    lines, size = list[bytes](), 0
-    for line in lines_of(fields, rows):
-        if lines and size + len(line) > LONGEST:
-            yield b"".join(lines)
-            lines, size = [], 0
-        lines.append(line)
+    return parted(lines_of(fields, rows), LONGEST)
+
+
+def parted(lines: Iterable[bytes], most: int) -> Iterator[bytes]:
+    """Lines in parts of at most so many bytes, or of one line that is longer."""
+    part, size = list[bytes](), 0
+    for line in lines:
+        if part and size + len(line) > most:
+            yield b"".join(part)
+            part, size = [], 0
+        part.append(line)
         size += len(line)
-    yield b"".join(lines)
+    yield b"".join(part)
 
 
 def lines_of(fields: dict[str, Any], rows: Iterable[Row]) -> Iterator[bytes]:

@@ -43,7 +43,6 @@ class Recorder:
     def __init__(self, etcd: Etcd, state: Optional[State] = None) -> None:
         self.etcd, self.state = etcd, state or State()
         self.ledger, self.base, self.identity = self.state.ledger, self.state.base, self.state.identity
-        self.base.execute("CREATE TABLE IF NOT EXISTS places (digest BLOB PRIMARY KEY, place INTEGER) WITHOUT ROWID")
         self.chain, self.state.apply = self.state.chain or Chain(0, b""), self.apply
         self.waiting = dict[Taken, str]()
         self.recent, self.size = collections.deque[Batch](), 0  # batches for followers, and their bytes
@@ -237,7 +236,7 @@ class Recorder:
         if place < (found[0].before.place if found else self.chain.place):
             async with self.turns[name], self.turn:
                 found = await self.etcd.batches(place)
-        sizes = itertools.accumulate(it.size for it in found)
+        sizes = itertools.accumulate((it.size for it in found[1:]), initial=0)  # beside the first one, which is told
         return [it.behind(place) for it, size in zip(found, sizes) if size <= HELD]
 
     async def refresh(self) -> None:

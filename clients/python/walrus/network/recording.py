@@ -11,14 +11,14 @@ from typing import Any, Awaitable, Callable, Union
 from aiohttp import web
 
 from .connections import Named, Server
-from .checkpoint import line_of
+from .checkpoint import line_of, parted
 from .entries import number
 from .etcd import Batch, Etcd, Failed, Gone
 from .follower import NAME as RECORDER, PARTED
 from .gateway import ending
 from .keeping import Keeper
 from .notify import ready
-from .recorder import BEAT, Answer, Broken, Recorder
+from .recorder import BEAT, MOST_BATCH, Answer, Broken, Recorder
 from .settings import RecorderSettings
 from .state import State
 
@@ -155,7 +155,8 @@ class Service(Server):
                 await tell(line_of({"piece": base64.b64encode(piece).decode()}))
             while request.transport and not request.transport.is_closing() and name not in recorder.ledger.expelled:
                 batches = batches or [Batch(chain, [])]
-                await tell(b"".join(it.line for it in batches))
+                for lines in parted((it.line for it in batches), MOST_BATCH):
+                    await tell(lines)
                 chain = batches[-1].after
                 self.places[name] = place = chain.place
                 heard = await recorder.news.until(lambda: recorder.chain.place > place, BEAT)
