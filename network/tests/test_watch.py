@@ -54,7 +54,7 @@ class Challenges(unittest.IsolatedAsyncioTestCase):
             ValueError("a beacon has 32 bytes"),
             Problem(404, "no node of this name"),
             client.Failed("told to fail", {}),
-            client.Refused(4, b"", {}),
+            client.Refused(4, b"", {}, client.Code.NONE),
             OSError(11, "no process can be had"),
         ]
         count, shown = len(faults), audit.Audit(True, "accept")

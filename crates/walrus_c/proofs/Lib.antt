@@ -15,6 +15,7 @@ mod RangeTexts
 mod Ranges
 mod ReadTexts
 mod RecoverTexts
+mod Refusals
 mod Rooms
 mod ServeTexts
 mod ServedTexts
