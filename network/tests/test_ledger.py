@@ -8,6 +8,7 @@ import random
 import sqlite3
 import subprocess
 import tempfile
+import time
 import tracemalloc
 import unittest
 import zlib
@@ -357,7 +358,7 @@ class Rules(unittest.TestCase):
 
         full, connect = False, sqlite3.connect
         self.enterContext(mock.patch.object(blobs, "CACHED", 3))
-        self.enterContext(mock.patch.object(state, "LATER", 0))
+        self.enterContext(mock.patch.multiple(state, LATER=0, REST=0))
         with tempfile.TemporaryDirectory() as folder:
             with mock.patch.object(state.sqlite3, "connect", lambda *it, **to: connect(*it, **to, factory=Full)):
                 kept = State(f"{folder}/kept", 2)
@@ -379,10 +380,10 @@ class Rules(unittest.TestCase):
             kept.close()
 
     def test_what_a_disk_did_not_take_at_first_is_entered_once(self) -> None:
-        blobs = [entry_key("x", "register", f"{it:064}", 5) for it in range(200)]
+        texts = [entry_key("x", "register", f"{it:064}", 5) for it in range(200)]
         with tempfile.TemporaryDirectory() as folder, contextlib.redirect_stderr(io.StringIO()):
             kept, chain = State(f"{folder}/kept"), Chain(0, bytes(32))
-            entries = chain.followed([entry_key(OPERATOR, "begin", 0, 1, "a,b,c,d"), *blobs])
+            entries = chain.followed([entry_key(OPERATOR, "begin", 0, 1, "a,b,c,d"), *texts])
             for entry in entries:
                 kept.ledger.apply(entry)
             kept.base.execute("PRAGMA max_page_count = 1")  # no more than it has
@@ -399,6 +400,23 @@ class Rules(unittest.TestCase):
                 kept.close()
                 kept = State(f"{folder}/kept")
             kept.close()
+
+    def test_a_full_disk_is_tried_again_the_later_the_more_is_entered_again(self) -> None:
+        def slow(entry: Entry) -> Optional[str]:
+            time.sleep(0.005)
+            return None
+
+        entries = Chain(0, bytes(32)).followed(f"x/register/{it:064}/5" for it in range(200))
+        with tempfile.TemporaryDirectory() as folder, contextlib.redirect_stderr(io.StringIO()):
+            kept = State(f"{folder}/kept")
+            self.addCleanup(kept.close)
+            kept.base.execute("PRAGMA max_page_count = 1")  # no more than it has
+            for entry in entries:
+                kept.blobs[entry.values[0]] = blobs.Blob(5, "x")
+            kept.apply, begun = slow, time.monotonic()
+            kept.save(Chain(200, bytes(32)), entries)
+            self.assertFalse(kept.whole)
+            self.assertGreater(kept.again - begun, 200 * 0.005 * 10)
 
     def same(self, one: Ledger, other: Ledger) -> None:
         """Both say the same of all that there is."""

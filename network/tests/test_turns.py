@@ -1,7 +1,10 @@
 """A recorder's turns: who asks for much of what etcd alone has, and a recorder that takes a checkpoint meanwhile."""
 import asyncio
 import collections
+import contextlib
+import io
 import json
+import tempfile
 import unittest
 from typing import Any
 from unittest import mock
@@ -15,6 +18,7 @@ from walrus.network.checkpoint import Mark
 from walrus.network.etcd import Batch
 from walrus.network.keeping import Keeper
 from walrus.network.recorder import Recorder
+from walrus.network.state import State
 
 
 async def settled() -> None:
@@ -117,6 +121,19 @@ class Turns(unittest.IsolatedAsyncioTestCase):
         self.assertEqual(b"".join(told[1:]), b"".join(lines))
         self.assertEqual([it.count(b"\n") for it in told[1:]], [3, 1, 1, 1, 2])  # a line has its digest too
         self.assertEqual(deadlines.call_args_list.count(mock.call(recording.REQUEST)), len(told))
+
+    async def test_a_recorder_whose_disk_takes_nothing_at_first_knows_its_places(self) -> None:
+        texts = [FOUNDED, *(registration("x", number) for number in range(200))]
+        with tempfile.TemporaryDirectory() as folder, contextlib.redirect_stderr(io.StringIO()) as said:
+            kept = State(f"{folder}/kept")
+            self.addCleanup(kept.close)
+            made = Recorder(self.etcd, kept)
+            await made.catch_up()
+            kept.base.execute("PRAGMA max_page_count = 1")  # no more than it has
+            self.assertTrue(await made.step(Batch(made.chain, texts)))
+            self.assertIn("database or disk is full", said.getvalue())
+            self.assertEqual((kept.whole, made.ledger.posted["x"]), (False, 200))
+            self.assertEqual([made.place_of(it) for it in texts], [*range(1, 202)])
 
     async def test_a_batch_that_is_longer_than_what_waits_for_a_follower_is_told_all_the_same(self) -> None:
         made = await self.recorder(FOUNDED, registration("x", 1), registration("x", 2))

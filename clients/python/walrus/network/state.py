@@ -15,6 +15,7 @@ from .entries import Chain, Entry
 from .ledger import Ledger
 
 EACH, LATER = 0.5, 1.0  # seconds between two commits, and if the disk is full
+REST = 10  # times as long as it took to enter again what a full disk did not take, until it is tried again
 PAGES = 32_768  # KiB of the database that are kept in memory
 TORN = sqlite3.SQLITE_CORRUPT, sqlite3.SQLITE_NOTADB, sqlite3.SQLITE_ERROR  # a database that is none, or another's
 TABLES = """
@@ -115,12 +116,14 @@ class State(Database):
             self.fresh.clear()
         except sqlite3.OperationalError as fault:  # SQLite has rolled back what came since it last took something
             self.tell(fault)
+            begun = time.monotonic()
             self.base.execute("BEGIN IMMEDIATE")
             self.blobs.forget()
             self.load()
             for entry in self.fresh:
                 self.apply(entry)
-            self.chain, self.again = chain, time.monotonic() + LATER
+            self.chain, took = chain, time.monotonic() - begun
+            self.again = time.monotonic() + max(LATER, REST * took)
         return self.whole
 
     def commit(self) -> None:
