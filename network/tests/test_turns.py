@@ -4,6 +4,7 @@ import collections
 import contextlib
 import io
 import json
+import sqlite3
 import tempfile
 import unittest
 from typing import Any
@@ -13,7 +14,7 @@ import aiohttp
 from ledger_case import FOUNDED, LedgerCase, Memory, registration
 from test_checkpoints import turn
 
-from walrus.network import recording
+from walrus.network import recording, state
 from walrus.network.checkpoint import Mark
 from walrus.network.etcd import Batch
 from walrus.network.keeping import Keeper
@@ -37,6 +38,16 @@ class Noting(collections.defaultdict[str, asyncio.Lock]):
     def __getitem__(self, name: str) -> asyncio.Lock:
         self.taken.append(name)
         return super().__getitem__(name)
+
+
+class Full(sqlite3.Connection):
+    """A database on a full disk: no transaction comes to its end."""
+
+    def execute(self, words: str, *values: Any) -> sqlite3.Cursor:
+        if words == "COMMIT":
+            super().execute("ROLLBACK")
+            raise sqlite3.OperationalError("database or disk is full")
+        return super().execute(words, *values)
 
 
 class Turns(unittest.IsolatedAsyncioTestCase):
@@ -123,14 +134,15 @@ class Turns(unittest.IsolatedAsyncioTestCase):
         self.assertEqual(deadlines.call_args_list.count(mock.call(recording.REQUEST)), len(told))
 
     async def test_a_recorder_whose_disk_takes_nothing_at_first_knows_its_places(self) -> None:
-        texts = [FOUNDED, *(registration("x", number) for number in range(200))]
+        texts, connect = [FOUNDED, *(registration("x", number) for number in range(200))], sqlite3.connect
         with tempfile.TemporaryDirectory() as folder, contextlib.redirect_stderr(io.StringIO()) as said:
-            kept = State(f"{folder}/kept")
-            self.addCleanup(kept.close)
+            with mock.patch.object(sqlite3, "connect", lambda *it, **to: connect(*it, **to, factory=Full)):
+                kept = State(f"{folder}/kept")
+            self.addCleanup(kept.base.close)
             made = Recorder(self.etcd, kept)
             await made.catch_up()
-            kept.base.execute("PRAGMA max_page_count = 1")  # no more than it has
-            self.assertTrue(await made.step(Batch(made.chain, texts)))
+            with mock.patch.object(state, "EACH", 0):
+                self.assertTrue(await made.step(Batch(made.chain, texts)))
             self.assertIn("database or disk is full", said.getvalue())
             self.assertEqual((kept.whole, made.ledger.posted["x"]), (False, 200))
             self.assertEqual([made.place_of(it) for it in texts], [*range(1, 202)])

@@ -78,7 +78,7 @@ class Walrus(NamedTuple):
             ran = subprocess.run([path], stdin=subprocess.DEVNULL, stdout=PIPE)
         except OSError as error:
             raise ValueError(f"{path}: {error.strerror}; the variable WALRUS can name the program walrus") from None
-        if Code.of(ran.returncode, ran.stdout) is not Code.USAGE:
+        if ran.returncode != 2 or not ran.stdout.startswith(b"usage: walrus "):
             raise ValueError(f"{path} is not the program walrus: it ends with status {ran.returncode}")
         built = pathlib.Path(path).resolve().parent / "crates" / "walrus" / "out" / "walrus"
         return cls(str(built) if built.exists() else path)

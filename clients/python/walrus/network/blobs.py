@@ -91,8 +91,8 @@ class Blobs(Mapping[bytes, Blob]):
     def flush(self) -> sqlite3.Connection:
         """The database once it has all that was set."""
         rows = [self.row(identifier, number) for identifier, number in self.numbers.items()]
-        self.numbers.clear()
         self.base.executemany(PUT, rows)
+        self.numbers.clear()
         return self.base
 
     def row(self, identifier: bytes, number: int) -> Row:

@@ -8,12 +8,14 @@ import sys
 class Database:
     """A database, or one of this object alone where no path is named."""
 
+    seconds = 20.0  # that are waited for one that another process has locked
+
     def __init__(self, name: str):
         self.name, self.fault = name, ""
         with contextlib.ExitStack() as opened:
             if name:
                 fcntl.flock(opened.enter_context(open(f"{name}.lock", "ab")), fcntl.LOCK_EX | fcntl.LOCK_NB)
-            base = sqlite3.connect(name, isolation_level=None, timeout=20)
+            base = sqlite3.connect(name, isolation_level=None, timeout=self.seconds)
             self.base = opened.enter_context(contextlib.closing(base))
             self.base.execute("PRAGMA journal_mode = WAL")
             self.open_tables()

@@ -18,6 +18,8 @@ SOON, LATER = 0.002, 0.5  # seconds until what waits is committed: what a reply 
 class Staged(Database):
     """A database. What is staged goes to the disk together, soon; where it cannot, all of it is lost."""
 
+    seconds = 5.0  # in which others wait too
+
     def __init__(self, path: pathlib.Path):
         self.path, self.losses = path.resolve(), 0  # how often what was staged was lost
         self.pending: Optional["asyncio.Future[bool]"] = None  # whether what is staged came to the disk
