@@ -323,6 +323,10 @@ class Finding(unittest.TestCase):
                 walrus.Program(file.name)
 
     @unittest.skipUnless(DEBIAN.exists() and LIBRARIES + PROGRAMS, "Debian's Python or what is built is not here")
+    def test_which_paths_name_a_library(self) -> None:
+        named = ["libwalrus.so", "/usr/lib/libwalrus.so.0", "out/walrus", "walrus.sock", "/opt/a.so/walrus"]
+        self.assertEqual([*map(walrus_library.is_library, named)], [True, True, False, False, False])
+
     def test_pip_installs_it(self) -> None:
         """Into a virtual environment, from the checkout and without a network; the wheel carries the library."""
         with tempfile.TemporaryDirectory() as folder:

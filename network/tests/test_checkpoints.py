@@ -116,13 +116,16 @@ class Kept(KeptCase):
         before, _ = await self.recorders[0].etcd.sizes()
         await self.say(*turn(1), *turn(2), *(entry_key(it, "past", 2) for it in NODES))
         self.assertTrue(await self.dropped(2))
-        await asyncio.sleep(1)
-        await self.publisher.post(registration("publisher", 4_999))  # etcd counts what is free when it writes again
-        for _ in range(200):
-            size, used = await self.recorders[0].etcd.sizes()
+        size = before
+        for number in range(4_000, 4_020):  # etcd counts what is free when it writes again, and compacts meanwhile
+            await self.publisher.post(registration("publisher", number))
+            for _ in range(40):
+                size, _ = await self.recorders[0].etcd.sizes()
+                if size < before / 4:
+                    break
+                await asyncio.sleep(0.1)
             if size < before / 4:
                 break
-            await asyncio.sleep(0.1)
         self.assertLess(size, before / 4)
         await self.publisher.post(registration("publisher", 5_000))
 

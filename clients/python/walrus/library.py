@@ -3,6 +3,7 @@
 import asyncio
 import functools
 import os
+import pathlib
 from collections.abc import Sequence
 from typing import Union
 
@@ -27,11 +28,16 @@ class InProcess(client.Walrus):
         return library(self.path).code(status, text)
 
 
+def is_library(path: str) -> bool:
+    """Whether a path names a shared library: libwalrus.so, or libwalrus.so.0."""
+    return ".so" in pathlib.PurePath(path).suffixes
+
+
 def find(path: str = "") -> client.Walrus:
     """The library or the program at a path, or that of the variable WALRUS; else a library that is found, else the
     program on PATH."""
     path = path or os.environ.get("WALRUS", "")
-    if path.endswith(".so"):
+    if is_library(path):
         library(path)
         return InProcess(path)
     try:

@@ -73,7 +73,7 @@ async def ask(session: aiohttp.ClientSession, method: str, path: str, **words: A
 def find_walrus() -> client.Walrus:
     """What computes identifiers: the program, or else the library."""
     program = find_program()
-    if not program.endswith(".so") and os.access(program, os.X_OK):
+    if not library.is_library(program) and os.access(program, os.X_OK):
         return client.Walrus(program)
     try:
         return library.find()
