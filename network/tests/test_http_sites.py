@@ -198,7 +198,7 @@ class Many(UpCase):
         said = (await process.communicate())[0].decode()
         self.assertEqual(process.returncode, 0, said)
         for what in ("a folder of 60 files in, each", "the same again, each", "60 files of it out, each"):
-            form = rf"^{what}: \d+\.\d{{3}} s, \d+\.\d a second; processors: .*gateway \d+\.\d\d, nodes \d+\.\d\d"
+            form = rf"^{what}: \d+\.\d{{3}} s, \d+\.\d a second; processors: .*gateway \d+\.\d\d"  # of who took any
             self.assertEqual(len(re.findall(form, said, re.MULTILINE)), 1, said)
 
 
