@@ -17,13 +17,16 @@ class Shard:
     """A shard that notes what it is asked, and takes it unless it is told not to."""
 
     def __init__(self, number: int, said: list[tuple[int, bytes]], refuses: str = ""):
-        self.number, self.said, self.refuses = number, said, refuses
+        self.number, self.said, self.refuses, self.taken = number, said, refuses, set[bytes]()
 
 
 async def take_steps(shard: Shard, steps: Any) -> tuple[int, str]:
     for _, payload, _ in steps:
         shard.said.append((shard.number, payload))
-    return (0, shard.refuses) if shard.refuses else (len(steps), "")
+    if shard.refuses:
+        return 0, shard.refuses
+    shard.taken |= {payload for _, payload, _ in steps}
+    return len(steps), ""
 
 
 class Announced(unittest.IsolatedAsyncioTestCase):
@@ -51,7 +54,7 @@ class Announced(unittest.IsolatedAsyncioTestCase):
     async def until(self, holds: Any, _: float) -> bool:
         """The ledger shows what three shards attest."""
         attest = frames.write_frame(frames.Attest(BAD))
-        if sum(payload == attest and not self.seats[it].refuses for it, payload in self.said) >= 3:
+        if sum(attest in it.taken for it in self.seats) >= 3:
             self.invalid.add(BAD)
         return bool(holds(self.ledger))
 
