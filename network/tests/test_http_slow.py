@@ -149,7 +149,8 @@ class Slow(GatewayCase):
         hung.send_signal(signal.SIGSTOP)
 
         async def counted(seat: peers.Seat, requests: Sequence[client.Request]) -> list[client.Reply]:
-            asked[seat.name] += seat.peers is self.network.peers  # and not by who asks whether nodes answer
+            reads = requests[0][:1] == bytes([client.READ])  # and is no piece that a late node stores still
+            asked[seat.name] += reads and seat.peers is self.network.peers  # and not by who asks whether nodes answer
             return await exchange(seat, requests)
 
         self.enterContext(mock.patch.object(peers.Seat, "exchange", counted))
