@@ -264,6 +264,18 @@ class Disk(ShardCase):
         self.close()
         Store(link).close()
 
+    async def test_a_start_that_fails_gives_the_database_up(self) -> None:
+        self.close()
+        parts = self.path.with_suffix(".parts")
+        shutil.rmtree(parts)
+        parts.touch()  # where the folder of files should be
+        try:
+            Store(self.path)
+        except FileExistsError:  # which has all that was opened, as long as it is told
+            parts.unlink()
+            Store(self.path).close()
+        self.assertTrue(parts.is_dir())
+
     async def test_requests_of_one_blob_are_judged_one_after_the_other_and_of_several_at_once(self) -> None:
         names = [(await self.put(blob))[1][1:33] for blob in (b"one", b"two", b"three")]
         judged, ask, goes_on = list[bytes](), self.judges.ask, asyncio.Event()

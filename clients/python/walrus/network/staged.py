@@ -30,14 +30,15 @@ class Staged(Database):
         except BlockingIOError:
             words = "end that one first, or name another database"
             raise OSError(f"another process runs over {self.path}: {words}") from None
-        self.files = Files(self.path.with_suffix(".parts"))
         self.pool = concurrent.futures.ThreadPoolExecutor(THREADS, "disk")  # asyncio's own looks names up, perhaps long
 
     def open_tables(self) -> None:
+        """Finds whole pages, and the folder of files or makes it; a fault in here closes the database again."""
         self.base.execute("PRAGMA synchronous = FULL")
         self.base.text_factory = functools.partial(str, encoding="utf-8", errors="replace")
         if self.base.execute("PRAGMA quick_check(1)").fetchone() != ("ok",):
             raise sqlite3.DatabaseError("its pages do not fit together")
+        self.files = Files(self.path.with_suffix(".parts"))
 
     def stage(self, words: str, *values: object) -> sqlite3.Cursor:
         """Runs a statement in the transaction that is committed next."""
