@@ -92,6 +92,23 @@ class Costing(unittest.IsolatedAsyncioTestCase):
             await storing.store(self.parts(b"x" * 500, b"y" * 400))
         self.assertEqual(self.used(), (900, 1))
 
+    async def test_a_part_that_is_refused_makes_no_piece_whole(self) -> None:
+        storing = self.storing(1_500)
+        await storing.store(self.parts(b"x" * 900))
+        with self.assertRaises(Problem):
+            await storing.store(self.parts(b"x" * 500, b"y" * 600))
+        self.assertEqual(self.used(), (900, 1))
+
+    async def test_a_part_of_a_single_file_that_is_refused_makes_no_piece_whole(self) -> None:
+        self.storing(1_950)
+        charge = Charge(self.shares, self.costs.token, 0)
+        for size in (1_400, 500):
+            charge.add(size)
+        with self.assertRaises(Problem):
+            charge.add(200)
+        charge.settle(False, False)
+        self.assertEqual(self.shares.used("one", 0), (1_000, 1))  # and not the second one, which never came whole
+
     async def test_what_was_there_costs_nothing(self) -> None:
         storing = self.storing()
         await storing.store(self.parts(b"x" * 1_500, b"there"))

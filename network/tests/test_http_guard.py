@@ -285,6 +285,15 @@ class Customers(GuardCase):
         self.assertEqual((status, self.used("alice")), (201, (len(self.stored[0]), 1)))
         self.assertGreaterEqual(len(self.stored[0]), 3 * 600)
 
+    async def test_a_form_that_breaks_off_costs_nothing_however_long_it_is(self) -> None:
+        alice = self.token("alice", bytes=9_000, blobs=9)
+        await self.start()
+        head = b'--x\r\nContent-Disposition: form-data; name="a"; filename="a"\r\n\r\n'
+        kind = {"Content-Type": "multipart/form-data; boundary=x"}
+        with mock.patch.object(shares, "PIECE", 1_000):
+            found = await self.ask("POST", "/v1/bundles?epochs=1", data=head + bytes(2_500), headers={**alice, **kind})
+        self.assertEqual((found[0], self.used("alice"), self.stored), (400, (0, 0), []))
+
     def used(self, name: str) -> tuple[int, int]:
         made = shares.Shares(self.folder / "tokens.used")
         self.addCleanup(made.close)

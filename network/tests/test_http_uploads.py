@@ -384,6 +384,16 @@ class Refused(UploadCase):
             self.assertEqual((await self.go_on(path, 5, b"678", end=True))[0], 201)
         self.assertEqual(self.blobs, [b"12345678"])
 
+    async def test_what_a_full_disk_does_not_keep_costs_nothing(self) -> None:
+        alice = self.token("alice", bytes=3_000, blobs=9)
+        await self.start()
+        path = (await self.begin(bytes(500), **alice))[1]["location"]
+        with mock.patch.object(unfinished.Upload, "add", mock.Mock(side_effect=OSError(28, "No space left on device"))):
+            self.assertEqual((await self.go_on(path, 500, bytes(600), **alice))[0], 503)
+        self.assertEqual(self.used("alice"), (500, 1))
+        self.assertEqual((await self.go_on(path, 500, bytes(600), end=True, **alice))[0], 201)
+        self.assertEqual(self.used("alice"), (1_100, 3))
+
 
 if __name__ == "__main__":
     unittest.main()

@@ -34,9 +34,13 @@ class Costs(Charge):
         super().__init__(charge.shares, charge.token, charge.epoch)
         self.stored, self.count, self.least = 0, 0, least  # what is stored now; blobs that it will be at least
 
-    def add(self, size: int) -> None:
-        self.size += size
-        self.set_to(max(self.size, self.stored), max(self.least, self.count))
+    def replace(self, size: int) -> None:
+        self.take(size, self.stored, self.count)
+        self.size = size
+
+    def take(self, size: int, stored: int, count: int) -> None:
+        """Takes what a folder costs of which so many bytes came, and so much is stored."""
+        self.set_to(max(size, stored), max(self.least, count))
 
     def begin(self) -> None:
         """Takes what a file costs of which nothing has come yet."""
@@ -44,10 +48,10 @@ class Costs(Charge):
         self.add(0)
 
     def more(self, size: int, before: int) -> None:
-        """Takes what so many bytes of a file cost, behind those before."""
-        self.stored += size
-        self.count += count_of(before + size) - count_of(before)
-        self.add(0)
+        """Takes what so many bytes of a file cost, behind those before; raises as `add` does."""
+        stored, count = self.stored + size, self.count + count_of(before + size) - count_of(before)
+        self.take(self.size, stored, count)
+        self.stored, self.count = stored, count
 
     def was_there(self, size: int) -> None:
         """Gives back what a file costs that was stored before."""
@@ -78,8 +82,8 @@ class Storing:
         async def counted() -> AsyncIterator[bytes]:
             nonlocal size
             async for part in stream:
+                self.costs.more(len(part), size)
                 size += len(part)
-                self.costs.more(len(part), size - len(part))
                 yield part
 
         try:

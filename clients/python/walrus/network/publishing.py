@@ -102,7 +102,11 @@ class Publisher:
         kind, charge = request.headers.get("Content-Type", ""), self.charge(request)
 
         async def store(stream: AsyncIterator[bytes], epochs: int, stored: list[bytes]) -> Told:
-            return await self.writer.store_bundle(kind, charge.replace, stream, epochs, stored)
+            try:
+                return await self.writer.store_bundle(kind, charge.replace, stream, epochs, stored)
+            except BaseException:
+                charge.replace(0)  # nothing was stored of it, however long the form was
+                raise
 
         return await self.upload(request, LONGEST_FORM, charge, store)
 

@@ -66,14 +66,13 @@ class Charge:
                 self.refuse()
 
     def add(self, size: int) -> None:
-        """Takes what more bytes of the file cost; raises where that is beyond the share."""
-        self.size += size
-        self.set_to(self.size, count_of(self.size))
+        """Takes what more bytes of the file cost; raises where that is beyond the share, and then they do not count."""
+        self.replace(self.size + size)
 
     def replace(self, size: int) -> None:
         """Takes what so many bytes cost that are stored in place of those that came; raises as `add` does."""
-        self.size = size
         self.set_to(size, count_of(size))
+        self.size = size
 
     def go_on(self, size: int) -> None:
         """What came before, and was taken then."""

@@ -158,6 +158,8 @@ class Uploads:
         except FAULTS as fault:
             upload.touch()
             raise failed_with(fault, listed(upload), {**headers, **self.state(upload)}) from None
+        finally:
+            charge.replace(upload.offset)  # what came and could not be kept comes again, and costs then
         upload.touch()
         if told is None:
             return web.Response(status=201 if headers else 204, headers={**headers, **self.state(upload)})
