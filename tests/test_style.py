@@ -12,7 +12,7 @@ MODULES += sorted((CLIENT / "walrus").glob("*.py"))
 NAMES = ("network", "spread", "bad_encoding", "one_shard", "bundle", "journal", "challenge", "gateway")
 EXAMPLES = [TOP / "examples" / name for name in NAMES]
 DOCS = [TOP / "docs" / f"{name}.py" for name in ("clauses", "definitions", "tables")]
-MOST_LINES = 400
+MOST_LINES = 300
 
 
 def says(name, *words):

@@ -4,13 +4,12 @@ It knows no cryptography: the program `walrus` encodes, names, reads and recover
 forms docs/FORMATS.md has. It runs on asyncio, without threads. This module has the names of all that a client needs."""
 
 import asyncio
-import contextlib
-import random
-from typing import NamedTuple, Union
+from typing import NamedTuple
 
+from .collecting import Listening, collect, proves
 from .envelopes import HEAD, MARK
-from .codes import BADLY_ENCODED, Code
-from .executable import BadlyEncoded, Encoded, NoBundle, NoMember, Refused, TooFew, Walrus, refusal
+from .codes import Code
+from .executable import BadlyEncoded, Encoded, NoBundle, NoMember, Refused, TooFew, Walrus
 from .kinds import (
     ACK,
     ACK_ENTRY,
@@ -49,10 +48,7 @@ from .kinds import (
 )
 from .shapes import Shape
 from .shards import (
-    AGAIN,
-    Asked,
     Failed,
-    PROVES,
     Reply,
     Request,
     SECONDS,
@@ -187,117 +183,6 @@ async def publish(shards: Shards, encoded: Encoded, until: int) -> Published:
         return Published(signers, certified)
     refused = {shard.number: words for shard, (_, words) in zip(shards, said)}
     raise NoQuorum(f"{text}, of {shape.quorum} needed", refused, Published(signers, certified))
-
-
-class Listening:
-    """Shards that are asked as far as they are wanted: further ones where some are late, or say nothing of use."""
-
-    def __init__(self, shards: Shards, request: bytes) -> None:
-        self.shards, self.repeats, mixed = shards, 0, random.sample(list(shards), len(shards))
-        self.left, self.request = sorted(mixed, key=lambda it: bool(it.late or it.fault)), request
-        self.pending = dict["asyncio.Task[tuple[int, dict[int, bytes], str]]", Shard]()
-
-    def ask(self, count: int) -> None:
-        """Asks so many further shards."""
-        for shard in self.left[: max(0, count)]:
-            self.pending[asyncio.create_task(listen(shard, self.request))] = shard
-        del self.left[: max(0, count)]
-
-    async def next(self) -> list[tuple[int, dict[int, bytes], str]]:
-        """What some of them say; nothing where those that were asked are late."""
-        patience = patience_for(self.pending.values()) if self.left else None
-        done, late = await asyncio.wait(self.pending, timeout=patience, return_when=asyncio.FIRST_COMPLETED)
-        for task in () if done else late:
-            self.pending[task].late = True
-        for task in done:
-            del self.pending[task]
-        return [task.result() for task in done]
-
-    def again(self, number: int) -> None:
-        """Has a shard be asked again, behind those that are left; not for ever."""
-        self.repeats += 1
-        if self.repeats <= 2 * len(self.shards):
-            self.left += [shard for shard in self.shards if shard.number == number]
-
-    def is_over(self) -> bool:
-        return not self.left and not self.pending
-
-    async def end(self) -> None:
-        for task in self.pending:
-            task.cancel()
-        await asyncio.gather(*self.pending, return_exceptions=True)
-
-
-async def collect(shards: Shards, request: Union[Read, Symbol], walrus: Walrus, *words: object) -> tuple[int, bytes]:
-    """What the program makes of replies to a request: status 0 or 3, and its text; else `Refused` is raised. No more
-    shards are asked than are needed, and others once one is late or of no use. The program runs once enough was heard,
-    and again once more can be enough. Where all of it is too little, a proof of bad encoding will do: status 3, and the
-    proof in an envelope. Long ones are asked for then, of the next one where one is late or shows nothing, and of f+1
-    shards at once at most: so who lies takes little memory and little time."""
-    needed = shape_of(shards).symbols[getattr(request, "axis", SECONDARY)]
-    asked = Asked.of(write_frame(request), needed, len(shards))
-    with contextlib.closing(asked.basket):
-        return await gather(shards, asked, needed, request, walrus, *words)
-
-
-async def gather(
-    shards: Shards, asked: Asked, needed: int, request: Union[Read, Symbol], walrus: Walrus, *words: object
-) -> tuple[int, bytes]:
-    """The same, of a request for which so many replies are needed first."""
-    count, patience, said, listening = 0, 1, dict[int, str](), Listening(shards, asked)
-    heard, proofs = list[bytes](), dict[bytes, bytes]()  # each once, in order; a proof with its metadata
-    offers = set[int]()  # shards that have a long one
-    listening.ask(needed)
-    try:
-        while not listening.is_over():
-            found = await listening.next()
-            for number, kept, said[number] in found:
-                if AGAIN in kept:
-                    del kept[AGAIN]
-                    listening.again(number)
-                if PROVES in kept:
-                    del kept[PROVES]
-                    offers.add(number)
-                if PROOF in kept:
-                    proofs[kept.pop(PROOF)] = kept.get(METADATA, b"")
-                    asked.basket.want(needed + len(proofs))
-                heard += [it for it in kept.values() if it not in heard]
-                count += len(kept.keys() - {METADATA})
-            if count >= needed or listening.is_over():
-                status, text = await walrus.run(*words, data=asked.basket.stream(heard))
-                asked.basket.is_read = False
-                code = walrus.code(status, text)
-                if not status or code in BADLY_ENCODED:
-                    return status, text
-                lacking = refusal(status, text, said, code)
-                if not isinstance(lacking, TooFew):
-                    raise lacking
-                needed = count + patience * max(1, lacking.needed - lacking.held)
-                patience *= 2  # so liars cause few runs
-                asked.basket.want(needed + len(proofs))
-            listening.ask(max(needed - count - len(listening.pending) * bool(found), not listening.pending))
-    finally:
-        await listening.end()
-    asked.basket.close()  # what it had is more than one proof has
-    for kept in [{PROOF: proof, METADATA: metadata} for proof, metadata in proofs.items()]:
-        if await proves(kept, request.identifier, walrus):
-            return 3, envelope(kept[PROOF])
-    offering = Listening([it for it in shards if it.number in offers], bytes(asked))
-    try:
-        while not offering.is_over():
-            offering.ask(len(offering.pending) <= shards[0].shape.faults)
-            for _, kept, _ in await offering.next():
-                if await proves(kept, request.identifier, walrus):
-                    return 3, envelope(kept[PROOF])
-    finally:
-        await offering.end()
-    raise lacking
-
-
-async def proves(kept: dict[int, bytes], identifier: bytes, walrus: Walrus) -> bool:
-    """Whether what was heard of a shard has a proof that the blob was badly encoded."""
-    data = b"".join(envelope(kept[kind]) for kind in (METADATA, PROOF) if kind in kept)
-    return PROOF in kept and walrus.code(*await walrus.run("check", identifier.hex(), data=data)) is Code.INCONSISTENT
 
 
 async def fetch(shards: Shards, identifier: bytes, walrus: Walrus) -> bytes:
