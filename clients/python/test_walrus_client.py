@@ -6,6 +6,7 @@ import random
 import tempfile
 import unittest
 from collections.abc import Iterable
+from unittest import mock
 
 import example_tools
 import liars
@@ -481,6 +482,28 @@ class Errors(ProgramCase):
                 encoded = await client.Walrus(str(counted)).encode(b"some blob", 1, form)
                 self.assertEqual(encoded, await self.walrus.encode(b"some blob", 1, form))
             self.assertEqual(pathlib.Path(name, "runs").read_text(), "run\n" * 2)
+
+    async def test_a_run_that_is_given_up_has_ended(self):
+        """Else asyncio complains of it on standard error, where an interrupt ends its loop."""
+        made, create = [], asyncio.create_subprocess_exec
+
+        async def note(*words, **options):
+            made.append(await create(*words, **options))
+            return made[-1]
+
+        with tempfile.TemporaryDirectory() as name:
+            slow, begun = pathlib.Path(name) / "slow", pathlib.Path(name) / "begun"
+            slow.write_text(f"#!/bin/sh\nsleep 2 &\ntouch {begun}\nexec sleep 600\n")  # the first has its output longer
+            slow.chmod(0o755)
+            with mock.patch.object(asyncio, "create_subprocess_exec", note):
+                task = asyncio.create_task(client.Walrus(str(slow)).run("id", 1, data=bytes(1_000_000)))
+                async with asyncio.timeout(SLOW):
+                    while not begun.exists():
+                        await asyncio.sleep(0.01)
+                    task.cancel()
+                    with self.assertRaises(asyncio.CancelledError):
+                        await task
+        self.assertEqual((made[0].returncode, made[0].stdout.at_eof()), (-9, True))
 
     def test_a_program_that_is_none(self):
         for path, text in (

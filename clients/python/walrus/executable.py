@@ -90,8 +90,10 @@ class Walrus(NamedTuple):
         try:
             text, _ = await process.communicate(data)  # type: ignore[arg-type]
         finally:
-            if process.returncode is None:
+            if process.returncode is None and process.stdin:  # nobody waits for its result any more
                 process.kill()
+                await process.communicate()  # all of which asyncio would miss on standard error
+                await asyncio.gather(process.stdin.wait_closed(), return_exceptions=True)
         return await process.wait(), text
 
     async def output(self, *words: object, data: Union[Data, Sequence[Data]] = b"") -> bytes:
