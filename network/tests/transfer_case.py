@@ -36,18 +36,23 @@ class TransferCase(unittest.IsolatedAsyncioTestCase):
         self.out, self.files, self.named, self.bodies = self.folder / "out", dict[str, bytes](), "", list[bytes]()
         self.members, self.stalls, self.resumes, self.paths = list[str](), False, False, list[str]()
         self.program, self.came = find_program(), 0  # bytes of what is being stored
+        self.starts, self.gone, self.whole = list[int](), False, False  # where each answer began; whether the gateway
+        # goes in its midst, or hears no ranges
         app = web.Application(client_max_size=2**30)
         app.add_routes([web.get("/v1/status", self.status), web.get("/v1/blobs/{name}", self.give)])
         app.add_routes([web.put("/v1/blobs", self.take), web.post("/v1/bundles", self.take)])
         app.add_routes([web.post("/v1/uploads", self.begin), web.get("/v1/uploads/1", self.look)])
         app.add_routes([web.patch("/v1/uploads/1", self.take)])
-        runner = web.AppRunner(app)
-        await runner.setup()
-        self.addAsyncCleanup(runner.cleanup)
-        site = web.TCPSite(runner, "127.0.0.1", 0, shutdown_timeout=0.1)
-        await site.start()
-        host, port = runner.addresses[0][:2]
-        self.url = f"http://{host}:{port}"
+        self.runner = web.AppRunner(app)
+        await self.runner.setup()
+        self.addAsyncCleanup(self.runner.cleanup)
+        await self.listen(0)
+        host, self.port = self.runner.addresses[0][:2]
+        self.url = f"http://{host}:{self.port}"
+
+    async def listen(self, port: int) -> None:
+        self.site = web.TCPSite(self.runner, "127.0.0.1", port, shutdown_timeout=0.1)
+        await self.site.start()
 
     async def status(self, _: web.Request) -> web.Response:
         told = {"name": "node", "shards": [0], "next": [], "state": "answers", "said": ""}
@@ -59,9 +64,18 @@ class TransferCase(unittest.IsolatedAsyncioTestCase):
         data = self.files.get(request.match_info["name"])
         if data is None:
             return web.json_response({"error": {"status": 404, "text": "no such blob"}}, status=404)
-        response = web.StreamResponse(headers={"Content-Length": str(len(data))})
+        start = int(request.headers.get("Range", "bytes=0-")[6:-1]) if not self.whole else 0
+        self.starts.append(start)
+        if start and start >= len(data):
+            return web.Response(status=416)
+        data = data[start:]
+        response = web.StreamResponse(status=206 if start else 200, headers={"Content-Length": str(len(data))})
         await response.prepare(request)
         await response.write(data[: len(data) // 2])
+        if self.gone:
+            assert request.transport and self.site._server
+            self.site._server.close()  # nobody listens there any more
+            request.transport.close()
         while self.stalls:
             await asyncio.sleep(0.1)
         with contextlib.suppress(ConnectionError):  # who was interrupted has gone

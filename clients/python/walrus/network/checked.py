@@ -7,6 +7,7 @@ from typing import IO, Iterator, Optional
 
 from .. import client
 
+from . import partial
 from .chunks import MARK, NAME, PIECE, File
 
 FORMATS = 1, 2
@@ -65,30 +66,37 @@ async def is_named(file: IO[bytes], identifier: bytes, naming: Naming) -> bool:
 
 
 @contextlib.contextmanager
-def written_whole(output: str) -> Iterator[IO[bytes]]:
-    """A file beside the one at a path, which takes its place at the end and is dropped where anything goes wrong.
+def written_whole(output: str, identifier: str = "") -> Iterator[IO[bytes]]:
+    """A file beside the one at a path, which takes its place at the end and is dropped if anything goes wrong. Of what
+    an identifier names the file begins with what came before, and what has come is left for the next time.
 
     What goes to standard output (-), or to what is no ordinary file, is kept in a temporary file until then."""
     target: Optional[str] = None if output == "-" else os.path.realpath(output)
     beside = target if target and (os.path.isfile(target) or not os.path.exists(target)) else None
     folder, name = os.path.split(beside or "")
-    made = tempfile.NamedTemporaryFile(dir=folder or None, prefix=f".{name}." if name else None, delete=False)
+    before = partial.opened(partial.beside(beside, identifier)) if beside and identifier else None
+    prefix, is_left = f".{name}." if name else None, False
+    made = before or tempfile.NamedTemporaryFile(dir=folder or None, prefix=prefix, delete=False)
     try:
         with made as file:
-            yield file
+            try:
+                yield file
+            except BaseException as fault:
+                is_left = bool(before) and partial.goes_on(file, fault)
+                raise
             file.flush()
             if beside:
                 os.fsync(file.fileno())
+                os.chmod(made.name, mode_of(beside))
+                os.replace(made.name, beside)
             else:
                 file.seek(0)
                 with open(target or 1, "wb", closefd=bool(target)) as out:
                     shutil.copyfileobj(file, out)
-        if beside:
-            os.chmod(made.name, mode_of(beside))
-            os.replace(made.name, beside)
     finally:
-        with contextlib.suppress(FileNotFoundError):
-            os.unlink(made.name)
+        if not is_left:
+            with contextlib.suppress(FileNotFoundError):
+                os.unlink(made.name)
 
 
 def mode_of(path: str) -> int:

@@ -12,7 +12,7 @@ from .checked import Naming, is_named, written_whole
 from .chunks import PIECE
 from .manifest import MARK, MOST_BYTES, Manifest, Place, Wrong, shown
 from .places import Root, is_equal
-from .transfers import PART, Bar, Failure, fetch, naming_of, receive
+from .transfers import PART, Bar, Failure, fetch, naming_of, parts_of, receive
 from .trees import Work, several
 
 
@@ -151,13 +151,14 @@ async def fetch_any(session: aiohttp.ClientSession, name: str, output: str, only
     """Fetches a file, or a folder unless it goes to standard output, where its manifest goes."""
     if only and output == "-":
         raise Failure("--only is for a folder, which goes into a folder: name it with --output", 2)
-    data = b""
+    (blob, number), data = parts_of(name), b""
     try:
-        with written_whole(output) as out:
+        with written_whole(output, "" if number else blob) as out:
             size = await fetch(session, name, out)
             out.seek(0)
-            if output != "-" and "/" not in name and size <= MOST_BYTES and out.read(len(MARK)) == MARK:
+            if output != "-" and not number and size <= MOST_BYTES and out.read(len(MARK)) == MARK:
                 data = MARK + out.read()
+                out.truncate(0)
                 raise IsFolder()
             if only:
                 raise Failure(f"{name} is no folder: leave out --only", 4)

@@ -127,14 +127,30 @@ async def store_bundle(session: aiohttp.ClientSession, paths: list[str], epochs:
     return told
 
 
-async def fetch(session: aiohttp.ClientSession, name: str, out: IO[bytes]) -> int:
-    """Writes the file that a name is of, or the member of a bundle, once it is computed that it is; its length."""
+def parts_of(name: str) -> tuple[str, str]:
+    """The identifier that a name has, and the number of a member, in a bundle."""
     if not re.fullmatch("[0-9a-fA-F]{64}(/(0|[1-9][0-9]{0,3}))?", name):
         raise Failure("a name is 64 hexadecimal digits, in a bundle with / and a number behind them", 2)
-    (blob, _, number), naming = name.partition("/"), await naming_of(session)
-    size = await receive(session, blob, out, naming)
-    if not await is_named(out, bytes.fromhex(blob), naming):
-        raise Failure("what the gateway gives is not the file of this name, and is dropped: this gateway lies", 1)
+    blob, _, number = name.partition("/")
+    return blob, number
+
+
+async def fetch(session: aiohttp.ClientSession, name: str, out: IO[bytes]) -> int:
+    """Writes the file that a name is of, or the member of a bundle, once it is computed that it is; its length. What
+    came before is in `out`, and named again; if that is not how the file begins, all of it comes again."""
+    (blob, number), naming, size = parts_of(name), await naming_of(session), 0
+    while True:
+        while part := out.read(PART):
+            await naming.add(part)
+        before = naming.size
+        size = await receive(session, blob, out, naming, done=before)
+        if await is_named(out, bytes.fromhex(blob), naming):
+            break
+        out.seek(0)
+        out.truncate()
+        if not before:
+            raise Failure("what the gateway gives is not the file of this name, and is dropped: this gateway lies", 1)
+        naming = Naming(naming.walrus, naming.faults)
     if not number:
         return size
     out.seek(0)
@@ -152,19 +168,27 @@ async def fetch(session: aiohttp.ClientSession, name: str, out: IO[bytes]) -> in
 
 
 async def receive(
-    session: aiohttp.ClientSession, name: str, out: IO[bytes], naming: Naming, shared: Optional[Bar] = None
+    session: aiohttp.ClientSession,
+    name: str,
+    out: IO[bytes],
+    naming: Naming,
+    shared: Optional[Bar] = None,
+    done: int = 0,
 ) -> int:
-    """Writes what a gateway gives for a name, and goes on where a connection broke; its length."""
-    done, tries = 0, 0
+    """Writes what a gateway gives for a name, behind what is done, and goes on where a connection broke; its length."""
+    tries = 0
     with contextlib.nullcontext(shared) if shared else Bar(name[:16]) as bar:
+        bar.add(done)
         while True:
             try:
                 async with session.get(f"/v1/blobs/{name}", headers={"Range": f"bytes={done}-"} if done else {}) as it:
+                    if it.status == 416 and done:  # nothing follows; whether this is all of it, its identifier tells
+                        return done
                     await check(it)
-                    if it.status != (206 if done else 200):
-                        raise Failure("the gateway does not give the rest of the file: fetch it again", 4)
-                    bar.size = bar.size if shared else done + (it.content_length or 0)
+                    again = done if it.status == 200 else 0  # bytes that come once more where ranges are not heard
+                    bar.size = bar.size if shared else done - again + (it.content_length or 0)
                     async for part in it.content.iter_any():
+                        part, again = part[again:], max(0, again - len(part))
                         done += out.write(part)
                         await naming.add(part)
                         bar.add(len(part))
