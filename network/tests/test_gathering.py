@@ -11,7 +11,7 @@ from unittest import mock
 
 import harness  # noqa: F401  # which says where walrus is
 from walrus import client
-from walrus.network import gathering, shares
+from walrus.network import gathering, pieces, shares
 from walrus.network.gathering import Costs, Storing
 from walrus.network.groups import several
 from walrus.network.problems import Problem
@@ -120,7 +120,7 @@ class Spooled(unittest.IsolatedAsyncioTestCase):
 
     async def asyncSetUp(self) -> None:
         asyncio.get_running_loop().set_debug(False)
-        self.enterContext(mock.patch.object(gathering, "WRITTEN", 10))
+        self.enterContext(mock.patch.object(pieces, "AHEAD", 10))
         self.spool = gathering.Spool(0.0)
 
     def held(self, name: str) -> tuple[threading.Event, threading.Event]:
@@ -132,7 +132,7 @@ class Spooled(unittest.IsolatedAsyncioTestCase):
             goes_on.wait(120)
             return call(*words)
 
-        self.enterContext(mock.patch.object(gathering.os, name, slow))
+        self.enterContext(mock.patch.object(pieces.os, name, slow))
         self.addCleanup(goes_on.set)
         return made, goes_on
 
@@ -174,10 +174,44 @@ class Spooled(unittest.IsolatedAsyncioTestCase):
             await task
         self.spool.close()
         await asyncio.sleep(0.01)
+        assert self.spool.file
         self.assertFalse(self.spool.file.closed)  # else another file may have its number, and be written to
         goes_on.set()
         while not self.spool.file.closed:
             await asyncio.sleep(0.001)
+
+    async def test_a_slow_disk_holds_up_no_other_upload(self) -> None:
+        async def parts(*parts: bytes) -> AsyncIterator[bytes]:
+            for part in parts:
+                yield part
+
+        async def split(*sent: bytes) -> list[bytes]:
+            return [bytes(it) async for it in pieces.split(parts(*sent), 30)]
+
+        files, entered, goes_on = tempfile.TemporaryFile, threading.Event(), threading.Event()
+        self.addCleanup(goes_on.set)
+
+        def slow(*words: Any, **options: Any) -> Any:
+            entered.set()
+            goes_on.wait(20)
+            return files(*words, **options)
+
+        self.enterContext(mock.patch.object(pieces.tempfile, "TemporaryFile", slow))
+        long = asyncio.create_task(split(b"longer than ten bytes", b", and so than the next piece"))
+        while not entered.is_set():
+            await asyncio.sleep(0.001)
+        self.assertEqual((await split(b"10 bytes, ", b""), long.done()), ([b"10 bytes, "], False))
+        goes_on.set()
+        self.assertEqual(await long, [b"longer than ten bytes, and so ", b"than the next piece"])
+
+    async def test_what_stays_in_memory_goes_through_no_thread(self) -> None:
+        with mock.patch.object(pieces, "DISK", None):
+            for sent in ([], [b""], [b"ten", b" bytes", b"."]):
+                spool = pieces.Spool()
+                for part in sent:
+                    await spool.add(part)
+                self.assertEqual(await spool.whole(), b"".join(sent))
+                spool.close()
 
 
 if __name__ == "__main__":

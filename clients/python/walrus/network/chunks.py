@@ -125,13 +125,13 @@ class Writer:
             async for sent in files_of(kind, Source(stream), ASKED):
                 if len(members) == most:
                     raise Problem(413, f"a bundle has at most {most} files here: send the others in further ones")
-                before = spool.size
+                before = spool.end
                 async for part in sent.parts:
-                    spool.add(memoryview(part))
-                members.append({"name": sent.name or sent.field, "size": spool.size - before})
+                    await spool.add(part)
+                members.append({"name": sent.name or sent.field, "size": spool.end - before})
             if not members:
                 raise Problem(400, f"the form has no file: {ASKED}")
-            return spool.whole(), members
+            return await spool.whole(), members
         finally:
             spool.close()
 
@@ -145,7 +145,7 @@ class Writer:
                     made = await bundles.join(files, faults, self.network.walrus)
             except client.Refused as refused:
                 raise Problem(413, UNFIT) if refused.code in codes.DO_NOT_FIT else refused from None
-            return pieces.put_away(made), members
+            return await pieces.in_thread(pieces.put_away, made), members
 
     async def store_blob(self, blob: bytes, until: int) -> tuple[bytes, bool]:
         """Stores a blob; its identifier, and whether it was there before. Its memory is given back once no node is left

@@ -1,15 +1,13 @@
 """A folder that comes over HTTP waits in a file without a name until all of it has come, so that nothing is stored of
 one that is refused. Then large files are stored, small ones in packs, and the manifest last."""
 import asyncio
-import concurrent.futures
 import contextlib
 import hashlib
 import os
 import sqlite3
-import tempfile
-import threading
-from typing import Any, AsyncIterator, Coroutine, Iterator, Sequence
+from typing import IO, Any, AsyncIterator, Coroutine, Iterator, Sequence
 
+from . import pieces
 from .archives import Coming, opened
 from .chunks import PIECE, Told, Writer
 from .groups import several
@@ -20,7 +18,6 @@ from .shares import Charge, count_of
 from .source import Source
 
 AT_ONCE, AHEAD = 16, 4  # folders that come at once; files and packs of one that are stored at once
-DISK = concurrent.futures.ThreadPoolExecutor(AHEAD, "spool")  # asyncio's own looks names up, perhaps for long
 FULL = (
     "the folder is not stored: the gateway keeps all of it on its disk until the last name is known, and has too little"
     " room there; use walrus-net store FOLDER, which checks the names first and sends one file after the other"
@@ -100,37 +97,17 @@ class Storing:
         return told
 
 
-class Spool:
-    """A file without a name for what comes, of which a little is in memory. Threads write and read it, so that a busy
-    disk holds up nobody else. `reserve` is the part of the disk that is left free."""
+class Spool(pieces.Spool):
+    """What comes of a folder. `reserve` is the part of the disk that is left free."""
 
     def __init__(self, reserve: float):
-        self.reserve, self.file, self.turn = reserve, tempfile.TemporaryFile(buffering=0), threading.Lock()
-        self.kept, self.start = bytearray(), 0  # what is not written yet, and where it will be
+        super().__init__()
+        self.reserve = reserve
 
-    @property
-    def end(self) -> int:
-        return self.start + len(self.kept)
-
-    async def add(self, data: bytes) -> None:
-        self.kept += data
-        if len(self.kept) >= WRITTEN:
-            await self.flush()
-
-    async def flush(self) -> None:
-        """Writes what is not written yet; raises where its disk would have less left than its reserve."""
-        data = bytes(self.kept)
-        await asyncio.get_running_loop().run_in_executor(DISK, self.write, data, self.start)
-        self.kept, self.start = bytearray(), self.end
-
-    def write(self, data: bytes, place: int) -> None:
-        with self.turn:
-            view, disk = memoryview(data), os.fstatvfs(self.file.fileno())
-            if disk.f_bavail * disk.f_frsize - len(data) < self.reserve * disk.f_blocks * disk.f_frsize:
-                raise Problem(507, FULL)
-            while view:
-                written = os.pwrite(self.file.fileno(), view, place)
-                view, place = view[written:], place + written
+    def must_fit(self, file: IO[bytes], size: int) -> None:
+        disk = os.fstatvfs(file.fileno())
+        if disk.f_bavail * disk.f_frsize - size < self.reserve * disk.f_blocks * disk.f_frsize:
+            raise Problem(507, FULL)
 
     def cut(self, end: int) -> None:
         """Has what comes next take the place of what came behind this one."""
@@ -139,19 +116,12 @@ class Spool:
 
     async def read(self, *spans: tuple[int, int]) -> bytes:
         """What was written at some places, each with its length, one behind the other."""
-        return await asyncio.get_running_loop().run_in_executor(DISK, self.read_spans, spans)
+        return await pieces.in_thread(self.read_spans, spans)
 
     def read_spans(self, spans: Sequence[tuple[int, int]]) -> bytes:
         with self.turn:
+            assert self.file
             return b"".join(os.pread(self.file.fileno(), length, at) for length, at in spans)
-
-    def close(self) -> None:
-        """Has the file go once no thread is at it: its number may be another file's from then on."""
-        DISK.submit(self.end_file)
-
-    def end_file(self) -> None:
-        with self.turn:
-            self.file.close()
 
 
 class Upload(Storing):

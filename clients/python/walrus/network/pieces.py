@@ -4,16 +4,21 @@ A piece that comes slowly takes no memory: what is more than a little of it goes
 read from there when it is its turn. So is a piece that was read, until it is sent."""
 import asyncio
 import collections
+import concurrent.futures
 import contextlib
 import dataclasses
 import mmap
+import os
 import tempfile
-from typing import IO, Any, AsyncGenerator, AsyncIterator, Optional
+import threading
+from typing import IO, Any, AsyncGenerator, AsyncIterator, Callable, Optional, TypeVar, Union
 
-AHEAD = 131_072  # bytes of a piece that are in memory while it comes
+AHEAD, THREADS = 131_072, 4  # bytes of what comes that are in memory meanwhile; and what writes and reads the others
+DISK = concurrent.futures.ThreadPoolExecutor(THREADS, "spool")  # asyncio's own looks names up, perhaps for long
 LEAST, LATER = 1_048_576, 3.25  # what a piece takes at least; what it takes to be decoded, in its bytes
 TIMES, MORE = 8, 11  # what it takes to be encoded, in its bytes, at f = 1 and beyond
 PATIENCE = 1.0  # seconds for which who wants memory waits for what can be ended
+Result = TypeVar("Result")
 
 
 class Mapped(mmap.mmap):
@@ -26,53 +31,92 @@ def write(file: IO[bytes], data: memoryview) -> None:
         data = data[file.write(data) :]  # noqa: E203
 
 
+async def in_thread(call: Callable[..., Result], *words: Any) -> Result:
+    """What a call gives that may wait for the disk."""
+    return await asyncio.get_running_loop().run_in_executor(DISK, call, *words)
+
+
 class Spool:
-    """A piece while it comes."""
+    """What comes: a little of it is in memory, and all before that in a file without a name. Threads write and read the
+    file, so that a busy disk holds up nobody else."""
 
     def __init__(self) -> None:
-        self.kept, self.size = bytearray(), 0
-        self.file: Optional[IO[bytes]] = None
+        self.kept, self.start = bytearray(), 0  # what is in memory, and what is before it
+        self.file: Optional[IO[bytes]] = None  # which the first thread makes that writes
+        self.turn, self.is_away = threading.RLock(), False  # whether anything was given to a thread
 
-    def add(self, data: memoryview) -> None:
-        self.size += len(data)
+    @property
+    def end(self) -> int:
+        return self.start + len(self.kept)
+
+    async def add(self, data: Union[bytes, memoryview]) -> None:
         if len(self.kept) + len(data) <= AHEAD:
             self.kept += data
         else:
-            write(self.flushed(), data)
+            await self.flush(data)
 
-    def flushed(self) -> IO[bytes]:
-        """The file, which has all that came so far."""
-        self.file = self.file or tempfile.TemporaryFile(buffering=0)
-        write(self.file, memoryview(self.kept))
-        self.kept = bytearray()
-        return self.file
+    async def flush(self, data: Union[bytes, memoryview] = b"") -> None:
+        """Writes what is in memory, and this behind it."""
+        kept, place = self.taken()
+        self.start += len(data)
+        await in_thread(self.write, place, kept, data)
 
-    def whole(self) -> bytes:
-        """The piece; its memory is that of the file."""
-        if not self.file:
+    def taken(self) -> tuple[bytearray, int]:
+        """What is in memory, to be written, and where it goes in the file."""
+        kept, place = self.kept, self.start
+        self.kept, self.start, self.is_away = bytearray(), self.end, True
+        return kept, place
+
+    def write(self, place: int, *parts: Union[bytes, bytearray, memoryview]) -> IO[bytes]:
+        with self.turn:
+            self.file = self.file or tempfile.TemporaryFile(buffering=0)
+            self.must_fit(self.file, sum(map(len, parts)))
+            for part in parts:
+                view = memoryview(part)
+                while view:
+                    written = os.pwrite(self.file.fileno(), view, place)
+                    view, place = view[written:], place + written
+            return self.file
+
+    def must_fit(self, file: IO[bytes], size: int) -> None:
+        """Raises where so much more is not to be written."""
+
+    async def whole(self) -> bytes:
+        """All that came, once; its memory is that of the file."""
+        if not self.is_away:
             return bytes(self.kept)
-        mapped = Mapped(self.flushed().fileno(), self.size, access=mmap.ACCESS_READ)
-        self.close()
-        return memoryview(mapped)
+        kept, place = self.taken()
+        return await in_thread(self.mapped, place, kept)
+
+    def mapped(self, place: int, kept: bytearray) -> bytes:
+        with self.turn, self.write(place, kept) as file:
+            return memoryview(Mapped(file.fileno(), self.start, access=mmap.ACCESS_READ))
 
     def close(self) -> None:
-        if self.file:
-            self.file.close()
+        """Has the file go once no thread is at it: its number may be another file's from then on."""
+        if self.is_away:
+            DISK.submit(self.end_file)
+
+    def end_file(self) -> None:
+        with self.turn:
+            if self.file:
+                self.file.close()
 
 
 async def split(stream: AsyncIterator[bytes], size: int) -> AsyncGenerator[bytes, None]:
     """The pieces, of this size, of a file that comes in parts of any length; one, perhaps empty, at least."""
-    spool = Spool()
+    spool, full = Spool(), list[bytes]()
     try:
         async for part in stream:
             view = memoryview(part)
-            while spool.size + len(view) > size:  # a piece is given out once something follows it
-                rest = size - spool.size
-                spool.add(view[:rest])
-                view, full, spool = view[rest:], spool, Spool()
-                yield full.whole()  # of which nothing stays here
-            spool.add(view)
-        yield spool.whole()
+            while spool.end + len(view) > size:  # a piece is given out once something follows it
+                rest = size - spool.end
+                await spool.add(view[:rest])
+                full.append(await spool.whole())
+                view, spool = view[rest:], Spool()
+                yield full.pop()  # of which nothing stays here
+            await spool.add(view)
+        yield await spool.whole()
     finally:
         spool.close()
 
