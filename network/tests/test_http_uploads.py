@@ -7,6 +7,7 @@ import os
 import pathlib
 import re
 import shutil
+import threading
 import time
 import unittest
 from typing import Any, Optional
@@ -15,7 +16,7 @@ from unittest import mock
 from guard_case import GuardCase
 from harness import HERE
 from walrus import client
-from walrus.network import chunks, shares, unfinished
+from walrus.network import chunks, pieces, shares, unfinished
 from walrus.network.blobs import Blob, Blobs
 from walrus.network.chunks import MARK
 
@@ -383,6 +384,27 @@ class Refused(UploadCase):
         with contextlib.suppress(OSError):
             self.assertEqual((await self.go_on(path, 5, b"678", end=True))[0], 201)
         self.assertEqual(self.blobs, [b"12345678"])
+
+    async def test_a_slow_disk_holds_up_nobody_else(self) -> None:
+        await self.start()
+        path, entered, goes_on = (await self.begin())[1]["location"], threading.Event(), threading.Event()
+        went_on = list[bool]()  # whether the disk was let go on, before it did by itself
+        self.addCleanup(goes_on.set)
+
+        def slow(*words: Any) -> None:
+            entered.set()
+            went_on.append(goes_on.wait(20))
+            pieces.write(*words)
+
+        self.enterContext(mock.patch.object(unfinished, "write", slow))
+        sending = asyncio.create_task(self.go_on(path, 0, b"x" * 1_500, end=True))
+        while not entered.is_set():
+            await asyncio.sleep(0.001)
+        self.assertEqual((await self.ask("GET", "/livez"))[0], 200)
+        goes_on.set()
+        self.assertEqual(
+            ((await sending)[0], [*map(len, self.blobs)], {*went_on}), (201, [1_000, 500, 24 + 2 * 32], {True})
+        )
 
     async def test_what_a_full_disk_does_not_keep_costs_nothing(self) -> None:
         alice = self.token("alice", bytes=3_000, blobs=9)

@@ -36,6 +36,16 @@ async def in_thread(call: Callable[..., Result], *words: Any) -> Result:
     return await asyncio.get_running_loop().run_in_executor(DISK, call, *words)
 
 
+async def to_the_end(call: Callable[..., Result], *words: Any) -> Result:
+    """The same, until it has ended: who is cancelled meanwhile hears of that behind it."""
+    running = asyncio.ensure_future(in_thread(call, *words))
+    try:
+        return await asyncio.shield(running)
+    except asyncio.CancelledError:
+        await asyncio.wait([running])
+        raise
+
+
 class Spool:
     """What comes: a little of it is in memory, and all before that in a file without a name. Threads write and read the
     file, so that a busy disk holds up nobody else."""

@@ -18,7 +18,7 @@ import time
 from typing import IO, Any, Optional
 
 from .chunks import MARK, NAME, PIECE
-from .pieces import Mapped, write
+from .pieces import Mapped, to_the_end, write
 from .problems import Problem
 
 ALL, OF_ONE = 64, 8  # uploads that are not finished, and of one who sends
@@ -75,17 +75,17 @@ class Upload:
     def path(self, number: int) -> pathlib.Path:
         return self.folder / f"{number}.piece"
 
-    def add(self, data: memoryview) -> Optional[int]:
-        """Keeps bytes that came, which fit into the piece that grows; its number once it is full."""
+    async def add(self, data: memoryview) -> Optional[int]:
+        """Keeps bytes that came, which fit into the piece that grows; its number once it is full. Pieces before it may
+        be certified meanwhile."""
         if not self.sizes or self.sizes[-1] == PIECE:
             self.sizes.append(0)
         number = self.count + len(self.sizes) - 1
-        with open(self.path(number), "r+b" if self.sizes[-1] else "wb", buffering=0) as file:
-            file.seek(self.sizes[-1])
-            try:
-                write(file, data)
-            finally:
-                self.sizes[-1] = os.fstat(file.fileno()).st_size  # also where the disk took a part
+        try:
+            await to_the_end(written_at, self.path(number), self.sizes[-1], data)
+        finally:
+            with contextlib.suppress(FileNotFoundError):
+                self.sizes[-1] = self.path(number).stat().st_size  # also where the disk took a part
         return number if self.sizes[-1] == PIECE else None
 
     def room(self) -> int:
@@ -130,6 +130,13 @@ class Upload:
     def touch(self) -> None:
         """Has it be kept for as long again."""
         os.utime(self.folder / "about")
+
+
+def written_at(path: pathlib.Path, place: int, data: memoryview) -> None:
+    """Writes bytes behind those that a file has."""
+    with open(path, "r+b" if place else "wb", buffering=0) as file:
+        file.seek(place)
+        write(file, data)
 
 
 class Unfinished:

@@ -183,7 +183,7 @@ class Uploads:
                 view = memoryview(part)
                 while view:
                     room = upload.room()
-                    full, view = upload.add(view[:room]), view[room:]
+                    full, view = await upload.add(view[:room]), view[room:]
                     if full is not None:
                         if len(tasks) >= AHEAD:
                             await tasks[-AHEAD]
