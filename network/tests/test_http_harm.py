@@ -6,6 +6,7 @@ import hashlib
 import os
 import threading
 import time
+import tracemalloc
 import unittest
 from typing import Any
 from unittest import mock
@@ -15,7 +16,7 @@ from guard_case import GuardCase
 from http_case import DRAWN
 from walrus import client
 from walrus.frames import answer
-from walrus.network import connections, digests, folders, intake, metrics, turns, unfinished
+from walrus.network import connections, digests, folders, intake, metrics, turns, unfinished, whole
 from walrus.network.local import free_port
 from walrus.network.manifest import Place
 
@@ -142,8 +143,20 @@ class Harm(GuardCase):
 
 
 class AtNodes(unittest.IsolatedAsyncioTestCase):
+    async def test_of_a_request_no_more_envelopes_are_read_than_it_has(self) -> None:
+        """Anybody may send one of 14 MB that has two million: to look at all of them took seconds and a gigabyte."""
+        shape = client.Shape(1)
+        request, empty = whole.place(shape, whole.longest(shape)), client.envelope(b"")
+        count = (len(request) - 1) // len(empty)
+        request[0], end = whole.WHOLE, 1 + count * len(empty)
+        request[1:end] = empty * count
+        tracemalloc.start()
+        self.addCleanup(tracemalloc.stop)
+        self.assertIsNone(whole.Whole.read(shape, request[:end]))
+        self.assertLess(tracemalloc.get_traced_memory()[1], 100_000)
+
     async def test_a_blob_that_comes_again_costs_the_ledger_nothing(self) -> None:
-        node, shard, whole = mock.MagicMock(), mock.MagicMock(epoch=3), mock.MagicMock(identifier=bytes(32))
+        node, shard, came = mock.MagicMock(), mock.MagicMock(epoch=3), mock.MagicMock(identifier=bytes(32))
         node.name = "node-0"
         shard.put_whole, node.durable = mock.AsyncMock(return_value=[answer(client.COUNTS[0])]), mock.AsyncMock()
         ledger_hears, posted = asyncio.Event(), list[str]()
@@ -159,7 +172,7 @@ class AtNodes(unittest.IsolatedAsyncioTestCase):
         node.recorders.leave = leave
         node.ledger.voted.return_value, node.ledger.writing_epoch, node.sides = False, 3, {3: {0: shard}}
         made = intake.Intake(node)
-        with mock.patch.object(intake.Whole, "read", return_value=whole):
+        with mock.patch.object(intake.Whole, "read", return_value=came):
             for _ in range(5):  # while the ledger is away
                 self.assertEqual(await made.store(0, memoryview(b"")), [answer(client.DONE)])
                 await asyncio.sleep(0.01)
