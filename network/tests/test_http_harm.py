@@ -4,11 +4,12 @@ import collections
 import contextlib
 import hashlib
 import os
+import tarfile
 import threading
 import time
 import tracemalloc
 import unittest
-from typing import Any
+from typing import Any, AsyncIterator
 from unittest import mock
 
 from folder_case import manifest_of
@@ -16,7 +17,7 @@ from guard_case import GuardCase
 from http_case import DRAWN
 from walrus import client
 from walrus.frames import answer
-from walrus.network import connections, digests, folders, intake, metrics, turns, unfinished, whole
+from walrus.network import archives, connections, digests, folders, intake, metrics, source, turns, unfinished, whole
 from walrus.network.local import free_port
 from walrus.network.manifest import Place
 
@@ -140,6 +141,25 @@ class Harm(GuardCase):
             told = await asyncio.gather(*(self.ask("GET", path) for _ in range(4)))
         self.assertEqual([status for status, _, _ in told], [200] * 4)
         self.assertEqual(found, [1] * 4)  # of one who asks one at a time
+
+
+class Tars(unittest.IsolatedAsyncioTestCase):
+    async def test_what_a_tar_tells_without_a_file_takes_no_memory(self) -> None:
+        """Else whoever may store folders fills the memory of all: headers of fields may follow each other for ever."""
+
+        async def headers() -> AsyncIterator[bytes]:
+            for block in range(12):
+                fields = b"".join(b"21 %012d=\x00\xff12\n" % (block * 1_000 + it) for it in range(1_000))
+                made = tarfile.TarInfo("fields")
+                made.type, made.size = tarfile.XHDTYPE, len(fields)
+                yield made.tobuf(tarfile.USTAR_FORMAT) + fields + bytes(-len(fields) % 512)
+            yield tarfile.TarInfo("file").tobuf(tarfile.USTAR_FORMAT, "utf-8", "strict") + bytes(1_024)
+
+        tracemalloc.start()
+        self.addCleanup(tracemalloc.stop)
+        found = [coming.path async for coming in archives.files_of_tar(source.Source(headers()))]
+        self.assertEqual(found, ["file"])
+        self.assertLess(tracemalloc.get_traced_memory()[1], 500_000)
 
 
 class AtNodes(unittest.IsolatedAsyncioTestCase):
