@@ -4,6 +4,7 @@ import collections
 import contextlib
 import hashlib
 import os
+import socket
 import tarfile
 import threading
 import time
@@ -12,6 +13,7 @@ import unittest
 from typing import Any, AsyncIterator
 from unittest import mock
 
+from aiohttp import web
 from folder_case import manifest_of
 from guard_case import GuardCase
 from http_case import DRAWN
@@ -112,6 +114,55 @@ class Harm(GuardCase):
         self.assertEqual(together.groups, {})
         async with together.take("a", b"2"):
             self.assertEqual(len(together.groups), 1)
+
+    async def connect(self, said: bytes) -> tuple[asyncio.StreamReader, asyncio.StreamWriter]:
+        """A connection whose client takes little, once it has said this."""
+        reader, writer = await asyncio.open_connection("127.0.0.1", self.port, limit=4_096)
+        writer.get_extra_info("socket").setsockopt(socket.SOL_SOCKET, socket.SO_RCVBUF, 4_096)
+        writer.write(said)
+        return reader, writer
+
+    async def is_ended(self, writer: asyncio.StreamWriter, data: bytes, times: int) -> bool:
+        """Whether a connection is ended while more comes by it."""
+        with contextlib.suppress(OSError):
+            for _ in range(times):
+                writer.write(data)
+                await writer.drain()
+                await asyncio.sleep(0.002)
+            return False
+        return True
+
+    async def test_what_comes_while_a_request_is_answered_is_bounded(self) -> None:
+        await self.start(requests=0)
+        goes_on = asyncio.Event()
+        self.addCleanup(goes_on.set)
+
+        async def wait(*_: object) -> web.Response:
+            await goes_on.wait()
+            return web.Response()
+
+        self.enterContext(mock.patch.object(self.gateway.reader, "answer", wait))
+        asked = f"GET /v1/blobs/{'0' * 64} HTTP/1.1\r\nHost: 127.0.0.1:{self.port}\r\n".encode()
+        put = b"PUT /v1/blobs?epochs=1 HTTP/1.1\r\nContent-Length: 60000\r\n\r\n" + bytes(60_000)
+        for head, data in ((b"Connection: upgrade\r\nUpgrade: h2c\r\n", bytes(16_384)), (b"", put)):
+            _, writer = await self.connect(asked + head + b"\r\n")
+            self.assertTrue(await self.is_ended(writer, data, 400))
+
+    async def test_who_takes_no_reply_is_let_go(self) -> None:
+        self.enterContext(mock.patch.multiple(connections, GRACE=0.5, LEAST=10**9))
+        await self.start()
+        for size in (9_000_000, 30_000):
+            text = mock.patch.object(self.gateway.watch, "status_text", lambda: b'"' + b"x" * size + b'"')
+            asked = f"GET /v1/status HTTP/1.1\r\nHost: 127.0.0.1:{self.port}\r\n".encode()
+            with text:
+                opened = [await self.connect(asked + it + b"\r\n") for it in (b"", b"Connection: close\r\n")]
+                async with asyncio.timeout(60):
+                    while not self.gateway.each:
+                        await asyncio.sleep(0.01)
+                    while self.gateway.each:
+                        await asyncio.sleep(0.02)
+            for _, writer in opened:
+                writer.transport.abort()
 
     async def test_a_digest_is_computed_once(self) -> None:
         await self.start()
