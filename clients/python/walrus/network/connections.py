@@ -68,8 +68,8 @@ class Connection(web.RequestHandler):
         return len(self._messages) > WAITING or bodies + len(self._message_tail) > AHEAD
 
     async def finish_response(self, request: web.BaseRequest, resp: web.StreamResponse, *words: Any) -> Any:
-        """Sends a reply, or what is left of one that is a stream. Who does not take it is let go: aiohttp waits for ever,
-        and so would a transport that is closed with something to send."""
+        """Sends a reply, or what is left of one that is a stream. Who does not take it is let go: aiohttp waits for
+        ever, and so would a transport that is closed with something to send."""
         body = resp.body if isinstance(resp, web.Response) else None
         seconds = GRACE + (len(body) if isinstance(body, bytes) else 0) / LEAST
         self.first.cancel()

@@ -148,7 +148,8 @@ class Node(View):
         self.sides = {epoch: self.sides.get(epoch) or self.shards(epoch) for epoch in self.epochs()}
         self.scrub.left.set()
         for place in range(0, len(expired), AT_ONCE):
-            await self.store.persist(functools.partial(self.store.expire, expired[place : place + AT_ONCE]))  # noqa: E203
+            some = expired[place : place + AT_ONCE]  # noqa: E203
+            await self.store.persist(functools.partial(self.store.expire, some))
             await asyncio.sleep(0)
 
     def epochs(self) -> list[int]:
