@@ -1,13 +1,16 @@
-"""What one participant may have all others wait for at a turn of the epoch: whoever registers many blobs, for nothing."""
+"""What one participant may have all others wait for: at a node, and at a turn of the epoch who registers many blobs."""
 import asyncio
+import contextlib
 import pathlib
 import tempfile
 import types
 import unittest
-from typing import Any
+from typing import Any, Callable
 from unittest import mock
 
 from ledger_case import FOUNDED, registration
+from walrus import client, port
+from walrus.frames import answer
 from walrus.network import node, recovery
 from walrus.network.entries import Chain, Entry
 from walrus.network.follower import News, Recorders, View
@@ -59,7 +62,8 @@ class Turns(TurnCase):
 
     async def test_others_are_served_while_many_blobs_expire(self) -> None:
         self.enterContext(mock.patch.object(node, "AT_ONCE", 50))
-        ends, stays = [registration("x", it, 1) for it in range(1_000)], [registration("x", it) for it in (7_000, 7_001)]
+        ends = [registration("x", it, 1) for it in range(1_000)]
+        stays = [registration("x", it) for it in (7_000, 7_001)]
         await self.enter([FOUNDED, *ends, *stays])
         names = [bytes.fromhex(it.split("/")[2]) for it in (*ends[:3], ends[-1], *stays)]
         for name in names:
@@ -103,6 +107,59 @@ class Halves(TurnCase):
         left = State(path)
         self.addCleanup(left.close)
         self.assertEqual((left.chain, len(left.ledger.blobs), left.ledger.posted["x"]), (chain, 1, 1))
+
+
+class Ports(unittest.IsolatedAsyncioTestCase):
+    """A port whose clients come from several addresses of this machine."""
+
+    async def asyncSetUp(self) -> None:
+        asyncio.get_running_loop().set_debug(False)
+        self.order, self.goes_on = list[int](), asyncio.Semaphore(0)
+        bounds = port.Bounds(connections=8, kept=20_000_000)  # for two turns
+        self.made = port.Port(self.reply, client.Shape(1), bounds)
+        self.made.say = lambda text: None
+        self.place = await self.made.listen("127.0.0.1", 0)
+        self.addAsyncCleanup(self.made.close_port)
+
+    async def reply(self, shard: int, request: bytes) -> port.Said:
+        self.order.append(shard)
+        await self.goes_on.acquire()
+        return port.Said([client.envelope(answer(client.DONE), shard)])
+
+    async def ask(self, number: int, host: str) -> tuple[asyncio.StreamReader, asyncio.StreamWriter]:
+        """Has something asked by a connection of its own."""
+        streams = await asyncio.open_connection("127.0.0.1", self.place, local_addr=(host, 0))
+        self.addCleanup(streams[1].transport.abort)
+        streams[1].write(client.envelope(client.write_frame(client.Read(bytes(32))), number))
+        return streams
+
+    async def until(self, holds: Callable[[], object]) -> None:
+        async with asyncio.timeout(60):
+            while not holds():
+                await asyncio.sleep(0.01)
+
+    async def test_nobody_waits_behind_all_that_one_address_asks(self) -> None:
+        for number in range(6):
+            await self.ask(number, "127.0.0.2")
+            await self.until(lambda: len(self.order) + sum(map(len, self.made.turns.waiting.values())) > number)
+        for number in (6, 7):
+            await self.ask(number, "127.0.0.3")
+            await self.until(lambda: len(self.made.turns.waiting.get("127.0.0.3", ())) > number - 6)
+        for count in range(3, 9):
+            self.goes_on.release()
+            await self.until(lambda: len(self.order) == count)
+        self.assertEqual(self.order, [0, 1, 2, 6, 3, 7, 4, 5])  # one of each, in turn
+
+    async def test_who_has_many_connections_gives_way_before_others(self) -> None:
+        self.goes_on = asyncio.Semaphore(99)
+        reader, _ = await self.ask(1, "127.0.0.3")
+        self.assertEqual(await client.take_envelope(reader, 99), (1, answer(client.DONE)))
+        many = [await self.ask(2, "127.0.0.2") for _ in range(12)]  # each of which has a reply, and later than that one
+        for it, _ in many:
+            with contextlib.suppress(OSError, EOFError):
+                await client.take_envelope(it, 99)
+        self.assertEqual(len(self.made.connections), 8)
+        self.assertEqual(sum(it.whom == "127.0.0.3" for it in self.made.connections), 1)
 
 
 if __name__ == "__main__":
