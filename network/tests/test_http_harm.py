@@ -4,18 +4,22 @@ import collections
 import contextlib
 import hashlib
 import os
+import socket
+import tarfile
 import threading
 import time
+import tracemalloc
 import unittest
-from typing import Any
+from typing import Any, AsyncIterator
 from unittest import mock
 
+from aiohttp import web
 from folder_case import manifest_of
 from guard_case import GuardCase
 from http_case import DRAWN
 from walrus import client
 from walrus.frames import answer
-from walrus.network import connections, digests, folders, intake, metrics, turns, unfinished
+from walrus.network import archives, connections, digests, folders, intake, metrics, source, turns, unfinished, whole
 from walrus.network.local import free_port
 from walrus.network.manifest import Place
 
@@ -111,6 +115,55 @@ class Harm(GuardCase):
         async with together.take("a", b"2"):
             self.assertEqual(len(together.groups), 1)
 
+    async def connect(self, said: bytes) -> tuple[asyncio.StreamReader, asyncio.StreamWriter]:
+        """A connection whose client takes little, once it has said this."""
+        reader, writer = await asyncio.open_connection("127.0.0.1", self.port, limit=4_096)
+        writer.get_extra_info("socket").setsockopt(socket.SOL_SOCKET, socket.SO_RCVBUF, 4_096)
+        writer.write(said)
+        return reader, writer
+
+    async def is_ended(self, writer: asyncio.StreamWriter, data: bytes, times: int) -> bool:
+        """Whether a connection is ended while more comes by it."""
+        with contextlib.suppress(OSError):
+            for _ in range(times):
+                writer.write(data)
+                await writer.drain()
+                await asyncio.sleep(0.002)
+            return False
+        return True
+
+    async def test_what_comes_while_a_request_is_answered_is_bounded(self) -> None:
+        await self.start(requests=0)
+        goes_on = asyncio.Event()
+        self.addCleanup(goes_on.set)
+
+        async def wait(*_: object) -> web.Response:
+            await goes_on.wait()
+            return web.Response()
+
+        self.enterContext(mock.patch.object(self.gateway.reader, "answer", wait))
+        asked = f"GET /v1/blobs/{'0' * 64} HTTP/1.1\r\nHost: 127.0.0.1:{self.port}\r\n".encode()
+        put = b"PUT /v1/blobs?epochs=1 HTTP/1.1\r\nContent-Length: 60000\r\n\r\n" + bytes(60_000)
+        for head, data in ((b"Connection: upgrade\r\nUpgrade: h2c\r\n", bytes(16_384)), (b"", put)):
+            _, writer = await self.connect(asked + head + b"\r\n")
+            self.assertTrue(await self.is_ended(writer, data, 400))
+
+    async def test_who_takes_no_reply_is_let_go(self) -> None:
+        self.enterContext(mock.patch.multiple(connections, GRACE=0.5, LEAST=10**9))
+        await self.start()
+        for size in (9_000_000, 30_000):
+            text = mock.patch.object(self.gateway.watch, "status_text", lambda: b'"' + b"x" * size + b'"')
+            asked = f"GET /v1/status HTTP/1.1\r\nHost: 127.0.0.1:{self.port}\r\n".encode()
+            with text:
+                opened = [await self.connect(asked + it + b"\r\n") for it in (b"", b"Connection: close\r\n")]
+                async with asyncio.timeout(60):
+                    while not self.gateway.each:
+                        await asyncio.sleep(0.01)
+                    while self.gateway.each:
+                        await asyncio.sleep(0.02)
+            for _, writer in opened:
+                writer.transport.abort()
+
     async def test_a_digest_is_computed_once(self) -> None:
         await self.start()
         name = self.keep(b"x" * 100_000)
@@ -141,9 +194,40 @@ class Harm(GuardCase):
         self.assertEqual(found, [1] * 4)  # of one who asks one at a time
 
 
+class Tars(unittest.IsolatedAsyncioTestCase):
+    async def test_what_a_tar_tells_without_a_file_takes_no_memory(self) -> None:
+        """Else whoever may store folders fills the memory of all: headers of fields may follow each other for ever."""
+
+        async def headers() -> AsyncIterator[bytes]:
+            for block in range(12):
+                fields = b"".join(b"21 %012d=\x00\xff12\n" % (block * 1_000 + it) for it in range(1_000))
+                made = tarfile.TarInfo("fields")
+                made.type, made.size = tarfile.XHDTYPE, len(fields)
+                yield made.tobuf(tarfile.USTAR_FORMAT) + fields + bytes(-len(fields) % 512)
+            yield tarfile.TarInfo("file").tobuf(tarfile.USTAR_FORMAT, "utf-8", "strict") + bytes(1_024)
+
+        tracemalloc.start()
+        self.addCleanup(tracemalloc.stop)
+        found = [coming.path async for coming in archives.files_of_tar(source.Source(headers()))]
+        self.assertEqual(found, ["file"])
+        self.assertLess(tracemalloc.get_traced_memory()[1], 500_000)
+
+
 class AtNodes(unittest.IsolatedAsyncioTestCase):
+    async def test_of_a_request_no_more_envelopes_are_read_than_it_has(self) -> None:
+        """Anybody may send one of 14 MB that has two million: to look at all of them took seconds and a gigabyte."""
+        shape = client.Shape(1)
+        request, empty = whole.place(shape, whole.longest(shape)), client.envelope(b"")
+        count = (len(request) - 1) // len(empty)
+        request[0], end = whole.WHOLE, 1 + count * len(empty)
+        request[1:end] = empty * count
+        tracemalloc.start()
+        self.addCleanup(tracemalloc.stop)
+        self.assertIsNone(whole.Whole.read(shape, request[:end]))
+        self.assertLess(tracemalloc.get_traced_memory()[1], 100_000)
+
     async def test_a_blob_that_comes_again_costs_the_ledger_nothing(self) -> None:
-        node, shard, whole = mock.MagicMock(), mock.MagicMock(epoch=3), mock.MagicMock(identifier=bytes(32))
+        node, shard, came = mock.MagicMock(), mock.MagicMock(epoch=3), mock.MagicMock(identifier=bytes(32))
         node.name = "node-0"
         shard.put_whole, node.durable = mock.AsyncMock(return_value=[answer(client.COUNTS[0])]), mock.AsyncMock()
         ledger_hears, posted = asyncio.Event(), list[str]()
@@ -159,7 +243,7 @@ class AtNodes(unittest.IsolatedAsyncioTestCase):
         node.recorders.leave = leave
         node.ledger.voted.return_value, node.ledger.writing_epoch, node.sides = False, 3, {3: {0: shard}}
         made = intake.Intake(node)
-        with mock.patch.object(intake.Whole, "read", return_value=whole):
+        with mock.patch.object(intake.Whole, "read", return_value=came):
             for _ in range(5):  # while the ledger is away
                 self.assertEqual(await made.store(0, memoryview(b"")), [answer(client.DONE)])
                 await asyncio.sleep(0.01)

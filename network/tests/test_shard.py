@@ -817,7 +817,8 @@ class Committees(NodeCase):
         for poster in "abc":
             self.apply(poster, "ready", 1)
         self.apply("a", "finish", 1)
-        self.store.turn(1, [ends])
+        self.store.turn(1)
+        self.store.expire([ends])
         self.assertTrue(self.store.flush())
         await self.left(2)
         left = {it: node for it, node in files.items() if it.name.startswith(stays.hex())}
@@ -844,7 +845,7 @@ class Committees(NodeCase):
             for poster in "abc":
                 self.apply(poster, "ready", 1)
             self.apply("a", "finish", 1)
-            self.store.turn(1, [])
+            self.store.turn(1)
             del node.sides[0]
             over.set()
             said = [bytes(payload) for _, payload in client.split(b"".join((await reading).parts))]
@@ -866,7 +867,7 @@ class Committees(NodeCase):
         assert self.store
         parts = await self.put(b"held")
         later = self.store.begin(1, 0)
-        self.store.turn(1, [])
+        self.store.turn(1)
         self.assertIsNone(self.store.holding(0, 0))
         before = self.side(0)  # as a start has it whose ledger knows of no turn yet
         self.assertEqual(before.holding, later)
@@ -880,7 +881,7 @@ class Committees(NodeCase):
         later = self.side(1)
         self.store.forget(later.holding, 1, name)
         self.assertEqual([it.vouches("ack", name) for it in (self.shard, later)], [True, False])
-        self.store.turn(1, [])
+        self.store.turn(1)
         self.assertTrue(self.store.flush())
         self.assertEqual(self.store.counts()["blobs"], 1)
         [(left,)] = self.store.base.execute("SELECT count(*) FROM contents")
@@ -890,7 +891,7 @@ class Committees(NodeCase):
         assert self.store
         for number in range(5):
             await self.certified(bytes([number]) * LARGE)
-        self.store.turn(1, [])
+        self.store.turn(1)
         with mock.patch("walrus.network.store.BATCH", 2):
             self.assertEqual([self.store.sweep() for _ in range(9)], [True] * 4 + [False] * 5)
         self.store.flush()

@@ -3,6 +3,7 @@
 A front and a node stand on it. A request has a deadline from its first byte to its last, and so has taking a reply.
 Where there are more connections than may be, or more is kept, that client is cut off which is at it for longest."""
 import asyncio
+import collections
 import contextlib
 import dataclasses
 import functools
@@ -12,6 +13,7 @@ from collections.abc import Awaitable, Callable, Sequence
 from typing import Any, NamedTuple, Optional
 
 from .client import HEAD, MARK, SLICE, Data, Fault, Shape, envelope, in_words, write_frame
+from .fairness import Fair, key_of
 from .frames import refuse
 from .streams import write_parts
 from .wire import Wire, filling, memory
@@ -19,6 +21,7 @@ from .wire import Wire, filling, memory
 PIECE, AHEAD, QUIET = 65_536, 64, 60.0  # bytes of one client; replies that wait; seconds between two equal lines
 LARGE_PAGE = 2_097_152  # bytes
 ASIDE = 256  # requests that wait for others without a turn
+MANY = 4  # who has more than one of so many parts of the connections has many
 
 
 class Bounds(NamedTuple):
@@ -54,6 +57,11 @@ class Connection:
     kept: int = 0
     replies: "asyncio.Queue[Optional[Said]]" = dataclasses.field(default_factory=lambda: asyncio.Queue(AHEAD))
 
+    @functools.cached_property
+    def whom(self) -> str:
+        """From where it is."""
+        return key_of(str((self.wire.get_extra_info("peername") or ("",))[0]))
+
     def __str__(self) -> str:
         return ":".join(map(str, (self.wire.get_extra_info("peername") or ("a client that left",))[:2]))
 
@@ -65,7 +73,7 @@ class Port:
         self, reply: Callable[[int, bytes], Awaitable[Said]], shape: Shape, bounds: Bounds, own: Optional[int] = None
     ) -> None:
         self.reply, self.shape, self.bounds, self.own = reply, shape, bounds, own
-        self.turns = asyncio.Semaphore(max(2, bounds.kept // shape.longest))  # so many requests are answered at once
+        self.turns = Fair(max(2, bounds.kept // shape.longest))  # so many requests are answered at once
         self.connections: dict[Connection, None] = {}
         self.asking = set[Connection]()  # clients of whom a request is being answered, also those that were cut off
         self.answers, self.at_turn = set["asyncio.Task[Said]"](), set["asyncio.Task[Any]"]()  # under way; with a turn
@@ -126,9 +134,11 @@ class Port:
             self.cut_off(other)
 
     def make_room(self, newcomer: Connection) -> None:
-        """Where there are as many connections as may be, cuts off that which waits longest, first those of no reply."""
+        """Where there are as many connections as may be, cuts off that which waits longest, first those of who has many
+        of them, and those of no reply."""
         if len(self.connections) >= self.bounds.connections:
-            client = min(self.connections, key=lambda it: (it.had_reply, it.since))
+            counts, many = collections.Counter(it.whom for it in self.connections), self.bounds.connections // MANY
+            client = min(self.connections, key=lambda it: (counts[it.whom] <= many, it.had_reply, it.since))
             text = f"{len(self.connections)} connections: {client}, which waits longest, is cut off for {newcomer}"
             self.tell(text, "many")
             self.cut_off(client)
@@ -177,7 +187,7 @@ class Port:
             sender, payload = await self.take(client, first, reader)
         await self.expect(payload)
         async with asyncio.timeout(self.bounds.seconds):
-            await self.turns.acquire()
+            await self.turns.acquire(client.whom)
         client.since = time.monotonic()
         task = asyncio.create_task(self.answer(client, sender, payload))
         self.answers.add(task)

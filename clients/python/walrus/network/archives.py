@@ -13,6 +13,7 @@ from .problems import Problem
 from .source import BROKEN, Parts, Source
 
 BLOCK, MOST_FIELDS = 512, 65_536  # bytes of a block of a tar, and of what it tells of one of its files
+SPARSE = "GNU.sparse."  # what the fields of a sparse file begin with
 OTHERS = {b"1": "a link", b"2": "a link", b"3": "a device", b"4": "a device", b"6": "a pipe", b"S": "a sparse file"}
 ASKED = "send a tar, or the files as multipart/form-data with a path as file name, as curl -F 'a=@FILE;filename=PATH'"
 # A file that comes: its path, its length as far as that is known before, and its bytes, which are read before the next.
@@ -55,7 +56,7 @@ async def files_of_tar(source: Source) -> AsyncGenerator[Coming, None]:
                 told |= fields if kind == b"x" else {}
             continue
         name, size = told.get("path", long or name), decimal(told["size"]) if "size" in told else size
-        is_sparse = any(it.startswith("GNU.sparse.") for it in told)
+        is_sparse = SPARSE in told
         long, told = b"", {}
         if kind == b"5" or kind in (b"0", b"\0") and name.endswith(b"/"):
             if name.rstrip(b"/") not in (b"", b"."):
@@ -102,7 +103,8 @@ def decimal(text: bytes) -> int:
 
 
 def fields_of(text: bytes) -> dict[str, bytes]:
-    """The fields of a pax header, each of which begins with its length."""
+    """Those of the fields of a pax header that count here, each of which begins with its length. No others are kept: a
+    tar may have headers without end, and no file."""
     found, start = dict[str, bytes](), 0
     while start < len(text):
         size, end = text[start : start + 8].partition(b" ")[0], start  # noqa: E203
@@ -111,7 +113,11 @@ def fields_of(text: bytes) -> dict[str, bytes]:
         key, equals, value = line[len(size) + 1 : -1].partition(b"=")  # noqa: E203
         if not equals or line[-1:] != b"\n" or len(line) != int(size):
             raise Problem(400, BROKEN)
-        found[key.decode("utf-8", "replace")], start = value, end
+        name, start = key.decode("utf-8", "replace"), end
+        if name.startswith(SPARSE):
+            found[SPARSE] = b""
+        elif name in ("path", "size"):
+            found[name] = value
     return found
 
 

@@ -3,6 +3,7 @@ import asyncio
 import collections
 import contextlib
 import functools
+import itertools
 import logging
 import math
 import os
@@ -17,14 +18,15 @@ from .limits import key_of
 
 FIRST, HANDSHAKE, EACH = 30.0, 5.0, 300  # seconds for a first request and for TLS; connections of one address
 MALFORMED = b"HTTP/1.1 400 Bad Request\r\nContent-Length: 0\r\nConnection: close\r\n\r\n"
-WAITING = 64  # requests that a client has sent before the first of them is answered
+GRACE, LEAST = 60.0, 32_768  # seconds in which a reply is taken, and bytes of it for which there is a second more
+WAITING, AHEAD = 64, 65_536  # requests, and bytes of their bodies, that a client has sent before it is answered
 
 
 class Connection(web.RequestHandler):
     """A connection with a client, which counts among all of its server and among those of whom it is from: one too many
     is ended. What aiohttp stumbles over, such as some addresses, is malformed too."""
 
-    first: asyncio.TimerHandle  # ends a connection that brings no request
+    first: asyncio.TimerHandle  # ends a connection that brings no request, or does not take the last reply
 
     def __init__(self, server: web.Server, most: int, each: "collections.Counter[str]", **words: Any):
         loop = asyncio.get_running_loop()
@@ -56,8 +58,24 @@ class Connection(web.RequestHandler):
         except ValueError:
             cast(asyncio.Transport, self.transport).write(MALFORMED)
             self.force_close()
-        if len(self._messages) > WAITING and self.transport:  # aiohttp has no bound, and no public way to see them
+        if self.is_ahead() and self.transport:
             self.transport.abort()
+
+    def is_ahead(self) -> bool:
+        """Whether a client has sent more than may wait while it is answered: requests, whole bodies of these behind the
+        first one, or what follows one for another protocol. aiohttp has no bound, and no public way to see it."""
+        bodies = sum(getattr(body, "total_bytes", 0) for _, body in itertools.islice(self._messages, 1, None))
+        return len(self._messages) > WAITING or bodies + len(self._message_tail) > AHEAD
+
+    async def finish_response(self, request: web.BaseRequest, resp: web.StreamResponse, *words: Any) -> Any:
+        """Sends a reply, or what is left of one that is a stream. Who does not take it is let go: aiohttp waits for
+        ever, and so would a transport that is closed with something to send."""
+        body = resp.body if isinstance(resp, web.Response) else None
+        seconds = GRACE + (len(body) if isinstance(body, bytes) else 0) / LEAST
+        self.first.cancel()
+        if transport := self.transport:
+            self.first = asyncio.get_running_loop().call_later(seconds, transport.abort)
+        return await super().finish_response(request, resp, *words)
 
     def handle_error(self, request: web.BaseRequest, status: int = 500, exc: Any = None, message: Any = None) -> Any:
         """Text that cannot be encoded again, which aiohttp would answer with, is the client's."""

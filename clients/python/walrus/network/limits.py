@@ -7,6 +7,9 @@ import re
 import time
 from typing import Sequence
 
+from ..fairness import key_of
+
+__all__ = ["Bucket", "Flow", "Limits", "is_address", "is_inner", "is_loopback", "key_of", "read_address"]
 MOST, BURST = 65_536, 2.0  # clients that are known at once; seconds for which what was not used is kept
 
 
@@ -74,17 +77,6 @@ class Flow:
     async def spend(self, size: int) -> None:
         self.moved += size
         await self.limits.spend(self.keys, size)
-
-
-def key_of(address: str) -> str:
-    """What an address is counted under: of IPv6 the network that one customer has."""
-    try:
-        found = ipaddress.ip_address(address.partition("%")[0])
-    except ValueError:
-        return address
-    if found.version == 6:
-        return str(found.ipv4_mapped or ipaddress.ip_network((found, 64), strict=False))
-    return address
 
 
 def read_address(text: str) -> "ipaddress.IPv4Address | ipaddress.IPv6Address | None":

@@ -39,6 +39,7 @@ sslproto.SSLProtocol.max_size = 65_536  # bytes that each connection has ready, 
 REQUEST, IDLE, HANDSHAKE, COUNTED = 30.0, 60.0, 5.0, 13  # seconds, and the code of an answer
 BARE = 50_331_648  # bytes of a node that does nothing
 PAGES = 8_192  # KiB of the ledger's database that are kept in memory
+AT_ONCE = 500  # blobs that expire in one step
 TAIL = 2  # epochs whose entries a node keeps, from which a ledger that was restored is made whole
 
 
@@ -118,10 +119,11 @@ class Node(View):
         """Enters entries in their order."""
         ledger = self.ledger
         for entry in entries:
-            turns = entry.words[1:2] == ["finish"] if ledger.moving else entry.words[:2] == [OPERATOR, "begin"]
-            ending = ledger.blobs.ending(b"", ledger.writing_epoch, len(ledger.blobs)) if turns else []
+            epoch, ends = ledger.epoch, ledger.moving and entry.words[1:2] == ["finish"]
+            turns = ends or not ledger.moving and entry.words[:2] == [OPERATOR, "begin"]
+            ending = ledger.blobs.ending(b"", ledger.writing_epoch, len(ledger.blobs)) if ends else []
             if ledger.apply(entry) and turns:
-                await self.turn([it for it in ending if it not in ledger.blobs])
+                await self.turn(ending if ledger.epoch != epoch else [])
 
     async def take(self, pieces: list[bytes]) -> None:
         """Takes a checkpoint of the ledger, where it is too far ahead to be heard entry by entry."""
@@ -129,13 +131,13 @@ class Node(View):
 
     async def turn(self, expired: Sequence[bytes]) -> None:
         """Has the shards of the committees that there are go on once that is on the disk: what stays is a row, and no
-        part is touched. Those before hold nothing more."""
+        part is touched. Those before hold nothing more, and blobs that have expired go, while others are served."""
 
         def stage() -> None:
             for epoch in self.epochs():
                 for number in self.ledger.shards_of(self.name, epoch):
                     self.store.begin(epoch, number)
-            self.store.turn(self.ledger.epoch, expired)
+            self.store.turn(self.ledger.epoch)
 
         ledger = self.ledger
         await self.store.persist(stage)
@@ -145,6 +147,10 @@ class Node(View):
             self.repairs.grow(self.judges.room.size // 2)
         self.sides = {epoch: self.sides.get(epoch) or self.shards(epoch) for epoch in self.epochs()}
         self.scrub.left.set()
+        for place in range(0, len(expired), AT_ONCE):
+            some = expired[place : place + AT_ONCE]  # noqa: E203
+            await self.store.persist(functools.partial(self.store.expire, some))
+            await asyncio.sleep(0)
 
     def epochs(self) -> list[int]:
         """The epochs whose committees there are."""

@@ -96,7 +96,10 @@ async def settle(node: "Node", epoch: int, owed: Iterable[bytes]) -> int:
             some = owed[place : place + PAGE]  # noqa: E203
             held = await node.store.settled(shard.holding, epoch, some[0], some[-1])
             work += [Lack(shard, it) for it in some if it not in held and not shard.settled(it)]
-    later, progress = {it for it in owed if not node.ledger.certificate(it)}, Progress(epoch, len(work))
+    if not work:
+        return 0
+    later = {it.identifier for it in work if not node.ledger.certificate(it.identifier)}
+    node.progress = progress = Progress(epoch, len(work))
 
     async def measure(lack: Lack) -> None:
         if metadata := await find_metadata(node, *lack):
@@ -110,9 +113,6 @@ async def settle(node: "Node", epoch: int, owed: Iterable[bytes]) -> int:
         if lack.shard.settled(lack.identifier):
             progress.blobs, progress.bytes = progress.blobs + 1, progress.bytes + sizes.get(lack, 0)
 
-    if not work:
-        return 0
-    node.progress = progress
     await by_lanes(node, sorted(work, key=lambda it: it.identifier in later), measure)
     await by_lanes(node, sorted(work, key=lambda it: (it.identifier in later, -sizes.get(it, 0))), recover)
     left = sum(not shard.settled(it) for shard, it in work)  # what the disk lost meanwhile, too

@@ -163,10 +163,13 @@ class Store(Staged):
             self.dropped += [file for file, in gone.fetchall() if file]
         return [epoch for epoch, _ in rows]
 
-    def turn(self, epoch: int, expired: Sequence[bytes]) -> None:
+    def turn(self, epoch: int) -> None:
         """Stages that the committees before an epoch hold nothing more; what was theirs alone goes by and by."""
         self.stage("DELETE FROM sides WHERE epoch < ?", epoch)
         self.drop("gone <= ?", epoch)
+
+    def expire(self, expired: Sequence[bytes]) -> None:
+        """Stages that nothing is held any more of some blobs."""
         for (holding,) in self.stage("SELECT DISTINCT holding FROM sides").fetchall():
             for identifier in expired:
                 self.drop("holding = ? AND identifier = ?", holding, identifier)

@@ -3,12 +3,13 @@
 The judge is given the request where it lies: what the ledger says is written before the parts, and the wish behind."""
 import dataclasses
 import functools
+import itertools
 from typing import Optional, Sequence
 
 from walrus.engines import Engine
 from .. import client
 from ..client import HEAD, METADATA, PRIMARY, SECOND_METADATA, SECONDARY, SLIVER, Data
-from ..envelopes import parts
+from ..envelopes import parts, split
 from ..frames import pages_of
 from .. import wire
 
@@ -51,10 +52,11 @@ class Whole:
 
     @classmethod
     def read(cls, shape: client.Shape, request: memoryview) -> Optional["Whole"]:
-        """What a request that came to a `place` has; nothing where it is not of this form."""
+        """What a request that came to a `place` has; nothing where it is not of this form. Of more envelopes than three
+        no more is read: anybody may send two million of them."""
         try:
-            came = [memoryview(part) for _, part in client.split(request[1:])]
-        except client.Fault:
+            came = [part for _, part in itertools.islice(split(request[1:]), 4)]
+        except ValueError:
             return None
         if [part[0] if part else 0 for part in came[1:]] != [SLIVER, SLIVER] or not all(map(shape.allows, came)):
             return None

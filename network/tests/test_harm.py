@@ -1,0 +1,166 @@
+"""What one participant may have all others wait for: at a node, and at a turn of the epoch who registers many blobs."""
+import asyncio
+import contextlib
+import pathlib
+import tempfile
+import types
+import unittest
+from typing import Any, Callable
+from unittest import mock
+
+from ledger_case import FOUNDED, registration
+from walrus import client, port
+from walrus.frames import answer
+from walrus.network import node, recovery
+from walrus.network.entries import Chain, Entry
+from walrus.network.follower import News, Recorders, View
+from walrus.network.node import Node
+from walrus.network.state import State
+from walrus.network.store import Store
+
+BEGUN = "operator/begin/1/1/node-0,node-1,node-2,node-3"
+OVER = ["node-0/ready/1", "node-1/ready/1", "node-2/ready/1", "node-0/finish/1"]
+
+
+class TurnCase(unittest.IsolatedAsyncioTestCase):
+    async def asyncSetUp(self) -> None:
+        asyncio.get_running_loop().set_debug(False)
+        self.folder = pathlib.Path(self.enterContext(tempfile.TemporaryDirectory(prefix="walrus-harm-")))
+
+
+class Turns(TurnCase):
+    """A node's disk and its ledger."""
+
+    async def asyncSetUp(self) -> None:
+        await super().asyncSetUp()
+        self.store, self.state = Store(self.folder / "a.db"), State()
+        self.addCleanup(self.store.close)
+        made: Any = types.SimpleNamespace(ledger=self.state.ledger, store=self.store, sides={}, shards=lambda epoch: {})
+        made.name, made.judges = "node-0", types.SimpleNamespace(least=1)
+        made.scrub = types.SimpleNamespace(left=asyncio.Event())
+        for name in ("apply", "turn", "epochs"):
+            setattr(made, name, types.MethodType(getattr(Node, name), made))
+        self.node = made
+
+    async def enter(self, texts: list[str]) -> int:
+        """Enters what comes next; how often others had their turn meanwhile."""
+        turns, over = 0, False
+
+        async def others() -> None:
+            nonlocal turns
+            while not over:
+                await asyncio.sleep(0)
+                turns += 1
+
+        other = asyncio.create_task(others())
+        await asyncio.sleep(0)
+        before, place = turns, self.state.ledger.revision
+        await self.node.apply([Entry(place + it, text) for it, text in enumerate(texts, 1)])
+        found, over = turns - before, True
+        await other
+        return found
+
+    async def test_others_are_served_while_many_blobs_expire(self) -> None:
+        self.enterContext(mock.patch.object(node, "AT_ONCE", 50))
+        ends = [registration("x", it, 1) for it in range(1_000)]
+        stays = [registration("x", it) for it in (7_000, 7_001)]
+        await self.enter([FOUNDED, *ends, *stays])
+        names = [bytes.fromhex(it.split("/")[2]) for it in (*ends[:3], ends[-1], *stays)]
+        for name in names:
+            self.store.put(1, 0, name, 0, b"metadata", None)
+        with mock.patch.object(self.state.blobs, "ending") as ending:
+            await self.enter([BEGUN])  # for which nothing ends
+        self.assertFalse(ending.called)
+        self.assertEqual(self.store.counts()["blobs"], 6)
+        self.assertGreaterEqual(await self.enter(OVER), 20)
+        held = [bool(self.store.sizes(1, 1, name)) for name in names]
+        self.assertEqual(held, [False] * 4 + [True] * 2)
+        self.assertEqual(self.state.ledger.epoch, 1)
+
+    async def test_of_what_is_held_a_handover_asks_the_ledger_nothing(self) -> None:
+        owed, asked = [it.to_bytes(32, "big") for it in range(100)], mock.Mock()
+        self.node.ledger, self.node.sides = asked, {1: {0: types.SimpleNamespace(holding=1)}}
+        with mock.patch.object(self.store, "settled", mock.AsyncMock(return_value={*owed})):
+            self.assertEqual(await recovery.settle(self.node, 1, owed), 0)
+        self.assertEqual(asked.mock_calls, [])
+
+
+class Halves(TurnCase):
+    async def test_who_ends_in_the_midst_of_a_batch_hears_all_of_it_again(self) -> None:
+        """Such as a node that is told to end while its disk is full, or many blobs expire. Else registrations would
+        count twice there, and what has expired would stay."""
+        path, chain = str(self.folder / "a.ledger"), Chain(0, bytes(32))
+        first, second = [FOUNDED, registration("x", 1)], [registration("x", 2), registration("x", 3)]
+        state = State(path)
+        view = View(mock.Mock(spec=Recorders), state)
+        await view.enter(News(chain.behind(first), chain.followed(first), 4, "ab"))
+        self.assertTrue(state.settle())
+        chain, apply = chain.behind(first), view.apply
+
+        async def half(entries: list[Entry]) -> None:
+            await apply(entries[:1])
+            raise asyncio.CancelledError
+
+        with mock.patch.object(view, "apply", half), self.assertRaises(asyncio.CancelledError):
+            await view.enter(News(chain.behind(second), chain.followed(second), 4, "ab"))
+        state.close()
+        left = State(path)
+        self.addCleanup(left.close)
+        self.assertEqual((left.chain, len(left.ledger.blobs), left.ledger.posted["x"]), (chain, 1, 1))
+
+
+class Ports(unittest.IsolatedAsyncioTestCase):
+    """A port whose clients come from several addresses of this machine."""
+
+    async def asyncSetUp(self) -> None:
+        asyncio.get_running_loop().set_debug(False)
+        self.order, self.goes_on = list[int](), asyncio.Semaphore(0)
+        bounds = port.Bounds(connections=8, kept=20_000_000)  # for two turns
+        self.made = port.Port(self.reply, client.Shape(1), bounds)
+        self.made.say = lambda text: None
+        self.place = await self.made.listen("127.0.0.1", 0)
+        self.addAsyncCleanup(self.made.close_port)
+
+    async def reply(self, shard: int, request: bytes) -> port.Said:
+        self.order.append(shard)
+        await self.goes_on.acquire()
+        return port.Said([client.envelope(answer(client.DONE), shard)])
+
+    async def ask(self, number: int, host: str) -> tuple[asyncio.StreamReader, asyncio.StreamWriter]:
+        """Has something asked by a connection of its own."""
+        streams = await asyncio.open_connection("127.0.0.1", self.place, local_addr=(host, 0))
+        self.addCleanup(streams[1].transport.abort)
+        streams[1].write(client.envelope(client.write_frame(client.Read(bytes(32))), number))
+        return streams
+
+    async def until(self, holds: Callable[[], object]) -> None:
+        async with asyncio.timeout(60):
+            while not holds():
+                await asyncio.sleep(0.01)
+
+    async def test_nobody_waits_behind_all_that_one_address_asks(self) -> None:
+        for number in range(6):
+            await self.ask(number, "127.0.0.2")
+            await self.until(lambda: len(self.order) + sum(map(len, self.made.turns.waiting.values())) > number)
+        for number in (6, 7):
+            await self.ask(number, "127.0.0.3")
+            await self.until(lambda: len(self.made.turns.waiting.get("127.0.0.3", ())) > number - 6)
+        for count in range(3, 9):
+            self.goes_on.release()
+            await self.until(lambda: len(self.order) == count)
+        self.assertEqual(self.order, [0, 1, 2, 6, 3, 7, 4, 5])  # one of each, in turn
+
+    async def test_who_has_many_connections_gives_way_before_others(self) -> None:
+        self.goes_on = asyncio.Semaphore(99)
+        reader, _ = await self.ask(1, "127.0.0.3")
+        self.assertEqual(await client.take_envelope(reader, 99), (1, answer(client.DONE)))
+        many = [await self.ask(2, "127.0.0.2") for _ in range(12)]  # each of which has a reply, and later than that one
+        for it, _ in many:
+            with contextlib.suppress(OSError, EOFError):
+                await client.take_envelope(it, 99)
+        self.assertEqual(len(self.made.connections), 8)
+        self.assertEqual(sum(it.whom == "127.0.0.3" for it in self.made.connections), 1)
+
+
+if __name__ == "__main__":
+    unittest.main()
