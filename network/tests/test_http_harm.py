@@ -115,6 +115,36 @@ class Harm(GuardCase):
         async with together.take("a", b"2"):
             self.assertEqual(len(together.groups), 1)
 
+    async def test_nobody_waits_for_all_that_another_one_has_read(self) -> None:
+        self.token("anyone")
+        alice, bob = self.token("alice"), self.token("bob")
+        read, goes_on = list[str](), asyncio.Semaphore(0)
+
+        async def fetch(name: bytes, size: int) -> bytes:
+            read.append(name.hex())
+            await goes_on.acquire()
+            return b"no folder"
+
+        await self.start()
+        self.enterContext(mock.patch.object(self.gateway.reader.cache, "read", fetch))
+        for path, most in (("/v1/blobs/{}", 8), ("/v1/folders/{}/", 1)):
+            names = [hashlib.sha256(f"{path}{it}".encode()).hexdigest() for it in range(41)]
+            asked = [asyncio.create_task(self.ask("GET", path.format(it), headers=alice)) for it in names[:40]]
+            async with asyncio.timeout(60):
+                while len(read) < most:
+                    await asyncio.sleep(0.01)
+                await asyncio.sleep(0.2)
+                asked.append(asyncio.create_task(self.ask("GET", path.format(names[40]), headers=bob)))
+                while names[40] not in read:
+                    await asyncio.sleep(0.05)
+                    goes_on.release()
+            self.assertLessEqual(read.index(names[40]), most + 2)
+            for _ in names:
+                goes_on.release()
+            await asyncio.gather(*asked)
+            read.clear()
+            goes_on = asyncio.Semaphore(0)
+
     async def connect(self, said: bytes) -> tuple[asyncio.StreamReader, asyncio.StreamWriter]:
         """A connection whose client takes little, once it has said this."""
         reader, writer = await asyncio.open_connection("127.0.0.1", self.port, limit=4_096)

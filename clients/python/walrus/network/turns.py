@@ -1,23 +1,26 @@
 """Places for what takes long: so many at once, of which one who asks has a part, so that nobody has them all."""
 import asyncio
 import contextlib
+import contextvars
 import dataclasses
 import weakref
 from typing import AsyncIterator, Optional
 
 from aiohttp import web
 
+from ..fairness import Fair
 from .limits import key_of
 
 WAITING = 60.0  # seconds for which one waits for a turn
 PARTS = 4  # one who asks has at most one of so many parts of the places, unless it is said otherwise
+ASKING = contextvars.ContextVar("asking", default="")  # for whom something is done; empty where nobody has asked for it
 
 
 class Turns:
-    """So many places, and of these so many for one."""
+    """So many places, and of these so many for one. Those who wait for one have it in turn."""
 
     def __init__(self, most: int, each: int = 0):
-        self.all, self.each = asyncio.Semaphore(most), each or max(1, most // PARTS)
+        self.all, self.each = Fair(most), each or max(1, most // PARTS)
         self.own: "weakref.WeakValueDictionary[str, asyncio.Semaphore]" = weakref.WeakValueDictionary()
 
     @contextlib.asynccontextmanager
@@ -27,8 +30,14 @@ class Turns:
         async with contextlib.AsyncExitStack() as stack:
             async with asyncio.timeout(WAITING):
                 await stack.enter_async_context(own)
-                await stack.enter_async_context(self.all)
+                await self.all.acquire(owner)
+                stack.callback(self.all.release)
             yield
+
+    def is_free(self, owner: str) -> bool:
+        """Whether one may have a further place, as soon as there is one."""
+        own = self.own.get(owner)
+        return not own or not own.locked()
 
 
 @dataclasses.dataclass
