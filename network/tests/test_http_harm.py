@@ -105,6 +105,29 @@ class Harm(GuardCase):
         for _, writer in readers:
             writer.transport.abort()
 
+    async def test_of_those_who_wait_nobody_has_any_number(self) -> None:
+        """Else who asks, goes away and asks again has as much memory as a minute takes."""
+        self.enterContext(mock.patch.object(turns, "MOST", 5))
+        places = turns.Turns(1, 1)
+        together = turns.Together(places)
+        async with places.take("a"):
+            waiting = [asyncio.create_task(self.have(places.take("a"))) for _ in range(4)]
+            waiting += [asyncio.create_task(self.have(together.take("a", b"1"))) for _ in range(5)]
+            await asyncio.sleep(0.1)
+            for further in (places.take("a"), together.take("a", b"1"), together.take("a", b"2")):
+                with self.assertRaises(TimeoutError):
+                    async with asyncio.timeout(30), further:
+                        self.fail("one more waits")
+            waiting.append(asyncio.create_task(self.have(places.take("b"))))
+        async with asyncio.timeout(30):
+            await asyncio.gather(*waiting)
+        self.assertEqual((len(places.waits), together.groups), (0, {}))
+
+    @staticmethod
+    async def have(place: contextlib.AbstractAsyncContextManager[None]) -> None:
+        async with place:
+            await asyncio.sleep(0)
+
     async def test_who_wants_the_same_has_one_place(self) -> None:
         together = turns.Together(turns.Turns(4, 1))
         async with together.take("a", b"1"), together.take("a", b"1"), together.take("b", b"2"):
