@@ -123,8 +123,8 @@ class Peers:
         return await to(hosts[-1], port)
 
     async def find(self, name: str) -> list[str]:
-        """The addresses of a node. Its name is looked up once at a time, in a thread of its own, as one may be told that
-        takes long: so others wait for none of it."""
+        """The addresses of a node. Its name is looked up once at a time, in a thread of its own, as one may be told
+        that takes long: so others wait for none of it."""
         host, port = self.address(name)
         if read_address(host):
             return [host]
