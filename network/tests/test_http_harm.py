@@ -105,6 +105,29 @@ class Harm(GuardCase):
         for _, writer in readers:
             writer.transport.abort()
 
+    async def test_of_those_who_wait_nobody_has_any_number(self) -> None:
+        """Else who asks, goes away and asks again has as much memory as a minute takes."""
+        self.enterContext(mock.patch.object(turns, "MOST", 5))
+        places = turns.Turns(1, 1)
+        together = turns.Together(places)
+        async with places.take("a"):
+            waiting = [asyncio.create_task(self.have(places.take("a"))) for _ in range(4)]
+            waiting += [asyncio.create_task(self.have(together.take("a", b"1"))) for _ in range(5)]
+            await asyncio.sleep(0.1)
+            for further in (places.take("a"), together.take("a", b"1"), together.take("a", b"2")):
+                with self.assertRaises(TimeoutError):
+                    async with asyncio.timeout(30), further:
+                        self.fail("one more waits")
+            waiting.append(asyncio.create_task(self.have(places.take("b"))))
+        async with asyncio.timeout(30):
+            await asyncio.gather(*waiting)
+        self.assertEqual((len(places.waits), together.groups), (0, {}))
+
+    @staticmethod
+    async def have(place: contextlib.AbstractAsyncContextManager[None]) -> None:
+        async with place:
+            await asyncio.sleep(0)
+
     async def test_who_wants_the_same_has_one_place(self) -> None:
         together = turns.Together(turns.Turns(4, 1))
         async with together.take("a", b"1"), together.take("a", b"1"), together.take("b", b"2"):
@@ -114,6 +137,36 @@ class Harm(GuardCase):
         self.assertEqual(together.groups, {})
         async with together.take("a", b"2"):
             self.assertEqual(len(together.groups), 1)
+
+    async def test_nobody_waits_for_all_that_another_one_has_read(self) -> None:
+        self.token("anyone")
+        alice, bob = self.token("alice"), self.token("bob")
+        read, goes_on = list[str](), asyncio.Semaphore(0)
+
+        async def fetch(name: bytes, size: int) -> bytes:
+            read.append(name.hex())
+            await goes_on.acquire()
+            return b"no folder"
+
+        await self.start()
+        self.enterContext(mock.patch.object(self.gateway.reader.cache, "read", fetch))
+        for path, most in (("/v1/blobs/{}", 8), ("/v1/folders/{}/", 1)):
+            names = [hashlib.sha256(f"{path}{it}".encode()).hexdigest() for it in range(41)]
+            asked = [asyncio.create_task(self.ask("GET", path.format(it), headers=alice)) for it in names[:40]]
+            async with asyncio.timeout(60):
+                while len(read) < most:
+                    await asyncio.sleep(0.01)
+                await asyncio.sleep(0.2)
+                asked.append(asyncio.create_task(self.ask("GET", path.format(names[40]), headers=bob)))
+                while names[40] not in read:
+                    await asyncio.sleep(0.05)
+                    goes_on.release()
+            self.assertLessEqual(read.index(names[40]), most + 2)
+            for _ in names:
+                goes_on.release()
+            await asyncio.gather(*asked)
+            read.clear()
+            goes_on = asyncio.Semaphore(0)
 
     async def connect(self, said: bytes) -> tuple[asyncio.StreamReader, asyncio.StreamWriter]:
         """A connection whose client takes little, once it has said this."""

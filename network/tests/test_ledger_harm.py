@@ -3,10 +3,13 @@ import asyncio
 import contextlib
 import io
 import pathlib
+import socket
 import ssl
 import tempfile
+import threading
 import time
 import unittest
+from typing import Any
 from unittest import mock
 
 from ledger_case import FOUNDED, Chain, LedgerCase, Memory, registration
@@ -16,6 +19,7 @@ from walrus.network.entries import ADDRESS, Entry, entry_key
 from walrus.network.etcd import Batch, Gone
 from walrus.network.follower import Refused
 from walrus.network.ledger import Ledger
+from walrus.network.local import free_port
 from walrus.network.peers import FIGURES, Peers, Seat
 from walrus.network.recorder import Broken, Recorder
 
@@ -177,6 +181,38 @@ class Addresses(unittest.IsolatedAsyncioTestCase):
                 with self.assertRaises(ConnectionError):
                     await Seat(peers, "a", 0, 1).ask(client.write_frame(client.Read(bytes(32))))
                 self.assertEqual(await peers.told("b", FIGURES), {})
+            await peers.close()
+
+    async def test_a_name_that_is_looked_up_for_long_is_its_node_s_alone(self) -> None:
+        """Else the names of all others wait for it, those of recorders too, as they share a few threads."""
+        with tempfile.TemporaryDirectory() as folder:
+            certificates.make_authority(pathlib.Path(folder, "authority"))
+            ledger, goes_on, asked, usual = Ledger(), threading.Event(), list[str](), socket.getaddrinfo
+            self.addCleanup(goes_on.set)
+
+            def look_up(host: str, *words: Any, **more: Any) -> Any:
+                asked.append(host)
+                if host == "slow.example":
+                    goes_on.wait(120)
+                return usual("127.0.0.1", *words, **more)
+
+            for place, (name, host) in enumerate((("a", "slow.example"), ("b", "quick.example")), 1):
+                self.assertEqual(ledger.apply(Entry(place, entry_key(name, ADDRESS, host, free_port()))), "entered")
+            peers = Peers(ledger, pathlib.Path(folder, "authority.crt"), 120)
+            slow, read = Seat(peers, "a", 0, 1), client.write_frame(client.Read(bytes(32)))
+            with mock.patch.object(socket, "getaddrinfo", look_up):
+                waiting = [asyncio.create_task(slow.ask(read)) for _ in range(8)]
+                waiting += [asyncio.create_task(peers.told("a", FIGURES)) for _ in range(40)]
+                while not asked:
+                    await asyncio.sleep(0.01)
+                async with asyncio.timeout(60):
+                    with self.assertRaisesRegex(ConnectionError, "refused"):
+                        await Seat(peers, "b", 1, 1).ask(read)
+                    await asyncio.get_running_loop().getaddrinfo("other.example", 1)
+                self.assertEqual(asked, ["slow.example", "quick.example", "other.example"])
+                goes_on.set()
+                said = await asyncio.gather(*waiting, return_exceptions=True)
+            self.assertEqual({type(it) for it in said}, {ConnectionError})
             await peers.close()
 
 

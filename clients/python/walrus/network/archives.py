@@ -53,7 +53,7 @@ async def files_of_tar(source: Source) -> AsyncGenerator[Coming, None]:
                 fields = fields_of(data)
                 if kind == b"g" and {"path", "size"} & {*fields}:
                     raise Problem(400, "the tar gives all files one name or length: make it with tar --create")
-                told |= fields if kind == b"x" else {}
+                told |= counting(fields) if kind == b"x" else {}
             continue
         name, size = told.get("path", long or name), decimal(told["size"]) if "size" in told else size
         is_sparse = SPARSE in told
@@ -72,6 +72,12 @@ async def files_of_tar(source: Source) -> AsyncGenerator[Coming, None]:
     if len(head) < BLOCK:
         raise Problem(400, BROKEN)
     await source.zeros()
+
+
+def counting(fields: dict[str, bytes]) -> dict[str, bytes]:
+    """What counts here of the fields of a file. No others are kept: a tar may have headers without end, and no file."""
+    found = {name: fields[name] for name in ("path", "size") if name in fields}
+    return found | ({SPARSE: b""} if any(name.startswith(SPARSE) for name in fields) else {})
 
 
 def is_sum(head: bytes) -> bool:
@@ -103,8 +109,7 @@ def decimal(text: bytes) -> int:
 
 
 def fields_of(text: bytes) -> dict[str, bytes]:
-    """Those of the fields of a pax header that count here, each of which begins with its length. No others are kept: a
-    tar may have headers without end, and no file."""
+    """The fields of a pax header, each of which begins with its length."""
     found, start = dict[str, bytes](), 0
     while start < len(text):
         size, end = text[start : start + 8].partition(b" ")[0], start  # noqa: E203
@@ -113,11 +118,7 @@ def fields_of(text: bytes) -> dict[str, bytes]:
         key, equals, value = line[len(size) + 1 : -1].partition(b"=")  # noqa: E203
         if not equals or line[-1:] != b"\n" or len(line) != int(size):
             raise Problem(400, BROKEN)
-        name, start = key.decode("utf-8", "replace"), end
-        if name.startswith(SPARSE):
-            found[SPARSE] = b""
-        elif name in ("path", "size"):
-            found[name] = value
+        found[key.decode("utf-8", "replace")], start = value, end
     return found
 
 

@@ -29,6 +29,7 @@ from .shelf import Shelf
 from .sorting import Sorter
 from .times import HEADERS, Times
 from .tokens import STORE, Tokens
+from .turns import ASKING, owner_of
 from .uploads import Uploads
 
 __all__ = ["Gateway", "Options", "ending", "serve"]
@@ -129,7 +130,7 @@ class Gateway(Server):
         await self.watch.close()
         await self.announcer.close()
         await self.shelf.close()
-        await self.reader.cache.close()
+        await self.reader.close()
         self.publisher.close()
 
     def connect(self, server: web.Server) -> Counted:
@@ -166,6 +167,7 @@ class Gateway(Server):
     @web.middleware
     async def sort(self, request: web.Request, handler: Callable[..., Awaitable[Any]]) -> web.StreamResponse:
         """Has a request answered that has no unknown words, and for which the ledger is heard if it rests on that."""
+        ASKING.set(owner_of(request))
         if "site" in request:
             self.must_follow()
             return await self.folders.get_site(request)

@@ -1,16 +1,22 @@
 """Shards at nodes, over TLS: requests to them are those of the small client, with its deadlines and filters."""
 import asyncio
+import concurrent.futures
 import contextlib
+import functools
 import json
 import pathlib
+import socket
 import ssl
 import time
-from typing import Any, Sequence
+from typing import Any, Awaitable, Callable, Sequence, TypeVar
 
 from .. import client
 from ..wire import Wire, connect
 from .ledger import Ledger
+from .limits import read_address
 
+Result = TypeVar("Result")
+LOOKUPS = 32  # names that are looked up at once, one of a node
 LANES, LARGE = 8, 4_194_304  # exchanges with a shard at once; bytes of a large one
 FIGURES, SCRUB = b"\x60", b"\x61"  # requests of an operator: a node's figures, and these once it begins a scrub
 
@@ -32,9 +38,9 @@ class Seat(client.Shard):
             if not wire.at_eof() and not wire.exception():
                 return wire
             wire.transport.abort()  # it ended between two requests
-        address, context = self.peers.address(self.name), self.peers.context
+        words = {"ssl": self.peers.context, "server_hostname": self.name}
         try:
-            return await connect(*address, ssl=context, server_hostname=self.name)
+            return await self.peers.reach(self.name, functools.partial(connect, **words))
         except ssl.SSLCertVerificationError as fault:
             raise ConnectionError(f"it has no certificate of {self.name}: {fault.verify_message}") from None
 
@@ -99,12 +105,35 @@ class Peers:
         self.context = ssl.create_default_context(cafile=str(authority))
         self.kept = dict[tuple[str, int], Seat]()
         self.heard = 0  # bytes of parts that nodes replied
+        self.pool = concurrent.futures.ThreadPoolExecutor(LOOKUPS, "names")  # and not asyncio's own, which is for all
+        self.sought = dict[str, "asyncio.Future[list[str]]"]()  # what is looked up for each node
 
     def address(self, name: str) -> tuple[str, int]:
         """Where the ledger says that a node is."""
         if name not in self.ledger.addresses:
             raise ConnectionError(f"{name} has told no address")
         return self.ledger.addresses[name]
+
+    async def reach(self, name: str, to: Callable[[str, int], Awaitable[Result]]) -> Result:
+        """A connection to a node, at the first of its addresses that takes one."""
+        port, hosts = self.address(name)[1], await self.find(name)
+        for host in hosts[:-1]:
+            with contextlib.suppress(OSError):
+                return await to(host, port)
+        return await to(hosts[-1], port)
+
+    async def find(self, name: str) -> list[str]:
+        """The addresses of a node. Its name is looked up once at a time, in a thread of its own, as one may be told
+        that takes long: so others wait for none of it."""
+        host, port = self.address(name)
+        if read_address(host):
+            return [host]
+        sought = self.sought.get(name)
+        if not sought or sought.done():
+            look = asyncio.get_running_loop().run_in_executor
+            sought = self.sought[name] = look(self.pool, look_up, host, port)
+            sought.add_done_callback(lambda it: it.cancelled() or it.exception())  # also where nobody waits any more
+        return await asyncio.shield(sought)
 
     def seats(self, owners: Sequence[str], faults: int) -> list[Seat]:
         """The shards of a committee, where their nodes are now."""
@@ -117,8 +146,8 @@ class Peers:
         """A node's figures as it tells them; raises `ConnectionError` where it does not."""
         try:
             async with asyncio.timeout(self.seconds):
-                address, words = self.address(name), {"ssl": self.context, "server_hostname": name}
-                reader, writer = await asyncio.open_connection(*address, **words)  # type: ignore[arg-type]
+                words: dict[str, Any] = {"ssl": self.context, "server_hostname": name}
+                reader, writer = await self.reach(name, functools.partial(asyncio.open_connection, **words))
                 with contextlib.closing(writer):
                     writer.write(client.envelope(request))
                     _, payload = await client.take_envelope(reader, 65_536)
@@ -130,3 +159,9 @@ class Peers:
 
     async def close(self) -> None:
         await asyncio.gather(*(seat.close() for seat in self.kept.values()))
+        self.pool.shutdown(wait=False, cancel_futures=True)
+
+
+def look_up(host: str, port: int) -> list[str]:
+    """The addresses of a name."""
+    return [str(it[4][0]) for it in socket.getaddrinfo(host, port, type=socket.SOCK_STREAM)]

@@ -19,7 +19,7 @@ from .heads import Lengths
 from .limits import Flow
 from .pieces import Memory, let_go, put_away, reading_needs
 from .problems import ALONE, BAD, NO_BLOB, Problem
-from .turns import PARTS, WAITING, Together, Turns, owner_of
+from .turns import ASKING, PARTS, WAITING, Together, Turns, owner_of
 
 SLICE, KIND = 262_144, "application/octet-stream"
 BARE, READINGS = 73_400_320, 16  # bytes of a gateway that does nothing; blobs that are read at once, if memory allows
@@ -36,6 +36,8 @@ class Reader:
         self.network, self.options = network, options
         self.memory = Memory(max(0, options.memory - BARE))
         self.cache = Cache(self.fetch, options.room, READINGS)
+        self.readings = Turns(READINGS, READINGS // 2)  # so that nobody waits for all that another one has read
+        self.ahead = set["asyncio.Task[None]"]()  # what is read before it is wanted
         self.bytes, self.lengths = collections.Counter[str](), Lengths(network)
         self.rejected: Callable[[bytes], None] = lambda identifier: None  # is told what was badly encoded
         self.sendings = Turns(options.connections, max(1, options.room // client.LARGEST_BLOB // PARTS))
@@ -80,7 +82,8 @@ class Reader:
         """A blob, of this size, while it is used."""
         self.must_stand(identifier)
         async with contextlib.AsyncExitStack() as stack:
-            async with asyncio.timeout(WAITING):
+            turn = contextlib.nullcontext() if self.cache.has(identifier) else self.readings.take(ASKING.get())
+            async with asyncio.timeout(WAITING), turn:
                 found = await stack.enter_async_context(self.cache.use(identifier, size or 0))
             if size not in (None, len(found)):
                 raise Problem(410, "the file's list is false: a piece of it has another length", invalid=True)
@@ -161,7 +164,7 @@ class Reader:
         if request.method == "HEAD":
             await response.prepare(request)
             return response
-        self.read_ahead(itertools.islice(file.pieces(*spans[0]), AHEAD))
+        self.read_ahead(itertools.islice(file.pieces(*spans[0]), 1, AHEAD))
         for name, length, _, _ in file.pieces(*spans[0]):  # the first piece is there before anything is said
             async with self.blob(name, length):
                 break
@@ -179,15 +182,27 @@ class Reader:
         return response
 
     def read_ahead(self, pieces: Iterable[tuple[bytes, int, int, int]]) -> None:
-        """Has pieces read, where there is room."""
+        """Has pieces read, as far as who wants them has places for that."""
         for name, size, _, _ in pieces:
-            if self.stands(name):
-                self.cache.find(name, size)
+            if self.stands(name) and name not in self.cache.entries and self.readings.is_free(ASKING.get()):
+                task = asyncio.create_task(self.have_read(name, size))
+                self.ahead.add(task)
+                task.add_done_callback(self.ahead.discard)
+
+    async def close(self) -> None:
+        for task in self.ahead:
+            task.cancel()
+        await self.cache.close()
+
+    async def have_read(self, name: bytes, size: int) -> None:
+        with contextlib.suppress(Exception):  # which is told to who wants it then
+            async with self.blob(name, size):
+                pass
 
     async def send_span(
         self, pace: "Pace", response: web.StreamResponse, file: File, span: ranges.Span, owner: str
     ) -> None:
-        self.read_ahead(itertools.islice(file.pieces(*span), AHEAD))
+        self.read_ahead(itertools.islice(file.pieces(*span), 1, AHEAD))
         following = itertools.islice(file.pieces(*span), AHEAD, None)
         for name, size, start, end in file.pieces(*span):
             async with contextlib.AsyncExitStack() as stack:

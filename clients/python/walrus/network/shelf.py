@@ -10,8 +10,10 @@ from .chunks import NAME, PIECE, File
 from .manifest import MARK, MOST_BYTES, Foreign, Manifest, Place, Wrong
 from .problems import Problem
 from .reading import Reader
+from .turns import ASKING, Turns
 
 MOST, ROOM, SLIGHT = 128, 67_108_864, 65_536  # manifests that are kept, their bytes, and those that memory holds
+WAITING = 8  # who have one read at once, of which one is
 NO_FOLDER = "the blob is no folder: read it under /v1/blobs"
 
 
@@ -31,17 +33,26 @@ class Shelf:
 
     def __init__(self, reader: Reader):
         self.reader, self.turn, self.size = reader, asyncio.Semaphore(1), 0
+        self.turns = Turns(WAITING, 1)  # of those for whom one is read
         self.kept: "collections.OrderedDict[bytes, asyncio.Task[Manifest]]" = collections.OrderedDict()
 
     async def manifest(self, name: bytes) -> Manifest:
         """The manifest of a folder; raises `Problem` where it is none."""
         self.reader.must_stand(name)
         task = self.kept.get(name)
-        if not task:
-            task = self.kept[name] = asyncio.create_task(self.load(name))
-            task.add_done_callback(lambda done: self.loaded(name, done))
-        self.kept.move_to_end(name)
+        if not task or not task.done():
+            async with self.turns.take(ASKING.get()):
+                task = self.kept.get(name) or self.begin(name)
+                await asyncio.wait([task])
+        if name in self.kept:
+            self.kept.move_to_end(name)
         return await asyncio.shield(task)
+
+    def begin(self, name: bytes) -> "asyncio.Task[Manifest]":
+        """Has a manifest read."""
+        task = self.kept[name] = asyncio.create_task(self.load(name))
+        task.add_done_callback(lambda done: self.loaded(name, done))
+        return task
 
     def loaded(self, name: bytes, task: "asyncio.Task[Manifest]") -> None:
         fault = None if task.cancelled() else task.exception()

@@ -1,34 +1,59 @@
 """Places for what takes long: so many at once, of which one who asks has a part, so that nobody has them all."""
 import asyncio
+import collections
 import contextlib
+import contextvars
 import dataclasses
 import weakref
 from typing import AsyncIterator, Optional
 
 from aiohttp import web
 
+from ..fairness import Fair
 from .limits import key_of
 
 WAITING = 60.0  # seconds for which one waits for a turn
+MOST = 1_000  # requests of one who asks that wait: more than there are connections, as who is gone waits still
 PARTS = 4  # one who asks has at most one of so many parts of the places, unless it is said otherwise
+ASKING = contextvars.ContextVar("asking", default="")  # for whom something is done; empty where nobody has asked for it
 
 
 class Turns:
-    """So many places, and of these so many for one."""
+    """So many places, and of these so many for one. Those who wait for one have it in turn."""
 
     def __init__(self, most: int, each: int = 0):
-        self.all, self.each = asyncio.Semaphore(most), each or max(1, most // PARTS)
+        self.all, self.each = Fair(most), each or max(1, most // PARTS)
         self.own: "weakref.WeakValueDictionary[str, asyncio.Semaphore]" = weakref.WeakValueDictionary()
+        self.waits = collections.Counter[str]()  # who waits, and how often
 
     @contextlib.asynccontextmanager
     async def take(self, owner: str) -> AsyncIterator[None]:
-        """Has a place while it runs; raises `TimeoutError` where none becomes free for long."""
+        """Has a place while it runs; raises `TimeoutError` where none becomes free for long, or too many wait."""
         own = self.own.setdefault(owner, asyncio.Semaphore(self.each))  # stays while somebody has it
         async with contextlib.AsyncExitStack() as stack:
-            async with asyncio.timeout(WAITING):
+            async with asyncio.timeout(WAITING), self.waiting(owner):
                 await stack.enter_async_context(own)
-                await stack.enter_async_context(self.all)
+                await self.all.acquire(owner)
+                stack.callback(self.all.release)
             yield
+
+    @contextlib.asynccontextmanager
+    async def waiting(self, owner: str) -> AsyncIterator[None]:
+        """Counts one who waits; raises `TimeoutError` for one too many."""
+        if self.waits[owner] >= MOST:
+            raise TimeoutError
+        self.waits[owner] += 1
+        try:
+            yield
+        finally:
+            self.waits[owner] -= 1
+            if not self.waits[owner]:
+                del self.waits[owner]
+
+    def is_free(self, owner: str) -> bool:
+        """Whether one may have a further place, as soon as there is one."""
+        own = self.own.get(owner)
+        return not own or not own.locked()
 
 
 @dataclasses.dataclass
@@ -48,8 +73,11 @@ class Together:
 
     @contextlib.asynccontextmanager
     async def take(self, owner: str, name: bytes) -> AsyncIterator[None]:
-        """Has a part in a place while it runs; raises `TimeoutError` where none becomes free for long."""
+        """Has a part in a place while it runs; raises `TimeoutError` where none becomes free for long, or too many have
+        one."""
         group = self.groups.setdefault((owner, name), Group())
+        if group.users >= MOST:
+            raise TimeoutError
         group.users += 1
         try:
             async with asyncio.timeout(WAITING), group.lock:
