@@ -35,13 +35,12 @@ use Rattle.wal_serve.specs.State.{ServedState, holding}
 use Rattle.wal_serve.specs.Reply.{done, reply_text}
 use Rattle.wal_serve.specs.Answers.{AnswersRequest, AnswersRead, AnswersFrame, AnswersPut}
 use Rattle.wal_serve.specs.Room.{desk_room}
-use Rattle.wal_serve.specs.Serving.{looked_at, Served, more}
+use Rattle.wal_serve.specs.Serving.{Served}
 use Rattle.wal_serve.proofs.RoomLaws.{enough}
 use Rattle.wal_served.specs.Local.{AlikeLedgers, cost_with, entry_payloads, sliver_payload, part_payloads, pages_of, kept_payloads, Rebuilds}
 use Rattle.wal_served.proofs.Costs.{stored_cost}
 use Rattle.wal_served.proofs.AlikeLedgers.{same_live}
-use Rattle.wal_served.proofs.Left.{flat_push}
-use Rattle.wal_served.proofs.Standing.{Fed, Standing, standing}
+use Rattle.wal_served.proofs.Standing.{Fed, fed_one, FedWith, Standing, standing}
 
 some_one : (o : Option (List ℕ)) (x : List ℕ) → o ≡ Some x → IsSome o
 some_one o x e = subst (λ (p : Option (List ℕ)). IsSome p) (sym e) refl
@@ -69,9 +68,8 @@ fewer (Some most) base most_pages pages fit less = omega (arith, fit, less)
 module _ (digest : List ℕ → List ℕ) (id : BlobId) (room sender : ℕ) (also : Bool) (other base : ServedState) (short_room : room < 2 ^ 32) where
   -- these payloads were fed, and these parts are held
   record Built (q : Parts) (sofar : List (List ℕ)) (pages : ℕ) : Type 0 where
-    answered : List (List ℕ)
     then : ServedState
-    served : Served (AnswersRequest digest also) room other (flat_map (envelope sender) sofar) answered None then
+    fed : Fed digest room sender also other sofar then
     parts_are : parts_at then.shard.contents id ≡ q
     ledger : then.ledger ≡ base.ledger
     f : then.shard.f ≡ base.shard.f
@@ -96,11 +94,9 @@ module _ (digest : List ℕ → List ℕ) (id : BlobId) (room sender : ℕ) (als
       → IfSome base.shard.limit (λ most. cost_with base.shard.contents id + (pages + pages_for (length bytes)) ≤ most)
       → Built (with_part q part (Some bytes)) (sofar ++ payload ∷ []) (pages + pages_for (length bytes))
   feed q sofar pages part bytes payload b absent x fit = record {
-    answered = b.answered ++ reply_text (done 0) ∷ [];
     then = new;
-    served = subst (λ (l : List ℕ). Served (AnswersRequest digest also) room other l (b.answered ++ reply_text (done 0) ∷ []) None new) (sym (flat_push (envelope sender) sofar payload))
-        (subst (λ (l : List ℕ). Served (AnswersRequest digest also) room other (flat_map (envelope sender) sofar ++ envelope sender l) (b.answered ++ reply_text (done 0) ∷ []) None new) x.text
-        (more _ b.answered u b.served sender (frame_text x.frame) (reply_text (done 0) ∷ []) None new (omega (arith, x.within, short_room)) (looked_at (reply_text (done 0) ∷ []) None new x.within answers)));
+    fed = subst (λ (l : List ℕ). Fed digest room sender also other (sofar ++ l ∷ []) new) x.text
+        (fed_one digest room sender also other sofar (frame_text x.frame) u new (reply_text (done 0) ∷ []) short_room b.fed x.within answers);
     parts_are = held_now;
     ledger = b.ledger;
     f = b.f;
@@ -276,9 +272,8 @@ rebuilds digest id room sender may_want also one other taken frames clash state 
     let b = all_parts digest id room sender also other base placed.fits p sound placed.named_by (subst (λ (f : ℕ). 1 ≤ f) (sym f_is) placed.some) (subst (λ (f : ℕ). f ≤ 333) (sym f_is) placed.few)
     (subst (λ (f : ℕ). desk_room f ≤ room) (sym f_is) placed.enough) live (entry_payloads own)
     (record {
-      answered = had.answered;
       then = base;
-      served = had.served;
+      fed = had.fed;
       parts_are = ap (λ (s : ShardState). parts_at s.contents id) had.shard ∙ first.parts ∙ nothing.parts;
       ledger = refl;
       f = refl;
@@ -287,9 +282,9 @@ rebuilds digest id room sender may_want also one other taken frames clash state 
       pages_most = omega arith;
     })
     (subst (λ (s : ShardState). IfSome s.limit (λ most. cost_with s.contents id + pages_of p ≤ most)) (sym had.shard) has.pages_fit) in (
-      b.answered,
+      b.fed.answered,
       b.then,
-      subst (λ (l : List (List ℕ)). Served (AnswersRequest digest also) room other (flat_map (envelope sender) l) b.answered None b.then) listed b.served,
+      subst (λ (l : List (List ℕ)). Served (AnswersRequest digest also) room other (flat_map (envelope sender) l) b.fed.answered None b.then) listed b.fed.served,
       record {
         faults = b.f ∙ f_is ∙ sym st.f;
         index = b.index ∙ index_is ∙ sym st.index;
@@ -301,7 +296,7 @@ rebuilds digest id room sender may_want also one other taken frames clash state 
     st : Standing digest id room sender also one other placed nothing first state
     st = standing digest id room sender also one other placed nothing first may_want taken frames clash state served
 
-    had : Fed digest id room sender also one other placed nothing first state
+    had : FedWith digest id room sender also one other placed nothing first state.ledger.log
     had = st.fed has.entries_fit
 
     base : ServedState
@@ -320,9 +315,7 @@ rebuilds digest id room sender may_want also one other taken frames clash state 
     index_is = ap (λ (s : ShardState). s.index) had.shard ∙ first.index
 
     sound : IsSound digest base.shard.f id.0 base.shard.index p
-    sound =
-        subst (λ (k : ℕ). IsSound digest base.shard.f id.0 k p) (st.index ∙ sym index_is)
-        (subst (λ (f : ℕ). IsSound digest f id.0 state.shard.index p) (st.f ∙ sym f_is) st.sound)
+    sound = subst (λ (k : ℕ). IsSound digest base.shard.f id.0 k p) (sym index_is) (subst (λ (f : ℕ). IsSound digest f id.0 one.shard.index p) (sym f_is) st.sound)
 
     live : (bytes : List ℕ) (part : Part) → part_of p part ≡ Some bytes → is_live base.ledger.log id ≡ true
     live bytes part e = same_live id state.ledger.log base.ledger.log had.ledgers ∙ by st.live
