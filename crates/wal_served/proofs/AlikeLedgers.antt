@@ -1,7 +1,6 @@
 -- Ledgers that are alike at an identifier answer a request of it alike, and are alike then.
-use Rattle.std.proofs.Common.{◌≡◌, ℕ, ◌+◌, ◌<◌, Bool, true, false, cond, ◌&&◌, nat_eq, nat_lt, List, [], ◌∷◌, inl, inr, refl, sym, ap, subst, ◌∙◌, arith}
-use Rattle.std.specs.Cmp.Lexicographic.{pointwise}
-use Rattle.std.proofs.lemmas.Bool.{eqb-true, eq-eqb, and_parts, cases_lt}
+use Rattle.std.proofs.Common.{◌≡◌, ℕ, ◌+◌, ◌<◌, Bool, true, false, cond, ◌&&◌, nat_lt, List, [], ◌∷◌, inl, inr, refl, sym, ap, subst, ◌∙◌, arith}
+use Rattle.std.proofs.lemmas.Bool.{cases_lt}
 use Rattle.std.proofs.lemmas.List.Sums.{fold_push}
 use Rattle.wal_shape.specs.declared.metadata.BlobId.{BlobId}
 use Rattle.wal_shape.specs.Identifiers.{id_eq}
@@ -17,6 +16,7 @@ use Rattle.wal_ledger.specs.Shards.{committee_size, count_below, quorum_size}
 use Rattle.wal_ledger.specs.Ledger.{Log, History, LedgerState, reading, writing, is_moving, owners_at, names, history_after, own_entries, until_of, until_among, is_live, is_signer_among, signers, signer_count, entered, takes_in, IsInvalid}
 use Rattle.wal_ledger.specs.Answers.{IsOpen, MayClaim, MayRegister, Claims, Claimed, acked, claim_of}
 use Rattle.wal_ledger.proofs.Handover.{history_of-epoch}
+use Rattle.wal_ledger.proofs.RowsPlace.{id_same}
 use Rattle.wal_ledger.proofs.HandoverEntries.{entry_in, is_plain, plain_stays, Owned, stays, grows, anew, owned}
 use Rattle.wal_serve.specs.Reply.{refused, reply_text, ack_reply}
 use Rattle.wal_serve.specs.Requests.{ClaimEntered, Registered, Entered, of_committee, of_none}
@@ -26,27 +26,11 @@ use Rattle.wal_served.proofs.BothKinds.{as_claim, of_claim, claim_plain}
 
 -- ---- names
 
-same_bytes : (xs : List ℕ) → pointwise nat_eq xs xs ≡ true
-same_bytes [] = refl
-same_bytes (x ∷ xs) = ap (λ (b : Bool). b && pointwise nat_eq xs xs) (eq-eqb x x refl) ∙ same_bytes xs
-
-alike_bytes : (xs ys : List ℕ) → pointwise nat_eq xs ys ≡ true → xs ≡ ys
-alike_bytes [] [] same = refl
-alike_bytes [] (y ∷ ys) same = cc
-alike_bytes (x ∷ xs) [] same = cc
-alike_bytes (x ∷ xs) (y ∷ ys) same =
-    let parts = and_parts (nat_eq x y) (pointwise nat_eq xs ys) same in
-    ap (λ (z : ℕ). z ∷ xs) (eqb-true x y parts.0) ∙ ap (λ (zs : List ℕ). y ∷ zs) (alike_bytes xs ys parts.1)
-
--- an identifier is itself, and no other
-pub itself : (id : BlobId) → id_eq id id ≡ true
-itself id = same_bytes id.0
-
 pub apart : (q id : BlobId) → (q ≡ id → ⊥) → id_eq q id ≡ false
 apart q id other = by (id_eq q id) refl
   where
     by : (b : Bool) → id_eq q id ≡ b → b ≡ false
-    by true same = absurd (other (ap (λ (l : List ℕ). record { 0 = l }) (alike_bytes q.0 id.0 same)))
+    by true same = absurd (other (id_same q id same))
     by false same = refl
 
 -- ---- alike

@@ -1,15 +1,13 @@
 -- What a shard comes to that began with nothing of an identifier: what it holds is sound and live, and its entries may be fed alone.
 use Rattle.std.proofs.Common.{◌≡◌, ℕ, ◌+◌, ◌<◌, ◌≤◌, ◌^◌, Bool, true, false, max, List, [], ◌∷◌, ◌++◌, length, Option, Some, None, Result, ◌⊎◌, inl, inr, refl, sym, ap, subst, ◌∙◌, arith}
 use Rattle.std.specs.List.{flat_map}
-use Rattle.std.specs.Cmp.{tied_itself}
-use Rattle.std.specs.Ordering.{eq_by_cmp, is_eq}
 use Rattle.std.proofs.lemmas.Bool.{cases_lt, ltb-true, false≢true}
 use Rattle.std.proofs.lemmas.List.{length-append}
 use Rattle.wal_shape.specs.declared.axis.Axis.TheVariants as axes
 use Rattle.wal_shape.specs.declared.metadata.BlobId.{BlobId}
 use Rattle.wal_shape.specs.declared.part.Part.TheVariants as parts
 use Rattle.wal_shape.specs.declared.text.MetaClash.{MetaClash}
-use Rattle.wal_shape.specs.Identifiers.{id_cmp}
+use Rattle.wal_shape.specs.Identifiers.{id_eq}
 use Rattle.wal_frame.specs.declared.frame.FrameError.{FrameError}
 use Rattle.wal_frame.specs.Frame.{Frame, Metadata, Sliver, Proof, RegisterEntry, AckEntry, AttestEntry, IsFrame, IsId, frame_text, envelope}
 use Rattle.wal_frame.specs.Reading.{read_of}
@@ -26,16 +24,15 @@ use Rattle.wal_ledger.specs.declared.entry.Kind.TheVariants.{Holds, Denies}
 use Rattle.wal_ledger.specs.Shards.{committee_size, quorum_size}
 use Rattle.wal_ledger.specs.Ledger.{Log, reading, writing, is_moving, own_entries, until_of, until_among, until_in, is_live, signer_count, entered, takes_in}
 use Rattle.wal_ledger.specs.Answers.{Claims, acked, claim_of}
+use Rattle.wal_ledger.proofs.RowsPlace.{id_itself, id_same}
 use Rattle.wal_ledger.proofs.Handover.{until_push}
 use Rattle.wal_ledger.proofs.HandoverEntries.{entry_in, plain_stays, Owned, stays, grows, anew, owned}
 use Rattle.wal_store.specs.Parts.{Parts, no_parts, part_of, with_part}
 use Rattle.wal_store.specs.Contents.{Contents, parts_at, part_at, with_bytes}
-use Rattle.wal_store.proofs.IdentifierLaws.{ids_total}
 use Rattle.wal_shard.specs.Holding.{IsSound}
 use Rattle.wal_shard.specs.Putting.{CanBePut, IsAccepted, Verifies, put_id, put_part}
 use Rattle.wal_shard.specs.State.{desk}
 use Rattle.wal_shard.specs.Vouching.{without_slivers}
-use Rattle.wal_shard.proofs.Changes.{same_id}
 use Rattle.wal_shard.proofs.HeldLaws.{sliver_then, proof_then}
 use Rattle.wal_shard.proofs.Soundness.{none_sound, metadata_sound, without_sliver_sound}
 use Rattle.wal_serve.specs.State.{ServedState, holding, with_ledger}
@@ -51,7 +48,7 @@ use Rattle.wal_served.proofs.Replies.{Reply}
 use Rattle.wal_served.proofs.BothKinds.{of_claim}
 use Rattle.wal_served.proofs.Changes.{Enterable, to_register, to_claim, enter_plain, enter_names, Change, no_change, part_stored, slivers_went, entry_made, changes}
 use Rattle.wal_served.proofs.Frames.{part_fits}
-use Rattle.wal_served.proofs.AlikeLedgers.{joined_ledgers, both_entered, claim_too, register_too, itself}
+use Rattle.wal_served.proofs.AlikeLedgers.{joined_ledgers, both_entered, claim_too, register_too}
 use Rattle.wal_served.proofs.Alike.{the_one}
 use Rattle.wal_served.proofs.Apart.{stored_there, slivers_gone, changed_elsewhere}
 use Rattle.wal_served.proofs.Left.{flat_push}
@@ -122,11 +119,11 @@ enters digest also id s t _ a place some (to_claim kind shard may where_it_is) =
 
 about_or_not : (o : Option BlobId) (id : BlobId) → (o ≡ Some id) ⊎ (o ≡ Some id → ⊥)
 about_or_not None id = inr (λ e. cc)
-about_or_not (Some q) id = by (eq_by_cmp id_cmp q id) refl
+about_or_not (Some q) id = by (id_eq q id) refl
   where
-    by : (b : Bool) → eq_by_cmp id_cmp q id ≡ b → (◌≡◌ {A = Option BlobId} (Some q) (Some id)) ⊎ (◌≡◌ {A = Option BlobId} (Some q) (Some id) → ⊥)
-    by true e = inl (ap (λ (x : BlobId). Some x) (same_id q id e))
-    by false e = inr (λ same. false≢true (sym e ∙ ap (λ (x : BlobId). eq_by_cmp id_cmp x id) (the_one q id same) ∙ ap is_eq (tied_itself ids_total id)))
+    by : (b : Bool) → id_eq q id ≡ b → (◌≡◌ {A = Option BlobId} (Some q) (Some id)) ⊎ (◌≡◌ {A = Option BlobId} (Some q) (Some id) → ⊥)
+    by true e = inl (ap (λ (x : BlobId). Some x) (id_same q id e))
+    by false e = inr (λ same. false≢true (sym e ∙ ap (λ (x : BlobId). id_eq x id) (the_one q id same) ∙ id_itself id))
 
 -- a part that verifies beside sound ones
 sound_then : (digest : List ℕ → List ℕ) (f shard : ℕ) (p : Parts) (frame : Frame) → IsFrame frame → CanBePut frame → Verifies digest f shard p frame → part_of p (put_part frame) ≡ None
@@ -261,7 +258,7 @@ module _ (digest : List ℕ → List ℕ) (id : BlobId) (room sender : ℕ) (als
       one_more_own = by (own_entries (entered s.ledger.log b) id) (owned s.ledger.log b id) st.live
         where
           by : (l : List Entry) → Owned s.ledger.log b id l → Live s.ledger.log (parts_at s.shard.contents id) → l ≡ own ++ last ∷ []
-          by l (stays is n) live = absurd (false≢true (sym n ∙ enter_names s id id b may ∙ itself id))
+          by l (stays is n) live = absurd (false≢true (sym n ∙ enter_names s id id b may ∙ id_itself id))
           by l (grows is n still) live = is
           by l (anew is n registers le) (inl nothing_yet) = is ∙ ap (λ (o : List Entry). o ++ last ∷ []) (sym nothing_yet.0)
           by l (anew is n registers le) (inr now) = absurd (omega (arith, le, now))
