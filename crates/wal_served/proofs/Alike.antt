@@ -57,6 +57,13 @@ pub data Carried (digest : List ℕ → List ℕ) (id : BlobId) (other : ServedS
   wants : (others : List (List ℕ)) → TellsWant others → AnswersRead digest false read other others None other → tells_entry frames ≡ true
       → (RoomFor id other (charged_pages read frames) (charged_entries read frames) → ⊥) → Carried digest id other read frames clash new
 
+-- what holds of f, of the shard's number and of what is held in the one state holds of those in the other
+along : (id : BlobId) (one other : ServedState) → AlikeAt id one other → (P : ℕ → ℕ → Parts → Type 0) → P one.shard.f one.shard.index (parts_at one.shard.contents id)
+    → P other.shard.f other.shard.index (parts_at other.shard.contents id)
+along id one other a P h =
+    subst (P other.shard.f other.shard.index) (sym a.parts)
+    (subst (λ (k : ℕ). P other.shard.f k (parts_at one.shard.contents id)) (sym a.index) (subst (λ (f : ℕ). P f one.shard.index (parts_at one.shard.contents id)) (sym a.faults) h))
+
 module _ (id : BlobId) (one other : ServedState) (a : AlikeAt id one other) where
   -- what is held came to be alike
   with_parts : (c d : Contents) → parts_at d id ≡ parts_at c id → AlikeAt id (holding one c) (holding other d)
@@ -103,14 +110,6 @@ module _ (id : BlobId) (one other : ServedState) (a : AlikeAt id one other) wher
 
 -- ---- puts
 
--- a part that verifies in one state does in the other
-verifies_too : (digest : List ℕ → List ℕ) (frame : Frame) (id : BlobId) (one other : ServedState) → AlikeAt id one other
-    → Verifies digest one.shard.f one.shard.index (parts_at one.shard.contents id) frame → Verifies digest other.shard.f other.shard.index (parts_at other.shard.contents id) frame
-verifies_too digest frame id one other a v =
-    subst (λ (p : Parts). Verifies digest other.shard.f other.shard.index p frame) (sym a.parts)
-    (subst (λ (k : ℕ). Verifies digest other.shard.f k (parts_at one.shard.contents id) frame) (sym a.index)
-    (subst (λ (f : ℕ). Verifies digest f one.shard.index (parts_at one.shard.contents id) frame) (sym a.faults) v))
-
 -- whether there is room for a part
 pub data Fits (id : BlobId) (s : ServedState) (bytes : List ℕ) : Type 0 where
   fits : HasRoom (free_of s.shard.limit s.shard.contents) (needed_for s.shard.contents id bytes) → Fits id s bytes
@@ -142,7 +141,7 @@ module _ (digest : List ℕ → List ℕ) (frame : Frame) (one other : ServedSta
   same_part part = ap (λ (p : Parts). part_of p part) a.parts
 
   accepted_too : IsAccepted digest (desk one.shard one.ledger.log) one.shard.contents frame → IsAccepted digest (desk other.shard other.ledger.log) other.shard.contents frame
-  accepted_too is = record { live = live_too q one other a ∙ is.live; verified = verifies_too digest frame q one other a is.verified }
+  accepted_too is = record { live = live_too q one other a ∙ is.live; verified = along q one other a (λ f k p. Verifies digest f k p frame) is.verified }
 
   held_too : (x : Frame) → IsHeldIn one.shard.contents q x → IsHeldIn other.shard.contents q x
   held_too (Metadata m) is = same_part parts.Metadata ∙ is
@@ -190,7 +189,7 @@ module _ (digest : List ℕ → List ℕ) (frame : Frame) (one other : ServedSta
         by putting.Unverified p s t =
             let back = joined q one other one a (alike_one q one) in
             same_answer putting.Unverified
-            (live_too q one other a ∙ p.0, (λ rests. subst (λ (o : Option (List ℕ)). IsSome o) (sym (same_part parts.Metadata)) (p.1 rests)), (λ v. p.2 (verifies_too digest frame q other one back v)), refl) s t p.3
+            (live_too q one other a ∙ p.0, (λ rests. subst (λ (o : Option (List ℕ)). IsSome o) (sym (same_part parts.Metadata)) (p.1 rests)), (λ v. p.2 (along q other one back (λ f k x. Verifies digest f k x frame) v)), refl) s t p.3
         by (putting.OtherMetadata texts) p s t =
             same_answer (putting.OtherMetadata texts) (accepted_too p.0, p.1, p.2, p.3, same_part parts.Metadata ∙ p.4, p.5, p.6, refl) s t p.7
         by putting.Held p s t = same_answer putting.Held (accepted_too p.0, held_too frame p.1, refl) s t p.2
@@ -243,18 +242,10 @@ module _ (digest : List ℕ → List ℕ) (may_want : Bool) (one other : ServedS
   at_frame (Answer code i j) h = tt
   at_frame (Clash left right) h = tt
   at_frame (Forget name) h = λ a. forget_carried digest name one other a frames clash new h
-  at_frame (Read name) h = λ a. nothing_changes (named name) a (Ok (Read name)) (there a, refl) h.1
-    where
-      there : AlikeAt (named name) one other → IsReplied (read_reply_of name other.shard.index (parts_at other.shard.contents (named name))) frames clash
-      there a =
-          subst (λ (p : Parts). IsReplied (read_reply_of name other.shard.index p) frames clash) (sym a.parts)
-          (subst (λ (k : ℕ). IsReplied (read_reply_of name k (parts_at one.shard.contents (named name))) frames clash) (sym a.index) h.0)
-  at_frame (Symbol name axis index) (payloads, replies, told, same) = λ a. nothing_changes (named name) a (Ok (Symbol name axis index)) (payloads, there a, told, refl) same
-    where
-      there : AlikeAt (named name) one other → SymbolReplies digest name other.shard.index (parts_at other.shard.contents (named name)) axis index payloads
-      there a =
-          subst (λ (p : Parts). SymbolReplies digest name other.shard.index p axis index payloads) (sym a.parts)
-          (subst (λ (k : ℕ). SymbolReplies digest name k (parts_at one.shard.contents (named name)) axis index payloads) (sym a.index) replies)
+  at_frame (Read name) h = λ a.
+      nothing_changes (named name) a (Ok (Read name)) (along (named name) one other a (λ f k p. IsReplied (read_reply_of name k p) frames clash) h.0, refl) h.1
+  at_frame (Symbol name axis index) (payloads, replies, told, same) = λ a.
+      nothing_changes (named name) a (Ok (Symbol name axis index)) (payloads, along (named name) one other a (λ f k p. SymbolReplies digest name k p axis index payloads) replies, told, refl) same
   at_frame (Ack name) h = λ a.
       entry_carried (named name) one other a digest (Ack name) frames clash new refl _ (Vouched Holds other (named name)) (λ x c y z. z) (vouched_too (named name) one other a Holds) some h
   at_frame (Attest name) h = λ a.
