@@ -11,7 +11,7 @@ use Rattle.wal_frame.specs.Stored.{stored_bytes}
 use Rattle.wal_store.specs.Contents.{Contents, with_bytes, needed_for}
 use Rattle.wal_shard.specs.declared.answers.PutAnswer.{PutAnswer}
 use Rattle.wal_shard.specs.declared.answers.PutAnswer.TheVariants as putting
-use Rattle.wal_shard.specs.Putting.{PutDesk, PutsOrWants, put_id, put_part}
+use Rattle.wal_shard.specs.Putting.{PutDesk, PutsOrWants, ShowsTexts, put_id, put_part}
 use Rattle.wal_shard.specs.State.{desk}
 use Rattle.wal_serve.specs.State.{ServedState, holding}
 use Rattle.wal_serve.specs.Reply.{done, put_reply, reply_text}
@@ -31,12 +31,6 @@ puts_still : (digest : List ℕ → List ℕ) (d : PutDesk) (old : Contents) (fr
     → PutsOrWants digest also d old frame answer new
 puts_still digest d old frame putting.Memory new also p = absurd (false≢true p.0)
 puts_still digest d old frame answer new also p = p
-
--- and the other way round where it does not tell of want
-puts_calm : (digest : List ℕ → List ℕ) (d : PutDesk) (old : Contents) (frame : Frame) (answer : PutAnswer) (new : Contents) (may_want : Bool) → (answer ≡ putting.Memory → ⊥)
-    → PutsOrWants digest may_want d old frame answer new → PutsOrWants digest false d old frame answer new
-puts_calm digest d old frame putting.Memory new may_want not p = absurd (not refl)
-puts_calm digest d old frame answer new may_want not p = p
 
 module _ (digest : List ℕ → List ℕ) (old : ServedState) (frames : List (List ℕ)) (clash : Option MetaClash) (new : ServedState) where
   -- only puts want memory
@@ -58,12 +52,12 @@ module _ (digest : List ℕ → List ℕ) (old : ServedState) (frames : List (Li
   read_calm may_want read some h = read_as may_want false calm read h
     where
       calm : (frame : Frame) → AnswersPut digest may_want frame old frames clash new → AnswersPut digest false frame old frames clash new
-      calm frame (outcome, contents, (answer, puts, is, shows), told, then) = (outcome, contents, (answer, puts_calm digest _ old.shard.contents frame answer contents may_want not puts, is, shows), told, then)
+      calm frame (outcome, contents, (answer, puts, is, shows), told, then) = by answer puts is shows
         where
-          not : answer ≡ putting.Memory → ⊥
-          not e =
-              let out = subst (λ (a : PutAnswer). IsReplyOutcome (put_reply a) frames clash) e (subst (λ (o : _). IsReplyOutcome o frames clash) is told) in
-              some (7, 0, 0, inr (inl refl), out.0)
+          by : (x : PutAnswer) → PutsOrWants digest may_want (desk old.shard old.ledger.log) old.shard.contents frame x contents → outcome ≡ put_reply x → ShowsTexts digest old.shard.contents frame x
+              → AnswersPut digest false frame old frames clash new
+          by putting.Memory p same t = absurd (some (7, 0, 0, inr (inl refl), (subst (λ (o : _). IsReplyOutcome o frames clash) same told).0))
+          by x p same t = (outcome, contents, (x, p, same, t), told, then)
 
 -- ---- the law
 
@@ -124,10 +118,6 @@ want_goes (Some texts) frames stops (code, a, b, is, told) =
     let kinds : 0x30 ≡ 0x31 = ap first_byte (sym told ∙ stops) in
     absurd (omega (arith, kinds))
 
-memory_or_not : (answer : PutAnswer) → (answer ≡ putting.Memory) ⊎ (answer ≡ putting.Memory → ⊥)
-memory_or_not putting.Memory = inl refl
-memory_or_not answer = inr (λ e. cc)
-
 -- an answer of a keep that never wants memory, which tells of want of room or that a part was stored
 data Beside (digest : List ℕ → List ℕ) (read : Result Frame FrameError) (s : ServedState) : Type 0 where
   beside : (frames : List (List ℕ)) (new : ServedState) → AnswersRead digest false read s frames None new → TellsWant frames ⊎ (tells 0 frames ≡ true) → Beside digest read s
@@ -135,7 +125,7 @@ data Beside (digest : List ℕ → List ℕ) (read : Result Frame FrameError) (s
 module _ (digest : List ℕ → List ℕ) (s : ServedState) (also : Bool) (frames : List (List ℕ)) (new : ServedState) (want : TellsWant frames) where
   put_beside : (frame : Frame) → ((f : List (List ℕ)) (n : ServedState) → AnswersPut digest false frame s f None n → AnswersFrame digest false frame s f None n)
       → AnswersPut digest also frame s frames None new → Beside digest (Ok frame) s
-  put_beside frame answers (outcome, contents, (answer, puts, is, shows), told, then) = by (memory_or_not answer)
+  put_beside frame answers (outcome, contents, (answer, puts, is, shows), told, then) = by answer puts is shows
     where
       q : BlobId
       q = put_id digest frame
@@ -155,13 +145,9 @@ module _ (digest : List ℕ → List ℕ) (s : ServedState) (also : Bool) (frame
           (put_reply (putting.Full needs free), s.shard.contents, (putting.Full needs free, (p.1, p.2, is_free, refl, less, refl), refl, tt), (refl, refl), refl))
           (inl (6, needs, free, inl refl, refl))
 
-      by : (answer ≡ putting.Memory) ⊎ (answer ≡ putting.Memory → ⊥) → Beside digest (Ok frame) s
-      by (inl e) =
-          let P : PutAnswer → Type 0 = λ a. PutsOrWants digest also (desk s.shard s.ledger.log) s.shard.contents frame a contents in
-          accepted (subst P e puts) (fits_or_not q s (stored_bytes frame))
-      by (inr not) =
-          beside frames new
-          (answers frames new (outcome, contents, (answer, puts_calm digest (desk s.shard s.ledger.log) s.shard.contents frame answer contents also not puts, is, shows), told, then)) (inl want)
+      by : (x : PutAnswer) → PutsOrWants digest also (desk s.shard s.ledger.log) s.shard.contents frame x contents → outcome ≡ put_reply x → ShowsTexts digest s.shard.contents frame x → Beside digest (Ok frame) s
+      by putting.Memory p same t = accepted p (fits_or_not q s (stored_bytes frame))
+      by x p same t = beside frames new (answers frames new (outcome, contents, (x, p, same, t), told, then)) (inl want)
 
   read_beside : (read : Result Frame FrameError) → AnswersRead digest also read s frames None new → Beside digest read s
   read_beside (Ok (Metadata m)) h = put_beside (Metadata m) (λ f n z. z) h
