@@ -5,13 +5,13 @@ use Rattle.std.proofs.lemmas.Bool.{false≢true}
 use Rattle.wal_shape.specs.declared.metadata.BlobId.{BlobId}
 use Rattle.wal_shape.specs.declared.text.MetaClash.{MetaClash}
 use Rattle.wal_frame.specs.declared.frame.FrameError.{FrameError}
-use Rattle.wal_frame.specs.Frame.{Frame, Metadata, Sliver, Opening, Proof, Read, Symbol, Ack, Attest, Forget, Answer, Clash, RegisterEntry, AckEntry, AttestEntry}
+use Rattle.wal_frame.specs.Frame.{Frame, Metadata, Sliver, Proof}
 use Rattle.wal_frame.specs.Reading.{read_of}
 use Rattle.wal_frame.specs.Stored.{stored_bytes}
 use Rattle.wal_store.specs.Contents.{Contents, with_bytes, needed_for}
 use Rattle.wal_shard.specs.declared.answers.PutAnswer.{PutAnswer}
 use Rattle.wal_shard.specs.declared.answers.PutAnswer.TheVariants as putting
-use Rattle.wal_shard.specs.Putting.{PutDesk, PutsOrWants, put_id, put_part}
+use Rattle.wal_shard.specs.Putting.{PutDesk, PutsOrWants, ShowsTexts, put_id, put_part}
 use Rattle.wal_shard.specs.State.{desk}
 use Rattle.wal_serve.specs.State.{ServedState, holding}
 use Rattle.wal_serve.specs.Reply.{done, put_reply, reply_text}
@@ -22,87 +22,42 @@ use Rattle.wal_serve.proofs.AnswerLaws.{read_stops}
 use Rattle.wal_serve.proofs.OneTable.{one_table}
 use Rattle.wal_served.specs.Steps.{TellsWant, answer_text}
 use Rattle.wal_served.specs.Local.{AlikeAt, AnswersAlike, AnswersWithRoom, RoomFor, WantsForMore, cost_with, tells, tells_entry}
-use Rattle.wal_served.proofs.Worlds.{holding_same}
-use Rattle.wal_served.proofs.Alike.{Carried, carries, wants, Fits, fits, full, fits_or_not, alike_one, read_carried}
+use Rattle.wal_served.proofs.Alike.{Carried, carries, wants, Fits, fits, full, fits_or_not, read_carried}
 
 -- ---- whether the keep may want memory
 
 -- an answer of a keep that never wants memory is one of any keep
 puts_still : (digest : List ℕ → List ℕ) (d : PutDesk) (old : Contents) (frame : Frame) (answer : PutAnswer) (new : Contents) (also : Bool) → PutsOrWants digest false d old frame answer new
     → PutsOrWants digest also d old frame answer new
-puts_still digest d old frame putting.Stored new also p = p
-puts_still digest d old frame putting.Held new also p = p
-puts_still digest d old frame putting.Unregistered new also p = p
-puts_still digest d old frame putting.NoMetadata new also p = p
-puts_still digest d old frame putting.Unverified new also p = p
-puts_still digest d old frame (putting.OtherMetadata clash) new also p = p
-puts_still digest d old frame (putting.Full needed free) new also p = p
 puts_still digest d old frame putting.Memory new also p = absurd (false≢true p.0)
-
--- and the other way round where it does not tell of want
-puts_calm : (digest : List ℕ → List ℕ) (d : PutDesk) (old : Contents) (frame : Frame) (answer : PutAnswer) (new : Contents) (may_want : Bool) → (answer ≡ putting.Memory → ⊥)
-    → PutsOrWants digest may_want d old frame answer new → PutsOrWants digest false d old frame answer new
-puts_calm digest d old frame putting.Stored new may_want not p = p
-puts_calm digest d old frame putting.Held new may_want not p = p
-puts_calm digest d old frame putting.Unregistered new may_want not p = p
-puts_calm digest d old frame putting.NoMetadata new may_want not p = p
-puts_calm digest d old frame putting.Unverified new may_want not p = p
-puts_calm digest d old frame (putting.OtherMetadata clash) new may_want not p = p
-puts_calm digest d old frame (putting.Full needed free) new may_want not p = p
-puts_calm digest d old frame putting.Memory new may_want not p = absurd (not refl)
+puts_still digest d old frame answer new also p = p
 
 module _ (digest : List ℕ → List ℕ) (old : ServedState) (frames : List (List ℕ)) (clash : Option MetaClash) (new : ServedState) where
-  put_still : (also : Bool) (frame : Frame) → AnswersPut digest false frame old frames clash new → AnswersPut digest also frame old frames clash new
-  put_still also frame (outcome, contents, (answer, puts, is, shows), told, then) = (outcome, contents, (answer, puts_still digest _ old.shard.contents frame answer contents also puts, is, shows), told, then)
-
-  frame_still : (also : Bool) (frame : Frame) → AnswersFrame digest false frame old frames clash new → AnswersFrame digest also frame old frames clash new
-  frame_still also (Metadata m) h = put_still also (Metadata m) h
-  frame_still also (Sliver id axis index bytes) h = put_still also (Sliver id axis index bytes) h
-  frame_still also (Proof id p) h = put_still also (Proof id p) h
-  frame_still also (Read id) h = h
-  frame_still also (Symbol id axis index) h = h
-  frame_still also (Ack id) h = h
-  frame_still also (Attest id) h = h
-  frame_still also (Forget id) h = h
-  frame_still also (RegisterEntry id until) h = h
-  frame_still also (AckEntry shard id) h = h
-  frame_still also (AttestEntry shard id) h = h
-  frame_still also (Opening id axis index o) h = h
-  frame_still also (Answer code a b) h = h
-  frame_still also (Clash left right) h = h
+  -- only puts want memory
+  read_as : (may_want also : Bool) → ((frame : Frame) → AnswersPut digest may_want frame old frames clash new → AnswersPut digest also frame old frames clash new)
+      → (read : Result Frame FrameError) → AnswersRead digest may_want read old frames clash new → AnswersRead digest also read old frames clash new
+  read_as may_want also each (Ok (Metadata m)) h = each (Metadata m) h
+  read_as may_want also each (Ok (Sliver id axis index bytes)) h = each (Sliver id axis index bytes) h
+  read_as may_want also each (Ok (Proof id p)) h = each (Proof id p) h
+  read_as may_want also each (Ok frame) h = h
+  read_as may_want also each (Err fault) h = h
 
   pub read_still : (also : Bool) (read : Result Frame FrameError) → AnswersRead digest false read old frames clash new → AnswersRead digest also read old frames clash new
-  read_still also (Ok frame) h = frame_still also frame h
-  read_still also (Err fault) h = h
-
-  put_calm : (may_want : Bool) (frame : Frame) → (TellsWant frames → ⊥) → AnswersPut digest may_want frame old frames clash new → AnswersPut digest false frame old frames clash new
-  put_calm may_want frame some (outcome, contents, (answer, puts, is, shows), told, then) =
-      (outcome, contents, (answer, puts_calm digest _ old.shard.contents frame answer contents may_want not puts, is, shows), told, then)
+  read_still also read h = read_as false also still read h
     where
-      not : answer ≡ putting.Memory → ⊥
-      not e =
-          let out = subst (λ (a : PutAnswer). IsReplyOutcome (put_reply a) frames clash) e (subst (λ (o : _). IsReplyOutcome o frames clash) is told) in
-          some (7, 0, 0, inr (inl refl), out.0)
-
-  frame_calm : (may_want : Bool) (frame : Frame) → (TellsWant frames → ⊥) → AnswersFrame digest may_want frame old frames clash new → AnswersFrame digest false frame old frames clash new
-  frame_calm may_want (Metadata m) some h = put_calm may_want (Metadata m) some h
-  frame_calm may_want (Sliver id axis index bytes) some h = put_calm may_want (Sliver id axis index bytes) some h
-  frame_calm may_want (Proof id p) some h = put_calm may_want (Proof id p) some h
-  frame_calm may_want (Read id) some h = h
-  frame_calm may_want (Symbol id axis index) some h = h
-  frame_calm may_want (Ack id) some h = h
-  frame_calm may_want (Attest id) some h = h
-  frame_calm may_want (Forget id) some h = h
-  frame_calm may_want (RegisterEntry id until) some h = h
-  frame_calm may_want (AckEntry shard id) some h = h
-  frame_calm may_want (AttestEntry shard id) some h = h
-  frame_calm may_want (Opening id axis index o) some h = h
-  frame_calm may_want (Answer code a b) some h = h
-  frame_calm may_want (Clash left right) some h = h
+      still : (frame : Frame) → AnswersPut digest false frame old frames clash new → AnswersPut digest also frame old frames clash new
+      still frame (outcome, contents, (answer, puts, is, shows), told, then) = (outcome, contents, (answer, puts_still digest _ old.shard.contents frame answer contents also puts, is, shows), told, then)
 
   read_calm : (may_want : Bool) (read : Result Frame FrameError) → (TellsWant frames → ⊥) → AnswersRead digest may_want read old frames clash new → AnswersRead digest false read old frames clash new
-  read_calm may_want (Ok frame) some h = frame_calm may_want frame some h
-  read_calm may_want (Err fault) some h = h
+  read_calm may_want read some h = read_as may_want false calm read h
+    where
+      calm : (frame : Frame) → AnswersPut digest may_want frame old frames clash new → AnswersPut digest false frame old frames clash new
+      calm frame (outcome, contents, (answer, puts, is, shows), told, then) = by answer puts is shows
+        where
+          by : (x : PutAnswer) → PutsOrWants digest may_want (desk old.shard old.ledger.log) old.shard.contents frame x contents → outcome ≡ put_reply x → ShowsTexts digest old.shard.contents frame x
+              → AnswersPut digest false frame old frames clash new
+          by putting.Memory p same t = absurd (some (7, 0, 0, inr (inl refl), (subst (λ (o : _). IsReplyOutcome o frames clash) same told).0))
+          by x p same t = (outcome, contents, (x, p, same, t), told, then)
 
 -- ---- the law
 
@@ -163,16 +118,6 @@ want_goes (Some texts) frames stops (code, a, b, is, told) =
     let kinds : 0x30 ≡ 0x31 = ap first_byte (sym told ∙ stops) in
     absurd (omega (arith, kinds))
 
-memory_or_not : (answer : PutAnswer) → (answer ≡ putting.Memory) ⊎ (answer ≡ putting.Memory → ⊥)
-memory_or_not putting.Memory = inl refl
-memory_or_not putting.Stored = inr (λ e. cc)
-memory_or_not putting.Held = inr (λ e. cc)
-memory_or_not putting.Unregistered = inr (λ e. cc)
-memory_or_not putting.NoMetadata = inr (λ e. cc)
-memory_or_not putting.Unverified = inr (λ e. cc)
-memory_or_not (putting.OtherMetadata clash) = inr (λ e. cc)
-memory_or_not (putting.Full needed free) = inr (λ e. cc)
-
 -- an answer of a keep that never wants memory, which tells of want of room or that a part was stored
 data Beside (digest : List ℕ → List ℕ) (read : Result Frame FrameError) (s : ServedState) : Type 0 where
   beside : (frames : List (List ℕ)) (new : ServedState) → AnswersRead digest false read s frames None new → TellsWant frames ⊎ (tells 0 frames ≡ true) → Beside digest read s
@@ -180,7 +125,7 @@ data Beside (digest : List ℕ → List ℕ) (read : Result Frame FrameError) (s
 module _ (digest : List ℕ → List ℕ) (s : ServedState) (also : Bool) (frames : List (List ℕ)) (new : ServedState) (want : TellsWant frames) where
   put_beside : (frame : Frame) → ((f : List (List ℕ)) (n : ServedState) → AnswersPut digest false frame s f None n → AnswersFrame digest false frame s f None n)
       → AnswersPut digest also frame s frames None new → Beside digest (Ok frame) s
-  put_beside frame answers (outcome, contents, (answer, puts, is, shows), told, then) = by (memory_or_not answer)
+  put_beside frame answers (outcome, contents, (answer, puts, is, shows), told, then) = by answer puts is shows
     where
       q : BlobId
       q = put_id digest frame
@@ -189,7 +134,7 @@ module _ (digest : List ℕ → List ℕ) (s : ServedState) (also : Bool) (frame
       needs = needed_for s.shard.contents q (stored_bytes frame)
 
       -- there is room or there is none
-      accepted : PutsOrWants digest also (desk s.shard s.ledger.log) s.shard.contents frame putting.Memory contents → Fits digest q s s (alike_one q s) frame refl → Beside digest (Ok frame) s
+      accepted : PutsOrWants digest also (desk s.shard s.ledger.log) s.shard.contents frame putting.Memory contents → Fits q s (stored_bytes frame) → Beside digest (Ok frame) s
       accepted p (fits room) =
           let next = with_bytes s.shard.contents q (put_part frame) (stored_bytes frame) in
           beside (reply_text (done 0) ∷ []) (holding s next)
@@ -197,35 +142,18 @@ module _ (digest : List ℕ → List ℕ) (s : ServedState) (also : Bool) (frame
       accepted p (full free is_free less not) =
           beside (answer_text 6 needs free ∷ []) s
           (answers (answer_text 6 needs free ∷ []) s
-          (put_reply (putting.Full needs free), s.shard.contents, (putting.Full needs free, (p.1, p.2, is_free, refl, less, refl), refl, tt), (refl, refl), sym (holding_same s s.shard.contents refl)))
+          (put_reply (putting.Full needs free), s.shard.contents, (putting.Full needs free, (p.1, p.2, is_free, refl, less, refl), refl, tt), (refl, refl), refl))
           (inl (6, needs, free, inl refl, refl))
 
-      by : (answer ≡ putting.Memory) ⊎ (answer ≡ putting.Memory → ⊥) → Beside digest (Ok frame) s
-      by (inl e) =
-          let P : PutAnswer → Type 0 = λ a. PutsOrWants digest also (desk s.shard s.ledger.log) s.shard.contents frame a contents in
-          accepted (subst P e puts) (fits_or_not digest q s s (alike_one q s) frame refl)
-      by (inr not) =
-          beside frames new
-          (answers frames new (outcome, contents, (answer, puts_calm digest (desk s.shard s.ledger.log) s.shard.contents frame answer contents also not puts, is, shows), told, then)) (inl want)
-
-  frame_beside : (frame : Frame) → AnswersFrame digest also frame s frames None new → Beside digest (Ok frame) s
-  frame_beside (Metadata m) h = put_beside (Metadata m) (λ f n z. z) h
-  frame_beside (Sliver id axis index bytes) h = put_beside (Sliver id axis index bytes) (λ f n z. z) h
-  frame_beside (Proof id p) h = put_beside (Proof id p) (λ f n z. z) h
-  frame_beside (Read id) h = beside frames new h (inl want)
-  frame_beside (Symbol id axis index) h = beside frames new h (inl want)
-  frame_beside (Ack id) h = beside frames new h (inl want)
-  frame_beside (Attest id) h = beside frames new h (inl want)
-  frame_beside (Forget id) h = beside frames new h (inl want)
-  frame_beside (RegisterEntry id until) h = beside frames new h (inl want)
-  frame_beside (AckEntry shard id) h = beside frames new h (inl want)
-  frame_beside (AttestEntry shard id) h = beside frames new h (inl want)
-  frame_beside (Opening id axis index o) h = beside frames new h (inl want)
-  frame_beside (Answer code a b) h = beside frames new h (inl want)
-  frame_beside (Clash left right) h = beside frames new h (inl want)
+      by : (x : PutAnswer) → PutsOrWants digest also (desk s.shard s.ledger.log) s.shard.contents frame x contents → outcome ≡ put_reply x → ShowsTexts digest s.shard.contents frame x → Beside digest (Ok frame) s
+      by putting.Memory p same t = accepted p (fits_or_not q s (stored_bytes frame))
+      by x p same t = beside frames new (answers frames new (outcome, contents, (x, p, same, t), told, then)) (inl want)
 
   read_beside : (read : Result Frame FrameError) → AnswersRead digest also read s frames None new → Beside digest read s
-  read_beside (Ok frame) h = frame_beside frame h
+  read_beside (Ok (Metadata m)) h = put_beside (Metadata m) (λ f n z. z) h
+  read_beside (Ok (Sliver id axis index bytes)) h = put_beside (Sliver id axis index bytes) (λ f n z. z) h
+  read_beside (Ok (Proof id p)) h = put_beside (Proof id p) (λ f n z. z) h
+  read_beside (Ok frame) h = beside frames new h (inl want)
   read_beside (Err fault) h = beside frames new h (inl want)
 
 -- want where the other state wants no room

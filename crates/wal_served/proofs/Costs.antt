@@ -22,7 +22,6 @@ use Rattle.wal_store.specs.Contents.{Contents, parts_at, part_at, with_bytes, wi
 use Rattle.wal_store.specs.Entries.{Entries}
 use Rattle.wal_store.proofs.IdentifierLaws.{ids_total, exact_ids}
 use Rattle.wal_shard.specs.Vouching.{without_slivers}
-use Rattle.wal_shard.proofs.Changes.{same_id}
 use Rattle.wal_served.specs.Local.{cost_with}
 
 -- ---- sorted entries
@@ -82,38 +81,24 @@ insert_cost c id p =
     let found : found_cost (fin.get c id) ≡ found_cost (lookup (is_at (id_cmp id)) es) = ap found_cost (fin.get-entries c id ∙ find_is id es) in
     omega (arith, sum, new, found)
 
--- where a holding goes, its pages go
-put_back : (c : Contents) (id : BlobId) (p : Parts) → fin.get c id ≡ Some p → fin.insert (fin.remove c id) id p ≡ c
-put_back c id p found = fin.same_map ids_total exact_ids _ _ (λ q. by q (eq_by_cmp id_cmp q id) refl)
-  where
-    by : (q : BlobId) (b : Bool) → eq_by_cmp id_cmp q id ≡ b → fin.get (fin.insert (fin.remove c id) id p) q ≡ fin.get c q
-    by q true e =
-        fin.get-insert ids_total (fin.remove c id) id p q
-        ∙ ap (λ (b : Bool). cond b (Some p) (fin.get (fin.remove c id) q)) e
-        ∙ sym (ap (fin.get c) (same_id q id e) ∙ found)
-    by q false e =
-        fin.get-insert ids_total (fin.remove c id) id p q
-        ∙ ap (λ (b : Bool). cond b (Some p) (fin.get (fin.remove c id) q)) e
-        ∙ fin.get-remove ids_total c id q
-        ∙ ap (λ (b : Bool). cond b None (fin.get c q)) e
+-- where a holding goes, its pages go: putting any parts there comes to the same before and after
+twice : (b : Bool) (p : Parts) (o : Option Parts) → cond b (Some p) (cond b None o) ≡ cond b (Some p) o
+twice true p o = refl
+twice false p o = refl
 
-none_gone : (c : Contents) (id : BlobId) → fin.get c id ≡ None → fin.remove c id ≡ c
-none_gone c id found = fin.same_map ids_total exact_ids _ _ (λ q. by q (eq_by_cmp id_cmp q id) refl)
-  where
-    by : (q : BlobId) (b : Bool) → eq_by_cmp id_cmp q id ≡ b → fin.get (fin.remove c id) q ≡ fin.get c q
-    by q true e = fin.get-remove ids_total c id q ∙ ap (λ (b : Bool). cond b None (fin.get c q)) e ∙ sym (ap (fin.get c) (same_id q id e) ∙ found)
-    by q false e = fin.get-remove ids_total c id q ∙ ap (λ (b : Bool). cond b None (fin.get c q)) e
-
-removed : (c : Contents) (id : BlobId) (o : Option Parts) → fin.get c id ≡ o → cost (fin.remove c id) + found_cost o ≡ cost c
-removed c id None found = let same : cost (fin.remove c id) ≡ cost c = ap cost (none_gone c id found) in omega (arith, same)
-removed c id (Some p) found =
-    let d = fin.remove c id in
-    let whole : cost (fin.insert d id p) ≡ cost c = ap cost (put_back c id p found) in
-    let none : found_cost (fin.get d id) ≡ 0 = ap found_cost (fin.get-remove ids_total c id id ∙ ap (λ (b : Bool). cond b None (fin.get c id)) (tied id)) in
-    omega (arith, insert_cost d id p, whole, none)
+put_again : (c : Contents) (id : BlobId) (p : Parts) → fin.insert (fin.remove c id) id p ≡ fin.insert c id p
+put_again c id p = fin.same_map ids_total exact_ids _ _ (λ q.
+    fin.get-insert ids_total (fin.remove c id) id p q
+    ∙ ap (λ (o : Option Parts). cond (eq_by_cmp id_cmp q id) (Some p) o) (fin.get-remove ids_total c id q)
+    ∙ twice (eq_by_cmp id_cmp q id) p (fin.get c q)
+    ∙ sym (fin.get-insert ids_total c id p q))
 
 remove_cost : (c : Contents) (id : BlobId) → cost (fin.remove c id) + found_cost (fin.get c id) ≡ cost c
-remove_cost c id = removed c id (fin.get c id) refl
+remove_cost c id =
+    let d = fin.remove c id in
+    let same : cost (fin.insert d id no_parts) ≡ cost (fin.insert c id no_parts) = ap cost (put_again c id no_parts) in
+    let none : found_cost (fin.get d id) ≡ 0 = ap found_cost (fin.get-remove ids_total c id id ∙ ap (λ (b : Bool). cond b None (fin.get c id)) (tied id)) in
+    omega (arith, insert_cost c id no_parts, insert_cost d id no_parts, same, none)
 
 -- one part more, one less
 swapped : (p : Parts) (part : Part) (bytes : Option (List ℕ)) → cost_of (with_part p part bytes) + part_cost (part_of p part) ≡ cost_of p + part_cost bytes

@@ -2,6 +2,8 @@ mod Alike
 mod AlikeLaws
 mod AlikeLedgers
 mod Apart
+mod BothKinds
+mod Changes
 mod Claims
 mod Costs
 mod Frames

@@ -2,14 +2,12 @@
 use Rattle.std.proofs.Common.{◌≡◌, ℕ, ◌+◌, ◌<◌, ◌≤◌, ◌^◌, Bool, true, List, [], ◌∷◌, ◌++◌, length, Option, Some, None, IsSome, unwrap_or, Result, Ok, ◌⊎◌, inl, inr, refl, sym, ap, subst, ◌∙◌, append_assoc, append-nil, arith}
 use Rattle.std.specs.Prelude.{IfSome}
 use Rattle.std.specs.List.{flat_map}
-use Rattle.std.specs.FinMap as map_of
 use Rattle.std.proofs.lemmas.Bool.{lt-ltb}
 use Rattle.wal_shape.specs.declared.axis.Axis.{Axis}
 use Rattle.wal_shape.specs.declared.axis.Axis.TheVariants as axes
 use Rattle.wal_shape.specs.declared.metadata.BlobId.{BlobId}
 use Rattle.wal_shape.specs.declared.part.Part.{Part}
 use Rattle.wal_shape.specs.declared.part.Part.TheVariants as parts
-use Rattle.wal_shape.specs.declared.text.MetaClash.{MetaClash}
 use Rattle.wal_shape.specs.Metadata.{BlobMetadata, held_index}
 use Rattle.wal_shape.specs.MetadataReading.{spelled_metadata}
 use Rattle.wal_shape.specs.Part.{sliver_part}
@@ -23,38 +21,28 @@ use Rattle.wal_ledger.specs.declared.entry.Entry.{Entry}
 use Rattle.wal_ledger.specs.Ledger.{LedgerState, reading, until_of, own_entries, is_live}
 use Rattle.wal_store.specs.Answer.{HasRoom}
 use Rattle.wal_store.specs.Parts.{Parts, no_parts, part_of, with_part, part_cost, pages_for}
-use Rattle.wal_store.specs.Contents.{Contents, parts_at, part_at, with_bytes, cost, free_of, needed_for}
+use Rattle.wal_store.specs.Contents.{Contents, parts_at, part_at, with_bytes, free_of, needed_for}
 use Rattle.wal_shard.specs.declared.answers.PutAnswer.TheVariants as putting
 use Rattle.wal_shard.specs.Holding.{HoldsMetadata, IsSound, metadata_reply, payload_if, proof_reply}
 use Rattle.wal_shard.specs.Putting.{CanBePut, Verifies, put_id, put_part}
 use Rattle.wal_shard.specs.State.{ShardState}
-use Rattle.wal_shard.proofs.Changes.{insert_changes, changed_there}
-use Rattle.wal_shard.proofs.OnePut.{none_some}
+use Rattle.wal_shard.proofs.OnePut.{none_some, some_is}
 use Rattle.wal_shard.proofs.HeldLaws.{own_metadata, beside, beside_proof, verified_short}
 use Rattle.wal_serve.specs.State.{ServedState, holding}
 use Rattle.wal_serve.specs.Reply.{done, reply_text}
-use Rattle.wal_serve.specs.Answers.{AnswersRequest, AnswersRead, AnswersFrame, AnswersPut}
+use Rattle.wal_serve.specs.Answers.{AnswersRequest, AnswersRead}
 use Rattle.wal_serve.specs.Room.{desk_room}
-use Rattle.wal_serve.specs.Serving.{looked_at, Served, more}
+use Rattle.wal_serve.specs.Serving.{Served}
+use Rattle.wal_serve.proofs.AnswerLaws.{put_row}
 use Rattle.wal_serve.proofs.RoomLaws.{enough}
+use Rattle.wal_served.proofs.Apart.{stored_there}
 use Rattle.wal_served.specs.Local.{AlikeLedgers, cost_with, entry_payloads, sliver_payload, part_payloads, pages_of, kept_payloads, Rebuilds}
 use Rattle.wal_served.proofs.Costs.{stored_cost}
 use Rattle.wal_served.proofs.AlikeLedgers.{same_live}
-use Rattle.wal_served.proofs.Left.{flat_push}
-use Rattle.wal_served.proofs.Standing.{Fed, Standing, standing}
+use Rattle.wal_served.proofs.Standing.{Fed, fed_one, FedWith, Standing, standing}
 
 some_one : (o : Option (List ℕ)) (x : List ℕ) → o ≡ Some x → IsSome o
 some_one o x e = subst (λ (p : Option (List ℕ)). IsSome p) (sym e) refl
-
-one_value : (o : Option (List ℕ)) (x y : List ℕ) → o ≡ Some x → o ≡ Some y → x ≡ y
-one_value o x y a b = cc
-
-put_answers : (digest : List ℕ → List ℕ) (also : Bool) (frame : Frame) (old : ServedState) (frames : List (List ℕ)) (clash : Option MetaClash) (new : ServedState) → CanBePut frame
-    → AnswersPut digest also frame old frames clash new → AnswersFrame digest also frame old frames clash new
-put_answers digest also (Metadata m) old frames clash new part h = h
-put_answers digest also (Sliver name axis index bytes) old frames clash new part h = h
-put_answers digest also (Proof name q) old frames clash new part h = h
-put_answers digest also frame old frames clash new part h = absurd part
 
 unfilled : (q : Parts) (part : Part) → part_of q part ≡ None → with_part q part None ≡ q
 unfilled q parts.Metadata absent = ap (λ (o : Option (List ℕ)). with_part q parts.Metadata o) (sym absent)
@@ -68,16 +56,18 @@ fewer (Some most) base most_pages pages fit less = omega (arith, fit, less)
 
 module _ (digest : List ℕ → List ℕ) (id : BlobId) (room sender : ℕ) (also : Bool) (other base : ServedState) (short_room : room < 2 ^ 32) where
   -- these payloads were fed, and these parts are held
-  record Built (q : Parts) (sofar : List (List ℕ)) (pages : ℕ) : Type 0 where
-    answered : List (List ℕ)
+  record Built (i : BlobId) (q : Parts) (sofar : List (List ℕ)) (pages : ℕ) : Type 0 where
     then : ServedState
-    served : Served (AnswersRequest digest also) room other (flat_map (envelope sender) sofar) answered None then
-    parts_are : parts_at then.shard.contents id ≡ q
+    fed : Fed digest room sender also other sofar then
+    parts_are : parts_at then.shard.contents i ≡ q
     ledger : then.ledger ≡ base.ledger
     f : then.shard.f ≡ base.shard.f
     index : then.shard.index ≡ base.shard.index
     limit : then.shard.limit ≡ base.shard.limit
-    pages_most : cost_with then.shard.contents id ≤ cost_with base.shard.contents id + pages
+    pages_most : cost_with then.shard.contents i ≤ cost_with base.shard.contents i + pages
+
+  abbrev Room : BlobId → ℕ → Type 0
+  Room i pages = IfSome base.shard.limit (λ most. cost_with base.shard.contents i + pages ≤ most)
 
   -- a frame that may be fed
   record Feeds (q : Parts) (part : Part) (bytes payload : List ℕ) : Type 0 where
@@ -92,21 +82,22 @@ module _ (digest : List ℕ → List ℕ) (id : BlobId) (room sender : ℕ) (als
     within : length (frame_text frame) ≤ room
     live : is_live base.ledger.log id ≡ true
 
-  feed : (q : Parts) (sofar : List (List ℕ)) (pages : ℕ) (part : Part) (bytes payload : List ℕ) → Built q sofar pages → part_of q part ≡ None → Feeds q part bytes payload
-      → IfSome base.shard.limit (λ most. cost_with base.shard.contents id + (pages + pages_for (length bytes)) ≤ most)
-      → Built (with_part q part (Some bytes)) (sofar ++ payload ∷ []) (pages + pages_for (length bytes))
-  feed q sofar pages part bytes payload b absent x fit = record {
-    answered = b.answered ++ reply_text (done 0) ∷ [];
+  -- what is built grows by a payload, of a part of these bytes
+  abbrev Grows : Parts → List (List ℕ) → ℕ → BlobId → Part → List ℕ → List ℕ → Type 0
+  Grows q sofar pages i part bytes payload =
+      Built i q sofar pages → part_of q part ≡ None → Room i (pages + pages_for (length bytes)) → Built i (with_part q part (Some bytes)) (sofar ++ payload ∷ []) (pages + pages_for (length bytes))
+
+  feed_frame : (q : Parts) (sofar : List (List ℕ)) (pages : ℕ) (part : Part) (bytes payload : List ℕ) (x : Feeds q part bytes payload)
+      → Grows q sofar pages (put_id digest x.frame) (put_part x.frame) (stored_bytes x.frame) (frame_text x.frame)
+  feed_frame q sofar pages part bytes payload x b absent fit = record {
     then = new;
-    served = subst (λ (l : List ℕ). Served (AnswersRequest digest also) room other l (b.answered ++ reply_text (done 0) ∷ []) None new) (sym (flat_push (envelope sender) sofar payload))
-        (subst (λ (l : List ℕ). Served (AnswersRequest digest also) room other (flat_map (envelope sender) sofar ++ envelope sender l) (b.answered ++ reply_text (done 0) ∷ []) None new) x.text
-        (more _ b.answered u b.served sender (frame_text x.frame) (reply_text (done 0) ∷ []) None new (omega (arith, x.within, short_room)) (looked_at (reply_text (done 0) ∷ []) None new x.within answers)));
-    parts_are = held_now;
+    fed = fed_one digest room sender also other sofar (frame_text x.frame) u new (reply_text (done 0) ∷ []) short_room b.fed x.within answers;
+    parts_are = stored_there u.shard.contents n (put_part x.frame) (stored_bytes x.frame) ∙ ap (λ (p : Parts). with_part p (put_part x.frame) (Some (stored_bytes x.frame))) b.parts_are;
     ledger = b.ledger;
     f = b.f;
     index = b.index;
     limit = b.limit;
-    pages_most = let whole = costs in omega (arith, whole, b.pages_most);
+    pages_most = omega (arith, stored_cost u.shard.contents n (put_part x.frame) (stored_bytes x.frame) none_there, b.pages_most);
   }
     where
       u : ServedState
@@ -121,63 +112,46 @@ module _ (digest : List ℕ → List ℕ) (id : BlobId) (room sender : ℕ) (als
       new : ServedState
       new = holding u c
 
-      there : parts_at u.shard.contents n ≡ q
-      there = ap (λ (i : BlobId). parts_at u.shard.contents i) x.under ∙ b.parts_are
-
       none_there : part_at u.shard.contents n (put_part x.frame) ≡ None
-      none_there = ap (λ (p : Parts). part_of p (put_part x.frame)) there ∙ ap (part_of q) x.part_is ∙ absent
+      none_there = ap (λ (p : Parts). part_of p (put_part x.frame)) b.parts_are ∙ absent
 
       verified : Verifies digest u.shard.f u.shard.index (parts_at u.shard.contents n) x.frame
       verified =
-          subst (λ (p : Parts). Verifies digest u.shard.f u.shard.index p x.frame) (sym there)
+          subst (λ (p : Parts). Verifies digest u.shard.f u.shard.index p x.frame) (sym b.parts_are)
           (subst (λ (k : ℕ). Verifies digest u.shard.f k q x.frame) (sym b.index) (subst (λ (k : ℕ). Verifies digest k base.shard.index q x.frame) (sym b.f) x.verified))
 
       live : is_live u.ledger.log n ≡ true
       live = ap (is_live u.ledger.log) x.under ∙ ap (λ (l : LedgerState). is_live l.log id) b.ledger ∙ x.live
 
-      costs : cost_with c id ≡ cost_with u.shard.contents id + pages_for (length bytes)
-      costs =
-          subst (λ (i : BlobId). cost_with c i ≡ cost_with u.shard.contents i + pages_for (length (stored_bytes x.frame))) x.under (stored_cost u.shard.contents n (put_part x.frame) (stored_bytes x.frame) none_there)
-          ∙ ap (λ (l : List ℕ). cost_with u.shard.contents id + pages_for (length l)) x.bytes_are
-
       has_room : HasRoom (free_of u.shard.limit u.shard.contents) (needed_for u.shard.contents n (stored_bytes x.frame))
       has_room = subst (λ (l : Option ℕ). HasRoom (free_of l u.shard.contents) (needed_for u.shard.contents n (stored_bytes x.frame))) (sym b.limit) (by base.shard.limit fit)
         where
-          needs : cost u.shard.contents + needed_for u.shard.contents n (stored_bytes x.frame) ≡ cost_with u.shard.contents id + pages_for (length bytes)
-          needs =
-              let whole : cost u.shard.contents + needed_for u.shard.contents n (stored_bytes x.frame) ≡ cost_with u.shard.contents n + pages_for (length (stored_bytes x.frame)) = omega arith in
-              whole
-              ∙ ap (λ (i : BlobId). cost_with u.shard.contents i + pages_for (length (stored_bytes x.frame))) x.under
-              ∙ ap (λ (l : List ℕ). cost_with u.shard.contents id + pages_for (length l)) x.bytes_are
-
-          by : (limit : Option ℕ) → IfSome limit (λ most. cost_with base.shard.contents id + (pages + pages_for (length bytes)) ≤ most)
+          by : (limit : Option ℕ) → IfSome limit (λ most. cost_with base.shard.contents n + (pages + pages_for (length (stored_bytes x.frame))) ≤ most)
               → HasRoom (free_of limit u.shard.contents) (needed_for u.shard.contents n (stored_bytes x.frame))
           by None fits = tt
-          by (Some most) fits = omega (arith, fits, needs, b.pages_most)
+          by (Some most) fits = omega (arith, fits, b.pages_most)
 
       answers : AnswersRequest digest also u (frame_text x.frame) (reply_text (done 0) ∷ []) None new
       answers =
           subst (λ (r : Result Frame FrameError). AnswersRead digest also r u (reply_text (done 0) ∷ []) None new) (sym (read_again x.frame x.fit))
-          (put_answers digest also x.frame u (reply_text (done 0) ∷ []) None new x.puts
+          (put_row digest also x.frame u new (reply_text (done 0) ∷ []) None x.puts
           (Ok (done 0), c, (putting.Stored, (record { live = live; verified = verified }, none_there, has_room, refl), refl, tt), (refl, refl), refl))
 
-      held_now : parts_at c id ≡ with_part q part (Some bytes)
-      held_now =
-          let p = with_part (parts_at u.shard.contents n) (put_part x.frame) (Some (stored_bytes x.frame)) in
-          subst (λ (i : BlobId). parts_at c i ≡ with_part (parts_at u.shard.contents n) (put_part x.frame) (Some (stored_bytes x.frame))) x.under
-          (changed_there u.shard.contents (map_of.insert u.shard.contents n p) n p (insert_changes u.shard.contents n p))
-          ∙ ap (λ (p : Parts). with_part p (put_part x.frame) (Some (stored_bytes x.frame))) there
-          ∙ ap (λ (k : Part). with_part q k (Some (stored_bytes x.frame))) x.part_is
-          ∙ ap (λ (l : List ℕ). with_part q part (Some l)) x.bytes_are
+  feed : (q : Parts) (sofar : List (List ℕ)) (pages : ℕ) (part : Part) (bytes payload : List ℕ) → Feeds q part bytes payload → Grows q sofar pages id part bytes payload
+  feed q sofar pages part bytes payload x =
+      subst (λ (i : BlobId). Grows q sofar pages i part bytes payload) x.under
+      (subst (λ (k : Part). Grows q sofar pages (put_id digest x.frame) k bytes payload) x.part_is
+      (subst (λ (l : List ℕ). Grows q sofar pages (put_id digest x.frame) (put_part x.frame) l payload) x.bytes_are
+      (subst (Grows q sofar pages (put_id digest x.frame) (put_part x.frame) (stored_bytes x.frame)) x.text (feed_frame q sofar pages part bytes payload x))))
 
   -- a part, where it is held
-  feed_if : (q : Parts) (sofar : List (List ℕ)) (pages : ℕ) (part : Part) (o : Option (List ℕ)) (payload : List ℕ → List ℕ) → Built q sofar pages → part_of q part ≡ None
-      → ((bytes : List ℕ) → o ≡ Some bytes → Feeds q part bytes (payload bytes)) → IfSome base.shard.limit (λ most. cost_with base.shard.contents id + (pages + part_cost o) ≤ most)
-      → Built (with_part q part o) (sofar ++ payload_if o payload) (pages + part_cost o)
+  feed_if : (q : Parts) (sofar : List (List ℕ)) (pages : ℕ) (part : Part) (o : Option (List ℕ)) (payload : List ℕ → List ℕ) → Built id q sofar pages → part_of q part ≡ None
+      → ((bytes : List ℕ) → o ≡ Some bytes → Feeds q part bytes (payload bytes)) → Room id (pages + part_cost o)
+      → Built id (with_part q part o) (sofar ++ payload_if o payload) (pages + part_cost o)
   feed_if q sofar pages part None payload b absent each fit =
-      subst (λ (p : Parts). Built p (sofar ++ []) (pages + 0)) (sym (unfilled q part absent))
-      (subst (λ (l : List (List ℕ)). Built q l (pages + 0)) (sym (append-nil sofar)) (let none : pages + 0 ≡ pages = omega arith in subst (λ (k : ℕ). Built q sofar k) (sym none) b))
-  feed_if q sofar pages part (Some bytes) payload b absent each fit = feed q sofar pages part bytes (payload bytes) b absent (each bytes refl) fit
+      subst (λ (p : Parts). Built id p (sofar ++ []) (pages + 0)) (sym (unfilled q part absent))
+      (subst (λ (l : List (List ℕ)). Built id q l (pages + 0)) (sym (append-nil sofar)) (let none : pages + 0 ≡ pages = omega arith in subst (λ (k : ℕ). Built id q sofar k) (sym none) b))
+  feed_if q sofar pages part (Some bytes) payload b absent each fit = feed q sofar pages part bytes (payload bytes) (each bytes refl) b absent fit
 
   -- all parts, of what is sound
   module _ (p : Parts) (sound : IsSound digest base.shard.f id.0 base.shard.index p) (size : length id.0 ≡ 32) (some : 1 ≤ base.shard.f) (few : base.shard.f ≤ 333) (wide : desk_room base.shard.f ≤ room)
@@ -186,7 +160,7 @@ module _ (digest : List ℕ → List ℕ) (id : BlobId) (room sender : ℕ) (als
     metadata_feeds bytes e =
         let had = sound.metadata bytes e in
         let m = had.0 in
-        let text : bytes ≡ metadata_text m = one_value p.metadata bytes (metadata_text m) e had.1.spelled in
+        let text : bytes ≡ metadata_text m = some_is p.metadata bytes (metadata_text m) e had.1.spelled in
         let is : spelled_metadata bytes ≡ m = ap spelled_metadata text ∙ spelled_metadata-text m had.1.fit in
         record {
           frame = Metadata m;
@@ -256,8 +230,8 @@ module _ (digest : List ℕ → List ℕ) (id : BlobId) (room sender : ℕ) (als
           live = live bytes parts.Proof e;
         }
 
-    all_parts : (sofar : List (List ℕ)) → Built no_parts sofar 0 → IfSome base.shard.limit (λ most. cost_with base.shard.contents id + pages_of p ≤ most)
-        → Built p ((((sofar ++ metadata_reply p) ++ sliver_payload id.0 base.shard.index p axes.Primary) ++ sliver_payload id.0 base.shard.index p axes.Secondary) ++ proof_reply id.0 p)
+    all_parts : (sofar : List (List ℕ)) → Built id no_parts sofar 0 → Room id (pages_of p)
+        → Built id p ((((sofar ++ metadata_reply p) ++ sliver_payload id.0 base.shard.index p axes.Primary) ++ sliver_payload id.0 base.shard.index p axes.Secondary) ++ proof_reply id.0 p)
         (0 + part_cost p.metadata + part_cost p.primary + part_cost p.secondary + part_cost p.proof)
     all_parts sofar b fit =
         let limit = base.shard.limit in
@@ -276,9 +250,8 @@ rebuilds digest id room sender may_want also one other taken frames clash state 
     let b = all_parts digest id room sender also other base placed.fits p sound placed.named_by (subst (λ (f : ℕ). 1 ≤ f) (sym f_is) placed.some) (subst (λ (f : ℕ). f ≤ 333) (sym f_is) placed.few)
     (subst (λ (f : ℕ). desk_room f ≤ room) (sym f_is) placed.enough) live (entry_payloads own)
     (record {
-      answered = had.answered;
       then = base;
-      served = had.served;
+      fed = had.fed;
       parts_are = ap (λ (s : ShardState). parts_at s.contents id) had.shard ∙ first.parts ∙ nothing.parts;
       ledger = refl;
       f = refl;
@@ -287,9 +260,9 @@ rebuilds digest id room sender may_want also one other taken frames clash state 
       pages_most = omega arith;
     })
     (subst (λ (s : ShardState). IfSome s.limit (λ most. cost_with s.contents id + pages_of p ≤ most)) (sym had.shard) has.pages_fit) in (
-      b.answered,
+      b.fed.answered,
       b.then,
-      subst (λ (l : List (List ℕ)). Served (AnswersRequest digest also) room other (flat_map (envelope sender) l) b.answered None b.then) listed b.served,
+      subst (λ (l : List (List ℕ)). Served (AnswersRequest digest also) room other (flat_map (envelope sender) l) b.fed.answered None b.then) listed b.fed.served,
       record {
         faults = b.f ∙ f_is ∙ sym st.f;
         index = b.index ∙ index_is ∙ sym st.index;
@@ -301,7 +274,7 @@ rebuilds digest id room sender may_want also one other taken frames clash state 
     st : Standing digest id room sender also one other placed nothing first state
     st = standing digest id room sender also one other placed nothing first may_want taken frames clash state served
 
-    had : Fed digest id room sender also one other placed nothing first state
+    had : FedWith digest id room sender also one other placed nothing first state.ledger.log
     had = st.fed has.entries_fit
 
     base : ServedState
@@ -320,9 +293,7 @@ rebuilds digest id room sender may_want also one other taken frames clash state 
     index_is = ap (λ (s : ShardState). s.index) had.shard ∙ first.index
 
     sound : IsSound digest base.shard.f id.0 base.shard.index p
-    sound =
-        subst (λ (k : ℕ). IsSound digest base.shard.f id.0 k p) (st.index ∙ sym index_is)
-        (subst (λ (f : ℕ). IsSound digest f id.0 state.shard.index p) (st.f ∙ sym f_is) st.sound)
+    sound = subst (λ (k : ℕ). IsSound digest base.shard.f id.0 k p) (sym index_is) (subst (λ (f : ℕ). IsSound digest f id.0 one.shard.index p) (sym f_is) st.sound)
 
     live : (bytes : List ℕ) (part : Part) → part_of p part ≡ Some bytes → is_live base.ledger.log id ≡ true
     live bytes part e = same_live id state.ledger.log base.ledger.log had.ledgers ∙ by st.live

@@ -1,7 +1,6 @@
 -- What serving does is a run of the world.
 use Rattle.std.proofs.Common.{◌≡◌, ◌≢◌, ℕ, Bool, cond, nat_lt, List, [], ◌∷◌, ◌++◌, length, Option, Some, None, inl, inr, refl, sym, ap, subst, ◌∙◌, append-nil}
 use Rattle.std.proofs.lemmas.Bool.{lt-ltb, le-ltb}
-use Rattle.std.proofs.lemmas.Grind.{flat_map-append}
 use Rattle.std.proofs.lemmas.List.Elements.{Contains-push, Contains-append_left}
 use Rattle.wal_shape.specs.declared.text.MetaClash.{MetaClash}
 use Rattle.wal_event.specs.declared.event.Event.{Event}
@@ -18,6 +17,7 @@ use Rattle.wal_serve.specs.Reply.{overlong, reply_text}
 use Rattle.wal_serve.specs.Serving.{Replies, looked_at, read_past, none, more}
 use Rattle.wal_served.specs.Steps.{world_of, Meaning, an_event, own_entry, no_event, meaning, Does, Stepped, AreSteps, Exchange, exchanges, event_if, events_of, TellsClash, AreOf, nothing, with_next, without_next, StopsBy, IsRunTo, IsServedRun, AreServedRuns}
 use Rattle.wal_served.proofs.Replies.{told_room}
+use Rattle.wal_served.proofs.Left.{flat_push}
 
 same_place : (a b c : ShardState) → SamePlace a b → SamePlace b c → SamePlace a c
 same_place a b c first then = record { f = then.f ∙ first.f; index = then.index ∙ first.index; limit = then.limit ∙ first.limit }
@@ -70,8 +70,8 @@ module _ (digest : List ℕ → List ℕ) (may_want : Bool) (fresh : ServedState
       → cond (nat_lt room (length payload)) [] (event_if (meaning fresh.shard.f fresh.shard.index payload) frames) ≡ events
       → events_in (all ++ (payload, frames) ∷ []) ≡ events_in all ++ events
   one_more all payload frames events is =
-      flat_map-append (λ (a : Exchange). cond (nat_lt room (length a.0)) [] (event_if (meaning fresh.shard.f fresh.shard.index a.0) a.1)) all ((payload, frames) ∷ [])
-      ∙ ap (λ (l : List (Event × List (List ℕ))). events_in all ++ l) (append-nil _ ∙ is)
+      flat_push (λ (a : Exchange). cond (nat_lt room (length a.0)) [] (event_if (meaning fresh.shard.f fresh.shard.index a.0) a.1)) all (payload, frames)
+      ∙ ap (λ (l : List (Event × List (List ℕ))). events_in all ++ l) is
 
   -- one more payload
   one_reply : (all : List Exchange) (mid : ServedState) (payload : List ℕ) (s : List (List ℕ)) (c : Option MetaClash) (n : ServedState) → SamePlace fresh.shard mid.shard

@@ -1,146 +1,115 @@
 -- What serving does are steps of the world.
-use Rattle.std.proofs.Common.{◌≡◌, ℕ, Bool, List, [], ◌∷◌, Option, None, Result, Ok, Err, inl, inr, refl, sym, ap, subst, ◌∙◌}
+use Rattle.std.proofs.Common.{◌≡◌, ℕ, Bool, true, ◌||◌, List, [], ◌∷◌, Option, None, Result, Ok, Err, inr, refl, sym, ap, subst, ◌∙◌}
 use Rattle.wal_shape.specs.declared.metadata.BlobId.{BlobId}
 use Rattle.wal_shape.specs.declared.text.MetaClash.{MetaClash}
 use Rattle.wal_shape.specs.declared.axis.Side.TheVariants.{Now}
 use Rattle.wal_frame.specs.declared.frame.FrameError.{FrameError}
+use Rattle.wal_event.specs.declared.event.Event.{Event}
 use Rattle.wal_event.specs.declared.event.Event.TheVariants as event
 use Rattle.wal_event.specs.declared.line.Line.TheVariants as line
-use Rattle.wal_event.specs.declared.line.RegisterWord.{RegisterWord}
 use Rattle.wal_event.specs.declared.line.RegisterWord.TheVariants as register
-use Rattle.wal_frame.specs.Frame.{Frame, Metadata, Sliver, Opening, Proof, Read, Symbol, Ack, Attest, Forget, Answer, Clash, RegisterEntry, AckEntry, AttestEntry}
+use Rattle.wal_frame.specs.Frame.{Frame, Metadata, Sliver, Proof, Read, Symbol, Ack, Attest, Forget, RegisterEntry, AckEntry, AttestEntry}
 use Rattle.wal_frame.specs.Reading.{read_of}
 use Rattle.wal_ledger.specs.declared.answers.RegisterAnswer.TheVariants as registering
-use Rattle.wal_ledger.specs.declared.entry.Body.TheVariants as entry
 use Rattle.wal_ledger.specs.declared.entry.Kind.TheVariants.{Holds, Denies}
 use Rattle.wal_ledger.specs.Ledger.{LedgerState}
 use Rattle.wal_shard.specs.Putting.{CanBePut}
-use Rattle.wal_protocol.specs.State.{World}
-use Rattle.wal_protocol.specs.Step as step
 use Rattle.wal_serve.specs.State.{ServedState, SamePlace, with_ledger, named}
-use Rattle.wal_serve.specs.Reply.{reply, reply_text}
+use Rattle.wal_serve.specs.Reply.{done, refused}
 use Rattle.wal_serve.specs.Requests.{Registered, Vouched, Entered}
-use Rattle.wal_serve.specs.Answers.{IsReplyOutcome, AnswersRequest, AnswersRead, AnswersPut, AnswersEntry, AnswersForget}
+use Rattle.wal_serve.specs.Answers.{IsReplyOutcome, AnswersRequest, AnswersRead, AnswersPut, AnswersEntry}
 use Rattle.wal_serve.specs.Serving.{Replies, looked_at, read_past, Served, none, more}
-use Rattle.wal_served.specs.Steps.{world_of, IsDesk, Meaning, an_event, no_event, read_meaning, IsRefused, answer_text, IsTold, Does, RepliesTruly, Stepped, AreSteps}
-use Rattle.wal_served.proofs.Worlds.{ledger_same, holding_same, world_same, desk_entered, desk_holding, Enters, enters}
-use Rattle.wal_served.proofs.Replies.{Reply, code_of, same_code, not_refused, tells_none}
-use Rattle.wal_served.proofs.Claims.{Leaves, leaves_same, vouched_leaves, vouched_does, entered_leaves, entered_does}
-use Rattle.wal_served.proofs.Puts.{put_refused, put_does, forget_refused, forget_does}
+use Rattle.wal_served.specs.Steps.{world_of, IsDesk, Meaning, an_event, read_meaning, IsRefused, answer_text, Does, RepliesTruly, Stepped, AreSteps}
+use Rattle.wal_served.specs.Local.{tells, tells_entry}
+use Rattle.wal_served.proofs.Worlds.{ledger_same, world_same, desk_entered, desk_holding}
+use Rattle.wal_served.proofs.Replies.{Reply, made_stays, takes, lacks}
+use Rattle.wal_served.proofs.Changes.{Change, no_change, part_stored, slivers_went, entry_made, enter_plain, changes}
+use Rattle.wal_served.proofs.Claims.{vouched_does, entered_does}
+use Rattle.wal_served.proofs.Puts.{put_does, forget_does}
 use Rattle.wal_served.proofs.ReadReplies.{read_true, symbol_true}
 
 -- ---- registrations
-
-register_leaves : (old : LedgerState) (id : BlobId) (until : ℕ) (r : Reply) (new : LedgerState) → Registered old id until r new → Leaves old r new
-register_leaves old id until r new (registering.Past, h, e) = leaves_same old r new h.1
-register_leaves old id until r new (registering.NoRoom, h, e) = leaves_same old r new h.2
-register_leaves old id until r new (registering.MovingExtension, h, e) = absurd e
-register_leaves old id until r new (registering.Registered most, h, e) = record {
-  kept = subst (Enters old) (sym h.2) (enters (entry.Register id until) refl);
-  refused = λ is. absurd (not_refused (code_of r) (inl (ap code_of e)) is);
-}
 
 register_does : (digest : List ℕ → List ℕ) (s : ServedState) (id : BlobId) (until : ℕ) (r : Reply) (new : LedgerState) (frames : List (List ℕ)) (clash : Option MetaClash)
     → Registered s.ledger id until r new → IsReplyOutcome (Ok r) frames clash → Does digest s (an_event (event.Register id until)) frames clash (with_ledger s new)
 register_does digest s id until r new frames clash registered told = by registered
   where
-    says : (word : RegisterWord) → IsTold (line.Register id word) frames → ((w : World) → step.RegisterStep (world_of w s) id until word (world_of w (with_ledger s new)))
-        → Does digest s (an_event (event.Register id until)) frames clash (with_ledger s new)
-    says word told_so each = inl (record { line = line.Register id word; steps = λ w. (refl, each w); told = told_so; ends = tells_none (line.Register id word) clash refl told.1 })
+    e : Event
+    e = event.Register id until
 
-    only : (code a : ℕ) → r ≡ reply code a 0 → frames ≡ answer_text code a 0 ∷ []
-    only code a e = told.0 ∙ ap (λ (x : Reply). reply_text x ∷ []) e
+    outcome : (q : Reply) → r ≡ q → IsReplyOutcome (Ok q) frames clash
+    outcome q is = subst (λ (x : Reply). IsReplyOutcome (Ok x) frames clash) is told
 
-    by : Registered s.ledger id until r new → Does digest s (an_event (event.Register id until)) frames clash (with_ledger s new)
-    by (registering.Past, h, e) = says register.RefusedPast (Answer 15 0 0, refl, only 15 0 e) (λ w. (h.0, world_same w (with_ledger s new) s (ledger_same s new h.1)))
-    by (registering.MovingExtension, h, e) = absurd e
-    by (registering.Registered most, h, e) = says (register.Until most) (Answer 0 most 0, refl, only 0 most e) (λ w. (h.0, ap (λ (l : LedgerState). world_of w (with_ledger s l)) h.2, h.3))
-    by (registering.NoRoom, h, e) = inr (record {
-      code = 10;
-      a = 0;
-      b = 0;
-      wants = inr (inr refl);
-      told = only 10 0 e;
-      goes_on = told.1;
-      same = ledger_same s new h.2;
-    })
+    by : Registered s.ledger id until r new → Does digest s (an_event e) frames clash (with_ledger s new)
+    by (registering.Past, h, is) =
+        takes digest s (with_ledger s new) e frames clash (refused 15) (outcome (refused 15) is) (line.Register id register.RefusedPast) refl refl
+        (λ w. (refl, (h.0, world_same w (with_ledger s new) s (ledger_same s new h.1))))
+    by (registering.MovingExtension, h, is) = absurd is
+    by (registering.Registered most, h, is) =
+        takes digest s (with_ledger s new) e frames clash (done most) (outcome (done most) is) (line.Register id (register.Until most)) refl refl
+        (λ w. (refl, (h.0, ap (λ (l : LedgerState). world_of w (with_ledger s l)) h.2, h.3)))
+    by (registering.NoRoom, h, is) = lacks digest s (with_ledger s new) e frames clash (refused 10) (outcome (refused 10) is) (inr (inr refl)) (ledger_same s new h.2)
 
 -- ---- each row
 
--- what is done, and what is then
-record Done (digest : List ℕ → List ℕ) (s : ServedState) (m : Meaning) (frames : List (List ℕ)) (clash : Option MetaClash) (new : ServedState) : Type 0 where
-  does : Does digest s m frames clash new
-  refused : (code a b : ℕ) → frames ≡ answer_text code a b ∷ [] → IsRefused code → new ≡ s
-  desk : IsDesk new
-  place : SamePlace s.shard new.shard
-
-stays_there : (s : ServedState) → SamePlace s.shard s.shard
-stays_there s = record { f = refl; index = refl; limit = refl }
-
 module _ (digest : List ℕ → List ℕ) (may_want : Bool) (s : ServedState) (d : IsDesk s) (frames : List (List ℕ)) (clash : Option MetaClash) (new : ServedState) where
-  done_nothing : new ≡ s → clash ≡ None → Done digest s no_event frames clash new
-  done_nothing same goes = record { does = (same, goes); refused = λ code a b only is. same; desk = subst IsDesk (sym same) d; place = subst (λ (x : ServedState). SamePlace s.shard x.shard) (sym same) (stays_there s) }
+  put_done : (payload : List ℕ) (frame : Frame) → read_of payload ≡ Ok frame → CanBePut frame → AnswersPut digest may_want frame s frames clash new
+      → Does digest s (an_event (event.Send Now s.shard.index payload)) frames clash new
+  put_done payload frame reads part (outcome, contents, put, told, is) =
+      subst (Does digest s (an_event (event.Send Now s.shard.index payload)) frames clash) (sym is) (put_does digest s d payload frame reads part may_want outcome contents frames clash put told)
 
-  done_put : (payload : List ℕ) (frame : Frame) → read_of payload ≡ Ok frame → CanBePut frame → AnswersPut digest may_want frame s frames clash new
-      → Done digest s (an_event (event.Send Now s.shard.index payload)) frames clash new
-  done_put payload frame reads part (outcome, contents, puts, told, is) = record {
-    does = subst (Does digest s (an_event (event.Send Now s.shard.index payload)) frames clash) (sym is) (put_does digest s d payload frame reads part may_want outcome contents frames clash puts told);
-    refused = λ code a b only refused. is ∙ holding_same s contents (put_refused digest may_want s frame outcome contents frames clash code a b puts told only refused);
-    desk = subst IsDesk (sym is) (desk_holding s contents d);
-    place = subst (λ (x : ServedState). SamePlace s.shard x.shard) (sym is) (record { f = refl; index = refl; limit = refl });
-  }
+  entry_done : (m : Meaning) (Makes : Reply → LedgerState → Type 0) → ((r : Reply) (l : LedgerState) → Makes r l → IsReplyOutcome (Ok r) frames clash → Does digest s m frames clash (with_ledger s l))
+      → AnswersEntry Makes s frames clash new → Does digest s m frames clash new
+  entry_done m Makes does (r, ledger, makes, told, is) = subst (Does digest s m frames clash) (sym is) (does r ledger makes told)
 
-  done_entry : (m : Meaning) (Makes : Reply → LedgerState → Type 0) → ((r : Reply) (l : LedgerState) → Makes r l → Leaves s.ledger r l)
-      → ((r : Reply) (l : LedgerState) → Makes r l → IsReplyOutcome (Ok r) frames clash → Does digest s m frames clash (with_ledger s l))
-      → AnswersEntry Makes s frames clash new → Done digest s m frames clash new
-  done_entry m Makes leaves does (r, ledger, makes, told, is) = record {
-    does = subst (Does digest s m frames clash) (sym is) (does r ledger makes told);
-    refused = λ code a b only refused. is ∙ ledger_same s ledger ((leaves r ledger makes).refused (subst IsRefused (same_code frames code a b r only told.0) refused));
-    desk = subst IsDesk (sym is) (desk_entered s ledger d (leaves r ledger makes).kept);
-    place = subst (λ (x : ServedState). SamePlace s.shard x.shard) (sym is) (stays_there s);
-  }
+  read_done : (payload : List ℕ) (read : Result Frame FrameError) → read_of payload ≡ read → AnswersRead digest may_want read s frames clash new
+      → Does digest s (read_meaning s.shard.f s.shard.index payload read) frames clash new
+  read_done payload (Ok (Metadata m)) reads h = put_done payload (Metadata m) reads tt h
+  read_done payload (Ok (Sliver id axis index bytes)) reads h = put_done payload (Sliver id axis index bytes) reads tt h
+  read_done payload (Ok (Proof id p)) reads h = put_done payload (Proof id p) reads tt h
+  read_done payload (Ok (Read id)) reads h = (h.1, h.0.1)
+  read_done payload (Ok (Symbol id axis index)) reads (payloads, is, replied, same) = (same, replied.1)
+  read_done payload (Ok (Ack id)) reads h = entry_done (an_event (event.Ack s.shard.index (named id))) (Vouched Holds s (named id)) (λ r l. vouched_does digest s d Holds (named id) r l frames clash) h
+  read_done payload (Ok (Attest id)) reads h = entry_done (an_event (event.Attest s.shard.index (named id))) (Vouched Denies s (named id)) (λ r l. vouched_does digest s d Denies (named id) r l frames clash) h
+  read_done payload (Ok (Forget id)) reads (r, contents, forgets, told, is) =
+      subst (Does digest s (an_event (event.Forget Now s.shard.index (named id))) frames clash) (sym is) (forget_does digest s d (named id) r contents frames clash forgets told)
+  read_done payload (Ok (RegisterEntry id until)) reads h = entry_done (an_event (event.Register (named id) until)) (Registered s.ledger (named id) until) (λ r l. register_does digest s (named id) until r l frames clash) h
+  read_done payload (Ok (AckEntry shard id)) reads h = entry_done _ (Entered Holds s.ledger shard (named id)) (λ r l. entered_does digest s d Holds shard (named id) r l frames clash) h
+  read_done payload (Ok (AttestEntry shard id)) reads h = entry_done _ (Entered Denies s.ledger shard (named id)) (λ r l. entered_does digest s d Denies shard (named id) r l frames clash) h
+  read_done payload (Ok frame) reads h = (h.1, h.0.1)
+  read_done payload (Err fault) reads h = (h.1, h.0.1)
 
-  done_forget : (id : BlobId) → AnswersForget id s frames clash new → Done digest s (an_event (event.Forget Now s.shard.index id)) frames clash new
-  done_forget id (r, contents, forgets, told, is) = record {
-    does = subst (Does digest s (an_event (event.Forget Now s.shard.index id)) frames clash) (sym is) (forget_does digest s d id r contents frames clash forgets told);
-    refused = λ code a b only refused. is ∙ holding_same s contents (forget_refused s id r contents forgets (subst IsRefused (same_code frames code a b r only told.0) refused));
-    desk = subst IsDesk (sym is) (desk_holding s contents d);
-    place = subst (λ (x : ServedState). SamePlace s.shard x.shard) (sym is) (record { f = refl; index = refl; limit = refl });
-  }
+  read_replies : (read : Result Frame FrameError) → AnswersRead digest may_want read s frames clash new → RepliesTruly digest s read frames clash
+  read_replies (Ok (Read id)) h = read_true digest s d id frames clash h.0
+  read_replies (Ok (Symbol id axis index)) (payloads, is, replied, same) = symbol_true digest s d id axis index payloads frames clash is replied
+  read_replies (Ok frame) h = tt
+  read_replies (Err fault) h = tt
 
-  done_read : (payload : List ℕ) (r : Result Frame FrameError) → read_of payload ≡ r → AnswersRead digest may_want r s frames clash new
-      → Done digest s (read_meaning s.shard.f s.shard.index payload r) frames clash new × RepliesTruly digest s r frames clash
-  done_read payload (Ok (Metadata m)) reads h = (done_put payload (Metadata m) reads tt h, tt)
-  done_read payload (Ok (Sliver id axis index bytes)) reads h = (done_put payload (Sliver id axis index bytes) reads tt h, tt)
-  done_read payload (Ok (Proof id p)) reads h = (done_put payload (Proof id p) reads tt h, tt)
-  done_read payload (Ok (Read id)) reads h = (done_nothing h.1 h.0.1, read_true digest s d id frames clash h.0)
-  done_read payload (Ok (Symbol id axis index)) reads (payloads, is, replied, same) = (done_nothing same replied.1, symbol_true digest s d id axis index payloads frames clash is replied)
-  done_read payload (Ok (Ack id)) reads h = (
-    done_entry (an_event (event.Ack s.shard.index (named id))) (Vouched Holds s (named id)) (vouched_leaves Holds s (named id)) (λ r l. vouched_does digest s d Holds (named id) r l frames clash) h,
-    tt,
-  )
-  done_read payload (Ok (Attest id)) reads h = (
-    done_entry (an_event (event.Attest s.shard.index (named id))) (Vouched Denies s (named id)) (vouched_leaves Denies s (named id)) (λ r l. vouched_does digest s d Denies (named id) r l frames clash) h,
-    tt,
-  )
-  done_read payload (Ok (Forget id)) reads h = (done_forget (named id) h, tt)
-  done_read payload (Ok (RegisterEntry id until)) reads h = (
-    done_entry (an_event (event.Register (named id) until)) (Registered s.ledger (named id) until) (register_leaves s.ledger (named id) until)
-        (λ r l. register_does digest s (named id) until r l frames clash) h,
-    tt,
-  )
-  done_read payload (Ok (AckEntry shard id)) reads h = (
-    done_entry _ (Entered Holds s.ledger shard (named id)) (entered_leaves Holds s.ledger shard (named id)) (λ r l. entered_does digest s d Holds shard (named id) r l frames clash) h,
-    tt,
-  )
-  done_read payload (Ok (AttestEntry shard id)) reads h = (
-    done_entry _ (Entered Denies s.ledger shard (named id)) (entered_leaves Denies s.ledger shard (named id)) (λ r l. entered_does digest s d Denies shard (named id) r l frames clash) h,
-    tt,
-  )
-  done_read payload (Ok (Opening id axis index o)) reads h = (done_nothing h.1 h.0.1, tt)
-  done_read payload (Ok (Answer code a b)) reads h = (done_nothing h.1 h.0.1, tt)
-  done_read payload (Ok (Clash left right)) reads h = (done_nothing h.1 h.0.1, tt)
-  done_read payload (Err fault) reads h = (done_nothing h.1 h.0.1, tt)
+  -- what is refused changes nothing
+  refused_same : (read : Result Frame FrameError) → Change digest s read frames new → (code a b : ℕ) → frames ≡ answer_text code a b ∷ [] → IsRefused code → new ≡ s
+  refused_same read change code a b only refused = by change
+    where
+      none_made : tells_entry frames ≡ true → ⊥
+      none_made told = made_stays code a b (sym (ap tells_entry only) ∙ told) refused
+
+      by : Change digest s read frames new → new ≡ s
+      by (no_change same) = same
+      by (part_stored frame reads part about told accepted absent is) = absurd (none_made (ap (λ (b : Bool). b || (tells 13 frames || tells 14 frames)) told))
+      by (slivers_went q about told is) = absurd (none_made (ap (λ (b : Bool). b || (tells 13 frames || tells 14 frames)) told))
+      by (entry_made q b about asks told may is) = absurd (none_made told)
+
+  -- the shard goes on to serve, at its place
+  goes_on : (read : Result Frame FrameError) → Change digest s read frames new → IsDesk new × SamePlace s.shard new.shard
+  goes_on read change = by change
+    where
+      there : (next : ServedState) → new ≡ next → IsDesk next → SamePlace s.shard next.shard → IsDesk new × SamePlace s.shard new.shard
+      there next is desk place = subst (λ (x : ServedState). IsDesk x × SamePlace s.shard x.shard) (sym is) (desk, place)
+
+      by : Change digest s read frames new → IsDesk new × SamePlace s.shard new.shard
+      by (no_change is) = there s is d (record { f = refl; index = refl; limit = refl })
+      by (part_stored frame reads part about told accepted absent is) = there _ is (desk_holding s _ d) (record { f = refl; index = refl; limit = refl })
+      by (slivers_went q about told is) = there _ is (desk_holding s _ d) (record { f = refl; index = refl; limit = refl })
+      by (entry_made q b about asks told may is) = there _ is (desk_entered s b d (enter_plain s q b may)) (record { f = refl; index = refl; limit = refl })
 
 -- ---- the laws
 
@@ -148,8 +117,17 @@ module _ (digest : List ℕ → List ℕ) (may_want : Bool) (s : ServedState) (d
 pub answered_steps : (digest : List ℕ → List ℕ) (may_want : Bool) (old : ServedState) (payload : List ℕ) (frames : List (List ℕ)) (clash : Option MetaClash) (new : ServedState) → IsDesk old
     → AnswersRequest digest may_want old payload frames clash new → Stepped digest may_want old payload frames clash new × IsDesk new
 answered_steps digest may_want old payload frames clash new d answers =
-    let h = done_read digest may_want old d frames clash new payload (read_of payload) refl answers in
-    (record { answers = answers; does = h.0.does; replies = h.1; refused = h.0.refused; place = h.0.place }, h.0.desk)
+    let change = changes digest may_want old frames clash new payload answers in
+    let then = goes_on digest may_want old d frames clash new (read_of payload) change in (
+      record {
+        answers = answers;
+        does = read_done digest may_want old d frames clash new payload (read_of payload) refl answers;
+        replies = read_replies digest may_want old d frames clash new (read_of payload) answers;
+        refused = refused_same digest may_want old d frames clash new (read_of payload) change;
+        place = then.1;
+      },
+      then.0,
+    )
 
 replied_steps : (digest : List ℕ → List ℕ) (may_want : Bool) (room : ℕ) (old : ServedState) (payload : List ℕ) (frames : List (List ℕ)) (clash : Option MetaClash) (new : ServedState) → IsDesk old
     → Replies (AnswersRequest digest may_want) room old payload frames clash new → Replies (Stepped digest may_want) room old payload frames clash new × IsDesk new

@@ -149,14 +149,9 @@ ledger_same s new same = ap {B = ServedState} (with_ledger s) same
 pub world_same : (w : World) (new old : ServedState) → new ≡ old → world_of w new ≡ world_of w old
 world_same w new old same = ap (world_of w) same
 
--- a ledger stays, or has one more entry that leaves the epoch as it is
-pub data Enters (old : LedgerState) : LedgerState → Type 0 where
-  stays : Enters old old
-  enters : (b : Body) → is_plain b ≡ true → Enters old (takes_in old b)
-
-pub desk_entered : (s : ServedState) (new : LedgerState) → IsDesk s → Enters s.ledger new → IsDesk (with_ledger s new)
-desk_entered s _ d stays = record { place = d.place; faults = d.faults; serves = d.serves; owners = d.owners }
-desk_entered s _ d (enters b plain) =
+-- one more entry leaves the epoch as it is
+pub desk_entered : (s : ServedState) (b : Body) → IsDesk s → is_plain b ≡ true → IsDesk (with_ledger s (takes_in s.ledger b))
+desk_entered s b d plain =
     let same = plain_stays s.ledger.log b plain in
     let new = (takes_in s.ledger b).log in
     let owners : owners_of Now new ≡ owners_of Now s.ledger.log = same.owners (reading new) ∙ ap (owners_at s.ledger.log) same.reading in
