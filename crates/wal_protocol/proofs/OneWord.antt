@@ -77,17 +77,7 @@ not_both b holds fails = true≢false (sym holds ∙ fails)
 -- ---- the ledger's events
 
 pub one_register : (old : World) (id : BlobId) (until : ℕ) (w v : RegisterWord) (x y : World) → RegisterStep old id until w x → RegisterStep old id until v y → (w ≡ v) × (x ≡ y)
-one_register old id until registering.RefusedPast registering.RefusedPast x y a b = (refl, a.1 ∙ sym b.1)
-one_register old id until registering.RefusedPast registering.RefusedMoving x y a b = absurd (omega (arith, a.0, b.0))
-one_register old id until registering.RefusedPast (registering.Until j) x y a b = absurd (omega (arith, a.0, b.0.beyond))
-one_register old id until registering.RefusedMoving registering.RefusedPast x y a b = absurd (omega (arith, a.0, b.0))
-one_register old id until registering.RefusedMoving registering.RefusedMoving x y a b = (refl, a.2 ∙ sym b.2)
-one_register old id until registering.RefusedMoving (registering.Until j) x y a b = absurd (not_both _ a.1 b.0.allowed)
-one_register old id until (registering.Until k) registering.RefusedPast x y a b = absurd (omega (arith, b.0, a.0.beyond))
-one_register old id until (registering.Until k) registering.RefusedMoving x y a b = absurd (not_both _ b.1 a.0.allowed)
-one_register old id until (registering.Until k) (registering.Until j) x y a b =
-    let same = a.1 ∙ sym b.1 in
-    (ap registering.Until (a.2 ∙ ap (λ (w : World). until_of w.log id) same ∙ sym b.2), same)
+one_register old id until w v x y a b = grind arith
 
 -- ---- acknowledgements and attestations
 
@@ -113,42 +103,7 @@ module _ (kind : Kind) (old : World) (shard : ℕ) (id : BlobId) where
       (a.counted ∙ ap (λ (w : World). signer_count w.log id kind (writing w.log)) same ∙ sym b.counted, same)
 
   pub one_said : (w v : Said) (x y : World) → Says kind old shard id w x → Says kind old shard id v y → (w ≡ v) × (x ≡ y)
-  one_said Unregistered Unregistered x y a b = (refl, a.1 ∙ sym b.1)
-  one_said Unregistered Expires x y a b = absurd (not_both _ b.0 a.0)
-  one_said Unregistered Declined x y a b = absurd (open_not_dead b.0 a.0)
-  one_said Unregistered Already x y a b = absurd (open_not_dead b.0.0 a.0)
-  one_said Unregistered (Counted j) x y a b = absurd (open_not_dead b.0.first_time.open_to_claims a.0)
-  one_said Unregistered (Quorum j) x y a b = absurd (open_not_dead b.0.first_time.open_to_claims a.0)
-  one_said Expires Unregistered x y a b = absurd (not_both _ a.0 b.0)
-  one_said Expires Expires x y a b = (refl, a.2 ∙ sym b.2)
-  one_said Expires Declined x y a b = absurd (open_not_past b.0 a.1)
-  one_said Expires Already x y a b = absurd (open_not_past b.0.0 a.1)
-  one_said Expires (Counted j) x y a b = absurd (open_not_past b.0.first_time.open_to_claims a.1)
-  one_said Expires (Quorum j) x y a b = absurd (open_not_past b.0.first_time.open_to_claims a.1)
-  one_said Declined Unregistered x y a b = absurd (open_not_dead a.0 b.0)
-  one_said Declined Expires x y a b = absurd (open_not_past a.0 b.1)
-  one_said Declined Declined x y a b = (refl, a.2 ∙ sym b.2)
-  one_said Declined Already x y a b = absurd (posts_not b.0.1 a.1)
-  one_said Declined (Counted j) x y a b = absurd (posts_not b.0.may a.1)
-  one_said Declined (Quorum j) x y a b = absurd (posts_not b.0.may a.1)
-  one_said Already Unregistered x y a b = absurd (open_not_dead a.0.0 b.0)
-  one_said Already Expires x y a b = absurd (open_not_past a.0.0 b.1)
-  one_said Already Declined x y a b = absurd (posts_not a.0.1 b.1)
-  one_said Already Already x y a b = (refl, a.1 ∙ sym b.1)
-  one_said Already (Counted j) x y a b = absurd (claims_not j y b.0 a.0.2)
-  one_said Already (Quorum j) x y a b = absurd (claims_not j y b.0 a.0.2)
-  one_said (Counted i) Unregistered x y a b = absurd (open_not_dead a.0.first_time.open_to_claims b.0)
-  one_said (Counted i) Expires x y a b = absurd (open_not_past a.0.first_time.open_to_claims b.1)
-  one_said (Counted i) Declined x y a b = absurd (posts_not a.0.may b.1)
-  one_said (Counted i) Already x y a b = absurd (claims_not i x a.0 b.0.2)
-  one_said (Counted i) (Counted j) x y a b = let same = one_claim i j x y a.0 b.0 in (ap Counted same.0, same.1)
-  one_said (Counted i) (Quorum j) x y a b = absurd (let same = (one_claim i j x y a.0 b.0).0 in omega (arith, same, a.1, b.1))
-  one_said (Quorum i) Unregistered x y a b = absurd (open_not_dead a.0.first_time.open_to_claims b.0)
-  one_said (Quorum i) Expires x y a b = absurd (open_not_past a.0.first_time.open_to_claims b.1)
-  one_said (Quorum i) Declined x y a b = absurd (posts_not a.0.may b.1)
-  one_said (Quorum i) Already x y a b = absurd (claims_not i x a.0 b.0.2)
-  one_said (Quorum i) (Counted j) x y a b = absurd (let same = (one_claim j i y x b.0 a.0).0 in omega (arith, same, b.1, a.1))
-  one_said (Quorum i) (Quorum j) x y a b = let same = one_claim i j x y a.0 b.0 in (ap Quorum same.0, same.1)
+  one_said w v x y a b = grind (arith, open_not_dead, open_not_past, posts_not, claims_not, one_claim)
 
 abbrev ack_said : AckWord → Said
 ack_said acking.Unregistered = Unregistered
@@ -241,67 +196,19 @@ pub correct_not_ignored : (w : World) (side : Side) (shard : ℕ) → is_correct
 correct_not_ignored w side shard h ignored = not_not (among (side_of side w).faulty shard) (correct_present w side shard h).1 ignored.1
 
 pub one_forget : (old : World) (side : Side) (shard : ℕ) (id : BlobId) (w v : ForgetWord) (x y : World) → ForgetStep old side shard id w x → ForgetStep old side shard id v y → (w ≡ v) × (x ≡ y)
-one_forget old side shard id forgetting.Absent forgetting.Absent x y a b = (refl, a.1 ∙ sym b.1)
-one_forget old side shard id forgetting.Absent forgetting.Ignored x y a b = absurd (not_both _ b.0.0 a.0)
-one_forget old side shard id forgetting.Absent forgetting.Declined x y a b = absurd (correct_not_absent old side shard b.0 a.0)
-one_forget old side shard id forgetting.Absent forgetting.Done x y a b = absurd (correct_not_absent old side shard b.0 a.0)
-one_forget old side shard id forgetting.Ignored forgetting.Absent x y a b = absurd (not_both _ a.0.0 b.0)
-one_forget old side shard id forgetting.Ignored forgetting.Ignored x y a b = (refl, a.1 ∙ sym b.1)
-one_forget old side shard id forgetting.Ignored forgetting.Declined x y a b = absurd (correct_not_ignored old side shard b.0 a.0)
-one_forget old side shard id forgetting.Ignored forgetting.Done x y a b = absurd (correct_not_ignored old side shard b.0 a.0)
-one_forget old side shard id forgetting.Declined forgetting.Absent x y a b = absurd (correct_not_absent old side shard a.0 b.0)
-one_forget old side shard id forgetting.Declined forgetting.Ignored x y a b = absurd (correct_not_ignored old side shard a.0 b.0)
-one_forget old side shard id forgetting.Declined forgetting.Declined x y a b = (refl, a.2 ∙ sym b.2)
-one_forget old side shard id forgetting.Declined forgetting.Done x y a b = absurd (a.1 b.1)
-one_forget old side shard id forgetting.Done forgetting.Absent x y a b = absurd (correct_not_absent old side shard a.0 b.0)
-one_forget old side shard id forgetting.Done forgetting.Ignored x y a b = absurd (correct_not_ignored old side shard a.0 b.0)
-one_forget old side shard id forgetting.Done forgetting.Declined x y a b = absurd (b.1 a.1)
-one_forget old side shard id forgetting.Done forgetting.Done x y a b = (refl, a.2 ∙ sym b.2)
+one_forget old side shard id w v x y a b = grind (arith, correct_not_absent, correct_not_ignored)
 
 pub one_begin : (old : World) (owners faulty stays : List ℕ) (w v : BeginWord) (x y : World) → BeginStep old owners faulty stays w x → BeginStep old owners faulty stays v y → (w ≡ v) × (x ≡ y)
-one_begin old owners faulty stays beginning.RefusedMoving beginning.RefusedMoving x y a b = (refl, a.1 ∙ sym b.1)
-one_begin old owners faulty stays beginning.RefusedMoving beginning.RefusedLastEpoch x y a b = absurd (not_both _ a.0 b.0)
-one_begin old owners faulty stays beginning.RefusedMoving (beginning.Epoch j) x y a b = absurd (not_both _ a.0 b.0)
-one_begin old owners faulty stays beginning.RefusedLastEpoch beginning.RefusedMoving x y a b = absurd (not_both _ b.0 a.0)
-one_begin old owners faulty stays beginning.RefusedLastEpoch beginning.RefusedLastEpoch x y a b = (refl, a.2 ∙ sym b.2)
-one_begin old owners faulty stays beginning.RefusedLastEpoch (beginning.Epoch j) x y a b = absurd (omega (arith, a.1, b.1))
-one_begin old owners faulty stays (beginning.Epoch i) beginning.RefusedMoving x y a b = absurd (not_both _ b.0 a.0)
-one_begin old owners faulty stays (beginning.Epoch i) beginning.RefusedLastEpoch x y a b = absurd (omega (arith, a.1, b.1))
-one_begin old owners faulty stays (beginning.Epoch i) (beginning.Epoch j) x y a b = (ap beginning.Epoch (a.2 ∙ sym b.2), a.3 ∙ sym b.3)
+one_begin old owners faulty stays w v x y a b = grind arith
 
 pub ready_not : (old : World) (shard : ℕ) → MayBeReady old shard → IsUnready old shard → ⊥
 ready_not old shard may fails = fails.4 (may fails.0 fails.1 fails.2 fails.3)
 
 pub one_ready : (old : World) (shard : ℕ) (w v : ReadyWord) (x y : World) → ReadyStep old shard w x → ReadyStep old shard v y → (w ≡ v) × (x ≡ y)
-one_ready old shard readying.RefusedNotMoving readying.RefusedNotMoving x y a b = (refl, a.1 ∙ sym b.1)
-one_ready old shard readying.RefusedNotMoving readying.Declined x y a b = absurd (not_both _ b.0 a.0)
-one_ready old shard readying.RefusedNotMoving readying.Already x y a b = absurd (not_both _ b.0 a.0)
-one_ready old shard readying.RefusedNotMoving (readying.Counted j) x y a b = absurd (not_both _ b.0 a.0)
-one_ready old shard readying.Declined readying.RefusedNotMoving x y a b = absurd (not_both _ a.0 b.0)
-one_ready old shard readying.Declined readying.Declined x y a b = (refl, a.2 ∙ sym b.2)
-one_ready old shard readying.Declined readying.Already x y a b = absurd (ready_not old shard b.1 a.1)
-one_ready old shard readying.Declined (readying.Counted j) x y a b = absurd (ready_not old shard b.1 a.1)
-one_ready old shard readying.Already readying.RefusedNotMoving x y a b = absurd (not_both _ a.0 b.0)
-one_ready old shard readying.Already readying.Declined x y a b = absurd (ready_not old shard a.1 b.1)
-one_ready old shard readying.Already readying.Already x y a b = (refl, a.3 ∙ sym b.3)
-one_ready old shard readying.Already (readying.Counted j) x y a b = absurd (not_both _ a.2 b.2)
-one_ready old shard (readying.Counted i) readying.RefusedNotMoving x y a b = absurd (not_both _ a.0 b.0)
-one_ready old shard (readying.Counted i) readying.Declined x y a b = absurd (ready_not old shard a.1 b.1)
-one_ready old shard (readying.Counted i) readying.Already x y a b = absurd (not_both _ b.2 a.2)
-one_ready old shard (readying.Counted i) (readying.Counted j) x y a b =
-    let same = a.3 ∙ sym b.3 in
-    (ap readying.Counted (a.4 ∙ ap (λ (w : World). ready_total w.log) same ∙ sym b.4), same)
+one_ready old shard w v x y a b = grind (arith, ready_not)
 
 pub one_finish : (old : World) (w v : FinishWord) (x y : World) → FinishStep old w x → FinishStep old v y → (w ≡ v) × (x ≡ y)
-one_finish old finishing.RefusedNotMoving finishing.RefusedNotMoving x y a b = (refl, a.1 ∙ sym b.1)
-one_finish old finishing.RefusedNotMoving (finishing.Waiting j) x y a b = absurd (not_both _ b.0 a.0)
-one_finish old finishing.RefusedNotMoving (finishing.Epoch j) x y a b = absurd (not_both _ b.0 a.0)
-one_finish old (finishing.Waiting i) finishing.RefusedNotMoving x y a b = absurd (not_both _ a.0 b.0)
-one_finish old (finishing.Waiting i) (finishing.Waiting j) x y a b = (ap finishing.Waiting (a.1 ∙ sym b.1), a.3 ∙ sym b.3)
-one_finish old (finishing.Waiting i) (finishing.Epoch j) x y a b = absurd (omega (arith, a.1, a.2, b.1))
-one_finish old (finishing.Epoch i) finishing.RefusedNotMoving x y a b = absurd (not_both _ a.0 b.0)
-one_finish old (finishing.Epoch i) (finishing.Waiting j) x y a b = absurd (omega (arith, b.1, b.2, a.1))
-one_finish old (finishing.Epoch i) (finishing.Epoch j) x y a b = (ap finishing.Epoch (a.2 ∙ sym b.2), a.3 ∙ sym b.3)
+one_finish old w v x y a b = grind arith
 
 pub one_certificate : (w : World) (id : BlobId) (a b : CertificateWord) → CertificateStep w id a → CertificateStep w id b → a ≡ b
 one_certificate w id (certifying.Certified e i) (certifying.Certified g j) a b =
