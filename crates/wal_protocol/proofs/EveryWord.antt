@@ -7,7 +7,9 @@ use Rattle.wal_shape.specs.Owners.{among}
 use Rattle.wal_event.specs.declared.line.RegisterWord.{RegisterWord}
 use Rattle.wal_event.specs.declared.line.RegisterWord.TheVariants as registering
 use Rattle.wal_event.specs.declared.line.AckWord.{AckWord}
+use Rattle.wal_event.specs.declared.line.AckWord.TheVariants as acking
 use Rattle.wal_event.specs.declared.line.AttestWord.{AttestWord}
+use Rattle.wal_event.specs.declared.line.AttestWord.TheVariants as attesting
 use Rattle.wal_event.specs.declared.line.ForgetWord.{ForgetWord}
 use Rattle.wal_event.specs.declared.line.ForgetWord.TheVariants as forgetting
 use Rattle.wal_event.specs.declared.line.BeginWord.{BeginWord}
@@ -32,7 +34,6 @@ use Rattle.wal_protocol.specs.State.{World, side_of, writing_side, is_present, i
 use Rattle.wal_protocol.specs.inside.Saying.{Says}
 use Rattle.wal_protocol.specs.Step.{RegisterStep, IsIgnored, MayPost, Declines, ClaimStep, AckStep, AttestStep, ForgetStep, BeginStep, HoldsAll, MayBeReady, IsUnready, ReadyStep, FinishStep, CertificateStep}
 use Rattle.wal_protocol.specs.Total.{Possible}
-use Rattle.wal_protocol.proofs.OneWord.{said_ack, said_attest}
 
 -- ---- what is not impossible
 
@@ -100,27 +101,27 @@ module _ (kind : Kind) (old : World) (shard : ℕ) (id : BlobId) where
   every_said : Possible HasSaid
   every_said = ⊎_elim says_live (λ dead. surely (Unregistered, old, (dead, refl))) (truth (is_live old.log id))
 
-said_acks : (old : World) (shard : ℕ) (id : BlobId) (word : Said) (new : World) → Says Holds old shard id word new → AckStep old shard id (said_ack word) new
-said_acks old shard id Unregistered new is = is
-said_acks old shard id Expires new is = is
-said_acks old shard id Declined new is = is
-said_acks old shard id Already new is = is
-said_acks old shard id (Counted count) new is = is
-said_acks old shard id (Quorum count) new is = is
+acked : (old : World) (shard : ℕ) (id : BlobId) (word : Said) (new : World) → Says Holds old shard id word new → (word : AckWord) × (new : World) × AckStep old shard id word new
+acked old shard id Unregistered new is = (acking.Unregistered, new, is)
+acked old shard id Expires new is = (acking.Expires, new, is)
+acked old shard id Declined new is = (acking.Declined, new, is)
+acked old shard id Already new is = (acking.Already, new, is)
+acked old shard id (Counted count) new is = (acking.Counted count, new, is)
+acked old shard id (Quorum count) new is = (acking.Certified count, new, is)
 
-said_attests : (old : World) (shard : ℕ) (id : BlobId) (word : Said) (new : World) → Says Denies old shard id word new → AttestStep old shard id (said_attest word) new
-said_attests old shard id Unregistered new is = is
-said_attests old shard id Expires new is = is
-said_attests old shard id Declined new is = is
-said_attests old shard id Already new is = is
-said_attests old shard id (Counted count) new is = is
-said_attests old shard id (Quorum count) new is = is
+attested : (old : World) (shard : ℕ) (id : BlobId) (word : Said) (new : World) → Says Denies old shard id word new → (word : AttestWord) × (new : World) × AttestStep old shard id word new
+attested old shard id Unregistered new is = (attesting.Unregistered, new, is)
+attested old shard id Expires new is = (attesting.Expires, new, is)
+attested old shard id Declined new is = (attesting.Declined, new, is)
+attested old shard id Already new is = (attesting.Already, new, is)
+attested old shard id (Counted count) new is = (attesting.Counted count, new, is)
+attested old shard id (Quorum count) new is = (attesting.Invalid count, new, is)
 
 pub every_ack : (old : World) (shard : ℕ) (id : BlobId) → Possible ((word : AckWord) × (new : World) × AckStep old shard id word new)
-every_ack old shard id = then (every_said Holds old shard id) (λ said. surely (said_ack said.0, said.1, said_acks old shard id said.0 said.1 said.2))
+every_ack old shard id = then (every_said Holds old shard id) (λ said. surely (acked old shard id said.0 said.1 said.2))
 
 pub every_attest : (old : World) (shard : ℕ) (id : BlobId) → Possible ((word : AttestWord) × (new : World) × AttestStep old shard id word new)
-every_attest old shard id = then (every_said Denies old shard id) (λ said. surely (said_attest said.0, said.1, said_attests old shard id said.0 said.1 said.2))
+every_attest old shard id = then (every_said Denies old shard id) (λ said. surely (attested old shard id said.0 said.1 said.2))
 
 -- ---- shards
 

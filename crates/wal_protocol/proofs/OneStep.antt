@@ -1,5 +1,5 @@
 -- A step of the world leaves no choice but the two texts of a collision, where the crates below leave none; and so do runs.
-use Rattle.std.proofs.Common.{◌≡◌, ◌⊎◌, ℕ, Bool, true, false, cond, List, [], ◌∷◌, ◌++◌, Option, Some, None, refl, sym, ap, subst, ◌∙◌, ⊎_elim, inl, inr, true≢false}
+use Rattle.std.proofs.Common.{◌≡◌, ◌⊎◌, ℕ, Bool, true, false, cond, List, [], ◌∷◌, ◌++◌, Option, Some, None, refl, sym, ap, subst, ◌∙◌, arith, ⊎_elim, inl, inr, true≢false}
 use Rattle.std.specs.FinMap as finmap
 use Rattle.wal_shape.specs.declared.metadata.BlobId.{BlobId}
 use Rattle.wal_shape.specs.declared.axis.Axis.{Axis}
@@ -43,7 +43,7 @@ use Rattle.wal_protocol.specs.Rules.{Rules}
 use Rattle.wal_protocol.specs.Step.{RegisterStep, is_clash, PutsEach, letters, stored_at, AgreesWithFirst, Differs, WriteStep, WriteCollides, IsIgnored, IsPut, SendStep, AckStep, AttestStep, read_payloads, ReadCompletes, ReadStep, told_by, ReadCollides, two_metadata, other_answer, IsReplyOf, AreReplies, RecoveryRuns, RecoverStep, RecoverCollides, ForgetStep, BeginStep, ReadyStep, FinishStep, CertificateStep, Steps}
 use Rattle.wal_protocol.specs.Run.{GoesOn, is_collision, Runs}
 use Rattle.wal_protocol.specs.Determined.{SameLines, SameStep, SameUpToCollision}
-use Rattle.wal_protocol.proofs.OneWord.{Only, SamePut, both_collide, correct_not_absent, correct_not_ignored, not_both, one_ack, one_attest, one_begin, one_certificate, one_finish, one_forget, one_ready, one_register, same_step}
+use Rattle.wal_protocol.proofs.OneWord.{Only, SamePut, both_collide, correct_not_absent, correct_not_ignored, not_both, posts_not, ready_not, one_ack, one_attest, one_begin, one_certificate, one_finish, one_forget, one_ready, one_register, same_step}
 
 -- ---- puts
 
@@ -402,99 +402,22 @@ module _ (r : Rules) (only : Only r) where
 
   -- ---- any event
 
-  register_line : (old : World) (id : BlobId) (until : ℕ) (said : Line) (new : World) → Steps r old (Register id until) said new → (word : RegisterWord) × (said ≡ line.Register id word) × RegisterStep old id until word new
-  register_line old id until (line.Register i word) new step = (word, ap (λ (z : BlobId). line.Register z word) step.0, step.1)
-  register_line old id until (line.Collision left right) new step = absurd step.1
-  register_line old id until said new step = absurd step
-
-  ack_line : (old : World) (shard : ℕ) (id : BlobId) (said : Line) (new : World) → Steps r old (Ack shard id) said new → (word : AckWord) × (said ≡ line.Ack shard id word) × AckStep old shard id word new
-  ack_line old shard id (line.Ack s i word) new step = (word, ap (λ (z : ℕ). line.Ack z i word) step.0 ∙ ap (λ (z : BlobId). line.Ack shard z word) step.1, step.2)
-  ack_line old shard id (line.Collision left right) new step = absurd step.1
-  ack_line old shard id said new step = absurd step
-
-  attest_line : (old : World) (shard : ℕ) (id : BlobId) (said : Line) (new : World) → Steps r old (Attest shard id) said new → (word : AttestWord) × (said ≡ line.Attest shard id word) × AttestStep old shard id word new
-  attest_line old shard id (line.Attest s i word) new step = (word, ap (λ (z : ℕ). line.Attest z i word) step.0 ∙ ap (λ (z : BlobId). line.Attest shard z word) step.1, step.2)
-  attest_line old shard id (line.Collision left right) new step = absurd step.1
-  attest_line old shard id said new step = absurd step
-
-  forget_line : (old : World) (side : Side) (shard : ℕ) (id : BlobId) (said : Line) (new : World) → Steps r old (Forget side shard id) said new → (word : ForgetWord) × (said ≡ line.Forget shard id word) × ForgetStep old side shard id word new
-  forget_line old side shard id (line.Forget s i word) new step = (word, ap (λ (z : ℕ). line.Forget z i word) step.0 ∙ ap (λ (z : BlobId). line.Forget shard z word) step.1, step.2)
-  forget_line old side shard id (line.Collision left right) new step = absurd step.1
-  forget_line old side shard id said new step = absurd step
-
-  begin_line : (old : World) (owners faulty stays : List ℕ) (said : Line) (new : World) → Steps r old (Begin owners faulty stays) said new → (word : BeginWord) × (said ≡ line.Begin word) × BeginStep old owners faulty stays word new
-  begin_line old owners faulty stays (line.Begin word) new step = (word, refl, step)
-  begin_line old owners faulty stays (line.Collision left right) new step = absurd step.1
-  begin_line old owners faulty stays said new step = absurd step
-
-  ready_line : (old : World) (shard : ℕ) (said : Line) (new : World) → Steps r old (Ready shard) said new → (word : ReadyWord) × (said ≡ line.Ready shard word) × ReadyStep old shard word new
-  ready_line old shard (line.Ready s word) new step = (word, ap (λ (z : ℕ). line.Ready z word) step.0, step.1)
-  ready_line old shard (line.Collision left right) new step = absurd step.1
-  ready_line old shard said new step = absurd step
-
-  finish_line : (old : World) (said : Line) (new : World) → Steps r old Finish said new → (word : FinishWord) × (said ≡ line.Finish word) × FinishStep old word new
-  finish_line old (line.Finish word) new step = (word, refl, step)
-  finish_line old (line.Collision left right) new step = absurd step.1
-  finish_line old said new step = absurd step
-
-  certificate_line : (old : World) (id : BlobId) (said : Line) (new : World) → Steps r old (Certificate id) said new → (word : CertificateWord) × (said ≡ line.Certificate id word) × CertificateStep old id word × (new ≡ old)
-  certificate_line old id (line.Certificate i word) new step = (word, ap (λ (z : BlobId). line.Certificate z word) step.0, step.1, step.2)
-  certificate_line old id (line.Collision left right) new step = absurd step.1
-  certificate_line old id said new step = absurd step
-
-  holders_line : (old : World) (id : BlobId) (said : Line) (new : World) → Steps r old (Holders id) said new → (said ≡ line.Holders id (holders_word.Count (holders old id))) × (new ≡ old)
-  holders_line old id (line.Holders i (holders_word.Count count)) new step =
-      (ap (λ (z : BlobId). line.Holders z (holders_word.Count count)) step.0 ∙ ap (λ (k : ℕ). line.Holders id (holders_word.Count k)) step.1, step.2)
-  holders_line old id (line.Collision left right) new step = absurd step.1
-  holders_line old id said new step = absurd step
-
-  -- two lines of one kind
-  same_word : {W : Type 0} (to_line : W → Line) (w v : W) (a b : Line) (x y : World) → a ≡ to_line w → b ≡ to_line v → (w ≡ v) × (x ≡ y) → SameStep a b x y
-  same_word to_line w v a b x y is_a is_b same = same_step a b x y (is_a ∙ ap to_line same.0 ∙ sym is_b) same.1
-
   -- THE STEP leaves no choice but the texts of a collision
   pub one_step : (old : World) (event : Event) (a b : Line) (x y : World) → Steps r old event a x → Steps r old event b y → SameStep a b x y
-  one_step old (Register id until) a b x y p q =
-      let is_a = register_line old id until a x p in
-      let is_b = register_line old id until b y q in
-      same_word (λ (w : RegisterWord). line.Register id w) is_a.0 is_b.0 a b x y is_a.1 is_b.1 (one_register old id until is_a.0 is_b.0 x y is_a.2 is_b.2)
-  one_step old (Ack shard id) a b x y p q =
-      let is_a = ack_line old shard id a x p in
-      let is_b = ack_line old shard id b y q in
-      same_word (λ (w : AckWord). line.Ack shard id w) is_a.0 is_b.0 a b x y is_a.1 is_b.1 (one_ack old shard id is_a.0 is_b.0 x y is_a.2 is_b.2)
-  one_step old (Attest shard id) a b x y p q =
-      let is_a = attest_line old shard id a x p in
-      let is_b = attest_line old shard id b y q in
-      same_word (λ (w : AttestWord). line.Attest shard id w) is_a.0 is_b.0 a b x y is_a.1 is_b.1 (one_attest old shard id is_a.0 is_b.0 x y is_a.2 is_b.2)
-  one_step old (Forget side shard id) a b x y p q =
-      let is_a = forget_line old side shard id a x p in
-      let is_b = forget_line old side shard id b y q in
-      same_word (λ (w : ForgetWord). line.Forget shard id w) is_a.0 is_b.0 a b x y is_a.1 is_b.1 (one_forget old side shard id is_a.0 is_b.0 x y is_a.2 is_b.2)
-  one_step old (Begin owners faulty stays) a b x y p q =
-      let is_a = begin_line old owners faulty stays a x p in
-      let is_b = begin_line old owners faulty stays b y q in
-      same_word (λ (w : BeginWord). line.Begin w) is_a.0 is_b.0 a b x y is_a.1 is_b.1 (one_begin old owners faulty stays is_a.0 is_b.0 x y is_a.2 is_b.2)
-  one_step old (Ready shard) a b x y p q =
-      let is_a = ready_line old shard a x p in
-      let is_b = ready_line old shard b y q in
-      same_word (λ (w : ReadyWord). line.Ready shard w) is_a.0 is_b.0 a b x y is_a.1 is_b.1 (one_ready old shard is_a.0 is_b.0 x y is_a.2 is_b.2)
-  one_step old Finish a b x y p q =
-      let is_a = finish_line old a x p in
-      let is_b = finish_line old b y q in
-      same_word (λ (w : FinishWord). line.Finish w) is_a.0 is_b.0 a b x y is_a.1 is_b.1 (one_finish old is_a.0 is_b.0 x y is_a.2 is_b.2)
+  one_step old (Register id until) a b x y p q = grind arith
+  one_step old (Ack shard id) a b x y p q = grind (arith, posts_not)
+  one_step old (Attest shard id) a b x y p q = grind (arith, posts_not)
+  one_step old (Forget side shard id) a b x y p q = grind (arith, correct_not_absent, correct_not_ignored)
+  one_step old (Begin owners faulty stays) a b x y p q = grind arith
+  one_step old (Ready shard) a b x y p q = grind (arith, ready_not)
+  one_step old Finish a b x y p q = grind arith
   one_step old (Write blob to) a b x y p q = one_wrote old blob to a b x y (wrote old blob to a x p) (wrote old blob to b y q)
   one_step old (Send side shard bytes) a b x y p q = one_sent old side shard bytes a b x y (sent old side shard bytes a x p) (sent old side shard bytes b y q)
   one_step old (Read id replies) a b x y p q = one_told old id replies a b x y (told old id replies a x p) (told old id replies b y q)
   one_step old (Recover side shard axis id replies) a b x y p q =
       one_found old side shard axis id replies a b x y (found old side shard axis id replies a x p) (found old side shard axis id replies b y q)
-  one_step old (Certificate id) a b x y p q =
-      let is_a = certificate_line old id a x p in
-      let is_b = certificate_line old id b y q in
-      same_word (λ (w : CertificateWord). line.Certificate id w) is_a.0 is_b.0 a b x y is_a.1 is_b.1 (one_certificate old id is_a.0 is_b.0 is_a.2 is_b.2, is_a.3 ∙ sym is_b.3)
-  one_step old (Holders id) a b x y p q =
-      let is_a = holders_line old id a x p in
-      let is_b = holders_line old id b y q in
-      same_step a b x y (is_a.0 ∙ sym is_b.0) (is_a.1 ∙ sym is_b.1)
+  one_step old (Certificate id) a b x y p q = grind (arith, one_certificate)
+  one_step old (Holders id) a b x y p q = grind arith
 
   -- ---- runs
 

@@ -81,103 +81,15 @@ one_register old id until w v x y a b = grind arith
 
 -- ---- acknowledgements and attestations
 
-module _ (kind : Kind) (old : World) (shard : ℕ) (id : BlobId) where
-  -- a blob that is open is live, and outlasts the epoch
-  open_not_dead : IsOpen old.log id → is_live old.log id ≡ false → ⊥
-  open_not_dead is dead = not_both _ is.live dead
-
-  open_not_past : IsOpen old.log id → until_of old.log id ≤ writing old.log → ⊥
-  open_not_past is past = omega (arith, is.outlasts, past)
-
-  -- a node that may say so does not decline
-  posts_not : MayPost old kind shard id → Declines old kind shard id → ⊥
-  posts_not may fails = not_both _ (may fails.0 fails.1 fails.2 fails.3) fails.4
-
-  -- and says so once
-  pub claims_not : (count : ℕ) (new : World) → ClaimStep old kind shard id count new → signers old.log id kind (writing old.log) shard ≡ true → ⊥
-  claims_not count new claims before = not_both _ before claims.first_time.first_time
-
-  pub one_claim : (i j : ℕ) (x y : World) → ClaimStep old kind shard id i x → ClaimStep old kind shard id j y → (i ≡ j) × (x ≡ y)
-  one_claim i j x y a b =
-      let same = a.state ∙ sym b.state in
-      (a.counted ∙ ap (λ (w : World). signer_count w.log id kind (writing w.log)) same ∙ sym b.counted, same)
-
-  pub one_said : (w v : Said) (x y : World) → Says kind old shard id w x → Says kind old shard id v y → (w ≡ v) × (x ≡ y)
-  one_said w v x y a b = grind (arith, open_not_dead, open_not_past, posts_not, claims_not, one_claim)
-
-abbrev ack_said : AckWord → Said
-ack_said acking.Unregistered = Unregistered
-ack_said acking.Expires = Expires
-ack_said acking.Declined = Declined
-ack_said acking.Already = Already
-ack_said (acking.Counted k) = Counted k
-ack_said (acking.Certified k) = Quorum k
-
-abbrev pub said_ack : Said → AckWord
-said_ack Unregistered = acking.Unregistered
-said_ack Expires = acking.Expires
-said_ack Declined = acking.Declined
-said_ack Already = acking.Already
-said_ack (Counted k) = acking.Counted k
-said_ack (Quorum k) = acking.Certified k
-
-pub ack_is : (w : AckWord) → said_ack (ack_said w) ≡ w
-ack_is acking.Unregistered = refl
-ack_is acking.Expires = refl
-ack_is acking.Declined = refl
-ack_is acking.Already = refl
-ack_is (acking.Counted k) = refl
-ack_is (acking.Certified k) = refl
-
-pub ack_says : (old : World) (shard : ℕ) (id : BlobId) (w : AckWord) (new : World) → AckStep old shard id w new → Says Holds old shard id (ack_said w) new
-ack_says old shard id acking.Unregistered new a = a
-ack_says old shard id acking.Expires new a = a
-ack_says old shard id acking.Declined new a = a
-ack_says old shard id acking.Already new a = a
-ack_says old shard id (acking.Counted k) new a = a
-ack_says old shard id (acking.Certified k) new a = a
+-- a node that may say so does not decline
+pub posts_not : (kind : Kind) (old : World) (shard : ℕ) (id : BlobId) → MayPost old kind shard id → Declines old kind shard id → ⊥
+posts_not kind old shard id may fails = not_both _ (may fails.0 fails.1 fails.2 fails.3) fails.4
 
 pub one_ack : (old : World) (shard : ℕ) (id : BlobId) (w v : AckWord) (x y : World) → AckStep old shard id w x → AckStep old shard id v y → (w ≡ v) × (x ≡ y)
-one_ack old shard id w v x y a b =
-    let same = one_said Holds old shard id (ack_said w) (ack_said v) x y (ack_says old shard id w x a) (ack_says old shard id v y b) in
-    (sym (ack_is w) ∙ ap said_ack same.0 ∙ ack_is v, same.1)
-
-abbrev attest_said : AttestWord → Said
-attest_said attesting.Unregistered = Unregistered
-attest_said attesting.Expires = Expires
-attest_said attesting.Declined = Declined
-attest_said attesting.Already = Already
-attest_said (attesting.Counted k) = Counted k
-attest_said (attesting.Invalid k) = Quorum k
-
-abbrev pub said_attest : Said → AttestWord
-said_attest Unregistered = attesting.Unregistered
-said_attest Expires = attesting.Expires
-said_attest Declined = attesting.Declined
-said_attest Already = attesting.Already
-said_attest (Counted k) = attesting.Counted k
-said_attest (Quorum k) = attesting.Invalid k
-
-pub attest_is : (w : AttestWord) → said_attest (attest_said w) ≡ w
-attest_is attesting.Unregistered = refl
-attest_is attesting.Expires = refl
-attest_is attesting.Declined = refl
-attest_is attesting.Already = refl
-attest_is (attesting.Counted k) = refl
-attest_is (attesting.Invalid k) = refl
-
-pub attest_says : (old : World) (shard : ℕ) (id : BlobId) (w : AttestWord) (new : World) → AttestStep old shard id w new → Says Denies old shard id (attest_said w) new
-attest_says old shard id attesting.Unregistered new a = a
-attest_says old shard id attesting.Expires new a = a
-attest_says old shard id attesting.Declined new a = a
-attest_says old shard id attesting.Already new a = a
-attest_says old shard id (attesting.Counted k) new a = a
-attest_says old shard id (attesting.Invalid k) new a = a
+one_ack old shard id w v x y a b = grind (arith, posts_not)
 
 pub one_attest : (old : World) (shard : ℕ) (id : BlobId) (w v : AttestWord) (x y : World) → AttestStep old shard id w x → AttestStep old shard id v y → (w ≡ v) × (x ≡ y)
-one_attest old shard id w v x y a b =
-    let same = one_said Denies old shard id (attest_said w) (attest_said v) x y (attest_says old shard id w x a) (attest_says old shard id v y b) in
-    (sym (attest_is w) ∙ ap said_attest same.0 ∙ attest_is v, same.1)
+one_attest old shard id w v x y a b = grind (arith, posts_not)
 
 -- ---- forgetting, and the change of the epoch
 
