@@ -44,7 +44,26 @@ use Rattle.wal_protocol.specs.Rules.{Rules}
 use Rattle.wal_protocol.specs.Step.{RegisterStep, is_clash, PutsEach, letters, stored_at, AgreesWithFirst, Differs, WriteStep, WriteCollides, IsIgnored, IsPut, SendStep, AckStep, AttestStep, read_payloads, ReadCompletes, ReadStep, told_by, ReadCollides, two_metadata, other_answer, IsReplyOf, AreReplies, RecoveryRuns, RecoverStep, RecoverCollides, ForgetStep, BeginStep, ReadyStep, FinishStep, CertificateStep, Steps}
 use Rattle.wal_protocol.specs.Run.{GoesOn, is_collision, Runs}
 use Rattle.wal_protocol.specs.Determined.{SameLines, SameStep, SameUpToCollision}
-use Rattle.wal_protocol.proofs.OneWord.{Only, SamePut, both_collide, correct_not_absent, correct_not_ignored, not_both, posts_not, ready_not, one_ack, one_attest, one_begin, one_certificate, one_finish, one_forget, one_ready, one_register, same_step}
+use Rattle.wal_protocol.proofs.OneWord.{Only, SamePut, one_certificate}
+
+-- the word that tells an answer
+abbrev pub sent_word : PutAnswer → SendWord
+sent_word putting.Unregistered = sending.Unregistered
+sent_word putting.NoMetadata = sending.NoMetadata
+sent_word putting.Unverified = sending.Unverified
+sent_word putting.Held = sending.Held
+sent_word _ = sending.Stored
+
+-- what is held then
+abbrev pub sent_state : World → Side → ℕ → PutAnswer → Contents → World
+sent_state old side shard putting.Stored contents = keeps old side shard contents
+sent_state old side shard _ contents = old
+
+-- what is held after a word of a recovery that ran
+abbrev pub recovered_state : World → Side → ℕ → RecoverWord → Contents → World
+recovered_state old side shard recovering.NoMetadata contents = old
+recovered_state old side shard (recovering.Short have need) contents = old
+recovered_state old side shard _ contents = keeps old side shard contents
 
 -- an event comes to a word and its state, or to a collision
 data Comes {W : Type 0} (to_line : W → Line) (Says : W → World → Type 0) (Collides : World → Type 0) (said : Line) (new : World) : Type 0 where
@@ -120,19 +139,6 @@ module _ (r : Rules) (only : Only r) where
 
   -- ---- bytes sent
 
-  -- the word that tells an answer
-  abbrev sent_word : PutAnswer → SendWord
-  sent_word putting.Unregistered = sending.Unregistered
-  sent_word putting.NoMetadata = sending.NoMetadata
-  sent_word putting.Unverified = sending.Unverified
-  sent_word putting.Held = sending.Held
-  sent_word _ = sending.Stored
-
-  -- what is held then
-  abbrev sent_state : World → Side → ℕ → PutAnswer → Contents → World
-  sent_state old side shard putting.Stored contents = keeps old side shard contents
-  sent_state old side shard _ contents = old
-
   -- what an event of bytes sent comes to
   pub data Sent (old : World) (side : Side) (shard : ℕ) (bytes : List ℕ) (said : Line) (new : World) : Type 0 where
     absent : is_present side old ≡ false → said ≡ line.Send shard sending.Absent → new ≡ old → Sent old side shard bytes said new
@@ -154,7 +160,7 @@ module _ (r : Rules) (only : Only r) where
   sent old side shard bytes (line.Send s word) new step =
       sent_by old side shard bytes word (line.Send s word) new (ap (λ (k : ℕ). line.Send k word) step.0) step.1
   sent old side shard bytes (line.Collision left right) new step =
-      put step.1.2 step.1.0 step.1.1 step.1.4 (sym step.1.3) (λ goes. absurd (not_both _ step.1.3 goes)) (λ clash. step.1.5)
+      put step.1.2 step.1.0 step.1.1 step.1.4 (sym step.1.3) (λ goes. absurd (true≢false (sym step.1.3 ∙ goes))) (λ clash. step.1.5)
   sent old side shard bytes said new step = absurd step
 
   one_put : (old : World) (side : Side) (shard : ℕ) (bytes : List ℕ) (a b : PutAnswer) (f g : Frame) (x y : Contents) → IsPut r old side shard bytes a f x
@@ -226,12 +232,6 @@ module _ (r : Rules) (only : Only r) where
       ∙ ap (λ (x : List (List ℕ)). x ++ p.1) (one_reply old id axis shard one p.0 q.0 p.2 q.2)
       ∙ ap (λ (x : List (List ℕ)). q.0 ++ x) (one_replies old id axis shard more p.1 q.1 p.3 q.3)
       ∙ sym q.4
-
-  -- what is held after a word of a recovery that ran
-  abbrev recovered_state : World → Side → ℕ → RecoverWord → Contents → World
-  recovered_state old side shard recovering.NoMetadata contents = old
-  recovered_state old side shard (recovering.Short have need) contents = old
-  recovered_state old side shard _ contents = keeps old side shard contents
 
   -- the word of one that does not run
   abbrev halted : World → Side → ℕ → BlobId → Option RecoverWord

@@ -162,31 +162,17 @@ module _ (r : Rules) (laws : Laws r) where
           → (p : Parts) × (is_some p.secondary ≡ true) × Helped r id Primary shard run.payloads s p
       one s (side, correct, has, here) = (held (side_of side old) s id, has, helped old id Primary shard replies run.payloads side s facts run.replied correct here)
 
-  absent_not_correct : (w : World) (side : Side) (shard : ℕ) → is_correct side w shard ≡ true → is_present side w ≡ false → ⊥
-  absent_not_correct w side shard correct absent = let e : true ≡ false = sym (correct_parts w side shard correct).0 ∙ absent in cc
-
-  faulty_not_correct : (w : World) (side : Side) (shard : ℕ) → is_correct side w shard ≡ true → among (side_of side w).faulty shard ≡ true → ⊥
-  faulty_not_correct w side shard correct out = let e : true ≡ false = sym (correct_parts w side shard correct).1 ∙ ap not out in cc
-
   pub recovered : (old : World) (event : Event) (said : Line) (new : World) → Facts r old → IsEventWithin (committee_size old.log.f) event → Steps r old event said new → IsRecoveryComplete old event said new
-  recovered old (Recover at shard Secondary id replies) (line.Recover s a i recovering.Absent) new facts fit step = λ correct live hears. absurd (absent_not_correct old at shard correct step.3.0)
-  recovered old (Recover at shard Secondary id replies) (line.Recover s a i recovering.Ignored) new facts fit step = λ correct live hears. absurd (faulty_not_correct old at shard correct step.3.0.1)
-  recovered old (Recover at shard Secondary id replies) (line.Recover s a i recovering.Unregistered) new facts fit step = λ correct live hears. let e : true ≡ false = sym live ∙ step.3.1 in cc
-  recovered old (Recover at shard Secondary id replies) (line.Recover s a i recovering.NoMetadata) new facts fit step = λ correct live hears. absurd (secondary_word old at shard id replies recovering.NoMetadata step.3.0 facts fit.0 hears step.3.1)
-  recovered old (Recover at shard Secondary id replies) (line.Recover s a i (recovering.Short have need)) new facts fit step = λ correct live hears. absurd (secondary_word old at shard id replies (recovering.Short have need) step.3.0 facts fit.0 hears step.3.1)
-  recovered old (Recover at shard Secondary id replies) (line.Recover s a i (recovering.Sliver bytes)) new facts fit step = λ correct live hears. tt
-  recovered old (Recover at shard Secondary id replies) (line.Recover s a i recovering.Inconsistent) new facts fit step = λ correct live hears. tt
-  recovered old (Recover at shard Secondary id replies) (line.Recover s a i recovering.Proof) new facts fit step = λ correct live hears. tt
+  recovered old (Recover at shard Secondary id replies) (line.Recover s a i recovering.Absent) new facts fit step = λ correct live hears. grind arith
+  recovered old (Recover at shard Secondary id replies) (line.Recover s a i recovering.Ignored) new facts fit step = λ correct live hears. grind arith
+  recovered old (Recover at shard Secondary id replies) (line.Recover s a i recovering.Unregistered) new facts fit step = λ correct live hears. grind arith
+  recovered old (Recover at shard Secondary id replies) (line.Recover s a i word) new facts fit step = λ correct live hears. secondary_word old at shard id replies word step.3.0 facts fit.0 hears step.3.1
   recovered old (Recover at shard Secondary id replies) (line.Collision left right) new facts fit step = λ correct live hears. tt
   recovered old (Recover at shard Secondary id replies) said new facts fit step = λ correct live hears. absurd step
-  recovered old (Recover at shard Primary id replies) (line.Recover s a i recovering.Absent) new facts fit step = λ correct live hears. absurd (absent_not_correct old at shard correct step.3.0)
-  recovered old (Recover at shard Primary id replies) (line.Recover s a i recovering.Ignored) new facts fit step = λ correct live hears. absurd (faulty_not_correct old at shard correct step.3.0.1)
-  recovered old (Recover at shard Primary id replies) (line.Recover s a i recovering.Unregistered) new facts fit step = λ correct live hears. let e : true ≡ false = sym live ∙ step.3.1 in cc
-  recovered old (Recover at shard Primary id replies) (line.Recover s a i recovering.NoMetadata) new facts fit step = λ correct live hears. absurd (primary_word old at shard id replies recovering.NoMetadata step.3.0 facts fit.0 hears step.3.1)
-  recovered old (Recover at shard Primary id replies) (line.Recover s a i (recovering.Short have need)) new facts fit step = λ correct live hears. absurd (primary_word old at shard id replies (recovering.Short have need) step.3.0 facts fit.0 hears step.3.1)
-  recovered old (Recover at shard Primary id replies) (line.Recover s a i (recovering.Sliver bytes)) new facts fit step = λ correct live hears. tt
-  recovered old (Recover at shard Primary id replies) (line.Recover s a i recovering.Inconsistent) new facts fit step = λ correct live hears. tt
-  recovered old (Recover at shard Primary id replies) (line.Recover s a i recovering.Proof) new facts fit step = λ correct live hears. absurd (primary_word old at shard id replies recovering.Proof step.3.0 facts fit.0 hears step.3.1)
+  recovered old (Recover at shard Primary id replies) (line.Recover s a i recovering.Absent) new facts fit step = λ correct live hears. grind arith
+  recovered old (Recover at shard Primary id replies) (line.Recover s a i recovering.Ignored) new facts fit step = λ correct live hears. grind arith
+  recovered old (Recover at shard Primary id replies) (line.Recover s a i recovering.Unregistered) new facts fit step = λ correct live hears. grind arith
+  recovered old (Recover at shard Primary id replies) (line.Recover s a i word) new facts fit step = λ correct live hears. primary_word old at shard id replies word step.3.0 facts fit.0 hears step.3.1
   recovered old (Recover at shard Primary id replies) (line.Collision left right) new facts fit step = λ correct live hears. tt
   recovered old (Recover at shard Primary id replies) said new facts fit step = λ correct live hears. absurd step
   recovered old event said new facts fit step = tt

@@ -121,12 +121,15 @@ module _ (r : Rules) (laws : Laws r) where
   facts_side : (old : World) (side : Side) (d : Committee) → Facts r old → GrownFrom r (side_of side old) d → Facts r (with_side side old d)
   facts_side old side d facts grown = subst (Facts r) (same_answers old side d) (facts_sided old side d old.answers facts grown facts.answers)
 
+  -- a step that changes nothing
+  same_facts : (old new : World) → Facts r old → new ≡ old → Facts r new
+  same_facts old new facts same = subst (Facts r) (sym same) facts
+
   registers : (old : World) (id : BlobId) (until : ℕ) (word : RegisterWord) (new : World) → Facts r old → RegisterStep old id until word new → Facts r new
-  registers old id until registering.RefusedPast new facts (past, same) = subst (Facts r) (sym same) facts
-  registers old id until registering.RefusedMoving new facts (beyond, moving, same) = subst (Facts r) (sym same) facts
   registers old id until (registering.Until most) new facts (may, is, shown) =
       subst (Facts r) (sym is)
       (facts_entered r old (entry.Register id until) (λ i kind s. ⊥) (λ s. ⊥) facts (register_enters old.log id until facts.orderly may) (λ i kind s none lt correct. absurd none) (λ i s none lt correct must. absurd none))
+  registers old id until word new facts is = same_facts old new facts assumption
 
   writes : (old : World) (blob to : List ℕ) (id : BlobId) (count : ℕ) (new : World) → Facts r old → WriteStep r old blob to id count new → Facts r new
   writes old blob to id count new facts w =
@@ -141,17 +144,11 @@ module _ (r : Rules) (laws : Laws r) where
       (facts_side old (writing_side old) w.write.mid facts (grown_each r laws old.log (side_of (writing_side old) old) w.write.mid _ w.clashed (facts.sound (writing_side old)) w.write.puts))
 
   sends : (old : World) (side : Side) (shard : ℕ) (bytes : List ℕ) (word : SendWord) (new : World) → Facts r old → SendStep r old side shard bytes word new → Facts r new
-  sends old side shard bytes sending.Absent new facts (absent, same) = subst (Facts r) (sym same) facts
-  sends old side shard bytes sending.Ignored new facts (ignored, same) = subst (Facts r) (sym same) facts
-  sends old side shard bytes sending.Malformed new facts (correct, none, same) = subst (Facts r) (sym same) facts
-  sends old side shard bytes sending.Unregistered new facts (frame, parts, is, same) = subst (Facts r) (sym same) facts
-  sends old side shard bytes sending.NoMetadata new facts (frame, parts, is, same) = subst (Facts r) (sym same) facts
-  sends old side shard bytes sending.Unverified new facts (frame, parts, is, same) = subst (Facts r) (sym same) facts
-  sends old side shard bytes sending.Held new facts (frame, parts, is, same) = subst (Facts r) (sym same) facts
   sends old side shard bytes sending.Stored new facts (frame, contents, is, state) =
       subst (Facts r) (sym state)
       (facts_side old side (with_contents (side_of side old) shard contents) facts
       (grown_put r laws old.log (side_of side old) shard frame putting.Stored contents (facts.sound side) is.2))
+  sends old side shard bytes word new facts is = same_facts old new facts assumption
 
   -- what backs a claim is what the facts keep
   backed_by : (old : World) (side : Side) (kind : Kind) (s : ℕ) (id : BlobId) → Facts r old → backs kind (held (side_of side old) s id) ≡ true → backed kind (held (side_of side old) s id) ≡ true
@@ -186,20 +183,14 @@ module _ (r : Rules) (laws : Laws r) where
           subst (λ (j : BlobId). backed k (held (side_of side old) s j) ≡ true) (sym same_i) (subst (λ (l : Kind). backed l (held (side_of side old) s id) ≡ true) (sym same_k) (backed_by old side kind s id facts backs_it))
 
   acks : (old : World) (shard : ℕ) (id : BlobId) (word : AckWord) (new : World) → Facts r old → shard < committee_size old.log.f → AckStep old shard id word new → Facts r new
-  acks old shard id acking.Unregistered new facts lt (dead, same) = subst (Facts r) (sym same) facts
-  acks old shard id acking.Expires new facts lt (live, short, same) = subst (Facts r) (sym same) facts
-  acks old shard id acking.Declined new facts lt (may, declines, same) = subst (Facts r) (sym same) facts
-  acks old shard id acking.Already new facts lt (before, same) = subst (Facts r) (sym same) facts
   acks old shard id (acking.Counted count) new facts lt (c, few) = claims old kinds.Holds shard id count new facts lt c
   acks old shard id (acking.Certified count) new facts lt (c, many) = claims old kinds.Holds shard id count new facts lt c
+  acks old shard id word new facts lt is = same_facts old new facts assumption
 
   attests : (old : World) (shard : ℕ) (id : BlobId) (word : AttestWord) (new : World) → Facts r old → shard < committee_size old.log.f → AttestStep old shard id word new → Facts r new
-  attests old shard id attesting.Unregistered new facts lt (dead, same) = subst (Facts r) (sym same) facts
-  attests old shard id attesting.Expires new facts lt (live, short, same) = subst (Facts r) (sym same) facts
-  attests old shard id attesting.Declined new facts lt (may, declines, same) = subst (Facts r) (sym same) facts
-  attests old shard id attesting.Already new facts lt (before, same) = subst (Facts r) (sym same) facts
   attests old shard id (attesting.Counted count) new facts lt (c, few) = claims old kinds.Denies shard id count new facts lt c
   attests old shard id (attesting.Invalid count) new facts lt (c, many) = claims old kinds.Denies shard id count new facts lt c
+  attests old shard id word new facts lt is = same_facts old new facts assumption
 
   completes : (old : World) (id : BlobId) (replies : List Reply) (word : ReadWord) (told : Verdict) (new : World) → told_by word ≡ Some told → Facts r old → ReadCompletes r old id replies word told new → Facts r new
   completes old id replies word told new tells facts c =
@@ -210,8 +201,7 @@ module _ (r : Rules) (laws : Laws r) where
   reads : (old : World) (id : BlobId) (replies : List Reply) (word : ReadWord) (new : World) → Facts r old → ReadStep r old id replies word new → Facts r new
   reads old id replies (reading_of.Bytes bytes) new facts c = completes old id replies (reading_of.Bytes bytes) (verdict.Bytes bytes) new refl facts c
   reads old id replies reading_of.Reject new facts c = completes old id replies reading_of.Reject verdict.Reject new refl facts c
-  reads old id replies (reading_of.Short have need) new facts (is, same) = subst (Facts r) (sym same) facts
-  reads old id replies reading_of.NoMetadata new facts (is, same) = subst (Facts r) (sym same) facts
+  reads old id replies word new facts is = same_facts old new facts assumption
 
   gains : (old : World) (side : Side) (shard : ℕ) (axis : Axis) (id : BlobId) (replies : List Reply) (word : RecoverWord) (new : World) → Facts r old → Gains r old side shard axis id replies word new → Facts r new
   gains old side shard axis id replies word new facts (contents, run, state) =
@@ -224,19 +214,15 @@ module _ (r : Rules) (laws : Laws r) where
       (firmer_contents c shard contents (laws.recover_adds id shard axis before contents run.payloads word run.recovers))))
 
   recovers : (old : World) (side : Side) (shard : ℕ) (axis : Axis) (id : BlobId) (replies : List Reply) (word : RecoverWord) (new : World) → Facts r old → RecoverStep r old side shard axis id replies word new → Facts r new
-  recovers old side shard axis id replies recovering.Absent new facts (absent, same) = subst (Facts r) (sym same) facts
-  recovers old side shard axis id replies recovering.Ignored new facts (ignored, same) = subst (Facts r) (sym same) facts
-  recovers old side shard axis id replies recovering.Unregistered new facts (correct, dead, same) = subst (Facts r) (sym same) facts
-  recovers old side shard axis id replies recovering.NoMetadata new facts (parts, run, same) = subst (Facts r) (sym same) facts
-  recovers old side shard axis id replies (recovering.Short have need) new facts (parts, run, same) = subst (Facts r) (sym same) facts
   recovers old side shard axis id replies (recovering.Sliver bytes) new facts g = gains old side shard axis id replies (recovering.Sliver bytes) new facts g
   recovers old side shard axis id replies recovering.Inconsistent new facts g = gains old side shard axis id replies recovering.Inconsistent new facts g
   recovers old side shard axis id replies recovering.Proof new facts g = gains old side shard axis id replies recovering.Proof new facts g
+  recovers old side shard axis id replies word new facts is = same_facts old new facts assumption
 
   forgets : (old : World) (side : Side) (shard : ℕ) (id : BlobId) (word : ForgetWord) (new : World) → Facts r old → ForgetStep old side shard id word new → Facts r new
-  forgets old side shard id forgetting.Absent new facts (absent, same) = subst (Facts r) (sym same) facts
-  forgets old side shard id forgetting.Ignored new facts (ignored, same) = subst (Facts r) (sym same) facts
-  forgets old side shard id forgetting.Declined new facts (correct, none, same) = subst (Facts r) (sym same) facts
+  forgets old side shard id forgetting.Absent new facts is = same_facts old new facts assumption
+  forgets old side shard id forgetting.Ignored new facts is = same_facts old new facts assumption
+  forgets old side shard id forgetting.Declined new facts is = same_facts old new facts assumption
   forgets old side shard id forgetting.Done new facts (correct, may, state) =
       let c = side_of side old in
       subst (Facts r) (sym state)
@@ -261,24 +247,20 @@ module _ (r : Rules) (laws : Laws r) where
           (firmer_forgotten (parts_at (contents_of c s) q) (subst (λ (j : BlobId). has_proof (parts_at (contents_of c s) j) ≡ true) (sym e) proof)))
 
   begins : (old : World) (owners faulty stays : List ℕ) (word : BeginWord) (new : World) → Facts r old → IsClosedBy (committee_size old.log.f) owners faulty → BeginStep old owners faulty stays word new → Facts r new
-  begins old owners faulty stays beginning.RefusedMoving new facts closed (moving, same) = subst (Facts r) (sym same) facts
-  begins old owners faulty stays beginning.RefusedLastEpoch new facts closed (serving, last, same) = subst (Facts r) (sym same) facts
   begins old owners faulty stays (beginning.Epoch epoch) new facts closed (serving, early, shown, state) = subst (Facts r) (sym state) (facts_begun r laws old owners faulty stays facts serving closed)
+  begins old owners faulty stays word new facts closed is = same_facts old new facts assumption
 
   readies : (old : World) (shard : ℕ) (word : ReadyWord) (new : World) → Facts r old → shard < committee_size old.log.f → ReadyStep old shard word new → Facts r new
-  readies old shard readying.RefusedNotMoving new facts lt_shard (serving, same) = subst (Facts r) (sym same) facts
-  readies old shard readying.Declined new facts lt_shard (moving, unready, same) = subst (Facts r) (sym same) facts
-  readies old shard readying.Already new facts lt_shard (moving, may, before, same) = subst (Facts r) (sym same) facts
   readies old shard (readying.Counted count) new facts lt_shard (moving, may, first, state, counted) =
       subst (Facts r) (sym state)
       (facts_entered r old (entry.Ready shard) (λ i kind t. ⊥) (λ t. same_node (owners_of Next old.log) shard t ≡ true) facts (ready_enters old.log shard facts.orderly)
       (λ i kind s none lt correct. absurd none)
       (λ id s node lt correct must. may (correct_node old Next shard s facts moving lt_shard lt node correct) s lt node id must))
+  readies old shard word new facts lt_shard is = same_facts old new facts assumption
 
   finishes : (old : World) (word : FinishWord) (new : World) → Facts r old → FinishStep old word new → Facts r new
-  finishes old finishing.RefusedNotMoving new facts (serving, same) = subst (Facts r) (sym same) facts
-  finishes old (finishing.Waiting count) new facts (moving, is, few, same) = subst (Facts r) (sym same) facts
   finishes old (finishing.Epoch epoch) new facts (moving, quorum, shown, state) = subst (Facts r) (sym state) (facts_finished r laws old facts moving quorum)
+  finishes old word new facts is = same_facts old new facts assumption
 
   collides : (old : World) (event : Event) (new : World) → Facts r old → CollisionStep r old event new → Facts r new
   collides old (Write blob to) new facts w = write_collides old blob to new facts w
