@@ -5,31 +5,19 @@ use Rattle.std.specs.FinMap.{get-insert}
 use Rattle.std.specs.Ordering.{eq_by_cmp}
 use Rattle.std.proofs.lemmas.Cmp.{eq_by_cmp_equiv}
 use Rattle.wal_shape.specs.declared.metadata.BlobId.{BlobId}
-use Rattle.wal_shape.specs.declared.axis.Side.{Side}
-use Rattle.wal_shape.specs.declared.axis.Side.TheVariants.{Now, Next}
 use Rattle.wal_shape.specs.Identifiers.{id_cmp}
 use Rattle.wal_evidence.specs.declared.evidence.Verdict.{Verdict}
 use Rattle.wal_evidence.specs.declared.evidence.Verdict.TheVariants as verdict
 use Rattle.wal_event.specs.declared.event.Event.{Event}
-use Rattle.wal_event.specs.declared.event.Event.TheVariants.{Register, Write, Send, Ack, Attest, Read, Recover, Forget, Begin, Ready, Finish, Certificate, Holders}
+use Rattle.wal_event.specs.declared.event.Event.TheVariants.{Write, Read}
 use Rattle.wal_event.specs.declared.line.Line.{Line}
 use Rattle.wal_event.specs.declared.line.Line.TheVariants as line
 use Rattle.wal_event.specs.declared.line.WriteWord.TheVariants as write_word
-use Rattle.wal_event.specs.declared.line.HoldersWord.TheVariants as holders_word
-use Rattle.wal_event.specs.declared.line.RegisterWord.TheVariants as registering
-use Rattle.wal_event.specs.declared.line.SendWord.TheVariants as sending
-use Rattle.wal_event.specs.declared.line.AckWord.TheVariants as acking
-use Rattle.wal_event.specs.declared.line.AttestWord.TheVariants as attesting
 use Rattle.wal_event.specs.declared.line.ReadWord.TheVariants as reading_of
-use Rattle.wal_event.specs.declared.line.RecoverWord.TheVariants as recovering
-use Rattle.wal_event.specs.declared.line.ForgetWord.TheVariants as forgetting
-use Rattle.wal_event.specs.declared.line.BeginWord.TheVariants as beginning
-use Rattle.wal_event.specs.declared.line.ReadyWord.TheVariants as readying
-use Rattle.wal_event.specs.declared.line.FinishWord.TheVariants as finishing
 use Rattle.wal_ledger.proofs.Order.{ids_total}
 use Rattle.wal_protocol.specs.declared.first.First.{First}
 use Rattle.wal_protocol.specs.declared.first.First.TheVariants.{Judged, Written}
-use Rattle.wal_protocol.specs.State.{Committee, World, with_side, writing_side, with_contents, side_of, verdict_of, answered}
+use Rattle.wal_protocol.specs.State.{World, verdict_of, answered}
 use Rattle.wal_protocol.specs.Rules.{Rules}
 use Rattle.wal_protocol.specs.Step.{AgreesWithFirst, Steps}
 use Rattle.wal_protocol.specs.Run.{is_collision, Runs}
@@ -79,20 +67,10 @@ Answers_of w = w.answers
 module _ (r : Rules) where
   -- each step leaves first answers as they are
   pub answers_stay : (old : World) (event : Event) (said : Line) (new : World) → Steps r old event said new → Stay old.answers new.answers
-  answers_stay old (Register id until) said new s = λ q answer h. grind arith
   answers_stay old (Write blob to) (line.Write i (write_word.Stored count bytes)) new s = λ q answer h. grind (arith, answered_stay old.answers i (Written blob) q answer h)
   answers_stay old (Write blob to) said new s = λ q answer h. grind arith
-  answers_stay old (Send at shard bytes) said new s = λ q answer h. grind arith
-  answers_stay old (Ack shard id) said new s = λ q answer h. grind arith
-  answers_stay old (Attest shard id) said new s = λ q answer h. grind arith
   answers_stay old (Read id replies) said new s = λ q answer h. grind (arith, answered_stay)
-  answers_stay old (Recover at shard axis id replies) said new s = λ q answer h. grind arith
-  answers_stay old (Forget at shard id) said new s = λ q answer h. grind arith
-  answers_stay old (Begin owners faulty stays) said new s = λ q answer h. grind arith
-  answers_stay old (Ready shard) said new s = λ q answer h. grind arith
-  answers_stay old Finish said new s = λ q answer h. grind arith
-  answers_stay old (Certificate id) said new s = λ q answer h. grind arith
-  answers_stay old (Holders id) said new s = λ q answer h. grind arith
+  answers_stay old event said new s = λ q answer h. grind arith
 
   -- a completed line shows the first answer
   pub answer_shown : (old : World) (event : Event) (said : Line) (new : World) (id : BlobId) (told : Verdict) → Steps r old event said new → Shows said id told → Tells new.answers id told

@@ -20,7 +20,6 @@ use Rattle.wal_event.specs.declared.line.FinishWord.{FinishWord}
 use Rattle.wal_event.specs.declared.line.FinishWord.TheVariants as finishing
 use Rattle.wal_event.specs.declared.line.CertificateWord.{CertificateWord}
 use Rattle.wal_event.specs.declared.line.CertificateWord.TheVariants as certifying
-use Rattle.wal_ledger.specs.declared.entry.Body.TheVariants as entry
 use Rattle.wal_ledger.specs.declared.entry.Kind.{Kind}
 use Rattle.wal_ledger.specs.declared.entry.Kind.TheVariants.{Holds, Denies}
 use Rattle.wal_ledger.specs.Shards.{quorum_size}

@@ -1,47 +1,36 @@
 -- A step of the world leaves no choice but the two texts of a collision, where the crates below leave none; and so do runs.
-use Rattle.std.proofs.Common.{◌≡◌, ◌⊎◌, ℕ, Bool, true, false, cond, List, [], ◌∷◌, ◌++◌, Option, Some, None, refl, sym, ap, subst, ◌∙◌, arith, ⊎_elim, inl, inr, true≢false}
+use Rattle.std.proofs.Common.{◌≡◌, ℕ, Bool, true, false, cond, List, [], ◌∷◌, ◌++◌, Option, Some, None, refl, sym, ap, subst, ◌∙◌, arith, ⊎_elim, inl, inr, true≢false}
 use Rattle.std.specs.FinMap as finmap
 use Rattle.wal_shape.specs.declared.metadata.BlobId.{BlobId}
 use Rattle.wal_shape.specs.declared.axis.Axis.{Axis}
 use Rattle.wal_shape.specs.declared.axis.Side.{Side}
-use Rattle.wal_shape.specs.Identifiers.{id_cmp}
 use Rattle.wal_shape.specs.Owners.{among}
 use Rattle.wal_evidence.specs.declared.evidence.Evidence.{Evidence}
 use Rattle.wal_evidence.specs.declared.evidence.Verdict.{Verdict}
 use Rattle.wal_evidence.specs.declared.evidence.Verdict.TheVariants as verdict
 use Rattle.wal_frame.specs.Frame.{Frame}
 use Rattle.wal_event.specs.declared.event.Event.{Event}
-use Rattle.wal_event.specs.declared.event.Event.TheVariants.{Register, Write, Send, Ack, Attest, Read, Recover, Forget, Begin, Ready, Finish, Certificate, Holders}
+use Rattle.wal_event.specs.declared.event.Event.TheVariants.{Write, Send, Read, Recover, Certificate}
 use Rattle.wal_event.specs.declared.event.Reply.{Reply}
 use Rattle.wal_event.specs.declared.event.Reply.TheVariants as reply
 use Rattle.wal_event.specs.declared.line.Line.{Line}
 use Rattle.wal_event.specs.declared.line.Line.TheVariants as line
 use Rattle.wal_event.specs.declared.line.WriteWord.TheVariants as write_word
-use Rattle.wal_event.specs.declared.line.HoldersWord.TheVariants as holders_word
-use Rattle.wal_event.specs.declared.line.RegisterWord.{RegisterWord}
 use Rattle.wal_event.specs.declared.line.SendWord.{SendWord}
 use Rattle.wal_event.specs.declared.line.SendWord.TheVariants as sending
-use Rattle.wal_event.specs.declared.line.AckWord.{AckWord}
-use Rattle.wal_event.specs.declared.line.AttestWord.{AttestWord}
 use Rattle.wal_event.specs.declared.line.ReadWord.{ReadWord}
 use Rattle.wal_event.specs.declared.line.ReadWord.TheVariants as reading_of
 use Rattle.wal_event.specs.declared.line.RecoverWord.{RecoverWord}
 use Rattle.wal_event.specs.declared.line.RecoverWord.TheVariants as recovering
-use Rattle.wal_event.specs.declared.line.ForgetWord.{ForgetWord}
-use Rattle.wal_event.specs.declared.line.BeginWord.{BeginWord}
-use Rattle.wal_event.specs.declared.line.ReadyWord.{ReadyWord}
-use Rattle.wal_event.specs.declared.line.FinishWord.{FinishWord}
-use Rattle.wal_event.specs.declared.line.CertificateWord.{CertificateWord}
 use Rattle.wal_ledger.specs.Ledger.{Log, is_live}
 use Rattle.wal_store.specs.Parts.{Parts}
 use Rattle.wal_store.specs.Contents.{Contents}
 use Rattle.wal_shard.specs.declared.answers.PutAnswer.{PutAnswer}
 use Rattle.wal_shard.specs.declared.answers.PutAnswer.TheVariants as putting
-use Rattle.wal_protocol.specs.declared.first.First.{First}
-use Rattle.wal_protocol.specs.declared.first.First.TheVariants.{Judged, Written}
-use Rattle.wal_protocol.specs.State.{Committee, World, side_of, with_side, is_present, writing_side, is_correct, contents_of, held, with_contents, keeps, holders, answered}
+use Rattle.wal_protocol.specs.declared.first.First.TheVariants.{Judged}
+use Rattle.wal_protocol.specs.State.{Committee, World, side_of, with_side, is_present, writing_side, is_correct, contents_of, held, with_contents, keeps, answered}
 use Rattle.wal_protocol.specs.Rules.{Rules}
-use Rattle.wal_protocol.specs.Step.{RegisterStep, is_clash, PutsEach, letters, stored_at, AgreesWithFirst, Differs, WriteStep, WriteCollides, IsIgnored, IsPut, SendStep, AckStep, AttestStep, read_payloads, ReadCompletes, ReadStep, told_by, ReadCollides, two_metadata, other_answer, IsReplyOf, AreReplies, RecoveryRuns, RecoverStep, RecoverCollides, ForgetStep, BeginStep, ReadyStep, FinishStep, CertificateStep, Steps}
+use Rattle.wal_protocol.specs.Step.{is_clash, PutsEach, letters, AgreesWithFirst, Differs, WriteStep, WriteCollides, IsIgnored, IsPut, SendStep, read_payloads, ReadStep, told_by, ReadCollides, two_metadata, other_answer, IsReplyOf, AreReplies, RecoveryRuns, RecoverStep, RecoverCollides, Steps}
 use Rattle.wal_protocol.specs.Run.{GoesOn, is_collision, Runs}
 use Rattle.wal_protocol.specs.Determined.{SameLines, SameStep, SameUpToCollision}
 use Rattle.wal_protocol.proofs.OneWord.{Only, SamePut, one_certificate}
@@ -115,15 +104,7 @@ module _ (r : Rules) (only : Only r) where
   one_write old blob to (i, k) (j, l) x y a b =
       let same = only.message old.format blob i j a.write.message b.write.message a.write.honest b.write.honest in
       let puts = same_puts old to a.write.message b.write.message false false a.write.mid b.write.mid same.1 a.write.puts b.write.puts in
-      let with : Committee → BlobId → World = λ c id. record (with_side (writing_side old) old c) { answers = answered old.answers id (Written blob) } in
-      let state : x ≡ y = a.state ∙ ap (λ (c : Committee). with c i) puts.1 ∙ ap (λ (id : BlobId). with b.write.mid id) same.0 ∙ sym b.state in
-      let count : k ≡ l =
-      a.counted
-      ∙ ap (λ (w : World). stored_at r w (writing_side old) a.write.message to i) state
-      ∙ ap (λ (m : ℕ → List Frame). stored_at r y (writing_side old) m to i) same.1
-      ∙ ap (λ (id : BlobId). stored_at r y (writing_side old) b.write.message to id) same.0
-      ∙ sym b.counted in
-      (grind arith, state)
+      grind arith
 
   one_write_clash : (old : World) (blob to : List ℕ) (x y : World) → WriteCollides r old blob to x → WriteCollides r old blob to y → x ≡ y
   one_write_clash old blob to x y a b =
@@ -282,22 +263,15 @@ module _ (r : Rules) (only : Only r) where
 
   -- THE STEP leaves no choice but the texts of a collision
   pub one_step : (old : World) (event : Event) (a b : Line) (x y : World) → Steps r old event a x → Steps r old event b y → SameStep a b x y
-  one_step old (Register id until) a b x y p q = grind arith
   one_step old (Write blob to) a b x y p q = one_comes (wrote old blob to a x p) (wrote old blob to b y q) (one_write old blob to) (write_not old blob to) (one_write_clash old blob to)
   one_step old (Send side shard bytes) a b x y p q = one_sent old side shard bytes a b x y (sent old side shard bytes a x p) (sent old side shard bytes b y q)
-  one_step old (Ack shard id) a b x y p q = grind arith
-  one_step old (Attest shard id) a b x y p q = grind arith
   one_step old (Read id replies) a b x y p q =
       one_comes (told old id replies a x p) (told old id replies b y q) (one_told old id replies) (λ w x y is bad. told_not old id replies w x is bad.0) (λ x y bad worse. bad.1 ∙ sym worse.1)
   one_step old (Recover side shard axis id replies) a b x y p q =
       one_comes (found old side shard axis id replies a x p) (found old side shard axis id replies b y q) (one_found old side shard axis id replies)
       (λ w x y is bad. found_not old side shard axis id replies w x is bad.0) (λ x y bad worse. bad.1 ∙ sym worse.1)
-  one_step old (Forget side shard id) a b x y p q = grind arith
-  one_step old (Begin owners faulty stays) a b x y p q = grind arith
-  one_step old (Ready shard) a b x y p q = grind arith
-  one_step old Finish a b x y p q = grind arith
   one_step old (Certificate id) a b x y p q = grind (arith, one_certificate)
-  one_step old (Holders id) a b x y p q = grind arith
+  one_step old event a b x y p q = grind arith
 
   -- ---- runs
 
@@ -314,8 +288,6 @@ module _ (r : Rules) (only : Only r) where
         collides = sym is_a;
         collides_too = sym is_b;
       })
-  lines_rest true false events x y a b s t xs ys is_a is_b same rest p q = absurd (true≢false (is_a ∙ same.0.0 ∙ sym is_b))
-  lines_rest false true events x y a b s t xs ys is_a is_b same rest p q = absurd (true≢false (is_b ∙ sym same.0.0 ∙ sym is_a))
   lines_rest false false events x y a b s t xs ys is_a is_b same rest p q =
       let state : x ≡ y = same.1 in
       let said : a ≡ b = same.0.1 (sym is_a) in
@@ -331,26 +303,14 @@ module _ (r : Rules) (only : Only r) where
         collides_too = apart.collides_too;
       }))
       (rest (subst (λ (w : World). Runs r w events s xs) state p) q)
-
-  run_of_none : (s : List World) (xs : List Line) (old : World) → Runs r old [] s xs → xs ≡ []
-  run_of_none [] [] old p = refl
-  run_of_none s xs old p = absurd p
-
-  run_of_more : (event : Event) (events : List Event) (s : List World) (xs : List Line) (old : World) → Runs r old (event ∷ events) s xs
-      → (new : World) × (states : List World) × (said : Line) × (lines : List Line) × (xs ≡ said ∷ lines) × Steps r old event said new
-      × cond (is_collision said) ((states ≡ []) × (lines ≡ [])) (Runs r new events states lines)
-  run_of_more event events (new ∷ states) (said ∷ lines) old p = (new, states, said, lines, refl, p.0, p.1)
-  run_of_more event events s xs old p = absurd p
+  lines_rest k j events x y a b s t xs ys is_a is_b same rest p q = absurd (grind arith)
 
   -- A RUN leaves no choice but the texts of its collision
   pub one_run : (events : List Event) (s t : List World) (xs ys : List Line) (old : World) → Runs r old events s xs → Runs r old events t ys → SameLines xs ys
-  one_run [] s t xs ys old p q = inl (run_of_none s xs old p ∙ sym (run_of_none t ys old q))
-  one_run (event ∷ events) s t xs ys old p q =
-      let a = run_of_more event events s xs old p in
-      let b = run_of_more event events t ys old q in
-      let same = lines_rest (is_collision a.2) (is_collision b.2) events a.0 b.0 a.2 b.2 a.1 b.1 a.3 b.3 refl refl (one_step old event a.2 b.2 a.0 b.0 a.5 b.5)
-      (λ x y. one_run events a.1 b.1 a.3 b.3 b.0 x y) a.6 b.6 in
-      subst (λ (zs : List Line). SameLines zs ys) (sym a.4) (subst (λ (zs : List Line). SameLines (a.2 ∷ a.3) zs) (sym b.4) same)
+  one_run [] [] [] [] [] old p q = inl refl
+  one_run (event ∷ events) (x ∷ s) (y ∷ t) (a ∷ xs) (b ∷ ys) old p q =
+      lines_rest (is_collision a) (is_collision b) events x y a b s t xs ys refl refl (one_step old event a b x y p.0 q.0) (one_run events s t xs ys y) p.1 q.1
+  one_run events s t xs ys old p q = absurd (grind arith)
 
 -- ---- lines that end in a collision do not go on
 

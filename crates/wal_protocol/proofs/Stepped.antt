@@ -220,9 +220,6 @@ module _ (r : Rules) (laws : Laws r) where
   recovers old side shard axis id replies word new facts is = same_facts old new facts assumption
 
   forgets : (old : World) (side : Side) (shard : ℕ) (id : BlobId) (word : ForgetWord) (new : World) → Facts r old → ForgetStep old side shard id word new → Facts r new
-  forgets old side shard id forgetting.Absent new facts is = same_facts old new facts assumption
-  forgets old side shard id forgetting.Ignored new facts is = same_facts old new facts assumption
-  forgets old side shard id forgetting.Declined new facts is = same_facts old new facts assumption
   forgets old side shard id forgetting.Done new facts (correct, may, state) =
       let c = side_of side old in
       subst (Facts r) (sym state)
@@ -245,6 +242,7 @@ module _ (r : Rules) (laws : Laws r) where
           subst (λ (p : Parts). Firmer (held c s q) p) (sym is)
           (subst (λ (p : Parts). Firmer p (forgotten (parts_at (contents_of c s) q))) (sym (held_is c s q))
           (firmer_forgotten (parts_at (contents_of c s) q) (subst (λ (j : BlobId). has_proof (parts_at (contents_of c s) j) ≡ true) (sym e) proof)))
+  forgets old side shard id word new facts is = same_facts old new facts assumption
 
   begins : (old : World) (owners faulty stays : List ℕ) (word : BeginWord) (new : World) → Facts r old → IsClosedBy (committee_size old.log.f) owners faulty → BeginStep old owners faulty stays word new → Facts r new
   begins old owners faulty stays (beginning.Epoch epoch) new facts closed (serving, early, shown, state) = subst (Facts r) (sym state) (facts_begun r laws old owners faulty stays facts serving closed)
@@ -264,10 +262,7 @@ module _ (r : Rules) (laws : Laws r) where
 
   collides : (old : World) (event : Event) (new : World) → Facts r old → CollisionStep r old event new → Facts r new
   collides old (Write blob to) new facts w = write_collides old blob to new facts w
-  collides old (Send at shard bytes) new facts (frame, parts, answer, clash, is, same) = subst (Facts r) (sym same) facts
-  collides old (Read id replies) new facts (clash, same) = subst (Facts r) (sym same) facts
-  collides old (Recover at shard axis id replies) new facts (clash, same) = subst (Facts r) (sym same) facts
-  collides old event new facts none = absurd none
+  collides old event new facts is = same_facts old new facts (grind arith)
 
   -- every step keeps the facts
   pub facts_step : (old : World) (event : Event) (said : Line) (new : World) → Facts r old → IsEventWithin (committee_size old.log.f) event → Steps r old event said new → Facts r new
