@@ -1,6 +1,7 @@
 -- Every event of bytes has a step in a world of bytes, and every schedule of bytes has a run.
 use Rattle.std.proofs.Common.{◌≡◌, ℕ, ◌≤◌, List, [], ◌∷◌, ◌++◌, Bool, true, false, cond, All, Option, Some, None, refl, sym, ap₂, subst, ◌∙◌, inl, inr}
 use Rattle.std.proofs.lemmas.List.Concat.{flat_map-cons}
+use Rattle.std.specs.FinMap as finmap
 use Rattle.wal_shape.specs.declared.metadata.BlobId.{BlobId}
 use Rattle.wal_shape.specs.declared.axis.Axis.{Axis}
 use Rattle.wal_shape.specs.declared.axis.Side.{Side}
@@ -31,7 +32,8 @@ use Rattle.wal_ledger.specs.Shards.{committee_size}
 use Rattle.wal_ledger.specs.Ledger.{Log}
 use Rattle.wal_store.specs.Parts.{Parts}
 use Rattle.wal_store.specs.Contents.{Contents}
-use Rattle.wal_protocol.specs.State.{Committee, World, side_of, writing_side, with_contents}
+use Rattle.wal_protocol.specs.declared.first.First.{First}
+use Rattle.wal_protocol.specs.State.{Committee, World, side_of, writing_side, held, with_contents}
 use Rattle.wal_protocol.specs.Rules.{Rules}
 use Rattle.wal_protocol.specs.Step.{is_clash, PutsEach, letters, IsWrite, SendStep, reply_payloads, read_payloads, ReadCompletes, ReadStep, ReadCollides, two_metadata, other_answer, IsReplyOf, AreReplies, RecoveryRuns, RecoverStep, CollisionStep, Steps}
 use Rattle.wal_protocol.specs.Run.{first_state, is_collision, Runs}
@@ -223,22 +225,10 @@ module _ (digest : List ℕ → List ℕ) (is : IsDigest digest) (f : ℕ) where
 
   -- a world of bytes
   pub bytes_facts : (old : World) → Facts r old → WorldOfBytes old → Facts b old
-  bytes_facts old facts bytes = record {
-    sized_f = facts.sized_f;
-    sized = facts.sized;
-    orderly = facts.orderly;
-    none_ahead = facts.none_ahead;
-    since_begin = facts.since_begin;
-    closed = facts.closed;
-    sound = λ side s id. (facts.sound side s id, bytes.parts side s id);
-    answers = λ id answer at. (facts.answers id answer at, bytes.answers id answer at);
-    backs = facts.backs;
-    readies = facts.readies;
-    few_now = facts.few_now;
-    few_next = facts.few_next;
-    kept_serving = facts.kept_serving;
-    kept_moving = facts.kept_moving;
-  }
+  bytes_facts old facts bytes =
+      let sound : (side : Side) (s : ℕ) (id : BlobId) → b.IsSound id s (held (side_of side old) s id) = λ side s id. (facts.sound side s id, bytes.parts side s id) in
+      let answers : (id : BlobId) (first : First) → finmap.get old.answers id ≡ Some first → b.IsBacked id first = λ id first at. (facts.answers id first at, bytes.answers id first at) in
+      assumption
 
   pub step_exists : (old : World) (event : Event) → Facts r old → WorldOfBytes old → Fits f event → HasBytes event → Possible (HasStep r old event)
   step_exists old event facts bytes fits are =
