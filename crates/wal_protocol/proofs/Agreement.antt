@@ -70,6 +70,7 @@ module _ (r : Rules) where
   answers_stay old (Write blob to) (line.Write i (write_word.Stored count bytes)) new s = λ q answer h. grind (arith, answered_stay old.answers i (Written blob) q answer h)
   answers_stay old (Write blob to) said new s = λ q answer h. grind arith
   answers_stay old (Read id replies) said new s = λ q answer h. grind (arith, answered_stay)
+  -- every other event leaves the answers
   answers_stay old event said new s = λ q answer h. grind arith
 
   -- a completed line shows the first answer

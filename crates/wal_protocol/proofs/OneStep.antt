@@ -72,6 +72,7 @@ module _ (r : Rules) (only : Only r) where
 
   -- ---- events that may end in a collision
 
+  -- what they come to is one word or one collision, where words are one, collisions are one, and nothing is both
   one_comes : {W : Type 0} {to_line : W → Line} {Says : W → World → Type 0} {Collides : World → Type 0} {a b : Line} {x y : World}
       → Comes to_line Says Collides a x → Comes to_line Says Collides b y → ((w v : W) (x y : World) → Says w x → Says v y → (w ≡ v) × (x ≡ y))
       → ((w : W) (x y : World) → Says w x → Collides y → ⊥) → ((x y : World) → Collides x → Collides y → x ≡ y) → SameStep a b x y
@@ -271,6 +272,7 @@ module _ (r : Rules) (only : Only r) where
       one_comes (found old side shard axis id replies a x p) (found old side shard axis id replies b y q) (one_found old side shard axis id replies)
       (λ w x y is bad. found_not old side shard axis id replies w x is bad.0) (λ x y bad worse. bad.1 ∙ sym worse.1)
   one_step old (Certificate id) a b x y p q = grind (arith, one_certificate)
+  -- every other event has no two words that the tests of the state do not tell apart
   one_step old event a b x y p q = grind arith
 
   -- ---- runs
