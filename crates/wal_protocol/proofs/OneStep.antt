@@ -149,8 +149,8 @@ module _ (r : Rules) (only : Only r) where
       → IsPut r old side shard bytes b g y → SamePut a b × (x ≡ y)
   one_put old side shard bytes a b f g x y p q =
       let same = only.put_frame bytes f g p.1 q.1 in
-      only.puts old.log shard (contents_of (side_of side old) shard) g a b x y
-      (subst (λ (h : Frame). r.Puts old.log shard (contents_of (side_of side old) shard) h a x) same p.2) q.2
+      let one = only.puts old.log shard (contents_of (side_of side old) shard) g a b x y in
+      grind arith
 
   one_sent : (old : World) (side : Side) (shard : ℕ) (bytes : List ℕ) (a b : Line) (x y : World) → Sent old side shard bytes a x → Sent old side shard bytes b y → SameStep a b x y
   one_sent old side shard bytes a b x y (put answer frame contents p ends goes stays) (put other g more q stops on still) =
@@ -181,7 +181,7 @@ module _ (r : Rules) (only : Only r) where
   one_told : (old : World) (id : BlobId) (replies : List Reply) (w v : ReadWord) (x y : World) → Told old id replies w x → Told old id replies v y → (w ≡ v) × (x ≡ y)
   one_told old id replies w v x y p q =
       let same = only.reads id (read_payloads r old id replies) w v p.0 q.0 p.1 q.1 in
-      (same.0, p.3 ∙ ap (λ (u : ReadWord). told_state old id (told_by u) p.0) same.0 ∙ ap (λ (e : Option Evidence). told_state old id (told_by v) e) same.1 ∙ sym q.3)
+      grind arith
 
   told_not : (old : World) (id : BlobId) (replies : List Reply) (w : ReadWord) (x : World) → Told old id replies w x → ReadCollides r old id replies → ⊥
   told_not old id replies w x p (two_metadata two) = only.reads_one id (read_payloads r old id replies) w p.0 p.1 two
@@ -197,23 +197,17 @@ module _ (r : Rules) (only : Only r) where
 
   -- ---- recoveries
 
-  one_reply_if : (old : World) (id : BlobId) (axis : Axis) (shard s : ℕ) (parts : Parts) (k : Bool) (a b : List (List ℕ))
-      → cond k (r.IsSymbolReply id s parts axis shard a) (a ≡ []) → cond k (r.IsSymbolReply id s parts axis shard b) (b ≡ []) → a ≡ b
-  one_reply_if old id axis shard s parts true a b p q = only.symbol_reply id s parts axis shard a b p q
-  one_reply_if old id axis shard s parts false a b p q = p ∙ sym q
-
   one_reply : (old : World) (id : BlobId) (axis : Axis) (shard : ℕ) (one : Reply) (a b : List (List ℕ)) → IsReplyOf r old id axis shard one a → IsReplyOf r old id axis shard one b → a ≡ b
-  one_reply old id axis shard (reply.True side s) a b p q = one_reply_if old id axis shard s (held (side_of side old) s id) (is_correct side old s) a b p q
+  one_reply old id axis shard (reply.True side s) a b p q = let same = only.symbol_reply id s (held (side_of side old) s id) axis shard a b in grind arith
   one_reply old id axis shard (reply.Bytes bytes) a b p q = p ∙ sym q
 
   one_replies : (old : World) (id : BlobId) (axis : Axis) (shard : ℕ) (replies : List Reply) (a b : List (List ℕ)) → AreReplies r old id axis shard replies a
       → AreReplies r old id axis shard replies b → a ≡ b
   one_replies old id axis shard [] a b p q = p ∙ sym q
   one_replies old id axis shard (one ∷ more) a b p q =
-      p.4
-      ∙ ap (λ (x : List (List ℕ)). x ++ p.1) (one_reply old id axis shard one p.0 q.0 p.2 q.2)
-      ∙ ap (λ (x : List (List ℕ)). q.0 ++ x) (one_replies old id axis shard more p.1 q.1 p.3 q.3)
-      ∙ sym q.4
+      let first = one_reply old id axis shard one p.0 q.0 p.2 q.2 in
+      let rest = one_replies old id axis shard more p.1 q.1 p.3 q.3 in
+      grind arith
 
   -- the word of one that does not run
   abbrev halted : World → Side → ℕ → BlobId → Option RecoverWord
@@ -244,8 +238,8 @@ module _ (r : Rules) (only : Only r) where
       → RecoveryRuns r old side shard axis id replies w x → RecoveryRuns r old side shard axis id replies v y → (w ≡ v) × (x ≡ y)
   one_ran old side shard axis id replies w v x y a b =
       let same = one_replies old id axis shard replies a.payloads b.payloads a.replied b.replied in
-      only.recovers id shard axis (contents_of (side_of side old) shard) b.payloads w v x y
-      (subst (λ (ps : List (List ℕ)). r.Recovers id shard axis (contents_of (side_of side old) shard) ps w x) same a.recovers) b.recovers
+      let one = only.recovers id shard axis (contents_of (side_of side old) shard) b.payloads w v x y in
+      grind arith
 
   one_found : (old : World) (side : Side) (shard : ℕ) (axis : Axis) (id : BlobId) (replies : List Reply) (w v : RecoverWord) (x y : World) → Found old side shard axis id replies w x
       → Found old side shard axis id replies v y → (w ≡ v) × (x ≡ y)

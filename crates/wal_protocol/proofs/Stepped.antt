@@ -196,35 +196,38 @@ module _ (r : Rules) (laws : Laws r) where
           (subst (λ (p : Parts). Firmer p (forgotten (parts_at (contents_of c s) q))) (sym (held_is c s q))
           (firmer_forgotten (parts_at (contents_of c s) q) (subst (λ (j : BlobId). has_proof (parts_at (contents_of c s) j) ≡ true) (sym e) proof)))
 
-  -- every step keeps the facts
-  pub facts_step : (old : World) (event : Event) (said : Line) (new : World) → Facts r old → IsEventWithin (committee_size old.log.f) event → Steps r old event said new → Facts r new
-  facts_step old (Register id until) (line.Register i (registering.Until most)) new facts fit (same_i, (may, is, shown)) =
+  -- every step keeps the facts; they come last, so that the search for what a word changes does not read them
+  kept_step : (old : World) (event : Event) (said : Line) (new : World) → Steps r old event said new → Facts r old → IsEventWithin (committee_size old.log.f) event → Facts r new
+  kept_step old (Register id until) (line.Register i (registering.Until most)) new (same_i, (may, is, shown)) = λ facts fit.
       subst (Facts r) (sym is)
       (facts_entered r old (entry.Register id until) (λ i kind s. ⊥) (λ s. ⊥) facts (register_enters old.log id until facts.orderly may) (λ i kind s none lt correct. absurd none)
       (λ i s none lt correct must. absurd none))
-  facts_step old (Write blob to) (line.Write i (write_word.Stored count bytes)) new facts fit (same_b, is) = writes old blob to i count new facts is
-  facts_step old (Write blob to) (line.Collision left right) new facts fit (clash, is) = write_collides old blob to new facts is
-  facts_step old (Send at shard bytes) (line.Send s sending.Stored) new facts fit (same_s, (frame, contents, is, state)) =
+  kept_step old (Write blob to) (line.Write i (write_word.Stored count bytes)) new (same_b, is) = λ facts fit. writes old blob to i count new facts is
+  kept_step old (Write blob to) (line.Collision left right) new (clash, is) = λ facts fit. write_collides old blob to new facts is
+  kept_step old (Send at shard bytes) (line.Send s sending.Stored) new (same_s, (frame, contents, is, state)) = λ facts fit.
       subst (Facts r) (sym state)
       (facts_side old at (with_contents (side_of at old) shard contents) facts
       (grown_put r laws old.log (side_of at old) shard frame putting.Stored contents (facts.sound at) is.2))
-  facts_step old (Ack shard id) (line.Ack s i (acking.Counted count)) new facts fit (same_s, same_i, (c, few)) = claims old kinds.Holds shard id count new facts fit c
-  facts_step old (Ack shard id) (line.Ack s i (acking.Certified count)) new facts fit (same_s, same_i, (c, many)) = claims old kinds.Holds shard id count new facts fit c
-  facts_step old (Attest shard id) (line.Attest s i (attesting.Counted count)) new facts fit (same_s, same_i, (c, few)) = claims old kinds.Denies shard id count new facts fit c
-  facts_step old (Attest shard id) (line.Attest s i (attesting.Invalid count)) new facts fit (same_s, same_i, (c, many)) = claims old kinds.Denies shard id count new facts fit c
-  facts_step old (Read id replies) (line.Read i (reading_of.Bytes bytes)) new facts fit (same_i, c) = completes old id replies (reading_of.Bytes bytes) (verdict.Bytes bytes) new refl facts c
-  facts_step old (Read id replies) (line.Read i reading_of.Reject) new facts fit (same_i, c) = completes old id replies reading_of.Reject verdict.Reject new refl facts c
-  facts_step old (Recover at shard axis id replies) (line.Recover s a i (recovering.Sliver bytes)) new facts fit step = gains old at shard axis id replies (recovering.Sliver bytes) new facts step.3
-  facts_step old (Recover at shard axis id replies) (line.Recover s a i recovering.Inconsistent) new facts fit step = gains old at shard axis id replies recovering.Inconsistent new facts step.3
-  facts_step old (Recover at shard axis id replies) (line.Recover s a i recovering.Proof) new facts fit step = gains old at shard axis id replies recovering.Proof new facts step.3
-  facts_step old (Forget at shard id) (line.Forget s i forgetting.Done) new facts fit step = forgets old at shard id new facts step.2
-  facts_step old (Begin owners faulty stays) (line.Begin (beginning.Epoch epoch)) new facts fit (serving, early, shown, state) =
+  kept_step old (Ack shard id) (line.Ack s i (acking.Counted count)) new (same_s, same_i, (c, few)) = λ facts fit. claims old kinds.Holds shard id count new facts fit c
+  kept_step old (Ack shard id) (line.Ack s i (acking.Certified count)) new (same_s, same_i, (c, many)) = λ facts fit. claims old kinds.Holds shard id count new facts fit c
+  kept_step old (Attest shard id) (line.Attest s i (attesting.Counted count)) new (same_s, same_i, (c, few)) = λ facts fit. claims old kinds.Denies shard id count new facts fit c
+  kept_step old (Attest shard id) (line.Attest s i (attesting.Invalid count)) new (same_s, same_i, (c, many)) = λ facts fit. claims old kinds.Denies shard id count new facts fit c
+  kept_step old (Read id replies) (line.Read i (reading_of.Bytes bytes)) new (same_i, c) = λ facts fit. completes old id replies (reading_of.Bytes bytes) (verdict.Bytes bytes) new refl facts c
+  kept_step old (Read id replies) (line.Read i reading_of.Reject) new (same_i, c) = λ facts fit. completes old id replies reading_of.Reject verdict.Reject new refl facts c
+  kept_step old (Recover at shard axis id replies) (line.Recover s a i (recovering.Sliver bytes)) new step = λ facts fit. gains old at shard axis id replies (recovering.Sliver bytes) new facts step.3
+  kept_step old (Recover at shard axis id replies) (line.Recover s a i recovering.Inconsistent) new step = λ facts fit. gains old at shard axis id replies recovering.Inconsistent new facts step.3
+  kept_step old (Recover at shard axis id replies) (line.Recover s a i recovering.Proof) new step = λ facts fit. gains old at shard axis id replies recovering.Proof new facts step.3
+  kept_step old (Forget at shard id) (line.Forget s i forgetting.Done) new step = λ facts fit. forgets old at shard id new facts step.2
+  kept_step old (Begin owners faulty stays) (line.Begin (beginning.Epoch epoch)) new (serving, early, shown, state) = λ facts fit.
       subst (Facts r) (sym state) (facts_begun r laws old owners faulty stays facts serving (closed_by (committee_size old.log.f) owners faulty fit.0))
-  facts_step old (Ready shard) (line.Ready s (readying.Counted count)) new facts fit (same_s, (moving, may, first, state, counted)) =
+  kept_step old (Ready shard) (line.Ready s (readying.Counted count)) new (same_s, (moving, may, first, state, counted)) = λ facts fit.
       subst (Facts r) (sym state)
       (facts_entered r old (entry.Ready shard) (λ i kind t. ⊥) (λ t. same_node (owners_of Next old.log) shard t ≡ true) facts (ready_enters old.log shard facts.orderly)
       (λ i kind s none lt correct. absurd none)
       (λ id s node lt correct must. may (correct_node old Next shard s facts moving fit lt node correct) s lt node id must))
-  facts_step old Finish (line.Finish (finishing.Epoch epoch)) new facts fit (moving, quorum, shown, state) = subst (Facts r) (sym state) (facts_finished r laws old facts moving quorum)
+  kept_step old Finish (line.Finish (finishing.Epoch epoch)) new (moving, quorum, shown, state) = λ facts fit. subst (Facts r) (sym state) (facts_finished r laws old facts moving quorum)
   -- every other word leaves the state
-  facts_step old event said new facts fit step = let same : new ≡ old = grind arith in subst (Facts r) (sym same) facts
+  kept_step old event said new step = let same : new ≡ old = grind arith in λ facts fit. subst (Facts r) (sym same) facts
+
+  pub facts_step : (old : World) (event : Event) (said : Line) (new : World) → Facts r old → IsEventWithin (committee_size old.log.f) event → Steps r old event said new → Facts r new
+  facts_step old event said new facts fit step = kept_step old event said new step facts fit
