@@ -23,7 +23,6 @@ use Rattle.wal_event.specs.declared.line.ReadWord.TheVariants as reading_of
 use Rattle.wal_event.specs.declared.line.RecoverWord.{RecoverWord}
 use Rattle.wal_event.specs.declared.line.RecoverWord.TheVariants as recovering
 use Rattle.wal_ledger.specs.Ledger.{Log, is_live}
-use Rattle.wal_store.specs.Parts.{Parts}
 use Rattle.wal_store.specs.Contents.{Contents}
 use Rattle.wal_shard.specs.declared.answers.PutAnswer.{PutAnswer}
 use Rattle.wal_shard.specs.declared.answers.PutAnswer.TheVariants as putting
