@@ -5,31 +5,19 @@ use Rattle.std.specs.FinMap.{get-insert}
 use Rattle.std.specs.Ordering.{eq_by_cmp}
 use Rattle.std.proofs.lemmas.Cmp.{eq_by_cmp_equiv}
 use Rattle.wal_shape.specs.declared.metadata.BlobId.{BlobId}
-use Rattle.wal_shape.specs.declared.axis.Side.{Side}
-use Rattle.wal_shape.specs.declared.axis.Side.TheVariants.{Now, Next}
 use Rattle.wal_shape.specs.Identifiers.{id_cmp}
 use Rattle.wal_evidence.specs.declared.evidence.Verdict.{Verdict}
 use Rattle.wal_evidence.specs.declared.evidence.Verdict.TheVariants as verdict
 use Rattle.wal_event.specs.declared.event.Event.{Event}
-use Rattle.wal_event.specs.declared.event.Event.TheVariants.{Register, Write, Send, Ack, Attest, Read, Recover, Forget, Begin, Ready, Finish, Certificate, Holders}
+use Rattle.wal_event.specs.declared.event.Event.TheVariants.{Write, Read}
 use Rattle.wal_event.specs.declared.line.Line.{Line}
 use Rattle.wal_event.specs.declared.line.Line.TheVariants as line
 use Rattle.wal_event.specs.declared.line.WriteWord.TheVariants as write_word
-use Rattle.wal_event.specs.declared.line.HoldersWord.TheVariants as holders_word
-use Rattle.wal_event.specs.declared.line.RegisterWord.TheVariants as registering
-use Rattle.wal_event.specs.declared.line.SendWord.TheVariants as sending
-use Rattle.wal_event.specs.declared.line.AckWord.TheVariants as acking
-use Rattle.wal_event.specs.declared.line.AttestWord.TheVariants as attesting
 use Rattle.wal_event.specs.declared.line.ReadWord.TheVariants as reading_of
-use Rattle.wal_event.specs.declared.line.RecoverWord.TheVariants as recovering
-use Rattle.wal_event.specs.declared.line.ForgetWord.TheVariants as forgetting
-use Rattle.wal_event.specs.declared.line.BeginWord.TheVariants as beginning
-use Rattle.wal_event.specs.declared.line.ReadyWord.TheVariants as readying
-use Rattle.wal_event.specs.declared.line.FinishWord.TheVariants as finishing
 use Rattle.wal_ledger.proofs.Order.{ids_total}
 use Rattle.wal_protocol.specs.declared.first.First.{First}
 use Rattle.wal_protocol.specs.declared.first.First.TheVariants.{Judged, Written}
-use Rattle.wal_protocol.specs.State.{Committee, World, with_side, writing_side, with_contents, side_of, verdict_of, answered}
+use Rattle.wal_protocol.specs.State.{World, verdict_of, answered}
 use Rattle.wal_protocol.specs.Rules.{Rules}
 use Rattle.wal_protocol.specs.Step.{AgreesWithFirst, Steps}
 use Rattle.wal_protocol.specs.Run.{is_collision, Runs}
@@ -45,9 +33,6 @@ pub record Tells (answers : finmap.FinMap id_cmp First) (id : BlobId) (told : Ve
 -- first answers stay
 abbrev pub Stay : finmap.FinMap id_cmp First → finmap.FinMap id_cmp First → Type 0
 Stay old new = (id : BlobId) (answer : First) → finmap.get old id ≡ Some answer → finmap.get new id ≡ Some answer
-
-stay_same : (old new : finmap.FinMap id_cmp First) → new ≡ old → Stay old new
-stay_same old new same id answer h = ap (λ (m : finmap.FinMap id_cmp First). finmap.get m id) same ∙ h
 
 -- an answer that agrees is told afterwards
 answered_tells : (answers : finmap.FinMap id_cmp First) (id : BlobId) (a : First) (told : Verdict) → verdict_of a ≡ told → AgreesWithFirst answers id told → Tells (answered answers id a) id told
@@ -76,83 +61,17 @@ answered_stay answers id a q x h = by (finmap.get answers id) refl
     by (Some y) is = ap (λ b. finmap.get (cond b answers (finmap.insert answers id a)) q) (ap is_some is) ∙ h
     by None is = ap (λ b. finmap.get (cond b answers (finmap.insert answers id a)) q) (ap is_some is) ∙ get-insert ids_total answers id a q ∙ at (eq_by_cmp id_cmp q id) refl is
 
-side_answers : (side : Side) (w : World) (c : Committee) → (with_side side w c).answers ≡ w.answers
-side_answers Now w c = refl
-side_answers Next w c = refl
-
 abbrev Answers_of : World → finmap.FinMap id_cmp First
 Answers_of w = w.answers
-
-same_state : (old new : World) → new ≡ old → Stay old.answers new.answers
-same_state old new same = stay_same old.answers new.answers (ap Answers_of same)
-
-kept_side : (side : Side) (old new : World) (c : Committee) → new ≡ with_side side old c → Stay old.answers new.answers
-kept_side side old new c is = stay_same old.answers new.answers (ap Answers_of is ∙ side_answers side old c)
 
 module _ (r : Rules) where
   -- each step leaves first answers as they are
   pub answers_stay : (old : World) (event : Event) (said : Line) (new : World) → Steps r old event said new → Stay old.answers new.answers
-  answers_stay old (Register id until) (line.Register i registering.RefusedPast) new s = same_state old new s.1.1
-  answers_stay old (Register id until) (line.Register i registering.RefusedMoving) new s = same_state old new s.1.2
-  answers_stay old (Register id until) (line.Register i (registering.Until most)) new s = stay_same old.answers new.answers (ap Answers_of s.1.1)
-  answers_stay old (Write blob to) (line.Write i (write_word.Stored count bytes)) new s =
-      subst (λ (m : finmap.FinMap id_cmp First). Stay old.answers m) (sym (ap Answers_of s.1.state)) (answered_stay old.answers i (Written blob))
-  answers_stay old (Send at shard bytes) (line.Send n sending.Absent) new s = same_state old new s.1.1
-  answers_stay old (Send at shard bytes) (line.Send n sending.Ignored) new s = same_state old new s.1.1
-  answers_stay old (Send at shard bytes) (line.Send n sending.Malformed) new s = same_state old new s.1.2
-  answers_stay old (Send at shard bytes) (line.Send n sending.Unregistered) new s = same_state old new s.1.3
-  answers_stay old (Send at shard bytes) (line.Send n sending.NoMetadata) new s = same_state old new s.1.3
-  answers_stay old (Send at shard bytes) (line.Send n sending.Unverified) new s = same_state old new s.1.3
-  answers_stay old (Send at shard bytes) (line.Send n sending.Held) new s = same_state old new s.1.3
-  answers_stay old (Send at shard bytes) (line.Send n sending.Stored) new s = kept_side at old new (with_contents (side_of at old) shard s.1.1) s.1.3
-  answers_stay old (Ack shard id) (line.Ack n i acking.Unregistered) new s = same_state old new s.2.1
-  answers_stay old (Ack shard id) (line.Ack n i acking.Expires) new s = same_state old new s.2.2
-  answers_stay old (Ack shard id) (line.Ack n i acking.Declined) new s = same_state old new s.2.2
-  answers_stay old (Ack shard id) (line.Ack n i acking.Already) new s = same_state old new s.2.1
-  answers_stay old (Ack shard id) (line.Ack n i (acking.Counted count)) new s = stay_same old.answers new.answers (ap Answers_of s.2.0.state)
-  answers_stay old (Ack shard id) (line.Ack n i (acking.Certified count)) new s = stay_same old.answers new.answers (ap Answers_of s.2.0.state)
-  answers_stay old (Attest shard id) (line.Attest n i attesting.Unregistered) new s = same_state old new s.2.1
-  answers_stay old (Attest shard id) (line.Attest n i attesting.Expires) new s = same_state old new s.2.2
-  answers_stay old (Attest shard id) (line.Attest n i attesting.Declined) new s = same_state old new s.2.2
-  answers_stay old (Attest shard id) (line.Attest n i attesting.Already) new s = same_state old new s.2.1
-  answers_stay old (Attest shard id) (line.Attest n i (attesting.Counted count)) new s = stay_same old.answers new.answers (ap Answers_of s.2.0.state)
-  answers_stay old (Attest shard id) (line.Attest n i (attesting.Invalid count)) new s = stay_same old.answers new.answers (ap Answers_of s.2.0.state)
-  answers_stay old (Read id replies) (line.Read i (reading_of.Bytes bytes)) new s =
-      subst (λ (m : finmap.FinMap id_cmp First). Stay old.answers m) (sym (ap Answers_of s.1.state)) (answered_stay old.answers id (Judged s.1.evidence (verdict.Bytes bytes)))
-  answers_stay old (Read id replies) (line.Read i reading_of.Reject) new s =
-      subst (λ (m : finmap.FinMap id_cmp First). Stay old.answers m) (sym (ap Answers_of s.1.state)) (answered_stay old.answers id (Judged s.1.evidence verdict.Reject))
-  answers_stay old (Read id replies) (line.Read i (reading_of.Short have need)) new s = same_state old new s.1.1
-  answers_stay old (Read id replies) (line.Read i reading_of.NoMetadata) new s = same_state old new s.1.1
-  answers_stay old (Recover at shard axis id replies) (line.Recover n a i recovering.Absent) new s = same_state old new s.3.1
-  answers_stay old (Recover at shard axis id replies) (line.Recover n a i recovering.Ignored) new s = same_state old new s.3.1
-  answers_stay old (Recover at shard axis id replies) (line.Recover n a i recovering.Unregistered) new s = same_state old new s.3.2
-  answers_stay old (Recover at shard axis id replies) (line.Recover n a i recovering.NoMetadata) new s = same_state old new s.3.2
-  answers_stay old (Recover at shard axis id replies) (line.Recover n a i (recovering.Short have need)) new s = same_state old new s.3.2
-  answers_stay old (Recover at shard axis id replies) (line.Recover n a i (recovering.Sliver bytes)) new s = kept_side at old new (with_contents (side_of at old) shard s.3.0) s.3.2
-  answers_stay old (Recover at shard axis id replies) (line.Recover n a i recovering.Inconsistent) new s = kept_side at old new (with_contents (side_of at old) shard s.3.0) s.3.2
-  answers_stay old (Recover at shard axis id replies) (line.Recover n a i recovering.Proof) new s = kept_side at old new (with_contents (side_of at old) shard s.3.0) s.3.2
-  answers_stay old (Forget at shard id) (line.Forget n i forgetting.Absent) new s = same_state old new s.2.1
-  answers_stay old (Forget at shard id) (line.Forget n i forgetting.Ignored) new s = same_state old new s.2.1
-  answers_stay old (Forget at shard id) (line.Forget n i forgetting.Declined) new s = same_state old new s.2.2
-  answers_stay old (Forget at shard id) (line.Forget n i forgetting.Done) new s = kept_side at old new _ s.2.2
-  answers_stay old (Begin owners faulty stays) (line.Begin beginning.RefusedMoving) new s = same_state old new s.1
-  answers_stay old (Begin owners faulty stays) (line.Begin beginning.RefusedLastEpoch) new s = same_state old new s.2
-  answers_stay old (Begin owners faulty stays) (line.Begin (beginning.Epoch epoch)) new s = stay_same old.answers new.answers (ap Answers_of s.3)
-  answers_stay old (Ready shard) (line.Ready n readying.RefusedNotMoving) new s = same_state old new s.1.1
-  answers_stay old (Ready shard) (line.Ready n readying.Declined) new s = same_state old new s.1.2
-  answers_stay old (Ready shard) (line.Ready n readying.Already) new s = same_state old new s.1.3
-  answers_stay old (Ready shard) (line.Ready n (readying.Counted count)) new s = stay_same old.answers new.answers (ap Answers_of s.1.3)
-  answers_stay old Finish (line.Finish finishing.RefusedNotMoving) new s = same_state old new s.1
-  answers_stay old Finish (line.Finish (finishing.Waiting count)) new s = same_state old new s.3
-  answers_stay old Finish (line.Finish (finishing.Epoch epoch)) new s = stay_same old.answers new.answers (ap Answers_of s.3)
-  answers_stay old (Certificate id) (line.Certificate i word) new s = same_state old new s.2
-  answers_stay old (Holders id) (line.Holders i (holders_word.Count count)) new s = same_state old new s.2
-  answers_stay old (Write blob to) (line.Collision left right) new s = kept_side (writing_side old) old new s.1.write.mid s.1.state
-  answers_stay old (Send at shard bytes) (line.Collision left right) new s = same_state old new s.1.5
-  answers_stay old (Read id replies) (line.Collision left right) new s = same_state old new s.1.1
-  answers_stay old (Recover at shard axis id replies) (line.Collision left right) new s = same_state old new s.1.1
-  answers_stay old event (line.Collision left right) new s = absurd s.1
-  answers_stay old event said new s = absurd s
+  answers_stay old (Write blob to) (line.Write i (write_word.Stored count bytes)) new s = λ q answer h. grind (arith, answered_stay old.answers i (Written blob) q answer h)
+  answers_stay old (Write blob to) said new s = λ q answer h. grind arith
+  answers_stay old (Read id replies) said new s = λ q answer h. grind (arith, answered_stay)
+  -- every other event leaves the answers
+  answers_stay old event said new s = λ q answer h. grind arith
 
   -- a completed line shows the first answer
   pub answer_shown : (old : World) (event : Event) (said : Line) (new : World) (id : BlobId) (told : Verdict) → Steps r old event said new → Shows said id told → Tells new.answers id told
@@ -164,15 +83,11 @@ module _ (r : Rules) where
       subst (λ (q : BlobId). Tells new.answers q told) (sym s.0 ∙ shows.0)
       (subst (λ (m : finmap.FinMap id_cmp First). Tells m i told) (sym (ap Answers_of s.1.state))
       (let e : verdict.Reject ≡ told = cc (shows.1) in answered_tells old.answers i (Judged s.1.evidence verdict.Reject) told e (subst (λ (v : Verdict). AgreesWithFirst old.answers i v) e s.1.agrees)))
-  answer_shown old (Read i replies) (line.Read j (reading_of.Short have need)) new id told s shows = let e : None ≡ Some told = shows.1 in cc
-  answer_shown old (Read i replies) (line.Read j reading_of.NoMetadata) new id told s shows = let e : None ≡ Some told = shows.1 in cc
   answer_shown old (Write blob to) (line.Write j (write_word.Stored count bytes)) new id told s shows =
       subst (λ (q : BlobId). Tells new.answers q told) shows.0
       (subst (λ (m : finmap.FinMap id_cmp First). Tells m j told) (sym (ap Answers_of s.1.state))
       (let e : verdict.Bytes blob ≡ told = ap verdict.Bytes (sym s.0) ∙ sym shows.1 in answered_tells old.answers j (Written blob) told e (subst (λ (v : Verdict). AgreesWithFirst old.answers j v) e s.1.agrees)))
-  answer_shown old event (line.Read j word) new id told s shows = absurd s
-  answer_shown old event (line.Write j (write_word.Stored count bytes)) new id told s shows = absurd s
-  answer_shown old event said new id told s shows = absurd shows
+  answer_shown old event said new id told s shows = grind arith
 
 -- the state after the last step
 abbrev pub last : World → List World → World
@@ -190,10 +105,7 @@ answers_last r old (event ∷ events) (new ∷ states) (said ∷ lines) run id a
     by : (b : Bool) → cond b ((states ≡ []) × (lines ≡ [])) (Runs r new events states lines) → (Runs r new events states lines → finmap.get (last new states).answers id ≡ Some a) → finmap.get (last new states).answers id ≡ Some a
     by true ends go = subst (λ (l : List World). finmap.get (last new l).answers id ≡ Some a) (sym ends.0) here
     by false rest go = go rest
-answers_last r old [] (new ∷ states) lines run id a h = absurd run
-answers_last r old [] [] (said ∷ lines) run id a h = absurd run
-answers_last r old (event ∷ events) [] lines run id a h = absurd run
-answers_last r old (event ∷ events) (new ∷ states) [] run id a h = absurd run
+answers_last r old events states lines run id a h = absurd run
 
 -- each completed line of a run shows the answer that stands at its end
 shown_at : (r : Rules) (old : World) (events : List Event) (states : List World) (lines : List Line) (k : ℕ) (said : Line) (id : BlobId) (told : Verdict) → Runs r old events states lines
@@ -212,10 +124,7 @@ shown_at r old (event ∷ events) (new ∷ states) (first ∷ lines) (suc k) sai
     by true ends go = absurd (omega (arith, lt, ap (λ (l : List Line). length l) ends.1))
     by false rest go = go rest
 shown_at r old [] [] [] k said id told run lt at shows = absurd (omega arith)
-shown_at r old [] (new ∷ states) lines k said id told run lt at shows = absurd run
-shown_at r old [] [] (first ∷ lines) k said id told run lt at shows = absurd run
-shown_at r old (event ∷ events) [] lines k said id told run lt at shows = absurd run
-shown_at r old (event ∷ events) (new ∷ states) [] k said id told run lt at shows = absurd run
+shown_at r old events states lines k said id told run lt at shows = absurd run
 
 -- all completed lines for one identifier agree, whatever the number of faulty shards
 pub agree : (r : Rules) (old : World) (events : List Event) (states : List World) (lines : List Line) → Runs r old events states lines → Agree lines

@@ -4,7 +4,7 @@ use Rattle.std.proofs.lemmas.Bool.{true≢false}
 use Rattle.std.proofs.lemmas.List.Elements.{All-push, All-weaker, All-nil, All-cons}
 use Rattle.wal_ledger.specs.declared.entry.Entry.{Entry}
 use Rattle.wal_ledger.specs.declared.entry.Body.{Body}
-use Rattle.wal_ledger.specs.declared.entry.Body.TheVariants.{Register, Ack, Attest, Ready, Begin, Finish}
+use Rattle.wal_ledger.specs.declared.entry.Body.TheVariants.{Begin}
 use Rattle.wal_ledger.specs.Ledger.{Log, Phase, phase, phase_after, writing, is_begin, entered}
 use Rattle.wal_ledger.specs.Handover.{IsMadeSince}
 use Rattle.wal_ledger.proofs.Entering.{phase_push}
@@ -21,11 +21,7 @@ none_ahead_entered log b were up =
 made_since : (e : ℕ) (b : Body) (x : Entry) (p : Phase) → x.body ≡ b → All (IsMadeSince e) p.since → (is_begin b ≡ false → x.epoch ≡ e) → All (IsMadeSince e) (phase_after b x p).since
 made_since e (Begin owners) x p is were same =
     All-cons (IsMadeSince e) x [] (λ none. absurd (true≢false (sym (ap is_begin is) ∙ none))) (All-nil (IsMadeSince e))
-made_since e (Register id until) x p is were same = All-push (IsMadeSince e) p.since x were (λ none. same refl)
-made_since e (Ack shard id) x p is were same = All-push (IsMadeSince e) p.since x were (λ none. same refl)
-made_since e (Attest shard id) x p is were same = All-push (IsMadeSince e) p.since x were (λ none. same refl)
-made_since e (Ready shard) x p is were same = All-push (IsMadeSince e) p.since x were (λ none. same refl)
-made_since e Finish x p is were same = All-push (IsMadeSince e) p.since x were (λ none. same refl)
+made_since e b x p is were same = All-push (IsMadeSince e) p.since x were (λ none. same refl)
 
 -- the entries after the last Begin are of the writing epoch, where no other entry changes that
 pub since_begin_entered : (log : Log) (b : Body) → All (IsMadeSince (writing log)) (phase log).since → writing (entered log b) ≡ writing log

@@ -47,6 +47,7 @@ use Rattle.wal_protocol.proofs.Lookups.{held_is}
 use Rattle.wal_protocol.proofs.Grown.{AreSound, sound_contents, grown_put}
 use Rattle.wal_protocol.proofs.Stepped.{facts_step}
 use Rattle.wal_protocol.proofs.Safety.{facts_first}
+use Rattle.wal_protocol.proofs.OneStep.{sent_word, recovered_state}
 use Rattle.wal_protocol.proofs.EveryWord.{surely, then, by_cases, truth, Standing, absent, ignored, correct, standing, every_register, every_ack, every_attest, every_forget, every_begin, every_ready, every_finish, every_certificate}
 
 abbrev Answer : Rules → Log → ℕ → Contents → Frame → Type 0
@@ -171,15 +172,12 @@ module _ (r : Rules) (laws : Laws r) (total : Total r) where
       answers : is_correct side old shard ≡ true → (frame : Frame) → r.IsPutFrame bytes frame → (answer : PutAnswer) (contents : Contents)
           → r.Puts old.log shard (contents_of (side_of side old) shard) frame answer contents → Possible (HasStep r old (Send side shard bytes))
       answers sound frame is putting.Stored contents puts = surely (line.Send shard sending.Stored, keeps old side shard contents, (refl, (frame, contents, (sound, is, puts), refl)))
-      answers sound frame is putting.Unregistered contents puts = surely (line.Send shard sending.Unregistered, old, (refl, (frame, contents, (sound, is, puts), refl)))
-      answers sound frame is putting.NoMetadata contents puts = surely (line.Send shard sending.NoMetadata, old, (refl, (frame, contents, (sound, is, puts), refl)))
-      answers sound frame is putting.Unverified contents puts = surely (line.Send shard sending.Unverified, old, (refl, (frame, contents, (sound, is, puts), refl)))
-      answers sound frame is putting.Held contents puts = surely (line.Send shard sending.Held, old, (refl, (frame, contents, (sound, is, puts), refl)))
       answers sound frame is (putting.OtherMetadata clash) contents puts =
           let found = total.put_collides old.log shard (contents_of (side_of side old) shard) contents frame (putting.OtherMetadata clash) puts refl in
           surely (line.Collision found.0 found.1, old, (found.2, (frame, contents, putting.OtherMetadata clash, refl, (sound, is, puts), refl)))
       answers sound frame is (putting.Full needed free) contents puts = absurd (total.put_room old.log shard (contents_of (side_of side old) shard) contents frame (putting.Full needed free) puts)
       answers sound frame is putting.Memory contents puts = absurd (total.put_room old.log shard (contents_of (side_of side old) shard) contents frame putting.Memory puts)
+      answers sound frame is refusal contents puts = surely (line.Send shard (sent_word refusal), old, (refl, (frame, contents, (sound, is, puts), refl)))
 
       by : Standing old side shard → Possible (HasStep r old (Send side shard bytes))
       by (absent none) = surely (line.Send shard sending.Absent, old, (refl, (none, refl)))
@@ -230,10 +228,7 @@ module _ (r : Rules) (laws : Laws r) (total : Total r) where
       ends reading_of.Reject (Some evidence) reads fits = completes reading_of.Reject verdict.Reject evidence reads refl (λ new is. is)
       ends (reading_of.Short have need) None reads fits = surely (line.Read id (reading_of.Short have need), old, (refl, (reads, refl)))
       ends reading_of.NoMetadata None reads fits = surely (line.Read id reading_of.NoMetadata, old, (refl, (reads, refl)))
-      ends (reading_of.Bytes told) None reads fits = absurd (false≢true fits)
-      ends reading_of.Reject None reads fits = absurd (false≢true fits)
-      ends (reading_of.Short have need) (Some evidence) reads fits = absurd (true≢false fits)
-      ends reading_of.NoMetadata (Some evidence) reads fits = absurd (true≢false fits)
+      ends word evidence reads fits = absurd cc
 
   -- ---- recoveries
 
@@ -270,11 +265,7 @@ module _ (r : Rules) (laws : Laws r) (total : Total r) where
       ends recovering.Absent contents run found = absurd found
       ends recovering.Ignored contents run found = absurd found
       ends recovering.Unregistered contents run found = absurd found
-      ends recovering.NoMetadata contents run found = says recovering.NoMetadata old (contents, run, refl)
-      ends (recovering.Short have need) contents run found = says (recovering.Short have need) old (contents, run, refl)
-      ends (recovering.Sliver bytes) contents run found = says (recovering.Sliver bytes) (keeps old side shard contents) (contents, run, refl)
-      ends recovering.Inconsistent contents run found = says recovering.Inconsistent (keeps old side shard contents) (contents, run, refl)
-      ends recovering.Proof contents run found = says recovering.Proof (keeps old side shard contents) (contents, run, refl)
+      ends word contents run found = says word (recovered_state old side shard word contents) (contents, run, refl)
 
       runs : is_correct side old shard ≡ true → is_live old.log id ≡ true → Replied old id axis shard replies → Possible (HasStep r old (Recover side shard axis id replies))
       runs sound live replied =

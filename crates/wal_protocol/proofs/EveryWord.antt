@@ -7,7 +7,9 @@ use Rattle.wal_shape.specs.Owners.{among}
 use Rattle.wal_event.specs.declared.line.RegisterWord.{RegisterWord}
 use Rattle.wal_event.specs.declared.line.RegisterWord.TheVariants as registering
 use Rattle.wal_event.specs.declared.line.AckWord.{AckWord}
+use Rattle.wal_event.specs.declared.line.AckWord.TheVariants as acking
 use Rattle.wal_event.specs.declared.line.AttestWord.{AttestWord}
+use Rattle.wal_event.specs.declared.line.AttestWord.TheVariants as attesting
 use Rattle.wal_event.specs.declared.line.ForgetWord.{ForgetWord}
 use Rattle.wal_event.specs.declared.line.ForgetWord.TheVariants as forgetting
 use Rattle.wal_event.specs.declared.line.BeginWord.{BeginWord}
@@ -18,12 +20,11 @@ use Rattle.wal_event.specs.declared.line.FinishWord.{FinishWord}
 use Rattle.wal_event.specs.declared.line.FinishWord.TheVariants as finishing
 use Rattle.wal_event.specs.declared.line.CertificateWord.{CertificateWord}
 use Rattle.wal_event.specs.declared.line.CertificateWord.TheVariants as certifying
-use Rattle.wal_ledger.specs.declared.entry.Body.TheVariants as entry
 use Rattle.wal_ledger.specs.declared.entry.Kind.{Kind}
 use Rattle.wal_ledger.specs.declared.entry.Kind.TheVariants.{Holds, Denies}
 use Rattle.wal_ledger.specs.Shards.{quorum_size}
 use Rattle.wal_ledger.specs.Ledger.{is_moving, reading, writing, until_of, is_live, signers, signer_count, IsCertified, ready_shards, ready_total, entered}
-use Rattle.wal_ledger.specs.Answers.{is_moving_extension, IsOpen, claim_of}
+use Rattle.wal_ledger.specs.Answers.{is_moving_extension, MayClaim, claim_of}
 use Rattle.wal_shard.specs.Holding.{settled}
 use Rattle.wal_shard.specs.Vouching.{backs, MayForget, without_slivers}
 use Rattle.wal_protocol.specs.declared.said.Said.{Said}
@@ -32,7 +33,6 @@ use Rattle.wal_protocol.specs.State.{World, side_of, writing_side, is_present, i
 use Rattle.wal_protocol.specs.inside.Saying.{Says}
 use Rattle.wal_protocol.specs.Step.{RegisterStep, IsIgnored, MayPost, Declines, ClaimStep, AckStep, AttestStep, ForgetStep, BeginStep, HoldsAll, MayBeReady, IsUnready, ReadyStep, FinishStep, CertificateStep}
 use Rattle.wal_protocol.specs.Total.{Possible}
-use Rattle.wal_protocol.proofs.OneWord.{said_ack, said_attest}
 
 -- ---- what is not impossible
 
@@ -56,16 +56,13 @@ truth false = inr refl
 -- ---- registrations
 
 pub every_register : (old : World) (id : BlobId) (until : ℕ) → (word : RegisterWord) × (new : World) × RegisterStep old id until word new
-every_register old id until =
-    ⊎_elim
-    (λ beyond. ⊎_elim
-    (λ moving. (registering.RefusedMoving, old, (beyond, moving, refl)))
-    (λ still.
-    let new : World = record old { log = entered old.log (entry.Register id until) } in
-    (registering.Until (until_of new.log id), new, (record { beyond = beyond; allowed = still }, refl, refl)))
-    (truth (is_moving_extension old.log id)))
-    (λ past. (registering.RefusedPast, old, (past, refl)))
-    (cases_lt (writing old.log) until)
+every_register old id until = by (cases_lt (writing old.log) until) (truth (is_moving_extension old.log id))
+  where
+    by : (writing old.log < until) ⊎ (until ≤ writing old.log) → (is_moving_extension old.log id ≡ true) ⊎ (is_moving_extension old.log id ≡ false)
+        → (word : RegisterWord) × (new : World) × RegisterStep old id until word new
+    by (inr past) moves = (registering.RefusedPast, old, (past, refl))
+    by (inl beyond) (inl moving) = (registering.RefusedMoving, old, (beyond, moving, refl))
+    by (inl beyond) (inr still) = (registering.Until _, _, (record { beyond = beyond; allowed = still }, refl, refl))
 
 -- ---- acknowledgements and attestations
 
@@ -77,50 +74,46 @@ module _ (kind : Kind) (old : World) (shard : ℕ) (id : BlobId) where
   may_post none right s lt same =
       ⊎_elim (λ holds. holds) (λ fails. absurd (none (right, s, lt, same, fails))) (truth (backs kind (held (side_of (writing_side old) old) s id)))
 
-  says_open : IsOpen old.log id → MayPost old kind shard id → HasSaid
-  says_open is_open may =
-      ⊎_elim
-      (λ before. (Already, old, ((is_open, may, before), refl)))
-      (λ first.
+  says : (is_live old.log id ≡ true) ⊎ (is_live old.log id ≡ false) → (writing old.log < until_of old.log id) ⊎ (until_of old.log id ≤ writing old.log)
+      → Declines old kind shard id ⊎ (Declines old kind shard id → ⊥) → (signers old.log id kind (writing old.log) shard ≡ true) ⊎ (signers old.log id kind (writing old.log) shard ≡ false)
+      → HasSaid
+  says (inr dead) outlasts may before = (Unregistered, old, (dead, refl))
+  says (inl live) (inr past) may before = (Expires, old, (live, past, refl))
+  says (inl live) (inl outlasts) (inl declines) before = (Declined, old, (record { live = live; outlasts = outlasts }, declines, refl))
+  says (inl live) (inl outlasts) (inr none) (inl before) = (Already, old, ((record { live = live; outlasts = outlasts }, may_post none, before), refl))
+  says (inl live) (inl outlasts) (inr none) (inr first) =
       let new : World = record old { log = entered old.log (claim_of kind shard id) } in
       let count = signer_count new.log id kind (writing new.log) in
-      let claims : ClaimStep old kind shard id count new = record { first_time = record { open_to_claims = is_open; first_time = first }; may = may; state = refl; counted = refl } in
-      ⊎_elim (λ few. (Counted count, new, (claims, few))) (λ enough. (Quorum count, new, (claims, enough))) (cases_lt count (quorum_size old.log.f)))
-      (truth (signers old.log id kind (writing old.log) shard))
-
-  says_live : is_live old.log id ≡ true → Possible HasSaid
-  says_live live =
-      ⊎_elim
-      (λ outlasts.
-      let is_open : IsOpen old.log id = record { live = live; outlasts = outlasts } in
-      by_cases (Declines old kind shard id) (λ declines. surely (Declined, old, (is_open, declines, refl))) (λ none. surely (says_open is_open (may_post none))))
-      (λ past. surely (Expires, old, (live, past, refl)))
-      (cases_lt (writing old.log) (until_of old.log id))
+      let first_time : MayClaim old.log kind shard id = record { open_to_claims = record { live = live; outlasts = outlasts }; first_time = first } in
+      let claims : ClaimStep old kind shard id count new = record { first_time = first_time; may = may_post none; state = refl; counted = refl } in
+      ⊎_elim (λ few. (Counted count, new, (claims, few))) (λ enough. (Quorum count, new, (claims, enough))) (cases_lt count (quorum_size old.log.f))
 
   every_said : Possible HasSaid
-  every_said = ⊎_elim says_live (λ dead. surely (Unregistered, old, (dead, refl))) (truth (is_live old.log id))
+  every_said =
+      then (either (Declines old kind shard id)) (λ may.
+      surely (says (truth (is_live old.log id)) (cases_lt (writing old.log) (until_of old.log id)) may (truth (signers old.log id kind (writing old.log) shard))))
 
-said_acks : (old : World) (shard : ℕ) (id : BlobId) (word : Said) (new : World) → Says Holds old shard id word new → AckStep old shard id (said_ack word) new
-said_acks old shard id Unregistered new is = is
-said_acks old shard id Expires new is = is
-said_acks old shard id Declined new is = is
-said_acks old shard id Already new is = is
-said_acks old shard id (Counted count) new is = is
-said_acks old shard id (Quorum count) new is = is
+acked : (old : World) (shard : ℕ) (id : BlobId) (word : Said) (new : World) → Says Holds old shard id word new → (word : AckWord) × (new : World) × AckStep old shard id word new
+acked old shard id Unregistered new is = (acking.Unregistered, new, is)
+acked old shard id Expires new is = (acking.Expires, new, is)
+acked old shard id Declined new is = (acking.Declined, new, is)
+acked old shard id Already new is = (acking.Already, new, is)
+acked old shard id (Counted count) new is = (acking.Counted count, new, is)
+acked old shard id (Quorum count) new is = (acking.Certified count, new, is)
 
-said_attests : (old : World) (shard : ℕ) (id : BlobId) (word : Said) (new : World) → Says Denies old shard id word new → AttestStep old shard id (said_attest word) new
-said_attests old shard id Unregistered new is = is
-said_attests old shard id Expires new is = is
-said_attests old shard id Declined new is = is
-said_attests old shard id Already new is = is
-said_attests old shard id (Counted count) new is = is
-said_attests old shard id (Quorum count) new is = is
+attested : (old : World) (shard : ℕ) (id : BlobId) (word : Said) (new : World) → Says Denies old shard id word new → (word : AttestWord) × (new : World) × AttestStep old shard id word new
+attested old shard id Unregistered new is = (attesting.Unregistered, new, is)
+attested old shard id Expires new is = (attesting.Expires, new, is)
+attested old shard id Declined new is = (attesting.Declined, new, is)
+attested old shard id Already new is = (attesting.Already, new, is)
+attested old shard id (Counted count) new is = (attesting.Counted count, new, is)
+attested old shard id (Quorum count) new is = (attesting.Invalid count, new, is)
 
 pub every_ack : (old : World) (shard : ℕ) (id : BlobId) → Possible ((word : AckWord) × (new : World) × AckStep old shard id word new)
-every_ack old shard id = then (every_said Holds old shard id) (λ said. surely (said_ack said.0, said.1, said_acks old shard id said.0 said.1 said.2))
+every_ack old shard id = then (every_said Holds old shard id) (λ said. surely (acked old shard id said.0 said.1 said.2))
 
 pub every_attest : (old : World) (shard : ℕ) (id : BlobId) → Possible ((word : AttestWord) × (new : World) × AttestStep old shard id word new)
-every_attest old shard id = then (every_said Denies old shard id) (λ said. surely (said_attest said.0, said.1, said_attests old shard id said.0 said.1 said.2))
+every_attest old shard id = then (every_said Denies old shard id) (λ said. surely (attested old shard id said.0 said.1 said.2))
 
 -- ---- shards
 
@@ -169,16 +162,14 @@ may_be_ready old shard none sound s lt same = holds_all old s (λ fails. none (s
 
 pub every_ready : (old : World) (shard : ℕ) → Possible ((word : ReadyWord) × (new : World) × ReadyStep old shard word new)
 every_ready old shard =
-    ⊎_elim
-    (λ moving.
-    by_cases (IsUnready old shard) (λ unready. surely (readying.Declined, old, (moving, unready, refl)))
-    (λ none.
-    let may = may_be_ready old shard none in
-    ⊎_elim (λ before. surely (readying.Already, old, (moving, may, before, refl)))
-    (λ first. surely (readying.Counted (ready_total (entered old.log (entry.Ready shard))), _, (moving, may, first, refl, refl)))
-    (truth (ready_shards old.log shard))))
-    (λ still. surely (readying.RefusedNotMoving, old, (still, refl)))
-    (truth (is_moving old.log))
+    then (either (IsUnready old shard)) (λ may. surely (by (truth (is_moving old.log)) may (truth (ready_shards old.log shard))))
+  where
+    by : (is_moving old.log ≡ true) ⊎ (is_moving old.log ≡ false) → IsUnready old shard ⊎ (IsUnready old shard → ⊥) → (ready_shards old.log shard ≡ true) ⊎ (ready_shards old.log shard ≡ false)
+        → (word : ReadyWord) × (new : World) × ReadyStep old shard word new
+    by (inr still) may before = (readying.RefusedNotMoving, old, (still, refl))
+    by (inl moving) (inl unready) before = (readying.Declined, old, (moving, unready, refl))
+    by (inl moving) (inr none) (inl before) = (readying.Already, old, (moving, may_be_ready old shard none, before, refl))
+    by (inl moving) (inr none) (inr first) = (readying.Counted _, _, (moving, may_be_ready old shard none, first, refl, refl))
 
 pub every_finish : (old : World) → (word : FinishWord) × (new : World) × FinishStep old word new
 every_finish old =

@@ -1,7 +1,7 @@
 -- What a shard holds, after a change of a committee.
 use Rattle.std.proofs.Common.{◌≡◌, ◌≢◌, ℕ, zero, suc, ◌<◌, ◌≤◌, List, [], ◌∷◌, length, map, get_or, slice_set, Bool, true, false, cond, ◌&&◌, Option, Some, None, unwrap_or, ◌⊎◌, inl, inr, refl, sym, ap, ◌∙◌, subst, arith}
 use Rattle.std.specs.declared.cmp.Ordering.{Ordering}
-use Rattle.std.specs.declared.cmp.Ordering.TheVariants.{Less, Equal, Greater}
+use Rattle.std.specs.declared.cmp.Ordering.TheVariants.{Equal}
 use Rattle.std.specs.Ordering.{is_eq, eq_by_cmp}
 use Rattle.std.specs.List.{range_with_len}
 use Rattle.std.specs.FinMap as finmap
@@ -34,23 +34,20 @@ pub same_id : (q id : BlobId) → eq_by_cmp id_cmp q id ≡ true → q ≡ id
 same_id q id h = exact_ids q id (by (id_cmp q id) h)
   where
     by : (r : Ordering) → is_eq r ≡ true → r ≡ Equal
-    by Less e = cc
     by Equal e = refl
-    by Greater e = cc
+    by r e = cc
+
+-- the parts that a lookup in a changed map gives
+looked_up : (b : Bool) (x y : Option Parts) → unwrap_or (cond b x y) no_parts ≡ cond b (unwrap_or x no_parts) (unwrap_or y no_parts)
+looked_up true x y = refl
+looked_up false x y = refl
 
 pub parts_inserted : (m : Contents) (id : BlobId) (parts : Parts) (q : BlobId) → parts_at (finmap.insert m id parts) q ≡ cond (eq_by_cmp id_cmp q id) parts (parts_at m q)
-parts_inserted m id parts q = ap (λ (o : Option Parts). unwrap_or o no_parts) (get-insert ids_total m id parts q) ∙ by (eq_by_cmp id_cmp q id)
-  where
-    by : (b : Bool) → unwrap_or (cond b (Some parts) (finmap.get m q)) no_parts ≡ cond b parts (unwrap_or (finmap.get m q) no_parts)
-    by true = refl
-    by false = refl
+parts_inserted m id parts q =
+    ap (λ (o : Option Parts). unwrap_or o no_parts) (get-insert ids_total m id parts q) ∙ looked_up (eq_by_cmp id_cmp q id) (Some parts) (finmap.get m q)
 
 parts_removed : (m : Contents) (id : BlobId) (q : BlobId) → parts_at (finmap.remove m id) q ≡ cond (eq_by_cmp id_cmp q id) no_parts (parts_at m q)
-parts_removed m id q = ap (λ (o : Option Parts). unwrap_or o no_parts) (get-remove ids_total m id q) ∙ by (eq_by_cmp id_cmp q id)
-  where
-    by : (b : Bool) → unwrap_or (cond b None (finmap.get m q)) no_parts ≡ cond b no_parts (unwrap_or (finmap.get m q) no_parts)
-    by true = refl
-    by false = refl
+parts_removed m id q = ap (λ (o : Option Parts). unwrap_or o no_parts) (get-remove ids_total m id q) ∙ looked_up (eq_by_cmp id_cmp q id) None (finmap.get m q)
 
 -- no part is there, so it is no holding
 empty_parts : (p : Parts) → is_empty p ≡ true → p ≡ no_parts
@@ -58,10 +55,7 @@ empty_parts p h = by p.metadata p.primary p.secondary p.proof h
   where
     by : (a b c d : Option (List ℕ)) → (is_absent a && is_absent b && is_absent c && is_absent d) ≡ true → ◌≡◌ {A = Parts} (record { metadata = a; primary = b; secondary = c; proof = d }) no_parts
     by None None None None e = refl
-    by (Some x) b c d e = cc
-    by None (Some x) c d e = cc
-    by None None (Some x) d e = cc
-    by None None None (Some x) e = cc
+    by a b c d e = cc
 
 -- what is held once these are the parts of an identifier
 pub parts_with : (m : Contents) (id : BlobId) (p : Parts) (q : BlobId) → parts_at (with_parts m id p) q ≡ cond (eq_by_cmp id_cmp q id) p (parts_at m q)
@@ -126,11 +120,7 @@ held_is c s q = refl
 retained : (m : Contents) (log : Log) (id : BlobId) → parts_at (without_dead log m) id ≡ cond (is_live log id) (parts_at m id) no_parts
 retained m log id =
     ap (λ (o : Option Parts). unwrap_or o no_parts) (get-retain_keys m (is_live log) id (λ x tied. ap (is_live log) (sym (exact_ids id x tied))))
-    ∙ by (is_live log id)
-  where
-    by : (b : Bool) → unwrap_or (cond b (finmap.get m id) None) no_parts ≡ cond b (unwrap_or (finmap.get m id) no_parts) no_parts
-    by true = refl
-    by false = refl
+    ∙ looked_up (is_live log id) (finmap.get m id) None
 
 pub held_without : (log : Log) (c : Committee) (s : ℕ) (id : BlobId) → held (after_dropping log c) s id ≡ cond (is_live log id) (held c s id) no_parts
 unfolding held

@@ -1,48 +1,23 @@
--- What events of the ledger and the epoch come to is one word and one state; and what a step needs of the crates below to be one.
-use Rattle.std.proofs.Common.{◌≡◌, ℕ, ◌≤◌, Bool, true, false, not, List, Option, refl, sym, ap, subst, ◌∙◌, arith, ⊎_elim, true≢false}
-use Rattle.std.proofs.lemmas.Bool.{cases_lt, and_parts}
+-- What a step needs of the crates below to be one; and a certificate is one word.
+use Rattle.std.proofs.Common.{◌≡◌, ℕ, ◌≤◌, false, List, Option, sym, ap, subst, ◌∙◌, arith}
 use Rattle.wal_shape.specs.declared.metadata.BlobId.{BlobId}
 use Rattle.wal_shape.specs.declared.axis.Axis.{Axis}
-use Rattle.wal_shape.specs.declared.axis.Side.{Side}
 use Rattle.wal_shape.specs.declared.shape.Format.{Format}
-use Rattle.wal_shape.specs.Owners.{among}
 use Rattle.wal_evidence.specs.declared.evidence.Evidence.{Evidence}
 use Rattle.wal_frame.specs.Frame.{Frame}
-use Rattle.wal_event.specs.declared.line.Line.{Line}
-use Rattle.wal_event.specs.declared.line.RegisterWord.{RegisterWord}
-use Rattle.wal_event.specs.declared.line.RegisterWord.TheVariants as registering
-use Rattle.wal_event.specs.declared.line.AckWord.{AckWord}
-use Rattle.wal_event.specs.declared.line.AckWord.TheVariants as acking
-use Rattle.wal_event.specs.declared.line.AttestWord.{AttestWord}
-use Rattle.wal_event.specs.declared.line.AttestWord.TheVariants as attesting
 use Rattle.wal_event.specs.declared.line.ReadWord.{ReadWord}
 use Rattle.wal_event.specs.declared.line.RecoverWord.{RecoverWord}
-use Rattle.wal_event.specs.declared.line.ForgetWord.{ForgetWord}
-use Rattle.wal_event.specs.declared.line.ForgetWord.TheVariants as forgetting
-use Rattle.wal_event.specs.declared.line.BeginWord.{BeginWord}
-use Rattle.wal_event.specs.declared.line.BeginWord.TheVariants as beginning
-use Rattle.wal_event.specs.declared.line.ReadyWord.{ReadyWord}
-use Rattle.wal_event.specs.declared.line.ReadyWord.TheVariants as readying
-use Rattle.wal_event.specs.declared.line.FinishWord.{FinishWord}
-use Rattle.wal_event.specs.declared.line.FinishWord.TheVariants as finishing
 use Rattle.wal_event.specs.declared.line.CertificateWord.{CertificateWord}
 use Rattle.wal_event.specs.declared.line.CertificateWord.TheVariants as certifying
-use Rattle.wal_ledger.specs.declared.entry.Kind.{Kind}
-use Rattle.wal_ledger.specs.declared.entry.Kind.TheVariants.{Holds, Denies}
+use Rattle.wal_ledger.specs.declared.entry.Kind.TheVariants.{Holds}
 use Rattle.wal_ledger.specs.Shards.{quorum_size}
-use Rattle.wal_ledger.specs.Ledger.{Log, writing, until_of, is_live, signers, signer_count, ready_total}
-use Rattle.wal_ledger.specs.Answers.{IsOpen}
+use Rattle.wal_ledger.specs.Ledger.{Log, signer_count}
 use Rattle.wal_store.specs.Parts.{Parts}
 use Rattle.wal_store.specs.Contents.{Contents}
 use Rattle.wal_shard.specs.declared.answers.PutAnswer.{PutAnswer}
-use Rattle.wal_protocol.specs.declared.said.Said.{Said}
-use Rattle.wal_protocol.specs.declared.said.Said.TheVariants.{Unregistered, Expires, Declined, Already, Counted, Quorum}
-use Rattle.wal_protocol.specs.State.{World, side_of, is_present, is_correct}
+use Rattle.wal_protocol.specs.State.{World}
 use Rattle.wal_protocol.specs.Rules.{Rules}
-use Rattle.wal_protocol.specs.inside.Saying.{Says}
-use Rattle.wal_protocol.specs.Step.{RegisterStep, is_clash, IsIgnored, MayPost, Declines, ClaimStep, AckStep, AttestStep, ForgetStep, BeginStep, MayBeReady, IsUnready, ReadyStep, FinishStep, CertificateStep}
-use Rattle.wal_protocol.specs.Run.{is_collision}
-use Rattle.wal_protocol.specs.Determined.{SameStep}
+use Rattle.wal_protocol.specs.Step.{is_clash, CertificateStep}
 
 -- ---- what the crates below leave no choice of
 
@@ -63,259 +38,15 @@ pub record Only (r : Rules) : Type 0 where
   pub recovers : (id : BlobId) (shard : ℕ) (axis : Axis) (old : Contents) (payloads : List (List ℕ)) (w v : RecoverWord) (x y : Contents)
       → r.Recovers id shard axis old payloads w x → r.Recovers id shard axis old payloads v y → (w ≡ v) × (x ≡ y)
 
--- ---- one line
-
-pub same_step : (a b : Line) (x y : World) → a ≡ b → x ≡ y → SameStep a b x y
-same_step a b x y same state = ((ap is_collision same, λ goes. same), state)
-
-pub both_collide : (a b : Line) (x y : World) → is_collision a ≡ true → is_collision b ≡ true → x ≡ y → SameStep a b x y
-both_collide a b x y is_a is_b state = ((is_a ∙ sym is_b, λ goes. absurd (true≢false (sym is_a ∙ goes))), state)
-
-pub not_both : (b : Bool) → b ≡ true → b ≡ false → ⊥
-not_both b holds fails = true≢false (sym holds ∙ fails)
-
--- ---- the ledger's events
-
-pub one_register : (old : World) (id : BlobId) (until : ℕ) (w v : RegisterWord) (x y : World) → RegisterStep old id until w x → RegisterStep old id until v y → (w ≡ v) × (x ≡ y)
-one_register old id until registering.RefusedPast registering.RefusedPast x y a b = (refl, a.1 ∙ sym b.1)
-one_register old id until registering.RefusedPast registering.RefusedMoving x y a b = absurd (omega (arith, a.0, b.0))
-one_register old id until registering.RefusedPast (registering.Until j) x y a b = absurd (omega (arith, a.0, b.0.beyond))
-one_register old id until registering.RefusedMoving registering.RefusedPast x y a b = absurd (omega (arith, a.0, b.0))
-one_register old id until registering.RefusedMoving registering.RefusedMoving x y a b = (refl, a.2 ∙ sym b.2)
-one_register old id until registering.RefusedMoving (registering.Until j) x y a b = absurd (not_both _ a.1 b.0.allowed)
-one_register old id until (registering.Until k) registering.RefusedPast x y a b = absurd (omega (arith, b.0, a.0.beyond))
-one_register old id until (registering.Until k) registering.RefusedMoving x y a b = absurd (not_both _ b.1 a.0.allowed)
-one_register old id until (registering.Until k) (registering.Until j) x y a b =
-    let same = a.1 ∙ sym b.1 in
-    (ap registering.Until (a.2 ∙ ap (λ (w : World). until_of w.log id) same ∙ sym b.2), same)
-
--- ---- acknowledgements and attestations
-
-module _ (kind : Kind) (old : World) (shard : ℕ) (id : BlobId) where
-  -- a blob that is open is live, and outlasts the epoch
-  open_not_dead : IsOpen old.log id → is_live old.log id ≡ false → ⊥
-  open_not_dead is dead = not_both _ is.live dead
-
-  open_not_past : IsOpen old.log id → until_of old.log id ≤ writing old.log → ⊥
-  open_not_past is past = omega (arith, is.outlasts, past)
-
-  -- a node that may say so does not decline
-  posts_not : MayPost old kind shard id → Declines old kind shard id → ⊥
-  posts_not may fails = not_both _ (may fails.0 fails.1 fails.2 fails.3) fails.4
-
-  -- and says so once
-  pub claims_not : (count : ℕ) (new : World) → ClaimStep old kind shard id count new → signers old.log id kind (writing old.log) shard ≡ true → ⊥
-  claims_not count new claims before = not_both _ before claims.first_time.first_time
-
-  pub one_claim : (i j : ℕ) (x y : World) → ClaimStep old kind shard id i x → ClaimStep old kind shard id j y → (i ≡ j) × (x ≡ y)
-  one_claim i j x y a b =
-      let same = a.state ∙ sym b.state in
-      (a.counted ∙ ap (λ (w : World). signer_count w.log id kind (writing w.log)) same ∙ sym b.counted, same)
-
-  pub one_said : (w v : Said) (x y : World) → Says kind old shard id w x → Says kind old shard id v y → (w ≡ v) × (x ≡ y)
-  one_said Unregistered Unregistered x y a b = (refl, a.1 ∙ sym b.1)
-  one_said Unregistered Expires x y a b = absurd (not_both _ b.0 a.0)
-  one_said Unregistered Declined x y a b = absurd (open_not_dead b.0 a.0)
-  one_said Unregistered Already x y a b = absurd (open_not_dead b.0.0 a.0)
-  one_said Unregistered (Counted j) x y a b = absurd (open_not_dead b.0.first_time.open_to_claims a.0)
-  one_said Unregistered (Quorum j) x y a b = absurd (open_not_dead b.0.first_time.open_to_claims a.0)
-  one_said Expires Unregistered x y a b = absurd (not_both _ a.0 b.0)
-  one_said Expires Expires x y a b = (refl, a.2 ∙ sym b.2)
-  one_said Expires Declined x y a b = absurd (open_not_past b.0 a.1)
-  one_said Expires Already x y a b = absurd (open_not_past b.0.0 a.1)
-  one_said Expires (Counted j) x y a b = absurd (open_not_past b.0.first_time.open_to_claims a.1)
-  one_said Expires (Quorum j) x y a b = absurd (open_not_past b.0.first_time.open_to_claims a.1)
-  one_said Declined Unregistered x y a b = absurd (open_not_dead a.0 b.0)
-  one_said Declined Expires x y a b = absurd (open_not_past a.0 b.1)
-  one_said Declined Declined x y a b = (refl, a.2 ∙ sym b.2)
-  one_said Declined Already x y a b = absurd (posts_not b.0.1 a.1)
-  one_said Declined (Counted j) x y a b = absurd (posts_not b.0.may a.1)
-  one_said Declined (Quorum j) x y a b = absurd (posts_not b.0.may a.1)
-  one_said Already Unregistered x y a b = absurd (open_not_dead a.0.0 b.0)
-  one_said Already Expires x y a b = absurd (open_not_past a.0.0 b.1)
-  one_said Already Declined x y a b = absurd (posts_not a.0.1 b.1)
-  one_said Already Already x y a b = (refl, a.1 ∙ sym b.1)
-  one_said Already (Counted j) x y a b = absurd (claims_not j y b.0 a.0.2)
-  one_said Already (Quorum j) x y a b = absurd (claims_not j y b.0 a.0.2)
-  one_said (Counted i) Unregistered x y a b = absurd (open_not_dead a.0.first_time.open_to_claims b.0)
-  one_said (Counted i) Expires x y a b = absurd (open_not_past a.0.first_time.open_to_claims b.1)
-  one_said (Counted i) Declined x y a b = absurd (posts_not a.0.may b.1)
-  one_said (Counted i) Already x y a b = absurd (claims_not i x a.0 b.0.2)
-  one_said (Counted i) (Counted j) x y a b = let same = one_claim i j x y a.0 b.0 in (ap Counted same.0, same.1)
-  one_said (Counted i) (Quorum j) x y a b = absurd (let same = (one_claim i j x y a.0 b.0).0 in omega (arith, same, a.1, b.1))
-  one_said (Quorum i) Unregistered x y a b = absurd (open_not_dead a.0.first_time.open_to_claims b.0)
-  one_said (Quorum i) Expires x y a b = absurd (open_not_past a.0.first_time.open_to_claims b.1)
-  one_said (Quorum i) Declined x y a b = absurd (posts_not a.0.may b.1)
-  one_said (Quorum i) Already x y a b = absurd (claims_not i x a.0 b.0.2)
-  one_said (Quorum i) (Counted j) x y a b = absurd (let same = (one_claim j i y x b.0 a.0).0 in omega (arith, same, b.1, a.1))
-  one_said (Quorum i) (Quorum j) x y a b = let same = one_claim i j x y a.0 b.0 in (ap Quorum same.0, same.1)
-
-abbrev ack_said : AckWord → Said
-ack_said acking.Unregistered = Unregistered
-ack_said acking.Expires = Expires
-ack_said acking.Declined = Declined
-ack_said acking.Already = Already
-ack_said (acking.Counted k) = Counted k
-ack_said (acking.Certified k) = Quorum k
-
-abbrev pub said_ack : Said → AckWord
-said_ack Unregistered = acking.Unregistered
-said_ack Expires = acking.Expires
-said_ack Declined = acking.Declined
-said_ack Already = acking.Already
-said_ack (Counted k) = acking.Counted k
-said_ack (Quorum k) = acking.Certified k
-
-pub ack_is : (w : AckWord) → said_ack (ack_said w) ≡ w
-ack_is acking.Unregistered = refl
-ack_is acking.Expires = refl
-ack_is acking.Declined = refl
-ack_is acking.Already = refl
-ack_is (acking.Counted k) = refl
-ack_is (acking.Certified k) = refl
-
-pub ack_says : (old : World) (shard : ℕ) (id : BlobId) (w : AckWord) (new : World) → AckStep old shard id w new → Says Holds old shard id (ack_said w) new
-ack_says old shard id acking.Unregistered new a = a
-ack_says old shard id acking.Expires new a = a
-ack_says old shard id acking.Declined new a = a
-ack_says old shard id acking.Already new a = a
-ack_says old shard id (acking.Counted k) new a = a
-ack_says old shard id (acking.Certified k) new a = a
-
-pub one_ack : (old : World) (shard : ℕ) (id : BlobId) (w v : AckWord) (x y : World) → AckStep old shard id w x → AckStep old shard id v y → (w ≡ v) × (x ≡ y)
-one_ack old shard id w v x y a b =
-    let same = one_said Holds old shard id (ack_said w) (ack_said v) x y (ack_says old shard id w x a) (ack_says old shard id v y b) in
-    (sym (ack_is w) ∙ ap said_ack same.0 ∙ ack_is v, same.1)
-
-abbrev attest_said : AttestWord → Said
-attest_said attesting.Unregistered = Unregistered
-attest_said attesting.Expires = Expires
-attest_said attesting.Declined = Declined
-attest_said attesting.Already = Already
-attest_said (attesting.Counted k) = Counted k
-attest_said (attesting.Invalid k) = Quorum k
-
-abbrev pub said_attest : Said → AttestWord
-said_attest Unregistered = attesting.Unregistered
-said_attest Expires = attesting.Expires
-said_attest Declined = attesting.Declined
-said_attest Already = attesting.Already
-said_attest (Counted k) = attesting.Counted k
-said_attest (Quorum k) = attesting.Invalid k
-
-pub attest_is : (w : AttestWord) → said_attest (attest_said w) ≡ w
-attest_is attesting.Unregistered = refl
-attest_is attesting.Expires = refl
-attest_is attesting.Declined = refl
-attest_is attesting.Already = refl
-attest_is (attesting.Counted k) = refl
-attest_is (attesting.Invalid k) = refl
-
-pub attest_says : (old : World) (shard : ℕ) (id : BlobId) (w : AttestWord) (new : World) → AttestStep old shard id w new → Says Denies old shard id (attest_said w) new
-attest_says old shard id attesting.Unregistered new a = a
-attest_says old shard id attesting.Expires new a = a
-attest_says old shard id attesting.Declined new a = a
-attest_says old shard id attesting.Already new a = a
-attest_says old shard id (attesting.Counted k) new a = a
-attest_says old shard id (attesting.Invalid k) new a = a
-
-pub one_attest : (old : World) (shard : ℕ) (id : BlobId) (w v : AttestWord) (x y : World) → AttestStep old shard id w x → AttestStep old shard id v y → (w ≡ v) × (x ≡ y)
-one_attest old shard id w v x y a b =
-    let same = one_said Denies old shard id (attest_said w) (attest_said v) x y (attest_says old shard id w x a) (attest_says old shard id v y b) in
-    (sym (attest_is w) ∙ ap said_attest same.0 ∙ attest_is v, same.1)
-
--- ---- forgetting, and the change of the epoch
-
--- a shard that is ignored or absent is not correct
-pub correct_present : (w : World) (side : Side) (shard : ℕ) → is_correct side w shard ≡ true → (is_present side w ≡ true) × (not (among (side_of side w).faulty shard) ≡ true)
-correct_present w side shard h = and_parts (is_present side w) (not (among (side_of side w).faulty shard)) h
-
-pub not_not : (b : Bool) → not b ≡ true → b ≡ true → ⊥
-not_not true fails holds = true≢false (sym fails)
-not_not false fails holds = true≢false (sym holds)
-
-pub correct_not_absent : (w : World) (side : Side) (shard : ℕ) → is_correct side w shard ≡ true → is_present side w ≡ false → ⊥
-correct_not_absent w side shard h absent = not_both _ (correct_present w side shard h).0 absent
-
-pub correct_not_ignored : (w : World) (side : Side) (shard : ℕ) → is_correct side w shard ≡ true → IsIgnored w side shard → ⊥
-correct_not_ignored w side shard h ignored = not_not (among (side_of side w).faulty shard) (correct_present w side shard h).1 ignored.1
-
-pub one_forget : (old : World) (side : Side) (shard : ℕ) (id : BlobId) (w v : ForgetWord) (x y : World) → ForgetStep old side shard id w x → ForgetStep old side shard id v y → (w ≡ v) × (x ≡ y)
-one_forget old side shard id forgetting.Absent forgetting.Absent x y a b = (refl, a.1 ∙ sym b.1)
-one_forget old side shard id forgetting.Absent forgetting.Ignored x y a b = absurd (not_both _ b.0.0 a.0)
-one_forget old side shard id forgetting.Absent forgetting.Declined x y a b = absurd (correct_not_absent old side shard b.0 a.0)
-one_forget old side shard id forgetting.Absent forgetting.Done x y a b = absurd (correct_not_absent old side shard b.0 a.0)
-one_forget old side shard id forgetting.Ignored forgetting.Absent x y a b = absurd (not_both _ a.0.0 b.0)
-one_forget old side shard id forgetting.Ignored forgetting.Ignored x y a b = (refl, a.1 ∙ sym b.1)
-one_forget old side shard id forgetting.Ignored forgetting.Declined x y a b = absurd (correct_not_ignored old side shard b.0 a.0)
-one_forget old side shard id forgetting.Ignored forgetting.Done x y a b = absurd (correct_not_ignored old side shard b.0 a.0)
-one_forget old side shard id forgetting.Declined forgetting.Absent x y a b = absurd (correct_not_absent old side shard a.0 b.0)
-one_forget old side shard id forgetting.Declined forgetting.Ignored x y a b = absurd (correct_not_ignored old side shard a.0 b.0)
-one_forget old side shard id forgetting.Declined forgetting.Declined x y a b = (refl, a.2 ∙ sym b.2)
-one_forget old side shard id forgetting.Declined forgetting.Done x y a b = absurd (a.1 b.1)
-one_forget old side shard id forgetting.Done forgetting.Absent x y a b = absurd (correct_not_absent old side shard a.0 b.0)
-one_forget old side shard id forgetting.Done forgetting.Ignored x y a b = absurd (correct_not_ignored old side shard a.0 b.0)
-one_forget old side shard id forgetting.Done forgetting.Declined x y a b = absurd (b.1 a.1)
-one_forget old side shard id forgetting.Done forgetting.Done x y a b = (refl, a.2 ∙ sym b.2)
-
-pub one_begin : (old : World) (owners faulty stays : List ℕ) (w v : BeginWord) (x y : World) → BeginStep old owners faulty stays w x → BeginStep old owners faulty stays v y → (w ≡ v) × (x ≡ y)
-one_begin old owners faulty stays beginning.RefusedMoving beginning.RefusedMoving x y a b = (refl, a.1 ∙ sym b.1)
-one_begin old owners faulty stays beginning.RefusedMoving beginning.RefusedLastEpoch x y a b = absurd (not_both _ a.0 b.0)
-one_begin old owners faulty stays beginning.RefusedMoving (beginning.Epoch j) x y a b = absurd (not_both _ a.0 b.0)
-one_begin old owners faulty stays beginning.RefusedLastEpoch beginning.RefusedMoving x y a b = absurd (not_both _ b.0 a.0)
-one_begin old owners faulty stays beginning.RefusedLastEpoch beginning.RefusedLastEpoch x y a b = (refl, a.2 ∙ sym b.2)
-one_begin old owners faulty stays beginning.RefusedLastEpoch (beginning.Epoch j) x y a b = absurd (omega (arith, a.1, b.1))
-one_begin old owners faulty stays (beginning.Epoch i) beginning.RefusedMoving x y a b = absurd (not_both _ b.0 a.0)
-one_begin old owners faulty stays (beginning.Epoch i) beginning.RefusedLastEpoch x y a b = absurd (omega (arith, a.1, b.1))
-one_begin old owners faulty stays (beginning.Epoch i) (beginning.Epoch j) x y a b = (ap beginning.Epoch (a.2 ∙ sym b.2), a.3 ∙ sym b.3)
-
-pub ready_not : (old : World) (shard : ℕ) → MayBeReady old shard → IsUnready old shard → ⊥
-ready_not old shard may fails = fails.4 (may fails.0 fails.1 fails.2 fails.3)
-
-pub one_ready : (old : World) (shard : ℕ) (w v : ReadyWord) (x y : World) → ReadyStep old shard w x → ReadyStep old shard v y → (w ≡ v) × (x ≡ y)
-one_ready old shard readying.RefusedNotMoving readying.RefusedNotMoving x y a b = (refl, a.1 ∙ sym b.1)
-one_ready old shard readying.RefusedNotMoving readying.Declined x y a b = absurd (not_both _ b.0 a.0)
-one_ready old shard readying.RefusedNotMoving readying.Already x y a b = absurd (not_both _ b.0 a.0)
-one_ready old shard readying.RefusedNotMoving (readying.Counted j) x y a b = absurd (not_both _ b.0 a.0)
-one_ready old shard readying.Declined readying.RefusedNotMoving x y a b = absurd (not_both _ a.0 b.0)
-one_ready old shard readying.Declined readying.Declined x y a b = (refl, a.2 ∙ sym b.2)
-one_ready old shard readying.Declined readying.Already x y a b = absurd (ready_not old shard b.1 a.1)
-one_ready old shard readying.Declined (readying.Counted j) x y a b = absurd (ready_not old shard b.1 a.1)
-one_ready old shard readying.Already readying.RefusedNotMoving x y a b = absurd (not_both _ a.0 b.0)
-one_ready old shard readying.Already readying.Declined x y a b = absurd (ready_not old shard a.1 b.1)
-one_ready old shard readying.Already readying.Already x y a b = (refl, a.3 ∙ sym b.3)
-one_ready old shard readying.Already (readying.Counted j) x y a b = absurd (not_both _ a.2 b.2)
-one_ready old shard (readying.Counted i) readying.RefusedNotMoving x y a b = absurd (not_both _ a.0 b.0)
-one_ready old shard (readying.Counted i) readying.Declined x y a b = absurd (ready_not old shard a.1 b.1)
-one_ready old shard (readying.Counted i) readying.Already x y a b = absurd (not_both _ b.2 a.2)
-one_ready old shard (readying.Counted i) (readying.Counted j) x y a b =
-    let same = a.3 ∙ sym b.3 in
-    (ap readying.Counted (a.4 ∙ ap (λ (w : World). ready_total w.log) same ∙ sym b.4), same)
-
-pub one_finish : (old : World) (w v : FinishWord) (x y : World) → FinishStep old w x → FinishStep old v y → (w ≡ v) × (x ≡ y)
-one_finish old finishing.RefusedNotMoving finishing.RefusedNotMoving x y a b = (refl, a.1 ∙ sym b.1)
-one_finish old finishing.RefusedNotMoving (finishing.Waiting j) x y a b = absurd (not_both _ b.0 a.0)
-one_finish old finishing.RefusedNotMoving (finishing.Epoch j) x y a b = absurd (not_both _ b.0 a.0)
-one_finish old (finishing.Waiting i) finishing.RefusedNotMoving x y a b = absurd (not_both _ a.0 b.0)
-one_finish old (finishing.Waiting i) (finishing.Waiting j) x y a b = (ap finishing.Waiting (a.1 ∙ sym b.1), a.3 ∙ sym b.3)
-one_finish old (finishing.Waiting i) (finishing.Epoch j) x y a b = absurd (omega (arith, a.1, a.2, b.1))
-one_finish old (finishing.Epoch i) finishing.RefusedNotMoving x y a b = absurd (not_both _ a.0 b.0)
-one_finish old (finishing.Epoch i) (finishing.Waiting j) x y a b = absurd (omega (arith, b.1, b.2, a.1))
-one_finish old (finishing.Epoch i) (finishing.Epoch j) x y a b = (ap finishing.Epoch (a.2 ∙ sym b.2), a.3 ∙ sym b.3)
+-- ---- certificates
 
 pub one_certificate : (w : World) (id : BlobId) (a b : CertificateWord) → CertificateStep w id a → CertificateStep w id b → a ≡ b
 one_certificate w id (certifying.Certified e i) (certifying.Certified g j) a b =
-    let count_a = a.counted in
-    let count_b = b.counted in
-    let quorum_a = a.quorum in
-    let quorum_b = b.quorum in
-    let same : e ≡ g =
-    ⊎_elim
-    (λ before. let short = b.least e before in absurd (omega arith))
-    (λ least. ⊎_elim (λ after. let short = a.least g after in absurd (omega arith)) (λ most. omega arith) (cases_lt g e))
-    (cases_lt e g) in
+    let early = a.least g in
+    let late = b.least e in
+    let same : e ≡ g = grind arith in
     let counts : i ≡ j = a.counted ∙ ap (signer_count w.log id Holds) same ∙ sym b.counted in
-    ap (λ (x : ℕ). certifying.Certified x i) same ∙ ap (λ (y : ℕ). certifying.Certified g y) counts
+    grind arith
 one_certificate w id (certifying.Certified e i) (certifying.Pending j) a b =
     absurd (b.0 (record { live = a.live; quorum = (e, subst (λ (k : ℕ). quorum_size w.log.f ≤ k) a.counted a.quorum) }))
 one_certificate w id (certifying.Pending i) (certifying.Certified g j) a b =

@@ -45,10 +45,7 @@ runs_push r old (e ∷ events) (s ∷ states) (l ∷ lines) event said new run o
   follows_from (is_collision l) (states ++ new ∷ []) (lines ++ said ∷ []) (Runs r s (events ++ event ∷ []) (states ++ new ∷ []) (lines ++ said ∷ [])) on.0
       (runs_push r s events states lines event said new (follows_rest (is_collision l) states lines (Runs r s events states lines) on.0 run.1) on.1 step),
 )
-runs_push r old [] (s ∷ states) lines event said new run on step = absurd run
-runs_push r old [] [] (l ∷ lines) event said new run on step = absurd run
-runs_push r old (e ∷ events) [] lines event said new run on step = absurd run
-runs_push r old (e ∷ events) (s ∷ states) [] event said new run on step = absurd run
+runs_push r old events states lines event said new run on step = absurd run
 
 -- and ends by one whose line is a collision, whatever events were to come
 pub runs_stop : (r : Rules) (old : World) (events : List Event) (states : List World) (lines : List Line) (event : Event) (rest : List Event) (said : Line) (new : World) → Runs r old events states lines → GoesOn lines
@@ -60,10 +57,7 @@ runs_stop r old (e ∷ events) (s ∷ states) (l ∷ lines) event rest said new 
   follows_from (is_collision l) (states ++ new ∷ []) (lines ++ said ∷ []) (Runs r s (events ++ event ∷ rest) (states ++ new ∷ []) (lines ++ said ∷ [])) on.0
       (runs_stop r s events states lines event rest said new (follows_rest (is_collision l) states lines (Runs r s events states lines) on.0 run.1) on.1 step stops),
 )
-runs_stop r old [] (s ∷ states) lines event rest said new run on step stops = absurd run
-runs_stop r old [] [] (l ∷ lines) event rest said new run on step stops = absurd run
-runs_stop r old (e ∷ events) [] lines event rest said new run on step stops = absurd run
-runs_stop r old (e ∷ events) (s ∷ states) [] event rest said new run on step stops = absurd run
+runs_stop r old events states lines event rest said new run on step stops = absurd run
 
 -- a run without a collision has a line for each event
 pub runs_each : (r : Rules) (old : World) (events : List Event) (states : List World) (lines : List Line) → Runs r old events states lines → GoesOn lines → length lines ≡ length events
@@ -71,7 +65,4 @@ unfolding Follows
 runs_each r old [] [] [] run on = refl
 runs_each r old (e ∷ events) (s ∷ states) (l ∷ lines) run on =
     omega (arith, runs_each r s events states lines (follows_rest (is_collision l) states lines (Runs r s events states lines) on.0 run.1) on.1)
-runs_each r old [] (s ∷ states) lines run on = absurd run
-runs_each r old [] [] (l ∷ lines) run on = absurd run
-runs_each r old (e ∷ events) [] lines run on = absurd run
-runs_each r old (e ∷ events) (s ∷ states) [] run on = absurd run
+runs_each r old events states lines run on = absurd run

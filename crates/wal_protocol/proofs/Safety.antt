@@ -162,33 +162,18 @@ module _ (r : Rules) (laws : Laws r) where
           → (p : Parts) × (is_some p.secondary ≡ true) × Helped r id Primary shard run.payloads s p
       one s (side, correct, has, here) = (held (side_of side old) s id, has, helped old id Primary shard replies run.payloads side s facts run.replied correct here)
 
-  absent_not_correct : (w : World) (side : Side) (shard : ℕ) → is_correct side w shard ≡ true → is_present side w ≡ false → ⊥
-  absent_not_correct w side shard correct absent = let e : true ≡ false = sym (correct_parts w side shard correct).0 ∙ absent in cc
-
-  faulty_not_correct : (w : World) (side : Side) (shard : ℕ) → is_correct side w shard ≡ true → among (side_of side w).faulty shard ≡ true → ⊥
-  faulty_not_correct w side shard correct out = let e : true ≡ false = sym (correct_parts w side shard correct).1 ∙ ap not out in cc
-
   pub recovered : (old : World) (event : Event) (said : Line) (new : World) → Facts r old → IsEventWithin (committee_size old.log.f) event → Steps r old event said new → IsRecoveryComplete old event said new
-  recovered old (Recover at shard Secondary id replies) (line.Recover s a i recovering.Absent) new facts fit step = λ correct live hears. absurd (absent_not_correct old at shard correct step.3.0)
-  recovered old (Recover at shard Secondary id replies) (line.Recover s a i recovering.Ignored) new facts fit step = λ correct live hears. absurd (faulty_not_correct old at shard correct step.3.0.1)
-  recovered old (Recover at shard Secondary id replies) (line.Recover s a i recovering.Unregistered) new facts fit step = λ correct live hears. let e : true ≡ false = sym live ∙ step.3.1 in cc
-  recovered old (Recover at shard Secondary id replies) (line.Recover s a i recovering.NoMetadata) new facts fit step = λ correct live hears. absurd (secondary_word old at shard id replies recovering.NoMetadata step.3.0 facts fit.0 hears step.3.1)
-  recovered old (Recover at shard Secondary id replies) (line.Recover s a i (recovering.Short have need)) new facts fit step = λ correct live hears. absurd (secondary_word old at shard id replies (recovering.Short have need) step.3.0 facts fit.0 hears step.3.1)
-  recovered old (Recover at shard Secondary id replies) (line.Recover s a i (recovering.Sliver bytes)) new facts fit step = λ correct live hears. tt
-  recovered old (Recover at shard Secondary id replies) (line.Recover s a i recovering.Inconsistent) new facts fit step = λ correct live hears. tt
-  recovered old (Recover at shard Secondary id replies) (line.Recover s a i recovering.Proof) new facts fit step = λ correct live hears. tt
+  recovered old (Recover at shard Secondary id replies) (line.Recover s a i recovering.Absent) new facts fit step = λ correct live hears. grind arith
+  recovered old (Recover at shard Secondary id replies) (line.Recover s a i recovering.Ignored) new facts fit step = λ correct live hears. grind arith
+  recovered old (Recover at shard Secondary id replies) (line.Recover s a i recovering.Unregistered) new facts fit step = λ correct live hears. grind arith
+  recovered old (Recover at shard Secondary id replies) (line.Recover s a i word) new facts fit step = λ correct live hears. secondary_word old at shard id replies word step.3.0 facts fit.0 hears step.3.1
   recovered old (Recover at shard Secondary id replies) (line.Collision left right) new facts fit step = λ correct live hears. tt
-  recovered old (Recover at shard Secondary id replies) said new facts fit step = λ correct live hears. absurd step
-  recovered old (Recover at shard Primary id replies) (line.Recover s a i recovering.Absent) new facts fit step = λ correct live hears. absurd (absent_not_correct old at shard correct step.3.0)
-  recovered old (Recover at shard Primary id replies) (line.Recover s a i recovering.Ignored) new facts fit step = λ correct live hears. absurd (faulty_not_correct old at shard correct step.3.0.1)
-  recovered old (Recover at shard Primary id replies) (line.Recover s a i recovering.Unregistered) new facts fit step = λ correct live hears. let e : true ≡ false = sym live ∙ step.3.1 in cc
-  recovered old (Recover at shard Primary id replies) (line.Recover s a i recovering.NoMetadata) new facts fit step = λ correct live hears. absurd (primary_word old at shard id replies recovering.NoMetadata step.3.0 facts fit.0 hears step.3.1)
-  recovered old (Recover at shard Primary id replies) (line.Recover s a i (recovering.Short have need)) new facts fit step = λ correct live hears. absurd (primary_word old at shard id replies (recovering.Short have need) step.3.0 facts fit.0 hears step.3.1)
-  recovered old (Recover at shard Primary id replies) (line.Recover s a i (recovering.Sliver bytes)) new facts fit step = λ correct live hears. tt
-  recovered old (Recover at shard Primary id replies) (line.Recover s a i recovering.Inconsistent) new facts fit step = λ correct live hears. tt
-  recovered old (Recover at shard Primary id replies) (line.Recover s a i recovering.Proof) new facts fit step = λ correct live hears. absurd (primary_word old at shard id replies recovering.Proof step.3.0 facts fit.0 hears step.3.1)
+  recovered old (Recover at shard Primary id replies) (line.Recover s a i recovering.Absent) new facts fit step = λ correct live hears. grind arith
+  recovered old (Recover at shard Primary id replies) (line.Recover s a i recovering.Ignored) new facts fit step = λ correct live hears. grind arith
+  recovered old (Recover at shard Primary id replies) (line.Recover s a i recovering.Unregistered) new facts fit step = λ correct live hears. grind arith
+  recovered old (Recover at shard Primary id replies) (line.Recover s a i word) new facts fit step = λ correct live hears. primary_word old at shard id replies word step.3.0 facts fit.0 hears step.3.1
   recovered old (Recover at shard Primary id replies) (line.Collision left right) new facts fit step = λ correct live hears. tt
-  recovered old (Recover at shard Primary id replies) said new facts fit step = λ correct live hears. absurd step
+  recovered old (Recover at shard axis id replies) said new facts fit step = absurd step
   recovered old event said new facts fit step = tt
 
   -- what the facts and a step give holds of each step of a run
@@ -196,9 +181,6 @@ module _ (r : Rules) (laws : Laws r) where
       → ((old : World) (event : Event) (said : Line) (new : World) → Facts r old → IsEventWithin (committee_size old.log.f) event → Steps r old event said new → P old event said new)
       → (old : World) (events : List Event) (states : List World) (lines : List Line) → Facts r old → AllByRecursion (λ event. IsEventWithin (committee_size r.f) event) events → Runs r old events states lines
       → EachStep P old events states lines
-  each_step P one old [] states lines facts fits run = tt
-  each_step P one old (event ∷ events) [] lines facts fits run = tt
-  each_step P one old (event ∷ events) (new ∷ states) [] facts fits run = tt
   each_step P one old (event ∷ events) (new ∷ states) (said ∷ lines) facts fits run = (one old event said new facts fit run.0, by (is_collision said) run.1 (λ rest. each_step P one new events states lines then fits.1 rest))
     where
       fit : IsEventWithin (committee_size old.log.f) event
@@ -214,6 +196,7 @@ module _ (r : Rules) (laws : Laws r) where
       by : (b : Bool) → cond b ((states ≡ []) × (lines ≡ [])) (Runs r new events states lines) → (Runs r new events states lines → EachStep P new events states lines) → EachStep P new events states lines
       by true ends go = subst (λ (l : List World). EachStep P new events l lines) (sym ends.0) (subst (λ (l : List Line). EachStep P new events [] l) (sym ends.1) (none events))
       by false rest go = go rest
+  each_step P one old events states lines facts fits run = tt
 
   -- the facts hold in each state of a run
   pub facts_run : (old : World) (events : List Event) (states : List World) (lines : List Line) → Facts r old → AllByRecursion (λ event. IsEventWithin (committee_size r.f) event) events → Runs r old events states lines
@@ -231,10 +214,7 @@ module _ (r : Rules) (laws : Laws r) where
       by : (b : Bool) → cond b ((states ≡ []) × (lines ≡ [])) (Runs r new events states lines) → (Runs r new events states lines → k < suc (length states) → Facts r (get_or (new ∷ states) k d)) → Facts r (get_or (new ∷ states) k d)
       by true ends go = only states ends.0 (omega arith)
       by false rest go = go rest (omega arith)
-  facts_run old [] [] lines facts fits run (suc k) d lt = absurd (omega arith)
-  facts_run old [] (new ∷ states) lines facts fits run (suc k) d lt = absurd run
-  facts_run old (event ∷ events) [] lines facts fits run (suc k) d lt = absurd (omega arith)
-  facts_run old (event ∷ events) (new ∷ states) [] facts fits run (suc k) d lt = absurd run
+  facts_run old events states lines facts fits run (suc k) d lt = absurd (grind arith)
 
   -- the facts hold at first
   pub facts_first : (s : Schedule) → IsSchedule s → s.f ≡ r.f → Facts r (first_state s)

@@ -15,31 +15,22 @@ use Rattle.wal_evidence.specs.declared.evidence.Verdict.{Verdict}
 use Rattle.wal_evidence.specs.declared.evidence.Verdict.TheVariants as verdict
 use Rattle.wal_event.specs.Event.{IsEventWithin}
 use Rattle.wal_event.specs.declared.event.Event.{Event}
-use Rattle.wal_event.specs.declared.event.Event.TheVariants.{Register, Write, Send, Ack, Attest, Read, Recover, Forget, Begin, Ready, Finish, Certificate, Holders}
+use Rattle.wal_event.specs.declared.event.Event.TheVariants.{Register, Write, Send, Ack, Attest, Read, Recover, Forget, Begin, Ready, Finish}
 use Rattle.wal_event.specs.declared.event.Reply.{Reply}
 use Rattle.wal_event.specs.declared.line.Line.{Line}
 use Rattle.wal_event.specs.declared.line.Line.TheVariants as line
 use Rattle.wal_event.specs.declared.line.WriteWord.TheVariants as write_word
-use Rattle.wal_event.specs.declared.line.HoldersWord.TheVariants as holders_word
-use Rattle.wal_event.specs.declared.line.RegisterWord.{RegisterWord}
 use Rattle.wal_event.specs.declared.line.RegisterWord.TheVariants as registering
-use Rattle.wal_event.specs.declared.line.SendWord.{SendWord}
 use Rattle.wal_event.specs.declared.line.SendWord.TheVariants as sending
-use Rattle.wal_event.specs.declared.line.AckWord.{AckWord}
 use Rattle.wal_event.specs.declared.line.AckWord.TheVariants as acking
-use Rattle.wal_event.specs.declared.line.AttestWord.{AttestWord}
 use Rattle.wal_event.specs.declared.line.AttestWord.TheVariants as attesting
 use Rattle.wal_event.specs.declared.line.ReadWord.{ReadWord}
 use Rattle.wal_event.specs.declared.line.ReadWord.TheVariants as reading_of
 use Rattle.wal_event.specs.declared.line.RecoverWord.{RecoverWord}
 use Rattle.wal_event.specs.declared.line.RecoverWord.TheVariants as recovering
-use Rattle.wal_event.specs.declared.line.ForgetWord.{ForgetWord}
 use Rattle.wal_event.specs.declared.line.ForgetWord.TheVariants as forgetting
-use Rattle.wal_event.specs.declared.line.BeginWord.{BeginWord}
 use Rattle.wal_event.specs.declared.line.BeginWord.TheVariants as beginning
-use Rattle.wal_event.specs.declared.line.ReadyWord.{ReadyWord}
 use Rattle.wal_event.specs.declared.line.ReadyWord.TheVariants as readying
-use Rattle.wal_event.specs.declared.line.FinishWord.{FinishWord}
 use Rattle.wal_event.specs.declared.line.FinishWord.TheVariants as finishing
 use Rattle.wal_ledger.specs.declared.entry.Body.TheVariants as entry
 use Rattle.wal_ledger.specs.declared.entry.Kind.{Kind}
@@ -58,7 +49,7 @@ use Rattle.wal_protocol.specs.declared.first.First.{First}
 use Rattle.wal_protocol.specs.declared.first.First.TheVariants.{Judged, Written}
 use Rattle.wal_protocol.specs.State.{Committee, World, side_of, with_side, is_present, epoch_of, writing_side, is_correct, contents_of, held, with_contents, answered}
 use Rattle.wal_protocol.specs.Rules.{Rules}
-use Rattle.wal_protocol.specs.Step.{RegisterStep, WriteStep, WriteCollides, SendStep, ClaimStep, AckStep, AttestStep, ReadCompletes, ReadStep, told_by, Gains, RecoverStep, ForgetStep, BeginStep, ReadyStep, FinishStep, CollisionStep, Steps}
+use Rattle.wal_protocol.specs.Step.{WriteStep, WriteCollides, ClaimStep, ReadCompletes, told_by, Gains, ForgetStep, Steps}
 use Rattle.wal_protocol.specs.Facts.{Facts, backed}
 use Rattle.wal_protocol.specs.inside.Laws.{Laws, forgotten}
 use Rattle.wal_protocol.proofs.Lookups.{same_id, held_is, parts_forgotten}
@@ -121,13 +112,6 @@ module _ (r : Rules) (laws : Laws r) where
   facts_side : (old : World) (side : Side) (d : Committee) → Facts r old → GrownFrom r (side_of side old) d → Facts r (with_side side old d)
   facts_side old side d facts grown = subst (Facts r) (same_answers old side d) (facts_sided old side d old.answers facts grown facts.answers)
 
-  registers : (old : World) (id : BlobId) (until : ℕ) (word : RegisterWord) (new : World) → Facts r old → RegisterStep old id until word new → Facts r new
-  registers old id until registering.RefusedPast new facts (past, same) = subst (Facts r) (sym same) facts
-  registers old id until registering.RefusedMoving new facts (beyond, moving, same) = subst (Facts r) (sym same) facts
-  registers old id until (registering.Until most) new facts (may, is, shown) =
-      subst (Facts r) (sym is)
-      (facts_entered r old (entry.Register id until) (λ i kind s. ⊥) (λ s. ⊥) facts (register_enters old.log id until facts.orderly may) (λ i kind s none lt correct. absurd none) (λ i s none lt correct must. absurd none))
-
   writes : (old : World) (blob to : List ℕ) (id : BlobId) (count : ℕ) (new : World) → Facts r old → WriteStep r old blob to id count new → Facts r new
   writes old blob to id count new facts w =
       subst (Facts r) (sym w.state)
@@ -139,19 +123,6 @@ module _ (r : Rules) (laws : Laws r) where
   write_collides old blob to new facts w =
       subst (Facts r) (sym w.state)
       (facts_side old (writing_side old) w.write.mid facts (grown_each r laws old.log (side_of (writing_side old) old) w.write.mid _ w.clashed (facts.sound (writing_side old)) w.write.puts))
-
-  sends : (old : World) (side : Side) (shard : ℕ) (bytes : List ℕ) (word : SendWord) (new : World) → Facts r old → SendStep r old side shard bytes word new → Facts r new
-  sends old side shard bytes sending.Absent new facts (absent, same) = subst (Facts r) (sym same) facts
-  sends old side shard bytes sending.Ignored new facts (ignored, same) = subst (Facts r) (sym same) facts
-  sends old side shard bytes sending.Malformed new facts (correct, none, same) = subst (Facts r) (sym same) facts
-  sends old side shard bytes sending.Unregistered new facts (frame, parts, is, same) = subst (Facts r) (sym same) facts
-  sends old side shard bytes sending.NoMetadata new facts (frame, parts, is, same) = subst (Facts r) (sym same) facts
-  sends old side shard bytes sending.Unverified new facts (frame, parts, is, same) = subst (Facts r) (sym same) facts
-  sends old side shard bytes sending.Held new facts (frame, parts, is, same) = subst (Facts r) (sym same) facts
-  sends old side shard bytes sending.Stored new facts (frame, contents, is, state) =
-      subst (Facts r) (sym state)
-      (facts_side old side (with_contents (side_of side old) shard contents) facts
-      (grown_put r laws old.log (side_of side old) shard frame putting.Stored contents (facts.sound side) is.2))
 
   -- what backs a claim is what the facts keep
   backed_by : (old : World) (side : Side) (kind : Kind) (s : ℕ) (id : BlobId) → Facts r old → backs kind (held (side_of side old) s id) ≡ true → backed kind (held (side_of side old) s id) ≡ true
@@ -185,33 +156,11 @@ module _ (r : Rules) (laws : Laws r) where
           let backs_it : backs kind (held (side_of side old) s id) ≡ true = c.may here s lt node in
           subst (λ (j : BlobId). backed k (held (side_of side old) s j) ≡ true) (sym same_i) (subst (λ (l : Kind). backed l (held (side_of side old) s id) ≡ true) (sym same_k) (backed_by old side kind s id facts backs_it))
 
-  acks : (old : World) (shard : ℕ) (id : BlobId) (word : AckWord) (new : World) → Facts r old → shard < committee_size old.log.f → AckStep old shard id word new → Facts r new
-  acks old shard id acking.Unregistered new facts lt (dead, same) = subst (Facts r) (sym same) facts
-  acks old shard id acking.Expires new facts lt (live, short, same) = subst (Facts r) (sym same) facts
-  acks old shard id acking.Declined new facts lt (may, declines, same) = subst (Facts r) (sym same) facts
-  acks old shard id acking.Already new facts lt (before, same) = subst (Facts r) (sym same) facts
-  acks old shard id (acking.Counted count) new facts lt (c, few) = claims old kinds.Holds shard id count new facts lt c
-  acks old shard id (acking.Certified count) new facts lt (c, many) = claims old kinds.Holds shard id count new facts lt c
-
-  attests : (old : World) (shard : ℕ) (id : BlobId) (word : AttestWord) (new : World) → Facts r old → shard < committee_size old.log.f → AttestStep old shard id word new → Facts r new
-  attests old shard id attesting.Unregistered new facts lt (dead, same) = subst (Facts r) (sym same) facts
-  attests old shard id attesting.Expires new facts lt (live, short, same) = subst (Facts r) (sym same) facts
-  attests old shard id attesting.Declined new facts lt (may, declines, same) = subst (Facts r) (sym same) facts
-  attests old shard id attesting.Already new facts lt (before, same) = subst (Facts r) (sym same) facts
-  attests old shard id (attesting.Counted count) new facts lt (c, few) = claims old kinds.Denies shard id count new facts lt c
-  attests old shard id (attesting.Invalid count) new facts lt (c, many) = claims old kinds.Denies shard id count new facts lt c
-
   completes : (old : World) (id : BlobId) (replies : List Reply) (word : ReadWord) (told : Verdict) (new : World) → told_by word ≡ Some told → Facts r old → ReadCompletes r old id replies word told new → Facts r new
   completes old id replies word told new tells facts c =
       subst (Facts r) (sym c.state)
       (facts_grown r old old.now old.next (answered old.answers id (Judged c.evidence told)) facts (grown_same r old.now (facts.sound Now)) (grown_same r old.next (facts.sound Next))
       (backing_answered r old.answers id (Judged c.evidence told) facts.answers (laws.read_backed id _ word c.evidence told c.reads tells)))
-
-  reads : (old : World) (id : BlobId) (replies : List Reply) (word : ReadWord) (new : World) → Facts r old → ReadStep r old id replies word new → Facts r new
-  reads old id replies (reading_of.Bytes bytes) new facts c = completes old id replies (reading_of.Bytes bytes) (verdict.Bytes bytes) new refl facts c
-  reads old id replies reading_of.Reject new facts c = completes old id replies reading_of.Reject verdict.Reject new refl facts c
-  reads old id replies (reading_of.Short have need) new facts (is, same) = subst (Facts r) (sym same) facts
-  reads old id replies reading_of.NoMetadata new facts (is, same) = subst (Facts r) (sym same) facts
 
   gains : (old : World) (side : Side) (shard : ℕ) (axis : Axis) (id : BlobId) (replies : List Reply) (word : RecoverWord) (new : World) → Facts r old → Gains r old side shard axis id replies word new → Facts r new
   gains old side shard axis id replies word new facts (contents, run, state) =
@@ -223,21 +172,8 @@ module _ (r : Rules) (laws : Laws r) where
       (laws.recover_sound id shard axis before contents run.payloads word run.recovers (λ clash. run.one_metadata (subst (λ (p : Parts). r.ContradictsHeld id p run.payloads) (sym (held_is c shard id)) clash)) (sound_contents r c shard (facts.sound side)))
       (firmer_contents c shard contents (laws.recover_adds id shard axis before contents run.payloads word run.recovers))))
 
-  recovers : (old : World) (side : Side) (shard : ℕ) (axis : Axis) (id : BlobId) (replies : List Reply) (word : RecoverWord) (new : World) → Facts r old → RecoverStep r old side shard axis id replies word new → Facts r new
-  recovers old side shard axis id replies recovering.Absent new facts (absent, same) = subst (Facts r) (sym same) facts
-  recovers old side shard axis id replies recovering.Ignored new facts (ignored, same) = subst (Facts r) (sym same) facts
-  recovers old side shard axis id replies recovering.Unregistered new facts (correct, dead, same) = subst (Facts r) (sym same) facts
-  recovers old side shard axis id replies recovering.NoMetadata new facts (parts, run, same) = subst (Facts r) (sym same) facts
-  recovers old side shard axis id replies (recovering.Short have need) new facts (parts, run, same) = subst (Facts r) (sym same) facts
-  recovers old side shard axis id replies (recovering.Sliver bytes) new facts g = gains old side shard axis id replies (recovering.Sliver bytes) new facts g
-  recovers old side shard axis id replies recovering.Inconsistent new facts g = gains old side shard axis id replies recovering.Inconsistent new facts g
-  recovers old side shard axis id replies recovering.Proof new facts g = gains old side shard axis id replies recovering.Proof new facts g
-
-  forgets : (old : World) (side : Side) (shard : ℕ) (id : BlobId) (word : ForgetWord) (new : World) → Facts r old → ForgetStep old side shard id word new → Facts r new
-  forgets old side shard id forgetting.Absent new facts (absent, same) = subst (Facts r) (sym same) facts
-  forgets old side shard id forgetting.Ignored new facts (ignored, same) = subst (Facts r) (sym same) facts
-  forgets old side shard id forgetting.Declined new facts (correct, none, same) = subst (Facts r) (sym same) facts
-  forgets old side shard id forgetting.Done new facts (correct, may, state) =
+  forgets : (old : World) (side : Side) (shard : ℕ) (id : BlobId) (new : World) → Facts r old → ForgetStep old side shard id forgetting.Done new → Facts r new
+  forgets old side shard id new facts (correct, may, state) =
       let c = side_of side old in
       subst (Facts r) (sym state)
       (facts_side old side (with_contents c shard (without_slivers (contents_of c shard) id)) facts
@@ -260,47 +196,38 @@ module _ (r : Rules) (laws : Laws r) where
           (subst (λ (p : Parts). Firmer p (forgotten (parts_at (contents_of c s) q))) (sym (held_is c s q))
           (firmer_forgotten (parts_at (contents_of c s) q) (subst (λ (j : BlobId). has_proof (parts_at (contents_of c s) j) ≡ true) (sym e) proof)))
 
-  begins : (old : World) (owners faulty stays : List ℕ) (word : BeginWord) (new : World) → Facts r old → IsClosedBy (committee_size old.log.f) owners faulty → BeginStep old owners faulty stays word new → Facts r new
-  begins old owners faulty stays beginning.RefusedMoving new facts closed (moving, same) = subst (Facts r) (sym same) facts
-  begins old owners faulty stays beginning.RefusedLastEpoch new facts closed (serving, last, same) = subst (Facts r) (sym same) facts
-  begins old owners faulty stays (beginning.Epoch epoch) new facts closed (serving, early, shown, state) = subst (Facts r) (sym state) (facts_begun r laws old owners faulty stays facts serving closed)
-
-  readies : (old : World) (shard : ℕ) (word : ReadyWord) (new : World) → Facts r old → shard < committee_size old.log.f → ReadyStep old shard word new → Facts r new
-  readies old shard readying.RefusedNotMoving new facts lt_shard (serving, same) = subst (Facts r) (sym same) facts
-  readies old shard readying.Declined new facts lt_shard (moving, unready, same) = subst (Facts r) (sym same) facts
-  readies old shard readying.Already new facts lt_shard (moving, may, before, same) = subst (Facts r) (sym same) facts
-  readies old shard (readying.Counted count) new facts lt_shard (moving, may, first, state, counted) =
+  -- every step keeps the facts; they come last, so that the search for what a word changes does not read them
+  kept_step : (old : World) (event : Event) (said : Line) (new : World) → Steps r old event said new → Facts r old → IsEventWithin (committee_size old.log.f) event → Facts r new
+  kept_step old (Register id until) (line.Register i (registering.Until most)) new (same_i, (may, is, shown)) = λ facts fit.
+      subst (Facts r) (sym is)
+      (facts_entered r old (entry.Register id until) (λ i kind s. ⊥) (λ s. ⊥) facts (register_enters old.log id until facts.orderly may) (λ i kind s none lt correct. absurd none)
+      (λ i s none lt correct must. absurd none))
+  kept_step old (Write blob to) (line.Write i (write_word.Stored count bytes)) new (same_b, is) = λ facts fit. writes old blob to i count new facts is
+  kept_step old (Write blob to) (line.Collision left right) new (clash, is) = λ facts fit. write_collides old blob to new facts is
+  kept_step old (Send at shard bytes) (line.Send s sending.Stored) new (same_s, (frame, contents, is, state)) = λ facts fit.
+      subst (Facts r) (sym state)
+      (facts_side old at (with_contents (side_of at old) shard contents) facts
+      (grown_put r laws old.log (side_of at old) shard frame putting.Stored contents (facts.sound at) is.2))
+  kept_step old (Ack shard id) (line.Ack s i (acking.Counted count)) new (same_s, same_i, (c, few)) = λ facts fit. claims old kinds.Holds shard id count new facts fit c
+  kept_step old (Ack shard id) (line.Ack s i (acking.Certified count)) new (same_s, same_i, (c, many)) = λ facts fit. claims old kinds.Holds shard id count new facts fit c
+  kept_step old (Attest shard id) (line.Attest s i (attesting.Counted count)) new (same_s, same_i, (c, few)) = λ facts fit. claims old kinds.Denies shard id count new facts fit c
+  kept_step old (Attest shard id) (line.Attest s i (attesting.Invalid count)) new (same_s, same_i, (c, many)) = λ facts fit. claims old kinds.Denies shard id count new facts fit c
+  kept_step old (Read id replies) (line.Read i (reading_of.Bytes bytes)) new (same_i, c) = λ facts fit. completes old id replies (reading_of.Bytes bytes) (verdict.Bytes bytes) new refl facts c
+  kept_step old (Read id replies) (line.Read i reading_of.Reject) new (same_i, c) = λ facts fit. completes old id replies reading_of.Reject verdict.Reject new refl facts c
+  kept_step old (Recover at shard axis id replies) (line.Recover s a i (recovering.Sliver bytes)) new step = λ facts fit. gains old at shard axis id replies (recovering.Sliver bytes) new facts step.3
+  kept_step old (Recover at shard axis id replies) (line.Recover s a i recovering.Inconsistent) new step = λ facts fit. gains old at shard axis id replies recovering.Inconsistent new facts step.3
+  kept_step old (Recover at shard axis id replies) (line.Recover s a i recovering.Proof) new step = λ facts fit. gains old at shard axis id replies recovering.Proof new facts step.3
+  kept_step old (Forget at shard id) (line.Forget s i forgetting.Done) new step = λ facts fit. forgets old at shard id new facts step.2
+  kept_step old (Begin owners faulty stays) (line.Begin (beginning.Epoch epoch)) new (serving, early, shown, state) = λ facts fit.
+      subst (Facts r) (sym state) (facts_begun r laws old owners faulty stays facts serving (closed_by (committee_size old.log.f) owners faulty fit.0))
+  kept_step old (Ready shard) (line.Ready s (readying.Counted count)) new (same_s, (moving, may, first, state, counted)) = λ facts fit.
       subst (Facts r) (sym state)
       (facts_entered r old (entry.Ready shard) (λ i kind t. ⊥) (λ t. same_node (owners_of Next old.log) shard t ≡ true) facts (ready_enters old.log shard facts.orderly)
       (λ i kind s none lt correct. absurd none)
-      (λ id s node lt correct must. may (correct_node old Next shard s facts moving lt_shard lt node correct) s lt node id must))
+      (λ id s node lt correct must. may (correct_node old Next shard s facts moving fit lt node correct) s lt node id must))
+  kept_step old Finish (line.Finish (finishing.Epoch epoch)) new (moving, quorum, shown, state) = λ facts fit. subst (Facts r) (sym state) (facts_finished r laws old facts moving quorum)
+  -- every other word leaves the state
+  kept_step old event said new step = let same : new ≡ old = grind arith in λ facts fit. subst (Facts r) (sym same) facts
 
-  finishes : (old : World) (word : FinishWord) (new : World) → Facts r old → FinishStep old word new → Facts r new
-  finishes old finishing.RefusedNotMoving new facts (serving, same) = subst (Facts r) (sym same) facts
-  finishes old (finishing.Waiting count) new facts (moving, is, few, same) = subst (Facts r) (sym same) facts
-  finishes old (finishing.Epoch epoch) new facts (moving, quorum, shown, state) = subst (Facts r) (sym state) (facts_finished r laws old facts moving quorum)
-
-  collides : (old : World) (event : Event) (new : World) → Facts r old → CollisionStep r old event new → Facts r new
-  collides old (Write blob to) new facts w = write_collides old blob to new facts w
-  collides old (Send at shard bytes) new facts (frame, parts, answer, clash, is, same) = subst (Facts r) (sym same) facts
-  collides old (Read id replies) new facts (clash, same) = subst (Facts r) (sym same) facts
-  collides old (Recover at shard axis id replies) new facts (clash, same) = subst (Facts r) (sym same) facts
-  collides old event new facts none = absurd none
-
-  -- every step keeps the facts
   pub facts_step : (old : World) (event : Event) (said : Line) (new : World) → Facts r old → IsEventWithin (committee_size old.log.f) event → Steps r old event said new → Facts r new
-  facts_step old (Register id until) (line.Register i word) new facts fit (same_i, is) = registers old id until word new facts is
-  facts_step old (Write blob to) (line.Write i (write_word.Stored count bytes)) new facts fit (same_b, is) = writes old blob to i count new facts is
-  facts_step old (Send at shard bytes) (line.Send s word) new facts fit (same_s, is) = sends old at shard bytes word new facts is
-  facts_step old (Ack shard id) (line.Ack s i word) new facts fit (same_s, same_i, is) = acks old shard id word new facts fit is
-  facts_step old (Attest shard id) (line.Attest s i word) new facts fit (same_s, same_i, is) = attests old shard id word new facts fit is
-  facts_step old (Read id replies) (line.Read i word) new facts fit (same_i, is) = reads old id replies word new facts is
-  facts_step old (Recover at shard axis id replies) (line.Recover s a i word) new facts fit (same_s, same_a, same_i, is) = recovers old at shard axis id replies word new facts is
-  facts_step old (Forget at shard id) (line.Forget s i word) new facts fit (same_s, same_i, is) = forgets old at shard id word new facts is
-  facts_step old (Begin owners faulty stays) (line.Begin word) new facts fit is = begins old owners faulty stays word new facts (closed_by (committee_size old.log.f) owners faulty fit.0) is
-  facts_step old (Ready shard) (line.Ready s word) new facts fit (same_s, is) = readies old shard word new facts fit is
-  facts_step old Finish (line.Finish word) new facts fit is = finishes old word new facts is
-  facts_step old (Certificate id) (line.Certificate i word) new facts fit (same_i, is, same) = subst (Facts r) (sym same) facts
-  facts_step old (Holders id) (line.Holders i (holders_word.Count count)) new facts fit (same_i, is, same) = subst (Facts r) (sym same) facts
-  facts_step old event (line.Collision left right) new facts fit (clash, is) = collides old event new facts is
-  facts_step old event said new facts fit none = absurd none
+  facts_step old event said new facts fit step = kept_step old event said new step facts fit

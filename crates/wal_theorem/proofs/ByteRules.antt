@@ -53,36 +53,22 @@ byte_rules digest f = record (rules_of digest f) {
 
 none_bytes : IsOfBytes no_parts
 none_bytes parts.Metadata text at = absurd cc
-none_bytes parts.Primary text at = absurd cc
-none_bytes parts.Secondary text at = absurd cc
-none_bytes parts.Proof text at = absurd cc
+none_bytes part text at = absurd cc
 
 forgotten_bytes : (p : Parts) → IsOfBytes p → IsOfBytes (forgotten p)
-forgotten_bytes p are parts.Metadata text at = are parts.Metadata text at
 forgotten_bytes p are parts.Primary text at = absurd cc
 forgotten_bytes p are parts.Secondary text at = absurd cc
-forgotten_bytes p are parts.Proof text at = are parts.Proof text at
+forgotten_bytes p are part text at = are part text at
 
 same_text : (a b : List ℕ) → ◌≡◌ {A = Option (List ℕ)} (Some a) (Some b) → AreBytes a → AreBytes b
 same_text a b e are = subst AreBytes (some_is a b e) are
 
 more_bytes : (p : Parts) (part : Part) (bytes : List ℕ) → IsOfBytes p → AreBytes bytes → IsOfBytes (with_part p part (Some bytes))
 more_bytes p parts.Metadata bytes was are parts.Metadata text at = same_text bytes text at are
-more_bytes p parts.Metadata bytes was are parts.Primary text at = was parts.Primary text at
-more_bytes p parts.Metadata bytes was are parts.Secondary text at = was parts.Secondary text at
-more_bytes p parts.Metadata bytes was are parts.Proof text at = was parts.Proof text at
-more_bytes p parts.Primary bytes was are parts.Metadata text at = was parts.Metadata text at
 more_bytes p parts.Primary bytes was are parts.Primary text at = same_text bytes text at are
-more_bytes p parts.Primary bytes was are parts.Secondary text at = was parts.Secondary text at
-more_bytes p parts.Primary bytes was are parts.Proof text at = was parts.Proof text at
-more_bytes p parts.Secondary bytes was are parts.Metadata text at = was parts.Metadata text at
-more_bytes p parts.Secondary bytes was are parts.Primary text at = was parts.Primary text at
 more_bytes p parts.Secondary bytes was are parts.Secondary text at = same_text bytes text at are
-more_bytes p parts.Secondary bytes was are parts.Proof text at = was parts.Proof text at
-more_bytes p parts.Proof bytes was are parts.Metadata text at = was parts.Metadata text at
-more_bytes p parts.Proof bytes was are parts.Primary text at = was parts.Primary text at
-more_bytes p parts.Proof bytes was are parts.Secondary text at = was parts.Secondary text at
 more_bytes p parts.Proof bytes was are parts.Proof text at = same_text bytes text at are
+more_bytes p part bytes was are other text at = was other text at
 
 -- all that a shard holds is bytes
 abbrev AllOfBytes : Contents → Type 0
@@ -150,8 +136,7 @@ read_bytes : (digest : List ℕ → List ℕ) (id : BlobId) (payloads : List (Li
     → ReadsTo digest id payloads word (Some e) → FirstOfBytes (Judged e shown)
 read_bytes digest id payloads (reading.Bytes bytes) e shown are r = evidence_bytes digest id.0 payloads _ shown e are r.1
 read_bytes digest id payloads reading.Reject e shown are r = evidence_bytes digest id.0 payloads _ shown e are r.1
-read_bytes digest id payloads (reading.Short have need) e shown are r = absurd (let f : Some e ≡ None = r.1 in cc)
-read_bytes digest id payloads reading.NoMetadata e shown are r = absurd (let f : Some e ≡ None = r.1 in cc)
+read_bytes digest id payloads word e shown are r = absurd (let f : Some e ≡ None = r.1 in cc)
 
 -- ---- the laws
 

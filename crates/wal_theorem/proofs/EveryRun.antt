@@ -1,6 +1,7 @@
 -- Every event of bytes has a step in a world of bytes, and every schedule of bytes has a run.
 use Rattle.std.proofs.Common.{◌≡◌, ℕ, ◌≤◌, List, [], ◌∷◌, ◌++◌, Bool, true, false, cond, All, Option, Some, None, refl, sym, ap₂, subst, ◌∙◌, inl, inr}
 use Rattle.std.proofs.lemmas.List.Concat.{flat_map-cons}
+use Rattle.std.specs.FinMap as finmap
 use Rattle.wal_shape.specs.declared.metadata.BlobId.{BlobId}
 use Rattle.wal_shape.specs.declared.axis.Axis.{Axis}
 use Rattle.wal_shape.specs.declared.axis.Side.{Side}
@@ -14,14 +15,13 @@ use Rattle.wal_evidence.specs.declared.evidence.Verdict.TheVariants as verdict
 use Rattle.wal_frame.specs.Frame.{Frame}
 use Rattle.wal_event.specs.Event.{Fits, IsSchedule, IsEventWithin}
 use Rattle.wal_event.specs.declared.event.Event.{Event}
-use Rattle.wal_event.specs.declared.event.Event.TheVariants.{Register, Write, Send, Ack, Attest, Read, Recover, Forget, Begin, Ready, Finish, Certificate, Holders}
+use Rattle.wal_event.specs.declared.event.Event.TheVariants.{Write, Send, Read, Recover}
 use Rattle.wal_event.specs.declared.event.Reply.{Reply}
 use Rattle.wal_event.specs.declared.event.Reply.TheVariants as reply
 use Rattle.wal_event.specs.declared.event.Schedule.{Schedule}
 use Rattle.wal_event.specs.declared.line.Line.{Line}
 use Rattle.wal_event.specs.declared.line.Line.TheVariants as line
 use Rattle.wal_event.specs.declared.line.WriteWord.TheVariants as write_word
-use Rattle.wal_event.specs.declared.line.HoldersWord.TheVariants as holders_word
 use Rattle.wal_event.specs.declared.line.SendWord.{SendWord}
 use Rattle.wal_event.specs.declared.line.SendWord.TheVariants as sending
 use Rattle.wal_event.specs.declared.line.ReadWord.{ReadWord}
@@ -32,11 +32,10 @@ use Rattle.wal_ledger.specs.Shards.{committee_size}
 use Rattle.wal_ledger.specs.Ledger.{Log}
 use Rattle.wal_store.specs.Parts.{Parts}
 use Rattle.wal_store.specs.Contents.{Contents}
-use Rattle.wal_shard.specs.declared.answers.PutAnswer.{PutAnswer}
-use Rattle.wal_shard.specs.declared.answers.PutAnswer.TheVariants as putting
-use Rattle.wal_protocol.specs.State.{Committee, World, side_of, writing_side, with_contents}
+use Rattle.wal_protocol.specs.declared.first.First.{First}
+use Rattle.wal_protocol.specs.State.{Committee, World, side_of, writing_side, held, with_contents}
 use Rattle.wal_protocol.specs.Rules.{Rules}
-use Rattle.wal_protocol.specs.Step.{is_clash, PutsEach, letters, IsWrite, Refused, SendStep, reply_payloads, read_payloads, ReadCompletes, ReadStep, ReadCollides, two_metadata, other_answer, IsReplyOf, AreReplies, RecoveryRuns, RecoverStep, CollisionStep, Steps}
+use Rattle.wal_protocol.specs.Step.{is_clash, PutsEach, letters, IsWrite, SendStep, reply_payloads, read_payloads, ReadCompletes, ReadStep, ReadCollides, two_metadata, other_answer, IsReplyOf, AreReplies, RecoveryRuns, RecoverStep, CollisionStep, Steps}
 use Rattle.wal_protocol.specs.Run.{first_state, is_collision, Runs}
 use Rattle.wal_protocol.specs.Facts.{Facts}
 use Rattle.wal_protocol.specs.Total.{Possible, AreBytes, HasBytes, HasStep, HasRun}
@@ -107,18 +106,11 @@ module _ (digest : List ℕ → List ℕ) (is : IsDigest digest) (f : ℕ) where
       by true rest go = rest
       by false rest go = go (with_contents c p.0 contents) rest
 
-  plain_refused : (old : World) (side : Side) (shard : ℕ) (bytes : List ℕ) (answer : PutAnswer) (new : World) → Refused b old side shard bytes answer new → Refused r old side shard bytes answer new
-  plain_refused old side shard bytes answer new (frame, contents, puts, same) = (frame, contents, (puts.0, puts.1, puts.2.0), same)
-
   plain_send : (old : World) (side : Side) (shard : ℕ) (bytes : List ℕ) (word : SendWord) (new : World) → SendStep b old side shard bytes word new → SendStep r old side shard bytes word new
   plain_send old side shard bytes sending.Absent new step = step
   plain_send old side shard bytes sending.Ignored new step = step
   plain_send old side shard bytes sending.Malformed new step = step
-  plain_send old side shard bytes sending.Unregistered new step = plain_refused old side shard bytes putting.Unregistered new step
-  plain_send old side shard bytes sending.NoMetadata new step = plain_refused old side shard bytes putting.NoMetadata new step
-  plain_send old side shard bytes sending.Unverified new step = plain_refused old side shard bytes putting.Unverified new step
-  plain_send old side shard bytes sending.Held new step = plain_refused old side shard bytes putting.Held new step
-  plain_send old side shard bytes sending.Stored new (frame, contents, puts, state) = (frame, contents, (puts.0, puts.1, puts.2.0), state)
+  plain_send old side shard bytes word new step = (step.0, step.1, (step.2.0, step.2.1, step.2.2.0), step.3)
 
   plain_reply : (old : World) (id : BlobId) (one : Reply) → reply_payloads b old id one ≡ reply_payloads r old id one
   plain_reply old id (reply.True side shard) = refl
@@ -141,8 +133,7 @@ module _ (digest : List ℕ → List ℕ) (is : IsDigest digest) (f : ℕ) where
   plain_read : (old : World) (id : BlobId) (replies : List Reply) (word : ReadWord) (new : World) → ReadStep b old id replies word new → ReadStep r old id replies word new
   plain_read old id replies (reading_of.Bytes bytes) new c = plain_completes old id replies (reading_of.Bytes bytes) (verdict.Bytes bytes) new c
   plain_read old id replies reading_of.Reject new c = plain_completes old id replies reading_of.Reject verdict.Reject new c
-  plain_read old id replies (reading_of.Short have need) new (reads, same) = (plain_reads old id replies (reading_of.Short have need) None reads, same)
-  plain_read old id replies reading_of.NoMetadata new (reads, same) = (plain_reads old id replies reading_of.NoMetadata None reads, same)
+  plain_read old id replies word new step = (plain_reads old id replies word None step.0, step.1)
 
   plain_reply_of : (old : World) (id : BlobId) (axis : Axis) (shard : ℕ) (one : Reply) (payloads : List (List ℕ)) → IsReplyOf b old id axis shard one payloads → IsReplyOf r old id axis shard one payloads
   plain_reply_of old id axis shard (reply.True side s) payloads is_reply = is_reply
@@ -170,11 +161,7 @@ module _ (digest : List ℕ → List ℕ) (is : IsDigest digest) (f : ℕ) where
   plain_recover old side shard axis id replies recovering.Absent new step = step
   plain_recover old side shard axis id replies recovering.Ignored new step = step
   plain_recover old side shard axis id replies recovering.Unregistered new step = step
-  plain_recover old side shard axis id replies recovering.NoMetadata new (contents, run, state) = (contents, plain_runs old side shard axis id replies recovering.NoMetadata contents run, state)
-  plain_recover old side shard axis id replies (recovering.Short have need) new (contents, run, state) = (contents, plain_runs old side shard axis id replies (recovering.Short have need) contents run, state)
-  plain_recover old side shard axis id replies (recovering.Sliver bytes) new (contents, run, state) = (contents, plain_runs old side shard axis id replies (recovering.Sliver bytes) contents run, state)
-  plain_recover old side shard axis id replies recovering.Inconsistent new (contents, run, state) = (contents, plain_runs old side shard axis id replies recovering.Inconsistent contents run, state)
-  plain_recover old side shard axis id replies recovering.Proof new (contents, run, state) = (contents, plain_runs old side shard axis id replies recovering.Proof contents run, state)
+  plain_recover old side shard axis id replies word new step = (step.0, plain_runs old side shard axis id replies word step.0 step.1, step.2)
 
   plain_read_collides : (old : World) (id : BlobId) (replies : List Reply) → ReadCollides b old id replies → ReadCollides r old id replies
   plain_read_collides old id replies (two_metadata two) = two_metadata (subst (λ (ps : List (List ℕ)). r.HasTwoMetadata id ps) (plain_payloads old id replies) two)
@@ -207,7 +194,6 @@ module _ (digest : List ℕ → List ℕ) (is : IsDigest digest) (f : ℕ) where
 
   pub plain_step : (old : World) (event : Event) (said : Line) (new : World) → Steps b old event said new → Steps r old event said new
   unfolding plain_write
-  plain_step old (Register id until) (line.Register i word) new step = step
   plain_step old (Write blob to) (line.Write i (write_word.Stored count bytes)) new (same, w) = (
     same,
     record {
@@ -218,19 +204,11 @@ module _ (digest : List ℕ → List ℕ) (is : IsDigest digest) (f : ℕ) where
     },
   )
   plain_step old (Send at shard bytes) (line.Send s word) new (same, step) = (same, plain_send old at shard bytes word new step)
-  plain_step old (Ack shard id) (line.Ack s i word) new step = step
-  plain_step old (Attest shard id) (line.Attest s i word) new step = step
   plain_step old (Read id replies) (line.Read i word) new (same, step) = (same, plain_read old id replies word new step)
   plain_step old (Recover at shard axis id replies) (line.Recover s a i word) new (same_s, same_a, same_i, step) =
       (same_s, same_a, same_i, plain_recover old at shard axis id replies word new step)
-  plain_step old (Forget at shard id) (line.Forget s i word) new step = step
-  plain_step old (Begin owners faulty stays) (line.Begin word) new step = step
-  plain_step old (Ready shard) (line.Ready s word) new step = step
-  plain_step old Finish (line.Finish word) new step = step
-  plain_step old (Certificate id) (line.Certificate i word) new step = step
-  plain_step old (Holders id) (line.Holders i (holders_word.Count count)) new step = step
   plain_step old event (line.Collision left right) new (clash, step) = (clash, plain_collision old event new step)
-  plain_step old event said new none = absurd none
+  plain_step old event said new step = step
 
   plain_run : (old : World) (events : List Event) (states : List World) (lines : List Line) → Runs b old events states lines → Runs r old events states lines
   plain_run old [] [] [] run = tt
@@ -247,22 +225,10 @@ module _ (digest : List ℕ → List ℕ) (is : IsDigest digest) (f : ℕ) where
 
   -- a world of bytes
   pub bytes_facts : (old : World) → Facts r old → WorldOfBytes old → Facts b old
-  bytes_facts old facts bytes = record {
-    sized_f = facts.sized_f;
-    sized = facts.sized;
-    orderly = facts.orderly;
-    none_ahead = facts.none_ahead;
-    since_begin = facts.since_begin;
-    closed = facts.closed;
-    sound = λ side s id. (facts.sound side s id, bytes.parts side s id);
-    answers = λ id answer at. (facts.answers id answer at, bytes.answers id answer at);
-    backs = facts.backs;
-    readies = facts.readies;
-    few_now = facts.few_now;
-    few_next = facts.few_next;
-    kept_serving = facts.kept_serving;
-    kept_moving = facts.kept_moving;
-  }
+  bytes_facts old facts bytes =
+      let sound : (side : Side) (s : ℕ) (id : BlobId) → b.IsSound id s (held (side_of side old) s id) = λ side s id. (facts.sound side s id, bytes.parts side s id) in
+      let answers : (id : BlobId) (first : First) → finmap.get old.answers id ≡ Some first → b.IsBacked id first = λ id first at. (facts.answers id first at, bytes.answers id first at) in
+      assumption
 
   pub step_exists : (old : World) (event : Event) → Facts r old → WorldOfBytes old → Fits f event → HasBytes event → Possible (HasStep r old event)
   step_exists old event facts bytes fits are =

@@ -39,21 +39,10 @@ none_some o a none some = absurd cc
 -- a part that was held is held still
 pub more_above : (p : Parts) (part : Part) (bytes : List ℕ) → part_of p part ≡ None → IsAbove p (with_part p part (Some bytes))
 more_above p Metadata bytes none Metadata x at = absurd (none_some p.metadata x none at)
-more_above p Metadata bytes none Primary x at = at
-more_above p Metadata bytes none Secondary x at = at
-more_above p Metadata bytes none Proof x at = at
-more_above p Primary bytes none Metadata x at = at
 more_above p Primary bytes none Primary x at = absurd (none_some p.primary x none at)
-more_above p Primary bytes none Secondary x at = at
-more_above p Primary bytes none Proof x at = at
-more_above p Secondary bytes none Metadata x at = at
-more_above p Secondary bytes none Primary x at = at
 more_above p Secondary bytes none Secondary x at = absurd (none_some p.secondary x none at)
-more_above p Secondary bytes none Proof x at = at
-more_above p Proof bytes none Metadata x at = at
-more_above p Proof bytes none Primary x at = at
-more_above p Proof bytes none Secondary x at = at
 more_above p Proof bytes none Proof x at = absurd (none_some p.proof x none at)
+more_above p part bytes none other x at = at
 
 -- what is held with these bytes for a part
 pub parts_put : (m : Contents) (id : BlobId) (part : Part) (bytes : List ℕ) (q : BlobId)

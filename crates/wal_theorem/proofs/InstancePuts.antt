@@ -9,7 +9,7 @@ use Rattle.wal_shape.specs.declared.part.Part.TheVariants as parts
 use Rattle.wal_store.specs.Contents.{Contents, parts_at, part_at, with_bytes}
 use Rattle.wal_ledger.specs.Ledger.{Log}
 use Rattle.wal_shard.specs.declared.answers.PutAnswer.{PutAnswer}
-use Rattle.wal_shard.specs.declared.answers.PutAnswer.TheVariants.{Stored, Held, Unregistered, NoMetadata, Unverified, OtherMetadata, Full, Memory}
+use Rattle.wal_shard.specs.declared.answers.PutAnswer.TheVariants.{Stored, Memory}
 use Rattle.wal_frame.specs.Stored.{stored_bytes}
 use Rattle.wal_shard.specs.Putting.{Puts, IsAccepted, put_id, put_part}
 use Rattle.wal_shard.specs.State.{AreSound, desk_of}
@@ -23,14 +23,9 @@ pub by_put : (P : Contents → Type 0) (digest : List ℕ → List ℕ) (f : ℕ
     → (IsAccepted digest (desk_of f shard None log) old frame → part_at old (put_id digest frame) (put_part frame) ≡ None
     → P (with_bytes old (put_id digest frame) (put_part frame) (stored_bytes frame)))
     → Puts digest (desk_of f shard None log) old frame answer new → P new
-by_put P digest f log shard old new frame Unregistered stays more puts = subst P (sym puts.1) stays
-by_put P digest f log shard old new frame NoMetadata stays more puts = subst P (sym puts.3) stays
-by_put P digest f log shard old new frame Unverified stays more puts = subst P (sym puts.3) stays
-by_put P digest f log shard old new frame (OtherMetadata clash) stays more puts = subst P (sym puts.7) stays
-by_put P digest f log shard old new frame Held stays more puts = subst P (sym puts.2) stays
-by_put P digest f log shard old new frame (Full needed free) stays more puts = subst P (sym puts.5) stays
 by_put P digest f log shard old new frame Stored stays more puts = subst P (sym puts.3) (more puts.0 puts.1)
 by_put P digest f log shard old new frame Memory stays more puts = absurd puts
+by_put P digest f log shard old new frame answer stays more puts = let same : new ≡ old = assumption in subst P (sym same) stays
 
 pub put_adds : (digest : List ℕ → List ℕ) (f : ℕ) (log : Log) (shard : ℕ) (old new : Contents) (frame : Frame) (answer : PutAnswer)
     → PutsFrame digest f log shard old frame answer new → AreAbove old new

@@ -51,8 +51,7 @@ pub read_backed : (digest : List ℕ → List ℕ) (f : ℕ) (id : BlobId) (payl
     → ReadsTo digest id payloads word (Some evidence) → told_by word ≡ Some shown → IsBackedBy digest f id (Judged evidence shown)
 read_backed digest f id payloads (Bytes bytes) evidence shown r is = let h = r.1 in backed digest f id h.0 evidence (verdict.Bytes bytes) shown h.1 is h.2 h.3
 read_backed digest f id payloads Reject evidence shown r is = let h = r.1 in backed digest f id h.0 evidence verdict.Reject shown h.1 is h.2 h.3
-read_backed digest f id payloads (Short have need) evidence shown r is = absurd cc
-read_backed digest f id payloads NoMetadata evidence shown r is = absurd cc
+read_backed digest f id payloads word evidence shown r is = absurd cc
 
 pub write_backed : (digest : List ℕ → List ℕ) (size : (text : List ℕ) → length (digest text) ≡ 32) (f : ℕ) (format : Format) (blob : List ℕ) (id : BlobId) (message : ℕ → List Frame)
     → IsMessageOf digest f format blob id message → IsBackedBy digest f id (Written blob)

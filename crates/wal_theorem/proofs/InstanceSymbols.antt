@@ -1,5 +1,5 @@
 -- A recovery that has the replies of enough shards gives the sliver, or finds the blob badly encoded.
-use Rattle.std.proofs.Common.{◌≡◌, inl, ⊎_elim, ℕ, ◌+◌, ◌<◌, ◌≤◌, List, [], ◌∷◌, length, map, Bool, true, false, ◌&&◌, is_some, nat_eq, Option, Some, None, Result, Ok, Contains, refl, sym, ap, subst, ◌∙◌, arith, if◌then◌else◌}
+use Rattle.std.proofs.Common.{◌≡◌, inl, ⊎_elim, ℕ, ◌+◌, ◌<◌, ◌≤◌, List, [], ◌∷◌, length, map, Bool, true, ◌&&◌, is_some, nat_eq, Option, Some, None, Result, Ok, Contains, refl, sym, ap, subst, ◌∙◌, arith, if◌then◌else◌}
 use Rattle.std.specs.List.{flat_map}
 use Rattle.std.specs.Cmp.Lexicographic.{pointwise}
 use Rattle.std.proofs.lemmas.Bool.Decides.{nat_tests}
@@ -27,7 +27,7 @@ use Rattle.wal_frame.specs.Frame.{Frame, frame_text}
 use Rattle.wal_frame.specs.Reading.{read_of}
 use Rattle.wal_frame.specs.declared.frame.FrameError.{FrameError}
 use Rattle.wal_event.specs.declared.line.RecoverWord.{RecoverWord}
-use Rattle.wal_event.specs.declared.line.RecoverWord.TheVariants.{Absent, Ignored, Unregistered, NoMetadata, Sliver, Inconsistent, Proof, Short}
+use Rattle.wal_event.specs.declared.line.RecoverWord.TheVariants.{NoMetadata, Proof, Short}
 use Rattle.wal_frame.proofs.FrameLaws.{read_again}
 use Rattle.wal_reader.specs.Carried.{same_axis, opening_for, openings_in, NoBadProof}
 use Rattle.wal_reader.specs.Outcome.{HasMetadata}
@@ -77,9 +77,7 @@ same_bytes xs = (bytes_eq-Decides xs xs).1 refl
 
 shown_by : (a b c : Bool) (o : Opening) → a ≡ true → b ≡ true → c ≡ true → Contains (if a && (b && c) then o ∷ [] else []) o
 shown_by true true true o ea eb ec = contains_first o o [] refl
-shown_by true true false o ea eb ec = absurd cc
-shown_by true false c o ea eb ec = absurd cc
-shown_by false b c o ea eb ec = absurd cc
+shown_by a b c o ea eb ec = absurd cc
 
 -- an opening of the sliver that a payload carries is one of the openings of the sliver
 carried : (id : List ℕ) (axis : Axis) (index : ℕ) (payloads : List (List ℕ)) (x : List ℕ) (o : Opening) → Contains payloads x
@@ -259,12 +257,7 @@ module _ (digest : List ℕ → List ℕ) (size : (text : List ℕ) → length (
       (λ proof. absurd (proof_told s Secondary h.0 m has.0 h.2 (λ other found. r.1.only other (inl found)) r.3 proof))
       (λ slivers. (h.0, has.0, slivers.0, h.2))
       has.1) r.2)
-  secondary_recovers old new (Sliver bytes) heard enough helped r = tt
-  secondary_recovers old new Inconsistent heard enough helped r = tt
-  secondary_recovers old new Proof heard enough helped r = tt
-  secondary_recovers old new Absent heard enough helped r = absurd r
-  secondary_recovers old new Ignored heard enough helped r = absurd r
-  secondary_recovers old new Unregistered heard enough helped r = absurd r
+  secondary_recovers old new word heard enough helped r = grind arith
 
   -- with enough secondary slivers the openings decide
   few_openings : (old : Contents) (m : BlobMetadata) (have : ℕ) (heard : ℕ → Bool) → quorum_size f ≤ count_below (committee_size f) heard → HeardSecondary heard
@@ -282,8 +275,4 @@ module _ (digest : List ℕ → List ℕ) (size : (text : List ℕ) → length (
       absurd (unknown old Primary one.0 h.0 (beside one.0 h.0 h.2.sound h.1) h.2 r.0)
   primary_recovers old new (Short have need) heard enough helped r = absurd (few_openings old r.0 have heard enough helped r.1 r.2)
   primary_recovers old new Proof heard enough helped r = absurd (few_openings old r.0 r.2 heard enough helped r.1 r.3)
-  primary_recovers old new (Sliver bytes) heard enough helped r = tt
-  primary_recovers old new Inconsistent heard enough helped r = tt
-  primary_recovers old new Absent heard enough helped r = absurd r
-  primary_recovers old new Ignored heard enough helped r = absurd r
-  primary_recovers old new Unregistered heard enough helped r = absurd r
+  primary_recovers old new word heard enough helped r = grind arith

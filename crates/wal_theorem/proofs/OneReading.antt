@@ -176,9 +176,7 @@ module _ (digest : List ℕ → List ℕ) (id : List ℕ) (payloads : List (List
   pub outcome_evidence : (o : Outcome) (a b : Option Evidence) → HasEvidence digest id payloads o a → HasEvidence digest id payloads o b → a ≡ b
   outcome_evidence (Bytes bytes) a b is_a is_b = one_evidence (told.Bytes bytes) (told.Bytes bytes) a b is_a is_b
   outcome_evidence Reject a b is_a is_b = one_evidence told.Reject told.Reject a b is_a is_b
-  outcome_evidence (Short have need) a b is_a is_b = is_a ∙ sym is_b
-  outcome_evidence NoMetadata a b is_a is_b = is_a ∙ sym is_b
-  outcome_evidence (Collision clash) a b is_a is_b = is_a ∙ sym is_b
+  outcome_evidence o a b is_a is_b = is_a ∙ sym is_b
 
   -- a rejection has evidence
   pub reject_evidence : IsOutcome digest id payloads Reject → (e : Evidence) × HasEvidence digest id payloads Reject (Some e)

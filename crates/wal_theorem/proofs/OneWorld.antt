@@ -1,5 +1,5 @@
 -- The rules of the world leave no choice but the texts of a collision: so its steps and runs leave none.
-use Rattle.std.proofs.Common.{◌≡◌, ◌≢◌, ◌⊎◌, ℕ, ◌<◌, List, [], ◌∷◌, ◌++◌, length, Result, Ok, Option, None, refl, sym, ap, subst, ◌∙◌, ⊎_elim, inl, inr, true≢false}
+use Rattle.std.proofs.Common.{◌≡◌, ◌≢◌, ◌⊎◌, ℕ, ◌<◌, List, [], ◌∷◌, ◌++◌, length, Result, Ok, Option, None, refl, sym, ap, subst, ◌∙◌, arith, ⊎_elim, inl, inr, true≢false}
 use Rattle.wal_shape.specs.declared.metadata.BlobId.{BlobId}
 use Rattle.wal_shape.specs.declared.axis.Axis.{Axis}
 use Rattle.wal_shape.specs.declared.shape.Format.{Format}
@@ -103,12 +103,9 @@ module _ (digest : List ℕ → List ℕ) (id : List ℕ) (helper : ℕ) (p : Pa
   one_opening_reply index a b (given m sliver o has at within cross is) (no_shard n has_n outside) =
       absurd (outside (subst (λ (x : BlobMetadata). index < shard_count x.f) (one_metadata p m n has has_n) within))
   one_opening_reply index a b (not_held none) (given n other q has_n at_n within_n cross_n is_n) = absurd (none_some _ other none at_n)
-  one_opening_reply index a b (not_held none) (not_held nothing) = refl
-  one_opening_reply index a b (not_held none) (no_shard n has_n outside) = refl
   one_opening_reply index a b (no_shard m has outside) (given n other q has_n at_n within_n cross_n is_n) =
       absurd (outside (subst (λ (x : BlobMetadata). index < shard_count x.f) (one_metadata p n m has_n has) within_n))
-  one_opening_reply index a b (no_shard m has outside) (not_held nothing) = refl
-  one_opening_reply index a b (no_shard m has outside) (no_shard n has_n far) = refl
+  one_opening_reply index a b s t = refl
 
   one_symbols : (index : ℕ) (a b : List (List ℕ)) → SymbolReplies digest id helper p axis index a → SymbolReplies digest id helper p axis index b → a ≡ b
   one_symbols index a b s t =
@@ -135,21 +132,15 @@ word_of (outcome.Collision clash) = reading.NoMetadata
 
 word_is : (w : ReadWord) → word_of (outcome_told w) ≡ w
 word_is (reading.Bytes bytes) = refl
-word_is reading.Reject = refl
-word_is (reading.Short have need) = refl
-word_is reading.NoMetadata = refl
+word_is w = refl
 
 outcome_same : (w : ReadWord) (o : Outcome) → SameOutcome (outcome_told w) o → outcome_told w ≡ o
 outcome_same (reading.Bytes bytes) o same = same
-outcome_same reading.Reject o same = same
-outcome_same (reading.Short have need) o same = same
-outcome_same reading.NoMetadata o same = same
+outcome_same w o same = same
 
 no_collision : (w : ReadWord) (clash : MetaClash) → outcome_told w ≡ outcome.Collision clash → ⊥
 no_collision (reading.Bytes bytes) clash same = absurd cc
-no_collision reading.Reject clash same = absurd cc
-no_collision (reading.Short have need) clash same = absurd cc
-no_collision reading.NoMetadata clash same = absurd cc
+no_collision w clash same = absurd cc
 
 one_reading : (digest : List ℕ → List ℕ) (id : BlobId) (payloads : List (List ℕ)) (w v : ReadWord) (a b : Option Evidence) → ReadsTo digest id payloads w a → ReadsTo digest id payloads v b
     → (w ≡ v) × (a ≡ b)
@@ -194,37 +185,25 @@ module _ (digest : List ℕ → List ℕ) (f : ℕ) (id : BlobId) (shard : ℕ) 
   one_rest : (m : BlobMetadata) (found : Recovered) (w v : RecoverWord) (x y : Contents) → Rests m found w x → Rests m found v y → (w ≡ v) × (x ≡ y)
   one_rest m (recovered.Sliver bytes) w v x y p q = (p.0 ∙ sym q.0, p.1 ∙ sym q.1)
   one_rest m (recovered.Inconsistent proof) w v x y p q = (p.0 ∙ sym q.0, p.1 ∙ sym q.1)
-  one_rest m (recovered.Short have) w v x y p q =
-      ⊎_elim
-      (λ bad. ⊎_elim
-      (λ other. (bad.2 ∙ sym other.2, bad.3 ∙ ap (λ (z : EncodingProof). kept_proof old id m z) (one_bad_proof digest id.0 m payloads bad.0 other.0 bad.1 other.1) ∙ sym other.3))
-      (λ none. absurd (first_not_none (CarriesBadProof digest id.0 m) payloads bad.0 bad.1 none.0)) q)
-      (λ none. ⊎_elim
-      (λ bad. absurd (first_not_none (CarriesBadProof digest id.0 m) payloads bad.0 bad.1 none.0))
-      (λ other. (none.1 ∙ sym other.1, none.2 ∙ sym other.2)) q)
-      p
+  one_rest m (recovered.Short have) w v x y (inl (a, is, w_is, x_is)) (inl (b, also, v_is, y_is)) = let same = one_bad_proof digest id.0 m payloads a b is also in grind arith
+  one_rest m (recovered.Short have) w v x y (inl (a, is, w_is, x_is)) (inr (none, v_is, y_is)) = absurd (first_not_none (CarriesBadProof digest id.0 m) payloads a is none)
+  one_rest m (recovered.Short have) w v x y (inr (none, w_is, x_is)) (inl (b, also, v_is, y_is)) = absurd (first_not_none (CarriesBadProof digest id.0 m) payloads b also none)
+  one_rest m (recovered.Short have) w v x y (inr (none, w_is, x_is)) (inr (nothing, v_is, y_is)) = grind arith
 
   -- a metadata that is known is one
   known_shape : (m : BlobMetadata) → Knows digest id (parts_at old id) payloads m → IsShape m.f m.length
   known_shape m known = ⊎_elim (λ has. (metadata_fits digest id.0 payloads m has).shape) (λ holds. holds.fit.shape) known
 
   one_coming : (w v : RecoverWord) (x y : Contents) → Comes w x → Comes v y → (w ≡ v) × (x ≡ y)
-  one_coming w v x y p q =
-      ⊎_elim
-      (λ none. ⊎_elim
-      (λ nothing. (none.1 ∙ sym nothing.1, none.2 ∙ sym nothing.2))
-      (λ some. absurd (none.0 some.0 some.1.known some.1.faults)) q)
-      (λ some. ⊎_elim
-      (λ none. absurd (none.0 some.0 some.1.known some.1.faults))
-      (λ other.
-      let same = other.1.only some.0 some.1.known in
-      let n = other.0 in
+  one_coming w v x y (inl (none, w_is, x_is)) (inl (nothing, v_is, y_is)) = grind arith
+  one_coming w v x y (inl (none, w_is, x_is)) (inr (n, known, found, opens, rests)) = absurd (none n known.known known.faults)
+  one_coming w v x y (inr (m, known, found, opens, rests)) (inl (none, v_is, y_is)) = absurd (none m known.known known.faults)
+  one_coming w v x y (inr (m, known, found, opens, rests)) (inr (n, known_n, other, opens_n, rests_n)) =
       let index = held_index n.format n.f axis shard in
-      let C : BlobMetadata → Type 0 = λ m. OwnOpeningsComeTo digest id shard axis payloads m some.2 × Rests m some.2 w x in
-      let here : C n = subst C same (some.3, some.4) in
-      let found = one_recovery digest n axis index (openings_in id.0 axis index payloads) (known_shape n other.1.known) some.2 other.2 here.0 other.3 in
-      one_rest n other.2 w v x y (subst (λ (z : Recovered). Rests n z w x) found here.1) other.4) q)
-      p
+      let C : BlobMetadata → Type 0 = λ z. OwnOpeningsComeTo digest id shard axis payloads z found × Rests z found w x in
+      let here : C n = subst C (known_n.only m known.known) (opens, rests) in
+      let same = one_recovery digest n axis index (openings_in id.0 axis index payloads) (known_shape n known_n.known) found other here.0 opens_n in
+      one_rest n other w v x y (subst (λ (z : Recovered). Rests n z w x) same here.1) rests_n
 
 -- THE RULES leave no choice but the texts of a collision
 pub only_rules : (digest : List ℕ → List ℕ) (f : ℕ) → Only (rules_of digest f)
