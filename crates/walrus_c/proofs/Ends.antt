@@ -51,20 +51,20 @@ for_whole {digest = digest} {c = c} {room = room} least takes lines tells = reco
       (all.within, subst (λ i. Tells digest c i room) (sym all.told) (tells few));
 }
 
-module _ (digest : List ℕ → List ℕ) (size_is : (text : List ℕ) → length (digest text) ≡ 32) (words : List (List ℕ)) (input rest before text : List ℕ) where
-  -- serving a shard ended so
-  abbrev pub EndsSo : Service → ℕ → Type 0
-  EndsSo service status =
-      EndsServing digest service (Some input) (Some rest) (Rose 0 0) (Some before) (Some (before ++ text))
-      (Rose 0 0) status
+-- serving a shard ended so, of which neither the source nor the sink has a fault
+abbrev pub EndsSo : (List ℕ → List ℕ) → (input rest before text : List ℕ) → Service → ℕ → Type 0
+EndsSo digest input rest before text service status =
+    EndsServing digest service (Some input) (Some rest) (Rose 0 0) (Some before) (Some (before ++ text)) (Rose 0 0) status
 
+module _ (digest : List ℕ → List ℕ) (size_is : (text : List ℕ) → length (digest text) ≡ 32) (words : List (List ℕ)) (input rest before text : List ℕ) where
   -- there is room for an answer, for what is left behind, and for what serving writes
   each_short : (room : ℕ)
       → ((status : ℕ) (all : List ℕ) → Answers digest words (Some input) (Some rest) status all → length all ≤ room)
       → ((task : Task) → IsTask words task
       → (given : List ℕ) → IsTaken (command_of digest task) (Some input) (Some rest) given → (all : List ℕ)
       → MayLeave digest (command_of digest task) given all → length all ≤ room)
-      → ((service : Service) → IsTask words (Serve service) → (status : ℕ) → EndsSo service status → length text ≤ room)
+      → ((service : Service) → IsTask words (Serve service) → (status : ℕ)
+      → EndsSo digest input rest before text service status → length text ≤ room)
       → (status : ℕ) → Ends digest words (around input rest before text) status → length text ≤ room
   each_short room answers left serves _ (whole status all is wrote) =
       behind before text all room wrote (answers status all is)
@@ -81,7 +81,8 @@ module _ (digest : List ℕ → List ℕ) (size_is : (text : List ℕ) → lengt
   pub end_short : (task : Task) (room status : ℕ) → IsTask words task
       → ((other : Task) → IsTask words other → other ≡ task)
       → HasRoom digest (command_of digest task) input rest room
-      → ((service : Service) → Serve service ≡ task → (status : ℕ) → EndsSo service status → length text ≤ room)
+      → ((service : Service) → Serve service ≡ task → (status : ℕ)
+      → EndsSo digest input rest before text service status → length text ≤ room)
       → Ends digest words (around input rest before text) status → length text ≤ room
   end_short task room status asked only has serves ends =
       each_short room answers left (λ service is. serves service (only (Serve service) is)) status ends where

@@ -85,8 +85,8 @@ framed {r = r} is = record { each = λ x e. is.each x (in_frame_ok r x e) }
 -- a number takes the bytes of its width
 abbrev IsTaken : Width → ℕ → List ℕ → ℕ × List ℕ → Type 0
 IsTaken w most bytes x =
-    (x.0 ≤ most) × (byte_len w + length x.1 ≡ length bytes) × (from_be_bytes w (take (byte_len w) bytes) ≡ x.0) ×
-    (drop (byte_len w) bytes ≡ x.1)
+    (x.0 ≤ most) × (byte_len w + length x.1 ≡ length bytes) × (from_be_bytes w (take (byte_len w) bytes) ≡ x.0)
+    × (drop (byte_len w) bytes ≡ x.1)
 
 number_taken : (w : Width) (place most : ℕ) (bytes : List ℕ)
     → Yields (number_at w place most bytes) (IsTaken w most bytes)
@@ -166,8 +166,8 @@ bodies_left (suc n) place bytes =
 -- a proof that is read has a spelling, which is as long as its bytes behind the identifier
 pub proof_left : (axis : Axis) (index count place : ℕ) (bytes : List ℕ) → index ≤ 999 → count ≤ 1000
     → Yields (bodies_at count place bytes) (λ rest.
-    rest ≡ [] → IsProof (proof_with axis index (openings_in count bytes)) ×
-    (length (proof_text (proof_with axis index (openings_in count bytes))) ≡ 5 + length bytes))
+    rest ≡ [] → IsProof (proof_with axis index (openings_in count bytes))
+    × (length (proof_text (proof_with axis index (openings_in count bytes))) ≡ 5 + length bytes))
 proof_left axis index count place bytes low few =
     record {
       each = λ rest e none.

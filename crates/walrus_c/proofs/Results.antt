@@ -33,8 +33,8 @@ told other text = text
 -- the texts for this input have room, but for those of the grammar
 abbrev pub Tells : (List ℕ → List ℕ) → Command → List ℕ → ℕ → Type 0
 Tells digest c input room =
-    (kind : Kind) (content : Content c.grammar) → Spells digest c.grammar input content →
-    (text : List ℕ) → Shows c kind content text → length (told kind text) ≤ room
+    (kind : Kind) (content : Content c.grammar) → Spells digest c.grammar input content
+    → (text : List ℕ) → Shows c kind content text → length (told kind text) ≤ room
 
 -- and so have those of the grammar: a schedule's are not looked at
 abbrev pub HasLines : Grammar → ℕ → ℕ → Type 0

@@ -75,7 +75,7 @@ module _ (digest : List ℕ → List ℕ) (size_is : (text : List ℕ) → lengt
 
   -- what serving writes, if the task is to serve
   served : (task : Task) (input rest before text : List ℕ) (service : Service) → Serve service ≡ task → (status : ℕ)
-      → EndsSo digest size_is [] input rest before text service status → length text ≤ room_of task (length input)
+      → EndsSo digest input rest before text service status → length text ≤ room_of task (length input)
   served task input rest before text service is status ends =
       subst (λ t. length text ≤ room_of t (length input)) is
       (ends_short digest size_is service input rest before text status ends)
