@@ -223,9 +223,7 @@ event_is n (Recover at shard axis id replies) passed =
 event_is n (Forget at shard id) passed = ltb-true shard n passed
 event_is n (Begin owners faulty stays) passed = and_parts (is_committee n owners faulty) (is_ascending n stays) passed
 event_is n (Ready shard) passed = ltb-true shard n passed
-event_is n Finish passed = tt
-event_is n (Certificate id) passed = tt
-event_is n (Holders id) passed = tt
+event_is n other passed = tt
 
 -- what is shown of an event
 abbrev IsGood : ℕ → Event → Type 0

@@ -170,9 +170,7 @@ within_is n (Recover at shard axis id replies) is = yes (nat_lt shard n) (replie
 within_is n (Forget at shard id) is = lt-ltb shard n is
 within_is n (Begin owners faulty stays) is = yes (is_committee n owners faulty) (is_ascending n stays) is.0 is.1
 within_is n (Ready shard) is = lt-ltb shard n is
-within_is n Finish is = refl
-within_is n (Certificate id) is = refl
-within_is n (Holders id) is = refl
+within_is n other is = refl
 
 fits_is : (f : ℕ) (e : Event) → 1 ≤ f → f ≤ 333 → IsEventWithin (shard_count f) e → event_fits f e ≡ true
 fits_is f e least most is =
@@ -262,18 +260,7 @@ name_of (Holders id) = codes "holders"
 
 named_is : (e : Event) → text_at (codes "do") (event_data e) ≡ Some (name_of e)
 named_is (Register id until) = refl
-named_is (Write blob to) = refl
-named_is (Send at shard bytes) = refl
-named_is (Ack shard id) = refl
-named_is (Attest shard id) = refl
-named_is (Read id replies) = refl
-named_is (Recover at shard axis id replies) = refl
-named_is (Forget at shard id) = refl
-named_is (Begin owners faulty stays) = refl
-named_is (Ready shard) = refl
-named_is Finish = refl
-named_is (Certificate id) = refl
-named_is (Holders id) = refl
+named_is other = refl
 
 shard_back : (n : ℕ) (d : Data) (shard : ℕ) → n ≤ 65536 → shard < n → get (codes "shard") d ≡ Some (number_data shard) → shard_at d ≡ Some shard
 shard_back n d shard le lt g = whole_at_back 65535 (codes "shard") d shard g (omega arith)
@@ -343,18 +330,7 @@ events_back f number (e ∷ es) least most is has =
 
 object_is : (e : Event) → is_some (as_object (event_data e)) ≡ true
 object_is (Register id until) = refl
-object_is (Write blob to) = refl
-object_is (Send at shard bytes) = refl
-object_is (Ack shard id) = refl
-object_is (Attest shard id) = refl
-object_is (Read id replies) = refl
-object_is (Recover at shard axis id replies) = refl
-object_is (Forget at shard id) = refl
-object_is (Begin owners faulty stays) = refl
-object_is (Ready shard) = refl
-object_is Finish = refl
-object_is (Certificate id) = refl
-object_is (Holders id) = refl
+object_is other = refl
 
 objects_are : (es : List Event) → all_objects (items_of (map event_data es)) ≡ true
 objects_are [] = refl

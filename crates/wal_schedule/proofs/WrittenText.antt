@@ -17,7 +17,7 @@ use Rattle.wal_shape.specs.declared.shape.Format.TheVariants.{One, Two}
 use Rattle.wal_event.specs.declared.event.Reply.{Reply}
 use Rattle.wal_event.specs.declared.event.Reply.TheVariants as reply
 use Rattle.wal_event.specs.declared.event.Event.{Event}
-use Rattle.wal_event.specs.declared.event.Event.TheVariants.{Register, Write, Send, Ack, Attest, Read, Recover, Forget, Begin, Ready, Finish, Certificate, Holders}
+use Rattle.wal_event.specs.declared.event.Event.TheVariants.{Write, Send, Read, Recover, Forget, Begin}
 use Rattle.wal_event.specs.declared.event.Schedule.{Schedule}
 use Rattle.wal_event.specs.Event.{IsSchedule}
 use Rattle.wal_schedule.specs.Grammar.{IsRead, schedule_of}
@@ -53,19 +53,13 @@ replies_deep : (rs : List Reply) → depth (replies_data rs) ≤ 2
 replies_deep rs = omega (arith, items_deep reply_data 1 reply_deep rs)
 
 event_deep : (e : Event) → depth (event_data e) ≤ 3
-event_deep (Register id until) = omega arith
 event_deep (Write blob to) = omega (arith, list_deep to)
 event_deep (Send at shard bytes) = omega (arith, side_deep at)
-event_deep (Ack shard id) = omega arith
-event_deep (Attest shard id) = omega arith
 event_deep (Read id rs) = omega (arith, replies_deep rs)
 event_deep (Recover at shard axis id rs) = omega (arith, side_deep at, axis_deep axis, replies_deep rs)
 event_deep (Forget at shard id) = omega (arith, side_deep at)
 event_deep (Begin owners faulty stays) = omega (arith, list_deep owners, list_deep faulty, list_deep stays)
-event_deep (Ready shard) = omega arith
-event_deep Finish = omega arith
-event_deep (Certificate id) = omega arith
-event_deep (Holders id) = omega arith
+event_deep other = omega arith
 
 events_deep : (es : List Event) → depth (events_data es) ≤ 4
 events_deep es = omega (arith, items_deep event_data 3 event_deep es)
@@ -105,21 +99,15 @@ replies_whole : (rs : List Reply) → has_float (replies_data rs) ≡ false
 replies_whole rs = items_whole reply_data reply_whole rs
 
 event_whole : (e : Event) → has_float (event_data e) ≡ false
-event_whole (Register id until) = refl
 event_whole (Write blob to) = neither (has_float (list_data to)) _ (list_whole to) refl
 event_whole (Send at shard bytes) = neither (has_float (side_data at)) _ (side_whole at) refl
-event_whole (Ack shard id) = refl
-event_whole (Attest shard id) = refl
 event_whole (Read id rs) = neither (has_float (replies_data rs)) _ (replies_whole rs) refl
 event_whole (Recover at shard axis id rs) =
     neither (has_float (side_data at)) _ (side_whole at) (neither (has_float (axis_data axis)) _ (axis_whole axis) (neither (has_float (replies_data rs)) _ (replies_whole rs) refl))
 event_whole (Forget at shard id) = neither (has_float (side_data at)) _ (side_whole at) refl
 event_whole (Begin owners faulty stays) =
     neither (has_float (list_data faulty)) _ (list_whole faulty) (neither (has_float (list_data owners)) _ (list_whole owners) (neither (has_float (list_data stays)) _ (list_whole stays) refl))
-event_whole (Ready shard) = refl
-event_whole Finish = refl
-event_whole (Certificate id) = refl
-event_whole (Holders id) = refl
+event_whole other = refl
 
 events_whole : (es : List Event) → has_float (events_data es) ≡ false
 events_whole es = items_whole event_data event_whole es

@@ -4,7 +4,7 @@ use Rattle.std.proofs.lemmas.Bool.{cases_lt}
 use Rattle.std.proofs.lemmas.List.{append-nil, append_cancel_left}
 use Rattle.wal_port.specs.Faults.{Rose}
 use Rattle.wal_serve.specs.declared.serving.ServeEnd.{ServeEnd}
-use Rattle.wal_serve.specs.declared.serving.ServeEnd.TheVariants.{Done, ReadFault, WriteFault, Malformed, TooLong, Collision}
+use Rattle.wal_serve.specs.declared.serving.ServeEnd.TheVariants.{WriteFault}
 use Rattle.wal_serve.specs.Serving.{Wrote}
 use Rattle.wal_run.specs.Around.{Around}
 use Rattle.wal_run.specs.Answers.{Ends, whole, no_memory_for_words, no_memory, broke_off, source_failed, sink_failed, cut_off, serving_ended}
@@ -16,6 +16,7 @@ use Rattle.walrus_c.specs.Words.{AreWords, AreNoWords}
 use Rattle.walrus_c.specs.Call.{around, Comes, IsFilled, IsUntouched, Returns}
 use Rattle.walrus_c.specs.Call as call
 use Rattle.walrus_c.specs.inside.Running.{Ran}
+use Rattle.walrus_c.proofs.Ends.{never}
 
 -- what a run sees where its sink holds this before and that after
 abbrev between : List ℕ → List ℕ → List ℕ → List ℕ → Around
@@ -28,20 +29,11 @@ between input rest old new = record {
   SinkRose = Rose 0 0;
 }
 
--- a count that stays at 0 did not rise
-never : Rose 0 0 → ⊥
-never (inl up) = omega (arith, up)
-never (inr last) = omega (arith, last)
-
 -- what serving wrote
 served : (end : ServeEnd) (Broke : Type 0) (old new text : List ℕ) → (Broke → (more : List ℕ) × (new ≡ old ++ more))
     → Wrote end Broke (Some old) (Some new) text → (more : List ℕ) × (new ≡ old ++ more)
-served Done Broke old new text broke wrote = (text, wrote)
-served ReadFault Broke old new text broke wrote = (text, wrote)
 served WriteFault Broke old new text broke wrote = broke wrote
-served (Malformed place) Broke old new text broke wrote = (text, wrote)
-served TooLong Broke old new text broke wrote = (text, wrote)
-served (Collision clash) Broke old new text broke wrote = (text, wrote)
+served other Broke old new text broke wrote = (text, wrote)
 
 -- however a run ends, it wrote some text
 written_of : (digest : List ℕ → List ℕ) (words : List (List ℕ)) (input rest old new : List ℕ) (status : ℕ)

@@ -1,5 +1,5 @@
 -- All envelopes of a blob have as many bytes as its length says.
-use Rattle.std.proofs.Common.{◌≡◌, ◌⊎◌, ℕ, ◌+◌, ◌*◌, ◌<◌, ◌≤◌, min, List, [], length, length-append, refl, ap, sym, ◌∙◌, subst, arith, inl, inr}
+use Rattle.std.proofs.Common.{◌≡◌, ℕ, ◌+◌, ◌*◌, ◌<◌, ◌≤◌, min, List, length, length-append, refl, ap, sym, ◌∙◌, subst, arith}
 use Rattle.std.specs.List.{flat_map, range_with_len}
 use Rattle.wal_shape.specs.declared.axis.Axis.{Axis}
 use Rattle.wal_shape.specs.declared.axis.Axis.TheVariants.{Primary, Secondary}
@@ -16,10 +16,10 @@ use Rattle.wal_commit.specs.Identifier.{identifier_of, metadata_over}
 use Rattle.wal_commit.proofs.Commitments.{IsMetadata-over}
 use Rattle.wal_frame.specs.Frame.{envelope, metadata_frame, sliver_frame}
 use Rattle.wal_frame.proofs.FrameLaws.{length-sliver_frame}
-use Rattle.wal_run.specs.Command.{HasTwoMetadata, IsResult, Spelled, bytes, success, rejection, lacking, unreadable, collision}
 use Rattle.wal_run.specs.Encoding.{encoding}
 use Rattle.wal_run.specs.Envelope.{encoded_text, shard_text}
 use Rattle.walrus_c.specs.Encoded.{encoded_bytes}
+use Rattle.walrus_c.proofs.Results.{Tells, succeeds}
 use Rattle.walrus_c.proofs.Streams.{envelope_long}
 
 -- the envelope of a sliver
@@ -86,19 +86,11 @@ module _ (digest : List ℕ → List ℕ) (size_is : (text : List ℕ) → lengt
       (λ i h. shard_bytes id shape e i (identifier_long m) long h) in
       omega (arith, head, text, rest, length-append (envelope 0 (metadata_frame m)) (flat_map (shard_text id shape e) (range_with_len 0 n)))
 
-  pub encoded : (f : ℕ) (format : Format) (input : List ℕ) → (1 ≤ f) × (f ≤ 333) → length input ≤ most_bytes → (status : ℕ) (text : List ℕ)
-      → IsResult digest (encoding digest f format) input status text → length text ≤ encoded_bytes f format (min (length input) most_bytes)
-  encoded f format input fit within _ _ (success text is) =
-      let shape : BlobShape = record { format = format; f = f; length = length is.0 } in
-      let same : length is.0 ≡ min (length input) most_bytes = omega (arith, ap length is.1, within) in
-      let all = all_bytes shape is.2.0 (fit.0, fit.1, omega (arith, ap length is.1, within)) is.2.1.coded.size in
-      omega (arith, ap length is.2.2, all, ap (encoded_bytes f format) same)
-  encoded f format input fit within _ _ (rejection text is) = absurd is.2
-  encoded f format input fit within _ _ (lacking text (inl is)) = absurd is
-  encoded f format input fit within _ _ (lacking text (inr is)) = absurd is.2
-  encoded f format input fit within _ _ (unreadable text (inl is)) = absurd is
-  encoded f format input fit within _ _ (unreadable text (inr is)) = absurd is.2
-  encoded f format input fit within _ _ (collision left right text collides is) = absurd (none is.clashes) where
-    none : (HasTwoMetadata digest bytes input left right × (is.front ≡ [])) ⊎ (Spelled digest (encoding digest f format) input (λ content. ⊥)) → ⊥
-    none (inl two) = two.0
-    none (inr other) = other.2
+  pub encoded : (f : ℕ) (format : Format) (input : List ℕ) → (1 ≤ f) × (f ≤ 333) → length input ≤ most_bytes
+      → Tells digest (encoding digest f format) input (encoded_bytes f format (min (length input) most_bytes))
+  encoded f format input fit within succeeds bytes spells text is =
+      let shape : BlobShape = record { format = format; f = f; length = length bytes } in
+      let same : length bytes ≡ min (length input) most_bytes = omega (arith, ap length spells, within) in
+      let all = all_bytes shape is.0 (fit.0, fit.1, omega (arith, ap length spells, within)) is.1.coded.size in
+      omega (arith, ap length is.2, all, ap (encoded_bytes f format) same)
+  encoded f format input fit within other bytes spells text none = absurd none

@@ -1,5 +1,5 @@
 -- What a shard holds that serves: it is sound, and of no blob it holds more bytes than were taken.
-use Rattle.std.proofs.Common.{◌≡◌, ℕ, ◌+◌, ◌≤◌, Bool, true, false, cond, List, length, Option, Some, None, Result, Ok, Err, unwrap_or, refl, sym, ap, subst, ◌∙◌, arith}
+use Rattle.std.proofs.Common.{◌≡◌, ℕ, ◌+◌, ◌≤◌, Bool, true, false, cond, List, length, Option, Some, None, Result, Ok, unwrap_or, refl, sym, ap, subst, arith}
 use Rattle.std.specs.FinMap as map_of
 use Rattle.std.specs.FinMap.{get-empty}
 use Rattle.std.specs.Ordering.{eq_by_cmp}
@@ -9,7 +9,7 @@ use Rattle.wal_shape.specs.declared.part.Part.TheVariants as parts
 use Rattle.wal_shape.specs.declared.text.MetaClash.{MetaClash}
 use Rattle.wal_shape.specs.Identifiers.{id_cmp}
 use Rattle.wal_frame.specs.declared.frame.FrameError.{FrameError}
-use Rattle.wal_frame.specs.Frame.{Frame, Metadata, Sliver, Opening, Proof, Read, Symbol, Ack, Attest, Forget, Answer, Clash, RegisterEntry, AckEntry, AttestEntry}
+use Rattle.wal_frame.specs.Frame.{Frame, Metadata, Sliver, Proof, Symbol, Ack, Attest, Forget, RegisterEntry, AckEntry, AttestEntry}
 use Rattle.wal_frame.specs.Stored.{stored_bytes}
 use Rattle.wal_store.specs.Parts.{Parts, no_parts, with_part}
 use Rattle.wal_store.specs.Contents.{Contents, parts_at, part_at, with_bytes, without_part}
@@ -24,7 +24,7 @@ use Rattle.wal_shard.proofs.HeldLaws.{sliver_then, proof_then}
 use Rattle.wal_shard.proofs.Soundness.{empty_sound, metadata_sound, put_sound, without_slivers_sound}
 use Rattle.wal_serve.specs.State.{ServedState, holding, with_ledger}
 use Rattle.wal_serve.specs.Requests.{Forgets, forgotten, kept}
-use Rattle.wal_serve.specs.Answers.{AnswersFrame, AnswersPut, AnswersRead}
+use Rattle.wal_serve.specs.Answers.{AnswersPut, AnswersRead}
 use Rattle.wal_words.specs.declared.task.Service.{Service}
 use Rattle.wal_run.specs.Serving.{at_start}
 use Rattle.walrus_c.proofs.Payloads.{IsWithin, Reads}
@@ -58,17 +58,7 @@ size_with p (Metadata m) n part is = omega (arith, is.1)
 size_with p (Sliver id Primary index bytes) n part is = omega (arith, is.1)
 size_with p (Sliver id Secondary index bytes) n part is = omega (arith, is.1)
 size_with p (Proof id q) n part is = omega (arith, is.1)
-size_with p (Opening id axis index o) n part is = absurd part
-size_with p (Read id) n part is = absurd part
-size_with p (Symbol id axis index) n part is = absurd part
-size_with p (Ack id) n part is = absurd part
-size_with p (Attest id) n part is = absurd part
-size_with p (Forget id) n part is = absurd part
-size_with p (Answer code a b) n part is = absurd part
-size_with p (Clash left right) n part is = absurd part
-size_with p (RegisterEntry id until) n part is = absurd part
-size_with p (AckEntry shard id) n part is = absurd part
-size_with p (AttestEntry shard id) n part is = absurd part
+size_with p other n part is = absurd part
 
 -- one part less
 less_without : (n : ℕ) (c : Contents) (id : BlobId) → HoldsFew n c → HoldsFew n (without_part c id parts.Primary)
@@ -135,17 +125,7 @@ module _ (digest : List ℕ → List ℕ) where
     sound_then (Proof name q) part is accepted none =
         let id = put_id digest (Proof name q) in
         proof_then digest old.shard.f old.shard.index name (parts_at old.shard.contents id) q accepted.verified is.2 (holds.sound id)
-    sound_then (Opening id axis index o) part is accepted none = absurd part
-    sound_then (Read id) part is accepted none = absurd part
-    sound_then (Symbol id axis index) part is accepted none = absurd part
-    sound_then (Ack id) part is accepted none = absurd part
-    sound_then (Attest id) part is accepted none = absurd part
-    sound_then (Forget id) part is accepted none = absurd part
-    sound_then (Answer code a b) part is accepted none = absurd part
-    sound_then (Clash left right) part is accepted none = absurd part
-    sound_then (RegisterEntry id until) part is accepted none = absurd part
-    sound_then (AckEntry shard id) part is accepted none = absurd part
-    sound_then (AttestEntry shard id) part is accepted none = absurd part
+    sound_then other part is accepted none = absurd part
 
     stored : (frame : Frame) (new : ServedState) (c : Contents) → CanBePut frame → IsWithin n frame → new ≡ holding old c → IsAccepted digest (desk old.shard old.ledger.log) old.shard.contents frame
         → part_at old.shard.contents (put_id digest frame) (put_part frame) ≡ None
@@ -166,11 +146,9 @@ module _ (digest : List ℕ → List ℕ) where
       by putting.Stored p = stored frame new contents part is now p.0 p.1 p.3
       by putting.Held p = same_held new contents now p.2
       by putting.Unregistered p = same_held new contents now p.1
-      by putting.NoMetadata p = same_held new contents now p.3
-      by putting.Unverified p = same_held new contents now p.3
       by (putting.OtherMetadata texts) p = same_held new contents now p.7
       by (putting.Full needed free) p = same_held new contents now p.5
-      by putting.Memory p = same_held new contents now p.3
+      by other p = same_held new contents now p.3
 
     by_forget : (id : BlobId) (r : _) (c : Contents) (new : ServedState) → new ≡ holding old c → Forgets old.ledger.log old.shard.contents id r c → Then new
     by_forget id _ _ new is (forgotten may) =
@@ -181,14 +159,10 @@ module _ (digest : List ℕ → List ℕ) where
     -- WHAT IS HELD behind a payload of n bytes
     pub holds_then : (read : Result Frame FrameError) (frames : List (List ℕ)) (clash : Option MetaClash) (new : ServedState) → Reads n read
         → AnswersRead digest false read old frames clash new → Holds f (k + (7 + n)) new
-    holds_then (Err fault) frames clash new is h = same_state new h.1
-    holds_then (Ok (Metadata m)) frames clash new is h = by_put (Metadata m) frames clash new tt (is _ refl) h
-    holds_then (Ok (Sliver name axis index bytes)) frames clash new is h = by_put (Sliver name axis index bytes) frames clash new tt (is _ refl) h
-    holds_then (Ok (Proof name q)) frames clash new is h = by_put (Proof name q) frames clash new tt (is _ refl) h
-    holds_then (Ok (Opening name axis index o)) frames clash new is h = same_state new h.1
-    holds_then (Ok (Answer code a b)) frames clash new is h = same_state new h.1
-    holds_then (Ok (Clash left right)) frames clash new is h = same_state new h.1
-    holds_then (Ok (Read name)) frames clash new is h = same_state new h.1
+    holds_then (Ok (Metadata m)) frames clash new is h = by_put (Metadata m) frames clash new tt (is.each _ refl) h
+    holds_then (Ok (Sliver name axis index bytes)) frames clash new is h =
+        by_put (Sliver name axis index bytes) frames clash new tt (is.each _ refl) h
+    holds_then (Ok (Proof name q)) frames clash new is h = by_put (Proof name q) frames clash new tt (is.each _ refl) h
     holds_then (Ok (Symbol name axis index)) frames clash new is h = same_state new h.3
     holds_then (Ok (Forget name)) frames clash new is (r, contents, forgets, told, now) = by_forget (record { 0 = name }) r contents new now forgets
     holds_then (Ok (Ack name)) frames clash new is h = with_entries new h.1 h.4
@@ -196,3 +170,5 @@ module _ (digest : List ℕ → List ℕ) where
     holds_then (Ok (RegisterEntry name until)) frames clash new is h = with_entries new h.1 h.4
     holds_then (Ok (AckEntry shard name)) frames clash new is h = with_entries new h.1 h.4
     holds_then (Ok (AttestEntry shard name)) frames clash new is h = with_entries new h.1 h.4
+    -- a fault, and what asks for no change
+    holds_then other frames clash new is h = same_state new h.1

@@ -1,12 +1,12 @@
 -- An image fits on its disk.
-use Rattle.std.proofs.Common.{◌≡◌, ℕ, ◌+◌, ◌≤◌, max, Bool, true, false, Option, Some, None, List, [], ◌∷◌, ◌++◌, length, length-append, codes, Result, Ok, Err, ap, refl, subst, arith}
+use Rattle.std.proofs.Common.{◌≡◌, ℕ, ◌+◌, ◌≤◌, max, Bool, true, false, Option, Some, None, List, [], ◌∷◌, ◌++◌, length, length-append, codes, Result, Ok, Err, refl, subst, arith}
 use Rattle.std.specs.Prelude.{⊤, if◌then◌else◌, nat_lt, nat_le}
 use Rattle.std.specs.List.{AllByRecursion}
 use Rattle.std.proofs.lemmas.Bool.{and_parts, leb-true, ltb-false}
 use Rattle.wal_shape.specs.Shape.{most_bytes}
 use Rattle.wal_commit.specs.Identifier.{identifier_of}
 use Rattle.wal_frame.specs.declared.frame.FrameError.{FrameError}
-use Rattle.wal_frame.specs.Frame.{Frame, Metadata, Sliver, Opening, Proof, Read, Symbol, Ack, Attest, Forget, Answer, Clash, RegisterEntry, AckEntry, AttestEntry}
+use Rattle.wal_frame.specs.Frame.{Frame, Metadata, Sliver, Proof}
 use Rattle.wal_frame.specs.Reading.{read_of}
 use Rattle.wal_store.specs.Contents.{Contents, part_at}
 use Rattle.wal_store.specs.Parts.{is_absent, is_fit}
@@ -14,11 +14,10 @@ use Rattle.wal_store.specs.Calls.{Call, Put, DropPart, DropId, after_call, no_co
 use Rattle.wal_journal.specs.Record.{fields, records, spelling}
 use Rattle.wal_journal.specs.Packing.{and_more, is_lawful, put_in, puts_of}
 use Rattle.wal_journal.proofs.Records.{length-records-push, spelling_size}
-use Rattle.wal_run.specs.Command.{IsResult}
 use Rattle.wal_run.specs.Imaging.{image_from, image_of, imaging, room_behind, room_of}
-use Rattle.walrus_c.proofs.Lengths.{two_line}
-use Rattle.walrus_c.proofs.MemberTexts.{carried_short}
-use Rattle.walrus_c.proofs.Payloads.{IsWithin, reads}
+use Rattle.walrus_c.proofs.Lengths.{two_fits}
+use Rattle.walrus_c.proofs.Payloads.{Reads, reads}
+use Rattle.walrus_c.proofs.Results.{Tells, succeeds, lacks}
 
 -- ---- the puts of payloads
 
@@ -50,23 +49,12 @@ more_short held (Some c) others named each = by (is_lawful held c) refl where
   by false lawful = each held
 
 module _ (digest : List ℕ → List ℕ) (size_is : (text : List ℕ) → length (digest text) ≡ 32) where
-  named : (n : ℕ) (r : Result Frame FrameError) → ((x : Frame) → r ≡ Ok x → IsWithin n x) → IsNamed (put_in digest r)
+  named : (n : ℕ) (r : Result Frame FrameError) → Reads n r → IsNamed (put_in digest r)
   unfolding identifier_of
   named n (Ok (Metadata m)) is = size_is _
-  named n (Ok (Sliver id axis index bytes)) is = (is _ refl).0
-  named n (Ok (Proof id p)) is = (is _ refl).0
-  named n (Ok (Opening id axis index o)) is = tt
-  named n (Ok (Read id)) is = tt
-  named n (Ok (Symbol id axis index)) is = tt
-  named n (Ok (Ack id)) is = tt
-  named n (Ok (Attest id)) is = tt
-  named n (Ok (Forget id)) is = tt
-  named n (Ok (Answer code a b)) is = tt
-  named n (Ok (Clash left right)) is = tt
-  named n (Ok (RegisterEntry id until)) is = tt
-  named n (Ok (AckEntry shard id)) is = tt
-  named n (Ok (AttestEntry shard id)) is = tt
-  named n (Err e) is = tt
+  named n (Ok (Sliver id axis index bytes)) is = (is.each _ refl).0
+  named n (Ok (Proof id p)) is = (is.each _ refl).0
+  named n other is = tt
 
   puts_short : (held : Contents) (payloads : List (List ℕ)) → AreShort (puts_of digest held payloads)
   puts_short held [] = tt
@@ -89,20 +77,19 @@ image_made size first (c ∷ rest) fit short = by (nat_lt (room_behind size firs
   by true full others = (omega (arith, short.0), omega arith)
   by false room others = others (omega (arith, ltb-false (room_behind size first) (room_of c) room, length-records-push first c)) short.1
 
-pub imaged : (digest : List ℕ → List ℕ) (size_is : (text : List ℕ) → length (digest text) ≡ 32) (size : ℕ) (input : List ℕ) → size ≤ 134217728 → length input ≤ 134217728 → (status : ℕ)
-    (text : List ℕ) → IsResult digest (imaging digest size) input status text → length text ≤ max size 272
-imaged digest size_is size input range within status text is =
-    carried_short digest _ _ (max size 272) (omega arith) succeeded lacked input within status text is where
-      made : (payloads : List (List ℕ)) → IsImaged size (image_of size (puts_of digest no_contents payloads))
-      made payloads = image_made size [] (puts_of digest no_contents payloads) (omega arith) (puts_short digest size_is no_contents payloads)
+made : (digest : List ℕ → List ℕ) → ((text : List ℕ) → length (digest text) ≡ 32) → (size : ℕ)
+    → (payloads : List (List ℕ)) → IsImaged size (image_of size (puts_of digest no_contents payloads))
+made digest size_is size payloads =
+    image_made size [] (puts_of digest no_contents payloads) (omega arith)
+    (puts_short digest size_is no_contents payloads)
 
-      succeeded : (payloads : List (List ℕ)) (t : List ℕ) → (imaging digest size).Succeeds payloads t → length t ≤ max size 272
-      succeeded payloads t whole = let fit = subst (IsImaged size) whole (made payloads) in omega (arith, fit)
-
-      lacked : (payloads : List (List ℕ)) (t : List ℕ) → (imaging digest size).Lacks payloads t → length t ≤ max size 272
-      lacked payloads t (needed, free, full, told) =
-          let fit = subst (IsImaged size) full (made payloads) in
-          let front : length (codes "disk full needed ") ≡ 17 = refl in
-          let middle : length (codes " free ") ≡ 6 = refl in
-          let line = two_line (codes "disk full needed ") (codes " free ") needed free (omega (arith, fit.0)) (omega (arith, fit.1, range)) in
-          omega (arith, ap length told, line, front, middle)
+pub imaged : (digest : List ℕ → List ℕ) → ((text : List ℕ) → length (digest text) ≡ 32) → (size : ℕ) (input : List ℕ)
+    → size ≤ 134217728
+    → Tells digest (imaging digest size) input (max size 272)
+imaged digest size_is size input range succeeds payloads spells text whole =
+    omega (arith, subst (IsImaged size) whole (made digest size_is size payloads))
+imaged digest size_is size input range lacks payloads spells text (needed, free, full, told) =
+    let fit = subst (IsImaged size) full (made digest size_is size payloads) in
+    two_fits (max size 272) (codes "disk full needed ") (codes " free ") needed free text (omega arith) (omega arith)
+    (omega (arith, fit.0)) (omega (arith, fit.1, range)) told
+imaged digest size_is size input range other payloads spells text none = absurd none

@@ -1,10 +1,17 @@
 -- How many bytes numerals, lines and digests have.
-use Rattle.std.proofs.Common.{refl, ◌≡◌, ℕ, ◌+◌, ◌*◌, ◌<◌, ◌≤◌, List, [], ◌∷◌, ◌++◌, length, length-append, codes, decimal, arith}
+use Rattle.std.proofs.Common.{refl, ◌≡◌, ℕ, ◌+◌, ◌*◌, ◌<◌, ◌≤◌, List, [], ◌∷◌, ◌++◌, length, length-append, codes, decimal, ap, ◌∙◌, arith}
+use Rattle.std.specs.List.{flat_map}
+use Rattle.std.proofs.lemmas.List.Concat.{flat_map-cons}
 use Rattle.std.proofs.lemmas.Fmt.{length-decimal-le}
 use Rattle.hex.proofs.HexLemmas.{length-encode_with}
 use Rattle.hex.specs.Hex.{encode_lower, lower_digits}
 use Rattle.wal_event.specs.Report.{hex_text}
 use Rattle.wal_run.specs.Lines.{number_text, collision_text}
+
+-- pieces of which one stands before the others
+pub length-flat_map-cons : {X A : Type 0} (f : X → List A) (x : X) (xs : List X)
+    → length (flat_map f (x ∷ xs)) ≡ length (f x) + length (flat_map f xs)
+length-flat_map-cons f x xs = ap length (flat_map-cons f x xs) ∙ length-append (f x) (flat_map f xs)
 
 -- a numeral of a number below 10^9, which has 9 digits at most
 pub numeral : (n : ℕ) → n < 1000000000 → length (decimal n) ≤ 9
@@ -24,6 +31,17 @@ pub two_line : (prefix middle : List ℕ) (n m : ℕ) → n < 1000000000 → m <
     → length ((prefix ++ decimal n) ++ number_text middle m) ≤ length prefix + length middle + 19
 two_line prefix middle n m small few =
     omega (arith, numeral n small, number_line middle m few, length-append prefix (decimal n), length-append (prefix ++ decimal n) (number_text middle m))
+
+-- these among the lines of at most 272 bytes
+pub one_fits : (room : ℕ) (prefix : List ℕ) (n : ℕ) (text : List ℕ) → 272 ≤ room → length prefix ≤ 200 → n < 1000000000
+    → text ≡ number_text prefix n → length text ≤ room
+one_fits room prefix n text most short small is = omega (arith, ap length is, number_line prefix n small, short, most)
+
+pub two_fits : (room : ℕ) (prefix middle : List ℕ) (n m : ℕ) (text : List ℕ) → 272 ≤ room
+    → length prefix + length middle ≤ 200 → n < 1000000000 → m < 1000000000
+    → text ≡ ((prefix ++ decimal n) ++ number_text middle m) → length text ≤ room
+two_fits room prefix middle n m text most short small few is =
+    omega (arith, ap length is, two_line prefix middle n m small few, short, most)
 
 -- digits of a text
 pub digits : (text : List ℕ) → length (encode_lower text) ≡ 2 * length text

@@ -16,6 +16,7 @@ mod Ranges
 mod ReadTexts
 mod RecoverTexts
 mod Refusals
+mod Results
 mod Rooms
 mod ServeTexts
 mod ServedTexts

@@ -1,5 +1,5 @@
 -- The lines of what an image holds have at most twice as many bytes as the image.
-use Rattle.std.proofs.Common.{◌≡◌, ◌⊎◌, ℕ, ◌+◌, ◌*◌, ◌≤◌, min, max, Bool, true, false, cond, not, T, Option, Some, None, List, [], ◌∷◌, ◌++◌, length, length-append, map, codes, decimal, unwrap_or, inl, inr, ap, refl, sym, ◌∙◌, arith}
+use Rattle.std.proofs.Common.{◌≡◌, ℕ, ◌+◌, ◌*◌, ◌≤◌, min, max, Bool, true, false, cond, not, T, Option, Some, None, List, [], ◌∷◌, ◌++◌, length, length-append, map, codes, decimal, unwrap_or, inl, inr, ap, refl, sym, ◌∙◌, arith}
 use Rattle.std.specs.Prelude.{if◌then◌else◌}
 use Rattle.std.specs.declared.cmp.Ordering.{Ordering}
 use Rattle.std.specs.declared.cmp.Ordering.TheVariants.{Less, Equal, Greater}
@@ -10,7 +10,6 @@ use Rattle.std.specs.FinMap as fin
 use Rattle.std.specs.FinMap.Entries.{below_all, by_order, find, find-where_key, is_sorted, is_sorted-where_key, put, where_key}
 use Rattle.std.proofs.lemmas.Cmp.{alike_right, tied_itself}
 use Rattle.std.proofs.lemmas.Fmt.{length-decimal-le_succ}
-use Rattle.std.proofs.lemmas.List.Concat.{flat_map-cons}
 use Rattle.hex.specs.Hex.{encode_lower}
 use Rattle.wal_shape.specs.declared.BlobId.{BlobId}
 use Rattle.wal_shape.specs.declared.part.Part.{Part}
@@ -25,10 +24,10 @@ use Rattle.wal_store.proofs.IdentifierLaws.{exact_ids, ids_total}
 use Rattle.wal_store.proofs.OrderLaws.{both_of, less_of}
 use Rattle.wal_journal.specs.Record.{AreWholeRecords, records, spelling}
 use Rattle.wal_journal.proofs.Records.{spelling_long}
-use Rattle.wal_run.specs.Command.{HasTwoMetadata, IsResult, Spelled, bytes, success, rejection, lacking, unreadable, collision}
 use Rattle.wal_run.specs.Lines.{number_text}
 use Rattle.wal_run.specs.Unpacking.{IsBrokenAt, contents_text, holding_text, part_line, part_text, part_word, unpacking}
-use Rattle.walrus_c.proofs.Lengths.{digits, number_line}
+use Rattle.walrus_c.proofs.Lengths.{digits, length-flat_map-cons, one_fits}
+use Rattle.walrus_c.proofs.Results.{Tells, succeeds, misreads}
 
 -- ---- lines
 
@@ -229,8 +228,7 @@ listed_long held (e ∷ es) found =
     let here : parts_at held e.0 ≡ e.1 = ap (λ o. unwrap_or o no_parts) (fin.get-entries held e.0 ∙ found.0) in
     omega (
       arith,
-      ap length (flat_map-cons line e.0 (map (λ (x : BlobId × Parts). x.0) es)),
-      length-append (line e.0) (flat_map line (map (λ (x : BlobId × Parts). x.0) es)),
+      length-flat_map-cons line e.0 (map (λ (x : BlobId × Parts). x.0) es),
       ap (λ p. length (holding_text e.0 p)) here,
       listed_long held es found.1,
     )
@@ -239,12 +237,11 @@ contents_long : (held : Contents) → length (contents_text held) ≡ all_lines 
 unfolding all_lines
 contents_long held = listed_long held (fin.entries held) (each_found (fin.entries held) (fin.entries_sorted held))
 
-pub unpacked : (digest : List ℕ → List ℕ) (count : ℕ) (input : List ℕ) → length input ≡ count → length input ≤ 134217728 → (status : ℕ) (text : List ℕ)
-    → IsResult digest unpacking input status text → length text ≤ max (2 * min count 134217728) 272
-unpacked digest count input counted within _ _ (success text (image, is, (changes, accepts, told))) =
+pub unpacked : (digest : List ℕ → List ℕ) (input : List ℕ) → length input ≤ 134217728
+    → Tells digest unpacking input (max (2 * min (length input) 134217728) 272)
+unpacked digest input within succeeds image is text (changes, accepts, told) =
     omega (
       arith,
-      counted,
       within,
       ap length is,
       ap length told,
@@ -254,17 +251,10 @@ unpacked digest count input counted within _ _ (success text (image, is, (change
       ap length accepts.stands.is,
       length-append (records changes) (accepts.stands.gate ∷ accepts.stands.rest),
     )
-unpacked digest count input counted within _ _ (rejection text is) = absurd is.2
-unpacked digest count input counted within _ _ (lacking text (inl is)) = absurd is
-unpacked digest count input counted within _ _ (lacking text (inr is)) = absurd is.2
-unpacked digest count input counted within _ _ (unreadable text (inl is)) = absurd is
-unpacked digest count input counted within _ _ (unreadable text (inr (image, is, (at, broken, told)))) =
-    let front : length (codes "malformed at ") ≡ 13 = refl in
-    omega (arith, ap length told, number_line (codes "malformed at ") at (omega (arith, place broken, ap length is, within)), front) where
+unpacked digest input within misreads image is text (at, broken, told) =
+    one_fits (max (2 * min (length input) 134217728) 272) (codes "malformed at ") at text (omega arith) (omega arith)
+    (omega (arith, place broken, ap length is, within)) told where
       place : IsBrokenAt image at → at ≤ length image
       place (inl empty) = omega (arith, empty.1)
       place (inr (changes, held, so_far, gate, bad)) = omega (arith, so_far.within)
-unpacked digest count input counted within _ _ (collision left right text collides is) = absurd (none is.clashes) where
-  none : (HasTwoMetadata digest bytes input left right × (is.front ≡ [])) ⊎ Spelled digest unpacking input (λ content. ⊥) → ⊥
-  none (inl two) = two.0
-  none (inr other) = other.2
+unpacked digest input within other image is text none = absurd none

@@ -1,5 +1,5 @@
 -- A bundle, and a member of one.
-use Rattle.std.proofs.Common.{◌≡◌, ◌⊎◌, ℕ, ◌+◌, ◌-◌, ◌*◌, ◌%◌, ◌<◌, ◌≤◌, List, [], length, length-take, codes, get_or, inl, inr, ap, refl, ◌∙◌, arith}
+use Rattle.std.proofs.Common.{◌≡◌, ℕ, ◌+◌, ◌-◌, ◌*◌, ◌%◌, ◌<◌, ◌≤◌, List, length, length-take, codes, get_or, inl, inr, ap, ◌∙◌, arith}
 use Rattle.std.proofs.Math.Nat.{mul-le-mul_left, mul-le-mul_right}
 use Rattle.std.proofs.lemmas.Bool.{cases_lt}
 use Rattle.wal_shape.specs.declared.metadata.BlobId.{BlobId}
@@ -8,52 +8,18 @@ use Rattle.wal_shape.proofs.ShapeLaws.{symbol_size-least}
 use Rattle.wal_bundle.specs.Layout.{column_bytes, columns_for, index_bytes}
 use Rattle.wal_bundle.specs.Member.{MissesColumn, count_in, of_start, of_index, of_member}
 use Rattle.wal_bundle.proofs.Room.{columns_for-close, member_within}
-use Rattle.wal_frame.specs.Stream.{IsStream}
-use Rattle.wal_reader.specs.Outcome.{IsMetadataIn}
 use Rattle.wal_run.specs.Bundling.{bundling}
-use Rattle.wal_run.specs.Command.{Command, HasTwoMetadata, IsResult, Recorded, Spelled, bare, envelopes, success, rejection, lacking, unreadable, collision}
 use Rattle.wal_run.specs.Unbundling.{unbundling}
 use Rattle.walrus_c.specs.Room.{member_most}
-use Rattle.walrus_c.proofs.Lengths.{number_line}
-use Rattle.walrus_c.proofs.Lines.{recorded_short, shape_of}
-use Rattle.walrus_c.proofs.Streams.{breaks_within}
+use Rattle.walrus_c.proofs.Lengths.{one_fits}
+use Rattle.walrus_c.proofs.Lines.{shape_of}
+use Rattle.walrus_c.proofs.Results.{Tells, succeeds, rejects, lacks}
 
--- ---- commands over envelopes of which each is a result or lacks something
-
--- a command over envelopes that succeeds or lacks something
-abbrev pub carried : (Succeeds Lacks : List (List ℕ) → List ℕ → Type 0) → Command
-carried Succeeds Lacks = record (bare 134217728 envelopes) { Succeeds = Succeeds; Lacks = Lacks }
-
--- what suffices for each of the two
-abbrev pub EachOf : ℕ → (List (List ℕ) → List ℕ → Type 0) → Type 0
-EachOf room Is = (payloads : List (List ℕ)) (text : List ℕ) → Is payloads text → length text ≤ room
-
-pub carried_short : (digest : List ℕ → List ℕ) (Succeeds Lacks : List (List ℕ) → List ℕ → Type 0) (room : ℕ) → 272 ≤ room → EachOf room Succeeds → EachOf room Lacks
-    → (input : List ℕ) → length input ≤ 134217728 → (status : ℕ) (text : List ℕ) → IsResult digest (carried Succeeds Lacks) input status text → length text ≤ room
-carried_short digest S L room most each_s each_l input within _ _ (success text is) = each_s is.0 text is.2
-carried_short digest S L room most each_s each_l input within _ _ (rejection text is) = absurd is.2
-carried_short digest S L room most each_s each_l input within _ _ (lacking text (inl is)) = absurd is
-carried_short digest S L room most each_s each_l input within _ _ (lacking text (inr is)) = each_l is.0 text is.2
-carried_short digest S L room most each_s each_l input within _ _ (unreadable text (inl broken)) =
-    let place = breaks_within broken.0 input broken.1 in
-    let line = number_line (codes "malformed at ") broken.0 (omega (arith, place, within)) in
-    let front : length (codes "malformed at ") ≡ 13 = refl in
-    omega (arith, ap length broken.2, line, front, most)
-carried_short digest S L room most each_s each_l input within _ _ (unreadable text (inr is)) = absurd is.2
-carried_short digest S L room most each_s each_l input within _ _ (collision left right text collides is) = absurd (none is.clashes) where
-  none : (HasTwoMetadata digest envelopes input left right × (is.front ≡ [])) ⊎ Spelled digest (carried S L) input (λ content. ⊥) → ⊥
-  none (inl two) = two.0
-  none (inr other) = other.2
-
--- ---- a bundle
-
-pub bundled : (digest : List ℕ → List ℕ) (f : ℕ) (input : List ℕ) → length input ≤ 134217728 → (status : ℕ) (text : List ℕ) → IsResult digest (bundling f) input status text
-    → length text ≤ most_bytes
-bundled digest f input within status text is =
-    carried_short digest _ _ most_bytes (omega arith) (λ members t made. made.3) lacked input within status text is where
-      lacked : (members : List (List ℕ)) (t : List ℕ) → (bundling f).Lacks members t → length t ≤ most_bytes
-      lacked members t (inl many) = omega (arith, ap length many.1)
-      lacked members t (inr long) = omega (arith, ap length long.1)
+pub bundled : (digest : List ℕ → List ℕ) (f : ℕ) (input : List ℕ) → Tells digest (bundling f) input most_bytes
+bundled digest f input succeeds members spells text made = made.3
+bundled digest f input lacks members spells text (inl many) = omega (arith, ap length many.1)
+bundled digest f input lacks members spells text (inr long) = omega (arith, ap length long.1)
+bundled digest f input other members spells text none = absurd none
 
 -- ---- a member
 
@@ -117,35 +83,26 @@ missing_few Column f s k j few some (of_index bytes first many misses) =
 missing_few Column f s k j few some (of_member lengths has within misses) =
     omega (arith, misses.before, member_within (column_bytes f s) lengths k within, has.index.size.room, few)
 
-module _ (digest : List ℕ → List ℕ) (size_is : (text : List ℕ) → length (digest text) ≡ 32) where
-  pub member_read : (id : BlobId) (k : ℕ) (input : List ℕ) → length input ≤ 134217728 → (status : ℕ) (text : List ℕ) → IsResult digest (unbundling digest id k) input status text
-      → length text ≤ member_most
-  member_read id k input within status text is =
-      recorded_short digest size_is id _ _ _ _ _ (length input) member_most (omega arith) succeeded rejected lacked input refl within status text is where
-        succeeded : (r : Recorded) (i : List ℕ) → IsStream r.payloads i → length i ≡ length input → length i ≤ 134217728 → IsMetadataIn digest id.0 r.payloads r.metadata
-            → (t : List ℕ) → (unbundling digest id k).Succeeds r t → length t ≤ member_most
-        succeeded r i stream counted small has t (m, own, (lengths, index, member)) =
-            let s = symbol_size m.f m.length in
-            let size = column_bytes m.f s in
-            let count = columns_for size (get_or lengths k 0) in
-            let few : count ≤ column_count m.f = omega (arith, member_within size lengths k member.within, index.index.size.room) in
-            let all = columns_short m.f s count few (block_short m.f m.length (shape_of digest size_is id.0 r.payloads m own)) in
-            omega (arith, ap length member.front, length-take (get_or lengths k 0) member.columns, member.there.long, all)
-
-        rejected : (r : Recorded) (i : List ℕ) → IsStream r.payloads i → length i ≡ length input → length i ≤ 134217728 → IsMetadataIn digest id.0 r.payloads r.metadata
-            → (t : List ℕ) → (unbundling digest id k).Rejects r t → length t ≤ member_most
-        rejected r i stream counted small has t is = omega (arith, ap length is.1)
-
-        lacked : (r : Recorded) (i : List ℕ) → IsStream r.payloads i → length i ≡ length input → length i ≤ 134217728 → IsMetadataIn digest id.0 r.payloads r.metadata
-            → (t : List ℕ) → (unbundling digest id k).Lacks r t → length t ≤ member_most
-        lacked r i stream counted small has t (inl (j, (m, own, misses), is)) =
-            let shape = shape_of digest size_is id.0 r.payloads m own in
-            let least = (symbol_size-least m.f m.length).positive in
-            let rows : row_count m.f * 2 ≤ column_bytes m.f (symbol_size m.f m.length) = mul-le-mul_left (row_count m.f) least in
-            let few = missing_few _ m.f (symbol_size m.f m.length) k j shape.1 (omega (arith, rows)) misses in
-            let front : length (codes "missing column ") ≡ 15 = refl in
-            omega (arith, ap length is, number_line (codes "missing column ") j (omega (arith, few)), front)
-        lacked r i stream counted small has t (inr (count, (m, own, (lengths, index, counts, over)), is)) =
-            let shape = shape_of digest size_is id.0 r.payloads m own in
-            let front : length (codes "no member of ") ≡ 13 = refl in
-            omega (arith, ap length is, number_line (codes "no member of ") count (omega (arith, counts, index.index.few, shape.1)), front)
+module _ (digest : List ℕ → List ℕ) where
+  pub member_read : (id : BlobId) (k : ℕ) (input : List ℕ) → Tells digest (unbundling digest id k) input member_most
+  member_read id k input succeeds r spells text (m, own, (lengths, index, member)) =
+      let s = symbol_size m.f m.length in
+      let size = column_bytes m.f s in
+      let count = columns_for size (get_or lengths k 0) in
+      let within = member_within size lengths k member.within in
+      let few : count ≤ column_count m.f = omega (arith, within, index.index.size.room) in
+      let all = columns_short m.f s count few (block_short m.f m.length (shape_of digest id.0 r.payloads m own)) in
+      omega (arith, ap length member.front, length-take (get_or lengths k 0) member.columns, member.there.long, all)
+  member_read id k input rejects r spells text is = omega (arith, ap length is.1)
+  member_read id k input lacks r spells text (inl (j, (m, own, misses), is)) =
+      let s = symbol_size m.f m.length in
+      let shape = shape_of digest id.0 r.payloads m own in
+      let least = (symbol_size-least m.f m.length).positive in
+      let rows : row_count m.f * 2 ≤ column_bytes m.f s = mul-le-mul_left (row_count m.f) least in
+      let few = missing_few _ m.f s k j shape.1 (omega (arith, rows)) misses in
+      one_fits member_most (codes "missing column ") j text (omega arith) (omega arith) (omega (arith, few)) is
+  member_read id k input lacks r spells text (inr (count, (m, own, (lengths, index, counts, over)), is)) =
+      let shape = shape_of digest id.0 r.payloads m own in
+      let few : count < 1000000000 = omega (arith, counts, index.index.few, shape.1) in
+      one_fits member_most (codes "no member of ") count text (omega arith) (omega arith) few is
+  member_read id k input other r spells text none = absurd none

@@ -1,7 +1,6 @@
 -- What a shard answers to a storage challenge: envelopes of openings, each with a symbol.
-use Rattle.std.proofs.Common.{◌≡◌, ℕ, zero, suc, ◌+◌, ◌*◌, ◌/◌, ◌≤◌, List, [], ◌∷◌, length, length-append, Some, slice_get, inl, inr, ap, refl, subst, sym, ◌∙◌, arith}
+use Rattle.std.proofs.Common.{◌≡◌, ℕ, zero, suc, ◌+◌, ◌*◌, ◌/◌, ◌≤◌, List, [], ◌∷◌, length, Some, slice_get, inl, inr, ap, refl, subst, sym, arith}
 use Rattle.std.specs.List.{flat_map}
-use Rattle.std.proofs.lemmas.List.Concat.{flat_map-cons}
 use Rattle.std.proofs.Math.Nat.{mul-le-mul_right}
 use Rattle.wal_shape.specs.declared.axis.Axis.TheVariants.{Primary, Secondary}
 use Rattle.wal_shape.specs.declared.opening.Opening.{Opening}
@@ -19,11 +18,13 @@ use Rattle.wal_challenge.specs.Verdict.{claim_of, claims_from}
 use Rattle.wal_challenge.proofs.AnswerLaws.{answer_holds}
 use Rattle.wal_words.specs.declared.task.Audit.{Audit}
 use Rattle.wal_run.specs.Challenging.{AnswersDraws, IsOwnSliver, challenging, claim_envelope}
-use Rattle.wal_run.specs.Command.{IsResult, Recorded, Spelled}
+use Rattle.wal_run.specs.Command.{Recorded}
 use Rattle.walrus_c.specs.Room.{opening_most}
-use Rattle.walrus_c.proofs.Lines.{recorded_short, shape_of}
+use Rattle.walrus_c.proofs.Lengths.{length-flat_map-cons}
+use Rattle.walrus_c.proofs.Lines.{shape_of}
 use Rattle.walrus_c.proofs.Payloads.{sliver_among, sliver_sizes, slivers_within}
 use Rattle.walrus_c.proofs.RecoverTexts.{id_long}
+use Rattle.walrus_c.proofs.Results.{Tells, succeeds, lacks, leaves}
 use Rattle.walrus_c.proofs.Streams.{envelope_long}
 
 -- no symbol is longer than that of the longest blob at one fault
@@ -44,10 +45,8 @@ envelopes_long digest a m most d (o ∷ os) long each =
     let head = envelope_long a.shard (frame_text (frame.Opening a.id.0 claim.axis claim.index o)) in
     let body = length-opening_frame a.id.0 claim.axis claim.index o long in
     let others = claims_from digest m a.beacon a.shard (d + 1) os in
-    let whole : length (flat_map (claim_envelope a) (claim ∷ others)) ≡ length (claim_envelope a claim) + length (flat_map (claim_envelope a) others) =
-    ap length (flat_map-cons (claim_envelope a) claim others) ∙ length-append (claim_envelope a claim) (flat_map (claim_envelope a) others) in
     let more : suc (length os) * most ≡ most + length os * most = omega arith in
-    omega (arith, rest, here, head, body, whole, more)
+    omega (arith, rest, here, head, body, length-flat_map-cons (claim_envelope a) claim others, more)
 
 -- an answer to one draw at least has room for a line
 pub answer_some : (amount count : ℕ) → 1 ≤ amount → 272 ≤ amount * opening_most count
@@ -77,7 +76,7 @@ module _ (digest : List ℕ → List ℕ) (size_is : (text : List ℕ) → lengt
   draws_short a r input stream has count text (shard, primary, own, secondary, other, (openings, are, is)) =
       let m = r.metadata in
       let s = symbol_size m.f m.length in
-      let shape = shape_of digest size_is a.id.0 r.payloads m has in
+      let shape = shape_of digest a.id.0 r.payloads m has in
       let both : HoldsBoth digest m a.shard primary secondary = record { primary_held = own.4.1; secondary_held = other.4.1 } in
       let within = symbols_within a r input primary secondary stream own other shape in
       let most = symbol_most m.f m.length shape in
@@ -89,27 +88,16 @@ module _ (digest : List ℕ → List ℕ) (size_is : (text : List ℕ) → lengt
       let same : length openings * opening_most (length input) ≡ count * opening_most (length input) = ap (λ n. n * opening_most (length input)) are.many in
       omega (arith, ap length is, long, same)
 
-  -- what is left when memory runs out
-  pub left_short : (a : Audit) (input text : List ℕ) → Spelled digest (challenging digest a) input (λ r. (challenging digest a).Leaves r text)
-      → length text ≤ a.count * opening_most (length input)
-  left_short a input text (r, spells, (count, few, answers)) =
-      let whole = draws_short a r input spells.0 spells.1 count text answers in
+  pub challenged : (a : Audit) (input : List ℕ) → 1 ≤ a.count
+      → Tells digest (challenging digest a) input (a.count * opening_most (length input))
+  challenged a input some succeeds r spells text is = draws_short a r input spells.0 spells.1 a.count text is
+  challenged a input some lacks r spells text (inl none) =
+      omega (arith, ap length none.1, answer_some a.count (length input) some)
+  challenged a input some lacks r spells text (inr (inl none)) =
+      omega (arith, ap length none.2, answer_some a.count (length input) some)
+  challenged a input some lacks r spells text (inr (inr none)) =
+      omega (arith, ap length none.3, answer_some a.count (length input) some)
+  challenged a input some leaves r spells text (count, few, answers) =
       let fewer : count * opening_most (length input) ≤ a.count * opening_most (length input) = mul-le-mul_right (opening_most (length input)) (omega (arith, few)) in
-      omega (arith, whole, fewer)
-
-  pub challenged : (a : Audit) (input : List ℕ) → 1 ≤ a.count → length input ≤ 134217728 → (status : ℕ) (text : List ℕ) → IsResult digest (challenging digest a) input status text
-      → length text ≤ a.count * opening_most (length input)
-  challenged a input some within status text is =
-      recorded_short digest size_is a.id _ _ _ _ _ (length input) (a.count * opening_most (length input)) least succeeded (λ r i s c w m t none. absurd none) lacked input refl within status text is where
-        least : 272 ≤ a.count * opening_most (length input)
-        least = answer_some a.count (length input) some
-
-        succeeded : (r : Recorded) (i : List ℕ) → IsStream r.payloads i → length i ≡ length input → length i ≤ 134217728 → IsMetadataIn digest a.id.0 r.payloads r.metadata
-            → (t : List ℕ) → (challenging digest a).Succeeds r t → length t ≤ a.count * opening_most (length input)
-        succeeded r i stream counted small has t is = subst (λ n. length t ≤ a.count * opening_most n) counted (draws_short a r i stream has a.count t is)
-
-        lacked : (r : Recorded) (i : List ℕ) → IsStream r.payloads i → length i ≡ length input → length i ≤ 134217728 → IsMetadataIn digest a.id.0 r.payloads r.metadata
-            → (t : List ℕ) → (challenging digest a).Lacks r t → length t ≤ a.count * opening_most (length input)
-        lacked r i stream counted small has t (inl none) = omega (arith, ap length none.1, least)
-        lacked r i stream counted small has t (inr (inl none)) = omega (arith, ap length none.2, least)
-        lacked r i stream counted small has t (inr (inr none)) = omega (arith, ap length none.3, least)
+      omega (arith, draws_short a r input spells.0 spells.1 count text answers, fewer)
+  challenged a input some other r spells text none = absurd none

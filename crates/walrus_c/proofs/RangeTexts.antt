@@ -1,19 +1,17 @@
 -- What a gateway writes: a line for each request, with a range of a blob that is no longer than what was taken.
-use Rattle.std.proofs.Common.{◌≡◌, ◌⊎◌, inl, inr, ℕ, zero, suc, ◌+◌, ◌*◌, ◌/◌, ◌≤◌, min, Bool, true, false, cond, List, [], ◌∷◌, ◌++◌, length, length-append, length-take, length-drop, take, drop, codes, nat_eq, nat_le, slice_index, append-nil, ◌&&◌, Option, Some, None, MatchOption, refl, sym, ap, subst, ◌∙◌, arith}
-use Rattle.std.specs.List.{AllByRecursion, flat_map}
+use Rattle.std.proofs.Common.{◌≡◌, ℕ, zero, suc, ◌+◌, ◌*◌, ◌/◌, ◌≤◌, min, Bool, true, false, cond, List, [], ◌∷◌, ◌++◌, length, length-append, length-take, length-drop, take, drop, codes, nat_eq, nat_le, slice_index, append-nil, ◌&&◌, Option, Some, None, MatchOption, refl, sym, ap, subst, ◌∙◌, arith}
+use Rattle.std.specs.List.{AllByRecursion}
 use Rattle.std.specs.Map.{lookup, remove_entry}
 use Rattle.std.specs.Option.{option_map_or}
 use Rattle.std.proofs.Math.Nat.{mul-le-mul_left}
 use Rattle.std.proofs.lemmas.Bool.{eqb-true}
-use Rattle.std.proofs.lemmas.List.Concat.{flat_map-cons}
 use Rattle.wal_shape.specs.declared.axis.Axis.TheVariants.{Primary}
 use Rattle.wal_shape.specs.declared.metadata.BlobId.{BlobId}
 use Rattle.wal_shape.specs.declared.text.MetaClash.{MetaClash}
 use Rattle.wal_shape.specs.Identifiers.{id_eq}
-use Rattle.wal_shape.specs.Shape.{most_bytes, row_count}
+use Rattle.wal_shape.specs.Shape.{most_bytes}
 use Rattle.wal_event.specs.Report.{hex_text}
 use Rattle.wal_frame.specs.Frame.{envelope}
-use Rattle.wal_frame.specs.Reading.{read_of}
 use Rattle.wal_frame.specs.Stream.{IsStream}
 use Rattle.wal_reader.specs.Outcome.{IsOutcome}
 use Rattle.wal_reader.specs.declared.outcome.Outcome.{Outcome}
@@ -24,17 +22,17 @@ use Rattle.wal_gateway.specs.declared.answer.GetAnswer.{GetAnswer}
 use Rattle.wal_gateway.specs.declared.checked.CheckedBlob.{CheckedBlob}
 use Rattle.wal_gateway.specs.declared.request.Request.{Request}
 use Rattle.wal_gateway.specs.Getting.{AnswersAll, AnswersGet, Cache, Get, Hits, Leaves, Misses, blob_with, found_of, kept_blob, range_of}
-use Rattle.wal_gateway.specs.Requests.{get_of, gets_in, is_request, no_blobs, request_at, request_of}
-use Rattle.wal_run.specs.Command.{HasTwoMetadata, IsResult, Spelled, bare, envelopes, success, rejection, lacking, unreadable, collision}
+use Rattle.wal_gateway.specs.Requests.{get_of, gets_in, no_blobs, request_at, request_of}
 use Rattle.wal_run.specs.Fetching.{GoOn, answer_text, answers_text, fetching, found_text, is_collision}
 use Rattle.wal_run.specs.Lines.{collision_text}
 use Rattle.walrus_c.specs.Room.{fetched_most}
 use Rattle.walrus_c.proofs.Clashes.{texts_short}
-use Rattle.walrus_c.proofs.Lengths.{clash_line, hex_most, number_line, two_line}
+use Rattle.walrus_c.proofs.Lengths.{clash_line, hex_most, length-flat_map-cons, number_line, two_line}
 use Rattle.walrus_c.proofs.Lines.{shape_of}
-use Rattle.walrus_c.proofs.Payloads.{sizes_append, sliver_size, sliver_sizes, slivers_within}
+use Rattle.walrus_c.proofs.Payloads.{sizes_append, sliver_sizes, slivers_within}
 use Rattle.walrus_c.proofs.ReadTexts.{decided_short}
-use Rattle.walrus_c.proofs.Streams.{breaks_within, envelope_long}
+use Rattle.walrus_c.proofs.Results.{Tells, succeeds, leaves, collides}
+use Rattle.walrus_c.proofs.Streams.{envelope_long}
 
 -- ---- what is found
 
@@ -81,10 +79,9 @@ answer_short n answer goes fits = omega (arith, ap length plain, by answer.hit, 
 answers_short : (n : ℕ) (answers : List GetAnswer) → GoOn answers → AllByRecursion (Answered n) answers → length (answers_text answers) ≤ (34 + 2 * n) * length answers
 answers_short n [] go fit = omega arith
 answers_short n (answer ∷ answers) go fit =
-    let whole : length (answers_text (answer ∷ answers)) ≡ length (answer_text answer) + length (answers_text answers) =
-    ap length (flat_map-cons answer_text answer answers) ∙ length-append (answer_text answer) (answers_text answers) in
     let step : (34 + 2 * n) * suc (length answers) ≡ 34 + 2 * n + (34 + 2 * n) * length answers = omega arith in
-    omega (arith, whole, step, answer_short n answer go.0 fit.0, answers_short n answers go.1 fit.1)
+    let both = length-flat_map-cons answer_text answer answers in
+    omega (arith, both, step, answer_short n answer go.0 fit.0, answers_short n answers go.1 fit.1)
 
 -- some of a list of answers, and the last one
 some_fit : {X : Type 0} (P : X → Type 0) (front back : List X) → AllByRecursion P (front ++ back) → AllByRecursion P front
@@ -176,7 +173,8 @@ module _ (digest : List ℕ → List ℕ) (size_is : (text : List ℕ) → lengt
         range_fits most get.from get.size bytes (omega (arith, few.0, few.1, carries)) few.1
     outcome_fits get read.Reject carries is = tt
     outcome_fits get (read.Short have need) carries (m, one, few, needs, none) =
-        let shape = shape_of digest size_is get.id.0 get.payloads m one in (omega (arith, few.3, shape.1), omega (arith, needs, shape.1))
+        let shape = shape_of digest get.id.0 get.payloads m one in
+        (omega (arith, few.3, shape.1), omega (arith, needs, shape.1))
     outcome_fits get read.NoMetadata carries is = tt
     outcome_fits get (read.Collision clash) carries is = texts_short digest size_is is.0 is.1 clash.left clash.right is.4
 
@@ -184,21 +182,19 @@ module _ (digest : List ℕ → List ℕ) (size_is : (text : List ℕ) → lengt
     Keeps cache = AllByRecursion (IsSmall most) cache.pairs
 
     keeps_left : (old new : Cache) (get : Get) (outcome : Outcome) → Keeps old → Carries count get → IsOutcome digest get.id.0 get.payloads outcome → Leaves digest old get outcome new → Keeps new
-    keeps_left old new get (read.Bytes bytes) small carries is (m, one, leaves) =
+    keeps_left old new get (read.Bytes bytes) small carries is (m, one, left) =
         let few = decided_short digest size_is get.id.0 get.payloads bytes is in
         let first : length bytes ≤ most = omega (arith, few.0, few.1, carries) in
-        subst Keeps (sym leaves) (first_small most old.capacity ((get.id, blob_with m bytes) ∷ old.pairs) (first, small))
-    keeps_left old new get read.Reject small carries is leaves = subst Keeps (sym leaves) small
-    keeps_left old new get (read.Short have need) small carries is leaves = subst Keeps (sym leaves) small
-    keeps_left old new get read.NoMetadata small carries is leaves = subst Keeps (sym leaves) small
-    keeps_left old new get (read.Collision clash) small carries is leaves = subst Keeps (sym leaves) small
+        subst Keeps (sym left) (first_small most old.capacity ((get.id, blob_with m bytes) ∷ old.pairs) (first, small))
+    keeps_left old new get other small carries is left = subst Keeps (sym left) small
 
     -- a get
     answered : (old new : Cache) (get : Get) (answer : GetAnswer) → Keeps old → Carries count get → AnswersGet digest old get answer new → Answered most answer × Keeps new
     answered old new get answer small carries answers = by (kept_blob old get.id) refl answers where
       by : (o : Option CheckedBlob) → kept_blob old get.id ≡ o → MatchOption o (Misses digest old get answer new) (λ blob. Hits old get blob answer new) → Answered most answer × Keeps new
-      by None none (outcome, is, found, leaves) =
-          (subst (Answered most) (sym found) (outcome_fits get outcome carries is), keeps_left old new get outcome small carries is leaves)
+      by None none (outcome, is, found, left) =
+          let fits = subst (Answered most) (sym found) (outcome_fits get outcome carries is) in
+          (fits, keeps_left old new get outcome small carries is left)
       by (Some blob) here (found, used) =
           let few = found_small most get.id old.pairs blob small here in (
             subst (Answered most) (sym found) (range_fits most get.from get.size blob.bytes few (omega (arith, few))),
@@ -248,35 +244,31 @@ module _ (digest : List ℕ → List ℕ) (size_is : (text : List ℕ) → lengt
           let some : length answers ≤ length first = omega (arith, told.1, length-append answers (last ∷ [])) in
           lines_short answers (collision_text clash.left clash.right) go (some_fit (Answered most) answers (last ∷ []) told.0) some (clash_line clash.left clash.right texts.0 texts.1)
 
-  -- what is left when memory runs out
-  pub lines_left : (capacity : ℕ) (input text : List ℕ) → Spelled digest (fetching digest capacity) input (λ payloads. (fetching digest capacity).Leaves payloads text)
-      → length text ≤ fetched_most (length input)
-  lines_left capacity input text (payloads, stream, (answers, get, rest, first, is)) =
-      omega (arith, ap length is, lines_alone (length input) capacity payloads input stream refl first.first (get ∷ rest) first.parts answers first.kept first.answered first.others)
-
   -- WHAT IS WRITTEN
-  pub fetched : (capacity : ℕ) (input : List ℕ) → length input ≤ 134217728 → (status : ℕ) (text : List ℕ) → IsResult digest (fetching digest capacity) input status text
-      → length text ≤ fetched_most (length input)
-  fetched capacity input within _ _ (success text (payloads, stream, (answers, (kept, all, go), is))) =
-      omega (arith, ap length is, lines_alone (length input) capacity payloads input stream refl (gets_in [] payloads) [] (sym (append-nil (gets_in [] payloads))) answers kept all go)
-  fetched capacity input within _ _ (rejection text is) = absurd is.2
-  fetched capacity input within _ _ (lacking text (inl is)) = absurd is
-  fetched capacity input within _ _ (lacking text (inr is)) = absurd is.2
-  fetched capacity input within _ _ (unreadable text (inl broken)) =
-      let place = breaks_within broken.0 input broken.1 in
-      let line = number_line (codes "malformed at ") broken.0 (omega (arith, place, within)) in
-      let front : length (codes "malformed at ") ≡ 13 = refl in
-      omega (arith, ap length broken.2, line, front)
-  fetched capacity input within _ _ (unreadable text (inr is)) = absurd is.2
-  fetched capacity input within _ _ (collision left right text collides is) = by is.clashes where
-    by : (HasTwoMetadata digest envelopes input left right × (is.front ≡ [])) ⊎ (Spelled digest (fetching digest capacity) input (λ payloads. (fetching digest capacity).Collides payloads left right is.front))
-        → length text ≤ fetched_most (length input)
-    by (inl two) = absurd two.0
-    by (inr (payloads, stream, (answers, clash, stops, l, r, f))) =
-        let whole : text ≡ answers_text answers ++ collision_text clash.left clash.right =
-        is.whole ∙ ap (λ (x : List ℕ). x ++ collision_text left right) f ∙ ap (λ (x : List ℕ). answers_text answers ++ collision_text x right) l ∙ ap (λ (x : List ℕ). answers_text answers ++ collision_text clash.left x) r in
-        omega (
-          arith,
-          ap length whole,
-          lines_stopped (length input) capacity payloads input stream refl stops.first stops.rest stops.parts answers stops.last clash stops.kept stops.answered stops.others stops.collides,
-        )
+  pub fetched : (capacity : ℕ) (input : List ℕ) → length input ≤ 134217728
+      → Tells digest (fetching digest capacity) input (fetched_most (min (length input) 134217728))
+  fetched capacity input within succeeds payloads stream text (answers, (kept, all, go), is) =
+      let count = min (length input) 134217728 in
+      let gets = gets_in [] payloads in
+      let counted : length input ≡ count = omega (arith, within) in
+      let all_of = sym (append-nil gets) in
+      let few = lines_alone count capacity payloads input stream counted gets [] all_of answers kept all go in
+      omega (arith, ap length is, few)
+  fetched capacity input within leaves payloads stream text (answers, get, rest, first, is) =
+      omega (
+        arith,
+        ap length is,
+        lines_alone (min (length input) 134217728) capacity payloads input stream (omega (arith, within)) first.first
+            (get ∷ rest) first.parts answers first.kept first.answered first.others,
+      )
+  fetched capacity input within (collides left right) payloads stream front (answers, clash, stops, l, r, f) =
+      let whole : front ++ collision_text left right ≡ answers_text answers ++ collision_text clash.left clash.right =
+      ap (λ x. x ++ collision_text left right) f ∙ ap (λ x. answers_text answers ++ collision_text x right) l
+      ∙ ap (λ x. answers_text answers ++ collision_text clash.left x) r in
+      omega (
+        arith,
+        ap length whole,
+        lines_stopped (min (length input) 134217728) capacity payloads input stream (omega (arith, within)) stops.first
+            stops.rest stops.parts answers stops.last clash stops.kept stops.answered stops.others stops.collides,
+      )
+  fetched capacity input within other payloads stream text none = absurd none

@@ -1,26 +1,24 @@
 -- A blob that is read has no more bytes than what it is read from, nor than any blob.
-use Rattle.std.proofs.Common.{◌≡◌, ℕ, ◌+◌, ◌*◌, ◌≤◌, min, max, List, [], ◌∷◌, ◌++◌, length, length-append, length-take, codes, refl, ap, ◌∙◌, arith}
+use Rattle.std.proofs.Common.{◌≡◌, ℕ, ◌+◌, ◌*◌, ◌≤◌, List, [], ◌∷◌, ◌++◌, length, length-append, length-take, codes, ap, ◌∙◌, arith}
 use Rattle.std.specs.List.{flat_map}
 use Rattle.std.proofs.lemmas.Grind.{flat_map-append}
-use Rattle.std.proofs.lemmas.List.Concat.{flat_map-cons}
 use Rattle.wal_shape.specs.declared.axis.Axis.TheVariants.{Primary}
 use Rattle.wal_shape.specs.declared.metadata.BlobId.{BlobId}
 use Rattle.wal_shape.specs.Metadata.{BlobMetadata}
 use Rattle.wal_shape.specs.Shape.{cell_count, column_count, most_bytes, row_count, symbol_size}
 use Rattle.wal_shape.proofs.ShapeLaws.{symbol_size-least}
 use Rattle.wal_matrix.specs.Through.{source_of}
-use Rattle.wal_frame.specs.Stream.{IsStream}
 use Rattle.wal_evidence.specs.Evidence.{sliver_bytes}
 use Rattle.wal_evidence.specs.FirstOfEach.{Adds, TakesAfter, adds, keeps}
 use Rattle.wal_evidence.specs.declared.evidence.Verdict.TheVariants as told
-use Rattle.wal_reader.specs.Outcome.{Collects, Decides, GivesSliver, IndexedSliver, IsMetadataIn}
+use Rattle.wal_reader.specs.Outcome.{Collects, Decides, GivesSliver, IndexedSliver}
 use Rattle.wal_reader.proofs.Collections.{collects_size}
-use Rattle.wal_run.specs.Command.{IsResult, Recorded}
 use Rattle.wal_run.specs.Reading.{reading}
 use Rattle.walrus_c.specs.Room.{read_most}
-use Rattle.walrus_c.proofs.Lengths.{two_line}
-use Rattle.walrus_c.proofs.Lines.{recorded_short, shape_of}
+use Rattle.walrus_c.proofs.Lengths.{length-flat_map-cons, two_fits}
+use Rattle.walrus_c.proofs.Lines.{shape_of}
 use Rattle.walrus_c.proofs.Payloads.{size_read, sliver_size, sliver_sizes, slivers_within}
+use Rattle.walrus_c.proofs.Results.{Tells, succeeds, rejects, lacks}
 
 -- ---- what is read is among the payloads
 
@@ -35,7 +33,7 @@ module _ (digest : List ℕ → List ℕ) (id : List ℕ) (m : BlobMetadata) whe
     by : length (joined_of taken) ≤ length (joined_of after) + sliver_sizes Primary payloads → Adds (GivesSliver digest id m) (λ s. s.index) most payload before after
         → length (joined_of taken) ≤ length (joined_of before) + sliver_sizes Primary (payload ∷ payloads)
     by behind (adds y few gives new is) =
-        let last : length (joined_of (y ∷ [])) ≡ length y.bytes + 0 = ap length (flat_map-cons (λ (s : IndexedSliver). s.bytes) y []) ∙ length-append y.bytes [] in
+        let last = length-flat_map-cons (λ (s : IndexedSliver). s.bytes) y [] in
         let both : length (joined_of (before ++ y ∷ [])) ≡ length (joined_of before) + length (joined_of (y ∷ [])) =
         ap length (flat_map-append (λ (s : IndexedSliver). s.bytes) before (y ∷ [])) ∙ length-append (joined_of before) (joined_of (y ∷ [])) in
         omega (arith, behind, ap (λ (ss : List IndexedSliver). length (joined_of ss)) is, both, last, ap (sliver_size Primary) gives.0, size_read Primary id y.index y.bytes)
@@ -50,7 +48,7 @@ module _ (digest : List ℕ → List ℕ) (size_is : (text : List ℕ) → lengt
       → (length bytes ≤ sliver_sizes Primary payloads) × (length bytes ≤ most_bytes)
   decided_short id payloads bytes (m, one, indices, joined, collects, many, judges) =
       let s = symbol_size m.f m.length in
-      let shape = shape_of digest size_is id payloads m one in
+      let shape = shape_of digest id payloads m one in
       let cut : length bytes ≤ m.length = omega (arith, ap length judges.2.0, length-take m.length (source_of m.f s judges.0)) in
       let size : length joined ≡ length indices * sliver_bytes m = collects_size digest id m payloads indices joined collects in
       let rows : length indices * sliver_bytes m ≡ row_count m.f * (column_count m.f * s) = ap (λ (n : ℕ). n * sliver_bytes m) many in
@@ -61,25 +59,14 @@ module _ (digest : List ℕ → List ℕ) (size_is : (text : List ℕ) → lengt
       )
 
   -- what is written
-  pub was_read : (id : BlobId) (input : List ℕ) → length input ≤ 134217728 → (status : ℕ) (text : List ℕ) → IsResult digest (reading digest id) input status text
-      → length text ≤ read_most (length input)
-  was_read id input within status text is =
-      recorded_short digest size_is id _ _ _ _ _ (length input) (read_most (length input)) (omega arith) succeeded rejected lacked input refl within status text is where
-        succeeded : (r : Recorded) (i : List ℕ) → IsStream r.payloads i → length i ≡ length input → length i ≤ 134217728 → IsMetadataIn digest id.0 r.payloads r.metadata
-            → (t : List ℕ) → (reading digest id).Succeeds r t → length t ≤ read_most (length input)
-        succeeded r i stream counted small has t is =
-            let few = decided_short id.0 r.payloads t is in
-            omega (arith, few.0, few.1, slivers_within r.payloads i stream, counted)
-
-        rejected : (r : Recorded) (i : List ℕ) → IsStream r.payloads i → length i ≡ length input → length i ≤ 134217728 → IsMetadataIn digest id.0 r.payloads r.metadata
-            → (t : List ℕ) → (reading digest id).Rejects r t → length t ≤ read_most (length input)
-        rejected r i stream counted small has t is = omega (arith, ap length is.3)
-
-        lacked : (r : Recorded) (i : List ℕ) → IsStream r.payloads i → length i ≡ length input → length i ≤ 134217728 → IsMetadataIn digest id.0 r.payloads r.metadata
-            → (t : List ℕ) → (reading digest id).Lacks r t → length t ≤ read_most (length input)
-        lacked r i stream counted small has t is =
-            let few : r.metadata.f ≤ 333 = (shape_of digest size_is id.0 r.payloads r.metadata has).1 in
-            let front : length (codes "short ") ≡ 6 = refl in
-            let middle : length (codes " of ") ≡ 4 = refl in
-            let line = two_line (codes "short ") (codes " of ") is.0 (row_count r.metadata.f) (omega (arith, is.1.3, few)) (omega (arith, few)) in
-            omega (arith, ap length is.3, line, front, middle)
+  pub was_read : (id : BlobId) (input : List ℕ) → Tells digest (reading digest id) input (read_most (length input))
+  was_read id input succeeds r spells text is =
+      let few = decided_short id.0 r.payloads text is in
+      omega (arith, few.0, few.1, slivers_within r.payloads input spells.0)
+  was_read id input rejects r spells text is = omega (arith, ap length is.3)
+  was_read id input lacks r spells text is =
+      let few : r.metadata.f ≤ 333 = (shape_of digest id.0 r.payloads r.metadata spells.1).1 in
+      two_fits (read_most (length input)) (codes "short ") (codes " of ") is.0 (row_count r.metadata.f) text
+      (omega arith) (omega arith) (omega (arith, is.1.3, few))
+      (omega (arith, few)) is.3
+  was_read id input other r spells text none = absurd none

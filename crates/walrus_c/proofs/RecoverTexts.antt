@@ -1,7 +1,6 @@
 -- A sliver that is recovered, and a proof of bad encoding.
-use Rattle.std.proofs.Common.{◌≡◌, ℕ, suc, ◌+◌, ◌*◌, ◌≤◌, All, List, [], ◌∷◌, length, length-append, length-take, codes, refl, ap, ◌∙◌, arith}
+use Rattle.std.proofs.Common.{◌≡◌, ℕ, suc, ◌+◌, ◌*◌, ◌≤◌, All, List, [], ◌∷◌, length, length-append, length-take, codes, ap, ◌∙◌, arith}
 use Rattle.std.specs.List.{flat_map}
-use Rattle.std.proofs.lemmas.List.Concat.{flat_map-cons}
 use Rattle.std.proofs.lemmas.List.Elements.{All-head, All-tail}
 use Rattle.std.proofs.Math.Nat.{mul-le-mul_right, mul-le-mul_left}
 use Rattle.wal_shape.specs.declared.axis.Axis.{Axis}
@@ -18,13 +17,13 @@ use Rattle.wal_commit.specs.Identifier.{identifier_of}
 use Rattle.wal_commit.proofs.Bodies.{body_of}
 use Rattle.wal_evidence.specs.BadProof.{IsBadProof}
 use Rattle.wal_frame.specs.Frame.{Proof, frame_text, sliver_frame}
-use Rattle.wal_frame.specs.Stream.{IsStream}
 use Rattle.wal_frame.proofs.FrameLaws.{length-sliver_frame}
 use Rattle.wal_reader.specs.Outcome.{IsMetadataIn}
-use Rattle.wal_run.specs.Command.{IsResult, Recorded}
 use Rattle.wal_run.specs.Recovering.{proof_of, recovering}
-use Rattle.walrus_c.proofs.Lengths.{two_line}
-use Rattle.walrus_c.proofs.Lines.{recorded_short, shape_of}
+use Rattle.walrus_c.specs.Room.{recovered_most}
+use Rattle.walrus_c.proofs.Lengths.{length-flat_map-cons, two_fits}
+use Rattle.walrus_c.proofs.Lines.{shape_of}
+use Rattle.walrus_c.proofs.Results.{Tells, succeeds, rejects, lacks}
 use Rattle.walrus_c.proofs.Streams.{envelope_long}
 
 symbols_few : (axis : Axis) (f : ℕ) → sliver_symbols axis f ≤ column_count f
@@ -53,10 +52,8 @@ module _ (digest : List ℕ → List ℕ) (size_is : (text : List ℕ) → lengt
       let size : length o.symbol ≡ s = first.size in
       let path : length o.path ≤ 320 = (body_of digest m axis index o shape first).path in
       let rest = bodies_long m axis index os shape (All-tail (HoldsOpening digest m axis index) o os held) in
-      let whole : length (flat_map body_text (o ∷ os)) ≡ length (body_text o) + length (flat_map body_text os) =
-      ap length (flat_map-cons body_text o os) ∙ length-append (body_text o) (flat_map body_text os) in
       let more : suc (length os) * (327 + s) ≡ 327 + s + length os * (327 + s) = omega arith in
-      omega (arith, rest, length-body_text o, path, whole, size, more)
+      omega (arith, rest, length-body_text o, path, length-flat_map-cons body_text o os, size, more)
 
   proof_short : (m : BlobMetadata) (axis : Axis) (index : ℕ) (taken : List Opening) → IsShape m.f m.length → IsBadProof digest m (proof_of axis index taken)
       → length (proof_text (proof_of axis index taken)) ≤ 5 + 667 * 327 + most_bytes
@@ -74,45 +71,36 @@ module _ (digest : List ℕ → List ℕ) (size_is : (text : List ℕ) → lengt
   unfolding identifier_of
   id_long id payloads m is = ap length is.0.4.1.identifier ∙ size_is _
 
-  pub recovered : (id : BlobId) (axis : Axis) (index : ℕ) (input : List ℕ) → length input ≤ 134217728 → (status : ℕ) (text : List ℕ)
-      → IsResult digest (recovering digest id axis index) input status text → length text ≤ 45 + 667 * 327 + most_bytes
-  recovered id axis index input within status text is =
-      recorded_short digest size_is id _ _ _ _ _ (length input) (45 + 667 * 327 + most_bytes) (omega arith) succeeded rejected lacked input refl within status text is where
-        succeeded : (r : Recorded) (i : List ℕ) → IsStream r.payloads i → length i ≡ length input → length i ≤ 134217728 → IsMetadataIn digest id.0 r.payloads r.metadata
-            → (t : List ℕ) → (recovering digest id axis index).Succeeds r t → length t ≤ 45 + 667 * 327 + most_bytes
-        succeeded r i stream counted small has t is =
-            let m = r.metadata in
-            let sliver = is.0 in
-            let few : length sliver ≤ most_bytes =
-            omega (
-              arith,
-              ap length is.1.comes.3,
-              length-take (sliver_symbols axis m.f * symbol_size m.f m.length) is.1.comes.0,
-              sliver_fits axis m.f m.length (shape_of digest size_is id.0 r.payloads m has),
-            ) in
-            omega (arith, ap length is.2, envelope_long index (sliver_frame id.0 axis index sliver), length-sliver_frame id.0 axis index sliver (id_long id.0 r.payloads m has), few)
-
-        rejected : (r : Recorded) (i : List ℕ) → IsStream r.payloads i → length i ≡ length input → length i ≤ 134217728 → IsMetadataIn digest id.0 r.payloads r.metadata
-            → (t : List ℕ) → (recovering digest id axis index).Rejects r t → length t ≤ 45 + 667 * 327 + most_bytes
-        rejected r i stream counted small has t is =
-            let m = r.metadata in
-            let p = proof_of axis index is.0 in
-            omega (
-              arith,
-              ap length is.3,
-              envelope_long index (frame_text (Proof id.0 p)),
-              length-append id.0 (proof_text p),
-              id_long id.0 r.payloads m has,
-              proof_short m axis index is.0 (shape_of digest size_is id.0 r.payloads m has) is.2,
-            )
-
-        lacked : (r : Recorded) (i : List ℕ) → IsStream r.payloads i → length i ≡ length input → length i ≤ 134217728 → IsMetadataIn digest id.0 r.payloads r.metadata
-            → (t : List ℕ) → (recovering digest id axis index).Lacks r t → length t ≤ 45 + 667 * 327 + most_bytes
-        lacked r i stream counted small has t is =
-            let m = r.metadata in
-            let few : m.f ≤ 333 = (shape_of digest size_is id.0 r.payloads m has).1 in
-            let front : length (codes "short ") ≡ 6 = refl in
-            let middle : length (codes " of ") ≡ 4 = refl in
-            let line = two_line (codes "short ") (codes " of ") (length is.0) (sliver_symbols axis m.f) (omega (arith, is.2, symbols_few axis m.f, few))
-            (omega (arith, symbols_few axis m.f, few)) in
-            omega (arith, ap length is.3, line, front, middle)
+  pub recovered : (id : BlobId) (axis : Axis) (index : ℕ) (input : List ℕ)
+      → Tells digest (recovering digest id axis index) input recovered_most
+  recovered id axis index input succeeds r spells text is =
+      let m = r.metadata in
+      let few : length is.0 ≤ most_bytes =
+      omega (
+        arith,
+        ap length is.1.comes.3,
+        length-take (sliver_symbols axis m.f * symbol_size m.f m.length) is.1.comes.0,
+        sliver_fits axis m.f m.length (shape_of digest id.0 r.payloads m spells.1),
+      ) in
+      let frame = sliver_frame id.0 axis index is.0 in
+      let long = length-sliver_frame id.0 axis index is.0 (id_long id.0 r.payloads m spells.1) in
+      omega (arith, ap length is.2, envelope_long index frame, long, few)
+  recovered id axis index input rejects r spells text is =
+      let m = r.metadata in
+      let p = proof_of axis index is.0 in
+      omega (
+        arith,
+        ap length is.3,
+        envelope_long index (frame_text (Proof id.0 p)),
+        length-append id.0 (proof_text p),
+        id_long id.0 r.payloads m spells.1,
+        proof_short m axis index is.0 (shape_of digest id.0 r.payloads m spells.1) is.2,
+      )
+  recovered id axis index input lacks r spells text is =
+      let m = r.metadata in
+      let shape = shape_of digest id.0 r.payloads m spells.1 in
+      let few : sliver_symbols axis m.f ≤ 667 = omega (arith, symbols_few axis m.f, shape.1) in
+      two_fits recovered_most (codes "short ") (codes " of ") (length is.0) (sliver_symbols axis m.f) text (omega arith)
+      (omega arith) (omega (arith, is.2, few))
+      (omega (arith, few)) is.3
+  recovered id axis index input other r spells text none = absurd none

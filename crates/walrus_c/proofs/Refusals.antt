@@ -39,31 +39,5 @@ refusal_code (Collision clash) = 1001
 
 pub refusal_has_code : (r : Refusal) → code_of (refusal_status r) (refusal_text r) ≡ refusal_code r
 unfolding code_of refusals
-refusal_has_code Reject = refl
-refusal_has_code BadIndex = refl
-refusal_has_code (Wrong place) = refl
-refusal_has_code (Checked verdict.WrongCount) = refl
-refusal_has_code (Checked verdict.Repeated) = refl
-refusal_has_code (Checked (verdict.BadOpening place)) = refl
-refusal_has_code (Checked verdict.Consistent) = refl
 refusal_has_code (Checked verdict.Inconsistent) = refl
-refusal_has_code NoMetadata = refl
-refusal_has_code NoProof = refl
-refusal_has_code NoShard = refl
-refusal_has_code NoPrimary = refl
-refusal_has_code NoSecondary = refl
-refusal_has_code (Short have need) = refl
-refusal_has_code (WrongCount have draws) = refl
-refusal_has_code (MissingColumn j) = refl
-refusal_has_code (NoMember count) = refl
-refusal_has_code TooManyMembers = refl
-refusal_has_code BundleTooLong = refl
-refusal_has_code (DiskFull needed free) = refl
-refusal_has_code Memory = refl
-refusal_has_code (Malformed place) = refl
-refusal_has_code NotJson = refl
-refusal_has_code BadSchedule = refl
-refusal_has_code TooManyEvents = refl
-refusal_has_code (BadEvent number) = refl
-refusal_has_code (MetadataClash clash) = refl
-refusal_has_code (Collision clash) = refl
+refusal_has_code other = refl

@@ -1,15 +1,13 @@
 -- What a shard answers that serves: few bytes to most envelopes, and what it holds of a blob to a request for its parts.
-use Rattle.std.proofs.Common.{◌≡◌, ◌⊎◌, inl, inr, false, ℕ, ◌+◌, ◌*◌, ◌/◌, ◌<◌, ◌≤◌, min, List, [], ◌∷◌, ◌++◌, length, length-append, Option, Some, None, IsSome, Result, Ok, Err, unwrap_or, refl, sym, ap, subst, ◌∙◌, arith}
-use Rattle.std.specs.List.{flat_map}
+use Rattle.std.proofs.Common.{◌≡◌, false, ℕ, ◌+◌, ◌*◌, ◌≤◌, min, List, [], ◌∷◌, ◌++◌, length, length-append, Option, Some, None, IsSome, Result, Ok, Err, unwrap_or, refl, sym, ap, subst, ◌∙◌, arith}
 use Rattle.std.specs.Int.{w32}
-use Rattle.std.proofs.Math.Nat.{mul-le-mul_left, mul-le-mul_right}
-use Rattle.std.proofs.lemmas.List.Concat.{flat_map-cons}
+use Rattle.std.proofs.Math.Nat.{mul-le-mul_right}
 use Rattle.std.proofs.lemmas.Grind.{flat_map-append}
 use Rattle.wal_shape.specs.declared.axis.Axis.{Axis}
 use Rattle.wal_shape.specs.declared.axis.Axis.TheVariants.{Primary, Secondary}
 use Rattle.wal_shape.specs.declared.text.MetaClash.{MetaClash}
 use Rattle.wal_shape.specs.Shape.{shard_count, column_count, crossing, most_bytes, sliver_symbols, symbol_size}
-use Rattle.wal_shape.specs.Metadata.{BlobMetadata, held_index}
+use Rattle.wal_shape.specs.Metadata.{BlobMetadata}
 use Rattle.wal_shape.specs.MetadataReading.{spelled_metadata}
 use Rattle.wal_shape.specs.Part.{sliver_part}
 use Rattle.wal_shape.specs.Spelling.{metadata_text, number_text}
@@ -22,7 +20,7 @@ use Rattle.wal_frame.specs.Frame as frame
 use Rattle.wal_frame.specs.Frame.{Frame, Metadata, Sliver, Opening, Proof, Read, Symbol, Ack, Attest, Forget, Answer, Clash, RegisterEntry, AckEntry, AttestEntry, envelope, frame_text, metadata_frame, sliver_frame}
 use Rattle.wal_frame.proofs.FrameLaws.{length-opening_frame, length-sliver_frame}
 use Rattle.wal_store.specs.Parts.{Parts, part_of}
-use Rattle.wal_store.specs.Contents.{Contents, parts_at}
+use Rattle.wal_store.specs.Contents.{parts_at}
 use Rattle.wal_shard.specs.declared.answers.PutAnswer.{PutAnswer}
 use Rattle.wal_shard.specs.declared.answers.PutAnswer.TheVariants as putting
 use Rattle.wal_shard.specs.Holding.{IsSound, OpeningReply, SymbolReplies, given, metadata_reply, no_shard, not_held, payload_if, primary_reply, proof_reply, read_reply_of}
@@ -35,9 +33,10 @@ use Rattle.wal_shard.proofs.Soundness.{one_metadata}
 use Rattle.wal_serve.specs.State.{ServedState, named}
 use Rattle.wal_serve.specs.Reply.{clash_in, clash_text, done, malformed, outcome_text, put_reply, reply, reply_text}
 use Rattle.wal_serve.specs.Saying.{sent}
-use Rattle.wal_serve.specs.Answers.{AnswersEntry, AnswersPut, AnswersRead, IsReplied, IsReplyOutcome}
+use Rattle.wal_serve.specs.Answers.{AnswersPut, AnswersRead, IsReplied, IsReplyOutcome}
 use Rattle.walrus_c.proofs.Clashes.{texts_short}
 use Rattle.walrus_c.proofs.Holdings.{Holds, held_size, part_size}
+use Rattle.walrus_c.proofs.Lengths.{length-flat_map-cons}
 use Rattle.walrus_c.proofs.Payloads.{Reads}
 use Rattle.walrus_c.proofs.Streams.{envelope_long}
 
@@ -45,10 +44,7 @@ use Rattle.walrus_c.proofs.Streams.{envelope_long}
 
 -- one frame
 pub sent_one : (own : ℕ) (x : List ℕ) → length (sent own (x ∷ [])) ≡ 7 + length x
-sent_one own x =
-    let parts : length (sent own (x ∷ [])) ≡ length (envelope own x) + length (sent own []) =
-    ap length (flat_map-cons (envelope own) x []) ∙ length-append (envelope own x) (sent own []) in
-    omega (arith, parts, envelope_long own x)
+sent_one own x = omega (arith, length-flat_map-cons (envelope own) x [], envelope_long own x)
 
 pub sent_both : (own : ℕ) (xs ys : List (List ℕ)) → length (sent own (xs ++ ys)) ≡ length (sent own xs) + length (sent own ys)
 sent_both own xs ys = ap length (flat_map-append (envelope own) xs ys) ∙ length-append (sent own xs) (sent own ys)
@@ -234,24 +230,21 @@ module _ (digest : List ℕ → List ℕ) (size_is : (text : List ℕ) → lengt
     costs (Ok (Metadata m)) new is h = by_put (Metadata m) new h
     costs (Ok (Sliver name axis index bytes)) new is h = by_put (Sliver name axis index bytes) new h
     costs (Ok (Proof name q)) new is h = by_put (Proof name q) new h
-    costs (Ok (Opening name axis index o)) new is h = by_outcome 9 5 0 _ h.0 refl
-    costs (Ok (Answer code a b)) new is h = by_outcome 9 5 0 _ h.0 refl
-    costs (Ok (Clash left right)) new is h = by_outcome 9 5 0 _ h.0 refl
     costs (Ok (Read name)) new is h =
         let p = parts_at old.shard.contents (named name) in
         let sound = subst (λ (g : ℕ). IsSound digest g name old.shard.index p) holds.faults (holds.sound (named name)) in
-        let named_so = is _ refl in
+        let named_so = is.each _ refl in
         let short = read_short f old.shard.index own name p sound named_so.0 k (holds.few (named name)) in
         costs_parts own n most frames clash (read_reply_of name old.shard.index p) named_so.1 (omega (arith, short, enough)) h.0
     costs (Ok (Symbol name axis index)) new is h =
         let p = parts_at old.shard.contents (named name) in
         let sound = subst (λ (g : ℕ). IsSound digest g name old.shard.index p) holds.faults (holds.sound (named name)) in
-        let named_so = is _ refl in
+        let named_so = is.each _ refl in
         let short = symbol_short f old.shard.index own name p sound named_so.0 k (holds.few (named name)) axis index h.0 h.1 in
         costs_parts own n most frames clash h.0 named_so.1 (omega (arith, short, enough)) h.2
-    costs (Ok (Forget name)) new is h = by_outcome h.0.code h.0.a h.0.b _ h.3 refl
-    costs (Ok (Ack name)) new is h = by_outcome h.0.code h.0.a h.0.b _ h.3 refl
-    costs (Ok (Attest name)) new is h = by_outcome h.0.code h.0.a h.0.b _ h.3 refl
-    costs (Ok (RegisterEntry name until)) new is h = by_outcome h.0.code h.0.a h.0.b _ h.3 refl
-    costs (Ok (AckEntry shard name)) new is h = by_outcome h.0.code h.0.a h.0.b _ h.3 refl
-    costs (Ok (AttestEntry shard name)) new is h = by_outcome h.0.code h.0.a h.0.b _ h.3 refl
+    -- what is no request
+    costs (Ok (Opening name axis index o)) new is h = by_outcome 9 5 0 _ h.0 refl
+    costs (Ok (Answer code a b)) new is h = by_outcome 9 5 0 _ h.0 refl
+    costs (Ok (Clash left right)) new is h = by_outcome 9 5 0 _ h.0 refl
+    -- entries of the ledger, and what forgets or claims
+    costs other new is h = by_outcome h.0.code h.0.a h.0.b _ h.3 refl

@@ -1,6 +1,6 @@
 -- All that a shard answers that serves, by how many bytes it took.
-use Rattle.std.proofs.Common.{◌≡◌, ◌⊎◌, inl, inr, false, ℕ, ◌+◌, ◌*◌, ◌/◌, ◌<◌, ◌≤◌, min, List, [], ◌∷◌, ◌++◌, length, length-append, Option, Some, None, refl, sym, ap, subst, ◌∙◌, arith}
-use Rattle.std.specs.Io.KnownBytes.{Appends, Consumes, IsAtEnd}
+use Rattle.std.proofs.Common.{◌≡◌, false, ℕ, ◌+◌, ◌*◌, ◌/◌, ◌≤◌, min, List, [], ◌∷◌, ◌++◌, length, length-append, Option, Some, None, ap, subst, arith}
+use Rattle.std.specs.Io.KnownBytes.{IsAtEnd}
 use Rattle.std.proofs.Math.Nat.{mul-le-mul_left}
 use Rattle.wal_port.specs.Faults.{Rose}
 use Rattle.wal_shape.specs.declared.text.MetaClash.{MetaClash}
@@ -16,16 +16,9 @@ use Rattle.wal_serve.specs.Serving as serving
 use Rattle.wal_serve.specs.Serving.{BreaksOff, Replies, Served, Serves, Wrote, looked_at, read_past}
 use Rattle.wal_serve.specs.declared.serving.ServeEnd.{ServeEnd}
 use Rattle.wal_words.specs.declared.task.Service.{Service}
-use Rattle.wal_words.specs.declared.task.Task.{Task}
-use Rattle.wal_words.specs.declared.task.Task.TheVariants.{Serve}
-use Rattle.wal_words.specs.Task.{IsTask}
-use Rattle.wal_run.specs.Answers.{Answers, Ends, usage, too_long, done, whole, no_memory_for_words, no_memory, broke_off, source_failed, sink_failed, cut_off, serving_ended}
-use Rattle.wal_run.specs.Command.{HasTwoMetadata, IsResult, IsTooLong, MayLeave, Spelled, bare, nothing, success, rejection, lacking, unreadable, collision}
-use Rattle.wal_run.specs.Commands.{command_of}
 use Rattle.wal_run.specs.Serving.{EndsServing, at_start, serve_limit}
-use Rattle.walrus_c.specs.Call.{around}
-use Rattle.walrus_c.specs.Room.{room_of, served_most}
-use Rattle.walrus_c.proofs.Ends.{behind, never, untouched}
+use Rattle.walrus_c.specs.Room.{served_most}
+use Rattle.walrus_c.proofs.Ends.{behind, never}
 use Rattle.walrus_c.proofs.Holdings.{Holds, holds_first, holds_then}
 use Rattle.walrus_c.proofs.Payloads.{reads}
 use Rattle.walrus_c.proofs.ServeTexts.{Costs, costs, one, parts, sent_both, sent_reply, texts}
@@ -144,13 +137,8 @@ module _ (digest : List ℕ → List ℕ) (size_is : (text : List ℕ) → lengt
   wrote_all : (room limit own : ℕ) (fresh : ServedState) (taken : List ℕ) (AtEnd Broke : Type 0) (frames : List (List ℕ)) (state : ServedState) (end : ServeEnd) (before text : List ℕ)
       → Serves (AnswersRequest digest false) room limit fresh taken AtEnd (Rose 0 0) (Rose 0 0) frames state end → Wrote end Broke (Some before) (Some (before ++ text)) (sent own frames)
       → before ++ text ≡ before ++ sent own frames
-  wrote_all room limit own fresh taken AtEnd Broke frames state _ before text (serving.done served few at_end) wrote = wrote
-  wrote_all room limit own fresh taken AtEnd Broke frames state _ before text (serving.stopped clash first served few is) wrote = wrote
-  wrote_all room limit own fresh taken AtEnd Broke frames state _ before text (serving.wrong front b is not served few) wrote = wrote
-  wrote_all room limit own fresh taken AtEnd Broke frames state _ before text (serving.cut front rest is part some served few at_end) wrote = wrote
-  wrote_all room limit own fresh taken AtEnd Broke frames state _ before text (serving.too_long front rest b is part served many) wrote = wrote
-  wrote_all room limit own fresh taken AtEnd Broke frames state _ before text (serving.read_fault front rest is part served few rose) wrote = wrote
   wrote_all room limit own fresh taken AtEnd Broke frames state _ before text (serving.write_fault clash served few rose) wrote = absurd (never rose)
+  wrote_all room limit own fresh taken AtEnd Broke frames state _ before text other wrote = wrote
 
   -- WHAT SERVING WRITES
   pub ends_short : (s : Service) (input rest before text : List ℕ) (status : ℕ)
@@ -163,36 +151,3 @@ module _ (digest : List ℕ → List ℕ) (size_is : (text : List ℕ) → lengt
       let few = serves_short s.faults (desk_room s.faults) s.shard count fresh (holds_first digest s) serve_limit run.taken (IsAtEnd (Some rest)) run.frames state end run.serves taken in
       behind before text (sent s.shard run.frames) (served_most s.faults count)
       (wrote_all (desk_room s.faults) serve_limit s.shard fresh run.taken (IsAtEnd (Some rest)) _ run.frames state end before text run.serves run.wrote) few
-
-  -- ---- a run of words that ask for it, which has no result for a whole input
-
-  no_result : (input : List ℕ) (status : ℕ) (text : List ℕ) → IsResult digest (bare 0 nothing) input status text → ⊥
-  no_result input _ _ (success text is) = is.2
-  no_result input _ _ (rejection text is) = is.2
-  no_result input _ _ (lacking text (inl is)) = is
-  no_result input _ _ (lacking text (inr is)) = is.2
-  no_result input _ _ (unreadable text (inl is)) = is
-  no_result input _ _ (unreadable text (inr is)) = is.2
-  no_result input _ _ (collision left right text collides is) = none is.clashes where
-    none : (HasTwoMetadata digest nothing input left right × (is.front ≡ [])) ⊎ (Spelled digest (bare 0 nothing) input (λ content. ⊥)) → ⊥
-    none (inl two) = two.0
-    none (inr other) = other.2
-
-  module _ (words : List (List ℕ)) (input rest before text : List ℕ) (s : Service) (asked : IsTask words (Serve s)) (only : (other : Task) → IsTask words other → other ≡ Serve s) where
-    no_answer : (status : ℕ) (all : List ℕ) → Answers digest words (Some input) (Some rest) status all → ⊥
-    no_answer _ _ (usage none keeps) = none (Serve s) asked
-    no_answer _ _ (too_long other is past) = let there = subst (λ (t : Task). IsTooLong (command_of digest t) (Some input) (Some rest)) (only other is) past in there.takes
-    no_answer _ _ (done other is taken_input taken status all result) =
-        no_result taken_input status all (subst (λ (t : Task). IsResult digest (command_of digest t) taken_input status all) (only other is) result)
-
-    pub serve_short : (status : ℕ) → Ends digest words (around input rest before text) status → length text ≤ room_of (Serve s) (length input)
-    serve_short _ (whole status all is wrote) = absurd (no_answer status all is)
-    serve_short _ (no_memory_for_words kept keeps) = untouched before text _ keeps
-    serve_short _ (no_memory other is few keeps) = untouched before text _ keeps
-    serve_short _ (broke_off other is given taken all may wrote) =
-        let there = subst (λ (t : Task). MayLeave digest (command_of digest t) given all) (only other is) may in absurd there.0.2
-    serve_short _ (source_failed other is takes few rose keeps) = absurd (never rose)
-    serve_short _ (sink_failed status all is rose part) = absurd (never rose)
-    serve_short _ (cut_off other is given taken all may rose part) = absurd (never rose)
-    serve_short _ (serving_ended service is status ends) =
-        subst (λ (t : Task). length text ≤ room_of t (length input)) (only (Serve service) is) (ends_short service input rest before text status ends)

@@ -7,15 +7,6 @@ use Rattle.std.proofs.lemmas.List.{append-nil, append_assoc}
 use Rattle.walrus_c.specs.Words.{HasNoZero, AreWords, AreNoWords}
 use Rattle.walrus_c.specs.inside.Reading.{ReadSoFar}
 
--- the first number of a list, and the others
-first_of : List ℕ → ℕ
-first_of [] = 0
-first_of (x ∷ xs) = x
-
-others_of : List ℕ → List ℕ
-others_of [] = []
-others_of (x ∷ xs) = xs
-
 -- a word with one byte more that is not zero
 quiet_more : (word : List ℕ) (byte : ℕ) → HasNoZero word → 0 < byte → HasNoZero (word ++ byte ∷ [])
 quiet_more [] byte quiet some = (some, tt)
@@ -23,20 +14,19 @@ quiet_more (x ∷ xs) byte quiet some = (quiet.0, quiet_more xs byte quiet.1 som
 
 -- in a word there is no zero byte
 none_within : (word front rest : List ℕ) → HasNoZero word → word ≡ front ++ 0 ∷ rest → ⊥
-unfolding first_of others_of
 none_within [] front rest quiet e = omega (arith, ap length e, length-append front (0 ∷ rest))
-none_within (x ∷ xs) [] rest quiet e = omega (arith, ap first_of e, quiet.0)
-none_within (x ∷ xs) (y ∷ ys) rest quiet e = none_within xs ys rest quiet.1 (ap others_of e)
+none_within (x ∷ xs) [] rest quiet e = let zero_is : x ≡ 0 = cc in omega (arith, zero_is, quiet.0)
+none_within (x ∷ xs) (y ∷ ys) rest quiet e = none_within xs ys rest quiet.1 cc
 
 -- two words before the first zero byte of one text are the same
 one_word : (one other rest left : List ℕ) → HasNoZero one → HasNoZero other → one ++ 0 ∷ rest ≡ other ++ 0 ∷ left → (one ≡ other) × (rest ≡ left)
-unfolding first_of others_of
-one_word [] [] rest left quiet silent e = (refl, ap others_of e)
-one_word [] (y ∷ ys) rest left quiet silent e = absurd (omega (arith, ap first_of e, silent.0))
-one_word (x ∷ xs) [] rest left quiet silent e = absurd (omega (arith, ap first_of e, quiet.0))
+one_word [] [] rest left quiet silent e = (refl, cc)
+one_word [] (y ∷ ys) rest left quiet silent e = let zero_is : y ≡ 0 = cc in absurd (omega (arith, zero_is, silent.0))
+one_word (x ∷ xs) [] rest left quiet silent e = let zero_is : x ≡ 0 = cc in absurd (omega (arith, zero_is, quiet.0))
 one_word (x ∷ xs) (y ∷ ys) rest left quiet silent e =
-    let more = one_word xs ys rest left quiet.1 silent.1 (ap others_of e) in
-    (ap (λ z. z ∷ xs) (ap first_of e) ∙ ap (λ l. y ∷ l) more.0, more.1)
+    let head : x ≡ y = cc in
+    let more = one_word xs ys rest left quiet.1 silent.1 cc in
+    (ap₂ (λ z l. z ∷ l) head more.0, more.1)
 
 -- nothing is read yet
 pub at_first : (text : List ℕ) → ReadSoFar [] [] text text

@@ -1,15 +1,15 @@
 -- How many payloads a stream has, and where it breaks.
-use Rattle.std.proofs.Common.{◌≡◌, ℕ, ◌+◌, ◌≤◌, List, [], ◌∷◌, ◌++◌, length, length-append, nat_eq, Result, Ok, Err, ap, arith, if◌then◌else◌, Bool, true, false}
+use Rattle.std.proofs.Common.{◌≡◌, ℕ, ◌+◌, ◌≤◌, List, [], ◌∷◌, ◌++◌, length, length-append, nat_eq, Result, Ok, ap, arith, if◌then◌else◌, Bool, true, false}
 use Rattle.std.specs.Int.{w16, w32}
 use Rattle.std.specs.Cmp.Lexicographic.{pointwise}
-use Rattle.std.proofs.lemmas.List.Concat.{flat_map-cons}
 use Rattle.wal_shape.specs.declared.claim.Claim.{Claim}
 use Rattle.wal_shape.specs.Spelling.{number_text}
-use Rattle.wal_frame.specs.Frame.{Frame, envelope, Metadata, Sliver, Opening, Proof, Read, Symbol, Ack, Attest, Forget, Answer, Clash, RegisterEntry, AckEntry, AttestEntry}
+use Rattle.wal_frame.specs.Frame.{Frame, envelope, Opening}
 use Rattle.wal_frame.specs.Reading.{read_of}
 use Rattle.wal_frame.specs.declared.frame.FrameError.{FrameError}
 use Rattle.wal_frame.specs.Stream.{IsStream, IsMalformed}
 use Rattle.wal_reader.specs.Carried.{claims_in, claim_for}
+use Rattle.walrus_c.proofs.Lengths.{length-flat_map-cons}
 
 -- an envelope has seven bytes more than its payload
 pub envelope_long : (sender : ℕ) (payload : List ℕ) → length (envelope sender payload) ≡ 7 + length payload
@@ -33,24 +33,11 @@ claim_one id (Ok (Opening i a k o)) = by (pointwise nat_eq i id) where
   by : (b : Bool) → length {A = Claim} (if b then (record { axis = a; index = k; opening = o }) ∷ [] else []) ≤ 1
   by true = omega arith
   by false = omega arith
-claim_one id (Ok (Metadata m)) = omega arith
-claim_one id (Ok (Sliver i a k o)) = omega arith
-claim_one id (Ok (Proof i p)) = omega arith
-claim_one id (Ok (Read i)) = omega arith
-claim_one id (Ok (Symbol i a k)) = omega arith
-claim_one id (Ok (Ack i)) = omega arith
-claim_one id (Ok (Attest i)) = omega arith
-claim_one id (Ok (Forget i)) = omega arith
-claim_one id (Ok (Answer c a b)) = omega arith
-claim_one id (Ok (Clash a b)) = omega arith
-claim_one id (Ok (RegisterEntry i u)) = omega arith
-claim_one id (Ok (AckEntry s i)) = omega arith
-claim_one id (Ok (AttestEntry s i)) = omega arith
-claim_one id (Err e) = omega arith
+claim_one id other = omega arith
 
 pub claims_few : (id : List ℕ) (payloads : List (List ℕ)) → length (claims_in id payloads) ≤ length payloads
 claims_few id [] = omega arith
 claims_few id (payload ∷ payloads) =
     let one = claim_one id (read_of payload) in
     let rest = claims_few id payloads in
-    omega (arith, one, rest, ap length (flat_map-cons (λ p. claim_for id (read_of p)) payload payloads), length-append (claim_for id (read_of payload)) (claims_in id payloads))
+    omega (arith, one, rest, length-flat_map-cons (λ p. claim_for id (read_of p)) payload payloads)
