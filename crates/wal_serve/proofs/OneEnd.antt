@@ -52,16 +52,7 @@ none_within part b more sender payload after is fits begins few =
 -- where nothing stopped serving, no envelope follows within the limit
 pub none_follows : (limit n m : ℕ) (tail : List ℕ) (clash : Option MetaClash) (long : ℕ) (end : ServeEnd) (sender : ℕ) (payload after : List ℕ) → Why limit n tail clash long end
     → clash ≡ None → IsPayload payload → tail ≡ envelope sender payload ++ after → n + length (envelope sender payload) ≤ m → m ≤ limit → ⊥
-none_follows limit n m tail clash long end sender payload after (done none nil few zero) calm fits begins within most = no_bytes sender payload after (sym nil ∙ begins)
-none_follows limit n m tail clash long end sender payload after (stopped texts is few zero) calm fits begins within most = some_none clash texts is calm
-  where
-    some_none : (c : Option MetaClash) (t : MetaClash) → c ≡ Some t → c ≡ None → ⊥
-    some_none c t some none = absurd cc
-none_follows limit n m tail clash long end sender payload after (wrong b more none is not few one) calm fits begins within most =
-    not (first_byte b more sender payload after (sym is ∙ begins))
-none_follows limit n m tail clash long end sender payload after (cut none part some few all) calm fits begins within most = part_begins tail sender payload after part fits begins
-none_follows limit n m tail clash long end sender payload after (too_long part b more none is front sum all) calm fits begins within most =
-    none_within part b more sender payload after front fits (sym is ∙ begins) (omega (arith, within, most, sum))
+none_follows limit n m tail clash long end sender payload after why calm fits begins within most = grind (arith, no_bytes, first_byte, part_begins, none_within)
 
 -- ---- one reason
 
@@ -129,18 +120,10 @@ module _ (limit n : ℕ) (tail : List ℕ) (clash second : Option MetaClash) (lo
 
 -- whether two texts ended serving is whether they are among what was answered
 why_collides : (limit n : ℕ) (tail : List ℕ) (clash : Option MetaClash) (long : ℕ) (end : ServeEnd) → Why limit n tail clash long end → is_collision end ≡ is_some clash
-why_collides limit n tail clash long end (done calm nil few zero) = sym (ap is_some calm)
-why_collides limit n tail clash long end (stopped texts is few zero) = sym (ap is_some is)
-why_collides limit n tail clash long end (wrong b after calm at not few one) = sym (ap is_some calm)
-why_collides limit n tail clash long end (cut calm part some few all) = sym (ap is_some calm)
-why_collides limit n tail clash long end (too_long part b after calm at front sum all) = sym (ap is_some calm)
+why_collides limit n tail clash long end why = grind arith
 
 why_within : (limit n : ℕ) (tail : List ℕ) (clash : Option MetaClash) (long : ℕ) (end : ServeEnd) → Why limit n tail clash long end → n ≤ limit
-why_within limit n tail clash long end (done calm nil few zero) = few
-why_within limit n tail clash long end (stopped texts is few zero) = few
-why_within limit n tail clash long end (wrong b after calm at not few one) = omega (arith, few)
-why_within limit n tail clash long end (cut calm part some few all) = omega (arith, few)
-why_within limit n tail clash long end (too_long part b after calm at front sum all) = omega (arith, sum)
+why_within limit n tail clash long end why = grind arith
 
 -- ---- one end
 
