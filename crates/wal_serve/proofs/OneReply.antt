@@ -22,7 +22,7 @@ use Rattle.wal_shard.proofs.Soundness.{one_metadata}
 use Rattle.wal_shard.proofs.OnePut.{never_wants, none_some, puts_once, some_is}
 use Rattle.wal_serve.specs.declared.reply.Reply.{Reply}
 use Rattle.wal_serve.specs.State.{ServedState}
-use Rattle.wal_serve.specs.Reply.{reply, put_reply}
+use Rattle.wal_serve.specs.Reply.{put_reply}
 use Rattle.wal_serve.specs.Requests.{ClaimEntered, Entered, Forgets, Registered, Vouched}
 
 -- one reply; the texts of two collisions may differ
@@ -78,12 +78,10 @@ module _ (digest : List ℕ → List ℕ) (id : List ℕ) (shard : ℕ) (p : Par
 pub one_registered : (old : LedgerState) (id : BlobId) (until : ℕ) (r s : Reply) (x y : LedgerState) → Registered old id until r x → Registered old id until s y → (r ≡ s) × (x ≡ y)
 one_registered old id until r s x y a b = grind arith
 
--- a claim
+-- a claim has one reply, and leaves one ledger
 one_claimed : (kind : Kind) (old : LedgerState) (shard : ℕ) (id : BlobId) (r s : Reply) (x y : LedgerState) → ClaimEntered kind old shard id r x → ClaimEntered kind old shard id s y → (r ≡ s) × (x ≡ y)
 one_claimed Holds old shard id r s x y a b = grind arith
 one_claimed Denies old shard id r s x y a b = grind arith
-
--- ---- the shard's own word
 
 pub one_vouched : (kind : Kind) (old : ServedState) (id : BlobId) (r s : Reply) (x y : LedgerState) → Vouched kind old id r x → Vouched kind old id s y → (r ≡ s) × (x ≡ y)
 one_vouched kind old id r s x y a b = grind (arith, one_claimed)
