@@ -73,10 +73,7 @@ module _ (digest : List ℕ → List ℕ) (old : Cache) (get : Get) where
   -- and where it gives none
   leaves_none : (outcome : Outcome) → ((bytes : List ℕ) → outcome ≡ read.Bytes bytes → ⊥) → Leaves digest old get outcome old
   leaves_none (read.Bytes bytes) other = absurd (other bytes refl)
-  leaves_none read.Reject other = refl
-  leaves_none (read.Short have need) other = refl
-  leaves_none read.NoMetadata other = refl
-  leaves_none (read.Collision clash) other = refl
+  leaves_none outcome other = refl
 
   pub ends_none : (outcome : Outcome) (answer : GetAnswer) → kept_blob old get.id ≡ None → IsOutcome digest get.id.0 get.payloads outcome
       → IsOnlyOutcome digest get.id.0 get.payloads outcome → ((bytes : List ℕ) → outcome ≡ read.Bytes bytes → ⊥)

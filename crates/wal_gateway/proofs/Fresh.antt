@@ -79,9 +79,7 @@ module _ (digest : List ℕ → List ℕ) (id : List ℕ) (payloads : List (List
   fresh_or_contrary from size read.Reject evidence cache key blob key_is kept only has verdict =
       inr (contrary told.Reject read.Reject evidence cache key blob key_is kept only (not_rejected blob.bytes)
       (λ other b other_is outcome. subst (λ (o : Outcome). IsOutcome digest id payloads o → o ≡ read.Reject) (sym other_is) (only (read.Bytes b)) outcome) has)
-  fresh_or_contrary from size (read.Short have need) evidence cache key blob key_is kept only has verdict = absurd verdict
-  fresh_or_contrary from size read.NoMetadata evidence cache key blob key_is kept only has verdict = absurd verdict
-  fresh_or_contrary from size (read.Collision clash) evidence cache key blob key_is kept only has verdict = absurd verdict
+  fresh_or_contrary from size outcome evidence cache key blob key_is kept only has verdict = absurd verdict
 
 -- of a get that is a hit
 pub hit_fresh : (digest : List ℕ → List ℕ) (old : Cache) (get : Get) (answer : GetAnswer) (new : Cache) → AnswersGet digest old get answer new → answer.hit ≡ true

@@ -5,19 +5,15 @@ use Rattle.wal_reader.specs.Outcome.{IsOnlyOutcome, IsOutcome, SameOutcome}
 use Rattle.wal_reader.specs.declared.outcome.Outcome.{Outcome}
 use Rattle.wal_reader.specs.declared.outcome.Outcome.TheVariants as read
 use Rattle.wal_gateway.specs.declared.answer.Found.{Found}
-use Rattle.wal_gateway.specs.declared.answer.Found.TheVariants.{Range, OutOfRange, Reject, Short, NoMetadata, Collision}
+use Rattle.wal_gateway.specs.declared.answer.Found.TheVariants.{Collision}
 use Rattle.wal_gateway.specs.declared.answer.GetAnswer.{GetAnswer}
 use Rattle.wal_gateway.specs.declared.checked.CheckedBlob.{CheckedBlob}
 use Rattle.wal_gateway.specs.Getting.{AnswersGet, Cache, Get, Hits, Leaves, Misses, blob_with, entered, found_of, kept_blob}
 use Rattle.wal_gateway.specs.Gotten.{IsOnlyAnswer, SameGetAnswer, SameFound}
 
 pub same_itself : (f : Found) → SameFound f f
-same_itself (Range bytes) = refl
-same_itself (OutOfRange n) = refl
-same_itself Reject = refl
-same_itself (Short have need) = refl
-same_itself NoMetadata = refl
 same_itself (Collision clash) = tt
+same_itself f = refl
 
 -- an answer that is this one
 same_answer : (other answer : GetAnswer) → other ≡ answer → SameGetAnswer other answer
@@ -28,15 +24,8 @@ along from size a b same = subst (λ (o : Outcome). SameFound (found_of from siz
 
 -- one outcome, one find
 same_found : (from size : ℕ) (a b : Outcome) → SameOutcome a b → SameFound (found_of from size a) (found_of from size b)
-same_found from size (read.Bytes bytes) b same = along from size (read.Bytes bytes) b same
-same_found from size read.Reject b same = along from size read.Reject b same
-same_found from size (read.Short have need) b same = along from size (read.Short have need) b same
-same_found from size read.NoMetadata b same = along from size read.NoMetadata b same
 same_found from size (read.Collision clash) (read.Collision other) same = tt
-same_found from size (read.Collision clash) (read.Bytes bytes) same = along from size (read.Collision clash) (read.Bytes bytes) same
-same_found from size (read.Collision clash) read.Reject same = along from size (read.Collision clash) read.Reject same
-same_found from size (read.Collision clash) (read.Short have need) same = along from size (read.Collision clash) (read.Short have need) same
-same_found from size (read.Collision clash) read.NoMetadata same = along from size (read.Collision clash) read.NoMetadata same
+same_found from size a b same = along from size a b same
 
 module _ (digest : List ℕ → List ℕ) (old : Cache) (get : Get) where
   -- one outcome leaves one list
@@ -47,21 +36,11 @@ module _ (digest : List ℕ → List ℕ) (old : Cache) (get : Get) where
       one (read.Bytes bytes) x y left right =
           let same : left.0 ≡ right.0 = right.1.1 left.0 left.1.0 in
           left.2 ∙ ap (λ (m : BlobMetadata). entered old get.id (blob_with m bytes)) same ∙ sym right.2
-      one read.Reject x y left right = left ∙ sym right
-      one (read.Short have need) x y left right = left ∙ sym right
-      one read.NoMetadata x y left right = left ∙ sym right
-      one (read.Collision clash) x y left right = left ∙ sym right
+      one o x y left right = left ∙ sym right
 
   same_left : (a b : Outcome) (x y : Cache) → SameOutcome a b → Leaves digest old get a x → Leaves digest old get b y → x ≡ y
-  same_left (read.Bytes bytes) b x y same left right = left_along (read.Bytes bytes) b x y same left right
-  same_left read.Reject b x y same left right = left_along read.Reject b x y same left right
-  same_left (read.Short have need) b x y same left right = left_along (read.Short have need) b x y same left right
-  same_left read.NoMetadata b x y same left right = left_along read.NoMetadata b x y same left right
   same_left (read.Collision clash) (read.Collision other) x y same left right = left ∙ sym right
-  same_left (read.Collision clash) (read.Bytes bytes) x y same left right = left_along (read.Collision clash) (read.Bytes bytes) x y same left right
-  same_left (read.Collision clash) read.Reject x y same left right = left_along (read.Collision clash) read.Reject x y same left right
-  same_left (read.Collision clash) (read.Short have need) x y same left right = left_along (read.Collision clash) (read.Short have need) x y same left right
-  same_left (read.Collision clash) read.NoMetadata x y same left right = left_along (read.Collision clash) read.NoMetadata x y same left right
+  same_left a b x y same left right = left_along a b x y same left right
 
   -- where the identifier is in the list
   pub hit_answers : (blob : CheckedBlob) (answer : GetAnswer) (new : Cache) → kept_blob old get.id ≡ Some blob → Hits old get blob answer new → AnswersGet digest old get answer new

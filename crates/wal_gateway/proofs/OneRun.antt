@@ -1,10 +1,10 @@
 -- Gets one after the other have one answer each, and leave one list.
-use Rattle.std.proofs.Common.{◌≡◌, ℕ, List, [], ◌∷◌, Option, Some, None, MatchOption, refl, sym, subst, ◌∙◌}
+use Rattle.std.proofs.Common.{◌≡◌, ℕ, List, [], ◌∷◌, Option, Some, None, MatchOption, refl, sym, subst, ◌∙◌, arith}
 use Rattle.wal_theorem.proofs.OneReading.{only_outcome}
 use Rattle.wal_gateway.specs.declared.answer.GetAnswer.{GetAnswer}
 use Rattle.wal_gateway.specs.declared.checked.CheckedBlob.{CheckedBlob}
 use Rattle.wal_gateway.specs.Getting.{AnswersGet, AnswersAll, Cache, Get, Hits, Misses, kept_blob}
-use Rattle.wal_gateway.specs.Gotten.{AreOnlyAnswers, IsOnlyAnswer, SameAnswers}
+use Rattle.wal_gateway.specs.Gotten.{AreOnlyAnswers, IsOnlyAnswer}
 use Rattle.wal_gateway.proofs.OneAnswer.{hit_only, miss_only}
 
 module _ (digest : List ℕ → List ℕ) where
@@ -20,11 +20,8 @@ module _ (digest : List ℕ → List ℕ) where
   pub answers_only : (start : Cache) (gets : List Get) (answers : List GetAnswer) (left : Cache) → AnswersAll digest start gets answers left
       → AreOnlyAnswers digest start gets answers left
   answers_only start [] [] left all [] also others = (tt, others ∙ sym all)
-  answers_only start [] [] left all (other ∷ rest) also others = absurd others
-  answers_only start [] (answer ∷ answers) left all rest also others = absurd all
-  answers_only start (get ∷ gets) [] left all rest also others = absurd all
-  answers_only start (get ∷ gets) (answer ∷ answers) left all [] also others = absurd others
   answers_only start (get ∷ gets) (answer ∷ answers) left all (other ∷ rest) also others =
       let one = answer_only start all.0 get answer all.1 other others.0 others.1 in
       let more = answers_only all.0 gets answers left all.2 rest also (subst (λ (c : Cache). AnswersAll digest c gets rest also) one.1 others.2) in
       ((one.0, more.0), more.1)
+  answers_only start gets answers left all rest also others = absurd (grind arith)

@@ -9,9 +9,8 @@ module _ (digest : List ℕ → List ℕ) where
   pub answered_more : (start : Cache) (gets : List Get) (answers : List GetAnswer) (old : Cache) (get : Get) (answer : GetAnswer) (new : Cache) → AnswersAll digest start gets answers old
       → AnswersGet digest old get answer new → AnswersAll digest start (gets ++ get ∷ []) (answers ++ answer ∷ []) new
   answered_more start [] [] old get answer new all one = (new, subst (λ (c : Cache). AnswersGet digest c get answer new) all one, refl)
-  answered_more start [] (a ∷ answers) old get answer new all one = absurd all
-  answered_more start (g ∷ gets) [] old get answer new all one = absurd all
   answered_more start (g ∷ gets) (a ∷ answers) old get answer new all one = (all.0, all.1, answered_more all.0 gets answers old get answer new all.2 one)
+  answered_more start gets answers old get answer new all one = absurd all
 
   -- the answers to gets and to one more are those to the gets, and one more
   record Parted (start : Cache) (gets : List Get) (get : Get) (others : List GetAnswer) (left : Cache) : Type 0 where
@@ -34,9 +33,7 @@ module _ (digest : List ℕ → List ℕ) where
   one_answer start get first (second ∷ others) left all = absurd all.2
 
   parted : (start : Cache) (gets : List Get) (get : Get) (others : List GetAnswer) (left : Cache) → AnswersAll digest start (gets ++ get ∷ []) others left → Parted start gets get others left
-  parted start [] get [] left all = absurd all
   parted start [] get (first ∷ others) left all = one_answer start get first others left all
-  parted start (g ∷ gets) get [] left all = absurd all
   parted start (g ∷ gets) get (first ∷ others) left all =
       let on = parted all.0 gets get others left all.2 in
       record {
@@ -47,13 +44,13 @@ module _ (digest : List ℕ → List ℕ) where
         before = (all.0, all.1, on.before);
         one = on.one;
       }
+  parted start gets get others left all = absurd all
 
   same_more : (others answers : List GetAnswer) (other answer : GetAnswer) → SameAnswers others answers → SameGetAnswer other answer
       → SameAnswers (others ++ other ∷ []) (answers ++ answer ∷ [])
   same_more [] [] other answer all one = (one, tt)
-  same_more [] (a ∷ answers) other answer all one = absurd all
-  same_more (o ∷ others) [] other answer all one = absurd all
   same_more (o ∷ others) (a ∷ answers) other answer all one = (all.0, same_more others answers other answer all.1 one)
+  same_more others answers other answer all one = absurd all
 
   pub only_more : (start : Cache) (gets : List Get) (answers : List GetAnswer) (old : Cache) (get : Get) (answer : GetAnswer) (new : Cache) → AreOnlyAnswers digest start gets answers old
       → IsOnlyAnswer digest old get answer new → AreOnlyAnswers digest start (gets ++ get ∷ []) (answers ++ answer ∷ []) new

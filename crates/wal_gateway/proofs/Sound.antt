@@ -50,10 +50,7 @@ module _ (digest : List ℕ → List ℕ) where
       → Leaves digest old get outcome new → IsSoundCache digest new
   sound_left old new get (read.Bytes bytes) sound none is leaves =
       subst (IsSoundCache digest) (sym leaves.2) (sound_entered old get.id (blob_with leaves.0 bytes) sound none (decided_checked get.id get.payloads bytes leaves.0 is leaves.1))
-  sound_left old new get read.Reject sound none is leaves = subst (IsSoundCache digest) (sym leaves) sound
-  sound_left old new get (read.Short have need) sound none is leaves = subst (IsSoundCache digest) (sym leaves) sound
-  sound_left old new get read.NoMetadata sound none is leaves = subst (IsSoundCache digest) (sym leaves) sound
-  sound_left old new get (read.Collision clash) sound none is leaves = subst (IsSoundCache digest) (sym leaves) sound
+  sound_left old new get outcome sound none is leaves = subst (IsSoundCache digest) (sym leaves) sound
 
   -- a get
   sound_answer : (old new : Cache) (get : Get) (answer : GetAnswer) → IsSoundCache digest old → AnswersGet digest old get answer new → IsSoundCache digest new
@@ -66,9 +63,8 @@ module _ (digest : List ℕ → List ℕ) where
   -- and any list of them
   pub sound_answers : (start : Cache) (gets : List Get) (answers : List GetAnswer) (end : Cache) → AnswersAll digest start gets answers end → IsSoundCache digest start → IsSoundCache digest end
   sound_answers start [] [] end all sound = subst (IsSoundCache digest) (sym all) sound
-  sound_answers start [] (answer ∷ answers) end all sound = absurd all
-  sound_answers start (get ∷ gets) [] end all sound = absurd all
   sound_answers start (get ∷ gets) (answer ∷ answers) end all sound = sound_answers all.0 gets answers end all.2 (sound_answer start all.0 get answer sound all.1)
+  sound_answers start gets answers end all sound = absurd all
 
   -- an empty list is sound
   pub sound_empty : (capacity : ℕ) → 1 ≤ capacity → IsSoundCache digest (record { pairs = []; capacity = capacity })

@@ -53,34 +53,14 @@ says_replied own at room old mid new payloads count r by is writes left enough e
     }
 
 -- the two texts that end serving stand in the last frame
-outcome_stops : (outcome : Result Reply MetaClash) (frames : List (List ℕ)) (clash : Option MetaClash) → IsReplyOutcome outcome frames clash → StopsWith clash frames
-outcome_stops (Ok r) frames clash h = subst (λ (c : Option MetaClash). StopsWith c frames) (sym h.1) tt
-outcome_stops (Err c) frames clash h = subst (λ (o : Option MetaClash). StopsWith o frames) (sym h.1) h.0
-
-none_stops : (frames : List (List ℕ)) (clash : Option MetaClash) → clash ≡ None → StopsWith clash frames
-none_stops frames clash is = subst (λ (c : Option MetaClash). StopsWith c frames) (sym is) tt
-
 frame_stops : (digest : List ℕ → List ℕ) (may_want : Bool) (x : Frame) (old new : ServedState) (frames : List (List ℕ)) (clash : Option MetaClash)
     → AnswersFrame digest may_want x old frames clash new → StopsWith clash frames
-frame_stops digest may_want (frame.Metadata m) old new frames clash h = outcome_stops h.0 frames clash h.3
-frame_stops digest may_want (frame.Sliver id axis index bytes) old new frames clash h = outcome_stops h.0 frames clash h.3
-frame_stops digest may_want (frame.Proof id p) old new frames clash h = outcome_stops h.0 frames clash h.3
-frame_stops digest may_want (frame.Read id) old new frames clash h = none_stops frames clash h.0.1
-frame_stops digest may_want (frame.Symbol id axis index) old new frames clash h = none_stops frames clash h.2.1
-frame_stops digest may_want (frame.Ack id) old new frames clash h = outcome_stops (Ok h.0) frames clash h.3
-frame_stops digest may_want (frame.Attest id) old new frames clash h = outcome_stops (Ok h.0) frames clash h.3
-frame_stops digest may_want (frame.Forget id) old new frames clash h = outcome_stops (Ok h.0) frames clash h.3
-frame_stops digest may_want (frame.RegisterEntry id until) old new frames clash h = outcome_stops (Ok h.0) frames clash h.3
-frame_stops digest may_want (frame.AckEntry shard id) old new frames clash h = outcome_stops (Ok h.0) frames clash h.3
-frame_stops digest may_want (frame.AttestEntry shard id) old new frames clash h = outcome_stops (Ok h.0) frames clash h.3
-frame_stops digest may_want (frame.Opening id axis index o) old new frames clash h = none_stops frames clash h.0.1
-frame_stops digest may_want (frame.Answer code a b) old new frames clash h = none_stops frames clash h.0.1
-frame_stops digest may_want (frame.Clash left right) old new frames clash h = none_stops frames clash h.0.1
+frame_stops digest may_want x old new frames clash h = grind arith
 
 pub read_stops : (digest : List ℕ → List ℕ) (may_want : Bool) (r : Result Frame FrameError) (old new : ServedState) (frames : List (List ℕ)) (clash : Option MetaClash)
     → AnswersRead digest may_want r old frames clash new → StopsWith clash frames
 read_stops digest may_want (Ok x) old new frames clash h = frame_stops digest may_want x old new frames clash h
-read_stops digest may_want (Err fault) old new frames clash h = none_stops frames clash h.0.1
+read_stops digest may_want (Err fault) old new frames clash h = grind arith
 
 -- ---- the rows of the table, as they are answered
 

@@ -1,10 +1,10 @@
 -- What serving answers leaves the epoch of the ledger, and who runs each shard in it, as they are.
-use Rattle.std.proofs.Common.{◌≡◌, ℕ, ◌<◌, Bool, true, List, Option, None, Result, Ok, Err, refl, sym, ap, subst, ◌∙◌}
+use Rattle.std.proofs.Common.{◌≡◌, ℕ, ◌<◌, Bool, true, List, Option, None, Result, Ok, Err, refl, sym, ap, subst, ◌∙◌, arith}
 use Rattle.wal_shape.specs.declared.metadata.BlobId.{BlobId}
 use Rattle.wal_shape.specs.declared.text.MetaClash.{MetaClash}
 use Rattle.wal_shape.specs.declared.axis.Side.TheVariants.{Now}
 use Rattle.wal_frame.specs.declared.frame.FrameError.{FrameError}
-use Rattle.wal_frame.specs.Frame.{Frame, Metadata, Sliver, Opening, Proof, Read, Symbol, Ack, Attest, Forget, Answer, Clash, RegisterEntry, AckEntry, AttestEntry}
+use Rattle.wal_frame.specs.Frame.{Frame, Ack, Attest, RegisterEntry, AckEntry, AttestEntry}
 use Rattle.wal_frame.specs.Reading.{read_of}
 use Rattle.wal_ledger.specs.declared.entry.Body.{Body}
 use Rattle.wal_ledger.specs.declared.entry.Body.TheVariants.{Register}
@@ -12,22 +12,18 @@ use Rattle.wal_ledger.specs.declared.entry.Kind.{Kind}
 use Rattle.wal_ledger.specs.declared.entry.Kind.TheVariants.{Holds, Denies}
 use Rattle.wal_ledger.specs.declared.answers.RegisterAnswer.{RegisterAnswer}
 use Rattle.wal_ledger.specs.declared.answers.RegisterAnswer.TheVariants as registering
-use Rattle.wal_ledger.specs.declared.answers.AckAnswer.{AckAnswer}
 use Rattle.wal_ledger.specs.declared.answers.AckAnswer.TheVariants as acking
-use Rattle.wal_ledger.specs.declared.answers.AttestAnswer.{AttestAnswer}
 use Rattle.wal_ledger.specs.declared.answers.AttestAnswer.TheVariants as attesting
 use Rattle.wal_shape.specs.Owners.{node_of}
 use Rattle.wal_ledger.specs.Shards.{committee_size}
 use Rattle.wal_ledger.specs.Ledger.{Log, LedgerState, reading, owners_at, owners_of, entered, takes_in}
-use Rattle.wal_ledger.specs.Answers.{Acks, Attests, Registers, claim_of}
+use Rattle.wal_ledger.specs.Answers.{Registers, claim_of}
 use Rattle.wal_ledger.proofs.HandoverEntries.{is_plain, plain_stays}
-use Rattle.wal_store.specs.Contents.{Contents}
 use Rattle.wal_serve.specs.declared.reply.Reply.{Reply}
 use Rattle.wal_serve.specs.declared.serving.ServeEnd.{ServeEnd}
-use Rattle.wal_serve.specs.State.{ServedState, holding, named}
+use Rattle.wal_serve.specs.State.{ServedState, named}
 use Rattle.wal_serve.specs.Requests.{ClaimEntered, Entered, Vouched, asked, of_committee, of_none, unbacked}
 use Rattle.wal_serve.specs.Answers.{AnswersRequest, AnswersEntry, AnswersFrame, AnswersRead}
-use Rattle.wal_serve.specs.Serving as serving
 use Rattle.wal_serve.specs.Serving.{Replies, Served, Serves, looked_at, more, none, read_past}
 
 -- the epoch in which blobs are read is the same, and so are the nodes of its shards
@@ -58,25 +54,13 @@ one_entry old new b plain is =
       owners = ap (λ (l : LedgerState). owners_of Now l.log) is ∙ ap (owners_at (entered old.log b)) stays.reading ∙ stays.owners (reading old.log);
     }
 
-acks : (old : LedgerState) (shard : ℕ) (id : BlobId) (answer : AckAnswer) (new : LedgerState) → Acks old shard id answer new → KeepsEpoch old.log new.log
-acks old shard id acking.Unregistered new h = same_ledger old new h.1
-acks old shard id acking.Expires new h = same_ledger old new h.2
-acks old shard id acking.NoRoom new h = same_ledger old new h.2
-acks old shard id acking.Already new h = same_ledger old new h.2
-acks old shard id (acking.Counted count) new h = one_entry old new (claim_of Holds shard id) refl h.0.2
-acks old shard id (acking.Certified count) new h = one_entry old new (claim_of Holds shard id) refl h.0.2
-
-attests : (old : LedgerState) (shard : ℕ) (id : BlobId) (answer : AttestAnswer) (new : LedgerState) → Attests old shard id answer new → KeepsEpoch old.log new.log
-attests old shard id attesting.Unregistered new h = same_ledger old new h.1
-attests old shard id attesting.Expires new h = same_ledger old new h.2
-attests old shard id attesting.NoRoom new h = same_ledger old new h.2
-attests old shard id attesting.Already new h = same_ledger old new h.2
-attests old shard id (attesting.Counted count) new h = one_entry old new (claim_of Denies shard id) refl h.0.2
-attests old shard id (attesting.Invalid count) new h = one_entry old new (claim_of Denies shard id) refl h.0.2
-
 claimed : (kind : Kind) (old : LedgerState) (shard : ℕ) (id : BlobId) (r : Reply) (new : LedgerState) → ClaimEntered kind old shard id r new → KeepsEpoch old.log new.log
-claimed Holds old shard id r new h = acks old shard id h.0 new h.1
-claimed Denies old shard id r new h = attests old shard id h.0 new h.1
+claimed Holds old shard id r new (acking.Counted count, h, is) = one_entry old new (claim_of Holds shard id) refl h.0.2
+claimed Holds old shard id r new (acking.Certified count, h, is) = one_entry old new (claim_of Holds shard id) refl h.0.2
+claimed Holds old shard id r new (answer, h, is) = same_ledger old new (grind arith)
+claimed Denies old shard id r new (attesting.Counted count, h, is) = one_entry old new (claim_of Denies shard id) refl h.0.2
+claimed Denies old shard id r new (attesting.Invalid count, h, is) = one_entry old new (claim_of Denies shard id) refl h.0.2
+claimed Denies old shard id r new (answer, h, is) = same_ledger old new (grind arith)
 
 vouched : (kind : Kind) (old : ServedState) (id : BlobId) (r : Reply) (new : LedgerState) → Vouched kind old id r new → KeepsEpoch old.ledger.log new.log
 vouched kind old id _ _ (unbacked why vouches) = same_ledger old.ledger old.ledger refl
@@ -87,43 +71,26 @@ in_committee kind old shard id _ _ (of_committee r new lt claim) = claimed kind 
 in_committee kind old shard id _ _ (of_none outside) = same_ledger old old refl
 
 registers : (old : LedgerState) (id : BlobId) (until : ℕ) (answer : RegisterAnswer) (new : LedgerState) → Registers old id until answer new → KeepsEpoch old.log new.log
-registers old id until registering.Past new h = same_ledger old new h.1
-registers old id until registering.MovingExtension new h = same_ledger old new h.2
-registers old id until registering.NoRoom new h = same_ledger old new h.2
 registers old id until (registering.Registered most) new h = one_entry old new (Register id until) refl h.2
+registers old id until answer new h = same_ledger old new (grind arith)
 
 -- what is answered to an entry
 by_entry : (Makes : Reply → LedgerState → Type 0) (old new : ServedState) (frames : List (List ℕ)) (clash : Option MetaClash)
     → ((r : Reply) (ledger : LedgerState) → Makes r ledger → KeepsEpoch old.ledger.log ledger.log) → AnswersEntry Makes old frames clash new → KeepsEpoch old.ledger.log new.ledger.log
 by_entry Makes old new frames clash each h = subst (λ (s : ServedState). KeepsEpoch old.ledger.log s.ledger.log) (sym h.4) (each h.0 h.1 h.2)
 
--- what is answered by what the shard holds then
-by_shard : (old new : ServedState) (contents : Contents) → new ≡ holding old contents → KeepsEpoch old.ledger.log new.ledger.log
-by_shard old new contents is = same_ledger old.ledger new.ledger (ap (λ (s : ServedState). s.ledger) is)
-
-by_none : (old new : ServedState) → new ≡ old → KeepsEpoch old.ledger.log new.ledger.log
-by_none old new same = same_ledger old.ledger new.ledger (ap (λ (s : ServedState). s.ledger) same)
-
 module _ (digest : List ℕ → List ℕ) (may_want : Bool) (old new : ServedState) (frames : List (List ℕ)) (clash : Option MetaClash) where
   by_frame : (frame : Frame) → AnswersFrame digest may_want frame old frames clash new → KeepsEpoch old.ledger.log new.ledger.log
-  by_frame (Metadata m) h = by_shard old new h.1 h.4
-  by_frame (Sliver id axis index bytes) h = by_shard old new h.1 h.4
-  by_frame (Proof id p) h = by_shard old new h.1 h.4
-  by_frame (Read id) h = by_none old new h.1
-  by_frame (Symbol id axis index) h = by_none old new h.3
   by_frame (Ack id) h = by_entry _ old new frames clash (vouched Holds old (named id)) h
   by_frame (Attest id) h = by_entry _ old new frames clash (vouched Denies old (named id)) h
-  by_frame (Forget id) h = by_shard old new h.1 h.4
   by_frame (RegisterEntry id until) h = by_entry _ old new frames clash (λ r ledger made. registers old.ledger (named id) until made.0 ledger made.1) h
   by_frame (AckEntry shard id) h = by_entry _ old new frames clash (in_committee Holds old.ledger shard (named id)) h
   by_frame (AttestEntry shard id) h = by_entry _ old new frames clash (in_committee Denies old.ledger shard (named id)) h
-  by_frame (Opening id axis index o) h = by_none old new h.1
-  by_frame (Answer code a b) h = by_none old new h.1
-  by_frame (Clash left right) h = by_none old new h.1
+  by_frame frame h = same_ledger old.ledger new.ledger (grind arith)
 
   by_read : (read : Result Frame FrameError) → AnswersRead digest may_want read old frames clash new → KeepsEpoch old.ledger.log new.ledger.log
   by_read (Ok frame) h = by_frame frame h
-  by_read (Err fault) h = by_none old new h.1
+  by_read (Err fault) h = same_ledger old.ledger new.ledger (grind arith)
 
 module _ (digest : List ℕ → List ℕ) (may_want : Bool) (room : ℕ) (fresh : ServedState) where
   by_reply : (mid new : ServedState) (payload : List ℕ) (frames : List (List ℕ)) (clash : Option MetaClash) → Replies (AnswersRequest digest may_want) room mid payload frames clash new
@@ -140,10 +107,4 @@ module _ (digest : List ℕ → List ℕ) (may_want : Bool) (room : ℕ) (fresh 
   -- however serving ends
   pub kept_epoch : (limit : ℕ) (taken : List ℕ) (AtEnd SourceRose SinkRose : Type 0) (frames : List (List ℕ)) (state : ServedState) (end : ServeEnd)
       → Serves (AnswersRequest digest may_want) room limit fresh taken AtEnd SourceRose SinkRose frames state end → KeepsEpoch fresh.ledger.log state.ledger.log
-  kept_epoch limit taken AtEnd SourceRose SinkRose frames state _ (serving.done all within at_end) = by_served taken frames None state all
-  kept_epoch limit taken AtEnd SourceRose SinkRose frames state _ (serving.stopped clash before all within last) = by_served taken frames _ state all
-  kept_epoch limit taken AtEnd SourceRose SinkRose frames state _ (serving.wrong front b parts not some within) = by_served front frames None state some
-  kept_epoch limit taken AtEnd SourceRose SinkRose frames state _ (serving.cut front rest parts is long some within at_end) = by_served front frames None state some
-  kept_epoch limit taken AtEnd SourceRose SinkRose frames state _ (serving.too_long front rest b parts is some size) = by_served front frames None state some
-  kept_epoch limit taken AtEnd SourceRose SinkRose frames state _ (serving.read_fault front rest parts is some within rose) = by_served front frames None state some
-  kept_epoch limit taken AtEnd SourceRose SinkRose frames state _ (serving.write_fault clash all within rose) = by_served taken frames clash state all
+  kept_epoch limit taken AtEnd SourceRose SinkRose frames state end serves = grind (arith, by_served)

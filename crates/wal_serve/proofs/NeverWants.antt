@@ -1,5 +1,5 @@
 -- Over a keep that never wants memory no frame that serving answers says so.
-use Rattle.std.proofs.Common.{◌≡◌, ℕ, ◌⊎◌, inl, inr, Bool, false, List, [], ◌∷◌, ◌++◌, length, Option, Some, None, Result, Ok, Err, sym, ap, subst, ◌∙◌, arith}
+use Rattle.std.proofs.Common.{◌≡◌, ℕ, ◌⊎◌, inl, inr, Bool, false, List, [], ◌∷◌, ◌++◌, length, Option, Some, None, Result, Ok, Err, sym, ap, subst, arith}
 use Rattle.std.proofs.lemmas.Bool.{false≢true}
 use Rattle.std.specs.List.{Contains}
 use Rattle.std.proofs.lemmas.List.Elements.{Contains-append_cases, Contains-push_cases}
@@ -10,32 +10,23 @@ use Rattle.wal_shape.specs.declared.shape.Format.{Format}
 use Rattle.wal_shape.specs.declared.shape.Format.TheVariants.{One, Two}
 use Rattle.wal_shape.specs.MetadataReading.{spelled_metadata}
 use Rattle.wal_frame.specs.declared.frame.FrameError.{FrameError}
-use Rattle.wal_frame.specs.declared.frame.FrameError.TheVariants.{Truncated, BadKind, BadField, Trailing}
-use Rattle.wal_frame.specs.Frame.{Frame, Metadata, Sliver, Opening, Proof, Read, Symbol, Ack, Attest, Forget, Answer, Clash, RegisterEntry, AckEntry, AttestEntry, metadata_kind, metadata_frame}
+use Rattle.wal_frame.specs.Frame.{Frame, Metadata, Sliver, Proof, Read, Symbol, Ack, Attest, Forget, RegisterEntry, AckEntry, AttestEntry, metadata_kind, metadata_frame}
 use Rattle.wal_frame.specs.Reading.{read_of}
 use Rattle.wal_ledger.specs.declared.entry.Kind.{Kind}
 use Rattle.wal_ledger.specs.declared.entry.Kind.TheVariants.{Holds, Denies}
 use Rattle.wal_ledger.specs.declared.answers.RegisterAnswer.{RegisterAnswer}
-use Rattle.wal_ledger.specs.declared.answers.RegisterAnswer.TheVariants as registering
-use Rattle.wal_ledger.specs.declared.answers.AckAnswer.{AckAnswer}
-use Rattle.wal_ledger.specs.declared.answers.AckAnswer.TheVariants as acking
-use Rattle.wal_ledger.specs.declared.answers.AttestAnswer.{AttestAnswer}
-use Rattle.wal_ledger.specs.declared.answers.AttestAnswer.TheVariants as attesting
 use Rattle.wal_ledger.specs.Ledger.{Log, LedgerState}
 use Rattle.wal_store.specs.Contents.{Contents, parts_at}
 use Rattle.wal_store.specs.Parts.{Parts}
-use Rattle.wal_shard.specs.declared.answers.AckRefusal.{AckRefusal}
-use Rattle.wal_shard.specs.declared.answers.AckRefusal.TheVariants as refusing
 use Rattle.wal_shard.specs.declared.answers.PutAnswer.{PutAnswer}
 use Rattle.wal_shard.specs.declared.answers.PutAnswer.TheVariants as putting
 use Rattle.wal_shard.specs.Holding.{OpeningReply, SymbolReplies, given, metadata_reply, no_shard, not_held, payload_if, primary_reply, proof_reply, read_reply_of}
 use Rattle.wal_shard.specs.Putting.{PutDesk, PutsOrWants}
 use Rattle.wal_serve.specs.declared.reply.Reply.{Reply}
 use Rattle.wal_serve.specs.State.{ServedState, named}
-use Rattle.wal_serve.specs.Reply.{IsRegisterReply, ack_reply, attest_reply, clash_text, done, malformed, no_memory, no_request, outcome_text, overlong, put_reply, refusal_reply, refused, reply_text}
-use Rattle.wal_serve.specs.Requests.{ClaimEntered, Entered, Forgets, Vouched, asked, forgotten, kept, of_committee, of_none, unbacked}
+use Rattle.wal_serve.specs.Reply.{IsRegisterReply, clash_text, done, malformed, no_memory, no_request, outcome_text, overlong, put_reply, reply_text}
+use Rattle.wal_serve.specs.Requests.{ClaimEntered, Entered, Forgets, Vouched}
 use Rattle.wal_serve.specs.Answers.{AnswersRequest, AnswersEntry, AnswersFrame, AnswersPut, AnswersRead, IsReplyOutcome, IsReplied}
-use Rattle.wal_serve.specs.Serving as serving
 use Rattle.wal_serve.specs.Serving.{NeverWants, Replies, Served, looked_at, more, none, read_past}
 
 -- ---- frames
@@ -110,54 +101,24 @@ symbols_calm digest id shard p axis index frames s =
 
 -- ---- replies
 
-refusal_calm : (why : AckRefusal) → (refusal_reply why).code ≡ 7 → ⊥
-refusal_calm refusing.Unregistered e = omega (arith, e)
-refusal_calm refusing.Expires e = omega (arith, e)
-refusal_calm refusing.Declined e = omega (arith, e)
-
-ack_calm : (answer : AckAnswer) → (ack_reply answer).code ≡ 7 → ⊥
-ack_calm acking.Unregistered e = omega (arith, e)
-ack_calm acking.Expires e = omega (arith, e)
-ack_calm acking.NoRoom e = omega (arith, e)
-ack_calm acking.Already e = omega (arith, e)
-ack_calm (acking.Counted count) e = omega (arith, e)
-ack_calm (acking.Certified count) e = omega (arith, e)
-
-attest_calm : (answer : AttestAnswer) → (attest_reply answer).code ≡ 7 → ⊥
-attest_calm attesting.Unregistered e = omega (arith, e)
-attest_calm attesting.Expires e = omega (arith, e)
-attest_calm attesting.NoRoom e = omega (arith, e)
-attest_calm attesting.Already e = omega (arith, e)
-attest_calm (attesting.Counted count) e = omega (arith, e)
-attest_calm (attesting.Invalid count) e = omega (arith, e)
-
 claim_calm : (kind : Kind) (old : LedgerState) (shard : ℕ) (id : BlobId) (r : Reply) (new : LedgerState) → ClaimEntered kind old shard id r new → r.code ≡ 7 → ⊥
-claim_calm Holds old shard id r new h e = ack_calm h.0 (ap (λ (x : Reply). x.code) (sym h.2) ∙ e)
-claim_calm Denies old shard id r new h e = attest_calm h.0 (ap (λ (x : Reply). x.code) (sym h.2) ∙ e)
+claim_calm Holds old shard id r new h e = grind arith
+claim_calm Denies old shard id r new h e = grind arith
 
 vouched_calm : (kind : Kind) (old : ServedState) (id : BlobId) (r : Reply) (new : LedgerState) → Vouched kind old id r new → r.code ≡ 7 → ⊥
-vouched_calm kind old id _ _ (unbacked why vouches) e = refusal_calm why e
-vouched_calm kind old id _ _ (asked r new vouches claimed) e = claim_calm kind old.ledger old.shard.index id r new claimed e
+vouched_calm kind old id r new h e = grind (arith, claim_calm)
 
 entered_calm : (kind : Kind) (old : LedgerState) (shard : ℕ) (id : BlobId) (r : Reply) (new : LedgerState) → Entered kind old shard id r new → r.code ≡ 7 → ⊥
-entered_calm kind old shard id _ _ (of_committee r new lt claimed) e = claim_calm kind old shard id r new claimed e
-entered_calm kind old shard id _ _ (of_none outside) e = omega (arith, e)
+entered_calm kind old shard id r new h e = grind (arith, claim_calm)
 
 register_calm : (answer : RegisterAnswer) (r : Reply) → IsRegisterReply answer r → r.code ≡ 7 → ⊥
-register_calm (registering.Registered until) r is e = omega (arith, ap (λ (x : Reply). x.code) is, e)
-register_calm registering.Past r is e = omega (arith, ap (λ (x : Reply). x.code) is, e)
-register_calm registering.NoRoom r is e = omega (arith, ap (λ (x : Reply). x.code) is, e)
-register_calm registering.MovingExtension r is e = absurd is
+register_calm answer r is e = grind arith
 
 forget_calm : (log : Log) (old : Contents) (id : BlobId) (r : Reply) (new : Contents) → Forgets log old id r new → r.code ≡ 7 → ⊥
-forget_calm log old id _ _ (forgotten may) e = omega (arith, e)
-forget_calm log old id _ _ (kept may) e = omega (arith, e)
+forget_calm log old id r new h e = grind arith
 
 fault_calm : (fault : FrameError) → (malformed fault).code ≡ 7 → ⊥
-fault_calm Truncated e = omega (arith, e)
-fault_calm BadKind e = omega (arith, e)
-fault_calm (BadField place) e = omega (arith, e)
-fault_calm Trailing e = omega (arith, e)
+fault_calm fault e = grind arith
 
 -- ---- requests
 
@@ -165,17 +126,9 @@ told : (r : Reply) (frames : List (List ℕ)) (clash : Option MetaClash) → IsR
 told r frames clash is not = subst Calm (sym is.0) (of_code r not)
 
 put_calm : (digest : List ℕ → List ℕ) (d : PutDesk) (old new : Contents) (frame : Frame) (answer : PutAnswer) → PutsOrWants digest false d old frame answer new → Calm (outcome_text (put_reply answer) ∷ [])
-put_calm digest d old new frame putting.Stored h = of_code (done 0) (λ e. omega (arith, e))
-put_calm digest d old new frame putting.Held h = of_code (refused 11) (λ e. omega (arith, e))
-put_calm digest d old new frame putting.Unregistered h = of_code (refused 1) (λ e. omega (arith, e))
-put_calm digest d old new frame putting.NoMetadata h = of_code (refused 3) (λ e. omega (arith, e))
-put_calm digest d old new frame putting.Unverified h = of_code (refused 2) (λ e. omega (arith, e))
 put_calm digest d old new frame (putting.OtherMetadata clash) h = of_kind (clash_text clash) (λ e. omega (arith, e))
-put_calm digest d old new frame (putting.Full needed free) h = of_code (put_code needed free) (λ e. omega (arith, e))
-  where
-    put_code : ℕ → ℕ → Reply
-    put_code needed free = record { code = 6; a = needed; b = free }
 put_calm digest d old new frame putting.Memory h = absurd (false≢true h.0)
+put_calm digest d old new frame answer h = one_frame (outcome_text (put_reply answer)) (λ same. omega (arith, ap second_of same))
 
 replied : (payloads frames : List (List ℕ)) (clash : Option MetaClash) → IsReplied payloads frames clash → Calm payloads → Calm frames
 replied payloads frames clash is calm =
@@ -192,9 +145,9 @@ module _ (digest : List ℕ → List ℕ) (old new : ServedState) (frames : List
       subst Calm (sym h.3.0) (subst (λ (o : Result Reply MetaClash). Calm (outcome_text o ∷ [])) (sym put.2) (put_calm digest _ old.shard.contents h.1 frame put.0 put.1))
 
   by_frame : (frame : Frame) → AnswersFrame digest false frame old frames clash new → Calm frames
-  by_frame (Metadata m) h = by_put (Metadata m) h
-  by_frame (Sliver id axis index bytes) h = by_put (Sliver id axis index bytes) h
-  by_frame (Proof id p) h = by_put (Proof id p) h
+  by_frame (Metadata m) h = by_put _ h
+  by_frame (Sliver id axis index bytes) h = by_put _ h
+  by_frame (Proof id p) h = by_put _ h
   by_frame (Read id) h = replied _ frames clash h.0 (read_calm id old.shard.index (parts_at old.shard.contents (named id)))
   by_frame (Symbol id axis index) h = replied h.0 frames clash h.2 (symbols_calm digest id old.shard.index (parts_at old.shard.contents (named id)) axis index h.0 h.1)
   by_frame (Ack id) h = by_entry _ old new frames clash (vouched_calm Holds old (named id)) h
@@ -203,9 +156,7 @@ module _ (digest : List ℕ → List ℕ) (old new : ServedState) (frames : List
   by_frame (RegisterEntry id until) h = by_entry _ old new frames clash (λ r ledger made. register_calm made.0 r made.2) h
   by_frame (AckEntry shard id) h = by_entry _ old new frames clash (entered_calm Holds old.ledger shard (named id)) h
   by_frame (AttestEntry shard id) h = by_entry _ old new frames clash (entered_calm Denies old.ledger shard (named id)) h
-  by_frame (Opening id axis index o) h = told no_request frames clash h.0 (λ e. omega (arith, e))
-  by_frame (Answer code a b) h = told no_request frames clash h.0 (λ e. omega (arith, e))
-  by_frame (Clash left right) h = told no_request frames clash h.0 (λ e. omega (arith, e))
+  by_frame frame h = told no_request frames clash h.0 (λ e. omega (arith, e))
 
   by_read : (read : Result Frame FrameError) → AnswersRead digest false read old frames clash new → Calm frames
   by_read (Ok frame) h = by_frame frame h
@@ -222,13 +173,7 @@ module _ (digest : List ℕ → List ℕ) (room : ℕ) (fresh : ServedState) whe
       both frames some (by_served front frames None mid before) (by_reply mid new payload some clash replies)
 
   by_end : (limit : ℕ) → NeverWants (AnswersRequest digest false) room limit fresh
-  by_end limit taken frames state _ (serving.done all within at_end) = by_served taken frames None state all
-  by_end limit taken frames state _ (serving.stopped clash before all within last) = by_served taken frames _ state all
-  by_end limit taken frames state _ (serving.wrong front b parts not some within) = by_served front frames None state some
-  by_end limit taken frames state _ (serving.cut front rest parts is long some within at_end) = by_served front frames None state some
-  by_end limit taken frames state _ (serving.too_long front rest b parts is some size) = by_served front frames None state some
-  by_end limit taken frames state _ (serving.read_fault front rest parts is some within rose) = by_served front frames None state some
-  by_end limit taken frames state _ (serving.write_fault clash all within rose) = by_served taken frames clash state all
+  by_end limit taken frames state end serves among = grind (arith, by_served)
 
 -- over any keep that never wants memory
 pub never_wants : (digest : List ℕ → List ℕ) (may_want : Bool) (room limit : ℕ) (fresh : ServedState) → may_want ≡ false → NeverWants (AnswersRequest digest may_want) room limit fresh

@@ -52,95 +52,53 @@ none_within part b more sender payload after is fits begins few =
 -- where nothing stopped serving, no envelope follows within the limit
 pub none_follows : (limit n m : ℕ) (tail : List ℕ) (clash : Option MetaClash) (long : ℕ) (end : ServeEnd) (sender : ℕ) (payload after : List ℕ) → Why limit n tail clash long end
     → clash ≡ None → IsPayload payload → tail ≡ envelope sender payload ++ after → n + length (envelope sender payload) ≤ m → m ≤ limit → ⊥
-none_follows limit n m tail clash long end sender payload after (done none nil few zero) calm fits begins within most = no_bytes sender payload after (sym nil ∙ begins)
-none_follows limit n m tail clash long end sender payload after (stopped texts is few zero) calm fits begins within most = some_none clash texts is calm
-  where
-    some_none : (c : Option MetaClash) (t : MetaClash) → c ≡ Some t → c ≡ None → ⊥
-    some_none c t some none = absurd cc
-none_follows limit n m tail clash long end sender payload after (wrong b more none is not few one) calm fits begins within most =
-    not (first_byte b more sender payload after (sym is ∙ begins))
-none_follows limit n m tail clash long end sender payload after (cut none part some few all) calm fits begins within most = part_begins tail sender payload after part fits begins
-none_follows limit n m tail clash long end sender payload after (too_long part b more none is front sum all) calm fits begins within most =
-    none_within part b more sender payload after front fits (sym is ∙ begins) (omega (arith, within, most, sum))
+none_follows limit n m tail clash long end sender payload after why calm fits begins within most = grind (arith, no_bytes, first_byte, part_begins, none_within)
 
 -- ---- one reason
 
-some_none : (clash second : Option MetaClash) (texts : MetaClash) → is_some clash ≡ is_some second → clash ≡ Some texts → second ≡ None → ⊥
-some_none clash second texts stops some none = true≢false (sym (ap is_some some) ∙ stops ∙ ap is_some none)
-
-nil_not : (tail : List ℕ) (b : ℕ) (more : List ℕ) → tail ≡ [] → tail ≡ b ∷ more → ⊥
-nil_not tail b more nil some = absurd cc
-
-nil_no_part : (tail part : List ℕ) (b : ℕ) (more : List ℕ) → tail ≡ [] → tail ≡ part ++ b ∷ more → ⊥
-nil_no_part tail [] b more nil some = absurd cc
-nil_no_part tail (x ∷ part) b more nil some = absurd cc
-
-nil_not_long : (tail : List ℕ) → tail ≡ [] → 0 < length tail → ⊥
-nil_not_long tail nil some = absurd (omega (arith, some, ap length nil))
-
--- a byte that begins no envelope begins no part of one
-wrong_not_part : (tail : List ℕ) (b : ℕ) (more : List ℕ) → tail ≡ b ∷ more → (b ≡ 0x57 → ⊥) → IsPart tail → ⊥
-wrong_not_part [] b more is not part = absurd cc
-wrong_not_part (x ∷ tail) b more is not part =
-    let first : x ≡ b = cc in
-    not (sym first ∙ part.0)
-
-wrong_not_long : (limit n : ℕ) (tail : List ℕ) (b : ℕ) (more part : List ℕ) (c : ℕ) (after : List ℕ) → tail ≡ b ∷ more → (b ≡ 0x57 → ⊥) → n + 1 ≤ limit → tail ≡ part ++ c ∷ after → IsPart part
-    → n + length part ≡ limit → ⊥
-wrong_not_long limit n tail b more [] c after is not few also part sum = absurd (omega (arith, few, sum))
-wrong_not_long limit n tail b more (x ∷ part) c after is not few also front sum =
-    let both : b ∷ more ≡ x ∷ (part ++ c ∷ after) = sym is ∙ also in
-    let first : b ≡ x = cc in
-    not (first ∙ front.0)
-
-cut_not_long : (limit n : ℕ) (tail part : List ℕ) (b : ℕ) (after : List ℕ) → n + length tail ≤ limit → tail ≡ part ++ b ∷ after → n + length part ≡ limit → ⊥
-cut_not_long limit n tail part b after few is sum = absurd (omega (arith, few, sum, ap length is, length-append part (b ∷ after)))
-
-same_end : (end other : ServeEnd) (long more : ℕ) → end ≡ other → long ≡ more → SameEnd end other × (long ≡ more)
-same_end end other long more is size = ((ap is_collision is, λ calm. is), size)
-
-module _ (limit n : ℕ) (tail : List ℕ) (clash second : Option MetaClash) (long more : ℕ) (stops : is_some clash ≡ is_some second) where
-  pub one_why : (end other : ServeEnd) → Why limit n tail clash long end → Why limit n tail second more other → SameEnd end other × (long ≡ more)
-  one_why end other (stopped texts is few zero) (stopped given also less none) = ((refl, λ calm. absurd (true≢false calm)), zero ∙ sym none)
-  one_why end other (stopped texts is few zero) (done calm nil less none) = absurd (some_none clash second texts stops is calm)
-  one_why end other (stopped texts is few zero) (wrong b after calm at not less one) = absurd (some_none clash second texts stops is calm)
-  one_why end other (stopped texts is few zero) (cut calm part some less all) = absurd (some_none clash second texts stops is calm)
-  one_why end other (stopped texts is few zero) (too_long part b after calm at front sum all) = absurd (some_none clash second texts stops is calm)
-  one_why end other (done calm nil few zero) (stopped given also less none) = absurd (some_none second clash given (sym stops) also calm)
-  one_why end other (done calm nil few zero) (done still empty less none) = same_end Done Done long more refl (zero ∙ sym none)
-  one_why end other (done calm nil few zero) (wrong b after still at not less one) = absurd (nil_not tail b after nil at)
-  one_why end other (done calm nil few zero) (cut still part some less all) = absurd (nil_not_long tail nil some)
-  one_why end other (done calm nil few zero) (too_long part b after still at front sum all) = absurd (nil_no_part tail part b after nil at)
-  one_why end other (wrong b after calm at not few one) (stopped given also less none) = absurd (some_none second clash given (sym stops) also calm)
-  one_why end other (wrong b after calm at not few one) (done still empty less none) = absurd (nil_not tail b after empty at)
-  one_why end other (wrong b after calm at not few one) (wrong c others still there nor less single) = same_end (Malformed n) (Malformed n) long more refl (one ∙ sym single)
-  one_why end other (wrong b after calm at not few one) (cut still part some less all) = absurd (wrong_not_part tail b after at not part)
-  one_why end other (wrong b after calm at not few one) (too_long part c others still there front sum all) = absurd (wrong_not_long limit n tail b after part c others at not few there front sum)
-  one_why end other (cut calm part some few all) (stopped given also less none) = absurd (some_none second clash given (sym stops) also calm)
-  one_why end other (cut calm part some few all) (done still empty less none) = absurd (nil_not_long tail empty some)
-  one_why end other (cut calm part some few all) (wrong c others still there nor less single) = absurd (wrong_not_part tail c others there nor part)
-  one_why end other (cut calm part some few all) (cut still piece bytes less whole) = same_end (Malformed n) (Malformed n) long more refl (all ∙ sym whole)
-  one_why end other (cut calm part some few all) (too_long piece c others still there front sum whole) = absurd (cut_not_long limit n tail piece c others few there sum)
-  one_why end other (too_long part b after calm at front sum all) (stopped given also less none) = absurd (some_none second clash given (sym stops) also calm)
-  one_why end other (too_long part b after calm at front sum all) (done still empty less none) = absurd (nil_no_part tail part b after empty at)
-  one_why end other (too_long part b after calm at front sum all) (wrong c others still there nor less single) = absurd (wrong_not_long limit n tail c others part b after there nor less at front sum)
-  one_why end other (too_long part b after calm at front sum all) (cut still piece bytes less whole) = absurd (cut_not_long limit n tail part b after less at sum)
-  one_why end other (too_long part b after calm at front sum all) (too_long piece c others still there start total whole) = same_end TooLong TooLong long more refl (omega (arith, sum, total, all, whole))
-
 -- whether two texts ended serving is whether they are among what was answered
 why_collides : (limit n : ℕ) (tail : List ℕ) (clash : Option MetaClash) (long : ℕ) (end : ServeEnd) → Why limit n tail clash long end → is_collision end ≡ is_some clash
-why_collides limit n tail clash long end (done calm nil few zero) = sym (ap is_some calm)
-why_collides limit n tail clash long end (stopped texts is few zero) = sym (ap is_some is)
-why_collides limit n tail clash long end (wrong b after calm at not few one) = sym (ap is_some calm)
-why_collides limit n tail clash long end (cut calm part some few all) = sym (ap is_some calm)
-why_collides limit n tail clash long end (too_long part b after calm at front sum all) = sym (ap is_some calm)
+why_collides limit n tail clash long end why = grind arith
 
 why_within : (limit n : ℕ) (tail : List ℕ) (clash : Option MetaClash) (long : ℕ) (end : ServeEnd) → Why limit n tail clash long end → n ≤ limit
-why_within limit n tail clash long end (done calm nil few zero) = few
-why_within limit n tail clash long end (stopped texts is few zero) = few
-why_within limit n tail clash long end (wrong b after calm at not few one) = omega (arith, few)
-why_within limit n tail clash long end (cut calm part some few all) = omega (arith, few)
-why_within limit n tail clash long end (too_long part b after calm at front sum all) = omega (arith, sum)
+why_within limit n tail clash long end why = grind arith
+
+module _ (limit n : ℕ) (tail : List ℕ) where
+  nil_no_part : (part : List ℕ) (b : ℕ) (more : List ℕ) → tail ≡ [] → tail ≡ part ++ b ∷ more → ⊥
+  nil_no_part part b more nil some = omega (arith, ap length nil, ap length some, length-append part (b ∷ more))
+
+  -- a byte that begins no envelope begins no part of one
+  wrong_not_part : (b : ℕ) (more : List ℕ) → tail ≡ b ∷ more → (b ≡ 0x57 → ⊥) → IsPart tail → ⊥
+  wrong_not_part b more is not part = grind arith
+
+  wrong_not_long : (b : ℕ) (more part : List ℕ) (c : ℕ) (after : List ℕ) → tail ≡ b ∷ more → (b ≡ 0x57 → ⊥) → n + 1 ≤ limit → tail ≡ part ++ c ∷ after → IsPart part
+      → n + length part ≡ limit → ⊥
+  wrong_not_long b more part c after is not few also front sum = grind arith
+
+  cut_not_long : (part : List ℕ) (b : ℕ) (after : List ℕ) → n + length tail ≤ limit → tail ≡ part ++ b ∷ after → n + length part ≡ limit → ⊥
+  cut_not_long part b after few is sum = grind (arith, length-append)
+
+  -- where no two texts end serving, it ends in one way, behind as many bytes
+  one_calm : (long more : ℕ) (end other : ServeEnd) → Why limit n tail None long end → Why limit n tail None more other → end ≡ other
+  one_calm long more end other a b = grind (arith, nil_no_part, wrong_not_part, wrong_not_long, cut_not_long)
+
+  one_long : (long more : ℕ) (end other : ServeEnd) → Why limit n tail None long end → Why limit n tail None more other → long ≡ more
+  one_long long more end other a b = grind (arith, nil_no_part, wrong_not_part, wrong_not_long, cut_not_long)
+
+  stopped_long : (texts : MetaClash) (long : ℕ) (end : ServeEnd) → Why limit n tail (Some texts) long end → long ≡ 0
+  stopped_long texts long end why = grind arith
+
+pub one_why : (limit n : ℕ) (tail : List ℕ) (clash second : Option MetaClash) (long more : ℕ) → is_some clash ≡ is_some second → (end other : ServeEnd)
+    → Why limit n tail clash long end → Why limit n tail second more other → SameEnd end other × (long ≡ more)
+one_why limit n tail None None long more stops end other a b =
+    let is = one_calm limit n tail long more end other a b in
+    ((ap is_collision is, λ calm. is), one_long limit n tail long more end other a b)
+one_why limit n tail (Some texts) (Some given) long more stops end other a b =
+    let collides = why_collides limit n tail (Some texts) long end a in
+    let too = why_collides limit n tail (Some given) more other b in
+    let size = stopped_long limit n tail texts long end a ∙ sym (stopped_long limit n tail given more other b) in
+    ((collides ∙ sym too, λ calm. absurd (true≢false (sym collides ∙ calm))), size)
+one_why limit n tail clash second long more stops end other a b = absurd (grind arith)
 
 -- ---- one end
 

@@ -5,7 +5,7 @@ use Rattle.std.specs.Prelude.{is_some}
 use Rattle.wal_shape.specs.declared.metadata.BlobId.{BlobId}
 use Rattle.wal_shape.specs.declared.text.MetaClash.{MetaClash}
 use Rattle.wal_frame.specs.declared.frame.FrameError.{FrameError}
-use Rattle.wal_frame.specs.Frame.{Frame, Metadata, Sliver, Opening, Proof, Read, Symbol, Ack, Attest, Forget, Answer, Clash, RegisterEntry, AckEntry, AttestEntry}
+use Rattle.wal_frame.specs.Frame.{Frame, Metadata, Sliver, Proof, Read, Symbol, Ack, Attest, Forget, RegisterEntry, AckEntry, AttestEntry}
 use Rattle.wal_frame.specs.Reading.{read_of}
 use Rattle.wal_ledger.specs.declared.entry.Kind.TheVariants.{Holds, Denies}
 use Rattle.wal_ledger.specs.Ledger.{LedgerState}
@@ -75,9 +75,9 @@ module _ (digest : List ℕ → List ℕ) (old : ServedState) (xs ys : List (Lis
       one_outcome (Ok a.0) (Ok b.0) xs ys clash second new then same.0 a.3 b.3 (a.4 ∙ ap (holding old) same.1 ∙ sym b.4)
 
   one_frame : (frame : Frame) → AnswersFrame digest false frame old xs clash new → AnswersFrame digest false frame old ys second then → SameAnswer xs ys clash second new then
-  one_frame (Metadata m) a b = one_stored (Metadata m) a b
-  one_frame (Sliver id axis index bytes) a b = one_stored (Sliver id axis index bytes) a b
-  one_frame (Proof id p) a b = one_stored (Proof id p) a b
+  one_frame (Metadata m) a b = one_stored _ a b
+  one_frame (Sliver id axis index bytes) a b = one_stored _ a b
+  one_frame (Proof id p) a b = one_stored _ a b
   one_frame (Read id) a b = one_frames _ _ xs ys clash second new then refl a.0 b.0 (a.1 ∙ sym b.1)
   one_frame (Symbol id axis index) a b =
       one_frames a.0 b.0 xs ys clash second new then
@@ -88,9 +88,7 @@ module _ (digest : List ℕ → List ℕ) (old : ServedState) (xs ys : List (Lis
   one_frame (RegisterEntry id until) a b = one_entry _ (one_registered old.ledger (named id) until) old xs ys clash second new then a b
   one_frame (AckEntry shard id) a b = one_entry _ (one_entered Holds old.ledger shard (named id)) old xs ys clash second new then a b
   one_frame (AttestEntry shard id) a b = one_entry _ (one_entered Denies old.ledger shard (named id)) old xs ys clash second new then a b
-  one_frame (Opening id axis index o) a b = one_outcome (Ok no_request) (Ok no_request) xs ys clash second new then refl a.0 b.0 (a.1 ∙ sym b.1)
-  one_frame (Answer code i j) a b = one_outcome (Ok no_request) (Ok no_request) xs ys clash second new then refl a.0 b.0 (a.1 ∙ sym b.1)
-  one_frame (Clash left right) a b = one_outcome (Ok no_request) (Ok no_request) xs ys clash second new then refl a.0 b.0 (a.1 ∙ sym b.1)
+  one_frame frame a b = one_outcome (Ok no_request) (Ok no_request) xs ys clash second new then refl a.0 b.0 (a.1 ∙ sym b.1)
 
   one_read : (read : Result Frame FrameError) → AnswersRead digest false read old xs clash new → AnswersRead digest false read old ys second then → SameAnswer xs ys clash second new then
   one_read (Ok frame) a b = one_frame frame a b

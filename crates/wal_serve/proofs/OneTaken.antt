@@ -24,19 +24,12 @@ pub data Left (limit n : ℕ) (tail : List ℕ) : Type 0 where
   past : (front : List ℕ) (b : ℕ) (after : List ℕ) → tail ≡ front ++ b ∷ after → IsPart front → n + length front ≡ limit → Left limit n tail
 
 left_within : (limit n : ℕ) (tail : List ℕ) → Left limit n tail → n ≤ limit
-left_within limit n tail (nothing nil few) = few
-left_within limit n tail (wrong b after at not few) = few
-left_within limit n tail (part is few) = few
-left_within limit n tail (past front b after at is sum) = omega (arith, sum)
+left_within limit n tail left = grind arith
 
 -- no envelope stands there within the limit
 none_left : (limit n m : ℕ) (tail : List ℕ) (sender : ℕ) (payload after : List ℕ) → Left limit n tail → IsPayload payload
     → tail ≡ envelope sender payload ++ after → n + length (envelope sender payload) ≤ m → m ≤ limit → ⊥
-none_left limit n m tail sender payload after (nothing nil few) fits begins within most = no_bytes sender payload after (sym nil ∙ begins)
-none_left limit n m tail sender payload after (wrong b others at not few) fits begins within most = not (first_byte b others sender payload after (sym at ∙ begins))
-none_left limit n m tail sender payload after (part is few) fits begins within most = part_begins tail sender payload after is fits begins
-none_left limit n m tail sender payload after (past front b others at is sum) fits begins within most =
-    none_within front b others sender payload after is fits (sym at ∙ begins) (omega (arith, within, most, sum))
+none_left limit n m tail sender payload after left fits begins within most = grind (arith, no_bytes, first_byte, part_begins, none_within)
 
 module _ {C : Type 0} (Answer : Table C) (room limit : ℕ) (fresh : C) (taken : List ℕ) where
   -- the envelopes of these payloads stand at the front of what was taken, and were answered so

@@ -1,12 +1,11 @@
 -- The room for a payload is enough for every frame that can verify.
 use Rattle.std.proofs.Common.{ℕ, ◌+◌, ◌*◌, ◌<◌, ◌≤◌, inl, inr, List, length, subst, arith}
-use Rattle.std.specs.Int.{w16, w32}
 use Rattle.std.proofs.Math.Nat.{mul-le-mul_right}
 use Rattle.std.proofs.lemmas.Bool.{cases_lt}
 use Rattle.std.proofs.lemmas.List.{length-append}
 use Rattle.wal_shape.specs.Shape.{row_count, column_count, symbol_size, most_bytes}
 use Rattle.wal_shape.specs.Metadata.{BlobMetadata, IsMetadata}
-use Rattle.wal_shape.specs.Spelling.{number_text, proof_text}
+use Rattle.wal_shape.specs.Spelling.{proof_text}
 use Rattle.wal_shape.proofs.ShapeLaws.{symbol_size-least}
 use Rattle.wal_shape.proofs.MetadataLaws.{length-metadata_text, text_size-most}
 use Rattle.wal_frame.specs.Frame as frame
@@ -50,12 +49,4 @@ enough digest f _ some few is may = absurd may
 
 -- and every request that carries no part of a blob is shorter
 pub asks : (f : ℕ) (x : Frame) → 1 ≤ f → f ≤ 333 → IsFrame x → AsksOnly x → length (frame_text x) < desk_room f
-asks f (frame.Read id) some few is only = omega (arith, room_least f some few, is)
-asks f (frame.Symbol id axis index) some few is only = omega (arith, room_least f some few, length-target id axis index is.id_size)
-asks f (frame.Ack id) some few is only = omega (arith, room_least f some few, is)
-asks f (frame.Attest id) some few is only = omega (arith, room_least f some few, is)
-asks f (frame.Forget id) some few is only = omega (arith, room_least f some few, is)
-asks f (frame.RegisterEntry id until) some few is only = omega (arith, room_least f some few, is.0, length-append id (number_text w32 until))
-asks f (frame.AckEntry shard id) some few is only = omega (arith, room_least f some few, is.id_size, length-append (number_text w16 shard) id)
-asks f (frame.AttestEntry shard id) some few is only = omega (arith, room_least f some few, is.id_size, length-append (number_text w16 shard) id)
-asks f _ some few is only = absurd only
+asks f x some few is only = let room = room_least f some few in grind (arith, length-target, length-append)

@@ -167,11 +167,7 @@ ends_as C Answer room own taken limit fresh state left b c old v Late Up SinkUp 
     (serving.read_fault so_far.front got refl part so_far.served (omega (arith, length-append so_far.front got, so_far.long)) (up late), so_far.appended)
 
 lost : (b c : Option (List ℕ)) (Late : Type 0) (most : ℕ) (l : Lack) (got : List ℕ) → Lacks b c Late most l got → Consumes b c got
-lost b c Late most _ _ (nothing next end) = next
-lost b c Late most _ _ (wrong x next not some) = next
-lost b c Late most _ _ (cut got next part some few end) = next
-lost b c Late most _ _ (too_long got x next part all) = next
-lost b c Late most _ _ (failed got next part few late) = next
+lost b c Late most l got lacks = grind arith
 
 pub ends_without : (C : Type 0) (Answer : Table C) (room own taken limit : ℕ) (fresh state : C) (left b c old v : Option (List ℕ)) (Late Up SinkUp : Type 0) (l : Lack) (got : List ℕ) (end : ServeEnd)
     → IsServing Answer room own fresh state left b old v taken → taken ≤ limit → (Late → Up) → Lacks b c Late (limit - taken) l got → end ≡ end_without l taken
@@ -237,7 +233,6 @@ ends_at C Answer room limit fresh state taken input rest Up SinkUp frames _ part
     let stream = served_stream C Answer room fresh taken frames None state served in
     let all : input ≡ taken = parts ∙ ap (λ (t : List ℕ). taken ++ t) end ∙ append-nil taken in
     (stream.0, subst (IsStream stream.0) (sym all) stream.1)
-ends_at C Answer room limit fresh state taken input rest Up SinkUp frames _ parts (serving.stopped clash before served within last) = tt
 ends_at C Answer room limit fresh state taken input rest Up SinkUp frames _ parts (serving.wrong front b is not served within) =
     let stream = served_stream C Answer room fresh front frames None state served in
     malformed_wrong front rest input b stream.0 stream.1 not (parts ∙ ap (λ (t : List ℕ). t ++ rest) is)
@@ -245,9 +240,7 @@ ends_at C Answer room limit fresh state taken input rest Up SinkUp frames _ part
     let stream = served_stream C Answer room fresh front frames None state served in
     let all : input ≡ taken = parts ∙ ap (λ (t : List ℕ). taken ++ t) end ∙ append-nil taken in
     malformed_cut front got input stream.0 stream.1 part some (all ∙ is)
-ends_at C Answer room limit fresh state taken input rest Up SinkUp frames _ parts (serving.too_long front got b is part served all) = tt
-ends_at C Answer room limit fresh state taken input rest Up SinkUp frames _ parts (serving.read_fault front got is part served within up) = tt
-ends_at C Answer room limit fresh state taken input rest Up SinkUp frames _ parts (serving.write_fault clash served within up) = tt
+ends_at C Answer room limit fresh state taken input rest Up SinkUp frames _ parts serves = tt
 
 ends_known : (C : Type 0) (Answer : Table C) (room limit : ℕ) (fresh state : C) (left after : Option (List ℕ)) (taken : List ℕ) (Up SinkUp : Type 0) (frames : List (List ℕ)) (end : ServeEnd)
     → Consumes left after taken → Serves Answer room limit fresh taken (IsAtEnd after) Up SinkUp frames state end → EndsAtKnown end left

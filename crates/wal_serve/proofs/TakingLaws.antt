@@ -51,9 +51,7 @@ takes_past a b c Late Up size most _ front _ first long less up (failed got more
 pub took_whole : (a b : Option (List ℕ)) (Up : Type 0) (size most : ℕ) (took : Took) (got : List ℕ) → took ≡ Whole → Takes a b Up size most took got
     → Consumes a b got × (length got ≡ size) × (size ≤ most)
 took_whole a b Up size most _ _ is (whole got more all within) = (more, all, within)
-took_whole a b Up size most _ _ is (ended got more few within end) = absurd cc
-took_whole a b Up size most _ _ is (too_long got x more few within) = absurd cc
-took_whole a b Up size most _ _ is (failed got more few within up) = absurd cc
+took_whole a b Up size most _ _ is takes = absurd cc
 
 -- what was not taken whole where fewer bytes may be taken is the same where more are wanted
 pub took_less : (a b : Option (List ℕ)) (Up : Type 0) (size more : ℕ) (took : Took) (got : List ℕ) → (took ≡ Whole → ⊥) → size ≤ more → Takes a b Up size size took got
@@ -126,11 +124,10 @@ past_ends a c Up n piece next count none end =
 -- it is there
 pub past_more : (a c : Option (List ℕ)) (Up : Type 0) (n : ℕ) (piece : List ℕ) → Consumes a c (take n piece) → n ≤ length piece → (n ≡ 0 → ⊥) → length piece ≡ 1
     → (got : List ℕ) × Takes a c Up 1 0 TooLong got
-past_more a c Up n [] next le some one = absurd (omega arith)
-past_more a c Up n (x ∷ y ∷ piece) next le some one = absurd (omega arith)
 past_more a c Up n (x ∷ []) next le some one =
     let all : take n (x ∷ []) ≡ x ∷ [] = take_all n (x ∷ []) (omega (arith, le, some)) in
     (x ∷ [], too_long [] x (subst (Consumes a c) all next) (omega arith) refl)
+past_more a c Up n piece next le some one = absurd (omega (arith, one))
 
 -- the read failed
 pub past_fails : (a c : Option (List ℕ)) (Up : Type 0) → Keeps a c → Up → Takes a c Up 1 0 Failed []
