@@ -44,8 +44,7 @@ Ascend (x ∷ ids) = IsAfter x ids × Ascend ids
 
 lt_of : (o : Ordering) → is_lt o ≡ true → o ≡ Less
 lt_of Less h = refl
-lt_of Equal h = let e : false ≡ true = h in cc
-lt_of Greater h = let e : false ≡ true = h in cc
+lt_of o h = absurd cc
 
 after_of : (id : BlobId) (es : Entries) → T (below_all id_cmp id es) → IsAfter id (keys_of es)
 unfolding IsAfter

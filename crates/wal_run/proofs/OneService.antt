@@ -39,25 +39,13 @@ one_asked words a b asked also = ap (service_of a) (one_task words (Serve a) (Se
 -- one end has one status
 same_status : (end other : ServeEnd) → SameEnd end other → end_status end ≡ end_status other
 same_status (Collision clash) (Collision texts) same = refl
-same_status (Collision clash) Done same = absurd (true≢false same.0)
-same_status (Collision clash) ReadFault same = absurd (true≢false same.0)
-same_status (Collision clash) WriteFault same = absurd (true≢false same.0)
-same_status (Collision clash) (Malformed place) same = absurd (true≢false same.0)
-same_status (Collision clash) TooLong same = absurd (true≢false same.0)
-same_status Done other same = ap end_status (same.1 refl)
-same_status ReadFault other same = ap end_status (same.1 refl)
-same_status WriteFault other same = ap end_status (same.1 refl)
-same_status (Malformed place) other same = ap end_status (same.1 refl)
-same_status TooLong other same = ap end_status (same.1 refl)
+same_status (Collision clash) other same = absurd (true≢false same.0)
+same_status end other same = ap end_status (same.1 refl)
 
 -- that of a collision is its own
 pub status_of_clash : (end : ServeEnd) → is_collision end ≡ true → end_status end ≡ 10
 status_of_clash (Collision clash) is = refl
-status_of_clash Done is = absurd (false≢true is)
-status_of_clash ReadFault is = absurd (false≢true is)
-status_of_clash WriteFault is = absurd (false≢true is)
-status_of_clash (Malformed place) is = absurd (false≢true is)
-status_of_clash TooLong is = absurd (false≢true is)
+status_of_clash end is = absurd (false≢true is)
 
 -- frames that are the same but for two texts in the last one
 pub same_but_last : (shard : ℕ) (xs ys : List (List ℕ)) → SameButLast xs ys → SameFront (frame shard) (sent shard xs) (sent shard ys)
@@ -84,9 +72,8 @@ module _ (digest : List ℕ → List ℕ) (service : Service) (input taken rest 
 -- SERVING the bytes of a source has one answer
 pub one_service : (digest : List ℕ → List ℕ) (service : Service) (input taken given : List ℕ) (after then : Option (List ℕ)) (s t : ℕ) (x y : List ℕ) → Consumes (Some input) after taken
     → Consumes (Some input) then given → IsServiceResult digest service taken (IsAtEnd after) s x → IsServiceResult digest service given (IsAtEnd then) t y → SameAt (frame service.shard) s x t y
-one_service digest service input taken given None then s t x y lost spent a b = absurd lost
-one_service digest service input taken given (Some rest) None s t x y lost spent a b = absurd spent
 one_service digest service input taken given (Some rest) (Some more) s t x y lost spent a b = served_once digest service input taken rest given more s t x y lost spent a b
+one_service digest service input taken given after then s t x y lost spent a b = absurd assumption
 
 -- serving ended without a fault, or by one
 module _ {C : Type 0} (Answer : Table C) (room limit : ℕ) (fresh : C) (taken : List ℕ) (AtEnd : Type 0) (frames : List (List ℕ)) (state : C) where

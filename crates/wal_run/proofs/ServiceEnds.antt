@@ -62,11 +62,7 @@ serving_answered digest words a service status asked ends no_source no_sink =
 -- no end of serving is want of memory
 end_no_want : (e : ServeEnd) → end_status e ≡ 5 → ⊥
 end_no_want Done is = omega (arith, is)
-end_no_want ReadFault is = omega (arith, is)
-end_no_want WriteFault is = omega (arith, is)
-end_no_want (Malformed place) is = omega (arith, is)
-end_no_want TooLong is = omega (arith, is)
-end_no_want (Collision clash) is = omega (arith, is)
+end_no_want e is = omega (arith, is)
 
 -- what serves has no result for a whole input
 pub no_result : (digest : List ℕ → List ℕ) (input : List ℕ) (s : ℕ) (x : List ℕ) → IsResult digest (bare 0 nothing) input s x → ⊥
