@@ -25,7 +25,7 @@ use Rattle.wal_run.specs.Around.{Around}
 use Rattle.wal_run.specs.Answers.{Completes, served}
 use Rattle.wal_run.specs.SameText.{SameFront, SameText, frame}
 use Rattle.wal_run.proofs.CommandLaws.{SameAt, same_as}
-use Rattle.wal_run.proofs.ServiceEnds.{all_written}
+use Rattle.wal_run.proofs.ServiceEnds.{all_written, calm_or_faulted}
 
 -- one service is asked for
 service_of : Service → Task → Service
@@ -74,22 +74,6 @@ pub one_service : (digest : List ℕ → List ℕ) (service : Service) (input ta
     → Consumes (Some input) then given → IsServiceResult digest service taken (IsAtEnd after) s x → IsServiceResult digest service given (IsAtEnd then) t y → SameAt (frame service.shard) s x t y
 one_service digest service input taken given (Some rest) (Some more) s t x y lost spent a b = served_once digest service input taken rest given more s t x y lost spent a b
 one_service digest service input taken given after then s t x y lost spent a b = absurd assumption
-
--- serving ended without a fault, or by one
-module _ {C : Type 0} (Answer : Table C) (room limit : ℕ) (fresh : C) (taken : List ℕ) (AtEnd : Type 0) (frames : List (List ℕ)) (state : C) where
-  -- by a fault, which came
-  abbrev pub Faulted : ServeEnd → Type 0 → Type 0 → Type 0
-  Faulted end SourceRose SinkRose = ((end ≡ ReadFault) × SourceRose) ⊎ ((end ≡ WriteFault) × SinkRose)
-
-  pub calm_or_faulted : (SourceRose SinkRose : Type 0) (end : ServeEnd) → Serves Answer room limit fresh taken AtEnd SourceRose SinkRose frames state end
-      → Serves Answer room limit fresh taken AtEnd ⊥ ⊥ frames state end ⊎ Faulted end SourceRose SinkRose
-  calm_or_faulted SourceRose SinkRose _ (serving.done all within at_end) = inl (serving.done all within at_end)
-  calm_or_faulted SourceRose SinkRose _ (serving.stopped clash before all within last) = inl (serving.stopped clash before all within last)
-  calm_or_faulted SourceRose SinkRose _ (serving.wrong front b is bad some within) = inl (serving.wrong front b is bad some within)
-  calm_or_faulted SourceRose SinkRose _ (serving.cut front rest is part long some within at_end) = inl (serving.cut front rest is part long some within at_end)
-  calm_or_faulted SourceRose SinkRose _ (serving.too_long front rest b is part some past) = inl (serving.too_long front rest b is part some past)
-  calm_or_faulted SourceRose SinkRose _ (serving.read_fault front rest is part some within rose) = inr (inl (refl, rose))
-  calm_or_faulted SourceRose SinkRose _ (serving.write_fault clash all within rose) = inr (inr (refl, rose))
 
 -- serving ended so
 abbrev pub ServedUntil : (List ℕ → List ℕ) → Service → Around → ServeEnd → Type 0

@@ -1,5 +1,5 @@
 -- How serving a shard ends: without a fault its whole answer was written, and want of memory comes before the first byte.
-use Rattle.std.proofs.Common.{◌≡◌, ℕ, List, [], Option, Some, None, refl, sym, subst, ◌∙◌, ⊎_elim, arith}
+use Rattle.std.proofs.Common.{◌≡◌, ◌⊎◌, inl, inr, ℕ, List, [], Option, Some, None, refl, sym, subst, ◌∙◌, ⊎_elim, arith}
 use Rattle.std.specs.Io.KnownBytes.{Appends, IsAtEnd, Keeps}
 use Rattle.wal_serve.specs.declared.serving.ServeEnd.{ServeEnd}
 use Rattle.wal_serve.specs.declared.serving.ServeEnd.TheVariants.{Done, ReadFault, WriteFault, Malformed, TooLong, Collision}
@@ -17,34 +17,32 @@ use Rattle.wal_run.specs.Answers.{Answers, Ends, IsAnswered, broke_off, cut_off,
 use Rattle.wal_run.specs.Command.{IsResult, MayLeave, TakesAtMost, TakesInput, bare, collision, lacking, nothing, rejection, success, unreadable}
 use Rattle.wal_run.specs.Commands.{command_of}
 
-module _ {C : Type 0} (Answer : Table C) (room limit : ℕ) (fresh : C) (taken : List ℕ) (AtEnd : Type 0) (frames : List (List ℕ)) (state : C) (end : ServeEnd) where
+module _ {C : Type 0} (Answer : Table C) (room limit : ℕ) (fresh : C) (taken : List ℕ) (AtEnd : Type 0) (frames : List (List ℕ)) (state : C) where
+  -- serving ended by a fault, which came
+  abbrev pub Faulted : ServeEnd → Type 0 → Type 0 → Type 0
+  Faulted end SourceRose SinkRose = ((end ≡ ReadFault) × SourceRose) ⊎ ((end ≡ WriteFault) × SinkRose)
+
+  pub calm_or_faulted : (SourceRose SinkRose : Type 0) (end : ServeEnd) → Serves Answer room limit fresh taken AtEnd SourceRose SinkRose frames state end
+      → Serves Answer room limit fresh taken AtEnd ⊥ ⊥ frames state end ⊎ Faulted end SourceRose SinkRose
+  calm_or_faulted SourceRose SinkRose _ (serving.done all within at_end) = inl (serving.done all within at_end)
+  calm_or_faulted SourceRose SinkRose _ (serving.stopped clash before all within last) = inl (serving.stopped clash before all within last)
+  calm_or_faulted SourceRose SinkRose _ (serving.wrong front b is bad some within) = inl (serving.wrong front b is bad some within)
+  calm_or_faulted SourceRose SinkRose _ (serving.cut front rest is part long some within at_end) = inl (serving.cut front rest is part long some within at_end)
+  calm_or_faulted SourceRose SinkRose _ (serving.too_long front rest b is part some past) = inl (serving.too_long front rest b is part some past)
+  calm_or_faulted SourceRose SinkRose _ (serving.read_fault front rest is part some within rose) = inr (inl (refl, rose))
+  calm_or_faulted SourceRose SinkRose _ (serving.write_fault clash all within rose) = inr (inr (refl, rose))
+
   -- where no fault came, none ended serving
-  pub unfaulted : (SourceRose SinkRose : Type 0) → Serves Answer room limit fresh taken AtEnd SourceRose SinkRose frames state end → ¬ SourceRose → ¬ SinkRose
+  pub unfaulted : (end : ServeEnd) (SourceRose SinkRose : Type 0) → Serves Answer room limit fresh taken AtEnd SourceRose SinkRose frames state end → ¬ SourceRose → ¬ SinkRose
       → Serves Answer room limit fresh taken AtEnd ⊥ ⊥ frames state end
-  unfaulted SourceRose SinkRose serves no_source no_sink =
-      elim serves as (λ e _. Serves Answer room limit fresh taken AtEnd ⊥ ⊥ frames state e) [
-        | serving.done all within at_end ↦ serving.done all within at_end
-        | serving.stopped clash before all within last ↦ serving.stopped clash before all within last
-        | serving.wrong front b is bad some within ↦ serving.wrong front b is bad some within
-        | serving.cut front rest is part long some within at_end ↦ serving.cut front rest is part long some within at_end
-        | serving.too_long front rest b is part some past ↦ serving.too_long front rest b is part some past
-        | serving.read_fault front rest is part some within rose ↦ absurd (no_source rose)
-        | serving.write_fault clash all within rose ↦ absurd (no_sink rose)
-      ]
+  unfaulted end SourceRose SinkRose serves no_source no_sink =
+      ⊎_elim (λ calm. calm) (⊎_elim (λ read. absurd (no_source read.1)) (λ write. absurd (no_sink write.1))) (calm_or_faulted SourceRose SinkRose end serves)
 
   -- and all was written
-  pub all_written : (Failed : Type 0) (old new : Option (List ℕ)) (text : List ℕ) → Serves Answer room limit fresh taken AtEnd ⊥ ⊥ frames state end → Wrote end Failed old new text
+  pub all_written : (end : ServeEnd) (Failed : Type 0) (old new : Option (List ℕ)) (text : List ℕ) → Serves Answer room limit fresh taken AtEnd ⊥ ⊥ frames state end → Wrote end Failed old new text
       → Appends old new text
-  all_written Failed old new text serves =
-      elim serves as (λ e _. Wrote e Failed old new text → Appends old new text) [
-        | serving.done all within at_end ↦ λ put. put
-        | serving.stopped clash before all within last ↦ λ put. put
-        | serving.wrong front b is bad some within ↦ λ put. put
-        | serving.cut front rest is part long some within at_end ↦ λ put. put
-        | serving.too_long front rest b is part some past ↦ λ put. put
-        | serving.read_fault front rest is part some within rose ↦ λ put. put
-        | serving.write_fault clash all within rose ↦ absurd rose
-      ]
+  all_written _ Failed old new text (serving.write_fault clash all within rose) put = absurd rose
+  all_written end Failed old new text serves put = put
 
 -- where no fault came, the whole text of the answer was written
 pub serving_answered : (digest : List ℕ → List ℕ) (words : List (List ℕ)) (a : Around) (service : Service) (status : ℕ)
