@@ -1,5 +1,5 @@
 -- A command has one result for an input, but for the texts of a collision, where all that is spelled has.
-use Rattle.std.proofs.Common.{◌≡◌, ℕ, List, [], ◌++◌, refl, sym, ap, ap₂, subst, ◌∙◌, ⊎_elim, inl, inr}
+use Rattle.std.proofs.Common.{◌≡◌, ℕ, List, [], ◌++◌, refl, sym, ap, ap₂, subst, ◌∙◌, ⊎_elim, inl, inr, arith}
 use Rattle.wal_shape.specs.declared.metadata.BlobId.{BlobId}
 use Rattle.wal_shape.specs.Metadata.{BlobMetadata}
 use Rattle.wal_shape.specs.declared.text.MetaClash.{MetaClash}
@@ -47,14 +47,7 @@ Determined digest c =
 pub told_success : (digest : List ℕ → List ℕ) (c : Command) (content : Content c.grammar)
     → ((z : List ℕ) → c.Rejects content z → ⊥) → ((z : List ℕ) → c.Lacks content z → ⊥) → ((z : List ℕ) → c.Misreads content z → ⊥)
     → ((l r z : List ℕ) → c.Collides content l r z → ⊥) → (s : ℕ) (x : List ℕ) → Told digest c content s x → (s ≡ 0) × c.Succeeds content x
-told_success digest c content no_reject no_lack no_fault no_clash s x told =
-    elim told as (λ t y _. (t ≡ 0) × c.Succeeds content y) [
-      | succeeds text is ↦ (refl, is)
-      | rejects text is ↦ absurd (no_reject text is)
-      | lacks text is ↦ absurd (no_lack text is)
-      | misreads text is ↦ absurd (no_fault text is)
-      | collides l r text clash is ↦ absurd (no_clash l r text is)
-    ]
+told_success digest c content no_reject no_lack no_fault no_clash s x told = grind (arith, no_reject, no_lack, no_fault, no_clash)
 
 -- what comes of what is spelled is the result of the input
 pub of_told : (digest : List ℕ → List ℕ) (c : Command) (input : List ℕ) (content : Content c.grammar) → Spells digest c.grammar input content

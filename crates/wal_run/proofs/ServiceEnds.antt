@@ -64,14 +64,7 @@ end_no_want e is = omega (arith, is)
 
 -- what serves has no result for a whole input
 pub no_result : (digest : List ℕ → List ℕ) (input : List ℕ) (s : ℕ) (x : List ℕ) → IsResult digest (bare 0 nothing) input s x → ⊥
-no_result digest input s x result =
-    elim result as (λ _ _ _. ⊥) [
-      | success text is ↦ is.2
-      | rejection text is ↦ is.2
-      | lacking text is ↦ ⊎_elim (λ none. none) (λ some. some.2) is
-      | unreadable text is ↦ ⊎_elim (λ bad. bad) (λ some. some.2) is
-      | collision left right text clash is ↦ ⊎_elim (λ two. two.0) (λ some. some.2) is.clashes
-    ]
+no_result digest input s x result = grind arith
 
 -- words that ask for serving have no answer that is known before it is written
 pub no_answer : (digest : List ℕ → List ℕ) (words : List (List ℕ)) (left after : Option (List ℕ)) (service : Service) (status : ℕ) (text : List ℕ) → IsTask words (Serve service)

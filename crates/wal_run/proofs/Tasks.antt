@@ -90,14 +90,7 @@ whole_once digest (Verify audit) range = verified_once digest audit
 whole_once digest (Gateway capacity) range = fetched_once digest capacity
 
 bare_once : (digest : List ℕ → List ℕ) → Determined digest (bare 0 nothing)
-bare_once digest input content spells s x t y told other =
-    elim told as (λ u z _. Same u z t y) [
-      | succeeds text is ↦ absurd is
-      | rejects text is ↦ absurd is
-      | lacks text is ↦ absurd is
-      | misreads text is ↦ absurd is
-      | collides left right text clash is ↦ absurd is
-    ]
+bare_once digest input content spells s x t y told other = grind arith
 
 pub determined : (digest : List ℕ → List ℕ) (task : Task) → IsInRange task → Determined digest (command_of digest task)
 determined digest (Whole task) range = whole_once digest task range
