@@ -4,7 +4,7 @@ use Rattle.wal_shape.specs.declared.metadata.BlobId.{BlobId}
 use Rattle.wal_shape.specs.Shape.{IsShape}
 use Rattle.wal_shape.specs.EncodingProof.{EncodingProof}
 use Rattle.wal_evidence.specs.declared.proof.ProofVerdict.{ProofVerdict}
-use Rattle.wal_evidence.specs.declared.proof.ProofVerdict.TheVariants.{WrongCount, Repeated, BadOpening, Consistent, Inconsistent}
+use Rattle.wal_evidence.specs.declared.proof.ProofVerdict.TheVariants.{Inconsistent}
 use Rattle.wal_evidence.specs.BadProof as evidence
 use Rattle.wal_evidence.proofs.OneCheck.{one_check}
 use Rattle.wal_frame.specs.Reading.{read_of}

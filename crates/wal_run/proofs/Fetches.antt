@@ -9,7 +9,7 @@ use Rattle.wal_reader.specs.Outcome.{IsOutcome}
 use Rattle.wal_reader.specs.declared.outcome.Outcome.{Outcome}
 use Rattle.wal_reader.specs.declared.outcome.Outcome.TheVariants as read
 use Rattle.wal_gateway.specs.declared.answer.Found.{Found}
-use Rattle.wal_gateway.specs.declared.answer.Found.TheVariants.{Range, OutOfRange, Reject, Short, NoMetadata, Collision}
+use Rattle.wal_gateway.specs.declared.answer.Found.TheVariants.{Range, OutOfRange, Collision}
 use Rattle.wal_gateway.specs.declared.answer.GetAnswer.{GetAnswer}
 use Rattle.wal_gateway.specs.declared.checked.CheckedBlob.{CheckedBlob}
 use Rattle.wal_gateway.specs.Getting.{AnswersGet, AnswersAll, Cache, Get, Hits, Misses, found_of, kept_blob, range_of}

@@ -1,5 +1,5 @@
 -- What the program promises of `replay`, from how a run ends.
-use Rattle.std.proofs.Common.{◌≡◌, ◌⊎◌, inl, inr, ℕ, ◌<◌, List, [], ◌++◌, length, Option, IfSome, Ok, refl, sym, ap, subst, arith}
+use Rattle.std.proofs.Common.{◌≡◌, ◌⊎◌, inl, inr, ℕ, List, [], ◌++◌, length, Option, IfSome, Ok, refl, sym, ap, subst, arith}
 use Rattle.std.proofs.KnownBytes.{Appends-kept, Appends-nil}
 use Rattle.std.proofs.lemmas.List.{length-take}
 use Rattle.std.specs.Io.KnownBytes.{Appends, Keeps}
@@ -17,7 +17,7 @@ use Rattle.wal_words.proofs.Rows.{one_task}
 use Rattle.wal_run.specs.Around.{Around}
 use Rattle.wal_run.specs.Answers.{Answers, Ends, broke_off, cut_off, done, no_memory, no_memory_for_words, serving_ended, sink_failed, source_failed, too_long, usage, whole}
 use Rattle.wal_run.specs.Command.{ClashesBehind, IsResult, IsTaken, IsTooLong, MayLeave, collision, lacking, rejection, success, unreadable}
-use Rattle.wal_run.specs.inside.Command.{Told, collides, lacks, misreads, rejects, succeeds}
+use Rattle.wal_run.specs.inside.Command.{Told}
 use Rattle.wal_run.specs.Commands.{command_of}
 use Rattle.wal_run.specs.Headline.{AsksToReplay, Headline, TakesSchedule, TellsSchedule}
 use Rattle.wal_run.specs.Lines.{collision_text}

@@ -1,17 +1,16 @@
 -- Serving a shard, the bytes of a source have one answer, but for the two texts of a collision.
-use Rattle.std.proofs.Common.{◌≡◌, ◌⊎◌, ⊎_elim, inl, inr, ℕ, Bool, true, false, List, [], ◌∷◌, ◌++◌, Option, Some, None, refl, ap, subst, ◌∙◌, true≢false}
+use Rattle.std.proofs.Common.{◌≡◌, ◌⊎◌, ⊎_elim, inl, inr, ℕ, Bool, true, false, List, [], ◌∷◌, ◌++◌, Option, Some, refl, ap, subst, ◌∙◌, true≢false}
 use Rattle.std.proofs.lemmas.Bool.{false≢true}
 use Rattle.std.proofs.lemmas.Grind.{flat_map-append}
 use Rattle.std.specs.Io.KnownBytes.{Appends, Consumes, IsAtEnd}
 use Rattle.wal_frame.specs.Frame.{envelope}
 use Rattle.wal_serve.specs.declared.serving.ServeEnd.{ServeEnd}
-use Rattle.wal_serve.specs.declared.serving.ServeEnd.TheVariants.{Done, ReadFault, WriteFault, Malformed, TooLong, Collision}
+use Rattle.wal_serve.specs.declared.serving.ServeEnd.TheVariants.{ReadFault, WriteFault, Collision}
 use Rattle.wal_serve.specs.Determined.{SameButLast, SameEnd, is_collision}
 use Rattle.wal_serve.specs.Reply.{clash_text}
 use Rattle.wal_serve.specs.Room.{desk_room}
 use Rattle.wal_serve.specs.Saying.{sent}
-use Rattle.wal_serve.specs.Serving as serving
-use Rattle.wal_serve.specs.Serving.{IsServed, Serves, Table}
+use Rattle.wal_serve.specs.Serving.{IsServed}
 use Rattle.wal_serve.specs.State.{ServedState}
 use Rattle.wal_serve.proofs.OneEnd.{one_serving}
 use Rattle.wal_serve.proofs.OneTable.{one_table}

@@ -8,12 +8,12 @@ use Rattle.wal_serve.specs.Room.{desk_room}
 use Rattle.wal_serve.specs.Serving.{IsServed}
 use Rattle.wal_serve.specs.State.{ServedState}
 use Rattle.wal_words.specs.declared.task.Task.{Task}
-use Rattle.wal_words.specs.declared.task.Task.TheVariants.{Whole, Read, Serve, Sample}
+use Rattle.wal_words.specs.declared.task.Task.TheVariants.{Serve}
 use Rattle.wal_words.specs.declared.task.Service.{Service}
 use Rattle.wal_words.specs.Task.{IsTask}
 use Rattle.wal_words.proofs.Rows.{one_task}
 use Rattle.wal_run.specs.Around.{Around}
-use Rattle.wal_run.specs.Command.{Grammar, IsFrontOf, IsFrontUpToClash, IsResult, IsTaken, MayLeave, MayOwe, TakenBy, TakesInput, bytes, envelopes, envelopes_of, nothing, schedule}
+use Rattle.wal_run.specs.Command.{Grammar, IsFrontOf, IsFrontUpToClash, IsResult, IsTaken, MayLeave, MayOwe, TakenBy, TakesInput, bytes, nothing}
 use Rattle.wal_run.specs.Commands.{command_of}
 use Rattle.wal_run.specs.Answers.{Answers, Completes, Ends, answered, broke_off, cut_off, done, no_memory, no_memory_for_words, served, serving_ended, sink_failed, source_failed, too_long, usage, whole}
 use Rattle.wal_run.specs.Causes as causes

@@ -2,7 +2,7 @@
 use Rattle.std.proofs.Common.{◌≡◌, ◌⊎◌, inl, inr, ℕ, List, [], Option, Some, None, refl, sym, subst, ◌∙◌, ⊎_elim, arith}
 use Rattle.std.specs.Io.KnownBytes.{Appends, IsAtEnd, Keeps}
 use Rattle.wal_serve.specs.declared.serving.ServeEnd.{ServeEnd}
-use Rattle.wal_serve.specs.declared.serving.ServeEnd.TheVariants.{Done, ReadFault, WriteFault, Malformed, TooLong, Collision}
+use Rattle.wal_serve.specs.declared.serving.ServeEnd.TheVariants.{Done, ReadFault, WriteFault}
 use Rattle.wal_serve.specs.Saying.{sent}
 use Rattle.wal_serve.specs.Serving as serving
 use Rattle.wal_serve.specs.Serving.{Serves, Table, Wrote}
@@ -14,7 +14,7 @@ use Rattle.wal_words.proofs.Rows.{one_task}
 use Rattle.wal_run.specs.Serving.{EndsServing, end_status}
 use Rattle.wal_run.specs.Around.{Around}
 use Rattle.wal_run.specs.Answers.{Answers, Ends, IsAnswered, broke_off, cut_off, done, no_memory, no_memory_for_words, served, serving_ended, sink_failed, source_failed, too_long, usage, whole}
-use Rattle.wal_run.specs.Command.{IsResult, MayLeave, TakesAtMost, TakesInput, bare, collision, lacking, nothing, rejection, success, unreadable}
+use Rattle.wal_run.specs.Command.{IsResult, MayLeave, TakesAtMost, TakesInput, bare, nothing}
 use Rattle.wal_run.specs.Commands.{command_of}
 
 module _ {C : Type 0} (Answer : Table C) (room limit : ℕ) (fresh : C) (taken : List ℕ) (AtEnd : Type 0) (frames : List (List ℕ)) (state : C) where
