@@ -4,7 +4,7 @@ use Rattle.wal_shape.specs.declared.metadata.BlobId.{BlobId}
 use Rattle.wal_shape.specs.Shape.{IsShape}
 use Rattle.wal_shape.specs.EncodingProof.{EncodingProof}
 use Rattle.wal_evidence.specs.declared.proof.ProofVerdict.{ProofVerdict}
-use Rattle.wal_evidence.specs.declared.proof.ProofVerdict.TheVariants.{WrongCount, Repeated, BadOpening, Consistent, Inconsistent}
+use Rattle.wal_evidence.specs.declared.proof.ProofVerdict.TheVariants.{Inconsistent}
 use Rattle.wal_evidence.specs.BadProof as evidence
 use Rattle.wal_evidence.proofs.OneCheck.{one_check}
 use Rattle.wal_frame.specs.Reading.{read_of}
@@ -28,11 +28,8 @@ module _ (digest : List ℕ → List ℕ) (id : BlobId) (r : Recorded) where
 
   pub judged_is : (p : EncodingProof) → IsFirstProof id.0 r.payloads p → (v : ProofVerdict) → evidence.Checks digest r.metadata p v
       → Told digest (checking digest id) r (verdict_status v) (verdict_text v)
-  judged_is p first WrongCount is = shows_nothing p WrongCount first is refl
-  judged_is p first Repeated is = shows_nothing p Repeated first is refl
-  judged_is p first (BadOpening place) is = shows_nothing p (BadOpening place) first is refl
-  judged_is p first Consistent is = shows_nothing p Consistent first is refl
   judged_is p first Inconsistent is = rejects (codes "inconsistent\n") (p, first, is, refl)
+  judged_is p first v is = shows_nothing p v first is refl
 
   pub unproved_is : NoProof id.0 r.payloads → Told digest (checking digest id) r 4 (codes "no proof\n")
   unproved_is none = lacks (codes "no proof\n") (inl (none, refl))
@@ -47,11 +44,8 @@ module _ (digest : List ℕ → List ℕ) (id : BlobId) (r : Recorded) where
       × (s ≡ verdict_status v) × (x ≡ verdict_text v)
 
   four_or : (v : ProofVerdict) → v ≢ Inconsistent → 4 ≡ verdict_status v
-  four_or WrongCount other = refl
-  four_or Repeated other = refl
-  four_or (BadOpening place) other = refl
-  four_or Consistent other = refl
   four_or Inconsistent other = absurd (other refl)
+  four_or v other = refl
 
   check_of : (s : ℕ) (x : List ℕ) → Told digest (checking digest id) r s x → Unproved s x ⊎ Judged s x
   check_of s x told =

@@ -1,5 +1,5 @@
 -- A command has one result for an input, but for the texts of a collision, where all that is spelled has.
-use Rattle.std.proofs.Common.{◌≡◌, ℕ, List, [], ◌++◌, refl, sym, ap, ap₂, subst, ◌∙◌, ⊎_elim, inl, inr}
+use Rattle.std.proofs.Common.{◌≡◌, ℕ, List, [], ◌++◌, refl, sym, ap, ap₂, subst, ◌∙◌, ⊎_elim, inl, inr, arith}
 use Rattle.wal_shape.specs.declared.metadata.BlobId.{BlobId}
 use Rattle.wal_shape.specs.Metadata.{BlobMetadata}
 use Rattle.wal_shape.specs.declared.text.MetaClash.{MetaClash}
@@ -47,14 +47,7 @@ Determined digest c =
 pub told_success : (digest : List ℕ → List ℕ) (c : Command) (content : Content c.grammar)
     → ((z : List ℕ) → c.Rejects content z → ⊥) → ((z : List ℕ) → c.Lacks content z → ⊥) → ((z : List ℕ) → c.Misreads content z → ⊥)
     → ((l r z : List ℕ) → c.Collides content l r z → ⊥) → (s : ℕ) (x : List ℕ) → Told digest c content s x → (s ≡ 0) × c.Succeeds content x
-told_success digest c content no_reject no_lack no_fault no_clash s x told =
-    elim told as (λ t y _. (t ≡ 0) × c.Succeeds content y) [
-      | succeeds text is ↦ (refl, is)
-      | rejects text is ↦ absurd (no_reject text is)
-      | lacks text is ↦ absurd (no_lack text is)
-      | misreads text is ↦ absurd (no_fault text is)
-      | collides l r text clash is ↦ absurd (no_clash l r text is)
-    ]
+told_success digest c content no_reject no_lack no_fault no_clash s x told = grind (arith, no_reject, no_lack, no_fault, no_clash)
 
 -- what comes of what is spelled is the result of the input
 pub of_told : (digest : List ℕ → List ℕ) (c : Command) (input : List ℕ) (content : Content c.grammar) → Spells digest c.grammar input content
@@ -93,36 +86,25 @@ one_misspelling envelopes input x y a b = one_break input x y a b
 one_misspelling (envelopes_of id) input x y a b = one_break input x y a b
 one_misspelling schedule input x y a b =
     fault_is a.0 x a.2 ∙ ap fault_text (one_error input a.0 b.0 x y a.1 b.1 a.2 b.2) ∙ sym (fault_is b.0 y b.2)
-one_misspelling bytes input x y a b = absurd a
-one_misspelling nothing input x y a b = absurd a
+one_misspelling g input x y a b = absurd a
 
 not_misspelled : (digest : List ℕ → List ℕ) (g : Grammar) (input x : List ℕ) (content : Content g) → Spells digest g input content → Misspells g input x → ⊥
 not_misspelled digest envelopes input x content is bad = not_malformed content bad.0 input is bad.1
 not_misspelled digest (envelopes_of id) input x content is bad = not_malformed content.payloads bad.0 input is.0 bad.1
 not_misspelled digest schedule input x content is bad = schedule_not_fault input content bad.0 x is bad.1 bad.2
-not_misspelled digest bytes input x content is bad = bad
-not_misspelled digest nothing input x content is bad = bad
+not_misspelled digest g input x content is bad = bad
 
 none_spelled : (digest : List ℕ → List ℕ) (g : Grammar) (input x y : List ℕ) → HasNone digest g input x → Misspells g input y → ⊥
 none_spelled digest (envelopes_of id) input x y none bad = not_malformed none.0 bad.0 input none.1 bad.1
-none_spelled digest bytes input x y none bad = none
-none_spelled digest envelopes input x y none bad = none
-none_spelled digest schedule input x y none bad = none
-none_spelled digest nothing input x y none bad = none
+none_spelled digest g input x y none bad = none
 
 two_spelled : (digest : List ℕ → List ℕ) (g : Grammar) (input x left right : List ℕ) → HasTwoMetadata digest g input left right → Misspells g input x → ⊥
 two_spelled digest (envelopes_of id) input x left right two bad = not_malformed two.0 bad.0 input two.1 bad.1
-two_spelled digest bytes input x left right two bad = two
-two_spelled digest envelopes input x left right two bad = two
-two_spelled digest schedule input x left right two bad = two
-two_spelled digest nothing input x left right two bad = two
+two_spelled digest g input x left right two bad = two
 
 one_none : (digest : List ℕ → List ℕ) (g : Grammar) (input x y : List ℕ) → HasNone digest g input x → HasNone digest g input y → x ≡ y
 one_none digest (envelopes_of id) input x y a b = a.3 ∙ sym b.3
-one_none digest bytes input x y a b = absurd a
-one_none digest envelopes input x y a b = absurd a
-one_none digest schedule input x y a b = absurd a
-one_none digest nothing input x y a b = absurd a
+one_none digest g input x y a b = absurd a
 
 module _ (digest : List ℕ → List ℕ) (id : BlobId) (input : List ℕ) (ps qs : List (List ℕ)) (m : BlobMetadata) where
   moved : ps ≡ qs → HasMetadata digest id.0 ps m → HasMetadata digest id.0 qs m
@@ -131,29 +113,20 @@ module _ (digest : List ℕ → List ℕ) (id : BlobId) (input : List ℕ) (ps q
 none_not_one : (digest : List ℕ → List ℕ) (g : Grammar) (input x : List ℕ) (content : Content g) → HasNone digest g input x → Spells digest g input content → ⊥
 none_not_one digest (envelopes_of id) input x content none is =
     none.2 content.metadata (moved digest id input content.payloads none.0 content.metadata (one_stream content.payloads none.0 input is.0 none.1) is.1.0)
-none_not_one digest bytes input x content none is = none
-none_not_one digest envelopes input x content none is = none
-none_not_one digest schedule input x content none is = none
-none_not_one digest nothing input x content none is = none
+none_not_one digest g input x content none is = none
 
 none_not_two : (digest : List ℕ → List ℕ) (g : Grammar) (input x left right : List ℕ) → HasNone digest g input x → HasTwoMetadata digest g input left right → ⊥
 none_not_two digest (envelopes_of id) input x left right none two =
     none.2 two.2 (moved digest id input two.0 none.0 two.2 (one_stream two.0 none.0 input two.1 none.1)
     (first_two digest id.0 two.0 two.2 two.3 two.4).0)
-none_not_two digest bytes input x left right none two = none
-none_not_two digest envelopes input x left right none two = none
-none_not_two digest schedule input x left right none two = none
-none_not_two digest nothing input x left right none two = none
+none_not_two digest g input x left right none two = none
 
 two_not_one : (digest : List ℕ → List ℕ) (g : Grammar) (input : List ℕ) (content : Content g) (left right : List ℕ) → HasTwoMetadata digest g input left right → Spells digest g input content → ⊥
 two_not_one digest (envelopes_of id) input content left right two is =
     let payloads = one_stream two.0 content.payloads input two.1 is.0 in
     not_two digest id.0 content.payloads content.metadata two.2 two.3 is.1
     (subst (λ (ps : List (List ℕ)). AreFirstTwo digest id.0 ps two.2 two.3) payloads two.4)
-two_not_one digest bytes input content left right two is = two
-two_not_one digest envelopes input content left right two is = two
-two_not_one digest schedule input content left right two is = two
-two_not_one digest nothing input content left right two is = two
+two_not_one digest g input content left right two is = two
 
 -- ---- a result, by whether the input spells something
 

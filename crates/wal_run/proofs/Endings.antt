@@ -7,7 +7,7 @@ use Rattle.wal_port.specs.declared.transfers.TakeError.TheVariants.{ReadFault, T
 use Rattle.wal_words.specs.declared.task.Task.{Task}
 use Rattle.wal_words.specs.Task.{IsTask}
 use Rattle.wal_run.specs.Around.{Around}
-use Rattle.wal_run.specs.Command.{Command, Content, Grammar, IsFrontOf, IsFrontUpToClash, IsResult, Spells, IsTaken, IsTakenWhole, MayLeave, MayOwe, TakenBy, TakesAtMost, TakesInput, IsAllOf, bytes, envelopes, envelopes_of, nothing, schedule}
+use Rattle.wal_run.specs.Command.{Command, Content, Grammar, IsFrontOf, IsFrontUpToClash, IsResult, Spells, IsTaken, IsTakenWhole, MayLeave, MayOwe, TakenBy, TakesAtMost, TakesInput, IsAllOf, nothing}
 use Rattle.wal_run.specs.Commands.{command_of}
 use Rattle.wal_run.specs.SameText as same_text
 use Rattle.wal_run.specs.inside.Command.{Told}
@@ -31,11 +31,8 @@ told_long (Some given) P limit told p = told p
 -- the whole input of a command that takes one was taken
 pub taken_by : (g : Grammar) (limit : ℕ) (left after : Option (List ℕ)) (input : List ℕ) → TakesInput g → IsTakenWhole limit left after input
     → TakenBy g limit left after input
-taken_by bytes limit left after input takes is = is
-taken_by envelopes limit left after input takes is = is
-taken_by (envelopes_of id) limit left after input takes is = is
-taken_by schedule limit left after input takes is = is
 taken_by nothing limit left after input takes is = absurd takes
+taken_by g limit left after input takes is = is
 
 -- where nothing was taken, that is within any limit
 kept_few : (left after : Option (List ℕ)) (limit : ℕ) → Keeps left after → TakesAtMost left after limit
@@ -45,11 +42,8 @@ kept_few (Some given) (Some rest) limit kept = ([], sym kept, omega arith)
 
 -- no more than the limit was taken
 pub taken_few : (g : Grammar) (limit : ℕ) (left after : Option (List ℕ)) (input : List ℕ) → TakenBy g limit left after input → TakesAtMost left after limit
-taken_few bytes limit left after input is = (input, is.consumed, is.within)
-taken_few envelopes limit left after input is = (input, is.consumed, is.within)
-taken_few (envelopes_of id) limit left after input is = (input, is.consumed, is.within)
-taken_few schedule limit left after input is = (input, is.consumed, is.within)
 taken_few nothing limit left after input is = kept_few left after limit is.0
+taken_few g limit left after input is = (input, is.consumed, is.within)
 
 -- a text that is the answer was written, or a part of it
 pub ends_finished : (digest : List ℕ → List ℕ) (words : List (List ℕ)) (a : Around) (IsText : List ℕ → Type 0) (success status : ℕ)

@@ -9,7 +9,7 @@ use Rattle.wal_reader.specs.Outcome.{IsOutcome}
 use Rattle.wal_reader.specs.declared.outcome.Outcome.{Outcome}
 use Rattle.wal_reader.specs.declared.outcome.Outcome.TheVariants as read
 use Rattle.wal_gateway.specs.declared.answer.Found.{Found}
-use Rattle.wal_gateway.specs.declared.answer.Found.TheVariants.{Range, OutOfRange, Reject, Short, NoMetadata, Collision}
+use Rattle.wal_gateway.specs.declared.answer.Found.TheVariants.{Range, OutOfRange, Collision}
 use Rattle.wal_gateway.specs.declared.answer.GetAnswer.{GetAnswer}
 use Rattle.wal_gateway.specs.declared.checked.CheckedBlob.{CheckedBlob}
 use Rattle.wal_gateway.specs.Getting.{AnswersGet, AnswersAll, Cache, Get, Hits, Misses, found_of, kept_blob, range_of}
@@ -49,12 +49,8 @@ no_asked None other = refl
 no_asked (Some asks) other = absurd (other asks refl)
 
 clash_of : (found : Found) → is_collision found ≡ true → (clash : MetaClash) × (found ≡ Collision clash)
-clash_of (Range bytes) is = absurd (false_true is)
-clash_of (OutOfRange length) is = absurd (false_true is)
-clash_of Reject is = absurd (false_true is)
-clash_of (Short have need) is = absurd (false_true is)
-clash_of NoMetadata is = absurd (false_true is)
 clash_of (Collision clash) is = (clash, refl)
+clash_of found is = absurd (false_true is)
 
 -- a range is none
 range_calm : (from size : ℕ) (bytes : List ℕ) → is_collision (range_of from size bytes) ≡ false
@@ -62,7 +58,7 @@ range_calm from size bytes = by (nat_le (from + size) (length bytes))
   where
     by : (b : Bool) → is_collision (cond b (Range (take size (drop from bytes))) (OutOfRange (length bytes))) ≡ false
     by true = refl
-    by false = refl
+    by b = refl
 
 no_range : (from size : ℕ) (bytes : List ℕ) (clash : MetaClash) → range_of from size bytes ≡ Collision clash → ⊥
 no_range from size bytes clash is = false_true (sym (range_calm from size bytes) ∙ ap is_collision is)
@@ -72,14 +68,12 @@ module _ (digest : List ℕ → List ℕ) where
   outcome_collides : (id : List ℕ) (payloads : List (List ℕ)) (from size : ℕ) (outcome : Outcome) (clash : MetaClash) → IsOutcome digest id payloads outcome
       → found_of from size outcome ≡ Collision clash → IsCollision digest clash.left clash.right
   outcome_collides id payloads from size (read.Bytes bytes) clash is same = absurd (no_range from size bytes clash same)
-  outcome_collides id payloads from size read.Reject clash is same = cc
-  outcome_collides id payloads from size (read.Short have need) clash is same = cc
-  outcome_collides id payloads from size read.NoMetadata clash is same = cc
   outcome_collides id payloads from size (read.Collision other) clash is same =
       subst (λ (c : MetaClash). IsCollision digest c.left c.right) (one_clash other clash same) is.3
     where
       one_clash : (a b : MetaClash) → Collision a ≡ Collision b → a ≡ b
       one_clash a b e = cc
+  outcome_collides id payloads from size outcome clash is same = cc
 
   answer_collides : (old new : Cache) (get : Get) (answer : GetAnswer) (clash : MetaClash) → AnswersGet digest old get answer new → answer.found ≡ Collision clash
       → IsCollision digest clash.left clash.right
@@ -260,25 +254,12 @@ module _ (digest : List ℕ → List ℕ) where
 -- ---- answers that are the same
 
 calm_same : (f g : Found) → is_collision f ≡ false → SameFound f g → f ≡ g
-calm_same (Range bytes) g calm is = is
-calm_same (OutOfRange length) g calm is = is
-calm_same Reject g calm is = is
-calm_same (Short have need) g calm is = is
-calm_same NoMetadata g calm is = is
 calm_same (Collision clash) g calm is = absurd (false_true (sym calm))
+calm_same f g calm is = is
 
 same_kind : (f g : Found) → SameFound f g → is_collision f ≡ is_collision g
-same_kind (Range bytes) g is = ap is_collision is
-same_kind (OutOfRange length) g is = ap is_collision is
-same_kind Reject g is = ap is_collision is
-same_kind (Short have need) g is = ap is_collision is
-same_kind NoMetadata g is = ap is_collision is
 same_kind (Collision clash) (Collision other) is = refl
-same_kind (Collision clash) (Range bytes) is = ap is_collision is
-same_kind (Collision clash) (OutOfRange length) is = ap is_collision is
-same_kind (Collision clash) Reject is = ap is_collision is
-same_kind (Collision clash) (Short have need) is = ap is_collision is
-same_kind (Collision clash) NoMetadata is = ap is_collision is
+same_kind f g is = ap is_collision is
 
 same_line : (a b : GetAnswer) → is_collision a.found ≡ false → SameGetAnswer a b → answer_text a ≡ answer_text b
 same_line a b calm is =
@@ -287,10 +268,9 @@ same_line a b calm is =
 
 same_text : (these those : List GetAnswer) → GoOn these → SameAnswers these those → answers_text these ≡ answers_text those
 same_text [] [] goes is = refl
-same_text [] (y ∷ those) goes is = absurd is
-same_text (x ∷ these) [] goes is = absurd is
 same_text (x ∷ these) (y ∷ those) goes is =
     ap₂ (λ (a b : List ℕ). a ++ b) (same_line x y goes.0 is.0) (same_text these those goes.1 is.1)
+same_text these those goes is = absurd is
 
 -- where none is a collision, the last of the others is none
 no_last : (these front : List GetAnswer) (last : GetAnswer) → GoOn these → SameAnswers these (front ++ last ∷ []) → is_collision last.found ≡ true → ⊥
@@ -316,9 +296,7 @@ module _ (digest : List ℕ → List ℕ) where
       → AnswersAll digest start gets (xs ++ x ∷ []) left → AnswersAll digest start others (ys ++ y ∷ []) also → GoOn xs → GoOn ys
       → is_collision x.found ≡ true → is_collision y.found ≡ true → answers_text xs ≡ answers_text ys
   one_stop start [] others rest more [] ys x y left also e all those goes on is_x is_y = absurd all
-  one_stop start [] others rest more (a ∷ xs) ys x y left also e all those goes on is_x is_y = absurd all
   one_stop start (get ∷ gets) [] rest more xs [] x y left also e all those goes on is_x is_y = absurd those
-  one_stop start (get ∷ gets) [] rest more xs (b ∷ ys) x y left also e all those goes on is_x is_y = absurd those
   one_stop start (get ∷ gets) (other ∷ others) rest more [] [] x y left also e all those goes on is_x is_y = refl
   one_stop start (get ∷ gets) (other ∷ others) rest more [] (b ∷ ys) x y left also e all those goes on is_x is_y =
       let same = one_first start get other x b all.0 those.0 (ap (get_or_first get) e) all.1 those.1 in
@@ -331,6 +309,7 @@ module _ (digest : List ℕ → List ℕ) where
       let behind = subst (λ (c : Cache). AnswersAll digest c others (ys ++ y ∷ []) also) (sym same.1) those.2 in
       ap₂ (λ (p q : List ℕ). p ++ q) (same_line a b goes.0 same.0)
       (one_stop all.0 gets others rest more xs ys x y left also (ap (drop 1) e) all.2 behind goes.1 on.1 is_x is_y)
+  one_stop start gets others rest more xs ys x y left also e all those goes on is_x is_y = absurd assumption
 
 module _ (digest : List ℕ → List ℕ) (capacity : ℕ) (payloads : List (List ℕ)) where
   -- all are answered, or some answer is a collision
@@ -379,10 +358,7 @@ module _ (digest : List ℕ → List ℕ) where
       → AnswersAll digest start gets xs left → AnswersAll digest start others (ys ++ y ∷ []) also → GoOn xs → GoOn ys → is_collision y.found ≡ true
       → IsFrontOf (answers_text xs) (answers_text ys)
   front_of_stop start [] others rest more [] ys y left also e all those goes on is_y = (answers_text ys, refl)
-  front_of_stop start [] others rest more (a ∷ xs) ys y left also e all those goes on is_y = absurd all
-  front_of_stop start (get ∷ gets) others rest more [] ys y left also e all those goes on is_y = absurd all
-  front_of_stop start (get ∷ gets) [] rest more (a ∷ xs) [] y left also e all those goes on is_y = absurd those
-  front_of_stop start (get ∷ gets) [] rest more (a ∷ xs) (b ∷ ys) y left also e all those goes on is_y = absurd those
+  front_of_stop start (get ∷ gets) [] rest more xs [] y left also e all those goes on is_y = absurd those
   front_of_stop start (get ∷ gets) (other ∷ others) rest more (a ∷ xs) [] y left also e all those goes on is_y =
       let same = one_first digest start get other a y all.0 those.0 (ap (get_or_first digest get) e) all.1 those.1 in
       absurd (false_true (sym goes.0 ∙ same_kind a.found y.found same.0.1 ∙ is_y))
@@ -393,6 +369,7 @@ module _ (digest : List ℕ → List ℕ) where
       let lines : answer_text b ++ answers_text ys ≡ answer_text a ++ (answers_text xs ++ further.0) =
       ap₂ (λ (p q : List ℕ). p ++ q) (sym (same_line a b goes.0 same.0)) further.1 in
       (further.0, lines ∙ sym (append_assoc (answer_text a) (answers_text xs) further.0))
+  front_of_stop start gets others rest more xs ys y left also e all those goes on is_y = absurd assumption
 
   pub first_front : (capacity : ℕ) (payloads : List (List ℕ)) (answers : List GetAnswer) (rest : List Get) → AnswersFirst digest capacity payloads answers rest
       → (s : ℕ) (x : List ℕ) → Told digest (fetching digest capacity) payloads s x → IsFrontOf (answers_text answers) x

@@ -1,5 +1,5 @@
 -- What the program promises of `replay`, from how a run ends.
-use Rattle.std.proofs.Common.{◌≡◌, ◌⊎◌, inl, inr, ℕ, ◌<◌, List, [], ◌++◌, length, Option, IfSome, Ok, refl, sym, ap, subst, arith}
+use Rattle.std.proofs.Common.{◌≡◌, ◌⊎◌, inl, inr, ℕ, List, [], ◌++◌, length, Option, IfSome, Ok, refl, sym, ap, subst, arith}
 use Rattle.std.proofs.KnownBytes.{Appends-kept, Appends-nil}
 use Rattle.std.proofs.lemmas.List.{length-take}
 use Rattle.std.specs.Io.KnownBytes.{Appends, Keeps}
@@ -17,7 +17,7 @@ use Rattle.wal_words.proofs.Rows.{one_task}
 use Rattle.wal_run.specs.Around.{Around}
 use Rattle.wal_run.specs.Answers.{Answers, Ends, broke_off, cut_off, done, no_memory, no_memory_for_words, serving_ended, sink_failed, source_failed, too_long, usage, whole}
 use Rattle.wal_run.specs.Command.{ClashesBehind, IsResult, IsTaken, IsTooLong, MayLeave, collision, lacking, rejection, success, unreadable}
-use Rattle.wal_run.specs.inside.Command.{Told, collides, lacks, misreads, rejects, succeeds}
+use Rattle.wal_run.specs.inside.Command.{Told}
 use Rattle.wal_run.specs.Commands.{command_of}
 use Rattle.wal_run.specs.Headline.{AsksToReplay, Headline, TakesSchedule, TellsSchedule}
 use Rattle.wal_run.specs.Lines.{collision_text}
@@ -54,14 +54,7 @@ no_lines digest size s fit =
 
 -- what a schedule comes to is its report
 report_told : (digest : List ℕ → List ℕ) (s : Schedule) (status : ℕ) (text : List ℕ) → Told digest (replaying digest) s status text → IsReport digest s status text
-report_told digest s status text told =
-    elim told as (λ t y _. IsReport digest s t y) [
-      | succeeds text is ↦ is
-      | rejects text is ↦ absurd is
-      | lacks text is ↦ absurd is
-      | misreads text is ↦ absurd is
-      | collides left right front clash is ↦ is
-    ]
+report_told digest s status text told = grind arith
 
 -- ---- a source that tells its bytes
 
@@ -137,10 +130,6 @@ module _ (digest : List ℕ → List ℕ) (size : (text : List ℕ) → length (
 abbrev IsThrough : ℕ → Type 0
 IsThrough status = (status ≡ 0) ⊎ (status ≡ 10)
 
-not_through : (status : ℕ) → 0 < status → status < 10 → IsThrough status → ⊥
-not_through status some few (inl is) = omega (arith, some, is)
-not_through status some few (inr is) = omega (arith, few, is)
-
 module _ (digest : List ℕ → List ℕ) (words : List (List ℕ)) (a : Around) (asks : AsksToReplay words a) where
   abbrev Replayed : ℕ → Type 0
   Replayed status = (s : Schedule) × TakesSchedule a s × (text : List ℕ) × IsReport digest s status text × Appends a.old a.new text
@@ -152,8 +141,8 @@ module _ (digest : List ℕ → List ℕ) (words : List (List ℕ)) (a : Around)
       elim result as (λ t y _. Appends a.old a.new y → IsThrough t → Replayed t) [
         | success y is ↦ λ put through. (is.0, record { input = input; taken = taken; spells = is.1 }, y, is.2, put)
         | rejection y is ↦ λ put through. absurd is.2
-        | lacking y is ↦ λ put through. absurd (not_through 4 (omega arith) (omega arith) through)
-        | unreadable y is ↦ λ put through. absurd (not_through 8 (omega arith) (omega arith) through)
+        | lacking y is ↦ λ put through. grind arith
+        | unreadable y is ↦ λ put through. grind arith
         | collision left right y clash is ↦ λ put through. stopped_so left right y is.front is.clashes is.whole put
       ]
     where
@@ -167,7 +156,7 @@ module _ (digest : List ℕ → List ℕ) (words : List (List ℕ)) (a : Around)
   answered_any status text answer =
       elim answer as (λ t y _. Appends a.old a.new y → IsThrough t → Replayed t) [
         | usage none kept ↦ absurd (none (Whole Replay) asks.asked)
-        | too_long task is_task long ↦ λ put through. absurd (not_through 9 (omega arith) (omega arith) through)
+        | too_long task is_task long ↦ λ put through. grind arith
         | done task is_task input taken t y result ↦
             let one = one_task words task (Whole Replay) is_task asks.asked in
             let here = subst (λ (k : Task). IsTaken (command_of digest k) a.left a.after input) one taken in
@@ -178,9 +167,9 @@ module _ (digest : List ℕ → List ℕ) (words : List (List ℕ)) (a : Around)
   ends_any status ends =
       elim ends as (λ t _. IsThrough t → Replayed t) [
         | whole t text answer put ↦ answered_any t text answer put
-        | no_memory_for_words kept none ↦ λ through. absurd (not_through 5 (omega arith) (omega arith) through)
-        | no_memory task asked taken kept ↦ λ through. absurd (not_through 5 (omega arith) (omega arith) through)
-        | broke_off task asked input taken text left put ↦ λ through. absurd (not_through 5 (omega arith) (omega arith) through)
+        | no_memory_for_words kept none ↦ λ through. grind arith
+        | no_memory task asked taken kept ↦ λ through. grind arith
+        | broke_off task asked input taken text left put ↦ λ through. grind arith
         | source_failed task asked takes taken rose kept ↦ absurd (asks.no_read_fault rose)
         | sink_failed t text answer rose part ↦ absurd (asks.no_write_fault rose)
         | cut_off task asked input taken text owed rose part ↦ absurd (asks.no_write_fault rose)

@@ -2,7 +2,7 @@
 use Rattle.std.proofs.Common.{◌≡◌, ◌⊎◌, inl, inr, ℕ, ◌+◌, ◌≤◌, Bool, true, false, cond, T, Option, Some, None, List, [], ◌∷◌, ◌++◌, length, filter, drop, get_or, slice_get, refl, sym, ap, ◌∙◌, subst, arith, length-append}
 use Rattle.std.specs.Prelude.{⊤}
 use Rattle.std.specs.declared.cmp.Ordering.{Ordering}
-use Rattle.std.specs.declared.cmp.Ordering.TheVariants.{Less, Equal, Greater}
+use Rattle.std.specs.declared.cmp.Ordering.TheVariants.{Less}
 use Rattle.std.specs.Ordering.{is_lt, ordering_reverse}
 use Rattle.std.specs.Option.{option_map}
 use Rattle.std.specs.List.{flat_map}
@@ -44,8 +44,7 @@ Ascend (x ∷ ids) = IsAfter x ids × Ascend ids
 
 lt_of : (o : Ordering) → is_lt o ≡ true → o ≡ Less
 lt_of Less h = refl
-lt_of Equal h = let e : false ≡ true = h in cc
-lt_of Greater h = let e : false ≡ true = h in cc
+lt_of o h = absurd cc
 
 after_of : (id : BlobId) (es : Entries) → T (below_all id_cmp id es) → IsAfter id (keys_of es)
 unfolding IsAfter

@@ -47,12 +47,7 @@ answer_of digest id k r s x told =
 
 one_told : (a b : MemberAnswer) → SameMemberAnswer a b → Same (member_status a) (member_text a) (member_status b) (member_text b)
 one_told (Collision a) (Collision b) is = both_collide _ _ _ _ [] a b refl refl refl refl
-one_told (Member bytes) b is = same _ _ _ _ (ap member_status is) (ap member_text is)
-one_told BadIndex b is = same _ _ _ _ (ap member_status is) (ap member_text is)
-one_told (Missing j) b is = same _ _ _ _ (ap member_status is) (ap member_text is)
-one_told (NoMember count) b is = same _ _ _ _ (ap member_status is) (ap member_text is)
-one_told NoMetadata b is = same _ _ _ _ (ap member_status is) (ap member_text is)
-one_told (Collision a) b is = same _ _ _ _ (ap member_status is) (ap member_text is)
+one_told a b is = same _ _ _ _ (ap member_status is) (ap member_text is)
 
 pub unbundled_once : (digest : List ℕ → List ℕ) (id : BlobId) (k : ℕ) → Determined digest (unbundling digest id k)
 unbundled_once digest id k input r spells s x t y a b =

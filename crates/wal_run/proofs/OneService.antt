@@ -1,17 +1,16 @@
 -- Serving a shard, the bytes of a source have one answer, but for the two texts of a collision.
-use Rattle.std.proofs.Common.{◌≡◌, ◌⊎◌, ⊎_elim, inl, inr, ℕ, Bool, true, false, List, [], ◌∷◌, ◌++◌, Option, Some, None, refl, ap, subst, ◌∙◌, true≢false}
+use Rattle.std.proofs.Common.{◌≡◌, ◌⊎◌, ⊎_elim, inl, inr, ℕ, Bool, true, false, List, [], ◌∷◌, ◌++◌, Option, Some, refl, ap, subst, ◌∙◌, true≢false}
 use Rattle.std.proofs.lemmas.Bool.{false≢true}
 use Rattle.std.proofs.lemmas.Grind.{flat_map-append}
 use Rattle.std.specs.Io.KnownBytes.{Appends, Consumes, IsAtEnd}
 use Rattle.wal_frame.specs.Frame.{envelope}
 use Rattle.wal_serve.specs.declared.serving.ServeEnd.{ServeEnd}
-use Rattle.wal_serve.specs.declared.serving.ServeEnd.TheVariants.{Done, ReadFault, WriteFault, Malformed, TooLong, Collision}
+use Rattle.wal_serve.specs.declared.serving.ServeEnd.TheVariants.{ReadFault, WriteFault, Collision}
 use Rattle.wal_serve.specs.Determined.{SameButLast, SameEnd, is_collision}
 use Rattle.wal_serve.specs.Reply.{clash_text}
 use Rattle.wal_serve.specs.Room.{desk_room}
 use Rattle.wal_serve.specs.Saying.{sent}
-use Rattle.wal_serve.specs.Serving as serving
-use Rattle.wal_serve.specs.Serving.{IsServed, Serves, Table}
+use Rattle.wal_serve.specs.Serving.{IsServed}
 use Rattle.wal_serve.specs.State.{ServedState}
 use Rattle.wal_serve.proofs.OneEnd.{one_serving}
 use Rattle.wal_serve.proofs.OneTable.{one_table}
@@ -25,7 +24,7 @@ use Rattle.wal_run.specs.Around.{Around}
 use Rattle.wal_run.specs.Answers.{Completes, served}
 use Rattle.wal_run.specs.SameText.{SameFront, SameText, frame}
 use Rattle.wal_run.proofs.CommandLaws.{SameAt, same_as}
-use Rattle.wal_run.proofs.ServiceEnds.{all_written}
+use Rattle.wal_run.proofs.ServiceEnds.{all_written, calm_or_faulted}
 
 -- one service is asked for
 service_of : Service → Task → Service
@@ -39,25 +38,13 @@ one_asked words a b asked also = ap (service_of a) (one_task words (Serve a) (Se
 -- one end has one status
 same_status : (end other : ServeEnd) → SameEnd end other → end_status end ≡ end_status other
 same_status (Collision clash) (Collision texts) same = refl
-same_status (Collision clash) Done same = absurd (true≢false same.0)
-same_status (Collision clash) ReadFault same = absurd (true≢false same.0)
-same_status (Collision clash) WriteFault same = absurd (true≢false same.0)
-same_status (Collision clash) (Malformed place) same = absurd (true≢false same.0)
-same_status (Collision clash) TooLong same = absurd (true≢false same.0)
-same_status Done other same = ap end_status (same.1 refl)
-same_status ReadFault other same = ap end_status (same.1 refl)
-same_status WriteFault other same = ap end_status (same.1 refl)
-same_status (Malformed place) other same = ap end_status (same.1 refl)
-same_status TooLong other same = ap end_status (same.1 refl)
+same_status (Collision clash) other same = absurd (true≢false same.0)
+same_status end other same = ap end_status (same.1 refl)
 
 -- that of a collision is its own
 pub status_of_clash : (end : ServeEnd) → is_collision end ≡ true → end_status end ≡ 10
 status_of_clash (Collision clash) is = refl
-status_of_clash Done is = absurd (false≢true is)
-status_of_clash ReadFault is = absurd (false≢true is)
-status_of_clash WriteFault is = absurd (false≢true is)
-status_of_clash (Malformed place) is = absurd (false≢true is)
-status_of_clash TooLong is = absurd (false≢true is)
+status_of_clash end is = absurd (false≢true is)
 
 -- frames that are the same but for two texts in the last one
 pub same_but_last : (shard : ℕ) (xs ys : List (List ℕ)) → SameButLast xs ys → SameFront (frame shard) (sent shard xs) (sent shard ys)
@@ -84,25 +71,8 @@ module _ (digest : List ℕ → List ℕ) (service : Service) (input taken rest 
 -- SERVING the bytes of a source has one answer
 pub one_service : (digest : List ℕ → List ℕ) (service : Service) (input taken given : List ℕ) (after then : Option (List ℕ)) (s t : ℕ) (x y : List ℕ) → Consumes (Some input) after taken
     → Consumes (Some input) then given → IsServiceResult digest service taken (IsAtEnd after) s x → IsServiceResult digest service given (IsAtEnd then) t y → SameAt (frame service.shard) s x t y
-one_service digest service input taken given None then s t x y lost spent a b = absurd lost
-one_service digest service input taken given (Some rest) None s t x y lost spent a b = absurd spent
 one_service digest service input taken given (Some rest) (Some more) s t x y lost spent a b = served_once digest service input taken rest given more s t x y lost spent a b
-
--- serving ended without a fault, or by one
-module _ {C : Type 0} (Answer : Table C) (room limit : ℕ) (fresh : C) (taken : List ℕ) (AtEnd : Type 0) (frames : List (List ℕ)) (state : C) where
-  -- by a fault, which came
-  abbrev pub Faulted : ServeEnd → Type 0 → Type 0 → Type 0
-  Faulted end SourceRose SinkRose = ((end ≡ ReadFault) × SourceRose) ⊎ ((end ≡ WriteFault) × SinkRose)
-
-  pub calm_or_faulted : (SourceRose SinkRose : Type 0) (end : ServeEnd) → Serves Answer room limit fresh taken AtEnd SourceRose SinkRose frames state end
-      → Serves Answer room limit fresh taken AtEnd ⊥ ⊥ frames state end ⊎ Faulted end SourceRose SinkRose
-  calm_or_faulted SourceRose SinkRose _ (serving.done all within at_end) = inl (serving.done all within at_end)
-  calm_or_faulted SourceRose SinkRose _ (serving.stopped clash before all within last) = inl (serving.stopped clash before all within last)
-  calm_or_faulted SourceRose SinkRose _ (serving.wrong front b is bad some within) = inl (serving.wrong front b is bad some within)
-  calm_or_faulted SourceRose SinkRose _ (serving.cut front rest is part long some within at_end) = inl (serving.cut front rest is part long some within at_end)
-  calm_or_faulted SourceRose SinkRose _ (serving.too_long front rest b is part some past) = inl (serving.too_long front rest b is part some past)
-  calm_or_faulted SourceRose SinkRose _ (serving.read_fault front rest is part some within rose) = inr (inl (refl, rose))
-  calm_or_faulted SourceRose SinkRose _ (serving.write_fault clash all within rose) = inr (inr (refl, rose))
+one_service digest service input taken given after then s t x y lost spent a b = absurd assumption
 
 -- serving ended so
 abbrev pub ServedUntil : (List ℕ → List ℕ) → Service → Around → ServeEnd → Type 0

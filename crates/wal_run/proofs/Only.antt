@@ -8,12 +8,12 @@ use Rattle.wal_serve.specs.Room.{desk_room}
 use Rattle.wal_serve.specs.Serving.{IsServed}
 use Rattle.wal_serve.specs.State.{ServedState}
 use Rattle.wal_words.specs.declared.task.Task.{Task}
-use Rattle.wal_words.specs.declared.task.Task.TheVariants.{Whole, Read, Serve, Sample}
+use Rattle.wal_words.specs.declared.task.Task.TheVariants.{Serve}
 use Rattle.wal_words.specs.declared.task.Service.{Service}
 use Rattle.wal_words.specs.Task.{IsTask}
 use Rattle.wal_words.proofs.Rows.{one_task}
 use Rattle.wal_run.specs.Around.{Around}
-use Rattle.wal_run.specs.Command.{Grammar, IsFrontOf, IsFrontUpToClash, IsResult, IsTaken, MayLeave, MayOwe, TakenBy, TakesInput, bytes, envelopes, envelopes_of, nothing, schedule}
+use Rattle.wal_run.specs.Command.{Grammar, IsFrontOf, IsFrontUpToClash, IsResult, IsTaken, MayLeave, MayOwe, TakenBy, TakesInput, bytes, nothing}
 use Rattle.wal_run.specs.Commands.{command_of}
 use Rattle.wal_run.specs.Answers.{Answers, Completes, Ends, answered, broke_off, cut_off, done, no_memory, no_memory_for_words, served, serving_ended, sink_failed, source_failed, too_long, usage, whole}
 use Rattle.wal_run.specs.Causes as causes
@@ -31,11 +31,8 @@ use Rattle.wal_run.proofs.Tasks.{determined, in_range}
 -- the same input, by a command that takes the whole one or by one that takes none
 taken_once : (g : Grammar) (limit : ℕ) (input xs ys : List ℕ) (after then : Option (List ℕ)) → TakenBy g limit (Some input) after xs
     → TakenBy g limit (Some input) then ys → xs ≡ ys
-taken_once bytes limit input xs ys after then a b = a.told ∙ sym b.told
-taken_once envelopes limit input xs ys after then a b = a.told ∙ sym b.told
-taken_once (envelopes_of id) limit input xs ys after then a b = a.told ∙ sym b.told
-taken_once schedule limit input xs ys after then a b = a.told ∙ sym b.told
 taken_once nothing limit input xs ys after then a b = a.1 ∙ sym b.1
+taken_once g limit input xs ys after then a b = a.told ∙ sym b.told
 
 -- an input is longer than the limit, or was taken whole
 longer : (limit : ℕ) (input xs ys : List ℕ) → xs ≡ input → limit < length xs → ys ≡ input → length ys ≤ limit → ⊥
@@ -45,20 +42,15 @@ longer limit input xs ys is long also short =
 
 not_both : (g : Grammar) (limit : ℕ) (input xs ys : List ℕ) (then : Option (List ℕ)) → TakesInput g → xs ≡ input → limit < length xs
     → TakenBy g limit (Some input) then ys → ⊥
-not_both bytes limit input xs ys then takes is long b = longer limit input xs ys is long b.told b.within
-not_both envelopes limit input xs ys then takes is long b = longer limit input xs ys is long b.told b.within
-not_both (envelopes_of id) limit input xs ys then takes is long b = longer limit input xs ys is long b.told b.within
-not_both schedule limit input xs ys then takes is long b = longer limit input xs ys is long b.told b.within
 not_both nothing limit input xs ys then takes is long b = takes
+not_both g limit input xs ys then takes is long b = longer limit input xs ys is long b.told b.within
 
 -- ---- one answer
 
 -- a task whose command has a result tells a collision in its last line
 line_of : (digest : List ℕ → List ℕ) (task : Task) (input : List ℕ) (s : ℕ) (x : List ℕ) → IsResult digest (command_of digest task) input s x → line ≡ place_of task
-line_of digest (Whole task) input s x result = refl
-line_of digest (Read id) input s x result = refl
-line_of digest (Sample number) input s x result = refl
 line_of digest (Serve service) input s x result = absurd (no_result digest input s x result)
+line_of digest task input s x result = refl
 
 -- an answer that is known before it is written is the only such one
 only_answer : (digest : List ℕ → List ℕ) (words : List (List ℕ)) (place : Place) → IsPlaceOf words place → (input : List ℕ) (after : Option (List ℕ)) (s : ℕ) (x : List ℕ) (then : Option (List ℕ)) (t : ℕ) (y : List ℕ)

@@ -53,11 +53,7 @@ outcome_of digest id r one s x told =
 
 one_told : (o p : Outcome) → SameOutcome o p → Same (outcome_status o) (outcome_text o) (outcome_status p) (outcome_text p)
 one_told (Collision a) (Collision b) is = both_collide _ _ _ _ [] a b refl refl refl refl
-one_told (Bytes bytes) p is = same _ _ _ _ (ap outcome_status is) (ap outcome_text is)
-one_told Reject p is = same _ _ _ _ (ap outcome_status is) (ap outcome_text is)
-one_told (Short have need) p is = same _ _ _ _ (ap outcome_status is) (ap outcome_text is)
-one_told NoMetadata p is = same _ _ _ _ (ap outcome_status is) (ap outcome_text is)
-one_told (Collision a) p is = same _ _ _ _ (ap outcome_status is) (ap outcome_text is)
+one_told o p is = same _ _ _ _ (ap outcome_status is) (ap outcome_text is)
 
 pub read_once : (digest : List ℕ → List ℕ) (id : BlobId) → Determined digest (reading digest id)
 read_once digest id input r spells s x t y a b =

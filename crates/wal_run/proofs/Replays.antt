@@ -57,12 +57,8 @@ clash_front lines all (inr apart) =
 -- what a report is, by its status
 report_through : (digest : List ℕ → List ℕ) (schedule : Schedule) (status : ℕ) (text : List ℕ) → IsReport digest schedule status text → status ≡ 0
     → (lines : List Line) × AreLines digest schedule lines × GoesOn lines × (text ≡ report_of lines)
-report_through digest schedule status text is =
-    elim is as (λ s x _. s ≡ 0 → (lines : List Line) × AreLines digest schedule lines × GoesOn lines × (x ≡ report_of lines)) [
-      | whole lines are goes ↦ λ zero. (lines, are, goes, refl)
-      | stopped front left right are goes clash ↦ λ zero. absurd (omega (arith, zero))
-      | unfinished lines are goes some ↦ λ zero. absurd (omega (arith, zero))
-    ]
+report_through digest schedule _ _ (whole lines are goes) zero = (lines, are, goes, refl)
+report_through digest schedule status text is zero = absurd (omega (arith, zero))
 
 -- where it ended in a collision
 record Stops (digest : List ℕ → List ℕ) (schedule : Schedule) (text : List ℕ) : Type 0 where
@@ -75,46 +71,50 @@ record Stops (digest : List ℕ → List ℕ) (schedule : Schedule) (text : List
 
 report_stopped : (digest : List ℕ → List ℕ) (schedule : Schedule) (status : ℕ) (text : List ℕ) → IsReport digest schedule status text → status ≡ 10
     → Stops digest schedule text
-report_stopped digest schedule status text is =
-    elim is as (λ s x _. s ≡ 10 → Stops digest schedule x) [
-      | whole lines are goes ↦ λ ten. absurd (omega (arith, ten))
-      | stopped front left right are goes clash ↦ λ ten. record { front = front; left = left; right = right; are = are; goes = goes; told = refl }
-      | unfinished lines are goes some ↦ λ ten. absurd (omega (arith, ten))
-    ]
+report_stopped digest schedule _ _ (stopped front left right are goes clash) ten = record { front = front; left = left; right = right; are = are; goes = goes; told = refl }
+report_stopped digest schedule status text is ten = absurd (omega (arith, ten))
+
+-- what is told is a whole report, or one that a collision stopped
+module _ (digest : List ℕ → List ℕ) (schedule : Schedule) where
+  abbrev Whole : ℕ → List ℕ → Type 0
+  Whole s x = (lines : List Line) × AreLines digest schedule lines × GoesOn lines × (s ≡ 0) × (x ≡ report_of lines)
+
+  abbrev Stopped : ℕ → List ℕ → Type 0
+  Stopped s x = (lines : List Line) × AreLines digest schedule lines × EndsInCollision lines × (s ≡ 10) × (x ≡ report_of lines)
+
+  last : (left right : List ℕ) (front : List Line) → GoesOn front → EndsInCollision (front ++ line.Collision left right ∷ [])
+  last left right front goes = record { front = front; said = line.Collision left right; whole = refl; collision = refl; goes_on = goes }
+
+  replay_of : (s : ℕ) (x : List ℕ) → Told digest (replaying digest) schedule s x → Whole s x ⊎ Stopped s x
+  replay_of s x told =
+      elim told as (λ t y _. Whole t y ⊎ Stopped t y) [
+        | succeeds text report ↦
+            let is = report_through digest schedule 0 text report refl in
+            inl (is.0, is.1, is.2, refl, is.3)
+        | rejects text is ↦ absurd is
+        | lacks text is ↦ absurd is
+        | misreads text is ↦ absurd is
+        | collides left right front clash report ↦
+            let is = report_stopped digest schedule 10 (front ++ collision_text left right) report refl in
+            inr (is.front ++ line.Collision is.left is.right ∷ [], is.are, last is.left is.right is.front is.goes, refl, is.told)
+      ]
 
 module _ (digest : List ℕ → List ℕ) (schedule : Schedule) (lines : List Line) (are : AreFirstLines digest schedule lines) where
   left_front : GoesOn lines → (s : ℕ) (x : List ℕ) → Told digest (replaying digest) schedule s x → IsFrontOf (report_of lines) x
   left_front goes s x told =
-      elim told as (λ _ y _. IsFrontOf (report_of lines) y) [
-        | succeeds text report ↦
-            let is = report_through digest schedule 0 text report refl in
-            let at = first_lines digest schedule lines is.0 are is.1 goes in
-            subst (IsFrontOf (report_of lines)) (sym is.3) (front_text lines is.0 at.0 at.1)
-        | rejects text is ↦ absurd is
-        | lacks text is ↦ absurd is
-        | misreads text is ↦ absurd is
-        | collides left right front clash report ↦
-            let is = report_stopped digest schedule 10 (front ++ collision_text left right) report refl in
-            let all : List Line = is.front ++ line.Collision is.left is.right ∷ [] in
-            let at = first_lines digest schedule lines all are is.are goes in
-            subst (IsFrontOf (report_of lines)) (sym is.told) (front_text lines all at.0 at.1)
-      ]
+      let shown : (all : List Line) → AreLines digest schedule all → x ≡ report_of all → IsFrontOf (report_of lines) x = λ all known text.
+      let at = first_lines digest schedule lines all are known goes in
+      subst (IsFrontOf (report_of lines)) (sym text) (front_text lines all at.0 at.1) in
+      ⊎_elim (λ is. shown is.0 is.1 is.4) (λ is. shown is.0 is.1 is.4) (replay_of digest schedule s x told)
 
   owed_front : (s : ℕ) (x : List ℕ) → Told digest (replaying digest) schedule s x → IsFrontUpToClash in_line s (report_of lines) x
   owed_front s x told =
-      elim told as (λ t y _. IsFrontUpToClash in_line t (report_of lines) y) [
-        | succeeds text report ↦
-            let is = report_through digest schedule 0 text report refl in
-            let at = first_of_going digest schedule lines is.0 are is.1 is.2 in
-            inl (subst (IsFrontOf (report_of lines)) (sym is.3) (front_text lines is.0 at.0 at.1))
-        | rejects text is ↦ absurd is
-        | lacks text is ↦ absurd is
-        | misreads text is ↦ absurd is
-        | collides left right front clash report ↦
-            let is = report_stopped digest schedule 10 (front ++ collision_text left right) report refl in
-            let all : List Line = is.front ++ line.Collision is.left is.right ∷ [] in
-            subst (IsFrontUpToClash in_line 10 (report_of lines)) (sym is.told) (clash_front lines all (first_or_clash digest schedule lines all are is.are))
-      ]
+      ⊎_elim
+      (λ is.
+      let at = first_of_going digest schedule lines is.0 are is.1 is.2 in
+      inl (subst (IsFrontOf (report_of lines)) (sym is.4) (front_text lines is.0 at.0 at.1)))
+      (λ is. rw (is.3, is.4) (clash_front lines is.0 (first_or_clash digest schedule lines is.0 are is.1)))
+      (replay_of digest schedule s x told)
 
 -- ---- how the command ends, by how the replay did
 
@@ -163,30 +163,7 @@ module _ (digest : List ℕ → List ℕ) (input : List ℕ) (old new : Option (
 -- ---- one result
 
 module _ (digest : List ℕ → List ℕ) (schedule : Schedule) where
-  abbrev Whole : ℕ → List ℕ → Type 0
-  Whole s x = (lines : List Line) × AreLines digest schedule lines × GoesOn lines × (s ≡ 0) × (x ≡ report_of lines)
-
-  abbrev Stopped : ℕ → List ℕ → Type 0
-  Stopped s x = (lines : List Line) × AreLines digest schedule lines × EndsInCollision lines × (s ≡ 10) × (x ≡ report_of lines)
-
-  last : (left right : List ℕ) (front : List Line) → GoesOn front → EndsInCollision (front ++ line.Collision left right ∷ [])
-  last left right front goes = record { front = front; said = line.Collision left right; whole = refl; collision = refl; goes_on = goes }
-
-  replay_of : (s : ℕ) (x : List ℕ) → Told digest (replaying digest) schedule s x → Whole s x ⊎ Stopped s x
-  replay_of s x told =
-      elim told as (λ t y _. Whole t y ⊎ Stopped t y) [
-        | succeeds text report ↦
-            let is = report_through digest schedule 0 text report refl in
-            inl (is.0, is.1, is.2, refl, is.3)
-        | rejects text is ↦ absurd is
-        | lacks text is ↦ absurd is
-        | misreads text is ↦ absurd is
-        | collides left right front clash report ↦
-            let is = report_stopped digest schedule 10 (front ++ collision_text left right) report refl in
-            inr (is.front ++ line.Collision is.left is.right ∷ [], is.are, last is.left is.right is.front is.goes, refl, is.told)
-      ]
-
-  one_of : (s : ℕ) (x : List ℕ) (t : ℕ) (y : List ℕ) → Whole s x ⊎ Stopped s x → Whole t y ⊎ Stopped t y → Same s x t y
+  one_of : (s : ℕ) (x : List ℕ) (t : ℕ) (y : List ℕ) → Whole digest schedule s x ⊎ Stopped digest schedule s x → Whole digest schedule t y ⊎ Stopped digest schedule t y → Same s x t y
   one_of s x t y (inl a) (inl b) =
       ⊎_elim
       (λ equal. same s t x y (a.3 ∙ sym b.3) (a.4 ∙ ap report_of equal ∙ sym b.4))

@@ -25,19 +25,8 @@ ShowsClash r (line.Collision left right) = r.IsCollision left right
 ShowsClash r _ = Unit {0}
 
 shown : (r : Rules) (old : World) (e : Event) (said : Line) (new : World) → Steps r old e said new → ShowsClash r said
-shown r old (event.Register id until) (line.Collision left right) new step = step.0
-shown r old (event.Write blob to) (line.Collision left right) new step = step.0
-shown r old (event.Send at shard bytes) (line.Collision left right) new step = step.0
-shown r old (event.Ack shard id) (line.Collision left right) new step = step.0
-shown r old (event.Attest shard id) (line.Collision left right) new step = step.0
-shown r old (event.Read id replies) (line.Collision left right) new step = step.0
-shown r old (event.Recover at shard axis id replies) (line.Collision left right) new step = step.0
-shown r old (event.Forget at shard id) (line.Collision left right) new step = step.0
-shown r old (event.Begin owners broken stays) (line.Collision left right) new step = step.0
-shown r old (event.Ready shard) (line.Collision left right) new step = step.0
 shown r old event.Finish (line.Collision left right) new step = step.0
-shown r old (event.Certificate id) (line.Collision left right) new step = step.0
-shown r old (event.Holders id) (line.Collision left right) new step = step.0
+shown r old e (line.Collision left right) new step = step.0
 shown r old e said new step = tt
 
 not_nil : (front : List Line) (said : Line) → front ++ said ∷ [] ≡ [] → ⊥
@@ -52,15 +41,13 @@ shown_behind r new events states front said false rest run = rest run
 
 -- the last line of a run shows it
 pub shown_last : (r : Rules) (events : List Event) (states : List World) (front : List Line) (said : Line) (old : World) → Runs r old events states (front ++ said ∷ []) → ShowsClash r said
+shown_last r [] [] [] said old run = absurd run
+shown_last r [] (new ∷ states) [] said old run = absurd run
+shown_last r (e ∷ events) [] [] said old run = absurd run
 shown_last r (e ∷ events) (new ∷ states) [] said old run = shown r old e said new run.0
 shown_last r (e ∷ events) (new ∷ states) (one ∷ front) said old run =
     shown_behind r new events states front said (is_collision one) (λ more. shown_last r events states front said new more) run.1
-shown_last r [] [] [] said old run = absurd run
-shown_last r [] [] (one ∷ front) said old run = absurd run
-shown_last r [] (new ∷ states) [] said old run = absurd run
-shown_last r [] (new ∷ states) (one ∷ front) said old run = absurd run
-shown_last r (e ∷ events) [] [] said old run = absurd run
-shown_last r (e ∷ events) [] (one ∷ front) said old run = absurd run
+shown_last r events states front said old run = absurd run
 
 pub collision_line : (said : Line) → is_collision said ≡ true → (left : List ℕ) × (right : List ℕ) × (said ≡ line.Collision left right)
 collision_line (line.Collision left right) is = (left, right, refl)

@@ -1,5 +1,5 @@
 -- The sample of a number has one schedule, whose run has one summary, or ends in a collision: one result of the command on it.
-use Rattle.std.proofs.Common.{◌≡◌, ◌⊎◌, inl, inr, ⊎_elim, ◌%◌, ℕ, List, [], ◌∷◌, ◌++◌, map, refl, sym, ap, subst, ◌∙◌}
+use Rattle.std.proofs.Common.{◌≡◌, ◌⊎◌, inl, inr, ⊎_elim, ◌%◌, ℕ, List, [], ◌∷◌, ◌++◌, map, refl, sym, ap, subst, ◌∙◌, arith}
 use Rattle.std.specs.List.{AllByRecursion}
 use Rattle.wal_shape.specs.declared.metadata.BlobId.{BlobId}
 use Rattle.wal_shape.specs.declared.shape.Format.TheVariants.{One}
@@ -76,18 +76,8 @@ one_sample digest number s t a b =
     (λ x. sample_with x (drawn number 1 % 7) (drawn (state_before (state_after number 1) 32) 1 % 7) (drawn (state_before (state_after number 1) 32) 2 % 7))
     ∙ sym b.2
 
-abbrev summary_of : ℕ → ℕ → ℕ → ℕ → ℕ → ℕ → Summary
-summary_of events certified reads bytes recovered least =
-    record { events = events; certified = certified; reads = reads; bytes = bytes; recovered = recovered; least_holders = least }
-
 one_summary : (lines : List Line) (s t : Summary) → IsSummary lines s → IsSummary lines t → s ≡ t
-one_summary lines s t a b =
-    ap (λ (z : ℕ). summary_of z s.certified s.reads s.bytes s.recovered s.least_holders) (a.events ∙ sym b.events)
-    ∙ ap (λ (z : ℕ). summary_of t.events z s.reads s.bytes s.recovered s.least_holders) (a.certified ∙ sym b.certified)
-    ∙ ap (λ (z : ℕ). summary_of t.events t.certified z s.bytes s.recovered s.least_holders) (a.reads ∙ sym b.reads)
-    ∙ ap (λ (z : ℕ). summary_of t.events t.certified t.reads z s.recovered s.least_holders) (a.bytes ∙ sym b.bytes)
-    ∙ ap (λ (z : ℕ). summary_of t.events t.certified t.reads t.bytes z s.least_holders) (a.recovered ∙ sym b.recovered)
-    ∙ ap (λ (z : ℕ). summary_of t.events t.certified t.reads t.bytes t.recovered z) (a.least_holders ∙ sym b.least_holders)
+one_summary lines s t a b = grind arith
 
 module _ (digest : List ℕ → List ℕ) (number : ℕ) where
   abbrev Whole : ℕ → List ℕ → Type 0

@@ -31,38 +31,17 @@ not_fault a e same = absurd cc
 
 pub schedule_not_fault : (text : List ℕ) (a : Schedule) (e : ScheduleError) (told : List ℕ) → IsRead text (Ok a) → IsRead text (Err e) → IsFault e told → ⊥
 schedule_not_fault text a NotJson told x y is = y x.0 x.1
-schedule_not_fault text a BadSchedule told x y is = not_fault a BadSchedule (once _ _ _ (Ok a) (Err BadSchedule) x y)
-schedule_not_fault text a TooMany told x y is = not_fault a TooMany (once _ _ _ (Ok a) (Err TooMany) x y)
-schedule_not_fault text a (BadEvent number) told x y is = not_fault a (BadEvent number) (once _ _ _ (Ok a) (Err (BadEvent number)) x y)
 schedule_not_fault text a Memory told x y is = is
+schedule_not_fault text a e told x y is = not_fault a e (once _ _ _ (Ok a) (Err e) x y)
 
 -- a text has one fault
 pub one_error : (text : List ℕ) (a b : ScheduleError) (told other : List ℕ) → IsRead text (Err a) → IsRead text (Err b) → IsFault a told → IsFault b other → a ≡ b
 one_error text NotJson NotJson told other x y is also = refl
-one_error text NotJson BadSchedule told other x y is also = absurd (x y.0 y.1)
-one_error text NotJson TooMany told other x y is also = absurd (x y.0 y.1)
-one_error text NotJson (BadEvent j) told other x y is also = absurd (x y.0 y.1)
-one_error text NotJson Memory told other x y is also = absurd also
-one_error text BadSchedule NotJson told other x y is also = absurd (y x.0 x.1)
-one_error text BadSchedule BadSchedule told other x y is also = ap (error_or NotJson) (once _ _ _ (Err BadSchedule) (Err BadSchedule) x y)
-one_error text BadSchedule TooMany told other x y is also = ap (error_or NotJson) (once _ _ _ (Err BadSchedule) (Err TooMany) x y)
-one_error text BadSchedule (BadEvent j) told other x y is also = ap (error_or NotJson) (once _ _ _ (Err BadSchedule) (Err (BadEvent j)) x y)
-one_error text BadSchedule Memory told other x y is also = absurd also
-one_error text TooMany NotJson told other x y is also = absurd (y x.0 x.1)
-one_error text TooMany BadSchedule told other x y is also = ap (error_or NotJson) (once _ _ _ (Err TooMany) (Err BadSchedule) x y)
-one_error text TooMany TooMany told other x y is also = ap (error_or NotJson) (once _ _ _ (Err TooMany) (Err TooMany) x y)
-one_error text TooMany (BadEvent j) told other x y is also = ap (error_or NotJson) (once _ _ _ (Err TooMany) (Err (BadEvent j)) x y)
-one_error text TooMany Memory told other x y is also = absurd also
-one_error text (BadEvent i) NotJson told other x y is also = absurd (y x.0 x.1)
-one_error text (BadEvent i) BadSchedule told other x y is also = ap (error_or NotJson) (once _ _ _ (Err (BadEvent i)) (Err BadSchedule) x y)
-one_error text (BadEvent i) TooMany told other x y is also = ap (error_or NotJson) (once _ _ _ (Err (BadEvent i)) (Err TooMany) x y)
-one_error text (BadEvent i) (BadEvent j) told other x y is also = ap (error_or NotJson) (once _ _ _ (Err (BadEvent i)) (Err (BadEvent j)) x y)
-one_error text (BadEvent i) Memory told other x y is also = absurd also
-one_error text Memory NotJson told other x y is also = absurd is
-one_error text Memory BadSchedule told other x y is also = absurd is
-one_error text Memory TooMany told other x y is also = absurd is
-one_error text Memory (BadEvent j) told other x y is also = absurd is
-one_error text Memory Memory told other x y is also = absurd is
+one_error text a Memory told other x y is also = absurd also
+one_error text Memory b told other x y is also = absurd is
+one_error text NotJson b told other x y is also = absurd (x y.0 y.1)
+one_error text a NotJson told other x y is also = absurd (y x.0 x.1)
+one_error text a b told other x y is also = ap (error_or NotJson) (once _ _ _ (Err a) (Err b) x y)
 
 -- whose text is one
 abbrev pub fault_text : ScheduleError → List ℕ
@@ -73,8 +52,5 @@ fault_text (BadEvent number) = number_text (codes "bad event ") number
 fault_text Memory = codes "memory\n"
 
 pub fault_is : (e : ScheduleError) (text : List ℕ) → IsFault e text → text ≡ fault_text e
-fault_is NotJson text is = is
-fault_is BadSchedule text is = is
-fault_is TooMany text is = is
-fault_is (BadEvent number) text is = is
 fault_is Memory text is = absurd is
+fault_is e text is = is

@@ -1,5 +1,5 @@
 -- The two texts that end serving have one digest.
-use Rattle.std.proofs.Common.{◌≡◌, ℕ, List, Bool, Option, Some, None, unwrap_or, Result, Ok, Err, sym, ap, subst, ◌∙◌}
+use Rattle.std.proofs.Common.{◌≡◌, ℕ, List, Bool, Option, Some, None, unwrap_or, Result, Ok, Err, sym, ap, subst, ◌∙◌, arith}
 use Rattle.wal_shape.specs.declared.text.MetaClash.{MetaClash}
 use Rattle.wal_tree.specs.Collision.{IsCollision}
 use Rattle.wal_frame.specs.declared.frame.FrameError.{FrameError}
@@ -25,16 +25,7 @@ put_clash : (digest : List ℕ → List ℕ) (want : Bool) (shard : ShardState) 
 put_clash digest want shard log frame (OtherMetadata d) contents c puts is =
     let same : d ≡ c = ap (λ (o : Option MetaClash). unwrap_or o c) is in
     subst (λ (x : MetaClash). IsCollision digest x.left x.right) same puts.6
-put_clash digest want shard log frame Stored contents c puts is = absurd cc
-put_clash digest want shard log frame Held contents c puts is = absurd cc
-put_clash digest want shard log frame Unregistered contents c puts is = absurd cc
-put_clash digest want shard log frame NoMetadata contents c puts is = absurd cc
-put_clash digest want shard log frame Unverified contents c puts is = absurd cc
-put_clash digest want shard log frame (Full needed free) contents c puts is = absurd cc
-put_clash digest want shard log frame Memory contents c puts is = absurd cc
-
-none_clash : (c : MetaClash) (clash : Option MetaClash) → clash ≡ None → clash ≡ Some c → ⊥
-none_clash c clash none some = absurd cc
+put_clash digest want shard log frame answer contents c puts is = absurd cc
 
 module _ (digest : List ℕ → List ℕ) (want : Bool) (old : ServingState) (texts : List (List ℕ)) (clash : Option MetaClash) (new : ServingState) (c : MetaClash) (is : clash ≡ Some c) where
   put_ends : (frame : Frame) → AnswersPut digest want frame old texts clash new → IsCollision digest c.left c.right
@@ -45,21 +36,11 @@ module _ (digest : List ℕ → List ℕ) (want : Bool) (old : ServingState) (te
   frame_ends (frames.Metadata m) a = put_ends (frames.Metadata m) a
   frame_ends (frames.Sliver id axis index bytes) a = put_ends (frames.Sliver id axis index bytes) a
   frame_ends (frames.Proof id p) a = put_ends (frames.Proof id p) a
-  frame_ends (frames.Read id) a = absurd (none_clash c clash a.0.1 is)
-  frame_ends (frames.Symbol id axis index) a = absurd (none_clash c clash a.2.1 is)
-  frame_ends (frames.Ack id) a = absurd (none_clash c clash a.3.1 is)
-  frame_ends (frames.Attest id) a = absurd (none_clash c clash a.3.1 is)
-  frame_ends (frames.Forget id) a = absurd (none_clash c clash a.3.1 is)
-  frame_ends (frames.RegisterEntry id until) a = absurd (none_clash c clash a.3.1 is)
-  frame_ends (frames.AckEntry shard id) a = absurd (none_clash c clash a.3.1 is)
-  frame_ends (frames.AttestEntry shard id) a = absurd (none_clash c clash a.3.1 is)
-  frame_ends (frames.Opening id axis index o) a = absurd (none_clash c clash a.0.1 is)
-  frame_ends (frames.Answer code x y) a = absurd (none_clash c clash a.0.1 is)
-  frame_ends (frames.Clash left right) a = absurd (none_clash c clash a.0.1 is)
+  frame_ends frame a = grind arith
 
   read_ends : (read : Result Frame FrameError) → AnswersRead digest want read old texts clash new → IsCollision digest c.left c.right
   read_ends (Ok frame) a = frame_ends frame a
-  read_ends (Err e) a = absurd (none_clash c clash a.0.1 is)
+  read_ends (Err e) a = absurd (grind arith)
 
 replies_end : (digest : List ℕ → List ℕ) (want : Bool) (room : ℕ) (old : ServingState) (payload : List ℕ) (texts : List (List ℕ)) (clash : Option MetaClash) (new : ServingState) (c : MetaClash)
     → clash ≡ Some c → Replies (requests.AnswersRequest digest want) room old payload texts clash new → IsCollision digest c.left c.right

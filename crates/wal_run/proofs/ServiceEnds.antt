@@ -1,8 +1,8 @@
 -- How serving a shard ends: without a fault its whole answer was written, and want of memory comes before the first byte.
-use Rattle.std.proofs.Common.{◌≡◌, ℕ, List, [], Option, Some, None, refl, sym, subst, ◌∙◌, ⊎_elim, arith}
+use Rattle.std.proofs.Common.{◌≡◌, ◌⊎◌, inl, inr, ℕ, List, [], Option, Some, None, refl, sym, subst, ◌∙◌, ⊎_elim, arith}
 use Rattle.std.specs.Io.KnownBytes.{Appends, IsAtEnd, Keeps}
 use Rattle.wal_serve.specs.declared.serving.ServeEnd.{ServeEnd}
-use Rattle.wal_serve.specs.declared.serving.ServeEnd.TheVariants.{Done, ReadFault, WriteFault, Malformed, TooLong, Collision}
+use Rattle.wal_serve.specs.declared.serving.ServeEnd.TheVariants.{Done, ReadFault, WriteFault}
 use Rattle.wal_serve.specs.Saying.{sent}
 use Rattle.wal_serve.specs.Serving as serving
 use Rattle.wal_serve.specs.Serving.{Serves, Table, Wrote}
@@ -14,37 +14,35 @@ use Rattle.wal_words.proofs.Rows.{one_task}
 use Rattle.wal_run.specs.Serving.{EndsServing, end_status}
 use Rattle.wal_run.specs.Around.{Around}
 use Rattle.wal_run.specs.Answers.{Answers, Ends, IsAnswered, broke_off, cut_off, done, no_memory, no_memory_for_words, served, serving_ended, sink_failed, source_failed, too_long, usage, whole}
-use Rattle.wal_run.specs.Command.{IsResult, MayLeave, TakesAtMost, TakesInput, bare, collision, lacking, nothing, rejection, success, unreadable}
+use Rattle.wal_run.specs.Command.{IsResult, MayLeave, TakesAtMost, TakesInput, bare, nothing}
 use Rattle.wal_run.specs.Commands.{command_of}
 
-module _ {C : Type 0} (Answer : Table C) (room limit : ℕ) (fresh : C) (taken : List ℕ) (AtEnd : Type 0) (frames : List (List ℕ)) (state : C) (end : ServeEnd) where
+module _ {C : Type 0} (Answer : Table C) (room limit : ℕ) (fresh : C) (taken : List ℕ) (AtEnd : Type 0) (frames : List (List ℕ)) (state : C) where
+  -- serving ended by a fault, which came
+  abbrev pub Faulted : ServeEnd → Type 0 → Type 0 → Type 0
+  Faulted end SourceRose SinkRose = ((end ≡ ReadFault) × SourceRose) ⊎ ((end ≡ WriteFault) × SinkRose)
+
+  pub calm_or_faulted : (SourceRose SinkRose : Type 0) (end : ServeEnd) → Serves Answer room limit fresh taken AtEnd SourceRose SinkRose frames state end
+      → Serves Answer room limit fresh taken AtEnd ⊥ ⊥ frames state end ⊎ Faulted end SourceRose SinkRose
+  calm_or_faulted SourceRose SinkRose _ (serving.done all within at_end) = inl (serving.done all within at_end)
+  calm_or_faulted SourceRose SinkRose _ (serving.stopped clash before all within last) = inl (serving.stopped clash before all within last)
+  calm_or_faulted SourceRose SinkRose _ (serving.wrong front b is bad some within) = inl (serving.wrong front b is bad some within)
+  calm_or_faulted SourceRose SinkRose _ (serving.cut front rest is part long some within at_end) = inl (serving.cut front rest is part long some within at_end)
+  calm_or_faulted SourceRose SinkRose _ (serving.too_long front rest b is part some past) = inl (serving.too_long front rest b is part some past)
+  calm_or_faulted SourceRose SinkRose _ (serving.read_fault front rest is part some within rose) = inr (inl (refl, rose))
+  calm_or_faulted SourceRose SinkRose _ (serving.write_fault clash all within rose) = inr (inr (refl, rose))
+
   -- where no fault came, none ended serving
-  pub unfaulted : (SourceRose SinkRose : Type 0) → Serves Answer room limit fresh taken AtEnd SourceRose SinkRose frames state end → ¬ SourceRose → ¬ SinkRose
+  pub unfaulted : (end : ServeEnd) (SourceRose SinkRose : Type 0) → Serves Answer room limit fresh taken AtEnd SourceRose SinkRose frames state end → ¬ SourceRose → ¬ SinkRose
       → Serves Answer room limit fresh taken AtEnd ⊥ ⊥ frames state end
-  unfaulted SourceRose SinkRose serves no_source no_sink =
-      elim serves as (λ e _. Serves Answer room limit fresh taken AtEnd ⊥ ⊥ frames state e) [
-        | serving.done all within at_end ↦ serving.done all within at_end
-        | serving.stopped clash before all within last ↦ serving.stopped clash before all within last
-        | serving.wrong front b is bad some within ↦ serving.wrong front b is bad some within
-        | serving.cut front rest is part long some within at_end ↦ serving.cut front rest is part long some within at_end
-        | serving.too_long front rest b is part some past ↦ serving.too_long front rest b is part some past
-        | serving.read_fault front rest is part some within rose ↦ absurd (no_source rose)
-        | serving.write_fault clash all within rose ↦ absurd (no_sink rose)
-      ]
+  unfaulted end SourceRose SinkRose serves no_source no_sink =
+      ⊎_elim (λ calm. calm) (⊎_elim (λ read. absurd (no_source read.1)) (λ write. absurd (no_sink write.1))) (calm_or_faulted SourceRose SinkRose end serves)
 
   -- and all was written
-  pub all_written : (Failed : Type 0) (old new : Option (List ℕ)) (text : List ℕ) → Serves Answer room limit fresh taken AtEnd ⊥ ⊥ frames state end → Wrote end Failed old new text
+  pub all_written : (end : ServeEnd) (Failed : Type 0) (old new : Option (List ℕ)) (text : List ℕ) → Serves Answer room limit fresh taken AtEnd ⊥ ⊥ frames state end → Wrote end Failed old new text
       → Appends old new text
-  all_written Failed old new text serves =
-      elim serves as (λ e _. Wrote e Failed old new text → Appends old new text) [
-        | serving.done all within at_end ↦ λ put. put
-        | serving.stopped clash before all within last ↦ λ put. put
-        | serving.wrong front b is bad some within ↦ λ put. put
-        | serving.cut front rest is part long some within at_end ↦ λ put. put
-        | serving.too_long front rest b is part some past ↦ λ put. put
-        | serving.read_fault front rest is part some within rose ↦ λ put. put
-        | serving.write_fault clash all within rose ↦ absurd rose
-      ]
+  all_written _ Failed old new text (serving.write_fault clash all within rose) put = absurd rose
+  all_written end Failed old new text serves put = put
 
 -- where no fault came, the whole text of the answer was written
 pub serving_answered : (digest : List ℕ → List ℕ) (words : List (List ℕ)) (a : Around) (service : Service) (status : ℕ)
@@ -62,22 +60,11 @@ serving_answered digest words a service status asked ends no_source no_sink =
 -- no end of serving is want of memory
 end_no_want : (e : ServeEnd) → end_status e ≡ 5 → ⊥
 end_no_want Done is = omega (arith, is)
-end_no_want ReadFault is = omega (arith, is)
-end_no_want WriteFault is = omega (arith, is)
-end_no_want (Malformed place) is = omega (arith, is)
-end_no_want TooLong is = omega (arith, is)
-end_no_want (Collision clash) is = omega (arith, is)
+end_no_want e is = omega (arith, is)
 
 -- what serves has no result for a whole input
 pub no_result : (digest : List ℕ → List ℕ) (input : List ℕ) (s : ℕ) (x : List ℕ) → IsResult digest (bare 0 nothing) input s x → ⊥
-no_result digest input s x result =
-    elim result as (λ _ _ _. ⊥) [
-      | success text is ↦ is.2
-      | rejection text is ↦ is.2
-      | lacking text is ↦ ⊎_elim (λ none. none) (λ some. some.2) is
-      | unreadable text is ↦ ⊎_elim (λ bad. bad) (λ some. some.2) is
-      | collision left right text clash is ↦ ⊎_elim (λ two. two.0) (λ some. some.2) is.clashes
-    ]
+no_result digest input s x result = grind arith
 
 -- words that ask for serving have no answer that is known before it is written
 pub no_answer : (digest : List ℕ → List ℕ) (words : List (List ℕ)) (left after : Option (List ℕ)) (service : Service) (status : ℕ) (text : List ℕ) → IsTask words (Serve service)

@@ -1,6 +1,5 @@
 -- What was answered before a fault ended serving is what is answered first without one.
 use Rattle.std.proofs.Common.{◌≡◌, ◌⊎◌, inl, inr, ℕ, ◌+◌, ◌≤◌, Bool, true, false, List, [], ◌∷◌, ◌++◌, length, Option, Some, None, refl, sym, ap, ap₂, subst, ◌∙◌, append_assoc, append-nil, arith}
-use Rattle.std.proofs.lemmas.Bool.{false≢true}
 use Rattle.std.proofs.lemmas.List.{length-append}
 use Rattle.std.specs.Prelude.{is_some}
 use Rattle.wal_shape.specs.declared.text.MetaClash.{MetaClash}
@@ -25,11 +24,7 @@ not_nil (first ∷ payloads) payload more is = absurd cc
 
 -- where two texts are among what was answered, they ended serving
 clash_ends : (limit n : ℕ) (tail : List ℕ) (clash : Option MetaClash) (long : ℕ) (end : ServeEnd) → Why limit n tail clash long end → is_some clash ≡ true → is_collision end ≡ true
-clash_ends limit n tail clash long end (why.stopped texts is few zero) some = refl
-clash_ends limit n tail clash long end (why.done calm nil few zero) some = absurd (false≢true (sym (ap is_some calm) ∙ some))
-clash_ends limit n tail clash long end (why.wrong b after calm at not few one) some = absurd (false≢true (sym (ap is_some calm) ∙ some))
-clash_ends limit n tail clash long end (why.cut calm part more few all) some = absurd (false≢true (sym (ap is_some calm) ∙ some))
-clash_ends limit n tail clash long end (why.too_long part b after calm at front sum all) some = absurd (false≢true (sym (ap is_some calm) ∙ some))
+clash_ends limit n tail clash long end why some = grind arith
 
 module _ {C : Type 0} (Answer : Table C) (room limit : ℕ) (fresh : C) (input : List ℕ) where
   -- these whole envelopes at the front of the input, within the limit, were answered so

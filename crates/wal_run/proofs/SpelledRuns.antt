@@ -5,7 +5,7 @@ use Rattle.std.proofs.lemmas.List.Elements.{All-nil, All-cons}
 use Rattle.wal_event.specs.declared.event.Reply.{Reply}
 use Rattle.wal_event.specs.declared.event.Reply.TheVariants as reply
 use Rattle.wal_event.specs.declared.event.Event.{Event}
-use Rattle.wal_event.specs.declared.event.Event.TheVariants.{Register, Write, Send, Ack, Attest, Read, Recover, Forget, Begin, Ready, Finish, Certificate, Holders}
+use Rattle.wal_event.specs.declared.event.Event.TheVariants.{Write, Send, Read, Recover, Ready}
 use Rattle.wal_event.specs.declared.event.Schedule.{Schedule}
 use Rattle.wal_protocol.specs.Total.{HasBytes, HasRun, Possible, ReplyHasBytes}
 use Rattle.wal_schedule.specs.Grammar.{IsRead}
@@ -25,19 +25,12 @@ reply_bytes (reply.True side shard) has = tt
 reply_bytes (reply.Bytes bytes) has = has
 
 event_bytes : (e : Event) → written.HasBytes e → HasBytes e
-event_bytes (Register id until) has = tt
 event_bytes (Write blob to) has = has
 event_bytes (Send at shard bytes) has = has
-event_bytes (Ack shard id) has = tt
-event_bytes (Attest shard id) has = tt
 event_bytes (Read id replies) has = each written.HasReplyBytes ReplyHasBytes reply_bytes replies has.1
 event_bytes (Recover at shard axis id replies) has = each written.HasReplyBytes ReplyHasBytes reply_bytes replies has.1
-event_bytes (Forget at shard id) has = tt
-event_bytes (Begin owners faulty stays) has = tt
 event_bytes (Ready shard) has = tt
-event_bytes Finish has = tt
-event_bytes (Certificate id) has = tt
-event_bytes (Holders id) has = tt
+event_bytes event has = tt
 
 pub spelled_run : (digest : List ℕ → List ℕ) → IsDigest digest → (input : List ℕ) (s : Schedule) → IsRead input (Ok s) → Possible (HasRun (rules_of digest s.f) s)
 spelled_run digest is input s spells =

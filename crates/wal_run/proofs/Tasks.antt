@@ -6,14 +6,13 @@ use Rattle.wal_words.specs.declared.task.WholeTask.{WholeTask}
 use Rattle.wal_words.specs.declared.task.WholeTask.TheVariants.{Challenge, Check, Encode, Identify, Image, Recover, Replay, Unpack, Bundle, Member, Verify, Gateway}
 use Rattle.wal_words.specs.Task.{HasNumber, IsTask, identify, encode, read, recover, check, serve, replay, sample, image, unpack, bundle, member, challenge, verify, gateway}
 use Rattle.wal_run.specs.Command.{TakesInput, bare, nothing}
-use Rattle.wal_run.specs.inside.Command.{collides, lacks, misreads, rejects, succeeds}
 use Rattle.wal_run.specs.Commands.{command_of, whole_command}
 use Rattle.wal_run.specs.inside.Commands.{IsInRange, IsWholeInRange}
 use Rattle.wal_run.proofs.Blobs.{encoded, identified}
 use Rattle.wal_run.proofs.Bundles.{bundled_once}
 use Rattle.wal_run.proofs.Challenges.{challenged_once}
 use Rattle.wal_run.proofs.Checks.{checked_once}
-use Rattle.wal_run.proofs.CommandLaws.{Determined, Same}
+use Rattle.wal_run.proofs.CommandLaws.{Determined}
 use Rattle.wal_run.proofs.Fetches.{fetched_once}
 use Rattle.wal_run.proofs.ImageLaws.{imaged_once}
 use Rattle.wal_run.proofs.ListingLaws.{unpacked_once}
@@ -61,18 +60,8 @@ in_range words task asked =
 
 -- a command that takes its whole input at once takes one
 pub whole_takes : (digest : List ℕ → List ℕ) (task : WholeTask) → TakesInput (whole_command digest task).grammar
-whole_takes digest (Identify f format) = tt
-whole_takes digest (Encode f format) = tt
-whole_takes digest (Recover id axis index) = tt
-whole_takes digest (Check id) = tt
 whole_takes digest Replay = tt
-whole_takes digest (Image size) = tt
-whole_takes digest Unpack = tt
-whole_takes digest (Bundle f) = tt
-whole_takes digest (Member id k) = tt
-whole_takes digest (Challenge audit) = tt
-whole_takes digest (Verify audit) = tt
-whole_takes digest (Gateway capacity) = tt
+whole_takes digest task = tt
 
 -- EACH COMMAND has one result for an input
 whole_once : (digest : List ℕ → List ℕ) (task : WholeTask) → IsWholeInRange task → Determined digest (whole_command digest task)
@@ -90,14 +79,7 @@ whole_once digest (Verify audit) range = verified_once digest audit
 whole_once digest (Gateway capacity) range = fetched_once digest capacity
 
 bare_once : (digest : List ℕ → List ℕ) → Determined digest (bare 0 nothing)
-bare_once digest input content spells s x t y told other =
-    elim told as (λ u z _. Same u z t y) [
-      | succeeds text is ↦ absurd is
-      | rejects text is ↦ absurd is
-      | lacks text is ↦ absurd is
-      | misreads text is ↦ absurd is
-      | collides left right text clash is ↦ absurd is
-    ]
+bare_once digest input content spells s x t y told other = grind arith
 
 pub determined : (digest : List ℕ → List ℕ) (task : Task) → IsInRange task → Determined digest (command_of digest task)
 determined digest (Whole task) range = whole_once digest task range

@@ -35,26 +35,16 @@ if_ok (Err e) f h = tt
 -- what was put, where there was memory
 pub put_is : (digest : List ℕ → List ℕ) (f shard : ℕ) (log : Log) (old new : Contents) (frame : Frame) (answer : PutAnswer) → IsFrame frame
     → PutsOrWants digest true (desk_of f shard None log) old frame answer new → IsAnswered answer → PutsFrame digest f log shard old frame answer new
-put_is digest f shard log old new frame putting.Stored fit h a = (fit, h)
-put_is digest f shard log old new frame putting.Held fit h a = (fit, h)
-put_is digest f shard log old new frame putting.Unregistered fit h a = (fit, h)
-put_is digest f shard log old new frame putting.NoMetadata fit h a = (fit, h)
-put_is digest f shard log old new frame putting.Unverified fit h a = (fit, h)
-put_is digest f shard log old new frame (putting.OtherMetadata clash) fit h a = (fit, h)
 put_is digest f shard log old new frame (putting.Full needed free) fit h a = absurd a
 put_is digest f shard log old new frame putting.Memory fit h a = absurd a
+put_is digest f shard log old new frame answer fit h a = (fit, h)
 
 -- a keep without a limit is never full
 pub answered_is : (digest : List ℕ → List ℕ) (f shard : ℕ) (log : Log) (old new : Contents) (frame : Frame) (answer : PutAnswer)
     → PutsOrWants digest true (desk_of f shard None log) old frame answer new → (answer ≡ putting.Memory → ⊥) → IsAnswered answer
-answered_is digest f shard log old new frame putting.Stored h m = tt
-answered_is digest f shard log old new frame putting.Held h m = tt
-answered_is digest f shard log old new frame putting.Unregistered h m = tt
-answered_is digest f shard log old new frame putting.NoMetadata h m = tt
-answered_is digest f shard log old new frame putting.Unverified h m = tt
-answered_is digest f shard log old new frame (putting.OtherMetadata clash) h m = tt
 answered_is digest f shard log old new frame (putting.Full needed free) h m = absurd (let e : ◌≡◌ {A = Option ℕ} None (Some free) = h.2 in cc)
 answered_is digest f shard log old new frame putting.Memory h m = m refl
+answered_is digest f shard log old new frame answer h m = tt
 
 -- the step of bytes that are a frame
 pub send_step : (digest : List ℕ → List ℕ) (f : ℕ) (old new : World) (side : Side) (shard : ℕ) (bytes : List ℕ) (frame : Frame) (contents : Contents)

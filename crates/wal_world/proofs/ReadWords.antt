@@ -43,10 +43,9 @@ told_reject digest f old new id payloads e (taken.Collision c) reads h =
     (h.0, (another_answer reading.Reject verdict.Reject e reads refl h.1, h.2))
 
 reads_of : (r : Rules) (w new : World) (id : BlobId) (replies : List Reply) (word : ReadWord) → ReadsOn r w id (read_payloads r w id replies) word new → ReadStep r w id replies word new
-reads_of r w new id replies (reading.Bytes bytes) h = record { evidence = h.evidence; reads = h.reads; agrees = h.agreed.0; state = h.agreed.1 }
-reads_of r w new id replies reading.Reject h = record { evidence = h.evidence; reads = h.reads; agrees = h.agreed.0; state = h.agreed.1 }
 reads_of r w new id replies (reading.Short have need) h = h
 reads_of r w new id replies reading.NoMetadata h = h
+reads_of r w new id replies word h = record { evidence = h.evidence; reads = h.reads; agrees = h.agreed.0; state = h.agreed.1 }
 
 collides_of : (r : Rules) (w : World) (id : BlobId) (replies : List Reply) → CollidesOn r w id (read_payloads r w id replies) → ReadCollides r w id replies
 collides_of r w id replies (both_metadata h) = two_metadata h

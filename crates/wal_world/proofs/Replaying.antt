@@ -46,9 +46,8 @@ rose_since a b c less (inr most) = inr most
 
 appends_kept : (a b c : Option (List ℕ)) (text : List ℕ) → Appends a b text → Keeps b c → Appends a c text
 appends_kept None b c text put kept = tt
-appends_kept (Some x) None c text put kept = absurd put
-appends_kept (Some x) (Some y) None text put kept = absurd kept
 appends_kept (Some x) (Some y) (Some z) text put kept = kept ∙ put
+appends_kept a b c text put kept = absurd assumption
 
 report_push : (lines : List Line) (said : Line) → report_of (lines ++ said ∷ []) ≡ report_of lines ++ line_text said
 report_push lines said = flat_map-append line_text lines (said ∷ []) ∙ ap (λ t. report_of lines ++ t) (append-nil (line_text said))

@@ -53,10 +53,7 @@ runs_few r old (e ∷ events) (s ∷ states) (l ∷ lines) run on = omega (arith
     rest_of : (b : Bool) → b ≡ false → cond b ((states ≡ []) × (lines ≡ [])) (Runs r s events states lines) → Runs r s events states lines
     rest_of true none h = cc
     rest_of false none h = h
-runs_few r old [] (s ∷ states) lines run on = absurd run
-runs_few r old [] [] (l ∷ lines) run on = absurd run
-runs_few r old (e ∷ events) [] lines run on = absurd run
-runs_few r old (e ∷ events) (s ∷ states) [] run on = absurd run
+runs_few r old events states lines run on = absurd run
 
 module _ (r : Rules) (s : Schedule) where
   pub summing_first : (w : World) (t : Tally) → w ≡ first_state s → IsTally [] t → IsSumming r s 0 w t

@@ -100,10 +100,7 @@ state format log xs now ys next few answers =
 same_state : (format u : Format) (log l : Log) (xs vs : List ℕ) (now m : List Contents) (ys ws : List ℕ) (next k : List Contents) (few b : Bool) (answers a : Answers)
     → format ≡ u → log ≡ l → xs ≡ vs → now ≡ m → ys ≡ ws → next ≡ k → few ≡ b → answers ≡ a
     → state format log xs now ys next few answers ≡ state u l vs m ws k b a
-same_state format u log l xs vs now m ys ws next k few b answers a e0 e1 e2 e3 e4 e5 e6 e7 =
-    ap (λ x. state x log xs now ys next few answers) e0 ∙ (ap (λ x. state u x xs now ys next few answers) e1 ∙ (ap (λ x. state u l x now ys next few answers) e2
-    ∙ (ap (λ x. state u l vs x ys next few answers) e3 ∙ (ap (λ x. state u l vs m x next few answers) e4 ∙ (ap (λ x. state u l vs m ws x few answers) e5
-    ∙ (ap (λ x. state u l vs m ws k x answers) e6 ∙ ap (λ x. state u l vs m ws k b x) e7))))))
+same_state format u log l xs vs now m ys ws next k few b answers a e0 e1 e2 e3 e4 e5 e6 e7 = cc
 
 -- the epoch begins to change
 pub no_refusal : (l : LedgerState) (owners faulty stays : List ℕ) (error : BeginError) → IsBeginError l owners faulty stays error → MayBegin l.log owners faulty stays → 0 < l.spare → ⊥
