@@ -190,12 +190,10 @@ module _ (digest : List ℕ → List ℕ) (old new : World) (side : Side) (shard
   word_step : (word : RecoverWord) → RecoversInWorld digest old side shard axis id payloads word new → (Two → ⊥) → RecoverStep (rules_of digest old.log.f) old side shard axis id replies word new
   word_step recovering.NoMetadata on one = (on.0, runs recovering.NoMetadata on one, stays on.0 on.1.1 on.2)
   word_step (recovering.Short have need) on one = (on.0, runs (recovering.Short have need) on one, stays on.0 on.1.5 on.2)
-  word_step (recovering.Sliver bytes) on one = (on.0, runs (recovering.Sliver bytes) on one, on.2)
-  word_step recovering.Inconsistent on one = (on.0, runs recovering.Inconsistent on one, on.2)
-  word_step recovering.Proof on one = (on.0, runs recovering.Proof on one, on.2)
   word_step recovering.Absent on one = absurd on.1
   word_step recovering.Ignored on one = absurd on.1
   word_step recovering.Unregistered on one = absurd on.1
+  word_step word on one = (on.0, runs word on one, on.2)
 
   taken_step : (r : Result (Taken RecoverWord) AllocError)
       → IfOk r (IsTaken digest (λ word. RecoversInWorld digest old side shard axis id payloads word new × (Two → ⊥)) (Two × (new ≡ old)))

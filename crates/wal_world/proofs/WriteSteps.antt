@@ -53,12 +53,8 @@ module _ (digest : List ℕ → List ℕ) where
           → PutsTo digest w side ((shard, frame) ∷ []) o new
       by (putting.OtherMetadata m) (Some c) q t = put_clashes digest w new side shard frame contents m c q is t.0 t.1
       by (putting.OtherMetadata m) None q t = absurd t
-      by putting.Stored None q t = put_stays digest w new side shard frame contents putting.Stored refl q is
-      by putting.Held None q t = put_stays digest w new side shard frame contents putting.Held refl q is
-      by putting.Unregistered None q t = put_stays digest w new side shard frame contents putting.Unregistered refl q is
-      by putting.NoMetadata None q t = put_stays digest w new side shard frame contents putting.NoMetadata refl q is
-      by putting.Unverified None q t = put_stays digest w new side shard frame contents putting.Unverified refl q is
-      by _ _ q t = absurd t
+      by a None q t = put_stays digest w new side shard frame contents a refl q is
+      by a (Some c) q t = absurd t
 
   -- ---- what is sent to one shard
 
@@ -127,9 +123,7 @@ same_text (Some xs) text false h = by (pointwise nat_eq xs text) refl
 
 all_three : (a b c : Bool) → (a && (b && c)) ≡ (a && (b && (c && true)))
 all_three true true true = refl
-all_three true true false = refl
-all_three true false c = refl
-all_three false b c = refl
+all_three a b c = refl
 
 has_sent : (p : Parts) (x : Written) (shard : ℕ) (a slivers : Bool) → (IsTrue a ↔ (p.metadata ≡ Some (metadata_text x.metadata)))
     → slivers ≡ (is_some p.primary && is_some p.secondary) → (a && slivers) ≡ has_frames (messages_of x shard) p
