@@ -98,8 +98,7 @@ module _ (digest : List ℕ → List ℕ) where
       → PutsTo digest w side ((shard, frame) ∷ []) None new
   put_stays w new side shard frame contents answer stays p same =
       let mid : Committee = with_contents (side_of side w) shard contents in
-      let M : Bool → Type 0 = λ stops. cond stops ((false ≡ true) × (mid ≡ side_of side w)) ((false ≡ false) × (mid ≡ mid)) in
-      record { mid = mid; puts = (answer, contents, p, subst M (sym stays) (refl, refl)); state = same; collides = tt }
+      record { mid = mid; puts = (answer, contents, p, rw stays (refl, refl)); state = same; collides = tt }
 
   -- one that does
   pub put_clashes : (w new : World) (side : Side) (shard : ℕ) (frame : Frame) (contents : Contents) (clash : MetaClash) (c : Collision)

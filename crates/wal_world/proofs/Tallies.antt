@@ -105,11 +105,10 @@ pub tally_push : (said : Line) (before after : Tally) (size : Option ℕ) → af
     → after.recovered ≡ before.recovered + cond (is_some (sliver_in said)) 1 0
     → after.least_holders ≡ reduce min (option_to_list before.least_holders ++ option_to_list (holders_in said)) → Counts said before after
 tally_push said before after size events certified sized reads bytes recovered least lines is =
-    let From : List BlobId → Type 0 = λ l. IsFromIterResult id_cmp l after.certified in
     let flag : is_some size ≡ is_some (bytes_in said) = ap (λ (o : Option ℕ). is_some o) sized ∙ sized_flag (bytes_in said) in
     record {
       events = omega (arith, events, is.events, length-append lines (said ∷ []));
-      certified = subst From (sym (given_push certified_in lines said)) (certified (filter_map certified_in lines) is.certified);
+      certified = subst (λ (l : List BlobId). IsFromIterResult id_cmp l after.certified) (sym (given_push certified_in lines said)) (certified (filter_map certified_in lines) is.certified);
       reads = reads ∙ ap (λ b. before.reads + cond b 1 0) flag ∙ count_push bytes_in lines said before.reads is.reads;
       bytes = bytes ∙ ap (λ (o : Option ℕ). min (before.bytes + unwrap_or o 0) (2 ^ 64 - 1)) sized ∙ sum_push lines said before.bytes is.bytes;
       recovered = recovered ∙ count_push sliver_in lines said before.recovered is.recovered;
