@@ -11,7 +11,7 @@ use Rattle.wal_shape.specs.declared.metadata.BlobId.{BlobId}
 use Rattle.wal_ledger.specs.Shards.{committee_size, count_below}
 use Rattle.wal_protocol.specs.State.{World, holders, is_present, settled_in, side_of, writing_side}
 use Rattle.wal_world.specs.inside.Books.{ledger_of, faulty_on, AreBooks, books_with}
-use Rattle.wal_world.specs.inside.Network.{world_of, contents_in, AreNext, AreShards, IsNetwork, with_ledger}
+use Rattle.wal_world.specs.inside.Network.{world_of, AreNext, AreShards, IsNetwork, with_ledger}
 use Rattle.wal_world.specs.declared.books.Books.{Books}
 use Rattle.wal_world.specs.declared.books.Books.TheVariants.{Serving, Moving}
 use Rattle.wal_world.specs.declared.network.Network.{Network}
@@ -33,16 +33,12 @@ ledger_entered None l books = absurd books
 
 faulty_entered : (side : Side) (b : Option Books) (l : LedgerState) → faulty_on side (books_with b l) ≡ faulty_on side b
 faulty_entered Now (Some (Serving s)) l = refl
-faulty_entered Now (Some (Moving m)) l = refl
 faulty_entered Next (Some (Moving m)) l = refl
-faulty_entered Next (Some (Serving s)) l = refl
-faulty_entered Now None l = refl
-faulty_entered Next None l = refl
+faulty_entered side b l = refl
 
 network_entered : {H : Type 0} (n : Network H) (l : LedgerState) → IsNetwork n → SameEpoch (ledger_of n.books).log l.log → IsNetwork (with_ledger n l)
 network_entered n l is same =
-    let P : LedgerState → Type 0 = λ x. x.log.f ≡ (ledger_of n.books).log.f in
-    let f : (ledger_of (books_with n.books l)).log.f ≡ (ledger_of n.books).log.f = subst P (sym (ledger_entered n.books l is.books)) same.f in
+    let f : (ledger_of (books_with n.books l)).log.f ≡ (ledger_of n.books).log.f = ap (λ (x : LedgerState). x.log.f) (ledger_entered n.books l is.books) ∙ same.f in
     record {
       books = books_entered n.books l is.books same.moving;
       shards_now = subst (λ k. AreShards k n.sides.serving.shards.items) (sym f) is.shards_now;
@@ -62,11 +58,7 @@ pub entered_world : {H : Type 0} (n : Network H) (b : Option Books) → b ≡ bo
 entered_world n b rest =
     let now : faulty_on Now b ≡ faulty_on Now n.books = ap (faulty_on Now) rest ∙ faulty_entered Now n.books (ledger_of b) in
     let next : faulty_on Next b ≡ faulty_on Next n.books = ap (faulty_on Next) rest ∙ faulty_entered Next n.books (ledger_of b) in
-    let W : List ℕ → List ℕ → World = λ xs ys. record (world_of (record n { books = b })) {
-      now = record { faulty = xs; shards = contents_in n.sides.serving.shards.items };
-      next = record { faulty = ys; shards = contents_in n.sides.next.shards.items };
-    } in
-    ap (λ xs. W xs (faulty_on Next b)) now ∙ ap (λ ys. W (faulty_on Now n.books) ys) next
+    cc
 
 -- an entry takes the room that it needs
 pub room_taken : (old new : LedgerState) (body : Body) → new ≡ takes_in old body → 0 < old.spare → new.spare + length new.log.entries ≡ old.spare + length old.log.entries
@@ -80,10 +72,7 @@ same_world w v log e same = e ∙ ap (λ x. record w { log = x }) same
 
 -- the writing side is present, and its owners are those of the writing epoch
 pub writing_there : (w : World) → is_present (writing_side w) w ≡ true
-writing_there w = cases (is_moving w.log) refl where
-  cases : (b : Bool) → is_moving w.log ≡ b → is_present (cond b Next Now) w ≡ true
-  cases true e = e
-  cases false e = refl
+writing_there w = grind arith
 
 pub writing_owners : (w : World) → owners_of (writing_side w) w.log ≡ owners_of Next w.log
 writing_owners w = cases (is_moving w.log) refl where
@@ -96,6 +85,5 @@ pub counted_at : (w : World) (id : BlobId) (log : Log) (side : Side) (k count : 
     → count ≡ count_below k (settled_in (side_of side w) id) → count ≡ holders w id
 counted_at w id log side k count same home last is =
     let here : side ≡ home_of w.log id = home ∙ ap (λ l. home_of l id) same in
-    let At : ℕ → Type 0 = λ n. count ≡ count_below n (settled_in (side_of side w) id) in
-    let In : Side → Type 0 = λ s. count ≡ count_below (committee_size w.log.f) (settled_in (side_of s w) id) in
-    subst In here (subst At last is)
+    subst (λ (s : Side). count ≡ count_below (committee_size w.log.f) (settled_in (side_of s w) id)) here
+    (subst (λ (n : ℕ). count ≡ count_below n (settled_in (side_of side w) id)) last is)

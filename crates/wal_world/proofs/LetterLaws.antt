@@ -1,7 +1,6 @@
 -- Puts of frames, one after the other, come to what the puts of all of them do.
-use Rattle.std.proofs.Common.{◌≡◌, ℕ, Bool, true, false, cond, List, [], ◌∷◌, ◌++◌, Option, Some, None, is_some, refl, sym, ap, ◌∙◌, subst}
+use Rattle.std.proofs.Common.{◌≡◌, ℕ, Bool, true, false, cond, List, [], ◌∷◌, ◌++◌, Option, Some, None, is_some, refl, sym, ap, ◌∙◌, subst, arith}
 use Rattle.wal_shape.specs.declared.axis.Side.{Side}
-use Rattle.wal_shape.specs.declared.axis.Side.TheVariants.{Now, Next}
 use Rattle.wal_shape.specs.declared.text.Collision.{Collision}
 use Rattle.wal_frame.specs.Frame.{Frame, IsFrame, frame_text}
 use Rattle.wal_frame.proofs.FrameLaws.{read_again}
@@ -18,44 +17,33 @@ use Rattle.wal_world.specs.inside.Letters.{PutsTo, Continues, frame_in, frame_re
 use Rattle.wal_protocol.specs.Step.{PutsEach, is_clash}
 use Rattle.wal_world.proofs.Placing.{keeps_same}
 
+either : {P Q R S : Type 0} (b : Bool) → cond b P R → (P → Q) → (R → S) → cond b Q S
+either true h f g = f h
+either false h f g = g h
+
 -- puts without a clash, and more of them
 pub each_append : (r : Rules) (log : Log) (c mid new : Committee) (a b : List (ℕ × Frame)) (clashed : Bool)
     → PutsEach r log c a false mid → PutsEach r log mid b clashed new → PutsEach r log c (a ++ b) clashed new
 each_append r log c mid new [] b clashed h k = subst (λ (x : Committee). PutsEach r log x b clashed new) h.1 k
-each_append r log c mid new (p ∷ more) b clashed h k = (h.0, h.1, h.2, by (is_clash h.0) h.3 (λ g. each_append r log (with_contents c p.0 h.1) mid new more b clashed g k))
-  where
-    by : (stops : Bool) → cond stops ((false ≡ true) × (mid ≡ c)) (PutsEach r log (with_contents c p.0 h.1) more false mid)
-        → (PutsEach r log (with_contents c p.0 h.1) more false mid → PutsEach r log (with_contents c p.0 h.1) (more ++ b) clashed new)
-        → cond stops ((clashed ≡ true) × (new ≡ c)) (PutsEach r log (with_contents c p.0 h.1) (more ++ b) clashed new)
-    by true g go = absurd (let e : false ≡ true = g.0 in cc)
-    by false g go = go g
+each_append r log c mid new (p ∷ more) b clashed h k =
+    (h.0, h.1, h.2, either (is_clash h.0) h.3 (λ g. let e : false ≡ true = g.0 in absurd cc) (λ g. each_append r log (with_contents c p.0 h.1) mid new more b clashed g k))
 
 -- puts up to a clash
 pub each_stops : (r : Rules) (log : Log) (c new : Committee) (a b : List (ℕ × Frame)) → PutsEach r log c a true new → PutsEach r log c (a ++ b) true new
 each_stops r log c new [] b h = absurd (let e : true ≡ false = h.0 in cc)
-each_stops r log c new (p ∷ more) b h = (h.0, h.1, h.2, by (is_clash h.0) h.3 (λ g. each_stops r log (with_contents c p.0 h.1) new more b g))
-  where
-    by : (stops : Bool) → cond stops ((true ≡ true) × (new ≡ c)) (PutsEach r log (with_contents c p.0 h.1) more true new)
-        → (PutsEach r log (with_contents c p.0 h.1) more true new → PutsEach r log (with_contents c p.0 h.1) (more ++ b) true new)
-        → cond stops ((true ≡ true) × (new ≡ c)) (PutsEach r log (with_contents c p.0 h.1) (more ++ b) true new)
-    by true g go = g
-    by false g go = go g
+each_stops r log c new (p ∷ more) b h = (h.0, h.1, h.2, either (is_clash h.0) h.3 (λ g. g) (λ g. each_stops r log (with_contents c p.0 h.1) new more b g))
 
 side_same : (side : Side) (w : World) → with_side side w (side_of side w) ≡ w
-side_same Now w = refl
-side_same Next w = refl
+side_same side w = grind arith
 
 side_back : (side : Side) (w : World) (c : Committee) → side_of side (with_side side w c) ≡ c
-side_back Now w c = refl
-side_back Next w c = refl
+side_back side w c = grind arith
 
 pub side_log : (side : Side) (w : World) (c : Committee) → (with_side side w c).log ≡ w.log
-side_log Now w c = refl
-side_log Next w c = refl
+side_log side w c = grind arith
 
 side_twice : (side : Side) (w : World) (c d : Committee) → with_side side (with_side side w c) d ≡ with_side side w d
-side_twice Now w c d = refl
-side_twice Next w c d = refl
+side_twice side w c d = grind arith
 
 module _ (digest : List ℕ → List ℕ) where
   -- no puts
@@ -110,8 +98,7 @@ module _ (digest : List ℕ → List ℕ) where
       → PutsTo digest w side ((shard, frame) ∷ []) None new
   put_stays w new side shard frame contents answer stays p same =
       let mid : Committee = with_contents (side_of side w) shard contents in
-      let M : Bool → Type 0 = λ stops. cond stops ((false ≡ true) × (mid ≡ side_of side w)) ((false ≡ false) × (mid ≡ mid)) in
-      record { mid = mid; puts = (answer, contents, p, subst M (sym stays) (refl, refl)); state = same; collides = tt }
+      record { mid = mid; puts = (answer, contents, p, rw stays (refl, refl)); state = same; collides = tt }
 
   -- one that does
   pub put_clashes : (w new : World) (side : Side) (shard : ℕ) (frame : Frame) (contents : Contents) (clash : MetaClash) (c : Collision)

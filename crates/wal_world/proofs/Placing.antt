@@ -1,7 +1,6 @@
 -- One shard of a network changes what it holds: what the network is then.
-use Rattle.std.proofs.Common.{◌≡◌, ◌≢◌, ℕ, ◌<◌, ◌≤◌, List, [], ◌∷◌, length, map, get_or, slice_set, slice_index_or, Bool, true, false, cond, ◌&&◌, not, Option, Some, None, Result, Ok, Err, OnOk, OnErr, ◌⊎◌, inl, inr, refl, sym, ap, ◌∙◌, subst, arith}
+use Rattle.std.proofs.Common.{◌≡◌, ◌≢◌, ℕ, ◌<◌, List, length, get_or, slice_set, slice_index_or, true, false, Option, Some, None, Result, Ok, Err, OnOk, OnErr, ◌⊎◌, inl, inr, refl, sym, ap, ◌∙◌, subst, arith}
 use Rattle.std.specs.FinMap as finmap
-use Rattle.std.specs.FinMap.{from_sorted}
 use Rattle.std.proofs.lemmas.Bool.{cases_eq}
 use Rattle.std.proofs.lemmas.List.{map-set, length-set, set-get_or, get_or-set_same, get_or-set_other}
 use Rattle.wal_shape.specs.declared.metadata.BlobId.{BlobId}
@@ -21,7 +20,7 @@ use Rattle.wal_world.specs.declared.members.Members.{Members}
 use Rattle.wal_world.specs.declared.members.Sides.{Sides}
 use Rattle.wal_world.specs.declared.network.Network.{Network}
 use Rattle.wal_protocol.specs.State.{World, side_of, is_present, is_correct, contents_of, with_contents, keeps}
-use Rattle.wal_world.specs.inside.Books.{ledger_of, faulty_on, AreBooks}
+use Rattle.wal_world.specs.inside.Books.{ledger_of, AreBooks}
 use Rattle.wal_world.specs.inside.Network.{IsNetwork, IsShardAt, AreShards, AreNext, contents_in, shards_of, world_of}
 use Rattle.wal_world.specs.inside.Members.{members_of, with_members}
 use Rattle.wal_world.specs.inside.Placed.{LetsGo, Places, contents_at, placed, opposite}
@@ -59,20 +58,12 @@ places_world Now old new shard contents p =
     let here : contents_in new.sides.serving.shards.items ≡ slice_set (contents_in old.sides.serving.shards.items) shard contents
     = ap contents_in p.shards ∙ contents_placed (ledger_of old.books).log.f old.sides.serving.shards.items shard contents in
     let there : contents_in new.sides.next.shards.items ≡ contents_in old.sides.next.shards.items = ap contents_in p.others in
-    let format : new.format ≡ old.format = p.format in
-    let books : new.books ≡ old.books = p.books in
-    let few : new.few ≡ old.few = p.few in
-    let answers : new.answers ≡ old.answers = p.answers in
-    cc
+    let format = p.format in let books = p.books in let few = p.few in let answers = p.answers in cc
 places_world Next old new shard contents p =
     let here : contents_in new.sides.next.shards.items ≡ slice_set (contents_in old.sides.next.shards.items) shard contents
     = ap contents_in p.shards ∙ contents_placed (ledger_of old.books).log.f old.sides.next.shards.items shard contents in
     let there : contents_in new.sides.serving.shards.items ≡ contents_in old.sides.serving.shards.items = ap contents_in p.others in
-    let format : new.format ≡ old.format = p.format in
-    let books : new.books ≡ old.books = p.books in
-    let few : new.few ≡ old.few = p.few in
-    let answers : new.answers ≡ old.answers = p.answers in
-    cc
+    let format = p.format in let books = p.books in let few = p.few in let answers = p.answers in cc
 
 pub places_network : {H : Type 0} (side : Side) (old new : Network H) (shard : ℕ) (contents : Contents) → Places side old shard contents new
     → IsNetwork old → is_present side (world_of old) ≡ true → IsNetwork new
@@ -154,9 +145,8 @@ placed_at {H} at old new was m shard ledger P lent same format books few answers
   where
     h : (x : Contents) × P (ledger_of old.books).log (contents_at (shards_of at old) shard) x × (m.shards.items ≡ placed (ledger_of old.books).log.f (shards_of at old) shard x)
     h =
-        let M : Members H → Type 0 = λ w. (x : Contents) × P ledger.log (contents_at w.shards.items shard) x × (m.shards.items ≡ placed ledger.log.f w.shards.items shard x) in
-        let N : LedgerState → Type 0 = λ l. (x : Contents) × P l.log (contents_at (shards_of at old) shard) x × (m.shards.items ≡ placed l.log.f (shards_of at old) shard x) in
-        subst N same (subst M lent did)
+        subst (λ (l : LedgerState). (x : Contents) × P l.log (contents_at (shards_of at old) shard) x × (m.shards.items ≡ placed l.log.f (shards_of at old) shard x)) same
+        (subst (λ (w : Members H). (x : Contents) × P ledger.log (contents_at w.shards.items shard) x × (m.shards.items ≡ placed ledger.log.f w.shards.items shard x)) lent did)
 
     holds : (s : Side) → contents_at (shards_of s old) shard ≡ contents_of (side_of s (world_of old)) shard
     holds Now = refl
@@ -183,12 +173,7 @@ members_reach at n m shard lent is there less =
 
 -- a shard that is there and not faulty is correct
 pub correct_is : (side : Side) (w : World) (shard : ℕ) → is_present side w ≡ true → among (side_of side w).faulty shard ≡ false → is_correct side w shard ≡ true
-correct_is side w shard there fine = by (is_present side w) (among (side_of side w).faulty shard) there fine
-  where
-    by : (a b : Bool) → a ≡ true → b ≡ false → (a && not b) ≡ true
-    by true false h k = refl
-    by true true h k = cc
-    by false b h k = cc
+correct_is side w shard there fine = grind arith
 
 -- what a shard's answer to forgetting says of what it holds
 pub lets_go : (log : Log) (old new : ShardState) (m : Contents) (id : BlobId) (result : Result (Unit {0}) Declined) → m ≡ old.contents

@@ -1,8 +1,6 @@
 -- What is put to a shard of a network, and what is said of it.
-use Rattle.std.proofs.Common.{◌≡◌, ℕ, ◌<◌, ◌≤◌, List, Bool, true, false, cond, ◌&&◌, not, Option, Some, None, Result, Ok, Err, IfOk, OnOk, slice_index_or, length, refl, sym, ap, ◌∙◌, subst, arith}
+use Rattle.std.proofs.Common.{◌≡◌, ℕ, ◌<◌, List, true, Option, Some, None, Result, Ok, Err, IfOk, OnOk, slice_index_or, length, refl, sym, ap, ◌∙◌, subst}
 use Rattle.wal_shape.specs.declared.axis.Side.{Side}
-use Rattle.wal_shape.specs.declared.axis.Side.TheVariants.{Now, Next}
-use Rattle.wal_shape.specs.Owners.{among}
 use Rattle.wal_tree.specs.Collision.{IsCollision}
 use Rattle.wal_frame.specs.Frame.{Frame, IsFrame}
 use Rattle.wal_event.specs.declared.line.SendWord.{SendWord}
@@ -11,18 +9,18 @@ use Rattle.wal_ledger.specs.Ledger.{Log}
 use Rattle.wal_store.specs.Contents.{Contents}
 use Rattle.wal_shard.specs.declared.answers.PutAnswer.{PutAnswer}
 use Rattle.wal_shard.specs.declared.answers.PutAnswer.TheVariants as putting
-use Rattle.wal_shard.specs.Putting.{PutDesk, Puts, PutsOrWants}
+use Rattle.wal_shard.specs.Putting.{PutDesk, PutsOrWants}
 use Rattle.wal_shard.specs.State.{ShardState, desk_of}
 use Rattle.wal_shard.specs.State as shard_state
-use Rattle.wal_protocol.specs.State.{World, side_of, is_present, is_correct, contents_of, keeps}
-use Rattle.wal_protocol.specs.Step.{SendStep, SendCollides, IsPut, Refused, is_clash}
+use Rattle.wal_protocol.specs.State.{World, side_of, is_correct, contents_of, keeps}
+use Rattle.wal_protocol.specs.Step.{SendStep, SendCollides, Refused}
 use Rattle.wal_theorem.specs.Instance.{IsPutFrame, PutsFrame, rules_of}
 use Rattle.wal_world.specs.inside.Taken.{IsAnswered, IsTaken, Tells}
 use Rattle.wal_world.specs.declared.taken.Taken.{Taken}
 use Rattle.wal_world.specs.declared.taken.Taken.TheVariants as taken
 use Rattle.wal_world.specs.inside.Network.{AreShards, IsShardAt}
 use Rattle.wal_world.specs.inside.Placed.{contents_at}
-use Rattle.wal_world.proofs.Placing.{keeps_same, held_by, placed_by, shard_at}
+use Rattle.wal_world.proofs.Placing.{keeps_same, held_by, shard_at}
 
 pub on_ok : {A E P : Type 0} (r : Result A E) → P → OnOk r P
 on_ok (Ok x) p = p
@@ -35,7 +33,6 @@ if_ok (Err e) f h = tt
 -- what was put, where there was memory
 pub put_is : (digest : List ℕ → List ℕ) (f shard : ℕ) (log : Log) (old new : Contents) (frame : Frame) (answer : PutAnswer) → IsFrame frame
     → PutsOrWants digest true (desk_of f shard None log) old frame answer new → IsAnswered answer → PutsFrame digest f log shard old frame answer new
-put_is digest f shard log old new frame (putting.Full needed free) fit h a = absurd a
 put_is digest f shard log old new frame putting.Memory fit h a = absurd a
 put_is digest f shard log old new frame answer fit h a = (fit, h)
 

@@ -1,8 +1,7 @@
 -- What a read is said to come to.
-use Rattle.std.proofs.Common.{◌≡◌, ℕ, List, Option, Some, None, refl, sym, ap, ◌∙◌, subst}
+use Rattle.std.proofs.Common.{◌≡◌, ℕ, List, Option, Some, refl, sym, subst}
 use Rattle.wal_shape.specs.declared.metadata.BlobId.{BlobId}
 use Rattle.wal_evidence.specs.declared.evidence.Evidence.{Evidence}
-use Rattle.wal_evidence.specs.declared.evidence.Verdict.{Verdict}
 use Rattle.wal_evidence.specs.declared.evidence.Verdict.TheVariants as verdict
 use Rattle.wal_event.specs.declared.event.Reply.{Reply}
 use Rattle.wal_event.specs.declared.line.ReadWord.{ReadWord}
@@ -43,9 +42,9 @@ told_reject digest f old new id payloads e (taken.Collision c) reads h =
     (h.0, (another_answer reading.Reject verdict.Reject e reads refl h.1, h.2))
 
 reads_of : (r : Rules) (w new : World) (id : BlobId) (replies : List Reply) (word : ReadWord) → ReadsOn r w id (read_payloads r w id replies) word new → ReadStep r w id replies word new
-reads_of r w new id replies (reading.Short have need) h = h
-reads_of r w new id replies reading.NoMetadata h = h
-reads_of r w new id replies word h = record { evidence = h.evidence; reads = h.reads; agrees = h.agreed.0; state = h.agreed.1 }
+reads_of r w new id replies (reading.Bytes bytes) h = record { evidence = h.evidence; reads = h.reads; agrees = h.agreed.0; state = h.agreed.1 }
+reads_of r w new id replies reading.Reject h = record { evidence = h.evidence; reads = h.reads; agrees = h.agreed.0; state = h.agreed.1 }
+reads_of r w new id replies word h = h
 
 collides_of : (r : Rules) (w : World) (id : BlobId) (replies : List Reply) → CollidesOn r w id (read_payloads r w id replies) → ReadCollides r w id replies
 collides_of r w id replies (both_metadata h) = two_metadata h

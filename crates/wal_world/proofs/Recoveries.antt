@@ -46,11 +46,8 @@ own_is digest f id p (Some m) a b = a
 own_is digest f id p None a b = b
 
 -- the bytes that are held are those of the one that is known
-same_text : (parts : Parts) (m own : BlobMetadata) → own ≡ m → HoldsMetadata parts own → (bytes : List ℕ) → parts.metadata ≡ Some bytes → bytes ≡ metadata_text m
-same_text parts m own is holds bytes at =
-    let e : ◌≡◌ {A = Option (List ℕ)} (Some bytes) (Some (metadata_text own)) = sym at ∙ holds.spelled in
-    let f : bytes ≡ metadata_text own = cc in
-    f ∙ ap metadata_text is
+same_text : (parts : Parts) (own : BlobMetadata) → HoldsMetadata parts own → (bytes : List ℕ) → parts.metadata ≡ Some bytes → bytes ≡ metadata_text own
+same_text parts own holds bytes at = let e : ◌≡◌ {A = Option (List ℕ)} (Some bytes) (Some (metadata_text own)) = sym at ∙ holds.spelled in cc
 
 -- what a shard holds is the one that is known
 pub same_held : (digest : List ℕ → List ℕ) (old mid : World) (side : Side) (shard : ℕ) (id : BlobId) (payloads : List (List ℕ)) (m : BlobMetadata) → mid ≡ old
@@ -62,48 +59,37 @@ same_held digest old mid side shard id payloads m same only other at =
 -- ---- what is known
 
 module _ (digest : List ℕ → List ℕ) (f : ℕ) (id : BlobId) (parts : Parts) (payloads : List (List ℕ)) where
-  pub only_own : (own : BlobMetadata) → ((m : BlobMetadata) → HasMetadata digest id.0 payloads m → ⊥) → IsHeldMetadata digest f id.0 parts (Some own) → IsOnly digest id parts payloads own
-  only_own own none h = record {
-    known = inr h.held;
-    only = held_alone digest id parts payloads own none h.held;
-    commits = h.commits;
-    same = same_text parts own own refl h.held;
-  }
+  -- of an option that is this one
+  is_held : (o p : Option BlobMetadata) → o ≡ p → IsHeldMetadata digest f id.0 parts o → IsHeldMetadata digest f id.0 parts p
+  is_held o p is h = subst (λ (x : Option BlobMetadata). IsHeldMetadata digest f id.0 parts x) is h
 
-  pub only_carried : (m : BlobMetadata) → IsMetadataIn digest id.0 payloads m → Commits digest id.0 m → IsHeldMetadata digest f id.0 parts None → IsOnly digest id parts payloads m
-  only_carried m is commits h = record {
-    known = inl is.0;
-    only = known_alone digest id parts payloads m is h;
-    commits = commits;
-    same = λ bytes at. absurd (none_some parts.metadata bytes h at);
-  }
-
-  pub only_both : (m own : BlobMetadata) → IsMetadataIn digest id.0 payloads m → own ≡ m → IsHeldMetadata digest f id.0 parts (Some own) → IsOnly digest id parts payloads own
-  only_both m own is same h = record {
-    known = inr h.held;
-    only = λ other knows. known_beside digest id parts payloads m is (subst (λ (x : BlobMetadata). HoldsMetadata parts x) same h.held) other knows ∙ sym same;
-    commits = h.commits;
-    same = same_text parts own own refl h.held;
-  }
-
-  -- the same of an option that is that
   pub only_held : (own : BlobMetadata) (o : Option BlobMetadata) → ((m : BlobMetadata) → HasMetadata digest id.0 payloads m → ⊥) → o ≡ Some own → IsHeldMetadata digest f id.0 parts o
       → IsOnly digest id parts payloads own
-  only_held own o none is h = only_own own none (subst (λ (x : Option BlobMetadata). IsHeldMetadata digest f id.0 parts x) is h)
+  only_held own o none is at =
+      let h = is_held o (Some own) is at in
+      record { known = inr h.held; only = held_alone digest id parts payloads own none h.held; commits = h.commits; same = same_text parts own h.held }
 
   pub none_both : (o : Option BlobMetadata) → ((m : BlobMetadata) → HasMetadata digest id.0 payloads m → ⊥) → o ≡ None → IsHeldMetadata digest f id.0 parts o
       → (m : BlobMetadata) → Knows digest id parts payloads m → ⊥
-  none_both o none is h = none_known digest id parts payloads none (subst (λ (x : Option BlobMetadata). IsHeldMetadata digest f id.0 parts x) is h)
+  none_both o none is h = none_known digest id parts payloads none (is_held o None is h)
 
   pub only_beside : (m own : BlobMetadata) (o : Option BlobMetadata) → IsMetadataIn digest id.0 payloads m → own ≡ m → o ≡ Some own → IsHeldMetadata digest f id.0 parts o
       → IsOnly digest id parts payloads own
-  only_beside m own o one same is h = only_both m own one same (subst (λ (x : Option BlobMetadata). IsHeldMetadata digest f id.0 parts x) is h)
+  only_beside m own o one same is at =
+      let h = is_held o (Some own) is at in
+      record {
+        known = inr h.held;
+        only = λ other knows. known_beside digest id parts payloads m one (subst (λ (x : BlobMetadata). HoldsMetadata parts x) same h.held) other knows ∙ sym same;
+        commits = h.commits;
+        same = same_text parts own h.held;
+      }
 
   pub only_first : (m copy : BlobMetadata) (o : Option BlobMetadata) → IsMetadataIn digest id.0 payloads m → Commits digest id.0 m → copy ≡ m → o ≡ None
       → IsHeldMetadata digest f id.0 parts o → IsOnly digest id parts payloads copy
-  only_first m copy o one commits same is h =
+  only_first m copy o one commits same is at =
+      let h = is_held o None is at in
       subst (λ (x : BlobMetadata). IsOnly digest id parts payloads x) (sym same)
-      (only_carried m one commits (subst (λ (x : Option BlobMetadata). IsHeldMetadata digest f id.0 parts x) is h))
+      (record { known = inl one.0; only = known_alone digest id parts payloads m one h; commits = commits; same = λ bytes e. absurd (none_some parts.metadata bytes h e) })
 
 -- ---- what a shard keeps
 

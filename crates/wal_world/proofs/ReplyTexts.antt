@@ -1,13 +1,12 @@
 -- Replies in a network's buffer.
-use Rattle.std.proofs.Common.{◌≡◌, ℕ, ◌+◌, ◌<◌, ◌≤◌, ◌^◌, List, [], ◌∷◌, ◌++◌, length, take, drop, Bool, true, false, cond, Option, Some, None, Result, Ok, Err, refl, sym, ap, ◌∙◌, subst, arith, length-append, append-nil, slice_index_or}
+use Rattle.std.proofs.Common.{◌≡◌, ℕ, ◌+◌, ◌<◌, ◌^◌, List, [], ◌∷◌, ◌++◌, length, true, Result, Ok, Err, refl, sym, ap, ◌∙◌, subst, arith, length-append, append-nil, slice_index_or}
 use Rattle.std.specs.List.{flat_map, AllByRecursion}
-use Rattle.std.specs.FinMap.{from_sorted}
 use Rattle.std.proofs.lemmas.Grind.{flat_map-append}
 use Rattle.wal_shape.specs.declared.metadata.BlobId.{BlobId}
 use Rattle.wal_shape.specs.declared.axis.Side.{Side}
 use Rattle.wal_ledger.specs.Shards.{committee_size}
 use Rattle.wal_event.specs.declared.event.Reply.{Reply}
-use Rattle.wal_frame.specs.Buffer.{Buffer, appended}
+use Rattle.wal_frame.specs.Buffer.{Buffer}
 use Rattle.wal_frame.specs.Frame.{envelope}
 use Rattle.wal_frame.specs.declared.stream.SplitError.{SplitError}
 use Rattle.wal_frame.specs.declared.stream.SplitError.TheVariants.{Malformed}
@@ -21,7 +20,7 @@ use Rattle.wal_protocol.specs.State.{World, side_of, is_present, contents_of, he
 use Rattle.wal_protocol.specs.Rules.{Rules}
 use Rattle.wal_protocol.specs.Step.{read_payloads, reply_payloads}
 use Rattle.wal_world.specs.inside.Books.{ledger_of}
-use Rattle.wal_world.specs.inside.Network.{IsNetwork, shards_of, contents_in, world_of}
+use Rattle.wal_world.specs.inside.Network.{IsNetwork, shards_of, world_of}
 use Rattle.wal_world.specs.declared.network.Network.{Network}
 use Rattle.wal_world.specs.inside.Replies.{IsLike}
 use Rattle.wal_world.proofs.Shards.{shard_is}
@@ -47,12 +46,7 @@ not_malformed r e place payloads is malformed h =
 -- the world is the same
 pub like_world : {H : Type 0} (old new : Network H) → IsLike old new → world_of new ≡ world_of old
 like_world old new l =
-    let format : new.format ≡ old.format = l.format in
-    let books : new.books ≡ old.books = l.books in
-    let few : new.few ≡ old.few = l.few in
-    let sides : new.sides ≡ old.sides = l.sides in
-    let answers : new.answers ≡ old.answers = l.answers in
-    cc
+    let format = l.format in let books = l.books in let few = l.few in let sides = l.sides in let answers = l.answers in cc
 
 pub like_same : {H : Type 0} (a : Network H) → IsLike a a
 like_same a = record { format = refl; books = refl; few = refl; sides = refl; answers = refl; work = refl }

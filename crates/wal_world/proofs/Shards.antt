@@ -41,23 +41,19 @@ side_contents Next n = refl
 pub place_below : {H : Type 0} (side : Side) (n : Network H) (shards : List ShardState) (i k : ℕ) → IsNetwork n → is_present side (world_of n) ≡ true
     → shards ≡ shards_of side n → k ≡ i → i < committee_size (ledger_of n.books).log.f → k < length shards
 place_below side n shards i k is there e same less =
-    let P : List ShardState → Type 0 = λ xs. k < length xs in
     let count = (side_shards side n is there).count in
-    subst P (sym e) (omega (arith, less, same, count))
+    subst (λ (xs : List ShardState). k < length xs) (sym e) (omega (arith, less, same, count))
 
 pub shard_is : {H : Type 0} (side : Side) (n : Network H) (shards : List ShardState) (i k : ℕ) (s : ShardState) → IsNetwork n → is_present side (world_of n) ≡ true
     → shards ≡ shards_of side n → k ≡ i → i < committee_size (ledger_of n.books).log.f → s ≡ slice_index_or shards k s
     → IsShardOf side n i s
 shard_is side n shards i k s is there e same less at =
-    let P : List ShardState → Type 0 = λ xs. s ≡ slice_index_or xs k s in
-    let Q : ℕ → Type 0 = λ j. s ≡ slice_index_or (shards_of side n) j s in
-    let here : s ≡ slice_index_or (shards_of side n) i s = subst Q same (subst P e at) in
+    let here : s ≡ slice_index_or (shards_of side n) i s = at ∙ ap (λ (xs : List ShardState). slice_index_or xs k s) e ∙ ap (λ (j : ℕ). slice_index_or (shards_of side n) j s) same in
     let are = side_shards side n is there in
     let one : IsShardAt (ledger_of n.books).log.f i s = subst (IsShardAt (ledger_of n.books).log.f i) (sym here) (are.each i s less) in
     let count = are.count in
-    let R : List Contents → Type 0 = λ xs. s.contents ≡ slice_index_or xs i finmap.empty in
     record {
-      contents = subst R (side_contents side n) (contents_at (shards_of side n) i s (omega (arith, less, count)) here);
+      contents = contents_at (shards_of side n) i s (omega (arith, less, count)) here ∙ ap (λ (xs : List Contents). slice_index_or xs i finmap.empty) (side_contents side n);
       f = one.f_is;
       index = one.index_is;
       limit = one.limit_is;

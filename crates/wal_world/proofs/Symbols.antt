@@ -1,5 +1,5 @@
 -- What shards reply to one that recovers its sliver.
-use Rattle.std.proofs.Common.{◌≡◌, ℕ, ◌<◌, List, [], ◌∷◌, ◌++◌, Option, None, Result, Ok, Err, IfOk, IfSome, IfNone, refl, ap, ◌∙◌, subst, true, slice_index_or}
+use Rattle.std.proofs.Common.{◌≡◌, ℕ, ◌<◌, List, [], ◌∷◌, ◌++◌, Option, None, Result, Ok, Err, IfOk, IfSome, IfNone, refl, sym, ap, ◌∙◌, subst, true, append-nil, slice_index_or}
 use Rattle.std.specs.List.{flat_map}
 use Rattle.std.specs.declared.alloc.AllocError.{AllocError}
 use Rattle.std.proofs.lemmas.List.{append_assoc}
@@ -63,10 +63,6 @@ symbol_replies digest id helper p axis shard m index (Err e) own is h = tt
 pub replies_more : (r : Rules) (w : World) (id : BlobId) (axis : Axis) (shard : ℕ) (front : List Reply) (one : Reply) (payloads more : List (List ℕ)) → AreReplies r w id axis shard front payloads
     → IsReplyOf r w id axis shard one more → AreReplies r w id axis shard (front ++ one ∷ []) (payloads ++ more)
 replies_more r w id axis shard [] one payloads more h x =
-    (more, [], x, refl, ap (λ (l : List (List ℕ)). l ++ more) h ∙ (by more))
-  where
-    by : (l : List (List ℕ)) → [] ++ l ≡ l ++ []
-    by [] = refl
-    by (y ∷ ys) = ap (λ (l : List (List ℕ)). y ∷ l) (by ys)
+    (more, [], x, refl, ap (λ (l : List (List ℕ)). l ++ more) h ∙ sym (append-nil more))
 replies_more r w id axis shard (first ∷ front) one payloads more h x =
     (h.0, h.1 ++ more, h.2, replies_more r w id axis shard front one h.1 more h.3 x, ap (λ (l : List (List ℕ)). l ++ more) h.4 ∙ append_assoc h.0 h.1 more)

@@ -21,8 +21,7 @@ use Rattle.wal_world.specs.declared.summary.Summary.{Summary}
 
 module _ {Y : Type 0} (h : Line → Option Y) where
   one_at_most : (o : Option Y) → cons_option o [] ≡ option_to_list o
-  one_at_most None = refl
-  one_at_most (Some y) = refl
+  one_at_most o = grind arith
 
   -- what the lines give, and what one more line gives
   given_push : (lines : List Line) (said : Line) → filter_map h (lines ++ said ∷ []) ≡ filter_map h lines ++ option_to_list (h said)
@@ -38,8 +37,7 @@ module _ {Y : Type 0} (h : Line → Option Y) where
   given_few (said ∷ lines) = one_more_length (h said) (filter_map h lines) (length lines) (given_few lines)
 
   counted_one : (o : Option Y) → length (option_to_list o) ≡ cond (is_some o) 1 0
-  counted_one None = refl
-  counted_one (Some y) = refl
+  counted_one o = grind arith
 
   -- the count of what the lines give
   count_push : (lines : List Line) (said : Line) (n : ℕ) → n ≡ length (filter_map h lines) → n + cond (is_some (h said)) 1 0 ≡ length (filter_map h (lines ++ said ∷ []))
@@ -49,8 +47,7 @@ module _ {Y : Type 0} (h : Line → Option Y) where
 
 -- a flag of a size is that of what has it
 sized_flag : (o : Option (List ℕ)) → is_some (option_map length o) ≡ is_some o
-sized_flag None = refl
-sized_flag (Some bytes) = refl
+sized_flag o = grind arith
 
 sum_one_more : (all : List (List ℕ)) (o : Option (List ℕ)) → sum_by length (all ++ option_to_list o) ≡ sum_by length all + unwrap_or (option_map length o) 0
 sum_one_more all None = ap (λ (l : List (List ℕ)). sum_by length l) (append-nil all) ∙ omega arith
@@ -78,10 +75,7 @@ least_push lines said least is =
 
 -- sets of identifiers
 among_first : (b c : Bool) → cond b true c ≡ (c || (b || false))
-among_first true true = refl
-among_first true false = refl
-among_first false true = refl
-among_first false false = refl
+among_first b c = grind arith
 
 pub put_one : (seen : List BlobId) (old new : BTreeSet BlobId) (id : BlobId) → IsFromIterResult id_cmp seen old → Updates id_cmp old new id true → IsOrdered id_cmp new
     → IsFromIterResult id_cmp (seen ++ id ∷ []) new
@@ -111,11 +105,10 @@ pub tally_push : (said : Line) (before after : Tally) (size : Option ℕ) → af
     → after.recovered ≡ before.recovered + cond (is_some (sliver_in said)) 1 0
     → after.least_holders ≡ reduce min (option_to_list before.least_holders ++ option_to_list (holders_in said)) → Counts said before after
 tally_push said before after size events certified sized reads bytes recovered least lines is =
-    let From : List BlobId → Type 0 = λ l. IsFromIterResult id_cmp l after.certified in
     let flag : is_some size ≡ is_some (bytes_in said) = ap (λ (o : Option ℕ). is_some o) sized ∙ sized_flag (bytes_in said) in
     record {
       events = omega (arith, events, is.events, length-append lines (said ∷ []));
-      certified = subst From (sym (given_push certified_in lines said)) (certified (filter_map certified_in lines) is.certified);
+      certified = subst (λ (l : List BlobId). IsFromIterResult id_cmp l after.certified) (sym (given_push certified_in lines said)) (certified (filter_map certified_in lines) is.certified);
       reads = reads ∙ ap (λ b. before.reads + cond b 1 0) flag ∙ count_push bytes_in lines said before.reads is.reads;
       bytes = bytes ∙ ap (λ (o : Option ℕ). min (before.bytes + unwrap_or o 0) (2 ^ 64 - 1)) sized ∙ sum_push lines said before.bytes is.bytes;
       recovered = recovered ∙ count_push sliver_in lines said before.recovered is.recovered;

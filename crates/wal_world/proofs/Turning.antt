@@ -4,6 +4,7 @@ use Rattle.std.specs.List.{range_with_len}
 use Rattle.std.specs.FinMap as finmap
 use Rattle.std.specs.FinMap.{from_sorted, empty_of_len, entries-from_sorted, len-entries}
 use Rattle.std.specs.BTreeMap.{IsOrdered}
+use Rattle.std.proofs.lemmas.List.{length-map}
 use Rattle.std.proofs.lemmas.List.FromFn.{get_or-map-range_with_len, length-map-range_with_len, map-range_with_len_more}
 use Rattle.wal_shape.specs.declared.shape.Format.{Format}
 use Rattle.wal_shape.specs.declared.axis.Side.TheVariants.{Now, Next}
@@ -41,17 +42,14 @@ pub changed_more : {X : Type 0} (h : X → X) (xs ys : List X) (k : ℕ) (d y : 
     → slice_set xs k y ≡ map h (take (k + 1) ys) ++ drop (k + 1) ys
 changed_more {X} h xs ys k d y e less made =
     let up : suc k ≡ k + 1 = omega arith in
-    let place : List X → X = λ zs. slice_index_or zs k d in
-    ap (λ zs. slice_set zs k y) e ∙ changed_next h ys k y d less (made ∙ ap (λ zs. h (place zs)) e) ∙ ap (λ j. map h (take j ys) ++ drop j ys) up
+    ap (λ zs. slice_set zs k y) e ∙ changed_next h ys k y d less (made ∙ ap (λ (zs : List X). h (slice_index_or zs k d)) e) ∙ ap (λ j. map h (take j ys) ++ drop j ys) up
 
 -- what a shard of the next committee answers is whether it holds all
 pub ready_is : (w : World) (log : Log) (contents : Contents) (shard : ℕ) (b : Bool) → log ≡ w.log → contents ≡ contents_of (side_of Next w) shard → (IsTrue b ↔ IsReady log contents)
     → IsTrue b ↔ HoldsAll w shard
 unfolding held
 ready_is w log contents shard b same holds is =
-    let P : Log → Type 0 = λ l. IsTrue b ↔ IsReady l (contents_of (side_of Next w) shard) in
-    let Q : Contents → Type 0 = λ m. IsTrue b ↔ IsReady log m in
-    subst P same (subst Q holds is)
+    subst (λ (l : Log). IsTrue b ↔ IsReady l (contents_of (side_of Next w) shard)) same (subst (λ (m : Contents). IsTrue b ↔ IsReady log m) holds is)
 
 -- the shards of a committee, made one after the other
 pub made_shards : (f : ℕ) (holds : ℕ → Contents) → AreShards f (shards_with f holds)
@@ -75,13 +73,9 @@ dropped_at log f k [] i d less is = absurd (omega (arith, less))
 dropped_at log f k (x ∷ xs) zero d less is = record { f_is = is.f_is; index_is = is.index_is; limit_is = is.limit_is }
 dropped_at log f k (x ∷ xs) (suc i) d less is = dropped_at log f k xs i d (omega (arith, less)) is
 
-mapped_length : {X : Type 0} (h : X → X) (xs : List X) → length (map h xs) ≡ length xs
-mapped_length h [] = refl
-mapped_length h (x ∷ xs) = ap suc (mapped_length h xs)
-
 dropped_shards : (log : Log) (f : ℕ) (xs : List ShardState) → AreShards f xs → AreShards f (map (dropped log) xs)
 dropped_shards log f xs are = record {
-  count = mapped_length (dropped log) xs ∙ are.count;
+  count = length-map xs (dropped log) ∙ are.count;
   each = λ i d less. let count = are.count in dropped_at log f i xs i d (omega (arith, less, count)) (are.each i d less);
 }
 
@@ -97,10 +91,10 @@ abbrev state : Format → Log → List ℕ → List Contents → List ℕ → Li
 state format log xs now ys next few answers =
     record { format = format; log = log; now = record { faulty = xs; shards = now }; next = record { faulty = ys; shards = next }; few = few; answers = answers }
 
-same_state : (format u : Format) (log l : Log) (xs vs : List ℕ) (now m : List Contents) (ys ws : List ℕ) (next k : List Contents) (few b : Bool) (answers a : Answers)
+same_state : {format u : Format} {log l : Log} {xs vs : List ℕ} {now m : List Contents} {ys ws : List ℕ} {next k : List Contents} {few b : Bool} {answers a : Answers}
     → format ≡ u → log ≡ l → xs ≡ vs → now ≡ m → ys ≡ ws → next ≡ k → few ≡ b → answers ≡ a
     → state format log xs now ys next few answers ≡ state u l vs m ws k b a
-same_state format u log l xs vs now m ys ws next k few b answers a e0 e1 e2 e3 e4 e5 e6 e7 = cc
+same_state e0 e1 e2 e3 e4 e5 e6 e7 = cc
 
 -- the epoch begins to change
 pub no_refusal : (l : LedgerState) (owners faulty stays : List ℕ) (error : BeginError) → IsBeginError l owners faulty stays error → MayBegin l.log owners faulty stays → 0 < l.spare → ⊥
@@ -120,10 +114,7 @@ module _ {H : Type 0} (n m : Network H) (owners faulty stays : List ℕ) where
         few = (world_of n).few && nat_le (length faulty) (world_of n).log.f;
       }
   begun_world begun format now next answers few =
-      same_state m.format n.format (ledger_of m.books).log (entered (world_of n).log (entry.Begin owners)) (faulty_on Now m.books) (faulty_on Now n.books)
-      (contents_in m.sides.serving.shards.items) (contents_in n.sides.serving.shards.items) (faulty_on Next m.books) faulty (contents_in m.sides.next.shards.items) (map next_holds (range_with_len 0 (committee_size (world_of n).log.f)))
-      m.few (n.few && nat_le (length faulty) (world_of n).log.f) (from_sorted m.answers.entries) (from_sorted n.answers.entries)
-      format (ap (λ b. (ledger_of b).log) begun.books) (ap (faulty_on Now) begun.books) (ap contents_in now) (ap (faulty_on Next) begun.books)
+      same_state format (ap (λ b. (ledger_of b).log) begun.books) (ap (faulty_on Now) begun.books) (ap contents_in now) (ap (faulty_on Next) begun.books)
       (ap contents_in next ∙ made_contents (world_of n).log.f next_holds) few (ap (λ es. from_sorted es) answers)
 
   pub begun_network : IsNetwork n → IsBegun n.books owners faulty stays m.books → m.sides.serving.shards.items ≡ n.sides.serving.shards.items
@@ -151,10 +142,7 @@ module _ {H : Type 0} (n m : Network H) where
       → world_of m ≡ record (world_of n) { log = after; now = after_dropping after (world_of n).next; next = nobody }
   finished_world done format now next answers few =
       let log : (ledger_of m.books).log ≡ after = ap (λ b. (ledger_of b).log) done.books in
-      same_state m.format n.format (ledger_of m.books).log after (faulty_on Now m.books) (faulty_on Next n.books)
-      (contents_in m.sides.serving.shards.items) (map (without_dead after) (contents_in n.sides.next.shards.items)) (faulty_on Next m.books) [] (contents_in m.sides.next.shards.items) []
-      m.few n.few (from_sorted m.answers.entries) (from_sorted n.answers.entries)
-      format log (ap (faulty_on Now) done.books)
+      same_state format log (ap (faulty_on Now) done.books)
       (ap contents_in now ∙ dropped_contents (ledger_of m.books).log n.sides.next.shards.items ∙ ap (λ l. map (without_dead l) (contents_in n.sides.next.shards.items)) log)
       (ap (faulty_on Next) done.books) (ap contents_in next) few (ap (λ es. from_sorted es) answers)
 
@@ -221,10 +209,7 @@ fresh format s few n serves books formats fews now next answers ordered work byt
         empty = bytes;
         room = subst (λ k. room_of k ≤ n.buffer.spare) (sym f) (omega (arith, spare));
       };
-      world = same_state n.format format (ledger_of n.books).log s.ledger.log (faulty_on Now n.books) s.faulty (contents_in n.sides.serving.shards.items)
-          (map (λ k. finmap.empty) (range_with_len 0 (committee_size s.ledger.log.f))) (faulty_on Next n.books) [] (contents_in n.sides.next.shards.items) [] n.few few
-          (from_sorted n.answers.entries) finmap.empty
-          formats (ap (λ b. (ledger_of b).log) books) (ap (faulty_on Now) books) (ap contents_in now ∙ made_contents s.ledger.log.f (λ k. finmap.empty)) (ap (faulty_on Next) books) (ap contents_in next) fews
+      world = same_state formats (ap (λ b. (ledger_of b).log) books) (ap (faulty_on Now) books) (ap contents_in now ∙ made_contents s.ledger.log.f (λ k. finmap.empty)) (ap (faulty_on Next) books) (ap contents_in next) fews
           (ap (λ es. from_sorted es) answers ∙ nothing_sorted);
       spare = ap (λ b. (ledger_of b).spare) books;
     }

@@ -1,9 +1,9 @@
 -- Worlds: their state has all facts.
-use Rattle.std.proofs.Common.{◌≡◌, ℕ, ◌≤◌, Bool, true, false, ◌&&◌, nat_le, List, [], length, subst, sym, ap, ◌∙◌, arith}
+use Rattle.std.proofs.Common.{◌≡◌, ℕ, ◌≤◌, Bool, true, false, nat_le, List, [], length, subst, sym, ap, ◌∙◌, arith}
 use Rattle.std.proofs.lemmas.Bool.{and_parts, leb-true}
 use Rattle.wal_shape.specs.declared.shape.Format.{Format}
 use Rattle.wal_shape.specs.Owners.{is_committee}
-use Rattle.wal_event.specs.Event.{IsEventWithin, IsSchedule}
+use Rattle.wal_event.specs.Event.{IsEventWithin}
 use Rattle.wal_event.specs.declared.event.Event.{Event}
 use Rattle.wal_event.specs.declared.line.Line.{Line}
 use Rattle.wal_epoch.specs.Moves.{IsFit}
@@ -41,12 +41,10 @@ module _ (digest : List ℕ → List ℕ) (size : (text : List ℕ) → length (
       let bounds = and_parts (nat_le 1 f) (nat_le f 333) is.fit.faults in
       let most : f ≤ 333 = leb-true f 333 bounds.1 in
       let facts : Facts (rules_of digest f) (first_of format f epoch owners faulty) = first_facts f epoch format owners faulty is.fit is.committee in
-      let FactsOf : state.World → Type 0 = λ w. Facts (rules_of digest w.log.f) w in
-      let MostOf : state.World → Type 0 = λ w. w.log.f ≤ 333 in
       record {
         network = λ alive. is.network;
-        most = λ alive. subst MostOf (sym is.world) most;
-        facts = λ alive. subst FactsOf (sym is.world) facts;
+        most = λ alive. subst (λ (w : state.World). w.log.f ≤ 333) (sym is.world) most;
+        facts = λ alive. subst (λ (w : state.World). Facts (rules_of digest w.log.f) w) (sym is.world) facts;
       }
 
   -- and each step keeps them, and the number of faults

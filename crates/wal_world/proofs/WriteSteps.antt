@@ -54,7 +54,7 @@ module _ (digest : List ℕ → List ℕ) where
       by (putting.OtherMetadata m) (Some c) q t = put_clashes digest w new side shard frame contents m c q is t.0 t.1
       by (putting.OtherMetadata m) None q t = absurd t
       by a None q t = put_stays digest w new side shard frame contents a refl q is
-      by _ _ q t = absurd t
+      by a (Some c) q t = absurd t
 
   -- ---- what is sent to one shard
 
@@ -139,9 +139,8 @@ pub stores_is : (w : World) (side : Side) (shard : ℕ) (s : Contents) (id : Blo
     → result ≡ (is_correct side w shard && has_frames (messages_of x shard) (held (side_of side w) shard x.id))
 unfolding held
 stores_is w side shard s id m x a slivers result correct there named metadata iff is e =
-    let P : BlobMetadata → Type 0 = λ k. (IsTrue a ↔ ((parts_at s id).metadata ≡ Some (metadata_text k))) in
     e
-    ∙ has_sent (parts_at s id) x shard a slivers (subst P metadata iff) is
+    ∙ has_sent (parts_at s id) x shard a slivers (subst (λ (k : BlobMetadata). IsTrue a ↔ ((parts_at s id).metadata ≡ Some (metadata_text k))) metadata iff) is
     ∙ ap (λ (k : BlobId). has_frames (messages_of x shard) (parts_at s k)) named
     ∙ ap (λ (k : Contents). has_frames (messages_of x shard) (parts_at k x.id)) there
     ∙ ap (λ (b : Bool). b && has_frames (messages_of x shard) (parts_at (contents_of (side_of side w) shard) x.id)) (sym correct)
