@@ -179,8 +179,13 @@ module _ (digest : List ℕ → List ℕ) (frame : Frame) (one other : ServedSta
             let needs = needed_for other.shard.contents q (stored_bytes frame) in
             let pages : charged_pages (Ok frame) frames ≡ pages_for (length (stored_bytes frame)) = ap (λ (b : Bool). cond b (pages_for (length (stored_bytes frame))) 0) (ap (tells 0) t.0) in
             wants (answer_text 6 needs free ∷ []) (6, needs, free, inl refl, refl)
-            (answers (answer_text 6 needs free ∷ []) None other (put_reply (putting.Full needs free), other.shard.contents,
-            (putting.Full needs free, (accepted_too p.0, same_part (put_part frame) ∙ p.1, is_free, refl, less, refl), refl, tt), (refl, refl), refl))
+            (answers (answer_text 6 needs free ∷ []) None other (
+              put_reply (putting.Full needs free),
+              other.shard.contents,
+              (putting.Full needs free, (accepted_too p.0, same_part (put_part frame) ∙ p.1, is_free, refl, less, refl), refl, tt),
+              (refl, refl),
+              refl,
+            ))
             (ap tells_entry t.0) (λ charged. not (charged_entries (Ok frame) frames) (subst (λ (n : ℕ). RoomFor q other n (charged_entries (Ok frame) frames)) pages charged))
 
         by : (x : PutAnswer) → PutsOrWants digest may_want (desk one.shard one.ledger.log) one.shard.contents frame x contents → ShowsTexts digest one.shard.contents frame x

@@ -101,9 +101,16 @@ pub forget_does : (digest : List ℕ → List ℕ) (s : ServedState) → IsDesk 
     → Does digest s (an_event (event.Forget Now s.shard.index id)) frames clash (holding s new)
 forget_does digest s d id _ _ frames clash (forgotten may) told =
     takes digest s (holding s (without_slivers s.shard.contents id)) (event.Forget Now s.shard.index id) frames clash (done 0) told (line.Forget s.shard.index id forgetting.Done) refl refl
-    (λ w. (refl, refl, (here s d w, subst (λ (m : Contents). MayForget s.ledger.log m id) (sym (contents_here s d w)) may,
-    keeps_then s d w (without_slivers s.shard.contents id)
-    ∙ ap (λ (m : Contents). keeps (world_of w s) Now s.shard.index (without_slivers m id)) (sym (contents_here s d w)))))
+    (λ w. (
+      refl,
+      refl,
+      (
+        here s d w,
+        subst (λ (m : Contents). MayForget s.ledger.log m id) (sym (contents_here s d w)) may,
+        keeps_then s d w (without_slivers s.shard.contents id)
+            ∙ ap (λ (m : Contents). keeps (world_of w s) Now s.shard.index (without_slivers m id)) (sym (contents_here s d w)),
+      ),
+    ))
 forget_does digest s d id _ _ frames clash (kept not) told =
     takes digest s s (event.Forget Now s.shard.index id) frames clash (refused 5) told (line.Forget s.shard.index id forgetting.Declined) refl refl
     (λ w. (refl, refl, (here s d w, (λ may. not (subst (λ (m : Contents). MayForget s.ledger.log m id) (contents_here s d w) may)), refl)))
