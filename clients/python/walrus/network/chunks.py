@@ -11,6 +11,7 @@ import struct
 from typing import Any, AsyncIterator, Callable, Iterator, Optional, Sequence, Union
 
 from .. import bundles, client, codes
+from ..fairness import Fair
 
 from . import pieces
 from .client import Network
@@ -19,6 +20,7 @@ from .ledger import LAST_UNTIL
 from .pieces import Memory
 from .problems import Problem
 from .source import Source
+from .turns import ASKING
 
 PIECE = client.LARGEST_BLOB
 AHEAD = 3  # pieces of one file that are encoded or certified at once
@@ -64,7 +66,7 @@ class Writer:
     """Stores files in a network: so many blobs are encoded at once for all of them, as far as memory goes."""
 
     def __init__(self, network: Network, memory: Memory, turns: int):
-        self.network, self.memory, self.turns = network, memory, asyncio.Semaphore(turns)
+        self.network, self.memory, self.turns = network, memory, Fair(turns)
         self.giving = set["asyncio.Task[None]"]()  # memory back, where nodes are left behind
 
     async def store(self, stream: AsyncIterator[bytes], epochs: int, stored: Optional[list[bytes]] = None) -> Told:
@@ -141,7 +143,7 @@ class Writer:
         files = [memoryview(data)[end - it["size"] : end] for end, it in zip(ends, members)]  # noqa: E203
         async with self.memory.share(pieces.need_of(len(data), faults)):
             try:
-                async with self.turns:
+                async with self.turns.place(ASKING.get()):
                     made = await bundles.join(files, faults, self.network.walrus)
             except client.Refused as refused:
                 raise Problem(413, UNFIT) if refused.code in codes.DO_NOT_FIT else refused from None
@@ -153,7 +155,7 @@ class Writer:
         stack, identifier, faults = contextlib.AsyncExitStack(), b"", self.network.ledger.faults
         share = await stack.enter_async_context(self.memory.share(pieces.need_of(len(blob), faults)))
         try:
-            async with self.turns:
+            async with self.turns.place(ASKING.get()):
                 encoded = await self.network.walrus.encode(blob, faults)
             del blob
             share.shrink(sum(len(part) for parts in encoded.slivers for part in parts))

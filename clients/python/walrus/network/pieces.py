@@ -3,7 +3,6 @@
 A piece that comes slowly takes no memory: what is more than a little of it goes to a file that has no name, and is
 read from there when it is its turn. So is a piece that was read, until it is sent."""
 import asyncio
-import collections
 import concurrent.futures
 import contextlib
 import dataclasses
@@ -12,6 +11,10 @@ import os
 import tempfile
 import threading
 from typing import IO, Any, AsyncGenerator, AsyncIterator, Callable, Optional, TypeVar, Union
+
+from ..fairness import Line
+
+from .turns import ASKING
 
 AHEAD, THREADS = 131_072, 4  # bytes of what comes that are in memory meanwhile; and what writes and reads the others
 DISK = concurrent.futures.ThreadPoolExecutor(THREADS, "spool")  # asyncio's own looks names up, perhaps for long
@@ -181,18 +184,19 @@ class Wish:
     size: int
     later: int
     share: Share
+    owner: str = dataclasses.field(default_factory=ASKING.get)
     granted: "asyncio.Future[None]" = dataclasses.field(default_factory=lambda: asyncio.Future())
 
 
 class Memory:
-    """So many bytes for all that a gateway does. Who finds too little waits, behind who came before.
+    """So many bytes for all that a gateway does. Who finds too little waits, and those who ask have it in turn.
 
     Who will want more begins only if that is there too once others have given back what they have more, and nobody
     begins while one waits for more. So one of those who wait for more always finds it, once the others have ended."""
 
     def __init__(self, size: int):
         self.size, self.taken, self.grown = size, 0, 0  # what is taken, and what of it is more that was wanted later
-        self.waiting, self.growing = collections.deque[Wish](), list[Wish]()
+        self.waiting, self.growing = Line[Wish](), list[Wish]()
         self.late: "set[asyncio.Task[Any]]" = set()  # what is ended where others want the memory that it has
 
     def end_late(self) -> None:
@@ -212,10 +216,10 @@ class Memory:
         if self.growing and self.taken == sum(it.share.size for it in self.growing):  # he wants more than there is
             self.grant(self.growing.pop(0))
         while self.waiting and not self.growing:
-            wish = self.waiting[0]
+            wish = self.waiting.first()
             if self.taken and self.taken + wish.size + max(0, wish.later - self.grown) > self.size:
                 return
-            self.grant(self.waiting.popleft())
+            self.grant(self.waiting.take())
 
     def grant(self, wish: Wish) -> None:
         self.taken += wish.size
@@ -225,7 +229,10 @@ class Memory:
 
     async def wait(self, wish: Wish) -> None:
         """Waits until a wish is granted."""
-        (self.growing if wish.share.size else self.waiting).append(wish)
+        if wish.share.size:
+            self.growing.append(wish)
+        else:
+            self.waiting.add(wish.owner, wish)
         self.serve()
         ending = asyncio.get_running_loop().call_later(PATIENCE, self.end_late)
         try:
@@ -237,7 +244,7 @@ class Memory:
             elif wish in self.growing:
                 self.growing.remove(wish)
             else:
-                self.waiting.remove(wish)
+                self.waiting.drop(wish.owner, wish)
             self.serve()
             raise
         finally:
