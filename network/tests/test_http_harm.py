@@ -311,7 +311,7 @@ class AtNodes(unittest.IsolatedAsyncioTestCase):
 
     async def test_many_connections_for_numbers_leave_descriptors_to_the_node(self) -> None:
         port = free_port()
-        served = await metrics.serve(str(port), lambda: b"1\n")
+        served = await metrics.serve(str(port), mock.AsyncMock(return_value=b"1\n"))
         self.addAsyncCleanup(served.end, 1)
         opened = [await asyncio.open_connection("127.0.0.1", port) for _ in range(metrics.CONNECTIONS + 8)]
         await asyncio.sleep(0.3)
