@@ -63,10 +63,11 @@ class File:
 
 
 class Writer:
-    """Stores files in a network: so many blobs are encoded at once for all of them, as far as memory goes."""
+    """Stores files in a network: so many blobs are encoded at once for all of them, as far as memory goes. `reserve` is
+    the part of the disk that what comes leaves free."""
 
-    def __init__(self, network: Network, memory: Memory, turns: int):
-        self.network, self.memory, self.turns = network, memory, Fair(turns)
+    def __init__(self, network: Network, memory: Memory, turns: int, reserve: float = 0.0):
+        self.network, self.memory, self.turns, self.reserve = network, memory, Fair(turns), reserve
         self.giving = set["asyncio.Task[None]"]()  # memory back, where nodes are left behind
 
     async def store(self, stream: AsyncIterator[bytes], epochs: int, stored: Optional[list[bytes]] = None) -> Told:
@@ -77,7 +78,7 @@ class Writer:
         stored = [] if stored is None else stored
         tasks: list["asyncio.Task[tuple[bytes, bool]]"] = []
         try:
-            async with contextlib.aclosing(pieces.split(stream, PIECE)) as parts:
+            async with contextlib.aclosing(pieces.split(stream, PIECE, self.reserve)) as parts:
                 async for piece in parts:
                     first, size = first or bytes(piece[: len(MARK)]), size + len(piece)
                     if len(tasks) >= AHEAD:
@@ -122,7 +123,7 @@ class Writer:
 
     async def gather(self, kind: str, stream: AsyncIterator[bytes]) -> tuple[bytes, list[Told]]:
         """The files of a form, one behind the other in a file without a name, and what is told of each."""
-        most, spool, members = 2 * self.network.ledger.faults, pieces.Spool(), list[Told]()
+        most, spool, members = 2 * self.network.ledger.faults, pieces.Spool(self.reserve), list[Told]()
         try:
             async for sent in files_of(kind, Source(stream), ASKED):
                 if len(members) == most:

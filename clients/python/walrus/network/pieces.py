@@ -14,12 +14,14 @@ from typing import IO, Any, AsyncGenerator, AsyncIterator, Callable, Optional, T
 
 from ..fairness import Line
 
+from .problems import Problem
 from .turns import ASKING
 
 AHEAD, THREADS = 131_072, 4  # bytes of what comes that are in memory meanwhile; and what writes and reads the others
 DISK = concurrent.futures.ThreadPoolExecutor(THREADS, "spool")  # asyncio's own looks names up, perhaps for long
 LEAST, LATER = 1_048_576, 3.25  # what a piece takes at least; what it takes to be decoded, in its bytes
 TIMES, MORE = 8, 11  # what it takes to be encoded, in its bytes, at f = 1 and beyond
+FULL = "not all of it is stored: the gateway has too little room on its disk for what comes; send it again later"
 PATIENCE = 1.0  # seconds for which who wants memory waits for what can be ended
 Result = TypeVar("Result")
 
@@ -51,9 +53,12 @@ async def to_the_end(call: Callable[..., Result], *words: Any) -> Result:
 
 class Spool:
     """What comes: a little of it is in memory, and all before that in a file without a name. Threads write and read the
-    file, so that a busy disk holds up nobody else."""
+    file, so that a busy disk holds up nobody else. `reserve` is the part of the disk that is left free."""
 
-    def __init__(self) -> None:
+    full = FULL  # what is said where that part would be taken
+
+    def __init__(self, reserve: float = 0.0) -> None:
+        self.reserve = reserve
         self.kept, self.start = bytearray(), 0  # what is in memory, and what is before it
         self.file: Optional[IO[bytes]] = None  # which the first thread makes that writes
         self.turn, self.is_away = threading.RLock(), False  # whether anything was given to a thread
@@ -93,6 +98,9 @@ class Spool:
 
     def must_fit(self, file: IO[bytes], size: int) -> None:
         """Raises where so much more is not to be written."""
+        disk = os.fstatvfs(file.fileno())
+        if disk.f_bavail * disk.f_frsize - size < self.reserve * disk.f_blocks * disk.f_frsize:
+            raise Problem(507, self.full)
 
     async def whole(self) -> bytes:
         """All that came, once; its memory is that of the file."""
@@ -116,9 +124,9 @@ class Spool:
                 self.file.close()
 
 
-async def split(stream: AsyncIterator[bytes], size: int) -> AsyncGenerator[bytes, None]:
+async def split(stream: AsyncIterator[bytes], size: int, reserve: float = 0.0) -> AsyncGenerator[bytes, None]:
     """The pieces, of this size, of a file that comes in parts of any length; one, perhaps empty, at least."""
-    spool, full = Spool(), list[bytes]()
+    spool, full = Spool(reserve), list[bytes]()
     try:
         async for part in stream:
             view = memoryview(part)
@@ -126,7 +134,7 @@ async def split(stream: AsyncIterator[bytes], size: int) -> AsyncGenerator[bytes
                 rest = size - spool.end
                 await spool.add(view[:rest])
                 full.append(await spool.whole())
-                view, spool = view[rest:], Spool()
+                view, spool = view[rest:], Spool(reserve)
                 yield full.pop()  # of which nothing stays here
             await spool.add(view)
         yield await spool.whole()
