@@ -431,7 +431,8 @@ class Cancelled(unittest.IsolatedAsyncioTestCase):
         server = await loop.create_server(lambda: wire.Wire(accept), "127.0.0.1", 0)
         self.addCleanup(server.close)
         self.enterContext(mock.patch.object(peers, "connect", connect))
-        known = types.SimpleNamespace(seconds=60, address=lambda _: server.sockets[0].getsockname(), context=None)
+        known = types.SimpleNamespace(seconds=60, context=None)
+        known.reach = lambda _, to: to(*server.sockets[0].getsockname())
         seat = peers.Seat(known, "node-0", 0, 1)  # type: ignore[arg-type]
         sliver = Counted(8_000_000)
         seen = weakref.ref(sliver)
