@@ -3,6 +3,8 @@ import asyncio
 import contextlib
 import pathlib
 import tempfile
+import threading
+import time
 import types
 import unittest
 from typing import Any, Callable
@@ -11,10 +13,13 @@ from unittest import mock
 from ledger_case import FOUNDED, registration
 from walrus import client, port
 from walrus.frames import answer
-from walrus.network import node, recovery
+from walrus.network import figures, node, recovery
 from walrus.network.entries import Chain, Entry
+from walrus.network.figures import NodePort
 from walrus.network.follower import News, Recorders, View
 from walrus.network.node import Node
+from walrus.network.peers import FIGURES
+from walrus.network.settings import Settings
 from walrus.network.state import State
 from walrus.network.store import Store
 
@@ -83,6 +88,32 @@ class Turns(TurnCase):
         with mock.patch.object(self.store, "settled", mock.AsyncMock(return_value={*owed})):
             self.assertEqual(await recovery.settle(self.node, 1, owed), 0)
         self.assertEqual(asked.mock_calls, [])
+
+
+class Figures(TurnCase):
+    async def test_who_asks_for_figures_keeps_nobody_waiting_while_all_is_counted(self) -> None:
+        store, goes_on, ran = Store(self.folder / "a.db"), threading.Event(), list[str]()
+        self.addCleanup(store.close)
+        self.addCleanup(goes_on.set)
+        made: Any = mock.MagicMock(store=store, settings=Settings("node-0", *[""] * 2, [], *[""] * 3))
+        told = NodePort(made, port.Bounds())
+        store.begin(0, 0)
+        store.put(1, 0, bytes(32), 0, b"metadata", None)
+        store.base.set_trace_callback(ran.append)
+        await told.expect(FIGURES)  # before it is the turn of who asks
+        self.assertEqual(told.held, {"blobs": 1, "bytes": 8, "wrong": 0})
+        self.assertEqual([it for it in ran if "total(" in it], [])
+        store.put(1, 0, bytes(31) + b"a", 0, b"metadata", None)
+        reader, told.due = store.reader, 0.0
+        self.enterContext(mock.patch.object(figures, "MOMENT", 0.05))
+        with mock.patch.object(store, "reader", lambda: goes_on.wait() and reader()):
+            for _ in range(3):
+                await told.count()
+                self.assertEqual(told.held["blobs"], 1)  # the last figures, until others are there
+            goes_on.set()
+            while told.counting:
+                await told.count()
+        self.assertEqual((told.held["blobs"], told.due > time.monotonic()), (2, True))
 
 
 class Halves(TurnCase):

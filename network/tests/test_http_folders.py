@@ -2,6 +2,7 @@
 import asyncio
 import base64
 import contextlib
+import functools
 import hashlib
 import io
 import os
@@ -22,7 +23,7 @@ from folder_case import HOSTILE, Files, form_of, manifest_of, odd_tar, site, tar
 from guard_case import GuardCase
 from harness import HERE
 from walrus import client
-from walrus.network import archives, gathering, manifest, problems, shares, shelf, turns
+from walrus.network import archives, chunks, gathering, manifest, problems, shares, shelf, turns
 from walrus.network.manifest import MARK, Manifest, Place, Wrong
 
 TAR = {"Content-Type": "application/x-tar"}
@@ -104,6 +105,12 @@ class Manifests(unittest.TestCase):
         table = (HERE.parent / "HTTP.md").read_text().partition("| Type | Endings |\n")[2].partition("\n\n")[0]
         rows = [re.findall("`([^`]+)`", row) for row in table.splitlines()[1:]]
         self.assertEqual({row[0]: " ".join(row[1:]) for row in rows}, manifest.KINDS)
+
+
+def disk(descriptor: int) -> types.SimpleNamespace:
+    """A disk of 2,000,000 bytes, of which a twentieth stays free, with this file and others."""
+    taken = os.fstat(descriptor).st_size
+    return types.SimpleNamespace(f_frsize=2, f_blocks=1_000_000, f_bavail=(900_000 - taken) // 2)
 
 
 class Folders(GuardCase):
@@ -578,13 +585,23 @@ class Folders(GuardCase):
         with unittest.mock.patch.object(gathering.Folder, "begin", broken):
             self.assertIn("disk is full", (await self.put_folder(tar_of(files), 503))["error"]["text"])
 
+    async def test_a_file_leaves_the_reserve_of_the_disk_free(self) -> None:
+        await self.start()
+        self.enterContext(unittest.mock.patch.object(gathering.os, "fstatvfs", disk))
+        for size, wanted in ((900_000, 507), (700_000, 201)):
+            kind, form = form_of({"a": bytes(size)})
+            status, _, told = await self.ask("POST", "/v1/bundles?epochs=1", data=form, headers={"Content-Type": kind})
+            self.assertEqual((status, len(self.stored)), (wanted, int(wanted == 201)), told)
+        writer, kept = self.gateway.publisher.writer, unittest.mock.AsyncMock(side_effect=client.Failed("away", {}))
+        self.enterContext(unittest.mock.patch.object(writer, "store", functools.partial(chunks.Writer.store, writer)))
+        self.enterContext(unittest.mock.patch.object(writer, "store_blob", kept))
+        for size, wanted, said in ((900_000, 507, "has too little room on its disk"), (700_000, 503, "away")):
+            status, _, told = await self.ask("PUT", "/v1/blobs?epochs=1", data=bytes(size))
+            self.assertEqual((status, kept.call_count), (wanted, int(wanted == 503)), told)
+            self.assertIn(said, told["error"]["text"])
+
     async def test_a_folder_leaves_the_reserve_of_the_disk_free(self) -> None:
         await self.start()
-
-        def disk(descriptor: int) -> types.SimpleNamespace:  # of 2,000,000 bytes, of which a twentieth stays free
-            taken = os.fstat(descriptor).st_size
-            return types.SimpleNamespace(f_frsize=2, f_blocks=1_000_000, f_bavail=(900_000 - taken) // 2)
-
         self.enterContext(unittest.mock.patch.object(gathering.os, "fstatvfs", disk))
         for files in ({"film": bytes(800_002)}, {it: it.encode() * 300_000 for it in "abc"}):
             error = (await self.put_folder(tar_of(files), 507))["error"]

@@ -17,9 +17,11 @@ from aiohttp import web
 from folder_case import manifest_of
 from guard_case import GuardCase
 from http_case import DRAWN
+from ledger_case import registration
 from walrus import client
 from walrus.frames import answer
 from walrus.network import archives, connections, digests, folders, intake, metrics, source, turns, unfinished, whole
+from walrus.network.client import Network
 from walrus.network.local import free_port
 from walrus.network.manifest import Place
 
@@ -246,6 +248,21 @@ class Harm(GuardCase):
         self.assertEqual([status for status, _, _ in told], [200] * 4)
         self.assertEqual(found, [1] * 4)  # of one who asks one at a time
 
+    async def test_a_list_that_goes_over_all_blobs_holds_up_nobody(self) -> None:
+        self.network, ran = await self.enterAsyncContext(Network(self.folder, kept=True)), list[str]()
+        await self.start()
+        self.network.state.base.set_trace_callback(ran.append)
+        path, names = "/v1/blobs?within=9&after=", list[str]()
+        for number in (7, 3):
+            await self.publisher.post(registration("publisher", number))
+            names = sorted([*names, number.to_bytes(32, "big").hex()])
+            self.assertTrue(await self.network.until(lambda it: bytes.fromhex(names[0]) in it.blobs))
+            status, _, told = await self.ask("GET", path)
+            self.assertEqual((status, [it["blobId"] for it in told["blobs"]]), (200, names))
+        self.assertEqual((await self.ask("GET", path + "f" * 64))[2]["blobs"], [])
+        self.assertEqual([it for it in ran if it.startswith("SELECT") and "until <=" in it], [])
+        self.network.state.base.set_trace_callback(None)
+
 
 class Tars(unittest.IsolatedAsyncioTestCase):
     async def test_what_a_tar_tells_without_a_file_takes_no_memory(self) -> None:
@@ -311,7 +328,7 @@ class AtNodes(unittest.IsolatedAsyncioTestCase):
 
     async def test_many_connections_for_numbers_leave_descriptors_to_the_node(self) -> None:
         port = free_port()
-        served = await metrics.serve(str(port), lambda: b"1\n")
+        served = await metrics.serve(str(port), mock.AsyncMock(return_value=b"1\n"))
         self.addAsyncCleanup(served.end, 1)
         opened = [await asyncio.open_connection("127.0.0.1", port) for _ in range(metrics.CONNECTIONS + 8)]
         await asyncio.sleep(0.3)

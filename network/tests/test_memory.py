@@ -17,7 +17,9 @@ sys.path.insert(0, str(pathlib.Path(__file__).resolve().parents[2] / "clients" /
 
 from walrus import client, frames, port, wire  # noqa: E402
 from walrus.network import certificates, peers, pieces  # noqa: E402
+from walrus.network.chunks import Writer  # noqa: E402
 from walrus.network.pieces import Memory  # noqa: E402
+from walrus.network.turns import ASKING  # noqa: E402
 from walrus.baskets import OFFERED, PASSED, Basket  # noqa: E402
 from walrus.streams import take_envelope, write_in_slices  # noqa: E402
 
@@ -125,6 +127,41 @@ class Shares(unittest.IsolatedAsyncioTestCase):
         self.assertFalse(late.done())
         late.cancel()
         await self.end("a")
+
+    async def test_nobody_waits_behind_all_that_another_one_sends(self) -> None:
+        await self.begin("large", 10)
+        for name in ("a1", "a2", "a3", "b1", "a4", "b2", "c1"):
+            ASKING.set(name[0])
+            await self.begin(name, 10)
+        self.tasks.pop("a2").cancel()
+        await settled()
+        order = ["large", "a1", "b1", "c1", "a3", "b2", "a4"]
+        for name, behind in zip(order, [*order[1:], ""]):
+            self.assertEqual(await self.end(name), [behind] if behind else [])
+        self.assertEqual((self.memory.taken, [*self.memory.waiting]), (0, []))
+
+    async def test_nobody_waits_to_be_encoded_behind_all_that_another_one_sends(self) -> None:
+        encoded, goes_on = list[bytes](), asyncio.Semaphore(0)
+
+        async def encode(blob: bytes, faults: int) -> None:
+            encoded.append(blob)
+            await goes_on.acquire()
+            raise client.Failed("it is not stored", {})
+
+        network = types.SimpleNamespace(walrus=types.SimpleNamespace(encode=encode), left=lambda _: [])
+        network.ledger = types.SimpleNamespace(faults=1)
+        writer, storing = Writer(network, Memory(2**30), 1), list[asyncio.Task[object]]()  # type: ignore[arg-type]
+        for name in (b"a1", b"a2", b"a3", b"b1"):
+            ASKING.set(name[:1].decode())
+            storing.append(asyncio.create_task(writer.store_blob(name, 1)))
+            await settled()
+        for count in range(1, 5):
+            self.assertEqual(len(encoded), count)
+            goes_on.release()
+            await settled()
+        self.assertEqual(encoded, [b"a1", b"a2", b"b1", b"a3"])
+        said = await asyncio.gather(*storing, return_exceptions=True)
+        self.assertEqual([type(it) for it in said], [client.Failed] * 4)
 
     async def test_who_gives_up_leaves_nothing_behind(self) -> None:
         await self.begin("a", 6)
@@ -394,7 +431,8 @@ class Cancelled(unittest.IsolatedAsyncioTestCase):
         server = await loop.create_server(lambda: wire.Wire(accept), "127.0.0.1", 0)
         self.addCleanup(server.close)
         self.enterContext(mock.patch.object(peers, "connect", connect))
-        known = types.SimpleNamespace(seconds=60, address=lambda _: server.sockets[0].getsockname(), context=None)
+        known = types.SimpleNamespace(seconds=60, context=None)
+        known.reach = lambda _, to: to(*server.sockets[0].getsockname())
         seat = peers.Seat(known, "node-0", 0, 1)  # type: ignore[arg-type]
         sliver = Counted(8_000_000)
         seen = weakref.ref(sliver)

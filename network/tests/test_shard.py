@@ -585,7 +585,7 @@ class NodeCase(ShardCase):
     def node(self, sides: dict[int, dict[int, shard.Shard]]) -> Any:
         """As much of a node as a handover needs, which keeps what it posts."""
         node = types.SimpleNamespace(name="a", store=self.store, ledger=self.ledger, sides=sides, posted=[], vouched=[])
-        node.durable = types.MethodType(Node.durable, node)
+        node.caught_up, node.durable = True, types.MethodType(Node.durable, node)
         node.judges, node.repairs = self.judges, judge.Room(10_000_000)
         node.peers = types.SimpleNamespace(seats=lambda owners, faults: self.seats)
         node.port = types.SimpleNamespace(shape=client.Shape(1))
@@ -785,6 +785,21 @@ class Recovery(NodeCase):
         ends = [begun for begun, _ in read[1:]] + [now]
         for (begun, size), end in zip(read, ends):
             self.assertGreaterEqual(end - begun, size / 1_000 - 1e-6)  # until the next one is read
+
+    async def test_a_scrub_drops_what_the_whole_ledger_no_longer_has(self) -> None:
+        """Such as what expired by a checkpoint behind which the node was killed."""
+        assert self.store
+        kept, over = [(await self.put(data))[1][1:33] for data in (b"kept", bytes(LARGE))]
+        node = self.node({0: {0: self.shard}})
+        node.settings = types.SimpleNamespace(scrub=30.0, scrub_rate=10**9)
+        node.ledger = types.SimpleNamespace(blobs={kept: None})
+        self.assertGreater(count := len(self.files()), 0)
+        for heard, held, files in ((False, [3, 3], count), (True, [3, 0], 0)):
+            node.caught_up = heard
+            await scrub.Scrub(node).scrub()
+            await self.left(files)
+            sizes = [self.store.sizes(self.shard.holding, 0, name) for name in (kept, over)]
+            self.assertEqual([*map(len, sizes)], held)
 
     async def test_a_late_node_gives_its_word_for_all_that_it_holds(self) -> None:
         names = [await self.certified(b"held", of="bcd"), await self.certified(b"said"), await self.lacks(700)]

@@ -12,7 +12,7 @@ from unittest import mock
 
 from harness import HERE
 from transfer_case import TransferCase
-from walrus import client, library
+from walrus import bundles, client, library
 from walrus.engines import BUILT
 from walrus.network import checked, transfers
 
@@ -340,6 +340,22 @@ class Transfers(TransferCase):
         process.send_signal(signal.SIGINT)
         _, error = await process.communicate()
         self.assertEqual((process.returncode, error), (130, b"walrus-net: interrupted\n"))
+
+    async def test_what_a_gateway_says_is_no_command_to_a_terminal(self) -> None:
+        self.said, written = "\x1b]0;title\x07\x9b2J\u202e\n", "\\x1b]0;title\\x07\\x9b2J\\u202e\\n"
+        _, error = await self.run_net("fetch", "0" * 64, status=4)
+        self.assertEqual(error, f"walrus-net fetch: no such blob{written}\n")
+        out, _ = await self.run_net("status")
+        self.assertEqual(out.decode().splitlines()[1], f"node: shards 0, answers ({written})")
+        self.out.write_bytes(b"first")
+        bundle = await bundles.join([b"first"], 1, self.walrus)
+        self.named = (await self.id(bundle)).hex()
+        self.members = [f"{self.named}/0"]
+        out, _ = await self.run_net("store", "--bundle", self.out, "--epochs", "1")
+        self.assertEqual(out.decode().splitlines()[1], f"{self.named}/0 x{written}")
+        self.named = self.said[:-1]
+        _, error = await self.run_net("store", self.out, "--epochs", "1", status=1)
+        self.assertIn(f"the gateway names it {written[:-2]}, but", error)
 
     async def test_for_how_many_epochs_is_said(self) -> None:
         self.out.write_bytes(b"first")

@@ -35,7 +35,7 @@ class TransferCase(unittest.IsolatedAsyncioTestCase):
         self.folder, self.walrus = pathlib.Path(made.name), client.Walrus(find_program())
         self.out, self.files, self.named, self.bodies = self.folder / "out", dict[str, bytes](), "", list[bytes]()
         self.members, self.stalls, self.resumes, self.paths = list[str](), False, False, list[str]()
-        self.program, self.came = find_program(), 0  # bytes of what is being stored
+        self.program, self.came, self.said = find_program(), 0, ""  # bytes of what is being stored; what it says of it
         self.starts, self.gone, self.whole = list[int](), False, False  # where each answer began; whether the gateway
         # goes in its midst, or hears no ranges
         app = web.Application(client_max_size=2**30)
@@ -55,7 +55,7 @@ class TransferCase(unittest.IsolatedAsyncioTestCase):
         await self.site.start()
 
     async def status(self, _: web.Request) -> web.Response:
-        told = {"name": "node", "shards": [0], "next": [], "state": "answers", "said": ""}
+        told = {"name": "node", "shards": [0], "next": [], "state": "answers", "said": self.said}
         status = {"epoch": 0, "moving": False, "faults": 1, "blobs": {}, "nodes": [told] * 9_000, "recent": []}
         status["ledger"] = {"away": 0.0, "stale": False, "said": ""}
         return web.json_response(status)
@@ -63,7 +63,7 @@ class TransferCase(unittest.IsolatedAsyncioTestCase):
     async def give(self, request: web.Request) -> web.StreamResponse:
         data = self.files.get(request.match_info["name"])
         if data is None:
-            return web.json_response({"error": {"status": 404, "text": "no such blob"}}, status=404)
+            return web.json_response({"error": {"status": 404, "text": f"no such blob{self.said}"}}, status=404)
         start = int(request.headers.get("Range", "bytes=0-")[6:-1]) if not self.whole else 0
         self.starts.append(start)
         if start and start >= len(data):
@@ -96,7 +96,7 @@ class TransferCase(unittest.IsolatedAsyncioTestCase):
         self.bodies.append(b"".join(parts))
         self.paths.append(request.path)
         told = {"blobId": self.named, "size": 0, "pieces": 1, "endEpoch": 5, "alreadyCertified": False}
-        members = [{"id": it, "name": "x", "size": 1} for it in self.members]
+        members = [{"id": it, "name": f"x{self.said}", "size": 1} for it in self.members]
         return web.json_response(told | {"certificate": {"epoch": 0, "count": 4}, "members": members})
 
     async def id(self, blob: bytes, form: int = 1) -> bytes:

@@ -2,22 +2,56 @@
 
 import asyncio
 import collections
+import contextlib
 import ipaddress
+from typing import AsyncIterator, TypeVar
+
+Waiter = TypeVar("Waiter")
+
+
+class Line(collections.OrderedDict[str, "collections.deque[Waiter]"]):
+    """Those who wait. One of each whom they are from comes first, then the second of each."""
+
+    def add(self, whom: str, waiter: Waiter) -> None:
+        self.setdefault(whom, collections.deque()).append(waiter)
+
+    def first(self) -> Waiter:
+        return next(iter(self.values()))[0]
+
+    def take(self) -> Waiter:
+        """Who is first, and waits no more; others of the same go behind all."""
+        whom, waiters = self.popitem(last=False)
+        first = waiters.popleft()
+        if waiters:
+            self[whom] = waiters
+        return first
+
+    def drop(self, whom: str, waiter: Waiter) -> None:
+        """Has somebody wait no more, whose turn it is not yet."""
+        self[whom].remove(waiter)
+        if not self[whom]:
+            del self[whom]
 
 
 class Fair:
-    """So many places. Of those who wait one of each whom they are from comes first, then the second of each."""
+    """So many places, which those who wait have in turn."""
 
     def __init__(self, count: int) -> None:
-        self.free = count
-        self.waiting: "collections.OrderedDict[str, collections.deque[asyncio.Future[None]]]" = (
-            collections.OrderedDict()
-        )
+        self.free, self.waiting = count, Line["asyncio.Future[None]"]()
+
+    @contextlib.asynccontextmanager
+    async def place(self, whom: str) -> AsyncIterator[None]:
+        """Has a place while it runs."""
+        await self.acquire(whom)
+        try:
+            yield
+        finally:
+            self.release()
 
     async def acquire(self, whom: str) -> None:
         """Has a place, once it is the turn."""
         place: "asyncio.Future[None]" = asyncio.get_running_loop().create_future()
-        self.waiting.setdefault(whom, collections.deque()).append(place)
+        self.waiting.add(whom, place)
         self.serve()
         try:
             await place
@@ -34,10 +68,7 @@ class Fair:
     def serve(self) -> None:
         """Gives the places that are free to those whose turn it is. Who waits no more is left out."""
         while self.free and self.waiting:
-            whom, places = self.waiting.popitem(last=False)
-            place = places.popleft()
-            if places:
-                self.waiting[whom] = places  # behind the others
+            place = self.waiting.take()
             if not place.done():
                 self.free -= 1
                 place.set_result(None)

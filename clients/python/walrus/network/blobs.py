@@ -1,5 +1,6 @@
 """The live blobs of a ledger, in SQLite: who registered them, and which shards have spoken of them."""
 import collections
+import contextlib
 import dataclasses
 import json
 import random
@@ -18,6 +19,7 @@ ALL = "SELECT identifier, number, until, poster, votes, certified, invalid FROM 
 INSERT = "INSERT INTO blobs VALUES (?, ?, ?, ?, ?, ?, ?)"
 PUT = f"""{INSERT} ON CONFLICT (identifier) DO UPDATE SET until = excluded.until, poster = excluded.poster,
     votes = excluded.votes, certified = excluded.certified, invalid = excluded.invalid"""
+ENDING = "SELECT identifier FROM blobs WHERE identifier > ? AND until <= ? ORDER BY identifier LIMIT ?"
 Votes = Mapping[str, Mapping[int, frozenset[int]]]
 
 
@@ -55,6 +57,12 @@ def decoded(votes: dict[str, int]) -> dict[int, frozenset[int]]:
 def blob_of(until: int, poster: str, votes: str) -> Blob:
     acks, attests = map(decoded, json.loads(votes))
     return Blob(until, poster, {ACK: acks, ATTEST: attests})
+
+
+def ending_of(name: str, after: bytes, last: int, count: int) -> list[bytes]:
+    """What `Blobs.ending` tells, of a database that another thread writes."""
+    with contextlib.closing(sqlite3.connect(name)) as base:
+        return [it for it, in base.execute(ENDING, (after, last, count))]
 
 
 class Blobs(Mapping[bytes, Blob]):
@@ -147,8 +155,7 @@ class Blobs(Mapping[bytes, Blob]):
 
     def ending(self, after: bytes, last: int, count: int) -> list[bytes]:
         """Blobs in that order, behind one of them, that are kept until an epoch at most."""
-        words = "SELECT identifier FROM blobs WHERE identifier > ? AND until <= ? ORDER BY identifier LIMIT ?"
-        return [it for it, in self.flush().execute(words, (after, last, count))]
+        return [it for it, in self.flush().execute(ENDING, (after, last, count))]
 
     def owed(self, until: int, certified: int) -> list[bytes]:
         """Blobs in that order that are kept beyond an epoch, and were certified in another one or before."""

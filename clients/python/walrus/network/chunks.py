@@ -11,6 +11,7 @@ import struct
 from typing import Any, AsyncIterator, Callable, Iterator, Optional, Sequence, Union
 
 from .. import bundles, client, codes
+from ..fairness import Fair
 
 from . import pieces
 from .client import Network
@@ -19,6 +20,7 @@ from .ledger import LAST_UNTIL
 from .pieces import Memory
 from .problems import Problem
 from .source import Source
+from .turns import ASKING
 
 PIECE = client.LARGEST_BLOB
 AHEAD = 3  # pieces of one file that are encoded or certified at once
@@ -61,10 +63,11 @@ class File:
 
 
 class Writer:
-    """Stores files in a network: so many blobs are encoded at once for all of them, as far as memory goes."""
+    """Stores files in a network: so many blobs are encoded at once for all of them, as far as memory goes. `reserve` is
+    the part of the disk that what comes leaves free."""
 
-    def __init__(self, network: Network, memory: Memory, turns: int):
-        self.network, self.memory, self.turns = network, memory, asyncio.Semaphore(turns)
+    def __init__(self, network: Network, memory: Memory, turns: int, reserve: float = 0.0):
+        self.network, self.memory, self.turns, self.reserve = network, memory, Fair(turns), reserve
         self.giving = set["asyncio.Task[None]"]()  # memory back, where nodes are left behind
 
     async def store(self, stream: AsyncIterator[bytes], epochs: int, stored: Optional[list[bytes]] = None) -> Told:
@@ -75,7 +78,7 @@ class Writer:
         stored = [] if stored is None else stored
         tasks: list["asyncio.Task[tuple[bytes, bool]]"] = []
         try:
-            async with contextlib.aclosing(pieces.split(stream, PIECE)) as parts:
+            async with contextlib.aclosing(pieces.split(stream, PIECE, self.reserve)) as parts:
                 async for piece in parts:
                     first, size = first or bytes(piece[: len(MARK)]), size + len(piece)
                     if len(tasks) >= AHEAD:
@@ -120,7 +123,7 @@ class Writer:
 
     async def gather(self, kind: str, stream: AsyncIterator[bytes]) -> tuple[bytes, list[Told]]:
         """The files of a form, one behind the other in a file without a name, and what is told of each."""
-        most, spool, members = 2 * self.network.ledger.faults, pieces.Spool(), list[Told]()
+        most, spool, members = 2 * self.network.ledger.faults, pieces.Spool(self.reserve), list[Told]()
         try:
             async for sent in files_of(kind, Source(stream), ASKED):
                 if len(members) == most:
@@ -141,7 +144,7 @@ class Writer:
         files = [memoryview(data)[end - it["size"] : end] for end, it in zip(ends, members)]  # noqa: E203
         async with self.memory.share(pieces.need_of(len(data), faults)):
             try:
-                async with self.turns:
+                async with self.turns.place(ASKING.get()):
                     made = await bundles.join(files, faults, self.network.walrus)
             except client.Refused as refused:
                 raise Problem(413, UNFIT) if refused.code in codes.DO_NOT_FIT else refused from None
@@ -153,7 +156,7 @@ class Writer:
         stack, identifier, faults = contextlib.AsyncExitStack(), b"", self.network.ledger.faults
         share = await stack.enter_async_context(self.memory.share(pieces.need_of(len(blob), faults)))
         try:
-            async with self.turns:
+            async with self.turns.place(ASKING.get()):
                 encoded = await self.network.walrus.encode(blob, faults)
             del blob
             share.shrink(sum(len(part) for parts in encoded.slivers for part in parts))

@@ -13,6 +13,7 @@ from . import operators, tokens
 from .dates import epochs_for
 from .fetching import fetch_any
 from .follower import Refused, Unreachable
+from .manifest import clean
 from .resuming import store
 from .transfers import Failure, ask, listed, store_bundle
 from .trees import store_folder
@@ -41,7 +42,7 @@ def tell_blob(told: dict[str, Any]) -> str:
     more = [f"{told['live']} shards are there now"] if found and "live" in told else []
     more += [f"{it}: {text}" for it, text in names.items() if text]
     until = f"{told['endEpoch']} ({told['ends']})" if told.get("ends") else told["endEpoch"]
-    return ", ".join([f"{told['blobId']} until epoch {until}", state, *more])
+    return clean(", ".join([f"{told['blobId']} until epoch {until}", state, *more]))
 
 
 def tell_figures(told: dict[str, dict[str, float]]) -> list[str]:
@@ -71,7 +72,7 @@ def tell_status(told: dict[str, Any]) -> str:
         lines.append(f"{it['name']}: {', '.join(words)}" + (f" ({it['said']})" if it["said"] else ""))
     if why := told.get("storing", {}).get("why"):
         lines.append(f"nothing can be stored now: {why}")
-    return "\n".join(lines + [tell_blob(it) for it in told["recent"][:10]])
+    return "\n".join([*map(clean, lines), *map(tell_blob, told["recent"][:10])])
 
 
 async def remotely(words: argparse.Namespace, session: aiohttp.ClientSession) -> int:
@@ -95,7 +96,8 @@ async def remotely(words: argparse.Namespace, session: aiohttp.ClientSession) ->
     for path in [""] if words.command != "store" or words.bundle else words.file:
         if words.command == "store" and words.bundle:
             told = await store_bundle(session, words.file, words.epochs)
-            text = "\n".join([tell_blob(told), *(f"{it['id']} {it['name']}" for it in told["members"])])
+            members = [clean(f"{it['id']} {it['name']}") for it in told["members"]]
+            text = "\n".join([tell_blob(told), *members])
         elif words.command == "store":
             way = store_folder if os.path.isdir(path) else store
             told = {"file": path, **await way(session, path, words.epochs)}
@@ -105,7 +107,7 @@ async def remotely(words: argparse.Namespace, session: aiohttp.ClientSession) ->
             text = tell_blob(told) if words.id else tell_status(told)
         else:
             told = await ask(session, "PUT", f"/v1/challenges/{words.id}/{words.node}")
-            text = f"{words.node} {'holds' if told['holds'] else 'lacks'} it: {told['said']}"
+            text = clean(f"{words.node} {'holds' if told['holds'] else 'lacks'} it: {told['said']}")
         print(json.dumps(told) if words.json else text, flush=True)
     return 0 if told.get("holds", True) else 3
 
@@ -190,7 +192,7 @@ def main() -> int:
         is_lost = isinstance(fault, (aiohttp.ClientError, TimeoutError)) and "gateway" in words
         text = f"{fault}: is the gateway running at {words.gateway}?" if is_lost else str(fault)
         text, status = fault.args if isinstance(fault, Failure) else (text, 1)
-    print(f"walrus-net {words.command}: {text}", file=sys.stderr)
+    print(f"walrus-net {words.command}:", "\n".join(map(clean, text.split("\n"))), file=sys.stderr)
     return int(status)
 
 

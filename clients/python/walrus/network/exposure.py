@@ -26,7 +26,7 @@ class Options(Exposure):
 
     memory: int = 268_435_456  # bytes of the whole gateway, whatever it is asked
     room: int = 2_147_483_648  # bytes of the disk for blobs that were read
-    reserve: float = 0.05  # of the disk, which folders that come leave free
+    reserve: float = 0.05  # of the disk, which what comes leaves free
     most: int = 17_179_869_184  # bytes of a file
     uploads: int = 256  # files that come in at once
     turns: int = 2  # blobs that are encoded at once

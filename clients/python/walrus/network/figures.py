@@ -1,8 +1,11 @@
 """What an operator sees of a node: its figures, which its port tells whoever asks; and a scrub begins when asked."""
+import asyncio
 import collections
+import contextlib
 import dataclasses
 import json
 import shutil
+import sqlite3
 import time
 from typing import TYPE_CHECKING, Any, Optional
 
@@ -31,7 +34,7 @@ NAMES = {  # of requests, as they are told
     client.FORGET: "forget",
     whole.WHOLE: "store",
 }
-FRESH = 10.0  # seconds for which what is held is not counted anew
+FRESH, MOMENT = 10.0, 1.0  # seconds for which what is held is not counted anew; that are waited for a count at most
 
 
 class NodePort(Port):
@@ -39,7 +42,8 @@ class NodePort(Port):
 
     def __init__(self, node: "Node", bounds: Bounds):
         super().__init__(node.reply, client.Shape(1), bounds)
-        self.node, self.counted = node, (-FRESH, dict[str, int]())
+        self.node, self.held, self.due = node, dict[str, int](), 0.0  # what was counted last, and when it is anew
+        self.counting: "Optional[asyncio.Task[None]]" = None
         self.times, self.moved = Times(), collections.Counter[str]()
 
     async def answer(self, client: Connection, sender: int, payload: Optional[Data]) -> Said:
@@ -64,6 +68,8 @@ class NodePort(Port):
     async def expect(self, request: Optional[Data]) -> None:
         if request and request[0] == whole.WHOLE:
             await self.node.intake.expect(memoryview(request))
+        elif request in (FIGURES, SCRUB):
+            await self.count()
 
     def longest(self) -> int:
         return max(self.shape.longest, whole.longest(self.shape))
@@ -71,14 +77,24 @@ class NodePort(Port):
     def place(self, size: int) -> memoryview:
         return whole.place(self.shape, size)
 
+    async def count(self) -> None:
+        """Has what is held counted, where that is due, by a thread; who asks waits a moment for it and no longer."""
+        if not self.counting and time.monotonic() > self.due:
+            self.counting = asyncio.create_task(self.count_anew())
+        if self.counting:
+            await asyncio.wait([self.counting], timeout=MOMENT)
+
+    async def count_anew(self) -> None:
+        with contextlib.suppress(sqlite3.OperationalError):  # such as a disk that is gone: the last figures stay
+            self.held = await self.node.store.asked(self.node.store.counts)
+        self.due, self.counting = time.monotonic() + FRESH, None
+
     def figures(self) -> dict[str, Any]:
         """What the node holds and how much of the disk is free, its judges, and how far it is with what it mends."""
-        node, now = self.node, time.monotonic()
-        if now > self.counted[0] + FRESH:
-            self.counted = now, node.store.counts()
+        node = self.node
         disk, room = shutil.disk_usage(node.store.path.parent), node.judges.room
         return {
-            "held": self.counted[1],
+            "held": self.held,
             "ledger": {"place": node.chain.place if node.chain else 0},
             "disk": {
                 "bytes": disk.total,
@@ -92,10 +108,11 @@ class NodePort(Port):
             "scrub": dataclasses.asdict(node.scrub.figures),
         }
 
-    def numbers(self) -> bytes:
+    async def numbers(self) -> bytes:
         """The same in the text format of Prometheus, with what was asked."""
         from . import metrics  # here alone: who is not asked for it does not load it
 
+        await self.count()
         gauges: dict[str, Any] = {
             f"{group}_{name}": it
             for group, told in self.figures().items()

@@ -2,10 +2,11 @@
 one that is refused. Then large files are stored, small ones in packs, and the manifest last."""
 import asyncio
 import contextlib
+import copy
 import hashlib
 import os
 import sqlite3
-from typing import IO, Any, AsyncIterator, Coroutine, Iterator, Sequence
+from typing import Any, AsyncIterator, Coroutine, Iterator, Sequence
 
 from . import pieces
 from .archives import Coming, opened
@@ -98,16 +99,9 @@ class Storing:
 
 
 class Spool(pieces.Spool):
-    """What comes of a folder. `reserve` is the part of the disk that is left free."""
+    """What comes of a folder."""
 
-    def __init__(self, reserve: float):
-        super().__init__()
-        self.reserve = reserve
-
-    def must_fit(self, file: IO[bytes], size: int) -> None:
-        disk = os.fstatvfs(file.fileno())
-        if disk.f_bavail * disk.f_frsize - size < self.reserve * disk.f_blocks * disk.f_frsize:
-            raise Problem(507, FULL)
+    full = FULL
 
     def cut(self, end: int) -> None:
         """Has what comes next take the place of what came behind this one."""
@@ -128,8 +122,9 @@ class Upload(Storing):
     """A folder that comes. `reserve` is the part of the disk that is left free."""
 
     def __init__(self, writer: Writer, costs: Costs, epochs: int, reserve: float, stored: list[bytes]):
-        super().__init__(writer, costs, epochs, stored)
+        super().__init__(copy.copy(writer), costs, epochs, stored)
         self.folder, self.spool = Folder(), Spool(reserve)
+        self.writer.reserve = 0.0  # once all of it has come, nothing keeps it from being stored
 
     def close(self) -> None:
         self.folder.close()

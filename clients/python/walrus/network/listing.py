@@ -1,9 +1,10 @@
 """Lists of blobs, and more time for those that are kept."""
+import asyncio
 import re
 
 from aiohttp import web
 
-from .blobs import Blob
+from .blobs import Blob, ending_of
 from .client import Network
 from .dates import date_of
 from .groups import all_of
@@ -11,15 +12,16 @@ from .problems import Problem, as_json
 from .reading import Reader
 from .shares import Charge
 from .shelf import Shelf
+from .turns import Turns, owner_of
 
-PAGE = 1_000  # blobs of a list that are told at once
+PAGE, AT_ONCE = 1_000, 2  # blobs of a list that are told at once; lists that are made at once
 
 
 class Lister:
     """Tells which blobs there are, and keeps files for longer."""
 
     def __init__(self, network: Network, reader: Reader, shelf: Shelf):
-        self.network, self.reader, self.shelf = network, reader, shelf
+        self.network, self.reader, self.shelf, self.turns = network, reader, shelf, Turns(AT_ONCE)
 
     async def list(self, request: web.Request) -> web.Response:
         """Blobs in the order of their identifiers, behind one of them, that end within so many epochs."""
@@ -33,8 +35,10 @@ class Lister:
         if not re.fullmatch("|[0-9a-f]{64}", after):
             raise Problem(400, "after is the identifier of a blob, or nothing")
         last, start = ledger.epoch + int(within), bytes.fromhex(after)
-        names = ledger.blobs.ending(start, last, PAGE + 1)
-        told = {"epoch": ledger.epoch, "blobs": [self.tell(name, ledger.blobs[name]) for name in names[:PAGE]]}
+        async with self.turns.take(owner_of(request)):
+            names = await ending(self.network, start, last)
+        found = [self.tell(name, blob) for name in names[:PAGE] if (blob := ledger.blobs.get(name))]
+        told = {"epoch": ledger.epoch, "blobs": found}
         more = names[PAGE - 1].hex() if len(names) > PAGE else None
         return as_json({**told, "next": more})
 
@@ -59,3 +63,11 @@ class Lister:
             await all_of(network.register(piece, until) for piece in short[:PAGE])
             del short[:PAGE]
         return self.tell(name, network.ledger.blobs[name])
+
+
+async def ending(network: Network, after: bytes, last: int) -> list[bytes]:
+    """Blobs of a list, and one behind it; by a thread where a file has them, as it may go over all of them."""
+    state, run = network.state, asyncio.get_running_loop().run_in_executor
+    if not state.name or not (state.whole or state.settle()):
+        return state.blobs.ending(after, last, PAGE + 1)
+    return await run(network.walrus.pool, ending_of, state.name, after, last, PAGE + 1)

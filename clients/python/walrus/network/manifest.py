@@ -119,6 +119,11 @@ def shown(name: Union[str, bytes]) -> str:
     return ascii(text[:100]) if CONTROLS.search(text) or not text.isprintable() else repr(text[:100])
 
 
+def clean(text: str) -> str:
+    """What somebody else says, as a terminal may have it: what is not printed is escaped, as it may be a command."""
+    return "".join(it if it.isprintable() else ascii(it)[1:-1] for it in text)
+
+
 def kind_of(path: str) -> str:
     """The media type of a file, by the ending of its name."""
     name = path.rpartition("/")[2]

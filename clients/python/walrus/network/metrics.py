@@ -106,7 +106,7 @@ async def serve(place: str, tell: Any) -> Server:
 
     async def answer(request: web.Request) -> web.Response:
         request.protocol.first.cancel()  # type: ignore[attr-defined]
-        return web.Response(body=tell(), headers=HEADERS)
+        return web.Response(body=await tell(), headers=HEADERS)
 
     app = web.Application()
     app.router.add_get("/metrics", answer)

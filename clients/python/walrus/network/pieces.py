@@ -3,7 +3,6 @@
 A piece that comes slowly takes no memory: what is more than a little of it goes to a file that has no name, and is
 read from there when it is its turn. So is a piece that was read, until it is sent."""
 import asyncio
-import collections
 import concurrent.futures
 import contextlib
 import dataclasses
@@ -13,10 +12,16 @@ import tempfile
 import threading
 from typing import IO, Any, AsyncGenerator, AsyncIterator, Callable, Optional, TypeVar, Union
 
+from ..fairness import Line
+
+from .problems import Problem
+from .turns import ASKING
+
 AHEAD, THREADS = 131_072, 4  # bytes of what comes that are in memory meanwhile; and what writes and reads the others
 DISK = concurrent.futures.ThreadPoolExecutor(THREADS, "spool")  # asyncio's own looks names up, perhaps for long
 LEAST, LATER = 1_048_576, 3.25  # what a piece takes at least; what it takes to be decoded, in its bytes
 TIMES, MORE = 8, 11  # what it takes to be encoded, in its bytes, at f = 1 and beyond
+FULL = "not all of it is stored: the gateway has too little room on its disk for what comes; send it again later"
 PATIENCE = 1.0  # seconds for which who wants memory waits for what can be ended
 Result = TypeVar("Result")
 
@@ -48,9 +53,12 @@ async def to_the_end(call: Callable[..., Result], *words: Any) -> Result:
 
 class Spool:
     """What comes: a little of it is in memory, and all before that in a file without a name. Threads write and read the
-    file, so that a busy disk holds up nobody else."""
+    file, so that a busy disk holds up nobody else. `reserve` is the part of the disk that is left free."""
 
-    def __init__(self) -> None:
+    full = FULL  # what is said where that part would be taken
+
+    def __init__(self, reserve: float = 0.0) -> None:
+        self.reserve = reserve
         self.kept, self.start = bytearray(), 0  # what is in memory, and what is before it
         self.file: Optional[IO[bytes]] = None  # which the first thread makes that writes
         self.turn, self.is_away = threading.RLock(), False  # whether anything was given to a thread
@@ -90,6 +98,9 @@ class Spool:
 
     def must_fit(self, file: IO[bytes], size: int) -> None:
         """Raises where so much more is not to be written."""
+        disk = os.fstatvfs(file.fileno())
+        if disk.f_bavail * disk.f_frsize - size < self.reserve * disk.f_blocks * disk.f_frsize:
+            raise Problem(507, self.full)
 
     async def whole(self) -> bytes:
         """All that came, once; its memory is that of the file."""
@@ -113,9 +124,9 @@ class Spool:
                 self.file.close()
 
 
-async def split(stream: AsyncIterator[bytes], size: int) -> AsyncGenerator[bytes, None]:
+async def split(stream: AsyncIterator[bytes], size: int, reserve: float = 0.0) -> AsyncGenerator[bytes, None]:
     """The pieces, of this size, of a file that comes in parts of any length; one, perhaps empty, at least."""
-    spool, full = Spool(), list[bytes]()
+    spool, full = Spool(reserve), list[bytes]()
     try:
         async for part in stream:
             view = memoryview(part)
@@ -123,7 +134,7 @@ async def split(stream: AsyncIterator[bytes], size: int) -> AsyncGenerator[bytes
                 rest = size - spool.end
                 await spool.add(view[:rest])
                 full.append(await spool.whole())
-                view, spool = view[rest:], Spool()
+                view, spool = view[rest:], Spool(reserve)
                 yield full.pop()  # of which nothing stays here
             await spool.add(view)
         yield await spool.whole()
@@ -181,18 +192,19 @@ class Wish:
     size: int
     later: int
     share: Share
+    owner: str = dataclasses.field(default_factory=ASKING.get)
     granted: "asyncio.Future[None]" = dataclasses.field(default_factory=lambda: asyncio.Future())
 
 
 class Memory:
-    """So many bytes for all that a gateway does. Who finds too little waits, behind who came before.
+    """So many bytes for all that a gateway does. Who finds too little waits, and those who ask have it in turn.
 
     Who will want more begins only if that is there too once others have given back what they have more, and nobody
     begins while one waits for more. So one of those who wait for more always finds it, once the others have ended."""
 
     def __init__(self, size: int):
         self.size, self.taken, self.grown = size, 0, 0  # what is taken, and what of it is more that was wanted later
-        self.waiting, self.growing = collections.deque[Wish](), list[Wish]()
+        self.waiting, self.growing = Line[Wish](), list[Wish]()
         self.late: "set[asyncio.Task[Any]]" = set()  # what is ended where others want the memory that it has
 
     def end_late(self) -> None:
@@ -212,10 +224,10 @@ class Memory:
         if self.growing and self.taken == sum(it.share.size for it in self.growing):  # he wants more than there is
             self.grant(self.growing.pop(0))
         while self.waiting and not self.growing:
-            wish = self.waiting[0]
+            wish = self.waiting.first()
             if self.taken and self.taken + wish.size + max(0, wish.later - self.grown) > self.size:
                 return
-            self.grant(self.waiting.popleft())
+            self.grant(self.waiting.take())
 
     def grant(self, wish: Wish) -> None:
         self.taken += wish.size
@@ -225,7 +237,10 @@ class Memory:
 
     async def wait(self, wish: Wish) -> None:
         """Waits until a wish is granted."""
-        (self.growing if wish.share.size else self.waiting).append(wish)
+        if wish.share.size:
+            self.growing.append(wish)
+        else:
+            self.waiting.add(wish.owner, wish)
         self.serve()
         ending = asyncio.get_running_loop().call_later(PATIENCE, self.end_late)
         try:
@@ -237,7 +252,7 @@ class Memory:
             elif wish in self.growing:
                 self.growing.remove(wish)
             else:
-                self.waiting.remove(wish)
+                self.waiting.drop(wish.owner, wish)
             self.serve()
             raise
         finally:

@@ -58,7 +58,8 @@ class Publisher:
 
     def __init__(self, network: Network, reader: Reader, lister: Lister, options: Options):
         self.network, self.reader, self.lister, self.options = network, reader, lister, options
-        self.writer, self.uploads = Writer(network, reader.memory, options.turns), Turns(options.uploads)
+        self.writer = Writer(network, reader.memory, options.turns, options.reserve)
+        self.uploads = Turns(options.uploads)
         self.used, self.shares = "", None  # type: str, Optional[Shares]
 
     def close(self) -> None:

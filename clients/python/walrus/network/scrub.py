@@ -1,5 +1,6 @@
 """A scrub: all that a node holds is read and judged once in so many days, at a bounded rate. What is wrong is recovered
-from the others, and what nothing names is removed. Where it stands is on the disk: a start goes on from there."""
+from the others, and what nothing names, or has expired, is removed. Where it stands is on the disk: a start goes on
+from there."""
 import asyncio
 import contextlib
 import dataclasses
@@ -68,6 +69,11 @@ class Scrub:
         shards = [it for side in self.node.sides.values() for it in side.values() if it.holding == holding]
         return max(shards, key=lambda it: it.epoch) if shards else None
 
+    def is_over(self, identifier: bytes) -> bool:
+        """Whether the ledger has a blob no more, all of which was heard: a node that was killed behind a checkpoint has
+        not dropped all that expired by it."""
+        return self.node.caught_up and identifier not in self.node.ledger.blobs
+
     async def scrub(self) -> None:
         """Judges all that is held, from where the scrub stands."""
         figures, store = self.figures, self.node.store
@@ -78,7 +84,10 @@ class Scrub:
         while following := store.next(*place):
             place, begun = following, time.monotonic()
             figures.holding, figures.after = place[0], place[1].hex()
-            if shard := self.shard(place[0]):
+            if self.is_over(place[1]):
+                store.expire([place[1]])
+                await self.node.durable()
+            elif shard := self.shard(place[0]):
                 size, fine = await shard.check(place[1])
                 figures.blobs, figures.bytes = figures.blobs + 1, figures.bytes + size
                 figures.wrong += not fine

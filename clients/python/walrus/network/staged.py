@@ -5,13 +5,14 @@ import contextlib
 import functools
 import pathlib
 import sqlite3
-from typing import Callable, Iterable, Optional
+from typing import Callable, Iterable, Optional, TypeVar
 
 from .database import Database
 from .files import Files
 
 TORN = "the database is torn: move it away and start the node without it, and the others fill it (network/OPERATING.md)"
 THREADS = 4  # for what takes long on the disk
+Result = TypeVar("Result")
 SOON, LATER = 0.002, 0.5  # seconds until what waits is committed: what a reply waits for, and what nobody waits for
 
 
@@ -109,6 +110,16 @@ class Staged(Database):
 
     def reader(self) -> sqlite3.Connection:
         return sqlite3.connect(f"file:{self.path}?mode=ro", uri=True)
+
+    async def asked(self, ask: Callable[[sqlite3.Connection], Result]) -> Result:
+        """What is asked of the disk in a thread with a reader of its own, as it may take long."""
+
+        def read() -> Result:
+            with contextlib.closing(self.reader()) as base:
+                return ask(base)
+
+        self.flush()  # so that the thread sees it
+        return await asyncio.get_running_loop().run_in_executor(self.pool, read)
 
     def close(self) -> None:
         self.flush()

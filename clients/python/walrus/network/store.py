@@ -122,12 +122,7 @@ class Store(Staged):
         words = "SELECT identifier FROM held WHERE holding = ? AND identifier BETWEEN ? AND ?"
         words += f" AND {SEEN} AND NOT wrong GROUP BY identifier HAVING {SETTLED}"
 
-        def ask() -> set[bytes]:
-            with contextlib.closing(self.reader()) as base:
-                return {row[0] for row in base.execute(words, (holding, first, last, epoch, epoch))}
-
-        self.flush()  # so that the thread sees it
-        return await asyncio.get_running_loop().run_in_executor(self.pool, ask)
+        return await self.asked(lambda it: {row[0] for row in it.execute(words, (holding, first, last, epoch, epoch))})
 
     def wrong(self, holding: int, identifier: bytes) -> set[int]:
         """The parts of a blob that were found to be wrong."""
@@ -198,7 +193,7 @@ class Store(Staged):
         row = self.base.execute(words, (holding, identifier)).fetchone()
         return (row[0], row[1]) if row else None
 
-    def counts(self) -> dict[str, int]:
-        """How many blobs are held and their bytes, and how many parts are known to be wrong."""
+    def counts(self, base: Optional[sqlite3.Connection] = None) -> dict[str, int]:
+        """How many blobs are held and their bytes, and how many parts are known to be wrong; goes over all of them."""
         words = f"SELECT total(part = {METADATA}), total(size), total(wrong) FROM held"
-        return dict(zip(("blobs", "bytes", "wrong"), map(int, self.base.execute(words).fetchone())))
+        return dict(zip(("blobs", "bytes", "wrong"), map(int, (base or self.base).execute(words).fetchone())))

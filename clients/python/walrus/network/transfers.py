@@ -14,6 +14,7 @@ from .. import bundles, client, library
 
 from .checked import Naming, is_named
 from .local import find_program
+from .manifest import clean
 
 PART, TRIES = 1_048_576, 5
 BY_STATUS = {404: 4, 410: 3, 503: 4}
@@ -47,7 +48,7 @@ async def check(response: aiohttp.ClientResponse) -> None:
     """Raises what a gateway says where it refuses."""
     if response.status not in (200, 201, 206):
         try:
-            text = str((await response.json(content_type=None))["error"]["text"])
+            text = clean(str((await response.json(content_type=None))["error"]["text"]))
         except (ValueError, KeyError, TypeError):
             text = f"status {response.status} comes from {response.url}: is this a gateway?"
         raise Failure(text, BY_STATUS.get(response.status, 1))

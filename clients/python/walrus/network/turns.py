@@ -33,8 +33,7 @@ class Turns:
         async with contextlib.AsyncExitStack() as stack:
             async with asyncio.timeout(WAITING), self.waiting(owner):
                 await stack.enter_async_context(own)
-                await self.all.acquire(owner)
-                stack.callback(self.all.release)
+                await stack.enter_async_context(self.all.place(owner))
             yield
 
     @contextlib.asynccontextmanager
