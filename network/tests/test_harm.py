@@ -130,6 +130,7 @@ class Halves(TurnCase):
 
         async def half(entries: list[Entry]) -> None:
             await apply(entries[:1])
+            state.entries()  # as somebody asks who restores a ledger
             raise asyncio.CancelledError
 
         with mock.patch.object(view, "apply", half), self.assertRaises(asyncio.CancelledError):

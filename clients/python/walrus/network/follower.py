@@ -223,13 +223,11 @@ class View:
         if (seconds := self.silence()) > AWAY:
             self.absence = seconds, time.monotonic(), self.recorders.said
         before, self.state.identity, self.entering = self.chain, news.ledger, True
-        try:
-            if news.pieces:
-                await self.take(news.pieces)
-            await self.apply(news.entries)
-        except BaseException:  # a part of them is entered: it is not saved, and all of them are heard again
+        self.state.chain = None  # nothing is saved before all is entered: who ends meanwhile hears all of it again
+        if news.pieces:
+            await self.take(news.pieces)
             self.state.chain = None
-            raise
+        await self.apply(news.entries)
         self.chain, self.head, self.heard_at = news.chain, news.head, time.monotonic()
         if self.chain != before or not self.state.whole:
             self.state.save(self.chain, news.entries, soon=True)
