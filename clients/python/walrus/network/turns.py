@@ -9,8 +9,7 @@ from typing import AsyncIterator, Optional
 
 from aiohttp import web
 
-from ..fairness import Fair
-from .limits import key_of
+from ..fairness import Fair, key_of
 
 WAITING = 60.0  # seconds for which one waits for a turn
 MOST = 1_000  # requests of one who asks that wait: more than there are connections, as who is gone waits still
