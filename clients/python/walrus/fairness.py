@@ -32,15 +32,16 @@ class Fair:
         self.serve()
 
     def serve(self) -> None:
-        """Gives the places that are free to those whose turn it is. Who waits no more is left out."""
+        """Gives the places that are free to those whose turn it is. Who waits no more costs nobody a turn."""
         while self.free and self.waiting:
             whom, places = self.waiting.popitem(last=False)
-            place = places.popleft()
+            while places and places[0].done():
+                places.popleft()
+            if places:
+                self.free -= 1
+                places.popleft().set_result(None)
             if places:
                 self.waiting[whom] = places  # behind the others
-            if not place.done():
-                self.free -= 1
-                place.set_result(None)
 
 
 def key_of(address: str) -> str:
