@@ -11,7 +11,7 @@ from typing import Any, Callable
 from unittest import mock
 
 from ledger_case import FOUNDED, registration
-from walrus import client, port
+from walrus import client, fairness, port
 from walrus.frames import answer
 from walrus.network import figures, node, recovery
 from walrus.network.entries import Chain, Entry
@@ -77,7 +77,15 @@ class Turns(TurnCase):
             await self.enter([BEGUN])  # for which nothing ends
         self.assertFalse(ending.called)
         self.assertEqual(self.store.counts()["blobs"], 6)
-        self.assertGreaterEqual(await self.enter(OVER), 20)
+        found, usual = list[set[int]](), self.store.expire
+
+        def expire(some: list[bytes]) -> None:
+            found.append({*self.node.sides})
+            usual(some)
+
+        with mock.patch.object(self.store, "expire", expire):
+            self.assertGreaterEqual(await self.enter(OVER), 20)
+        self.assertEqual(found, [{1}] * 20)  # the committee of now serves, and the one before no more
         held = [bool(self.store.sizes(1, 1, name)) for name in names]
         self.assertEqual(held, [False] * 4 + [True] * 2)
         self.assertEqual(self.state.ledger.epoch, 1)
@@ -139,6 +147,27 @@ class Halves(TurnCase):
         left = State(path)
         self.addCleanup(left.close)
         self.assertEqual((left.chain, len(left.ledger.blobs), left.ledger.posted["x"]), (chain, 1, 1))
+
+
+class Places(unittest.IsolatedAsyncioTestCase):
+    async def test_who_gives_up_costs_those_behind_no_turn(self) -> None:
+        """Else who has waited for so long that the first give up is passed over, again and again."""
+        asyncio.get_running_loop().set_debug(False)
+        places, order = fairness.Fair(1), list[str]()
+
+        async def have(whom: str) -> None:
+            await places.acquire(whom)
+            order.append(whom)
+
+        await have("x")
+        waiting = [asyncio.create_task(have(whom)) for whom in "aaaaabbb"]
+        await asyncio.sleep(0)
+        for it in (*waiting[:2], waiting[3]):
+            it.cancel()
+        for _ in range(5):
+            places.release()
+        await asyncio.gather(*waiting, return_exceptions=True)
+        self.assertEqual((order, places.waiting), ([*"xababb"], {}))
 
 
 class Ports(unittest.IsolatedAsyncioTestCase):

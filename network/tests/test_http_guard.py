@@ -15,9 +15,10 @@ from unittest import mock
 import aiohttp
 from guard_case import GuardCase, other_address
 from harness import HERE, usage_of
+from walrus.fairness import key_of
 from walrus.network import chunks, connections, reading, shares, tokens
 from walrus.network import limits as limits_module
-from walrus.network.limits import Bucket, Limits, is_address, is_inner, key_of
+from walrus.network.limits import Bucket, Limits, is_address, is_inner
 from walrus.network.certificates import make_authority
 from walrus.network.local import make_certificate
 

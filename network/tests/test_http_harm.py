@@ -10,7 +10,7 @@ import threading
 import time
 import tracemalloc
 import unittest
-from typing import Any, AsyncIterator
+from typing import Any, AsyncIterator, Coroutine
 from unittest import mock
 
 from aiohttp import web
@@ -20,8 +20,10 @@ from http_case import DRAWN
 from ledger_case import registration
 from walrus import client
 from walrus.frames import answer
-from walrus.network import archives, connections, digests, folders, intake, metrics, source, turns, unfinished, whole
+from walrus.network import archives, connections, digests, folders, intake, metrics, problems, reading, shelf
+from walrus.network import source, turns, unfinished, whole
 from walrus.network.client import Network
+from walrus.network.exposure import Options
 from walrus.network.local import free_port
 from walrus.network.manifest import Place
 
@@ -118,8 +120,9 @@ class Harm(GuardCase):
             await asyncio.sleep(0.1)
             for further in (places.take("a"), together.take("a", b"1"), together.take("a", b"2")):
                 with self.assertRaises(TimeoutError):
-                    async with asyncio.timeout(30), further:
+                    async with asyncio.timeout(30) as bound, further:
                         self.fail("one more waits")
+                self.assertFalse(bound.expired())
             waiting.append(asyncio.create_task(self.have(places.take("b"))))
         async with asyncio.timeout(30):
             await asyncio.gather(*waiting)
@@ -160,9 +163,11 @@ class Harm(GuardCase):
                     await asyncio.sleep(0.01)
                 await asyncio.sleep(0.2)
                 asked.append(asyncio.create_task(self.ask("GET", path.format(names[40]), headers=bob)))
+                while names[40] not in read and bytes.fromhex(names[40]) not in self.gateway.shelf.kept:
+                    await asyncio.sleep(0.01)  # Bob's request is on its way
                 while names[40] not in read:
-                    await asyncio.sleep(0.05)
                     goes_on.release()
+                    await asyncio.sleep(0.05)
             self.assertLessEqual(read.index(names[40]), most + 2)
             for _ in names:
                 goes_on.release()
@@ -211,7 +216,7 @@ class Harm(GuardCase):
             asked = f"GET /v1/status HTTP/1.1\r\nHost: 127.0.0.1:{self.port}\r\n".encode()
             with text:
                 opened = [await self.connect(asked + it + b"\r\n") for it in (b"", b"Connection: close\r\n")]
-                async with asyncio.timeout(60):
+                async with asyncio.timeout(20):  # after 30 s an idle connection ends anyway
                     while not self.gateway.each:
                         await asyncio.sleep(0.01)
                     while self.gateway.each:
@@ -262,6 +267,84 @@ class Harm(GuardCase):
         self.assertEqual((await self.ask("GET", path + "f" * 64))[2]["blobs"], [])
         self.assertEqual([it for it in ran if it.startswith("SELECT") and "until <=" in it], [])
         self.network.state.base.set_trace_callback(None)
+
+
+class Readings(unittest.IsolatedAsyncioTestCase):
+    """Places to read, of a reader whose network gives a blob once it may."""
+
+    async def asyncSetUp(self) -> None:
+        asyncio.get_running_loop().set_debug(False)
+        ledger = mock.Mock(blobs=mock.MagicMock(**{"__contains__.return_value": True}))
+        ledger.invalid.return_value = False
+        self.reader = reading.Reader(mock.Mock(ledger=ledger), Options())
+        self.addAsyncCleanup(self.reader.close)
+        self.read, self.goes_on = list[str](), collections.defaultdict[str, asyncio.Event](asyncio.Event)
+        self.enterContext(mock.patch.object(self.reader.cache, "read", self.fetch))
+
+    async def fetch(self, name: bytes, size: int) -> bytes:
+        self.read.append(name.decode())
+        await self.goes_on[name.decode()].wait()
+        return b"no folder"
+
+    async def have(self, whom: str, name: str) -> None:
+        turns.ASKING.set(whom)
+        async with self.reader.blob(name.encode()):
+            pass
+
+    async def settle(self, *asked: Coroutine[Any, Any, Any]) -> "list[asyncio.Task[Any]]":
+        """Begins what is asked for, one after the other, and lets all tasks go on as far as they can."""
+        begun = [asyncio.create_task(it) for it in asked]
+        for it in begun:
+            self.addCleanup(it.cancel)
+        for _ in range(50):
+            await asyncio.sleep(0)
+        return begun
+
+    async def test_a_place_is_held_while_a_blob_is_read_however_long_one_waited_for_it(self) -> None:
+        loop, passed = asyncio.get_running_loop(), 0.0
+        usual = loop.time
+        self.enterContext(mock.patch.object(loop, "time", lambda: usual() + passed))
+        self.reader.readings = turns.Turns(1, 1)
+        async with self.reader.readings.take("b"):
+            (first,) = await self.settle(self.have("a", "first"))
+            passed += turns.WAITING - 10
+            await self.settle()
+        (second,) = await self.settle(self.have("a", "second"))
+        passed += turns.WAITING - 10
+        await self.settle()
+        self.assertEqual(self.read, ["first"])
+        self.goes_on["first"].set()
+        self.goes_on["second"].set()
+        await asyncio.gather(first, second)
+        self.assertEqual(self.read, ["first", "second"])
+
+    async def test_many_who_wait_for_one_blob_have_one_place(self) -> None:
+        await self.settle(*(self.have(whom, "slow") for whom in "ab" * 8))
+        await self.settle(self.have("c", "other"))
+        self.assertEqual(self.read, ["slow", "other"])
+
+    async def test_no_folder_waits_behind_the_blobs_that_another_one_asks_for(self) -> None:
+        made = shelf.Shelf(self.reader)
+        self.addAsyncCleanup(made.close)
+
+        async def open_folder(whom: str, name: str) -> None:
+            turns.ASKING.set(whom)
+            with contextlib.suppress(problems.Problem):  # it is none
+                await made.manifest(name.encode())
+
+        await self.settle(*(self.have("a", str(it)) for it in range(40)))
+        self.assertEqual(len(self.read), 8)
+        self.goes_on["folder of a"].set()
+        await self.settle(open_folder("a", "folder of a"), open_folder("b", "folder of b"))
+        self.assertEqual(self.read[8:], ["folder of a", "folder of b"])
+
+    async def test_what_is_read_ahead_leaves_a_place_for_what_is_wanted_now(self) -> None:
+        await self.settle(*(self.have("a", str(it)) for it in range(5)))
+        turns.ASKING.set("a")
+        self.reader.read_ahead((f"piece {it}".encode(), 9, 0, 9) for it in range(4))
+        await self.settle(self.have("a", "now"))
+        self.assertEqual(self.read[5:], ["piece 0", "piece 1", "now"])
+        self.assertEqual(self.reader.readings.waits, {})
 
 
 class Tars(unittest.IsolatedAsyncioTestCase):

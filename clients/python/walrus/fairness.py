@@ -66,12 +66,14 @@ class Fair:
         self.serve()
 
     def serve(self) -> None:
-        """Gives the places that are free to those whose turn it is. Who waits no more is left out."""
+        """Gives the places that are free to those whose turn it is. Who waits no more costs nobody a turn."""
         while self.free and self.waiting:
-            place = self.waiting.take()
-            if not place.done():
+            whom, places = next(iter(self.waiting.items()))
+            if places[0].done():
+                self.waiting.drop(whom, places[0])
+            else:
                 self.free -= 1
-                place.set_result(None)
+                self.waiting.take().set_result(None)
 
 
 def key_of(address: str) -> str:

@@ -50,11 +50,6 @@ class Cache:
             entry.users -= 1
             self.freed.set()
 
-    def has(self, identifier: bytes) -> bool:
-        """Whether a blob is there, or known to be none."""
-        entry = self.entries.get(identifier)
-        return entry is not None and entry.task.done()
-
     def find(self, identifier: bytes, size: int = 0) -> "Entry | None":
         """The entry of a blob, begun where there is none; nothing where there is no room for it."""
         entry = self.entries.get(identifier)

@@ -13,8 +13,8 @@ from typing import Any, Callable, Optional, cast
 
 from aiohttp import http_exceptions, web
 
+from ..fairness import key_of
 from .entries import NAME
-from .limits import key_of
 
 FIRST, HANDSHAKE, EACH = 30.0, 5.0, 300  # seconds for a first request and for TLS; connections of one address
 MALFORMED = b"HTTP/1.1 400 Bad Request\r\nContent-Length: 0\r\nConnection: close\r\n\r\n"

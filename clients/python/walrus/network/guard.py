@@ -8,8 +8,9 @@ from typing import Any, Awaitable, Callable, Optional
 
 from aiohttp import hdrs, web
 
+from ..fairness import key_of
 from .exposure import Exposure
-from .limits import Flow, Limits, is_address, is_inner, is_loopback, key_of
+from .limits import Flow, Limits, is_address, is_inner, is_loopback
 from .problems import Problem
 from .tokens import ANYONE, READ, STORE, Token, Tokens
 

@@ -7,9 +7,6 @@ import re
 import time
 from typing import Sequence
 
-from ..fairness import key_of
-
-__all__ = ["Bucket", "Flow", "Limits", "is_address", "is_inner", "is_loopback", "key_of", "read_address"]
 MOST, BURST = 65_536, 2.0  # clients that are known at once; seconds for which what was not used is kept
 
 

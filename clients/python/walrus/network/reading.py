@@ -82,8 +82,9 @@ class Reader:
         """A blob, of this size, while it is used."""
         self.must_stand(identifier)
         async with contextlib.AsyncExitStack() as stack:
-            turn = contextlib.nullcontext() if self.cache.has(identifier) else self.readings.take(ASKING.get())
-            async with asyncio.timeout(WAITING), turn:
+            is_begun = identifier in self.cache.entries  # and so needs no place for a second reading
+            turn = contextlib.nullcontext() if is_begun else self.readings.take(ASKING.get())
+            async with turn, asyncio.timeout(WAITING):  # who has waited for a place has time to read
                 found = await stack.enter_async_context(self.cache.use(identifier, size or 0))
             if size not in (None, len(found)):
                 raise Problem(410, "the file's list is false: a piece of it has another length", invalid=True)
@@ -182,9 +183,11 @@ class Reader:
         return response
 
     def read_ahead(self, pieces: Iterable[tuple[bytes, int, int, int]]) -> None:
-        """Has pieces read, as far as who wants them has places for that."""
+        """Has pieces read, as far as who wants them has places for that, and one more for what is wanted now."""
+        left = self.readings.left(ASKING.get()) - 1
         for name, size, _, _ in pieces:
-            if self.stands(name) and name not in self.cache.entries and self.readings.is_free(ASKING.get()):
+            if left > 0 and self.stands(name) and name not in self.cache.entries:
+                left -= 1
                 task = asyncio.create_task(self.have_read(name, size))
                 self.ahead.add(task)
                 task.add_done_callback(self.ahead.discard)

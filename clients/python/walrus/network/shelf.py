@@ -68,6 +68,7 @@ class Shelf:
                 self.size -= 0 if is_none else len(dropped.result().data)
 
     async def load(self, name: bytes) -> Manifest:
+        ASKING.set("folders")  # in its own task: others wait for this turn, and not behind all that one asks for
         async with self.turn:
             data = await self.read(name)
             try:

@@ -9,8 +9,7 @@ from typing import AsyncIterator, Optional
 
 from aiohttp import web
 
-from ..fairness import Fair
-from .limits import key_of
+from ..fairness import Fair, key_of
 
 WAITING = 60.0  # seconds for which one waits for a turn
 MOST = 1_000  # requests of one who asks that wait: more than there are connections, as who is gone waits still
@@ -23,16 +22,16 @@ class Turns:
 
     def __init__(self, most: int, each: int = 0):
         self.all, self.each = Fair(most), each or max(1, most // PARTS)
-        self.own: "weakref.WeakValueDictionary[str, asyncio.Semaphore]" = weakref.WeakValueDictionary()
+        self.own: "weakref.WeakValueDictionary[str, Fair]" = weakref.WeakValueDictionary()
         self.waits = collections.Counter[str]()  # who waits, and how often
 
     @contextlib.asynccontextmanager
     async def take(self, owner: str) -> AsyncIterator[None]:
         """Has a place while it runs; raises `TimeoutError` where none becomes free for long, or too many wait."""
-        own = self.own.setdefault(owner, asyncio.Semaphore(self.each))  # stays while somebody has it
+        own = self.own.setdefault(owner, Fair(self.each))  # stays while somebody has it
         async with contextlib.AsyncExitStack() as stack:
             async with asyncio.timeout(WAITING), self.waiting(owner):
-                await stack.enter_async_context(own)
+                await stack.enter_async_context(own.place(owner))
                 await stack.enter_async_context(self.all.place(owner))
             yield
 
@@ -49,10 +48,10 @@ class Turns:
             if not self.waits[owner]:
                 del self.waits[owner]
 
-    def is_free(self, owner: str) -> bool:
-        """Whether one may have a further place, as soon as there is one."""
+    def left(self, owner: str) -> int:
+        """How many further places one may have, as soon as there are any."""
         own = self.own.get(owner)
-        return not own or not own.locked()
+        return own.free if own else self.each
 
 
 @dataclasses.dataclass
