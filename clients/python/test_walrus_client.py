@@ -1,8 +1,10 @@
 """Tests of the client: python3 -m unittest, in this folder. Those on the program use WALRUS, or ./walrus at the top."""
 import asyncio
 import contextlib
+import os
 import pathlib
 import random
+import signal
 import tempfile
 import unittest
 from collections.abc import Iterable
@@ -10,7 +12,7 @@ from unittest import mock
 
 import example_tools
 import liars
-from walrus import client, frames, loop as walrus_loop
+from walrus import client, executable, frames, loop as walrus_loop
 from walrus.refill import refill
 from walrus.serving import ProcessShard
 
@@ -483,9 +485,9 @@ class Errors(ProgramCase):
                 self.assertEqual(encoded, await self.walrus.encode(b"some blob", 1, form))
             self.assertEqual(pathlib.Path(name, "runs").read_text(), "run\n" * 2)
 
-    async def test_a_run_that_is_given_up_has_ended(self):
-        """Else asyncio complains of it on standard error, where an interrupt ends its loop."""
-        made, create = [], asyncio.create_subprocess_exec
+    async def give_up(self, first: str) -> tuple[asyncio.subprocess.Process, str]:
+        """A run that is given up, of a script whose first process has its output longer, and the number of that one."""
+        made, create = list[asyncio.subprocess.Process](), asyncio.create_subprocess_exec
 
         async def note(*words, **options):
             made.append(await create(*words, **options))
@@ -493,17 +495,32 @@ class Errors(ProgramCase):
 
         with tempfile.TemporaryDirectory() as name:
             slow, begun = pathlib.Path(name) / "slow", pathlib.Path(name) / "begun"
-            slow.write_text(f"#!/bin/sh\nsleep 2 &\ntouch {begun}\nexec sleep 600\n")  # the first has its output longer
+            slow.write_text(f"#!/bin/sh\n{first} &\necho $! >{begun}.new\nmv {begun}.new {begun}\nexec sleep 600\n")
             slow.chmod(0o755)
             with mock.patch.object(asyncio, "create_subprocess_exec", note):
                 task = asyncio.create_task(client.Walrus(str(slow)).run("id", 1, data=bytes(1_000_000)))
-                async with asyncio.timeout(SLOW):
-                    while not begun.exists():
+                async with asyncio.timeout(SLOW) as bound:
+                    while not (made and begun.exists()):
                         await asyncio.sleep(0.01)
                     task.cancel()
                     with self.assertRaises(asyncio.CancelledError):
                         await task
-        self.assertEqual((made[0].returncode, made[0].stdout.at_eof()), (-9, True))
+                self.assertFalse(bound.expired())
+            return made[0], begun.read_text()
+
+    async def test_a_run_that_is_given_up_has_ended(self):
+        """Else asyncio complains of it on standard error, where an interrupt ends its loop."""
+        with mock.patch.object(executable, "LINGERS", SLOW):
+            process, _ = await self.give_up("sleep 2")
+        self.assertEqual((process.returncode, process.stdout.at_eof()), (-9, True))
+
+    async def test_giving_up_a_run_does_not_wait_for_what_it_started(self):
+        with mock.patch.object(executable, "LINGERS", 0.2):
+            process, child = await self.give_up("sleep 600")
+        self.assertFalse(process.stdout.at_eof())
+        os.kill(int(child), signal.SIGKILL)
+        await process.communicate()
+        self.assertEqual((process.returncode, process.stdout.at_eof()), (-9, True))
 
     def test_a_program_that_is_none(self):
         for path, text in (

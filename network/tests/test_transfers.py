@@ -2,12 +2,15 @@
 import asyncio
 import collections
 import contextlib
+import errno
+import fcntl
 import os
 import pathlib
 import random
 import signal
 import tempfile
 import unittest
+from typing import IO
 from unittest import mock
 
 from harness import HERE
@@ -75,6 +78,53 @@ class Partial(unittest.TestCase):
                 second.write(b"second")
             self.assertEqual((self.out.read_bytes(), self.part.stat().st_size), (b"second", PIECE))
         self.assertEqual((self.out.stat().st_size, self.left()), (PIECE, ["out"]))
+
+    def test_what_another_one_begins_meanwhile_is_its_own(self) -> None:
+        """One begins just as another one has ended, or is about to give up: both end well, whichever is first."""
+        for patched, size in (("replace", PIECE), ("unlink", 1)):
+            call, second = getattr(os, patched), contextlib.ExitStack()
+            begun = list[IO[bytes]]()
+
+            def at_once(*words: str) -> None:
+                if patched == "replace":
+                    call(*words)
+                if not begun:
+                    begun.append(second.enter_context(checked.written_whole(str(self.out), self.name)))
+                if patched == "unlink":
+                    call(*words)
+
+            with mock.patch.object(os, patched, at_once), contextlib.suppress(KeyboardInterrupt):
+                with checked.written_whole(str(self.out), self.name) as first:
+                    first.write(bytes(size))
+                    if patched == "unlink":
+                        raise KeyboardInterrupt()
+            with second:
+                self.assertEqual(begun[0].read(), b"")
+                begun[0].write(b"second")
+            self.assertEqual((self.out.read_bytes(), self.left()), (b"second", ["out"]))
+
+    def test_a_file_of_another_one_does_not_take_the_place(self) -> None:
+        self.out.write_bytes(b"before")
+        with self.assertRaisesRegex(FileNotFoundError, "removed meanwhile"):
+            with checked.written_whole(str(self.out), self.name) as file:
+                file.write(b"whole")
+                self.part.unlink()
+                self.part.write_bytes(b"half")
+        self.assertEqual((self.out.read_bytes(), self.part.read_bytes()), (b"before", b"half"))
+
+    def test_where_a_disk_has_no_locks_nothing_is_left(self) -> None:
+        with mock.patch.object(fcntl, "flock", side_effect=OSError(errno.ENOLCK, "No locks available")):
+            for size in (0, PIECE):
+                if size:
+                    self.part.write_bytes(bytes(size))
+                self.give_up(PIECE, KeyboardInterrupt())
+                self.assertEqual(self.left(), [self.part.name] if size else [])
+            self.assertEqual(self.part.read_bytes(), bytes(PIECE))  # what came before stays
+        self.part.write_bytes(b"")
+        with open(self.part, "r+b") as other:
+            fcntl.flock(other, fcntl.LOCK_EX)
+            self.give_up(PIECE, KeyboardInterrupt())
+        self.assertEqual(self.left(), [self.part.name])
 
     def test_what_may_be_another_s_is_not_written(self) -> None:
         other = self.folder / "other"
@@ -320,6 +370,21 @@ class Transfers(TransferCase):
         _, said = await self.run_net("fetch", name, "--output", self.out, status=1)
         self.assertIn("this gateway lies", said)
         self.assertEqual((self.out.read_bytes() == blob, self.left()), (True, ["out"]))
+
+    async def test_what_stays_is_told_and_nothing_stays_of_no_use(self) -> None:
+        blob, name, part = await self.long_file()
+        fetch = "fetch", name, "--output", self.out
+        _, said = await self.run_net(*fetch, "--only", "x", status=4)
+        self.assertEqual(self.left(), [], said)
+        self.files = {}
+        part.write_bytes(blob[:PIECE])
+        _, said = await self.run_net(*fetch, status=4)
+        self.assertEqual(
+            (said, self.left()), (f"walrus-net fetch: no such blob; what has come stays in {part}\n", [part.name])
+        )
+        self.missing = 410
+        _, said = await self.run_net(*fetch, status=3)
+        self.assertEqual((said, self.left()), ("walrus-net fetch: no such blob\n", []))
 
     async def test_a_server_that_hears_no_ranges_gives_the_rest_too(self) -> None:
         blob, name, part = await self.long_file()

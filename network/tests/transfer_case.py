@@ -38,6 +38,7 @@ class TransferCase(unittest.IsolatedAsyncioTestCase):
         self.program, self.came, self.said = find_program(), 0, ""  # bytes of what is being stored; what it says of it
         self.starts, self.gone, self.whole = list[int](), False, False  # where each answer began; whether the gateway
         # goes in its midst, or hears no ranges
+        self.missing = 404  # what is said of a name that no file has
         app = web.Application(client_max_size=2**30)
         app.add_routes([web.get("/v1/status", self.status), web.get("/v1/blobs/{name}", self.give)])
         app.add_routes([web.put("/v1/blobs", self.take), web.post("/v1/bundles", self.take)])
@@ -63,7 +64,8 @@ class TransferCase(unittest.IsolatedAsyncioTestCase):
     async def give(self, request: web.Request) -> web.StreamResponse:
         data = self.files.get(request.match_info["name"])
         if data is None:
-            return web.json_response({"error": {"status": 404, "text": f"no such blob{self.said}"}}, status=404)
+            told = {"error": {"status": self.missing, "text": f"no such blob{self.said}"}}
+            return web.json_response(told, status=self.missing)
         start = int(request.headers.get("Range", "bytes=0-")[6:-1]) if not self.whole else 0
         self.starts.append(start)
         if start and start >= len(data):

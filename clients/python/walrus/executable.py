@@ -1,6 +1,7 @@
 """The program `walrus` as a process, which encodes, names, reads and recovers."""
 
 import asyncio
+import contextlib
 import os
 import pathlib
 import shutil
@@ -14,6 +15,7 @@ from .shards import Failed
 from .streams import split
 from .wire import Data
 
+LINGERS = 2.0  # seconds in which the output of a run that is given up ends, or is left
 Encoded = NamedTuple("Encoded", [("identifier", bytes), ("metadata", bytes), ("slivers", list[tuple[bytes, bytes]])])
 
 
@@ -92,8 +94,10 @@ class Walrus(NamedTuple):
         finally:
             if process.returncode is None and process.stdin:  # nobody waits for its result any more
                 process.kill()
-                await process.communicate()  # all of which asyncio would miss on standard error
-                await asyncio.gather(process.stdin.wait_closed(), return_exceptions=True)
+                ends = process.communicate(), process.stdin.wait_closed()  # which asyncio would miss on standard error
+                with contextlib.suppress(TimeoutError):  # a process that it started has its output still
+                    async with asyncio.timeout(LINGERS):
+                        await asyncio.gather(*ends, return_exceptions=True)
         return await process.wait(), text
 
     async def output(self, *words: object, data: Union[Data, Sequence[Data]] = b"") -> bytes:

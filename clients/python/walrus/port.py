@@ -52,15 +52,14 @@ class Connection:
 
     task: "asyncio.Task[None]"
     wire: Wire
+    whom: str = dataclasses.field(init=False)  # from where it is, which over TLS nobody knows once it has left
     since: float = dataclasses.field(default_factory=time.monotonic)
     had_reply: bool = False
     kept: int = 0
     replies: "asyncio.Queue[Optional[Said]]" = dataclasses.field(default_factory=lambda: asyncio.Queue(AHEAD))
 
-    @functools.cached_property
-    def whom(self) -> str:
-        """From where it is."""
-        return key_of(str((self.wire.get_extra_info("peername") or ("",))[0]))
+    def __post_init__(self) -> None:
+        self.whom = key_of(str((self.wire.get_extra_info("peername") or ("",))[0]))
 
     def __str__(self) -> str:
         return ":".join(map(str, (self.wire.get_extra_info("peername") or ("a client that left",))[:2]))

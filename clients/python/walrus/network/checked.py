@@ -1,5 +1,6 @@
 """Files whose identifiers are computed here, by the program walrus, and written only once they are those asked for."""
 import contextlib
+import errno
 import os
 import shutil
 import tempfile
@@ -76,9 +77,8 @@ def written_whole(output: str, identifier: str = "") -> Iterator[IO[bytes]]:
     folder, name = os.path.split(beside or "")
     before = partial.opened(partial.beside(beside, identifier)) if beside and identifier else None
     prefix, is_left = f".{name}." if name else None, False
-    made = before or tempfile.NamedTemporaryFile(dir=folder or None, prefix=prefix, delete=False)
-    try:
-        with made as file:
+    with before or tempfile.NamedTemporaryFile(dir=folder or None, prefix=prefix, delete=False) as file:
+        try:
             try:
                 yield file
             except BaseException as fault:
@@ -87,16 +87,17 @@ def written_whole(output: str, identifier: str = "") -> Iterator[IO[bytes]]:
             file.flush()
             if beside:
                 os.fsync(file.fileno())
-                os.chmod(made.name, mode_of(beside))
-                os.replace(made.name, beside)
+                os.fchmod(file.fileno(), mode_of(beside))
+                if not partial.is_there(file):
+                    raise FileNotFoundError(errno.ENOENT, "it was removed meanwhile: try again", file.name)
+                os.replace(file.name, beside)
             else:
                 file.seek(0)
                 with open(target or 1, "wb", closefd=bool(target)) as out:
                     shutil.copyfileobj(file, out)
-    finally:
-        if not is_left:
-            with contextlib.suppress(FileNotFoundError):
-                os.unlink(made.name)
+        finally:
+            if not is_left:
+                partial.remove(file)  # while it is locked, and never what has its name by now
 
 
 def mode_of(path: str) -> int:

@@ -11,8 +11,9 @@ import aiohttp
 from .checked import Naming, is_named, written_whole
 from .chunks import PIECE
 from .manifest import MARK, MOST_BYTES, Manifest, Place, Wrong, shown
+from .partial import beside
 from .places import Root, is_equal
-from .transfers import PART, Bar, Failure, fetch, naming_of, parts_of, receive
+from .transfers import BY_STATUS, PART, Bar, Failure, fetch, naming_of, parts_of, receive
 from .trees import Work, several
 
 
@@ -154,15 +155,32 @@ async def fetch_any(session: aiohttp.ClientSession, name: str, output: str, only
     (blob, number), data = parts_of(name), b""
     try:
         with written_whole(output, "" if number else blob) as out:
-            size = await fetch(session, name, out)
+            size = await fetch_file(session, name, out)
             out.seek(0)
             if output != "-" and not number and size <= MOST_BYTES and out.read(len(MARK)) == MARK:
                 data = MARK + out.read()
                 out.truncate(0)
                 raise IsFolder()
             if only:
+                out.truncate(0)
                 raise Failure(f"{name} is no folder: leave out --only", 4)
             out.seek(0, os.SEEK_END)
     except IsFolder:
         return await fetch_folder(session, data, output, only)
+    except Failure as fault:
+        text, status = fault.args
+        part = beside(os.path.realpath(output), blob)
+        if number or output == "-" or not os.path.exists(part):
+            raise
+        raise Failure(f"{text}; what has come stays in {part}", status) from None
     return {"size": size}
+
+
+async def fetch_file(session: aiohttp.ClientSession, name: str, out: IO[bytes]) -> int:
+    """Fetches a file; nothing is left of one that nobody can read any more."""
+    try:
+        return await fetch(session, name, out)
+    except Failure as fault:
+        if fault.args[1] == BY_STATUS[410]:
+            out.truncate(0)
+        raise

@@ -24,13 +24,31 @@ def opened(path: str) -> Optional[IO[bytes]]:
     """The file there, or a new one; nothing if another process is at it, or somebody else may write to it."""
     with contextlib.suppress(OSError), contextlib.ExitStack() as stack:
         file = stack.enter_context(open(path, "r+b", opener=made))
-        fcntl.flock(file, fcntl.LOCK_EX | fcntl.LOCK_NB)
         found = os.fstat(file.fileno())
         is_ours = stat.S_ISREG(found.st_mode) and found.st_nlink == 1 and found.st_uid == os.geteuid()
-        if is_ours and os.path.samestat(found, os.lstat(path)):  # and it was not put in its place meanwhile
+        try:
+            fcntl.flock(file, fcntl.LOCK_EX | fcntl.LOCK_NB)
+        except OSError as fault:
+            if is_ours and not found.st_size and not isinstance(fault, BlockingIOError):
+                remove(file)  # a disk that has no locks: nobody else is at it
+            raise
+        if is_ours and is_there(file):  # and it was not put in its place meanwhile
             stack.pop_all()
             return file
     return None
+
+
+def is_there(file: IO[bytes]) -> bool:
+    """Whether a file still has the name by which it was opened: it may have been removed, and another one made."""
+    with contextlib.suppress(FileNotFoundError):
+        return os.path.samestat(os.fstat(file.fileno()), os.lstat(file.name))
+    return False
+
+
+def remove(file: IO[bytes]) -> None:
+    """Removes a file while it is open, and so locked: nobody else has taken it meanwhile."""
+    if is_there(file):
+        os.unlink(file.name)
 
 
 def made(path: str, _: int) -> int:
