@@ -7,6 +7,7 @@ import contextlib
 import itertools
 import os
 import signal
+import socket
 import ssl
 import threading
 import unittest
@@ -66,7 +67,12 @@ class Slow(GatewayCase):
         names = [(await self.put(DRAWN.randbytes(4_000_000)))["blobId"] for _ in range(SLOW)]
         small = (await self.put(b"small"))["blobId"]
         before, _ = usage_of(os.getpid())
+        assert self.gateway.server
+        for listener in self.gateway.server.sockets:
+            listener.setsockopt(socket.SOL_SOCKET, socket.SO_SNDBUF, 16 * STEP)  # so that little is taken by the system
         readers = [await asyncio.open_connection("127.0.0.1", self.port, limit=2 * STEP) for _ in names]
+        for _, writer in readers:
+            writer.get_extra_info("socket").setsockopt(socket.SOL_SOCKET, socket.SO_RCVBUF, 16 * STEP)
         for name, (reader, writer) in zip(names, readers):
             writer.write(f"GET /v1/blobs/{name} HTTP/1.1\r\nHost: 127.0.0.1\r\n\r\n".encode())
             self.assertIn(b"200", await reader.readline())
