@@ -1,61 +1,34 @@
--- A field that is read is the field that was written, and what was written is read again, whatever follows.
-use Rattle.std.proofs.Common.{◌≡◌, ℕ, zero, suc, ◌^◌, ◌<◌, ◌≤◌, Bool, true, false, cond, eqb, List, [], ◌∷◌, ◌++◌, length, take, Result, Ok, Err, refl, sym, ap, subst, ◌∙◌, append_assoc, arith}
+-- The parts of frames: what is read is spelled so, what is spelled so is read, and a fault lies among the bytes.
+use Rattle.std.proofs.Common.{◌≡◌, ℕ, zero, suc, ◌+◌, ◌<◌, ◌≤◌, false, eqb, List, [], ◌∷◌, ◌++◌, length, take, drop, Result, Ok, Err, refl, sym, ap, ◌∙◌, arith}
 use Rattle.std.specs.Prelude.{⊤}
 use Rattle.std.specs.Int.{Width, w8, w16, byte_len, from_be_bytes}
-use Rattle.std.proofs.lemmas.Bool.{eqb-true, ne_eqb}
-use Rattle.std.proofs.lemmas.List.{length-take, nil_from_length}
+use Rattle.std.proofs.lemmas.Bool.{ne_eqb}
+use Rattle.std.proofs.lemmas.List.{length-append, length-take}
 use Rattle.wal_shape.specs.declared.axis.Axis.{Axis}
 use Rattle.wal_shape.specs.declared.axis.Axis.TheVariants.{Primary, Secondary}
+use Rattle.wal_shape.specs.declared.opening.Opening as single
 use Rattle.wal_shape.specs.declared.body.BodyFault.{BodyFault}
+use Rattle.wal_shape.specs.declared.body.BodyFault.TheVariants as body
 use Rattle.wal_shape.specs.Opening.{IsBody}
 use Rattle.wal_shape.specs.Spelling.{number_text, axis_number, body_text}
+use Rattle.wal_shape.specs.FieldReading.{◌>>=◌, number_at, run_at}
 use Rattle.wal_shape.specs.BodyReading.{body_at}
 use Rattle.wal_shape.specs.ProofReading.{axis_of}
 use Rattle.wal_shape.proofs.Numbers.{IsBytes, IsBytes-take, IsWide, wide8, wide16, byte_text}
-use Rattle.wal_shape.proofs.BodyLaws.{bind_ok, ok_is, Takes, Takes-then, number_takes, number_again, number_most, run_is, run_takes, run_again, body_fits, body_takes, body_again}
+use Rattle.wal_shape.proofs.Codecs.{ok_is, Reading, goes, fails, Codec, IsReader, taken_of, alone, both, seen, named, named_is}
+use Rattle.wal_shape.proofs.BodyLaws.{IsBelow, number_is, number_read, number_again, run_reads, run_again, body_is, body_again}
 use Rattle.wal_frame.specs.declared.frame.FrameError.{FrameError}
-use Rattle.wal_frame.specs.declared.frame.FrameError.TheVariants.{Trailing}
+use Rattle.wal_frame.specs.declared.frame.FrameError.TheVariants.{Truncated, BadField, Trailing}
 use Rattle.wal_frame.specs.declared.fields.Target.{Target}
-use Rattle.wal_frame.specs.Frame.{IsTarget, target_text}
-use Rattle.wal_shape.specs.FieldReading.{◌>>=◌, number_at, run_at}
-use Rattle.wal_frame.specs.Reading.{in_frame, from_place, field_at, bytes_at, axis_at, target_with, target_at, text_at, opening_at, ended}
-
-pub in_frame_ok : {A : Type 0} (r : Result A BodyFault) (x : A) → in_frame r ≡ Ok x → r ≡ Ok x
-in_frame_ok {A = A} (Ok y) x e = ap (λ (z : A). Ok z) (ok_is y x e)
-in_frame_ok (Err d) x e = absurd cc
-
--- ---- numbers
+use Rattle.wal_frame.specs.Frame.{IsId, IsTarget, target_text}
+use Rattle.wal_frame.specs.Reading.{IsPlaceBelow, in_frame, from_place, field_at, bytes_at, axis_at, target_with, target_at, text_at, opening_at, ended}
 
 -- the bytes of the number that was read are the bytes that were read
 pub number_back : (w : Width) (limit : ℕ) (wide : IsWide w limit) (bytes : List ℕ) (n : ℕ) → byte_len w ≤ length bytes → IsBytes bytes → n ≡ from_be_bytes w (take (byte_len w) bytes) → number_text w n ≡ take (byte_len w) bytes
 number_back w limit wide bytes n long fits e =
     ap (number_text w) e ∙ wide.back (take (byte_len w) bytes) (omega (arith, length-take (byte_len w) bytes)) (IsBytes-take (byte_len w) bytes fits)
 
-pub field_most : (w : Width) (place most : ℕ) (bytes : List ℕ) (x : ℕ × List ℕ) → field_at w place most bytes ≡ Ok x → x.0 ≤ most
-field_most w place most bytes x e = number_most w place most bytes x (in_frame_ok (number_at w place most bytes) x e)
-
-pub field_takes : (w : Width) (limit : ℕ) (wide : IsWide w limit) (place most : ℕ) (bytes : List ℕ) (x : ℕ × List ℕ) → IsBytes bytes → field_at w place most bytes ≡ Ok x → Takes bytes (number_text w x.0) x.1
-field_takes w limit wide place most bytes x fits e = number_takes w limit wide place most bytes x fits (in_frame_ok (number_at w place most bytes) x e)
-
-pub field_again : (w : Width) (limit : ℕ) (wide : IsWide w limit) (place most n : ℕ) (rest : List ℕ) → n < limit → n ≤ most → field_at w place most (number_text w n ++ rest) ≡ Ok (n, rest)
-field_again w limit wide place most n rest lt le = ap in_frame (number_again w limit wide place most n rest lt le)
-
--- ---- runs of bytes
-
-pub bytes_size : (n : ℕ) (bytes : List ℕ) (x : List ℕ × List ℕ) → bytes_at n bytes ≡ Ok x → length x.0 ≡ n
-bytes_size n bytes x e = (run_is n bytes x (in_frame_ok (run_at n bytes) x e)).0
-
-pub bytes_takes : (n : ℕ) (bytes : List ℕ) (x : List ℕ × List ℕ) → IsBytes bytes → bytes_at n bytes ≡ Ok x → Takes bytes x.0 x.1
-bytes_takes n bytes x fits e = run_takes n bytes x fits (in_frame_ok (run_at n bytes) x e)
-
-pub bytes_again : (n : ℕ) (run rest : List ℕ) → length run ≡ n → bytes_at n (run ++ rest) ≡ Ok (run, rest)
-bytes_again n run rest len = ap in_frame (run_again n run rest len)
-
 -- ---- the end
-
-end_ok : {A : Type 0} (b : Bool) (frame x : A) → cond b (Ok frame) (Err Trailing) ≡ Ok x → (b ≡ true) × (frame ≡ x)
-end_ok true frame x e = (refl, ok_is frame x e)
-end_ok false frame x e = absurd cc
 
 -- a byte that is left
 pub ended_not : {A : Type 0} (frame : A) (b : ℕ) (rest : List ℕ) → ended frame (b ∷ rest) ≡ Err Trailing
@@ -64,151 +37,173 @@ ended_not frame b rest =
     rw left refl
 
 pub ended_ok : {A : Type 0} (frame : A) (rest : List ℕ) (x : A) → ended frame rest ≡ Ok x → (frame ≡ x) × (rest ≡ [])
-ended_ok frame rest x e =
-    let g = end_ok (eqb (length rest) 0) frame x e in
-    (g.1, nil_from_length rest (eqb-true (length rest) 0 g.0))
+ended_ok frame [] x e = (ok_is frame x e, refl)
+ended_ok frame (b ∷ rest) x e = absurd (let two : Ok x ≡ Err Trailing = sym e ∙ ended_not frame b rest in cc)
 
--- ---- parts
+-- ---- numbers and runs of bytes
 
--- a reader of a part: the part that is read fits and was taken, and a part that fits is read again, whatever follows
-pub record Reads {A : Type 0} (Fits : A → Type 0) (text : A → List ℕ) (read : List ℕ → Result (A × List ℕ) FrameError) : Type 0 where
-  pub is : (bytes : List ℕ) (x : A × List ℕ) → IsBytes bytes → read bytes ≡ Ok x → Fits x.0 × Takes bytes (text x.0) x.1
-  pub again : (x : A) (rest : List ℕ) → Fits x → read (text x ++ rest) ≡ Ok (x, rest)
+in_frame_ok : {A : Type 0} (r : Result A BodyFault) (x : A) → in_frame r ≡ Ok x → r ≡ Ok x
+in_frame_ok {A = A} (Ok y) x e = ap (λ (z : A). Ok z) (ok_is y x e)
+in_frame_ok (Err d) x e = absurd cc
 
-module _ {A B : Type 0} {Fits : A → Type 0} {text : A → List ℕ} {read : List ℕ → Result (A × List ℕ) FrameError} where
-  -- the part that was read before the others
-  pub read_first : Reads Fits text read → (others : A × List ℕ → Result B FrameError) (bytes : List ℕ) (y : B) → IsBytes bytes → (read bytes >>= others) ≡ Ok y
-      → (x : A × List ℕ) × Fits x.0 × Takes bytes (text x.0) x.1 × (others x ≡ Ok y)
-  read_first reads others bytes y fits e =
-      let x = bind_ok (read bytes) others y e in
-      let is = reads.is bytes x.0 fits x.1 in
-      (x.0, is.0, is.1, x.2)
+module _ {A : Type 0} {Fits : A → Type 0} {text : A → List ℕ} (bytes : List ℕ) where
+  -- a part whose places are counted from the kind, as a part of a frame
+  pub framed : {place : ℕ} (r : Result (A × List ℕ) BodyFault) → Reading IsBelow Fits text place (λ x. Ok x) bytes r
+      → Reading IsPlaceBelow Fits text place (λ x. Ok x) bytes (in_frame r)
+  framed r (goes x fits taken same) = goes x fits taken (ap in_frame same)
+  framed r (fails body.Truncated below same) = fails Truncated (λ n le. tt) (ap in_frame same)
+  framed r (fails (body.BadField place) below same) = fails (BadField place) below (ap in_frame same)
 
-  -- a part is read, and the others behind it
-  pub first_again : Reads Fits text read → (others : A × List ℕ → Result B FrameError) (x : A) (rest : List ℕ) → Fits x → (read (text x ++ rest) >>= others) ≡ others (x, rest)
-  first_again reads others x rest h = ap (λ (r : Result (A × List ℕ) FrameError). r >>= others) (reads.again x rest h)
+  -- and a part whose places are counted from its own start
+  pub placed : (start : ℕ) (r : Result (A × List ℕ) BodyFault) → Reading IsBelow Fits text 0 (λ x. Ok x) bytes r
+      → Reading IsPlaceBelow Fits text start (λ x. Ok x) bytes (from_place start r)
+  placed start r (goes x fits taken same) = goes x fits taken (ap (from_place start) same)
+  placed start r (fails body.Truncated below same) = fails Truncated (λ n le. tt) (ap (from_place start) same)
+  placed start r (fails (body.BadField place) below same) =
+      let lt : place < length bytes = below (length bytes) (omega arith) in
+      fails (BadField (start + place)) (λ n le. omega (arith, le, lt)) (ap (from_place start) same)
 
-pub number : (w : Width) (limit : ℕ) → IsWide w limit → (place most : ℕ) → most < limit → Reads (λ n. n ≤ most) (number_text w) (field_at w place most)
-number w limit wide place most lt = record {
-  is = λ bytes x fits e. (field_most w place most bytes x e, field_takes w limit wide place most bytes x fits e);
-  again = λ n rest le. field_again w limit wide place most n rest (omega (arith, le, lt)) le;
-}
+module _ {w : Width} {limit : ℕ} (wide : IsWide w limit) (place most : ℕ) where
+  pub field_is : IsReader IsPlaceBelow (λ n. n ≤ most) (number_text w) place (field_at w place most)
+  field_is bytes = framed bytes (number_at w place most bytes) (number_is wide place most bytes)
+
+  -- the bytes of a number, whatever numbers stand for them
+  pub field_read : (bytes : List ℕ) (x : ℕ × List ℕ) → field_at w place most bytes ≡ Ok x
+      → (byte_len w ≤ length bytes) × (x.0 ≤ most) × (from_be_bytes w (take (byte_len w) bytes) ≡ x.0)
+      × (drop (byte_len w) bytes ≡ x.1)
+  field_read bytes x e = number_read wide place most bytes x (in_frame_ok (number_at w place most bytes) x e)
+
+  pub field_again : most < limit → (n : ℕ) (rest : List ℕ) → n ≤ most
+      → field_at w place most (number_text w n ++ rest) ≡ Ok (n, rest)
+  field_again lt n rest le = ap in_frame (number_again wide place most lt n rest le)
+
+  -- a number
+  abbrev pub number : most < limit → Codec IsPlaceBelow ℕ
+  number lt = alone IsPlaceBelow (λ n. n ≤ most) (number_text w) place (field_at w place most) field_is (field_again lt)
 
 abbrev pub byte_of : ℕ → List ℕ
 byte_of n = n ∷ []
 
+pub byte_spelled : (most : ℕ) → most < 256 → (n : ℕ) → n ≤ most → number_text w8 n ≡ byte_of n
+byte_spelled most lt n le = sym (byte_text n (omega (arith, le, lt)))
+
 -- a number of one byte
-pub byte : (place most : ℕ) → most < 256 → Reads (λ n. n ≤ most) byte_of (field_at w8 place most)
-byte place most lt = record {
-  is = λ bytes x fits e.
-      let le = field_most w8 place most bytes x e in
-      let spelled : number_text w8 x.0 ≡ byte_of x.0 = sym (byte_text x.0 (omega (arith, le, lt))) in
-      (le, subst (λ (t : List ℕ). Takes bytes t x.1) spelled (field_takes w8 (2 ^ 8) wide8 place most bytes x fits e));
-  again = λ n rest le.
-      ap (λ (t : List ℕ). field_at w8 place most (t ++ rest)) (byte_text n (omega (arith, le, lt)))
-      ∙ field_again w8 (2 ^ 8) wide8 place most n rest (omega (arith, le, lt)) le;
-}
+abbrev pub byte : (place most : ℕ) → most < 256 → Codec IsPlaceBelow ℕ
+byte place most lt = seen (number wide8 place most lt) (λ n. n) (λ n. n) (λ n. n ≤ most) byte_of
+    (λ n le. (le, byte_spelled most lt n le)) (λ n le. (le, byte_spelled most lt n le, refl))
 
-pub run : (n : ℕ) → Reads (λ r. length r ≡ n) (λ r. r) (bytes_at n)
-run n = record {
-  is = λ bytes x fits e. (bytes_size n bytes x e, bytes_takes n bytes x fits e);
-  again = λ r rest len. bytes_again n r rest len;
-}
+module _ (n place : ℕ) where
+  pub bytes_are : IsReader IsPlaceBelow (λ r. length r ≡ n) (λ r. r) place (bytes_at n)
+  bytes_are bytes = framed bytes (run_at n bytes) (run_reads n place bytes)
 
-axis_byte : (n : ℕ) → n ≤ 1 → byte_of n ≡ byte_of (axis_number (axis_of n))
+  -- a run of bytes
+  abbrev pub run : Codec IsPlaceBelow (List ℕ)
+  run = alone IsPlaceBelow (λ r. length r ≡ n) (λ r. r) place (bytes_at n) bytes_are
+      (λ r rest len. ap in_frame (run_again n r rest len))
+
+-- ---- axes, targets and texts
+
+pub axis_byte : (n : ℕ) → n ≤ 1 → byte_of n ≡ byte_of (axis_number (axis_of n))
 axis_byte zero le = refl
 axis_byte (suc zero) le = refl
 axis_byte (suc (suc n)) le = absurd (omega arith)
 
-axis_of-number : (axis : Axis) → axis_of (axis_number axis) ≡ axis
-axis_of-number Primary = refl
-axis_of-number Secondary = refl
+pub axis_back : (axis : Axis) → (axis_number axis ≤ 1) × (byte_of (axis_number axis) ≡ byte_of (axis_number axis))
+    × (axis_of (axis_number axis) ≡ axis)
+axis_back Primary = (omega arith, refl, refl)
+axis_back Secondary = (omega arith, refl, refl)
 
-axis_number-most : (axis : Axis) → axis_number axis ≤ 1
-axis_number-most Primary = omega arith
-axis_number-most Secondary = omega arith
+abbrev pub axis_value : ℕ → Codec IsPlaceBelow Axis
+axis_value place = seen (byte place 1 (omega arith)) axis_of axis_number (λ a. ⊤) (λ a. byte_of (axis_number a))
+    (λ n le. (tt, axis_byte n le)) (λ a h. axis_back a)
 
-abbrev pub as_axis : ℕ × List ℕ → Result (Axis × List ℕ) FrameError
-as_axis n = Ok (axis_of n.0, n.1)
+pub axis_same : (place : ℕ) (bytes : List ℕ)
+    → axis_at place bytes ≡ (axis_value place).read (Axis × List ℕ) bytes (λ x. Ok x)
+unfolding axis_at
+axis_same place bytes = refl
 
 -- an axis
-pub axis : (place : ℕ) → Reads (λ a. ⊤) (λ a. byte_of (axis_number a)) (axis_at place)
-unfolding axis_at
-axis place = record {
-  is = λ bytes x fits e.
-      let n = read_first (byte place 1 (omega arith)) as_axis bytes x fits e in
-      let taken = subst (λ (t : List ℕ). Takes bytes t n.0.1) (axis_byte n.0.0 n.1) n.2 in
-      (tt, subst (λ (y : Axis × List ℕ). Takes bytes (byte_of (axis_number y.0)) y.1) (ok_is (axis_of n.0.0, n.0.1) x n.3) taken);
-  again = λ a rest h.
-      first_again (byte place 1 (omega arith)) as_axis (axis_number a) rest (axis_number-most a)
-      ∙ ap (λ (b : Axis). Ok (b, rest)) (axis_of-number a);
-}
-
-abbrev pub after_index : List ℕ → Axis → ℕ × List ℕ → Result (Target × List ℕ) FrameError
-after_index id axis index = Ok (target_with id axis index.0, index.1)
-
-abbrev pub after_axis : List ℕ → Axis × List ℕ → Result (Target × List ℕ) FrameError
-after_axis id axis = field_at w16 34 999 axis.1 >>= after_index id axis.0
-
-abbrev pub after_id : List ℕ × List ℕ → Result (Target × List ℕ) FrameError
-after_id id = axis_at 33 id.1 >>= after_axis id.0
+abbrev pub axis : ℕ → Codec IsPlaceBelow Axis
+axis place = named (axis_value place) (axis_at place) (axis_same place)
 
 abbrev pub text_of_target : Target → List ℕ
 text_of_target t = target_text t.id.0 t.axis t.index
 
--- an identifier, an axis and an index
-pub target : Reads (λ t. IsTarget t.id.0 t.index) text_of_target target_at
-unfolding target_at
-target = record {
-  is = λ bytes x fits e.
-      let id = read_first (run 32) after_id bytes x fits e in
-      let a = read_first (axis 33) (after_axis id.0.0) id.0.1 x id.2.rest_fits id.3 in
-      let index = read_first (number w16 (2 ^ 16) wide16 34 999 (omega arith)) (after_index id.0.0 a.0.0) a.0.1 x a.2.rest_fits a.3 in
-      let one = Takes-then bytes id.0.0 id.0.1 (byte_of (axis_number a.0.0)) a.0.1 id.2 a.2 in
-      let two = Takes-then bytes (id.0.0 ++ byte_of (axis_number a.0.0)) a.0.1 (number_text w16 index.0.0) index.0.1 one index.2 in
-      let made : Target × List ℕ = (target_with id.0.0 a.0.0 index.0.0, index.0.1) in
-      subst (λ (y : Target × List ℕ). IsTarget y.0.id.0 y.0.index × Takes bytes (text_of_target y.0) y.1) {x = made} (ok_is made x index.3)
-      (record { id_size = id.1; index_most = index.1 }, two);
-  again = λ t rest h.
-      let id = t.id.0 in
-      let a = byte_of (axis_number t.axis) in
-      let i = number_text w16 t.index in
-      ap target_at (append_assoc (id ++ a) i rest ∙ append_assoc id a (i ++ rest))
-      ∙ first_again (run 32) after_id id (a ++ (i ++ rest)) h.id_size
-      ∙ first_again (axis 33) (after_axis id) t.axis (i ++ rest) tt
-      ∙ first_again (number w16 (2 ^ 16) wide16 34 999 (omega arith)) (after_index id t.axis) t.index rest h.index_most;
-}
+abbrev pub target_value : Codec IsPlaceBelow Target
+target_value =
+    seen (both (both (run 32 1) (λ id. axis 33) (λ id len. omega (arith, len)))
+    (λ x. number wide16 34 999 (omega arith))
+    (λ x fits. omega (arith, fits.0, length-append x.0 (byte_of (axis_number x.1)))))
+    (λ x. target_with x.0.0 x.0.1 x.1) (λ t. ((t.id.0, t.axis), t.index)) (λ t. IsTarget t.id.0 t.index) text_of_target
+    (λ x fits. (record { id_size = fits.0.0; index_most = fits.1 }, refl))
+    (λ t h. (((h.id_size, tt), h.index_most), refl, refl))
 
-abbrev pub sized : ℕ × List ℕ → Result (List ℕ × List ℕ) FrameError
-sized size = bytes_at size.0 size.1
+pub target_same : (bytes : List ℕ) → target_at bytes ≡ target_value.read (Target × List ℕ) bytes (λ x. Ok x)
+unfolding target_at
+target_same bytes = refl
+
+-- an identifier, an axis and an index
+abbrev pub target : Codec IsPlaceBelow Target
+target = named target_value target_at target_same
+
+pub length-target : (id : List ℕ) (axis : Axis) (index : ℕ) → IsId id → length (target_text id axis index) ≡ 35
+length-target id axis index size =
+    let a = axis_number axis ∷ [] in
+    omega (arith, size, length-append (id ++ a) (number_text w16 index), length-append id a)
+
+pub target_is : IsReader IsPlaceBelow (λ t. IsTarget t.id.0 t.index) text_of_target 1 target_at
+target_is = named_is target_value target_at target_same
+
+-- an identifier stands first
+pub target_long : (bytes : List ℕ) (t : Target) (rest : List ℕ) → target_at bytes ≡ Ok (t, rest) → 32 ≤ length bytes
+target_long bytes t rest e =
+    let is =
+    taken_of IsPlaceBelow (λ t. IsTarget t.id.0 t.index) text_of_target 1 target_at target_is bytes (t, rest) e in
+    omega (arith, is.1.size, length-target t.id.0 t.axis t.index is.0.id_size)
+
+-- what stands behind it
+pub behind_target : (t : Target) → IsTarget t.id.0 t.index → 36 ≤ 1 + length (text_of_target t)
+behind_target t h = omega (arith, length-target t.id.0 t.axis t.index h.id_size)
 
 abbrev pub text_behind_size : List ℕ → List ℕ
 text_behind_size t = length t ∷ t
 
--- a text behind its size
-pub text : (place : ℕ) → Reads (λ t. length t ≤ 65) text_behind_size (text_at place)
-unfolding text_at
-text place = record {
-  is = λ bytes x fits e.
-      let size = read_first (byte place 65 (omega arith)) sized bytes x fits e in
-      let content = (run size.0.0).is size.0.1 x size.2.rest_fits size.3 in
-      let len : size.0.0 ≡ length x.0 = sym content.0 in
-      let most : length x.0 ≤ 65 = subst (λ (k : ℕ). k ≤ 65) len size.1 in
-      let taken = Takes-then bytes (byte_of size.0.0) size.0.1 x.0 x.1 size.2 content.1 in
-      (most, subst (λ (k : ℕ). Takes bytes (byte_of k ++ x.0) x.1) len taken);
-  again = λ t rest h.
-      first_again (byte place 65 (omega arith)) sized (length t) (t ++ rest) h ∙ bytes_again (length t) t rest refl;
-}
+abbrev pub text_value : ℕ → Codec IsPlaceBelow (List ℕ)
+text_value place =
+    seen (both (byte place 65 (omega arith)) (λ n. run n 0) (λ n le. omega arith))
+    (λ x. x.1) (λ t. (length t, t)) (λ t. length t ≤ 65) text_behind_size
+    (λ x fits. (omega (arith, fits.0, fits.1), ap (λ (n : ℕ). n ∷ x.1) (sym fits.1))) (λ t h. ((h, refl), refl, refl))
 
-pub from_place_ok : {A : Type 0} (place : ℕ) (r : Result A BodyFault) (x : A) → from_place place r ≡ Ok x → r ≡ Ok x
-from_place_ok {A = A} place (Ok y) x e = ap (λ (z : A). Ok z) (ok_is y x e)
-from_place_ok place (Err d) x e = absurd cc
+last_ok : {A : Type 0} (r : Result A FrameError) → r ≡ (r >>= (λ x. Ok x))
+last_ok (Ok x) = refl
+last_ok (Err e) = refl
+
+then_ok : {A B : Type 0} (r : Result A FrameError) (f : A → Result B FrameError)
+    → (r >>= f) ≡ (r >>= (λ x. f x >>= (λ y. Ok y)))
+then_ok (Ok x) f = last_ok (f x)
+then_ok (Err e) f = refl
+
+pub text_same : (place : ℕ) (bytes : List ℕ)
+    → text_at place bytes ≡ (text_value place).read (List ℕ × List ℕ) bytes (λ x. Ok x)
+unfolding text_at
+text_same place bytes = then_ok (field_at w8 place 65 bytes) (λ size. bytes_at size.0 size.1)
+
+-- a text behind its size
+abbrev pub text : ℕ → Codec IsPlaceBelow (List ℕ)
+text place = named (text_value place) (text_at place) (text_same place)
+
+-- a text that was read is short
+pub text_short : (place : ℕ) (bytes : List ℕ) (x : List ℕ × List ℕ) → text_at place bytes ≡ Ok x → length x.0 ≤ 65
+text_short place bytes x e =
+    let is = named_is (text_value place) (text_at place) (text_same place) in
+    (taken_of IsPlaceBelow (λ t. length t ≤ 65) text_behind_size place (text_at place) is bytes x e).0
+
+-- ---- openings
+
+pub opening_is : (place : ℕ) → IsReader IsPlaceBelow IsBody body_text place (opening_at place)
+opening_is place bytes = placed bytes place (body_at bytes) (body_is bytes)
 
 -- an opening body
-pub opening : (place : ℕ) → Reads IsBody body_text (opening_at place)
-opening place = record {
-  is = λ bytes x fits e.
-      let body = from_place_ok place (body_at bytes) x e in
-      (body_fits bytes x body, body_takes bytes x fits body);
-  again = λ o rest h. ap (from_place place) (body_again o rest h);
-}
+abbrev pub opening : ℕ → Codec IsPlaceBelow single.Opening
+opening place = alone IsPlaceBelow IsBody body_text place (opening_at place) (opening_is place)
+    (λ o rest h. ap (from_place place) (body_again o rest h))

@@ -1,9 +1,9 @@
--- What each kind's reader reads is spelled so, and behind what is spelled so nothing may follow.
-use Rattle.std.proofs.Common.{◌≡◌, ℕ, zero, suc, ◌+◌, ◌-◌, ◌*◌, ◌^◌, ◌<◌, ◌≤◌, Bool, true, false, cond, eqb, List, [], ◌∷◌, ◌++◌, length, drop, Some, Result, Ok, Err, refl, sym, ap, subst, ◌∙◌, append_assoc, arith}
-use Rattle.std.specs.Int.{w8, w16, w32, w64}
+-- Each kind of frame that is read is spelled so, and a fault lies among the bytes.
+use Rattle.std.proofs.Common.{◌≡◌, ℕ, zero, suc, ◌+◌, ◌-◌, ◌*◌, ◌<◌, ◌≤◌, Bool, true, false, cond, eqb, List, [], ◌∷◌, ◌++◌, length, get_or, take, drop, Some, Result, Ok, Err, refl, sym, ap, subst, ◌∙◌, append_assoc, arith}
+use Rattle.std.specs.Int.{w8, w16, w32, w64, from_be_bytes}
 use Rattle.std.specs.List.{AllByRecursion, flat_map}
 use Rattle.std.proofs.lemmas.Bool.{eqb-true, eqb-false, ne_eqb}
-use Rattle.std.proofs.lemmas.List.{append-nil, length-append, drop_at}
+use Rattle.std.proofs.lemmas.List.{append-nil, length-append, length-drop, drop_at}
 use Rattle.wal_shape.specs.declared.axis.Axis.{Axis}
 use Rattle.wal_shape.specs.declared.axis.Axis.TheVariants.{Primary, Secondary}
 use Rattle.wal_shape.specs.declared.opening.Opening as single
@@ -14,133 +14,141 @@ use Rattle.wal_shape.specs.Shape.{most_bytes, shard_count}
 use Rattle.wal_shape.specs.Metadata.{BlobMetadata, IsMetadata, held_order}
 use Rattle.wal_shape.specs.Opening.{IsBody}
 use Rattle.wal_shape.specs.EncodingProof.{EncodingProof, IsProof}
-use Rattle.wal_shape.specs.Spelling.{number_text, axis_number, pairs_text, format_text, metadata_text, body_text, proof_text}
+use Rattle.wal_shape.specs.FieldReading.{◌>>=◌}
+use Rattle.wal_shape.specs.Spelling.{number_text, axis_number, pairs_text, format_text, metadata_text, body_text, proof_text, text_size}
 use Rattle.wal_shape.specs.MetadataReading.{spelled_f, spelled_length, spelled_metadata, spelled_format, behind_format}
 use Rattle.wal_shape.specs.inside.MetadataReading.{SpellMetadata, AreNumbersAndRoots}
 use Rattle.wal_shape.specs.BodyReading.{body_at}
 use Rattle.wal_shape.specs.ProofReading.{openings_in}
 use Rattle.wal_shape.specs.inside.ProofReading.{bodies_end, behind}
-use Rattle.wal_shape.proofs.Numbers.{IsBytes, wide16, wide32, wide64}
-use Rattle.wal_shape.proofs.BodyLaws.{bind_ok, guard_ok, ok_is, Takes-then}
+use Rattle.wal_shape.proofs.Numbers.{IsBytes, wide8, wide16, wide32, wide64}
+use Rattle.wal_shape.proofs.Codecs.{ok_is, taken_of, Reading, goes, fails, Codec, checked, both, seen, named, named_is}
+use Rattle.wal_shape.proofs.BodyLaws.{bind_ok, guard_ok}
 use Rattle.wal_shape.proofs.ProofLaws.{length-openings_in, openings_in-fit, openings_in-take, openings_in-again, regroup_bodies}
-use Rattle.wal_shape.proofs.MetadataLaws.{text_behind, metadata_text-format, length-behind, spelled_format-one, spelled_format-two, behind_format-one, behind_format-two, spelled_metadata-format, spelled_metadata-text}
+use Rattle.wal_shape.proofs.MetadataLaws.{text_behind, metadata_text-format, length-behind, format_again, behind_again, size_by, spelled_metadata-format, spelled_metadata-f, spelled_metadata-text, IsMetadata-spelled, metadata_text-spelled, length-metadata_text}
 use Rattle.wal_frame.specs.declared.fields.Target.{Target}
 use Rattle.wal_frame.specs.declared.frame.FrameError.{FrameError}
 use Rattle.wal_frame.specs.declared.frame.FrameError.TheVariants.{BadField}
-use Rattle.wal_frame.specs.Frame.{Frame, Metadata, Sliver, Opening, Proof, Symbol, Answer, Clash, RegisterEntry, IsId, IsTarget, target_text}
-use Rattle.wal_shape.specs.FieldReading.{◌>>=◌}
-use Rattle.wal_frame.specs.Reading.{field_at, bytes_at, target_at, text_at, opening_at, faults_at, roots_at, metadata_at, version_at, metadata2_at, sliver_at, opened_at, bodies_at, proof_with, proof_at, name_at, symbol_at, answer_at, clash_at, register_at, entry_at, ended}
-use Rattle.wal_frame.proofs.FieldLaws.{field_most, field_takes, field_again, bytes_size, bytes_takes, bytes_again, ended_ok, ended_not, Reads, read_first, first_again, number, byte, byte_of, run, target, text, opening, text_of_target, text_behind_size, from_place_ok}
+use Rattle.wal_frame.specs.Frame.{Frame, Metadata, Sliver, Opening, Proof, Symbol, Answer, Clash, RegisterEntry, IsId, IsTarget, IsFrame, metadata_kind, target_text, frame_text}
+use Rattle.wal_frame.specs.Reading.{IsPlaceBelow, field_at, bytes_at, from_place, target_at, opening_at, faults_at, roots_at, metadata_at, version_at, metadata2_at, sliver_at, opened_at, bodies_at, proof_with, proof_at, name_at, symbol_at, answer_at, clash_at, register_at, entry_at, made, ended}
+use Rattle.wal_frame.proofs.FieldLaws.{ended_not, field_read, bytes_are, number, byte, byte_of, run, target, text, opening, opening_is, text_of_target, behind_target}
 
--- ---- slivers
+-- ---- frames
 
-abbrev pub sliver_of_target : Target → List ℕ → Frame
-sliver_of_target t content = Sliver t.id.0 t.axis t.index content
+-- a frame that was read is in the ranges, is as long as its spelling, and is spelled so if the numbers are bytes
+pub record IsRead (bytes : List ℕ) (x : Frame) : Type 0 where
+  pub fits : IsFrame x
+  pub size : length bytes ≡ length (frame_text x)
+  pub spelled : IsBytes (drop 1 bytes) → bytes ≡ frame_text x
 
-abbrev pub after_content : Target → List ℕ × List ℕ → Result Frame FrameError
-after_content t content = ended (sliver_of_target t content.0) content.1
+-- what a reader of frames makes of the bytes
+abbrev pub Outcome : List ℕ → Result Frame FrameError → Type 0
+Outcome bytes (Ok x) = IsRead bytes x
+Outcome bytes (Err e) = IsPlaceBelow (length bytes) e
 
-abbrev pub after_size : Target → ℕ × List ℕ → Result Frame FrameError
-after_size t size = bytes_at size.0 size.1 >>= after_content t
+-- a frame of what was read, behind which nothing may follow
+abbrev pub ending : {A X : Type 0} → (A → X) → A × List ℕ → Result X FrameError
+ending frame x = ended (frame x.0) x.1
 
-abbrev pub after_target : Target × List ℕ → Result Frame FrameError
-after_target t = field_at w32 36 most_bytes t.1 >>= after_size t.0
+-- parts that are a frame of this kind
+abbrev Spells : {A : Type 0} → ℕ → (A → Frame) → (A → Type 0) → (A → List ℕ) → Type 0
+Spells {A = A} kind frame Fits text = (x : A) → Fits x → IsFrame (frame x) × (kind ∷ text x ≡ frame_text (frame x))
 
--- a sliver that was read
-pub record IsSliverRead (bytes : List ℕ) (x : Frame) : Type 0 where
-  pub at : Target
-  pub content : List ℕ
-  pub fits : IsTarget at.id.0 at.index
-  pub size : length content ≤ most_bytes
-  pub is : sliver_of_target at content ≡ x
-  pub spelled : bytes ≡ text_of_target at ++ number_text w32 (length content) ++ content
+err_is : {A : Type 0} (d e : FrameError) → ◌≡◌ {A = Result A FrameError} (Err d) (Err e) → d ≡ e
+err_is d e h = cc
 
-pub sliver_is : (bytes : List ℕ) (x : Frame) → IsBytes bytes → sliver_at bytes ≡ Ok x → IsSliverRead bytes x
+outcome_of : {A : Type 0} {Fits : A → Type 0} {text : A → List ℕ} {start : ℕ} (kind : ℕ) (frame : A → Frame)
+    → Spells kind frame Fits text → start ≤ 1 → (bytes : List ℕ) (r : Result Frame FrameError)
+    → Reading IsPlaceBelow Fits text start (ending frame) bytes r → Outcome (kind ∷ bytes) r
+outcome_of kind frame spells first bytes r (goes (x, []) fits taken same) =
+    subst (Outcome (kind ∷ bytes)) (sym same) (record {
+      fits = (spells x fits).0;
+      size = omega (arith, taken.size, ap length (spells x fits).1);
+      spelled = λ all. ap (λ (t : List ℕ). kind ∷ t) (taken.parts all ∙ append-nil _) ∙ (spells x fits).1;
+    })
+outcome_of kind frame spells first bytes r (goes (x, b ∷ rest) fits taken same) =
+    subst (Outcome (kind ∷ bytes)) (sym (same ∙ ended_not (frame x) b rest)) tt
+outcome_of kind frame spells first bytes r (fails e below same) =
+    subst (Outcome (kind ∷ bytes)) (sym same) (below (suc (length bytes)) (omega (arith, first)))
+
+module _ {A : Type 0} (c : Codec IsPlaceBelow A) (kind : ℕ) (frame : A → Frame) where
+  -- a frame of these parts
+  pub whole : Spells kind frame c.Fits c.text → c.start ≤ 1 → (bytes : List ℕ)
+      → Outcome (kind ∷ bytes) (c.read Frame bytes (ending frame))
+  whole spells first bytes =
+      outcome_of kind frame spells first bytes (c.read Frame bytes (ending frame)) (c.is Frame bytes (ending frame))
+
+made_ended : {X : Type 0} (frame : X → Frame) (x : X) (rest : List ℕ) → made frame (ended x rest) ≡ ended (frame x) rest
+made_ended frame x [] = refl
+made_ended frame x (b ∷ rest) = ap (made frame) (ended_not x b rest) ∙ sym (ended_not (frame x) b rest)
+
+module _ {A X : Type 0} (c : Codec IsPlaceBelow A) (parts : A → X) (frame : X → Frame) where
+  made_of : (bytes : List ℕ) (r : Result X FrameError)
+      → Reading IsPlaceBelow c.Fits c.text c.start (ending parts) bytes r
+      → Reading IsPlaceBelow c.Fits c.text c.start (ending (λ x. frame (parts x))) bytes (made frame r)
+  made_of bytes r (goes x fits taken same) = goes x fits taken (ap (made frame) same ∙ made_ended frame (parts x.0) x.1)
+  made_of bytes r (fails e below same) = fails e below (ap (made frame) same)
+
+  -- a frame that is made of what such parts are
+  pub whole_made : (kind : ℕ) → Spells kind (λ x. frame (parts x)) c.Fits c.text → c.start ≤ 1 → (bytes : List ℕ)
+      → Outcome (kind ∷ bytes) (made frame (c.read X bytes (ending parts)))
+  whole_made kind spells first bytes =
+      outcome_of kind (λ x. frame (parts x)) spells first bytes (made frame (c.read X bytes (ending parts)))
+      (made_of bytes (c.read X bytes (ending parts)) (c.is X bytes (ending parts)))
+
+  pub made_again : (x : A) (rest : List ℕ) → c.Fits x
+      → made frame (c.read X (c.text x ++ rest) (ending parts)) ≡ ended (frame (parts x)) rest
+  made_again x rest h = ap (made frame) (c.again X (ending parts) x rest h) ∙ made_ended frame (parts x) rest
+
+-- ---- slivers, openings and symbols
+
+abbrev pub sliver : Codec IsPlaceBelow ((Target × ℕ) × List ℕ)
+sliver = both (both target (λ t. number wide32 36 most_bytes (omega arith)) behind_target) (λ x. run x.1 0)
+    (λ x fits. omega arith)
+
+abbrev pub sliver_of : (Target × ℕ) × List ℕ → Frame
+sliver_of x = Sliver x.0.0.id.0 x.0.0.axis x.0.0.index x.1
+
+pub sliver_is : (bytes : List ℕ) → Outcome (0x11 ∷ bytes) (sliver_at bytes)
 unfolding sliver_at
-sliver_is bytes x fits e =
-    let t = read_first target after_target bytes x fits e in
-    let size = read_first (number w32 (2 ^ 32) wide32 36 most_bytes (omega arith)) (after_size t.0.0) t.0.1 x t.2.rest_fits t.3 in
-    let content = read_first (run size.0.0) (after_content t.0.0) size.0.1 x size.2.rest_fits size.3 in
-    let end = ended_ok (sliver_of_target t.0.0 content.0.0) content.0.1 x content.3 in
-    let a = text_of_target t.0.0 in
-    let b = number_text w32 size.0.0 in
-    let c = content.0.0 in
-    let one = Takes-then bytes a t.0.1 b size.0.1 t.2 size.2 in
-    let two = Takes-then bytes (a ++ b) size.0.1 c content.0.1 one content.2 in
-    let len : size.0.0 ≡ length c = sym content.1 in
-    record {
-      at = t.0.0;
-      content = c;
-      fits = t.1;
-      size = subst (λ (k : ℕ). k ≤ most_bytes) len size.1;
-      is = end.0;
-      spelled = two.parts ∙ ap (λ (r : List ℕ). a ++ b ++ c ++ r) end.1 ∙ append-nil (a ++ b ++ c) ∙ ap (λ (k : ℕ). a ++ number_text w32 k ++ c) len;
-    }
+sliver_is =
+    whole sliver 0x11 sliver_of (λ x fits. (
+      record {
+        id_size = fits.0.0.id_size;
+        index_most = fits.0.0.index_most;
+        size_most = omega (arith, fits.1, fits.0.1);
+      },
+      ap (λ (k : ℕ). 0x11 ∷ (text_of_target x.0.0 ++ number_text w32 k ++ x.1)) (sym fits.1),
+    )) (omega arith)
 
-pub sliver_behind : (t : Target) (content rest : List ℕ) → IsTarget t.id.0 t.index → length content ≤ most_bytes
-    → sliver_at (text_of_target t ++ number_text w32 (length content) ++ content ++ rest) ≡ ended (sliver_of_target t content) rest
-unfolding sliver_at
-sliver_behind t content rest h most =
-    let a = text_of_target t in
-    let b = number_text w32 (length content) in
-    ap sliver_at (append_assoc (a ++ b) content rest ∙ append_assoc a b (content ++ rest))
-    ∙ first_again target after_target t (b ++ (content ++ rest)) h
-    ∙ first_again (number w32 (2 ^ 32) wide32 36 most_bytes (omega arith)) (after_size t) (length content) (content ++ rest) most
-    ∙ first_again (run (length content)) (after_content t) content rest refl
+abbrev pub opened : Codec IsPlaceBelow (Target × single.Opening)
+opened = both target (λ t. opening 36) behind_target
 
--- ---- openings
+abbrev pub opened_of : Target × single.Opening → Frame
+opened_of x = Opening x.0.id.0 x.0.axis x.0.index x.1
 
-abbrev pub opening_of_target : Target → single.Opening → Frame
-opening_of_target t o = Opening t.id.0 t.axis t.index o
-
-abbrev pub after_body : Target → single.Opening × List ℕ → Result Frame FrameError
-after_body t body = ended (opening_of_target t body.0) body.1
-
-abbrev pub after_place : Target × List ℕ → Result Frame FrameError
-after_place t = opening_at 36 t.1 >>= after_body t.0
-
--- an opening that was read
-pub record IsOpeningRead (bytes : List ℕ) (x : Frame) : Type 0 where
-  pub at : Target
-  pub body : single.Opening
-  pub fits : IsTarget at.id.0 at.index
-  pub body_fits : IsBody body
-  pub is : opening_of_target at body ≡ x
-  pub spelled : bytes ≡ text_of_target at ++ body_text body
-
-pub opened_is : (bytes : List ℕ) (x : Frame) → IsBytes bytes → opened_at bytes ≡ Ok x → IsOpeningRead bytes x
+pub opened_is : (bytes : List ℕ) → Outcome (0x12 ∷ bytes) (opened_at bytes)
 unfolding opened_at
-opened_is bytes x fits e =
-    let t = read_first target after_place bytes x fits e in
-    let body = read_first (opening 36) (after_body t.0.0) t.0.1 x t.2.rest_fits t.3 in
-    let end = ended_ok (opening_of_target t.0.0 body.0.0) body.0.1 x body.3 in
-    let a = text_of_target t.0.0 in
-    let b = body_text body.0.0 in
-    let one = Takes-then bytes a t.0.1 b body.0.1 t.2 body.2 in
-    record {
-      at = t.0.0;
-      body = body.0.0;
-      fits = t.1;
-      body_fits = body.1;
-      is = end.0;
-      spelled = one.parts ∙ ap (λ (r : List ℕ). a ++ b ++ r) end.1 ∙ append-nil (a ++ b);
-    }
+opened_is = whole opened 0x12 opened_of (λ x fits. (fits, refl)) (omega arith)
 
-pub opened_behind : (t : Target) (o : single.Opening) (rest : List ℕ) → IsTarget t.id.0 t.index → IsBody o
-    → opened_at (text_of_target t ++ body_text o ++ rest) ≡ ended (opening_of_target t o) rest
-unfolding opened_at
-opened_behind t o rest h fits =
-    ap opened_at (append_assoc (text_of_target t) (body_text o) rest)
-    ∙ first_again target after_place t (body_text o ++ rest) h
-    ∙ first_again (opening 36) (after_body t) o rest fits
+abbrev pub symbol_of : Target → Frame
+symbol_of t = Symbol t.id.0 t.axis t.index
 
--- ---- proofs
+pub symbol_is : (bytes : List ℕ) → Outcome (0x21 ∷ bytes) (symbol_at bytes)
+unfolding symbol_at
+symbol_is = whole target 0x21 symbol_of (λ t fits. (fits, refl)) (omega arith)
+
+-- ---- bodies
 
 abbrev pub after_one : ℕ → ℕ → single.Opening × List ℕ → Result (List ℕ) FrameError
 after_one n place body = bodies_at n (place + length (body_text body.0)) body.1
 
+from_place_ok : {A : Type 0} (place : ℕ) (r : Result A BodyFault) (x : A) → from_place place r ≡ Ok x → r ≡ Ok x
+from_place_ok {A = A} place (Ok y) x e = ap (λ (z : A). Ok z) (ok_is y x e)
+from_place_ok place (Err d) x e = absurd cc
+
 -- where the bodies can be read, they end
-pub bodies_are : (n place : ℕ) (bytes rest : List ℕ) → bodies_at n place bytes ≡ Ok rest → bodies_end n bytes ≡ Some rest
+bodies_are : (n place : ℕ) (bytes rest : List ℕ) → bodies_at n place bytes ≡ Ok rest → bodies_end n bytes ≡ Some rest
 unfolding bodies_at bodies_end
 bodies_are zero place bytes rest e = ap (λ (b : List ℕ). Some b) (ok_is bytes rest e)
 bodies_are (suc n) place bytes rest e =
@@ -149,13 +157,67 @@ bodies_are (suc n) place bytes rest e =
     ap (λ (r : Result (single.Opening × List ℕ) BodyFault). behind r (bodies_end n)) first
     ∙ bodies_are n (place + length (body_text body.0.0)) body.0.1 rest body.2
 
+bodies_fault : (n place : ℕ) (bytes : List ℕ) (e : FrameError) → bodies_at n place bytes ≡ Err e → (most : ℕ)
+    → place + length bytes ≤ most → IsPlaceBelow most e
+unfolding bodies_at
+bodies_fault zero place bytes e h most le = absurd cc
+bodies_fault (suc n) place bytes e h most le =
+    by (opening_is place bytes) (λ x is more. bodies_fault n (place + length (body_text x.0)) x.1 e is most more)
+  where
+    by : Reading IsPlaceBelow IsBody body_text place (λ x. Ok x) bytes (opening_at place bytes)
+        → ((x : single.Opening × List ℕ) → after_one n place x ≡ Err e → place + length (body_text x.0) + length x.1 ≤ most
+        → IsPlaceBelow most e) → IsPlaceBelow most e
+    by (goes x fits taken same) others =
+        others x (ap (λ (r : Result (single.Opening × List ℕ) FrameError). r >>= after_one n place) (sym same) ∙ h)
+        (omega (arith, le, taken.size))
+    by (fails d below same) others =
+        let is : d ≡ e = err_is {A = List ℕ} d e
+        (ap (λ (r : Result (single.Opening × List ℕ) FrameError). r >>= after_one n place) (sym same) ∙ h) in
+        subst (IsPlaceBelow most) is (below most le)
+
 bodies_again : (os : List single.Opening) (place : ℕ) (rest : List ℕ) → AllByRecursion IsBody os → bodies_at (length os) place (flat_map body_text os ++ rest) ≡ Ok rest
 unfolding bodies_at
 bodies_again [] place rest fits = refl
 bodies_again (o ∷ os) place rest fits =
     ap (bodies_at (suc (length os)) place) (regroup_bodies o os rest)
-    ∙ first_again (opening place) (after_one (length os) place) o (flat_map body_text os ++ rest) fits.0
+    ∙ (opening place).again (List ℕ) (after_one (length os) place) o (flat_map body_text os ++ rest) fits.0
     ∙ bodies_again os (place + length (body_text o)) rest fits.1
+
+abbrev pub AreBodies : ℕ → List single.Opening → Type 0
+AreBodies n os = (length os ≡ n) × AllByRecursion IsBody os
+
+module _ (n place : ℕ) {C : Type 0} (others : List single.Opening × List ℕ → Result C FrameError) where
+  abbrev after_all : List ℕ → List ℕ → Result C FrameError
+  after_all bytes rest = others (openings_in n bytes, rest)
+
+  pub openings_by : (bytes : List ℕ) (r : Result (List ℕ) FrameError) → bodies_at n place bytes ≡ r
+      → Reading IsPlaceBelow (AreBodies n) (flat_map body_text) place others bytes (r >>= after_all bytes)
+  openings_by bytes (Ok rest) e =
+      let ends = bodies_are n place bytes rest e in
+      goes (openings_in n bytes, rest) (length-openings_in n bytes rest ends, openings_in-fit n bytes rest ends)
+      (openings_in-take n bytes rest ends) refl
+  openings_by bytes (Err d) e = fails d (bodies_fault n place bytes d e) refl
+
+  pub openings_again : (os : List single.Opening) (rest : List ℕ) → AreBodies n os
+      → (bodies_at n place (flat_map body_text os ++ rest) >>= after_all (flat_map body_text os ++ rest))
+      ≡ others (os, rest)
+  openings_again os rest h =
+      let bytes = flat_map body_text os ++ rest in
+      ap (λ (k : ℕ). bodies_at k place bytes >>= (λ r. others (openings_in k bytes, r))) (sym h.0)
+      ∙ ap (λ (r : Result (List ℕ) FrameError). r >>= (λ t. others (openings_in (length os) bytes, t)))
+      (bodies_again os place rest h.1)
+      ∙ ap (λ (q : List single.Opening). others (q, rest)) (openings_in-again os rest h.1)
+
+-- n bodies, of which the first begins at this place
+abbrev pub openings : ℕ → ℕ → Codec IsPlaceBelow (List single.Opening)
+openings n place = record {
+  Fits = AreBodies n;
+  text = flat_map body_text;
+  start = place;
+  read = λ C bytes others. bodies_at n place bytes >>= (λ rest. others (openings_in n bytes, rest));
+  is = λ C bytes others. openings_by n place others bytes (bodies_at n place bytes) refl;
+  again = λ C others os rest h. openings_again n place others os rest h;
+}
 
 -- ---- a loop over bodies
 
@@ -184,408 +246,308 @@ axis_text : (a : Axis) → number_text w8 (axis_number a) ≡ byte_of (axis_numb
 axis_text Primary = refl
 axis_text Secondary = refl
 
--- a proof's frame begins as that of an opening
-pub proof_parts : (id : List ℕ) (p : EncodingProof) → id ++ proof_text p ≡ target_text id p.axis p.index ++ (number_text w16 (length p.openings) ++ flat_map body_text p.openings)
+proof_parts : (id : List ℕ) (p : EncodingProof)
+    → target_text id p.axis p.index ++ number_text w16 (length p.openings) ++ flat_map body_text p.openings
+    ≡ id ++ proof_text p
 unfolding proof_text
 proof_parts id p =
     let a = byte_of (axis_number p.axis) in
     let i = number_text w16 p.index in
     let c = number_text w16 (length p.openings) in
     let b = flat_map body_text p.openings in
-    ap (λ (t : List ℕ). id ++ (t ++ i ++ c ++ b)) (axis_text p.axis)
-    ∙ sym (append_assoc id (a ++ i ++ c) b)
-    ∙ ap (λ (t : List ℕ). t ++ b) (sym (append_assoc id (a ++ i) c) ∙ ap (λ (t : List ℕ). t ++ c) (sym (append_assoc id a i)))
-    ∙ append_assoc (id ++ a ++ i) c b
+    ap (λ (t : List ℕ). t ++ b) (ap (λ (t : List ℕ). t ++ c) (append_assoc id a i) ∙ append_assoc id (a ++ i) c)
+    ∙ append_assoc id (a ++ i ++ c) b
+    ∙ ap (λ (t : List ℕ). id ++ (t ++ i ++ c ++ b)) (sym (axis_text p.axis))
+
+abbrev pub proof : Codec IsPlaceBelow ((Target × ℕ) × List single.Opening)
+proof =
+    both (both target (λ t. number wide16 36 1000 (omega arith)) behind_target) (λ x. openings x.1 38)
+    (λ x fits. omega (arith, behind_target x.0 fits.0, length-append (text_of_target x.0) (number_text w16 x.1)))
+
+abbrev pub proof_of : (Target × ℕ) × List single.Opening → Frame
+proof_of x = Proof x.0.0.id.0 (proof_with x.0.0.axis x.0.0.index x.1)
+
+pub proof_is : (bytes : List ℕ) → Outcome (0x13 ∷ bytes) (proof_at bytes)
+unfolding proof_at
+proof_is =
+    whole proof 0x13 proof_of (λ x fits. (
+      (
+        fits.0.0.id_size,
+        record {
+          index = fits.0.0.index_most;
+          count = omega (arith, fits.1.0, fits.0.1);
+          bodies = fits.1.1;
+        },
+      ),
+      ap (λ (k : ℕ). 0x13 ∷ (text_of_target x.0.0 ++ number_text w16 k ++ flat_map body_text x.1)) (sym fits.1.0)
+          ∙ ap (λ (t : List ℕ). 0x13 ∷ t) (proof_parts x.0.0.id.0 (proof_with x.0.0.axis x.0.0.index x.1)),
+    )) (omega arith)
 
 abbrev pub proof_of_target : Target → ℕ → List ℕ → EncodingProof
 proof_of_target t count bytes = proof_with t.axis t.index (openings_in count bytes)
 
--- what is read as a proof is one, and spelled so
-pub record IsProofRead (bytes : List ℕ) (t : Target) (p : EncodingProof) : Type 0 where
-  pub fits : IsProof p
-  pub id_size : IsId t.id.0
-  pub spelled : bytes ≡ t.id.0 ++ proof_text p
-  pub body : proof_text p ≡ drop 32 bytes
-
-pub proof_read : (bytes : List ℕ) (t : Target) (numbers : List ℕ) (count : ℕ) (bodies end : List ℕ) → IsBytes bytes → target_at bytes ≡ Ok (t, numbers)
-    → field_at w16 36 1000 numbers ≡ Ok (count, bodies) → bodies_at count 38 bodies ≡ Ok end → end ≡ [] → IsProofRead bytes t (proof_of_target t count bodies)
-proof_read bytes t numbers count bodies end fits e1 e2 e3 none =
-    let first = target.is bytes (t, numbers) fits e1 in
-    let second = (number w16 (2 ^ 16) wide16 36 1000 (omega arith)).is numbers (count, bodies) first.1.rest_fits e2 in
-    let ends = bodies_are count 38 bodies end e3 in
-    let os = openings_in count bodies in
-    let p = proof_of_target t count bodies in
-    let taken = openings_in-take count bodies end second.1.rest_fits ends in
-    let len = length-openings_in count bodies end ends in
-    let a = text_of_target t in
-    let c = number_text w16 count in
-    let d = flat_map body_text os in
-    let parts : bytes ≡ a ++ (c ++ d) =
-    first.1.parts
-    ∙ ap (λ (r : List ℕ). a ++ r) (second.1.parts ∙ ap (λ (r : List ℕ). c ++ r) (taken ∙ ap (λ (r : List ℕ). d ++ r) none ∙ append-nil d)) in
-    let spelled : bytes ≡ t.id.0 ++ proof_text p = parts ∙ ap (λ (k : ℕ). a ++ (number_text w16 k ++ d)) (sym len) ∙ sym (proof_parts t.id.0 p) in
-    record {
-      fits = record { index = first.0.index_most; count = subst (λ (k : ℕ). k ≤ 1000) (sym len) second.0; bodies = openings_in-fit count bodies end ends };
-      id_size = first.0.id_size;
-      spelled = spelled;
-      body = sym (ap (drop 32) spelled ∙ drop_at t.id.0 (proof_text p) 32 first.0.id_size);
-    }
-
--- an identifier stands first
-pub target_long : (bytes : List ℕ) (t : Target) (rest : List ℕ) → IsBytes bytes → target_at bytes ≡ Ok (t, rest) → 32 ≤ length bytes
-target_long bytes t rest fits e =
-    let is = target.is bytes (t, rest) fits e in
-    let a = byte_of (axis_number t.axis) in
-    let i = number_text w16 t.index in
-    let len = ap length is.1.parts in
-    omega (arith, len, is.0.id_size, length-append (t.id.0 ++ a ++ i) rest, length-append (t.id.0 ++ a) i, length-append t.id.0 a)
-
-abbrev pub after_bodies : Target → ℕ → List ℕ → List ℕ → Result Frame FrameError
-after_bodies t count bodies rest = ended (Proof t.id.0 (proof_of_target t count bodies)) rest
-
-abbrev pub after_count : Target → ℕ × List ℕ → Result Frame FrameError
-after_count t count = bodies_at count.0 38 count.1 >>= after_bodies t count.0 count.1
-
-abbrev pub after_head : Target × List ℕ → Result Frame FrameError
-after_head t = field_at w16 36 1000 t.1 >>= after_count t.0
-
 pub proof_found : (bytes : List ℕ) (t : Target) (numbers : List ℕ) (count : ℕ) (bodies end : List ℕ) → target_at bytes ≡ Ok (t, numbers)
     → field_at w16 36 1000 numbers ≡ Ok (count, bodies) → bodies_at count 38 bodies ≡ Ok end → end ≡ [] → proof_at bytes ≡ Ok (Proof t.id.0 (proof_of_target t count bodies))
 unfolding proof_at
-proof_found bytes t numbers count bodies end e1 e2 e3 none =
-    ap (λ (r : Result (Target × List ℕ) FrameError). r >>= after_head) e1
-    ∙ ap (λ (r : Result (ℕ × List ℕ) FrameError). r >>= after_count t) e2
-    ∙ ap (λ (r : Result (List ℕ) FrameError). r >>= after_bodies t count bodies) e3
-    ∙ ap (λ (r : List ℕ). after_bodies t count bodies r) none
+proof_found bytes t numbers count bodies end e1 e2 e3 none = rw (e1, e2, e3, none) refl
 
--- a proof that was read
-pub record IsProofFrame (bytes : List ℕ) (x : Frame) : Type 0 where
-  pub at : Target
-  pub proof : EncodingProof
-  pub read : IsProofRead bytes at proof
-  pub is : Proof at.id.0 proof ≡ x
+-- what is read as a proof is one, and spelled behind the identifier
+pub proof_read : (bytes : List ℕ) (t : Target) (numbers : List ℕ) (count : ℕ) (bodies end : List ℕ) → IsBytes bytes → target_at bytes ≡ Ok (t, numbers)
+    → field_at w16 36 1000 numbers ≡ Ok (count, bodies) → bodies_at count 38 bodies ≡ Ok end → end ≡ []
+    → IsProof (proof_of_target t count bodies) × (proof_text (proof_of_target t count bodies) ≡ drop 32 bytes)
+proof_read bytes t numbers count bodies end fits e1 e2 e3 none =
+    let is = subst (Outcome (0x13 ∷ bytes)) (proof_found bytes t numbers count bodies end e1 e2 e3 none)
+    (proof_is bytes) in
+    let p = proof_of_target t count bodies in
+    (is.fits.1, sym (ap (drop 33) (is.spelled fits) ∙ drop_at t.id.0 (proof_text p) 32 is.fits.0))
 
-pub proof_is : (bytes : List ℕ) (x : Frame) → IsBytes bytes → proof_at bytes ≡ Ok x → IsProofFrame bytes x
+pub proof_behind : (t : Target) (os : List single.Opening) (rest : List ℕ) → IsId t.id.0
+    → IsProof (proof_with t.axis t.index os)
+    → proof_at (t.id.0 ++ proof_text (proof_with t.axis t.index os) ++ rest)
+    ≡ ended (proof_of ((t, length os), os)) rest
 unfolding proof_at
-proof_is bytes x fits e =
-    let t = bind_ok (target_at bytes) after_head x e in
-    let count = bind_ok (field_at w16 36 1000 t.0.1) (after_count t.0.0) x t.2 in
-    let rest = bind_ok (bodies_at count.0.0 38 count.0.1) (after_bodies t.0.0 count.0.0 count.0.1) x count.2 in
-    let end = ended_ok (Proof t.0.0.id.0 (proof_of_target t.0.0 count.0.0 count.0.1)) rest.0 x rest.2 in
-    record {
-      at = t.0.0;
-      proof = proof_of_target t.0.0 count.0.0 count.0.1;
-      read = proof_read bytes t.0.0 t.0.1 count.0.0 count.0.1 rest.0 fits t.1 count.1 rest.1 end.1;
-      is = end.0;
-    }
-
-pub proof_behind : (t : Target) (p : EncodingProof) (rest : List ℕ) → IsId t.id.0 → IsProof p → t.axis ≡ p.axis → t.index ≡ p.index
-    → proof_at (t.id.0 ++ proof_text p ++ rest) ≡ ended (Proof t.id.0 p) rest
-unfolding proof_at
-proof_behind t p rest size h axis index =
-    let os = p.openings in
-    let c = number_text w16 (length os) in
-    let b = flat_map body_text os in
-    let a = text_of_target t in
-    let same : target_text t.id.0 p.axis p.index ≡ a = ap (λ (x : Axis). target_text t.id.0 x p.index) (sym axis) ∙ ap (λ (k : ℕ). target_text t.id.0 t.axis k) (sym index) in
-    let most : t.index ≤ 999 = omega (arith, h.index, index) in
-    ap (λ (r : List ℕ). proof_at (r ++ rest)) (proof_parts t.id.0 p ∙ ap (λ (r : List ℕ). r ++ (c ++ b)) same)
-    ∙ ap proof_at (append_assoc a (c ++ b) rest ∙ ap (λ (r : List ℕ). a ++ r) (append_assoc c b rest))
-    ∙ first_again target after_head t (c ++ (b ++ rest)) (record { id_size = size; index_most = most })
-    ∙ first_again (number w16 (2 ^ 16) wide16 36 1000 (omega arith)) (after_count t) (length os) (b ++ rest) h.count
-    ∙ ap (λ (r : Result (List ℕ) FrameError). r >>= after_bodies t (length os) (b ++ rest)) (bodies_again os 38 rest h.bodies)
-    ∙ ap (λ (q : List single.Opening). ended (Proof t.id.0 (proof_with t.axis t.index q)) rest) (openings_in-again os rest h.bodies)
-    ∙ ap (λ (x : Axis). ended (Proof t.id.0 (proof_with x t.index os)) rest) axis
-    ∙ ap (λ (k : ℕ). ended (Proof t.id.0 (proof_with p.axis k os)) rest) index
+proof_behind t os rest size h =
+    ap (λ (b : List ℕ). proof_at (b ++ rest)) (sym (proof_parts t.id.0 (proof_with t.axis t.index os)))
+    ∙ proof.again Frame (ending proof_of) ((t, length os), os) rest
+    ((record { id_size = size; index_most = h.index }, h.count), (refl, h.bodies))
 
 -- ---- identifiers, answers, texts and entries
 
-abbrev pub after_name : List ℕ × List ℕ → Result (List ℕ) FrameError
-after_name id = ended id.0 id.1
+abbrev pub name : Codec IsPlaceBelow (List ℕ)
+name = run 32 1
 
-pub name_is : (bytes id : List ℕ) → IsBytes bytes → name_at bytes ≡ Ok id → IsId id × (bytes ≡ id)
+pub name_is : (kind : ℕ) (frame : List ℕ → Frame)
+    → ((id : List ℕ) → IsId id → IsFrame (frame id) × (kind ∷ id ≡ frame_text (frame id)))
+    → (bytes : List ℕ) → Outcome (kind ∷ bytes) (made frame (name_at bytes))
 unfolding name_at
-name_is bytes id fits e =
-    let first = read_first (run 32) after_name bytes id fits e in
-    let end = ended_ok first.0.0 first.0.1 id first.3 in
-    let spelled : bytes ≡ first.0.0 = first.2.parts ∙ ap (λ (r : List ℕ). first.0.0 ++ r) end.1 ∙ append-nil first.0.0 in
-    (subst IsId end.0 first.1, spelled ∙ end.0)
+name_is kind frame spells = whole_made name (λ id. id) frame kind spells (omega arith)
 
-pub name_behind : (id rest : List ℕ) → IsId id → name_at (id ++ rest) ≡ ended id rest
-unfolding name_at
-name_behind id rest size = first_again (run 32) after_name id rest size
+abbrev pub answer : Codec IsPlaceBelow ((ℕ × ℕ) × ℕ)
+answer =
+    both (both (byte 1 15 (omega arith)) (λ code. number wide32 2 4294967295 (omega arith)) (λ code le. omega arith))
+    (λ x. number wide32 6 4294967295 (omega arith)) (λ x fits. omega arith)
 
-abbrev pub symbol_of_target : Target → Frame
-symbol_of_target t = Symbol t.id.0 t.axis t.index
+abbrev pub answer_of : (ℕ × ℕ) × ℕ → Frame
+answer_of x = Answer x.0.0 x.0.1 x.1
 
-abbrev pub after_symbol : Target × List ℕ → Result Frame FrameError
-after_symbol t = ended (symbol_of_target t.0) t.1
-
-pub symbol_is : (bytes : List ℕ) (x : Frame) → IsBytes bytes → symbol_at bytes ≡ Ok x → (t : Target) × IsTarget t.id.0 t.index × (symbol_of_target t ≡ x) × (bytes ≡ text_of_target t)
-unfolding symbol_at
-symbol_is bytes x fits e =
-    let t = read_first target after_symbol bytes x fits e in
-    let end = ended_ok (symbol_of_target t.0.0) t.0.1 x t.3 in
-    (t.0.0, t.1, end.0, t.2.parts ∙ ap (λ (r : List ℕ). text_of_target t.0.0 ++ r) end.1 ∙ append-nil (text_of_target t.0.0))
-
-pub symbol_behind : (t : Target) (rest : List ℕ) → IsTarget t.id.0 t.index → symbol_at (text_of_target t ++ rest) ≡ ended (symbol_of_target t) rest
-unfolding symbol_at
-symbol_behind t rest h = first_again target after_symbol t rest h
-
-abbrev pub after_b : ℕ → ℕ → ℕ × List ℕ → Result Frame FrameError
-after_b code a b = ended (Answer code a b.0) b.1
-
-abbrev pub after_a : ℕ → ℕ × List ℕ → Result Frame FrameError
-after_a code a = field_at w32 6 4294967295 a.1 >>= after_b code a.0
-
-abbrev pub after_code : ℕ × List ℕ → Result Frame FrameError
-after_code code = field_at w32 2 4294967295 code.1 >>= after_a code.0
-
-pub answer_is : (bytes : List ℕ) (x : Frame) → IsBytes bytes → answer_at bytes ≡ Ok x
-    → (code a b : ℕ) × (code ≤ 15) × (a ≤ 4294967295) × (b ≤ 4294967295) × (Answer code a b ≡ x) × (bytes ≡ byte_of code ++ number_text w32 a ++ number_text w32 b)
+pub answer_is : (bytes : List ℕ) → Outcome (0x30 ∷ bytes) (answer_at bytes)
 unfolding answer_at
-answer_is bytes x fits e =
-    let code = read_first (byte 1 15 (omega arith)) after_code bytes x fits e in
-    let a = read_first (number w32 (2 ^ 32) wide32 2 4294967295 (omega arith)) (after_a code.0.0) code.0.1 x code.2.rest_fits code.3 in
-    let b = read_first (number w32 (2 ^ 32) wide32 6 4294967295 (omega arith)) (after_b code.0.0 a.0.0) a.0.1 x a.2.rest_fits a.3 in
-    let end = ended_ok (Answer code.0.0 a.0.0 b.0.0) b.0.1 x b.3 in
-    let t = byte_of code.0.0 in
-    let u = number_text w32 a.0.0 in
-    let v = number_text w32 b.0.0 in
-    let one = Takes-then bytes t code.0.1 u a.0.1 code.2 a.2 in
-    let two = Takes-then bytes (t ++ u) a.0.1 v b.0.1 one b.2 in
-    (code.0.0, a.0.0, b.0.0, code.1, a.1, b.1, end.0, two.parts ∙ ap (λ (r : List ℕ). t ++ u ++ v ++ r) end.1 ∙ append-nil (t ++ u ++ v))
+answer_is =
+    whole answer 0x30 answer_of (λ x fits. (
+      record { code_most = fits.0.0; a_fits = omega (arith, fits.0.1); b_fits = omega (arith, fits.1) },
+      refl,
+    )) (omega arith)
 
-pub answer_behind : (code a b : ℕ) (rest : List ℕ) → code ≤ 15 → a < 2 ^ 32 → b < 2 ^ 32
-    → answer_at (byte_of code ++ number_text w32 a ++ number_text w32 b ++ rest) ≡ ended (Answer code a b) rest
-unfolding answer_at
-answer_behind code a b rest hc ha hb =
-    let t = byte_of code in
-    let u = number_text w32 a in
-    let v = number_text w32 b in
-    ap answer_at (append_assoc (t ++ u) v rest ∙ append_assoc t u (v ++ rest))
-    ∙ first_again (byte 1 15 (omega arith)) after_code code (u ++ (v ++ rest)) hc
-    ∙ first_again (number w32 (2 ^ 32) wide32 2 4294967295 (omega arith)) (after_a code) a (v ++ rest) (omega arith)
-    ∙ first_again (number w32 (2 ^ 32) wide32 6 4294967295 (omega arith)) (after_b code a) b rest (omega arith)
+abbrev pub clash : Codec IsPlaceBelow (List ℕ × List ℕ)
+clash = both (text 1) (λ left. text (2 + length left)) (λ left most. omega arith)
 
-abbrev pub after_right : List ℕ → List ℕ × List ℕ → Result Frame FrameError
-after_right left right = ended (Clash left right.0) right.1
+abbrev pub clash_of : List ℕ × List ℕ → Frame
+clash_of x = Clash x.0 x.1
 
-abbrev pub after_left : List ℕ × List ℕ → Result Frame FrameError
-after_left left = text_at (2 + length left.0) left.1 >>= after_right left.0
-
-pub clash_is : (bytes : List ℕ) (x : Frame) → IsBytes bytes → clash_at bytes ≡ Ok x
-    → (left right : List ℕ) × (length left ≤ 65) × (length right ≤ 65) × (Clash left right ≡ x) × (bytes ≡ text_behind_size left ++ text_behind_size right)
+pub clash_is : (bytes : List ℕ) → Outcome (0x31 ∷ bytes) (clash_at bytes)
 unfolding clash_at
-clash_is bytes x fits e =
-    let left = read_first (text 1) after_left bytes x fits e in
-    let right = read_first (text (2 + length left.0.0)) (after_right left.0.0) left.0.1 x left.2.rest_fits left.3 in
-    let end = ended_ok (Clash left.0.0 right.0.0) right.0.1 x right.3 in
-    let t = text_behind_size left.0.0 in
-    let u = text_behind_size right.0.0 in
-    let one = Takes-then bytes t left.0.1 u right.0.1 left.2 right.2 in
-    (left.0.0, right.0.0, left.1, right.1, end.0, one.parts ∙ ap (λ (r : List ℕ). t ++ u ++ r) end.1 ∙ append-nil (t ++ u))
+clash_is = whole clash 0x31 clash_of (λ x fits. (record { left_most = fits.0; right_most = fits.1 }, refl))
+    (omega arith)
 
-pub clash_behind : (left right rest : List ℕ) → length left ≤ 65 → length right ≤ 65
-    → clash_at (text_behind_size left ++ text_behind_size right ++ rest) ≡ ended (Clash left right) rest
-unfolding clash_at
-clash_behind left right rest hl hr =
-    ap clash_at (append_assoc (text_behind_size left) (text_behind_size right) rest)
-    ∙ first_again (text 1) after_left left (text_behind_size right ++ rest) hl
-    ∙ first_again (text (2 + length left)) (after_right left) right rest hr
+abbrev pub register : Codec IsPlaceBelow (List ℕ × ℕ)
+register = both (run 32 1) (λ id. number wide32 33 65536 (omega arith)) (λ id len. omega (arith, len))
 
-abbrev pub after_until : List ℕ → ℕ × List ℕ → Result Frame FrameError
-after_until id until = ended (RegisterEntry id until.0) until.1
+abbrev pub register_of : List ℕ × ℕ → Frame
+register_of x = RegisterEntry x.0 x.1
 
-abbrev pub after_id : List ℕ × List ℕ → Result Frame FrameError
-after_id id = field_at w32 33 65536 id.1 >>= after_until id.0
-
-pub register_is : (bytes : List ℕ) (x : Frame) → IsBytes bytes → register_at bytes ≡ Ok x
-    → (id : List ℕ) × (until : ℕ) × IsId id × (until ≤ 65536) × (RegisterEntry id until ≡ x) × (bytes ≡ id ++ number_text w32 until)
+pub register_is : (bytes : List ℕ) → Outcome (0x40 ∷ bytes) (register_at bytes)
 unfolding register_at
-register_is bytes x fits e =
-    let id = read_first (run 32) after_id bytes x fits e in
-    let until = read_first (number w32 (2 ^ 32) wide32 33 65536 (omega arith)) (after_until id.0.0) id.0.1 x id.2.rest_fits id.3 in
-    let end = ended_ok (RegisterEntry id.0.0 until.0.0) until.0.1 x until.3 in
-    let u = number_text w32 until.0.0 in
-    let one = Takes-then bytes id.0.0 id.0.1 u until.0.1 id.2 until.2 in
-    (id.0.0, until.0.0, id.1, until.1, end.0, one.parts ∙ ap (λ (r : List ℕ). id.0.0 ++ u ++ r) end.1 ∙ append-nil (id.0.0 ++ u))
-
-pub register_behind : (id : List ℕ) (until : ℕ) (rest : List ℕ) → IsId id → until ≤ 65536
-    → register_at (id ++ number_text w32 until ++ rest) ≡ ended (RegisterEntry id until) rest
-unfolding register_at
-register_behind id until rest size most =
-    ap register_at (append_assoc id (number_text w32 until) rest)
-    ∙ first_again (run 32) after_id id (number_text w32 until ++ rest) size
-    ∙ first_again (number w32 (2 ^ 32) wide32 33 65536 (omega arith)) (after_until id) until rest most
+register_is = whole register 0x40 register_of (λ x fits. (fits, refl)) (omega arith)
 
 abbrev pub Entry : Type 0
 Entry = ℕ × List ℕ
 
-abbrev pub after_entry : ℕ → List ℕ × List ℕ → Result Entry FrameError
-after_entry shard id = ended (shard, id.0) id.1
+abbrev pub entry : Codec IsPlaceBelow Entry
+entry = both (number wide16 1 999 (omega arith)) (λ shard. run 32 0) (λ shard le. omega arith)
 
-abbrev pub after_shard : ℕ × List ℕ → Result Entry FrameError
-after_shard shard = bytes_at 32 shard.1 >>= after_entry shard.0
-
-pub entry_is : (bytes : List ℕ) (x : Entry) → IsBytes bytes → entry_at bytes ≡ Ok x → IsTarget x.1 x.0 × (bytes ≡ number_text w16 x.0 ++ x.1)
+pub entry_is : (kind : ℕ) (frame : Entry → Frame)
+    → ((e : Entry) → IsTarget e.1 e.0 → IsFrame (frame e) × (kind ∷ (number_text w16 e.0 ++ e.1) ≡ frame_text (frame e)))
+    → (bytes : List ℕ)
+    → Outcome (kind ∷ bytes) (made frame (entry_at bytes))
 unfolding entry_at
-entry_is bytes x fits e =
-    let shard = read_first (number w16 (2 ^ 16) wide16 1 999 (omega arith)) after_shard bytes x fits e in
-    let id = read_first (run 32) (after_entry shard.0.0) shard.0.1 x shard.2.rest_fits shard.3 in
-    let read : Entry = (shard.0.0, id.0.0) in
-    let end = ended_ok read id.0.1 x id.3 in
-    let s = number_text w16 shard.0.0 in
-    let one = Takes-then bytes s shard.0.1 id.0.0 id.0.1 shard.2 id.2 in
-    subst (λ (y : Entry). IsTarget y.1 y.0 × (bytes ≡ number_text w16 y.0 ++ y.1)) {x = read} end.0
-    (record { id_size = id.1; index_most = shard.1 }, one.parts ∙ ap (λ (r : List ℕ). s ++ id.0.0 ++ r) end.1 ∙ append-nil (s ++ id.0.0))
-
-pub entry_behind : (shard : ℕ) (id rest : List ℕ) → IsTarget id shard → entry_at (number_text w16 shard ++ id ++ rest) ≡ ended (shard, id) rest
-unfolding entry_at
-entry_behind shard id rest h =
-    ap entry_at (append_assoc (number_text w16 shard) id rest)
-    ∙ first_again (number w16 (2 ^ 16) wide16 1 999 (omega arith)) after_shard shard (id ++ rest) h.index_most
-    ∙ first_again (run 32) (after_entry shard) id rest h.id_size
+entry_is kind frame spells = whole_made entry (λ e. e) frame kind
+    (λ e fits. spells e (record { id_size = fits.1; index_most = fits.0 })) (omega arith)
 
 -- ---- metadata
 
-abbrev pub checked : ℕ → ℕ × List ℕ → Result (ℕ × List ℕ) FrameError
-checked place f = cond (eqb f.0 0) (Err (BadField place)) (Ok f)
-
-faults_is : (place : ℕ) (bytes : List ℕ) (f : ℕ × List ℕ) → faults_at place bytes ≡ Ok f → (field_at w16 place 333 bytes ≡ Ok f) × (1 ≤ f.0)
-unfolding faults_at
-faults_is place bytes f e =
-    let g = bind_ok (field_at w16 place 333 bytes) (checked place) f e in
-    let t = guard_ok (eqb g.0.0 0) (BadField place) (Ok g.0) f g.2 in
-    let same = ok_is g.0 f t.1 in
-    let some : 1 ≤ g.0.0 = omega (arith, eqb-false g.0.0 0 t.0) in
-    (rw (← same) g.1, rw (← same) some)
-
-faults_again : (place f : ℕ) (rest : List ℕ) → 1 ≤ f → f ≤ 333 → faults_at place (number_text w16 f ++ rest) ≡ Ok (f, rest)
-unfolding faults_at
-faults_again place f rest some most =
-    let more : eqb f 0 ≡ false = ne_eqb f 0 (λ e. absurd (omega (arith, e))) in
-    ap (λ (r : Result (ℕ × List ℕ) FrameError). r >>= checked place) (field_again w16 (2 ^ 16) wide16 place 333 f rest (omega arith) most) ∙ rw more refl
-
 -- f
-pub faults : (place : ℕ) → Reads (λ f. (1 ≤ f) × (f ≤ 333)) (number_text w16) (faults_at place)
-faults place = record {
-  is = λ bytes x fits e.
-      let f = faults_is place bytes x e in
-      ((f.1, field_most w16 place 333 bytes x f.0), field_takes w16 (2 ^ 16) wide16 place 333 bytes x fits f.0);
-  again = λ f rest h. faults_again place f rest h.0 h.1;
-}
+abbrev pub faults_value : ℕ → Codec IsPlaceBelow ℕ
+faults_value place =
+    seen (both (number wide16 place 333 (omega arith))
+    (λ f. checked (place + 2) (BadField place) (λ n le. omega (arith, le))
+    (λ b C r. cond b (Err (BadField place)) r) false (λ C r. refl) (λ C r. refl) (eqb f 0)) (λ f le. omega arith))
+    (λ x. x.0) (λ f. (f, tt)) (λ f. (1 ≤ f) × (f ≤ 333)) (number_text w16)
+    (λ x fits. ((omega (arith, eqb-false x.0 0 fits.1), fits.0), append-nil (number_text w16 x.0)))
+    (λ f h. ((h.1, ne_eqb f 0 (λ e. absurd (omega (arith, e, h.0)))), append-nil (number_text w16 f), refl))
 
-abbrev pub after_pairs : List ℕ × List ℕ → Result (List ℕ) FrameError
-after_pairs pairs = Ok pairs.1
+pub faults_same : (place : ℕ) (bytes : List ℕ)
+    → faults_at place bytes ≡ (faults_value place).read (ℕ × List ℕ) bytes (λ x. Ok x)
+unfolding faults_at
+faults_same place bytes = refl
 
-abbrev pub after_length : ℕ → ℕ × List ℕ → Result (List ℕ) FrameError
-after_length f size = bytes_at (64 * shard_count f) size.1 >>= after_pairs
+abbrev pub faults : ℕ → Codec IsPlaceBelow ℕ
+faults place = named (faults_value place) (faults_at place) (faults_same place)
 
-abbrev pub after_faults : ℕ → ℕ × List ℕ → Result (List ℕ) FrameError
-after_faults place f = field_at w64 (place + 2) most_bytes f.1 >>= after_length f.0
+-- the version
+abbrev pub version_value : Codec IsPlaceBelow ℕ
+version_value =
+    seen (both (byte 1 2 (omega arith)) (λ v. checked 2 (BadField 1) (λ n le. omega (arith, le))
+    (λ b C r. cond b r (Err (BadField 1))) true (λ C r. refl) (λ C r. refl) (eqb v 2)) (λ v le. omega arith))
+    (λ x. x.0) (λ v. (v, tt)) (λ v. v ≡ 2) byte_of (λ x fits. (eqb-true x.0 2 fits.1, refl))
+    (λ v two. ((omega (arith, two), ap (λ (k : ℕ). eqb k 2) two), refl, refl))
 
-spelled_numbers : (bytes : List ℕ) (f size : ℕ) (pairs : List ℕ) → bytes ≡ number_text w16 f ++ number_text w64 size ++ pairs → f < 2 ^ 16 → size < 2 ^ 64
-    → (spelled_f bytes ≡ f) × (spelled_length bytes ≡ size)
-unfolding spelled_f spelled_length
-spelled_numbers bytes f size pairs e small fits =
-    (ap spelled_f e ∙ wide16.again f small, ap spelled_length e ∙ wide64.again size fits)
+version_same : (bytes : List ℕ) → version_at bytes ≡ version_value.read (ℕ × List ℕ) bytes (λ x. Ok x)
+unfolding version_at
+version_same bytes = refl
 
--- numbers and roots behind which nothing follows
-roots_are : (place : ℕ) (bytes rest : List ℕ) → IsBytes bytes → roots_at place bytes ≡ Ok rest → rest ≡ [] → AreNumbersAndRoots bytes × (spelled_f bytes < 512)
+-- f, the length, and the pairs of roots
+abbrev roots : ℕ → Codec IsPlaceBelow ((ℕ × ℕ) × List ℕ)
+roots place = both (both (faults place) (λ f. number wide64 (place + 2) most_bytes (omega arith)) (λ f h. omega arith))
+    (λ x. run (64 * shard_count x.0) 0) (λ x fits. omega arith)
+
+roots_read : (place : ℕ) (bytes : List ℕ) → roots_at place bytes ≡ (roots place).read (List ℕ) bytes (λ x. Ok x.1)
 unfolding roots_at
-roots_are place bytes rest fits e none =
-    let f = bind_ok (faults_at place bytes) (after_faults place) rest e in
-    let size = bind_ok (field_at w64 (place + 2) most_bytes f.0.1) (after_length f.0.0) rest f.2 in
-    let pairs = bind_ok (bytes_at (64 * shard_count f.0.0) size.0.1) after_pairs rest size.2 in
-    let end : pairs.0.1 ≡ [] = ok_is pairs.0.1 rest pairs.2 ∙ none in
-    let first = faults_is place bytes f.0 f.1 in
-    let few : f.0.0 ≤ 333 = field_most w16 place 333 bytes f.0 first.0 in
-    let short : size.0.0 ≤ most_bytes = field_most w64 (place + 2) most_bytes f.0.1 size.0 size.1 in
-    let t0 = field_takes w16 (2 ^ 16) wide16 place 333 bytes f.0 fits first.0 in
-    let t1 = field_takes w64 (2 ^ 64) wide64 (place + 2) most_bytes f.0.1 size.0 t0.rest_fits size.1 in
-    let t2 = bytes_takes (64 * shard_count f.0.0) size.0.1 pairs.0 t1.rest_fits pairs.1 in
-    let a = number_text w16 f.0.0 in
-    let b = number_text w64 size.0.0 in
-    let e1 = Takes-then bytes a f.0.1 b size.0.1 t0 t1 in
-    let e2 = Takes-then bytes (a ++ b) size.0.1 pairs.0.0 pairs.0.1 e1 t2 in
-    let spelled : bytes ≡ a ++ b ++ pairs.0.0 = e2.parts ∙ ap (λ (r : List ℕ). a ++ b ++ pairs.0.0 ++ r) end ∙ append-nil (a ++ b ++ pairs.0.0) in
-    let count : length pairs.0.0 ≡ 64 * shard_count f.0.0 = bytes_size (64 * shard_count f.0.0) size.0.1 pairs.0 pairs.1 in
-    let numbers = spelled_numbers bytes f.0.0 size.0.0 pairs.0.0 spelled (omega arith) (omega arith) in
-    let len : length bytes ≡ 10 + 64 * shard_count f.0.0 = ap length spelled ∙ omega (arith, count) in
-    let small : f.0.0 < 512 = omega arith in
-    rw (numbers.0, numbers.1) (((first.1, few, short), len), small)
+roots_read place bytes = refl
 
-roots_again : (place : ℕ) (m : BlobMetadata) (rest : List ℕ) → IsMetadata m → roots_at place (text_behind m ++ rest) ≡ Ok rest
-unfolding roots_at
-roots_again place m rest h =
-    let f = number_text w16 m.f in
-    let size = number_text w64 m.length in
-    let pairs = pairs_text m.primary (held_order m.format m.secondary) in
-    let len : length pairs ≡ 64 * shard_count m.f = omega (arith, length-behind m h) in
-    ap (roots_at place) (append_assoc (f ++ size) pairs rest ∙ append_assoc f size (pairs ++ rest))
-    ∙ ap (λ (r : Result (ℕ × List ℕ) FrameError). r >>= after_faults place) (faults_again place m.f (size ++ (pairs ++ rest)) h.shape.0 h.shape.1)
-    ∙ ap (λ (r : Result (ℕ × List ℕ) FrameError). r >>= after_length m.f) (field_again w64 (2 ^ 64) wide64 (place + 2) most_bytes m.length (pairs ++ rest) (omega (arith, h.shape.2)) h.shape.2)
-    ∙ ap (λ (r : Result (List ℕ × List ℕ) FrameError). r >>= after_pairs) (bytes_again (64 * shard_count m.f) pairs rest len)
+-- numbers and roots behind which nothing follows, whatever numbers stand for the bytes
+roots_are : (place : ℕ) (bytes : List ℕ) → roots_at place bytes ≡ Ok []
+    → AreNumbersAndRoots bytes × (spelled_f bytes < 512)
+unfolding roots_at faults_at spelled_f spelled_length
+roots_are place bytes e =
+    let f = bind_ok (faults_at place bytes) _ [] e in
+    let number = bind_ok (field_at w16 place 333 bytes) _ f.0 f.1 in
+    let some = guard_ok (eqb number.0.0 0) (BadField place) (Ok number.0) f.0 number.2 in
+    let size = bind_ok (field_at w64 (place + 2) most_bytes f.0.1) _ [] f.2 in
+    let pairs = bind_ok (bytes_at (64 * shard_count f.0.0) size.0.1) _ [] size.2 in
+    let n = 64 * shard_count f.0.0 in
+    let first = field_read wide16 place 333 bytes f.0 (number.1 ∙ some.1) in
+    let second = field_read wide64 (place + 2) most_bytes f.0.1 size.0 size.1 in
+    let third =
+    taken_of IsPlaceBelow (λ r. length r ≡ n) (λ r. r) 0 (bytes_at n) (bytes_are n 0) size.0.1 pairs.0 pairs.1 in
+    let size-is : spelled_length bytes ≡ size.0.0 = ap (λ (b : List ℕ). from_be_bytes w64 (take 8 b)) first.3
+    ∙ second.2 in
+    let positive : 1 ≤ f.0.0 =
+    omega (arith, eqb-false number.0.0 0 some.0, ap (λ (p : ℕ × List ℕ). p.0) (ok_is number.0 f.0 some.1)) in
+    let long : length bytes ≡ 10 + n = omega (
+      arith,
+      first.0,
+      second.0,
+      third.0,
+      third.1.size,
+      length-drop 2 bytes,
+      ap length first.3,
+      length-drop 8 f.0.1,
+      ap length second.3,
+      ap length (ok_is pairs.0.1 [] pairs.2),
+    ) in
+    let small : f.0.0 < 512 = omega (arith, first.1) in
+    rw (first.2, size-is) (((positive, first.1, second.1), long), small)
 
--- what is read as metadata is spelled by the bytes, in this format
-pub record IsMetadataRead (format : Format) (bytes : List ℕ) (x : Frame) : Type 0 where
-  pub spell : SpellMetadata bytes
-  pub is : Metadata (spelled_metadata bytes) ≡ x
-  pub format_is : (spelled_metadata bytes).format ≡ format
-
-abbrev pub after_roots : List ℕ → List ℕ → Result Frame FrameError
-after_roots bytes rest = ended (Metadata (spelled_metadata bytes)) rest
-
-pub metadata_is : (bytes : List ℕ) (x : Frame) → IsBytes bytes → metadata_at bytes ≡ Ok x → IsMetadataRead One bytes x
-unfolding metadata_at
-metadata_is bytes x fits e =
-    let rest = bind_ok (roots_at 1 bytes) (after_roots bytes) x e in
-    let end = ended_ok (Metadata (spelled_metadata bytes)) rest.0 x rest.2 in
-    let roots = roots_are 1 bytes rest.0 fits rest.1 end.1 in
+-- the metadata that stands behind its format
+metadata_read : (format : Format) (bytes behind : List ℕ) → bytes ≡ format_text format ++ behind
+    → AreNumbersAndRoots behind × (spelled_f behind < 512)
+    → IsRead (metadata_kind format ∷ bytes) (Metadata (spelled_metadata bytes))
+metadata_read format bytes behind is roots =
+    let at : behind_format bytes ≡ behind = ap behind_format is ∙ behind_again format behind roots.1 in
+    let spell : SpellMetadata bytes = subst AreNumbersAndRoots (sym at) roots.0 in
+    let m = spelled_metadata bytes in
+    let fit = IsMetadata-spelled bytes spell in
+    let format-is : m.format ≡ format = spelled_metadata-format bytes ∙ ap spelled_format is
+    ∙ format_again format behind roots.1 in
+    let f-is : m.f ≡ spelled_f behind = spelled_metadata-f bytes ∙ ap spelled_f at in
+    let size : length bytes ≡ length (metadata_text m) =
+    ap length is ∙ size_by format (spelled_f behind) behind roots.0.1
+    ∙ sym (length-metadata_text m fit ∙ ap (λ (k : Format). text_size k m.f) format-is
+    ∙ ap (text_size format) f-is) in
     record {
-      spell = subst AreNumbersAndRoots (sym (behind_format-one bytes roots.1)) roots.0;
-      is = end.0;
-      format_is = spelled_metadata-format bytes ∙ spelled_format-one bytes roots.1;
+      fits = fit;
+      size = ap suc size;
+      spelled = λ all. ap (λ (k : Format). metadata_kind k ∷ bytes) (sym format-is)
+          ∙ ap (λ (t : List ℕ). metadata_kind m.format ∷ t) (sym (metadata_text-spelled bytes all spell));
     }
 
-abbrev pub is_version : ℕ × List ℕ → Result (ℕ × List ℕ) FrameError
-is_version version = cond (eqb version.0 2) (Ok version) (Err (BadField 1))
+abbrev after_roots : List ℕ → List ℕ → Result Frame FrameError
+after_roots bytes rest = ended (Metadata (spelled_metadata bytes)) rest
+
+metadata_by : (format : Format) (bytes behind : List ℕ) (place : ℕ) → bytes ≡ format_text format ++ behind
+    → place + length behind ≤ 1 + length bytes
+    → Reading IsPlaceBelow (roots place).Fits (roots place).text place (λ x. Ok x.1) behind (roots_at place behind)
+    → Outcome (metadata_kind format ∷ bytes) (roots_at place behind >>= after_roots bytes)
+metadata_by format bytes behind place is long (goes (x, []) fits taken same) =
+    subst (Outcome (metadata_kind format ∷ bytes))
+    (sym (ap (λ (r : Result (List ℕ) FrameError). r >>= after_roots bytes) same))
+    (metadata_read format bytes behind is (roots_are place behind same))
+metadata_by format bytes behind place is long (goes (x, b ∷ rest) fits taken same) =
+    subst (Outcome (metadata_kind format ∷ bytes))
+    (sym (ap (λ (r : Result (List ℕ) FrameError). r >>= after_roots bytes) same
+    ∙ ended_not (Metadata (spelled_metadata bytes)) b rest)) tt
+metadata_by format bytes behind place is long (fails e below same) =
+    subst (Outcome (metadata_kind format ∷ bytes))
+    (sym (ap (λ (r : Result (List ℕ) FrameError). r >>= after_roots bytes) same))
+    (below (suc (length bytes)) (omega (arith, long)))
+
+roots_reading : (place : ℕ) (bytes : List ℕ)
+    → Reading IsPlaceBelow (roots place).Fits (roots place).text place (λ x. Ok x.1) bytes (roots_at place bytes)
+unfolding roots_at
+roots_reading place bytes = (roots place).is (List ℕ) bytes (λ x. Ok x.1)
+
+pub metadata_is : (bytes : List ℕ) → Outcome (0x10 ∷ bytes) (metadata_at bytes)
+unfolding metadata_at
+metadata_is bytes = metadata_by One bytes bytes 1 refl (omega arith) (roots_reading 1 bytes)
+
+one_format : (format k : Format) → metadata_kind format ≡ metadata_kind k → format ≡ k
+one_format One One e = refl
+one_format Two Two e = refl
+one_format One Two e = absurd (omega (arith, e))
+one_format Two One e = absurd (omega (arith, e))
+
+-- a metadata that was read
+pub metadata_found : (format : Format) (bytes : List ℕ) (m : BlobMetadata) → IsBytes bytes
+    → IsRead (metadata_kind format ∷ bytes) (Metadata m)
+    → IsMetadata m × (metadata_text m ≡ bytes) × (m.format ≡ format)
+metadata_found format bytes m fits is =
+    let spelled = is.spelled fits in
+    (is.fits, sym (ap (drop 1) spelled), sym (one_format format m.format (ap (λ (t : List ℕ). get_or t 0 0) spelled)))
 
 version_ok : (b : Bool) (version x : ℕ × List ℕ) → cond b (Ok version) (Err (BadField 1)) ≡ Ok x → (b ≡ true) × (version ≡ x)
 version_ok true version x e = (refl, ok_is version x e)
 version_ok false version x e = absurd cc
 
-pub version_is : (bytes : List ℕ) (x : ℕ × List ℕ) → IsBytes bytes → version_at bytes ≡ Ok x → (bytes ≡ 2 ∷ x.1) × IsBytes x.1
+version_read : (bytes : List ℕ) (v : ℕ × List ℕ) → version_at bytes ≡ Ok v → bytes ≡ 2 ∷ v.1
 unfolding version_at
-version_is bytes x fits e =
-    let v = read_first (byte 1 2 (omega arith)) is_version bytes x fits e in
-    let test = version_ok (eqb v.0.0 2) v.0 x v.3 in
-    let two : v.0.0 ≡ 2 = eqb-true v.0.0 2 test.0 in
-    let rest : v.0.1 ≡ x.1 = ap (λ (p : ℕ × List ℕ). p.1) test.1 in
-    (v.2.parts ∙ ap (λ (k : ℕ). k ∷ v.0.1) two ∙ ap (λ (r : List ℕ). 2 ∷ r) rest, subst IsBytes rest v.2.rest_fits)
+version_read bytes v e =
+    let first = bind_ok (field_at w8 1 2 bytes) _ v e in
+    let test = version_ok (eqb first.0.0 2) first.0 v first.2 in
+    let is = field_read wide8 1 2 bytes first.0 first.1 in
+    by bytes is.0 (is.2 ∙ eqb-true first.0.0 2 test.0) (is.3 ∙ ap (λ (p : ℕ × List ℕ). p.1) test.1)
+  where
+    by : (b : List ℕ) → 1 ≤ length b → from_be_bytes w8 (take 1 b) ≡ 2 → drop 1 b ≡ v.1 → b ≡ 2 ∷ v.1
+    by [] long value rest = absurd (omega arith)
+    by (first ∷ b) long value rest =
+        (let one : first ≡ 2 = omega arith in ap (λ (k : ℕ). k ∷ b) one ∙ ap (λ (r : List ℕ). 2 ∷ r) rest)
 
-version_again : (rest : List ℕ) → version_at (2 ∷ rest) ≡ Ok (2, rest)
-unfolding version_at
-version_again rest = first_again (byte 1 2 (omega arith)) is_version 2 rest (omega arith)
-
-abbrev pub after_version : List ℕ → ℕ × List ℕ → Result Frame FrameError
+abbrev after_version : List ℕ → ℕ × List ℕ → Result Frame FrameError
 after_version bytes version = roots_at 2 version.1 >>= after_roots bytes
 
-pub metadata2_is : (bytes : List ℕ) (x : Frame) → IsBytes bytes → metadata2_at bytes ≡ Ok x → IsMetadataRead Two bytes x
+metadata2_by : (bytes : List ℕ) (r : Result (ℕ × List ℕ) FrameError) → version_at bytes ≡ r
+    → Reading IsPlaceBelow (λ v. v ≡ 2) byte_of 1 (λ x. Ok x) bytes r
+    → Outcome (0x14 ∷ bytes) (r >>= after_version bytes)
+metadata2_by bytes r e (goes x fits taken same) =
+    let is = version_read bytes x (e ∙ same) in
+    subst (λ (q : Result (ℕ × List ℕ) FrameError). Outcome (0x14 ∷ bytes) (q >>= after_version bytes)) (sym same)
+    (metadata_by Two bytes x.1 2 is (omega (arith, ap length is)) (roots_reading 2 x.1))
+metadata2_by bytes r e (fails d below same) =
+    subst (λ (q : Result (ℕ × List ℕ) FrameError). Outcome (0x14 ∷ bytes) (q >>= after_version bytes)) (sym same)
+    (below (suc (length bytes)) (omega arith))
+
+pub metadata2_is : (bytes : List ℕ) → Outcome (0x14 ∷ bytes) (metadata2_at bytes)
 unfolding metadata2_at
-metadata2_is bytes x fits e =
-    let version = bind_ok (version_at bytes) (after_version bytes) x e in
-    let rest = bind_ok (roots_at 2 version.0.1) (after_roots bytes) x version.2 in
-    let end = ended_ok (Metadata (spelled_metadata bytes)) rest.0 x rest.2 in
-    let v = version_is bytes version.0 fits version.1 in
-    let roots = roots_are 2 version.0.1 rest.0 v.1 rest.1 end.1 in
-    let behind-is : behind_format bytes ≡ version.0.1 = ap behind_format v.0 ∙ behind_format-two version.0.1 in
-    record {
-      spell = subst AreNumbersAndRoots (sym behind-is) roots.0;
-      is = end.0;
-      format_is = spelled_metadata-format bytes ∙ ap spelled_format v.0 ∙ spelled_format-two version.0.1;
-    }
+metadata2_is bytes = metadata2_by bytes (version_at bytes) refl (named_is version_value version_at version_same bytes)
 
 metadata_end : (m : BlobMetadata) (rest : List ℕ) → IsMetadata m → ended (Metadata (spelled_metadata (metadata_text m ++ rest))) rest ≡ ended (Metadata m) rest
 metadata_end m [] h = ap (λ (t : List ℕ). Ok (Metadata (spelled_metadata t))) (append-nil (metadata_text m)) ∙ ap (λ (k : BlobMetadata). Ok (Metadata k)) (spelled_metadata-text m h)
@@ -595,6 +557,13 @@ metadata_parts : (format : Format) (m : BlobMetadata) (rest : List ℕ) → m.fo
 metadata_parts format m rest is =
     ap (λ (t : List ℕ). t ++ rest) (metadata_text-format m ∙ ap (λ (k : Format). format_text k ++ text_behind m) is) ∙ append_assoc (format_text format) (text_behind m) rest
 
+roots_again : (place : ℕ) (m : BlobMetadata) (rest : List ℕ) → IsMetadata m → roots_at place (text_behind m ++ rest) ≡ Ok rest
+unfolding roots_at
+roots_again place m rest h =
+    let pairs = pairs_text m.primary (held_order m.format m.secondary) in
+    (roots place).again (List ℕ) (λ x. Ok x.1) ((m.f, m.length), pairs) rest
+    (((h.shape.0, h.shape.1), h.shape.2), omega (arith, length-behind m h))
+
 pub metadata_behind : (m : BlobMetadata) (rest : List ℕ) → m.format ≡ One → IsMetadata m → metadata_at (metadata_text m ++ rest) ≡ ended (Metadata m) rest
 unfolding metadata_at
 metadata_behind m rest is h =
@@ -603,9 +572,11 @@ metadata_behind m rest is h =
     ∙ metadata_end m rest h
 
 pub metadata2_behind : (m : BlobMetadata) (rest : List ℕ) → m.format ≡ Two → IsMetadata m → metadata2_at (metadata_text m ++ rest) ≡ ended (Metadata m) rest
-unfolding metadata2_at
+unfolding metadata2_at version_at
 metadata2_behind m rest is h =
     let bytes = metadata_text m ++ rest in
-    ap (λ (r : Result (ℕ × List ℕ) FrameError). r >>= after_version bytes) (ap version_at (metadata_parts Two m rest is) ∙ version_again (text_behind m ++ rest))
+    ap (λ (r : Result (ℕ × List ℕ) FrameError). r >>= after_version bytes)
+    (ap version_at (metadata_parts Two m rest is) ∙ version_value.again (ℕ × List ℕ) (λ x. Ok x) 2
+    (text_behind m ++ rest) refl)
     ∙ ap (λ (r : Result (List ℕ) FrameError). r >>= after_roots bytes) (roots_again 2 m rest h)
     ∙ metadata_end m rest h

@@ -1,6 +1,5 @@
 pub mod FieldLaws
 pub mod KindLaws
 pub mod FrameLaws
-pub mod FaultLaws
 pub mod StreamLaws
 pub mod BufferLaws

@@ -10,7 +10,8 @@ use Rattle.wal_shape.proofs.ShapeLaws.{symbol_size-least}
 use Rattle.wal_shape.proofs.MetadataLaws.{length-metadata_text, text_size-most}
 use Rattle.wal_frame.specs.Frame as frame
 use Rattle.wal_frame.specs.Frame.{Frame, IsFrame, frame_text, sliver_frame}
-use Rattle.wal_frame.proofs.FrameLaws.{length-sliver_frame, length-target}
+use Rattle.wal_frame.proofs.FieldLaws.{length-target}
+use Rattle.wal_frame.proofs.FrameLaws.{length-sliver_frame}
 use Rattle.wal_shard.proofs.Sizes.{bad_proof_most, sliver_most}
 use Rattle.wal_serve.specs.Room.{desk_room, AsksOnly, MayVerify}
 

@@ -4,9 +4,10 @@ use Rattle.wal_shape.specs.declared.metadata.BlobId.{BlobId}
 use Rattle.wal_shape.specs.declared.text.MetaClash.{MetaClash}
 use Rattle.wal_shape.specs.Identifiers.{id_eq}
 use Rattle.wal_frame.specs.declared.frame.FrameError.{FrameError}
-use Rattle.wal_frame.specs.Frame.{Frame, Metadata, Sliver, Proof, Symbol, Ack, Attest, Forget, RegisterEntry, AckEntry, AttestEntry}
+use Rattle.wal_frame.specs.Frame.{Frame, Metadata, Sliver, Proof, Symbol, Ack, Attest, Forget, RegisterEntry, AckEntry, AttestEntry, IsFrame}
 use Rattle.wal_frame.specs.Reading.{read_of}
 use Rattle.wal_frame.specs.Stored.{stored_bytes}
+use Rattle.wal_frame.proofs.FrameLaws.{frame_is}
 use Rattle.wal_ledger.specs.declared.answers.AckAnswer.{AckAnswer}
 use Rattle.wal_ledger.specs.declared.answers.AckAnswer.TheVariants as acking
 use Rattle.wal_ledger.specs.declared.answers.RegisterAnswer.TheVariants as registering
@@ -29,7 +30,6 @@ use Rattle.wal_serve.specs.Reply.{ack_reply, put_reply, reply_text}
 use Rattle.wal_serve.specs.Requests.{Entered, Forgets, Registered, Vouched, unbacked, asked, forgotten, kept, of_committee, of_none}
 use Rattle.wal_serve.specs.Answers.{AnswersRequest, AnswersRead, AnswersPut, AnswersEntry, AnswersForget, IsReplyOutcome}
 use Rattle.wal_served.specs.Local.{about_read, entries_in, tells, tells_entry}
-use Rattle.wal_served.proofs.Frames.{until_fits}
 use Rattle.wal_served.proofs.BothKinds.{IsClaimed, as_claim, claim_plain, claim_names}
 use Rattle.wal_served.proofs.Replies.{Reply}
 
@@ -123,21 +123,21 @@ module _ (digest : List ℕ → List ℕ) (may_want : Bool) (old : ServedState) 
         by _ _ (of_committee s l less claim) t e = by_claim s l t e kind shard (inl less) (as_claim kind old.ledger shard q s l claim)
         by _ _ (of_none outside) t e = no_change e
 
-  by_read : (read : Result Frame FrameError) → ((name : List ℕ) (until : ℕ) → read ≡ Ok (RegisterEntry name until) → until ≤ 65536)
-      → AnswersRead digest may_want read old frames clash new → Changes read
-  by_read (Ok (Metadata m)) low h = by_put (Metadata m) tt refl h
-  by_read (Ok (Sliver name axis index bytes)) low h = by_put (Sliver name axis index bytes) tt refl h
-  by_read (Ok (Proof name p)) low h = by_put (Proof name p) tt refl h
-  by_read (Ok (Symbol name axis index)) low h = no_change h.3
-  by_read (Ok (Forget name)) low h = by_forget name h
-  by_read (Ok (Ack name)) low h = by_vouched (Ok (Ack name)) (named name) refl refl Holds h
-  by_read (Ok (Attest name)) low h = by_vouched (Ok (Attest name)) (named name) refl refl Denies h
-  by_read (Ok (RegisterEntry name until)) low (r, ledger, makes, told, is) =
-      by_register (Ok (RegisterEntry name until)) (named name) refl refl r ledger told is until (low name until refl) makes
-  by_read (Ok (AckEntry shard name)) low h = by_entered (Ok (AckEntry shard name)) (named name) refl refl Holds shard h
-  by_read (Ok (AttestEntry shard name)) low h = by_entered (Ok (AttestEntry shard name)) (named name) refl refl Denies shard h
-  by_read (Ok frame) low h = no_change h.1
-  by_read (Err fault) low h = no_change h.1
+  by_read : (read : Result Frame FrameError) → ((x : Frame) → read ≡ Ok x → IsFrame x) → AnswersRead digest may_want read old frames clash new
+      → Changes read
+  by_read (Ok (Metadata m)) fits h = by_put (Metadata m) tt refl h
+  by_read (Ok (Sliver name axis index bytes)) fits h = by_put (Sliver name axis index bytes) tt refl h
+  by_read (Ok (Proof name p)) fits h = by_put (Proof name p) tt refl h
+  by_read (Ok (Symbol name axis index)) fits h = no_change h.3
+  by_read (Ok (Forget name)) fits h = by_forget name h
+  by_read (Ok (Ack name)) fits h = by_vouched (Ok (Ack name)) (named name) refl refl Holds h
+  by_read (Ok (Attest name)) fits h = by_vouched (Ok (Attest name)) (named name) refl refl Denies h
+  by_read (Ok (RegisterEntry name until)) fits (r, ledger, makes, told, is) =
+      by_register (Ok (RegisterEntry name until)) (named name) refl refl r ledger told is until (fits (RegisterEntry name until) refl).1 makes
+  by_read (Ok (AckEntry shard name)) fits h = by_entered (Ok (AckEntry shard name)) (named name) refl refl Holds shard h
+  by_read (Ok (AttestEntry shard name)) fits h = by_entered (Ok (AttestEntry shard name)) (named name) refl refl Denies shard h
+  by_read (Ok frame) fits h = no_change h.1
+  by_read (Err fault) fits h = no_change h.1
 
   pub changes : (payload : List ℕ) → AnswersRequest digest may_want old payload frames clash new → Changes (read_of payload)
-  changes payload answers = by_read (read_of payload) (until_fits payload) answers
+  changes payload answers = by_read (read_of payload) (λ x reads. (frame_is payload x reads).fits) answers

@@ -6,7 +6,6 @@ mod BothKinds
 mod Changes
 mod Claims
 mod Costs
-mod Frames
 mod Left
 mod Puts
 pub mod Reached

@@ -11,6 +11,7 @@ use Rattle.wal_event.specs.declared.line.SendWord.TheVariants as sending
 use Rattle.wal_event.specs.declared.line.ForgetWord.TheVariants as forgetting
 use Rattle.wal_frame.specs.Frame.{Frame, Answer, Clash}
 use Rattle.wal_frame.specs.Reading.{read_of}
+use Rattle.wal_frame.proofs.FrameLaws.{frame_is}
 use Rattle.wal_store.specs.Contents.{Contents}
 use Rattle.wal_shard.specs.declared.answers.PutAnswer.{PutAnswer}
 use Rattle.wal_shard.specs.declared.answers.PutAnswer.TheVariants as putting
@@ -25,7 +26,6 @@ use Rattle.wal_serve.specs.Reply.{reply, done, refused, put_reply}
 use Rattle.wal_serve.specs.Requests.{IsPutRequest, Forgets, forgotten, kept}
 use Rattle.wal_serve.specs.Answers.{IsReplyOutcome}
 use Rattle.wal_served.specs.Steps.{world_of, IsDesk, an_event, send_frame, TellsClash, Does}
-use Rattle.wal_served.proofs.Frames.{part_fits}
 use Rattle.wal_served.proofs.Worlds.{here, contents_here, keeps_then, holding_same, world_same}
 use Rattle.wal_served.proofs.Replies.{Reply, takes, lacks}
 
@@ -44,7 +44,7 @@ module _ (digest : List ℕ → List ℕ) (s : ServedState) (d : IsDesk s) (payl
     here s d w,
     (reads, part),
     (
-      part_fits payload frame reads part,
+      (frame_is payload frame reads).fits,
       subst (λ (m : Contents). Puts digest (desk_of s.shard.f s.shard.index None s.ledger.log) m frame answer new) (sym (contents_here s d w)) puts,
     ),
   )

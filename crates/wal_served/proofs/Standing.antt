@@ -12,7 +12,7 @@ use Rattle.wal_frame.specs.declared.frame.FrameError.{FrameError}
 use Rattle.wal_frame.specs.Frame.{Frame, Metadata, Sliver, Proof, RegisterEntry, AckEntry, AttestEntry, IsFrame, IsId, frame_text, envelope}
 use Rattle.wal_frame.specs.Reading.{read_of}
 use Rattle.wal_frame.specs.Stored.{stored_bytes}
-use Rattle.wal_frame.proofs.FrameLaws.{read_again}
+use Rattle.wal_frame.proofs.FrameLaws.{frame_is, read_again}
 use Rattle.wal_ledger.specs.declared.answers.AckAnswer.{AckAnswer}
 use Rattle.wal_ledger.specs.declared.answers.AckAnswer.TheVariants as acking
 use Rattle.wal_ledger.specs.declared.answers.RegisterAnswer.TheVariants as registering
@@ -37,7 +37,7 @@ use Rattle.wal_shard.proofs.HeldLaws.{sliver_then, proof_then}
 use Rattle.wal_shard.proofs.Soundness.{none_sound, metadata_sound, without_sliver_sound}
 use Rattle.wal_serve.specs.State.{ServedState, holding, with_ledger}
 use Rattle.wal_serve.specs.Reply.{reply_text, done, ack_reply}
-use Rattle.wal_serve.specs.Requests.{Entered, Registered, of_committee}
+use Rattle.wal_serve.specs.Requests.{Entered, of_committee}
 use Rattle.wal_serve.specs.Answers.{AnswersRequest, AnswersRead, AnswersFrame}
 use Rattle.wal_serve.specs.Room.{AsksOnly}
 use Rattle.wal_serve.specs.Serving as serving
@@ -47,7 +47,6 @@ use Rattle.wal_served.specs.Local.{about_read, AlikeLedgers, AlikeAt, HasNothing
 use Rattle.wal_served.proofs.Replies.{Reply}
 use Rattle.wal_served.proofs.BothKinds.{of_claim}
 use Rattle.wal_served.proofs.Changes.{Enterable, to_register, to_claim, enter_plain, enter_names, Change, no_change, part_stored, slivers_went, entry_made, changes}
-use Rattle.wal_served.proofs.Frames.{part_fits}
 use Rattle.wal_served.proofs.AlikeLedgers.{joined_ledgers, both_entered, claim_too, register_too}
 use Rattle.wal_served.proofs.Alike.{the_one}
 use Rattle.wal_served.proofs.Apart.{stored_there, slivers_gone, changed_elsewhere}
@@ -319,7 +318,7 @@ module _ (digest : List ℕ → List ℕ) (id : BlobId) (room sender : ℕ) (als
         here : about_read digest (read_of payload) ≡ Some id → Change digest s (read_of payload) frames new → Standing new
         here about (no_change same) = subst Standing (sym same) st
         here about (part_stored frame reads part so told accepted absent is) =
-            subst Standing (sym is) (stored_here frame (part_fits payload frame reads part) part (the_one (put_id digest frame) id (sym so ∙ about)) accepted absent)
+            subst Standing (sym is) (stored_here frame (frame_is payload frame reads).fits part (the_one (put_id digest frame) id (sym so ∙ about)) accepted absent)
         here about (slivers_went q so told is) =
             subst Standing (sym is) (subst (λ (x : BlobId). Standing (holding s (without_slivers s.shard.contents x))) (sym (the_one q id (sym so ∙ about))) went_here)
         here about (entry_made q b so asks_one told may is) = subst Standing (sym is) (entry_here b (subst (λ (x : BlobId). Enterable s x b) (the_one q id (sym so ∙ about)) may))

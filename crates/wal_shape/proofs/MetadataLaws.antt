@@ -266,11 +266,12 @@ unfolding spelled_format behind_format
 format-behind [] = refl
 format-behind (a ∷ bytes) = split_by (a == 2) a bytes (λ e. eqb-true a 2 e)
 
-format_again : (format : Format) (text : List ℕ) → spelled_f text < 512 → spelled_format (format_text format ++ text) ≡ format
+-- behind a format stands what does not begin with one
+pub format_again : (format : Format) (text : List ℕ) → spelled_f text < 512 → spelled_format (format_text format ++ text) ≡ format
 format_again One text small = spelled_format-one text small
 format_again Two text small = spelled_format-two text
 
-behind_again : (format : Format) (text : List ℕ) → spelled_f text < 512 → behind_format (format_text format ++ text) ≡ text
+pub behind_again : (format : Format) (text : List ℕ) → spelled_f text < 512 → behind_format (format_text format ++ text) ≡ text
 behind_again One text small = behind_format-one text small
 behind_again Two text small = behind_format-two text
 
@@ -383,7 +384,7 @@ root_place-within Secondary pair bytes lt h = omega (arith, h.1)
 pub length-behind : (m : BlobMetadata) → IsMetadata m → length (text_behind m) ≡ 10 + 64 * shard_count m.f
 length-behind m h = let pairs = length-pairs_text (shard_count m.f) m.primary (held_order m.format m.secondary) h.primary (AreRoots-held_order m.format (shard_count m.f) m.secondary h.secondary) in omega (arith, pairs)
 
-size_by : (format : Format) (f : ℕ) (text : List ℕ) → length text ≡ 10 + 64 * shard_count f → length (format_text format ++ text) ≡ text_size format f
+pub size_by : (format : Format) (f : ℕ) (text : List ℕ) → length text ≡ 10 + 64 * shard_count f → length (format_text format ++ text) ≡ text_size format f
 size_by One f text size = size
 size_by Two f text size = omega (arith, size)
 

@@ -1,5 +1,5 @@
 -- A number that is read is the number that was written, and its bytes are the bytes that were read.
-use Rattle.std.proofs.Common.{◌≡◌, ℕ, ◌+◌, ◌%◌, ◌^◌, ◌<◌, List, [], ◌∷◌, length, get_or, take, drop, refl, ap, arith, inl, inr}
+use Rattle.std.proofs.Common.{◌≡◌, ℕ, ◌+◌, ◌%◌, ◌^◌, ◌<◌, ◌≤◌, List, [], ◌∷◌, length, get_or, take, drop, refl, ap, arith, inl, inr}
 use Rattle.std.specs.Int.{Width, w8, w16, w32, w64, byte_len, from_be_bytes, to_be_bytes}
 use Rattle.std.proofs.lemmas.Bool.{cases_lt}
 use Rattle.std.proofs.lemmas.List.{length-take, get_or-drop, get_or-take, get_or_past}
@@ -21,6 +21,7 @@ IsBytes-take n bytes h i =
 
 -- a width, and the numbers that fit it
 pub record IsWide (w : Width) (limit : ℕ) : Type 0 where
+  pub some : 1 ≤ byte_len w
   pub len : (n : ℕ) → length (to_be_bytes w n) ≡ byte_len w
   pub back : (bytes : List ℕ) → length bytes ≡ byte_len w → IsBytes bytes → to_be_bytes w (from_be_bytes w bytes) ≡ bytes
   pub again : (n : ℕ) → n < limit → from_be_bytes w (to_be_bytes w n) ≡ n
@@ -38,6 +39,7 @@ byte_text n lt = let small : n ≡ n % 256 = omega arith in ap (λ (k : ℕ). k 
 
 pub wide8 : IsWide w8 (2 ^ 8)
 wide8 = record {
+  some = omega arith;
   len = λ n. refl;
   back = one_byte;
   again = λ n lt. omega arith;
@@ -46,6 +48,7 @@ wide8 = record {
 
 pub wide16 : IsWide w16 (2 ^ 16)
 wide16 = record {
+  some = omega arith;
   len = λ n. refl;
   back = λ bytes len fits. be_bytes_2 bytes _ len fits refl;
   again = λ n lt. from_be_bytes-to_be_bytes_2 n lt;
@@ -54,6 +57,7 @@ wide16 = record {
 
 pub wide32 : IsWide w32 (2 ^ 32)
 wide32 = record {
+  some = omega arith;
   len = λ n. refl;
   back = λ bytes len fits. be_bytes_4 bytes _ len fits refl;
   again = λ n lt. from_be_bytes-to_be_bytes_4 n lt;
@@ -62,6 +66,7 @@ wide32 = record {
 
 pub wide64 : IsWide w64 (2 ^ 64)
 wide64 = record {
+  some = omega arith;
   len = λ n. refl;
   back = λ bytes len fits. be_bytes_8 bytes _ len fits refl;
   again = λ n lt. from_be_bytes-to_be_bytes_8 n lt;

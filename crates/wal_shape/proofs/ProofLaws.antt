@@ -1,5 +1,5 @@
 -- What is read as a proof is spelled so, and what is spelled so is read: each proof has one spelling of its own.
-use Rattle.std.proofs.Common.{◌≡◌, ℕ, zero, suc, ◌+◌, ◌^◌, ◌<◌, ◌≤◌, ◌-◌, List, [], ◌∷◌, ◌++◌, length, drop, Option, Some, None, Result, Ok, Err, slice_get, refl, sym, ap, subst, ◌∙◌, append_assoc, arith}
+use Rattle.std.proofs.Common.{◌≡◌, ℕ, zero, suc, ◌+◌, ◌<◌, ◌≤◌, ◌-◌, List, [], ◌∷◌, ◌++◌, length, drop, Option, Some, None, Result, Ok, Err, slice_get, refl, sym, ap, subst, ◌∙◌, append_assoc, arith}
 use Rattle.std.specs.Prelude.{IfSome, IfNone}
 use Rattle.std.specs.List.{AllByRecursion, flat_map}
 use Rattle.std.specs.Int.{w8, w16}
@@ -13,12 +13,12 @@ use Rattle.wal_shape.specs.declared.proof.Head.{Head}
 use Rattle.wal_shape.specs.Opening.{IsBody}
 use Rattle.wal_shape.specs.EncodingProof.{EncodingProof, IsProof}
 use Rattle.wal_shape.specs.Spelling.{number_text, body_text, axis_number, proof_text}
-use Rattle.wal_shape.specs.FieldReading.{◌>>=◌, number_at}
 use Rattle.wal_shape.specs.BodyReading.{body_at}
 use Rattle.wal_shape.specs.ProofReading.{axis_of, with_others, openings_in, proof_with, proof_of}
 use Rattle.wal_shape.specs.inside.ProofReading.{head_at, behind, bodies_end, SpellProof, ended, whole_head, head_in}
+use Rattle.wal_shape.proofs.Codecs.{ok_is, Takes, Takes-none, Takes-then, Codec, IsReader, taken_of, both, seen, named_is}
 use Rattle.wal_shape.proofs.Numbers.{IsBytes, wide8, wide16, byte_text}
-use Rattle.wal_shape.proofs.BodyLaws.{bind_ok, ok_is, Takes, Takes-then, number_most, number_takes, number_again, body_fits, body_takes, body_again}
+use Rattle.wal_shape.proofs.BodyLaws.{IsBelow, number, body_taken, body_again}
 
 -- ---- bodies
 
@@ -45,20 +45,21 @@ pub openings_in-fit : (n : ℕ) (bytes rest : List ℕ) → bodies_end n bytes �
 openings_in-fit zero bytes rest e = unfold openings_in in tt
 openings_in-fit (suc n) bytes rest e =
     let x = bodies_end-step n bytes rest e in
-    let both : AllByRecursion IsBody (x.0.0 ∷ openings_in n x.0.1) = (body_fits bytes x.0 x.1, openings_in-fit n x.0.1 rest x.2) in
+    let both : AllByRecursion IsBody (x.0.0 ∷ openings_in n x.0.1) =
+    ((body_taken bytes x.0 x.1).0, openings_in-fit n x.0.1 rest x.2) in
     subst (AllByRecursion IsBody) (sym (openings_in-step n bytes x.0 x.1)) both
 
-pub openings_in-take : (n : ℕ) (bytes rest : List ℕ) → IsBytes bytes → bodies_end n bytes ≡ Some rest → bytes ≡ flat_map body_text (openings_in n bytes) ++ rest
-openings_in-take zero bytes rest fits e = unfold openings_in bodies_end in cc
-openings_in-take (suc n) bytes rest fits e =
+pub openings_in-take : (n : ℕ) (bytes rest : List ℕ) → bodies_end n bytes ≡ Some rest
+    → Takes bytes (flat_map body_text (openings_in n bytes)) rest
+openings_in-take zero bytes rest e =
+    unfold openings_in bodies_end in (let same : bytes ≡ rest = cc in subst (Takes bytes []) same (Takes-none bytes))
+openings_in-take (suc n) bytes rest e =
     let x = bodies_end-step n bytes rest e in
-    let first = body_takes bytes x.0 fits x.1 in
-    let others = openings_in-take n x.0.1 rest first.rest_fits x.2 in
-    first.parts
-    ∙ ap (λ (b : List ℕ). body_text x.0.0 ++ b) others
-    ∙ sym (append_assoc (body_text x.0.0) (flat_map body_text (openings_in n x.0.1)) rest)
-    ∙ ap (λ (b : List ℕ). b ++ rest) (sym (flat_map-cons body_text x.0.0 (openings_in n x.0.1)))
-    ∙ ap (λ (os : List Opening). flat_map body_text os ++ rest) (sym (openings_in-step n bytes x.0 x.1))
+    let first = (body_taken bytes x.0 x.1).1 in
+    let both = Takes-then bytes (body_text x.0.0) x.0.1 (flat_map body_text (openings_in n x.0.1)) rest first
+    (openings_in-take n x.0.1 rest x.2) in
+    subst (λ (t : List ℕ). Takes bytes t rest) (sym (ap (flat_map body_text) (openings_in-step n bytes x.0 x.1)
+    ∙ flat_map-cons body_text x.0.0 (openings_in n x.0.1))) both
 
 -- the bodies of openings are read as these openings, whatever follows
 pub regroup_bodies : (o : Opening) (os : List Opening) (rest : List ℕ) → flat_map body_text (o ∷ os) ++ rest ≡ body_text o ++ (flat_map body_text os ++ rest)
@@ -85,18 +86,6 @@ openings_in-again (o ∷ os) rest fits =
 abbrev head_text : Head → List ℕ
 head_text head = number_text w8 (axis_number head.axis) ++ number_text w16 head.index ++ number_text w16 head.count
 
-abbrev head_with : ℕ → ℕ → ℕ → Head
-head_with axis index count = record { axis = axis_of axis; index = index; count = count }
-
-abbrev after_count : ℕ → ℕ → ℕ × List ℕ → Result (Head × List ℕ) BodyFault
-after_count axis index count = Ok (head_with axis index count.0, count.1)
-
-abbrev after_index : ℕ → ℕ × List ℕ → Result (Head × List ℕ) BodyFault
-after_index axis index = number_at w16 3 1000 index.1 >>= after_count axis index.0
-
-abbrev after_axis : ℕ × List ℕ → Result (Head × List ℕ) BodyFault
-after_axis axis = number_at w16 1 999 axis.1 >>= after_index axis.0
-
 axis_number-of : (n : ℕ) → n ≤ 1 → n ≡ axis_number (axis_of n)
 axis_number-of zero le = refl
 axis_number-of (suc zero) le = refl
@@ -110,39 +99,45 @@ axis_number-le : (axis : Axis) → axis_number axis ≤ 1
 axis_number-le Primary = omega arith
 axis_number-le Secondary = omega arith
 
-head_takes : (bytes : List ℕ) (x : Head × List ℕ) → IsBytes bytes → head_at bytes ≡ Ok x → Takes bytes (head_text x.0) x.1 × (x.0.index ≤ 999) × (x.0.count ≤ 1000)
-unfolding head_at
-head_takes bytes x fits e =
-    let axis = bind_ok (number_at w8 0 1 bytes) after_axis x e in
-    let index = bind_ok (number_at w16 1 999 axis.0.1) (after_index axis.0.0) x axis.2 in
-    let count = bind_ok (number_at w16 3 1000 index.0.1) (after_count axis.0.0 index.0.0) x index.2 in
-    let axis-takes = number_takes w8 (2 ^ 8) wide8 0 1 bytes axis.0 fits axis.1 in
-    let index-takes = number_takes w16 (2 ^ 16) wide16 1 999 axis.0.1 index.0 axis-takes.rest_fits index.1 in
-    let count-takes = number_takes w16 (2 ^ 16) wide16 3 1000 index.0.1 count.0 index-takes.rest_fits count.1 in
-    let one = Takes-then bytes (number_text w8 axis.0.0) axis.0.1 (number_text w16 index.0.0) index.0.1 axis-takes index-takes in
-    let two = Takes-then bytes (number_text w8 axis.0.0 ++ number_text w16 index.0.0) index.0.1 (number_text w16 count.0.0) count.0.1 one count-takes in
-    let named = subst (λ (k : ℕ). Takes bytes (number_text w8 k ++ number_text w16 index.0.0 ++ number_text w16 count.0.0) count.0.1) (axis_number-of axis.0.0 (number_most w8 0 1 bytes axis.0 axis.1)) two in
-    let from : Head × List ℕ = (head_with axis.0.0 index.0.0 count.0.0, count.0.1) in
-    subst (λ (y : Head × List ℕ). Takes bytes (head_text y.0) y.1 × (y.0.index ≤ 999) × (y.0.count ≤ 1000)) {x = from} (ok_is from x count.2)
-    (named, number_most w16 1 999 axis.0.1 index.0 index.1, number_most w16 3 1000 index.0.1 count.0 count.1)
+abbrev IsHead : Head → Type 0
+IsHead head = (head.index ≤ 999) × (head.count ≤ 1000)
 
-head_again : (head : Head) (rest : List ℕ) → head.index ≤ 999 → head.count ≤ 1000 → head_at (head_text head ++ rest) ≡ Ok (head, rest)
-unfolding head_at
-head_again head rest index-fits count-fits =
-    let axis = number_text w8 (axis_number head.axis) in
-    let index = number_text w16 head.index in
-    let count = number_text w16 head.count in
-    let small = axis_number-le head.axis in
-    let axis-is = number_again w8 (2 ^ 8) wide8 0 1 (axis_number head.axis) (index ++ (count ++ rest)) (omega (arith, small)) small in
-    let index-is = number_again w16 (2 ^ 16) wide16 1 999 head.index (count ++ rest) (omega (arith, index-fits)) index-fits in
-    let count-is = number_again w16 (2 ^ 16) wide16 3 1000 head.count rest (omega (arith, count-fits)) count-fits in
-    ap (λ (r : Result (ℕ × List ℕ) BodyFault). r >>= after_axis) axis-is
-    ∙ ap (λ (r : Result (ℕ × List ℕ) BodyFault). r >>= after_index (axis_number head.axis)) index-is
-    ∙ ap (λ (r : Result (ℕ × List ℕ) BodyFault). r >>= after_count (axis_number head.axis) head.index) count-is
-    ∙ ap (λ (a : Axis). Ok (head_with_axis a head.index head.count, rest)) (axis_of-number head.axis)
+abbrev HeadFields : Type 0
+HeadFields = (ℕ × ℕ) × ℕ
+
+abbrev head_fields : Codec IsBelow HeadFields
+head_fields =
+    both (both (number wide8 0 1 (omega arith)) (λ x. number wide16 1 999 (omega arith)) (λ x fits. omega arith))
+    (λ x. number wide16 3 1000 (omega arith)) (λ x fits. omega arith)
+
+abbrev head_with : HeadFields → Head
+head_with x = record { axis = axis_of x.0.0; index = x.0.1; count = x.1 }
+
+abbrev head_codec : Codec IsBelow Head
+head_codec =
+    seen head_fields head_with (λ head. ((axis_number head.axis, head.index), head.count)) IsHead head_text
+    (λ x fits. (
+      (fits.0.1, fits.1),
+      ap (λ (k : ℕ). number_text w8 k ++ number_text w16 x.0.1 ++ number_text w16 x.1)
+          (axis_number-of x.0.0 fits.0.0),
+    ))
+    (λ head h. (
+      ((axis_number-le head.axis, h.0), h.1),
+      refl,
+      ap (λ (a : Axis). head_with_axis a head.index head.count)
+          (axis_of-number head.axis),
+    ))
   where
     head_with_axis : Axis → ℕ → ℕ → Head
     head_with_axis a i c = record { axis = a; index = i; count = c }
+
+head_is : IsReader IsBelow IsHead head_text 0 head_at
+unfolding head_at
+head_is = named_is head_codec head_at (λ bytes. refl)
+
+head_again : (h : Head) (rest : List ℕ) → IsHead h → head_at (head_text h ++ rest) ≡ Ok (h, rest)
+unfolding head_at
+head_again h rest fits = head_codec.again (Head × List ℕ) (λ x. Ok x) h rest fits
 
 -- ---- proofs
 
@@ -167,12 +162,20 @@ unfolding head_in
 SpellProof-in bytes head fits e =
     let found = whole_head_some (head_at bytes) head e in
     let rest = found.0 in
-    let taken = head_takes bytes (head, rest) fits found.1 in
-    let behind-is : drop 5 bytes ≡ rest = ap (drop 5) taken.0.parts in
+    let taken = taken_of IsBelow IsHead head_text 0 head_at head_is bytes (head, rest) found.1 in
+    let parts = taken.1.parts fits in
+    let behind-is : drop 5 bytes ≡ rest = ap (drop 5) parts in
     let ends : bodies_end head.count (drop 5 bytes) ≡ Some [] = rw behind-is found.2 in
     let count : head.count ≡ length (openings_in head.count (drop 5 bytes)) = sym (length-openings_in head.count (drop 5 bytes) [] ends) in
-    let bodies : flat_map body_text (openings_in head.count (drop 5 bytes)) ≡ rest = rw behind-is (sym (openings_in-take head.count rest [] taken.0.rest_fits found.2 ∙ append-nil (flat_map body_text (openings_in head.count rest)))) in
-    (taken.1, taken.2, ends, proof_text-parts (proof_of head bytes) head refl refl count ∙ ap (λ (b : List ℕ). head_text head ++ b) bodies ∙ sym taken.0.parts)
+    let bodies : flat_map body_text (openings_in head.count (drop 5 bytes)) ≡ rest =
+    rw behind-is (sym ((openings_in-take head.count rest [] found.2).parts (taken.1.rest_fits fits)
+    ∙ append-nil (flat_map body_text (openings_in head.count rest)))) in (
+      taken.0.0,
+      taken.0.1,
+      ends,
+      proof_text-parts (proof_of head bytes) head refl refl count
+          ∙ ap (λ (b : List ℕ). head_text head ++ b) bodies ∙ sym parts,
+    )
 
 -- and it is within the ranges
 pub IsProof-spelled : (head : Head) (bytes : List ℕ) → SpellProof head bytes → IsProof (proof_of head bytes)
@@ -210,7 +213,8 @@ pub head_in-text : (p : EncodingProof) → IsProof p → head_in (proof_text p) 
 unfolding head_in
 head_in-text p h =
     let parts : proof_text p ≡ head_text (head_of p) ++ flat_map body_text p.openings = proof_text-parts p (head_of p) refl refl refl in
-    let read : head_at (proof_text p) ≡ Ok (head_of p, flat_map body_text p.openings) = ap head_at parts ∙ head_again (head_of p) (flat_map body_text p.openings) h.index h.count in
+    let read : head_at (proof_text p) ≡ Ok (head_of p, flat_map body_text p.openings) = ap head_at parts
+    ∙ head_again (head_of p) (flat_map body_text p.openings) (h.index, h.count) in
     ap whole_head read ∙ ap (ended (head_of p)) (bodies_end-all p.openings h.bodies)
 
 -- bytes that are not read as a proof are the spelling of none

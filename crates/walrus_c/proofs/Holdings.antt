@@ -159,10 +159,10 @@ module _ (digest : List ℕ → List ℕ) where
     -- WHAT IS HELD behind a payload of n bytes
     pub holds_then : (read : Result Frame FrameError) (frames : List (List ℕ)) (clash : Option MetaClash) (new : ServedState) → Reads n read
         → AnswersRead digest false read old frames clash new → Holds f (k + (7 + n)) new
-    holds_then (Ok (Metadata m)) frames clash new is h = by_put (Metadata m) frames clash new tt (is.each _ refl) h
+    holds_then (Ok (Metadata m)) frames clash new is h = by_put (Metadata m) frames clash new tt (is _ refl) h
     holds_then (Ok (Sliver name axis index bytes)) frames clash new is h =
-        by_put (Sliver name axis index bytes) frames clash new tt (is.each _ refl) h
-    holds_then (Ok (Proof name q)) frames clash new is h = by_put (Proof name q) frames clash new tt (is.each _ refl) h
+        by_put (Sliver name axis index bytes) frames clash new tt (is _ refl) h
+    holds_then (Ok (Proof name q)) frames clash new is h = by_put (Proof name q) frames clash new tt (is _ refl) h
     holds_then (Ok (Symbol name axis index)) frames clash new is h = same_state new h.3
     holds_then (Ok (Forget name)) frames clash new is (r, contents, forgets, told, now) = by_forget (record { 0 = name }) r contents new now forgets
     holds_then (Ok (Ack name)) frames clash new is h = with_entries new h.1 h.4

@@ -52,8 +52,8 @@ module _ (digest : List ℕ → List ℕ) (size_is : (text : List ℕ) → lengt
   named : (n : ℕ) (r : Result Frame FrameError) → Reads n r → IsNamed (put_in digest r)
   unfolding identifier_of
   named n (Ok (Metadata m)) is = size_is _
-  named n (Ok (Sliver id axis index bytes)) is = (is.each _ refl).0
-  named n (Ok (Proof id p)) is = (is.each _ refl).0
+  named n (Ok (Sliver id axis index bytes)) is = (is _ refl).0
+  named n (Ok (Proof id p)) is = (is _ refl).0
   named n other is = tt
 
   puts_short : (held : Contents) (payloads : List (List ℕ)) → AreShort (puts_of digest held payloads)

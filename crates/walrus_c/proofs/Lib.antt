@@ -2,7 +2,6 @@ mod Calls
 mod Clashes
 mod Encodes
 mod Ends
-mod Fields
 mod Holdings
 mod Images
 mod Lengths

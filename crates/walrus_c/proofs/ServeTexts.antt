@@ -17,7 +17,7 @@ use Rattle.wal_commit.proofs.Bodies.{body_of}
 use Rattle.wal_commit.proofs.HonestOpenings.{honest_opening}
 use Rattle.wal_frame.specs.declared.frame.FrameError.{FrameError}
 use Rattle.wal_frame.specs.Frame as frame
-use Rattle.wal_frame.specs.Frame.{Frame, Metadata, Sliver, Opening, Proof, Read, Symbol, Ack, Attest, Forget, Answer, Clash, RegisterEntry, AckEntry, AttestEntry, envelope, frame_text, metadata_frame, sliver_frame}
+use Rattle.wal_frame.specs.Frame.{Frame, Metadata, Sliver, Opening, Proof, Read, Symbol, Answer, Clash, envelope, frame_text, metadata_frame, sliver_frame}
 use Rattle.wal_frame.proofs.FrameLaws.{length-opening_frame, length-sliver_frame}
 use Rattle.wal_store.specs.Parts.{Parts, part_of}
 use Rattle.wal_store.specs.Contents.{parts_at}
@@ -233,13 +233,13 @@ module _ (digest : List ℕ → List ℕ) (size_is : (text : List ℕ) → lengt
     costs (Ok (Read name)) new is h =
         let p = parts_at old.shard.contents (named name) in
         let sound = subst (λ (g : ℕ). IsSound digest g name old.shard.index p) holds.faults (holds.sound (named name)) in
-        let named_so = is.each _ refl in
+        let named_so = is _ refl in
         let short = read_short f old.shard.index own name p sound named_so.0 k (holds.few (named name)) in
         costs_parts own n most frames clash (read_reply_of name old.shard.index p) named_so.1 (omega (arith, short, enough)) h.0
     costs (Ok (Symbol name axis index)) new is h =
         let p = parts_at old.shard.contents (named name) in
         let sound = subst (λ (g : ℕ). IsSound digest g name old.shard.index p) holds.faults (holds.sound (named name)) in
-        let named_so = is.each _ refl in
+        let named_so = is _ refl in
         let short = symbol_short f old.shard.index own name p sound named_so.0 k (holds.few (named name)) axis index h.0 h.1 in
         costs_parts own n most frames clash h.0 named_so.1 (omega (arith, short, enough)) h.2
     -- what is no request

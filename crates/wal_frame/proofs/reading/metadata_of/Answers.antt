@@ -1,17 +1,18 @@
-use Rattle.std.proofs.Common.{Ok, sym, ap, ◌∙◌, arith}
+use Rattle.std.proofs.Common.{◌∷◌, Ok, sym, ap, subst, ◌∙◌, arith}
+use Rattle.wal_shape.specs.declared.shape.Format.TheVariants.{One}
 use Rattle.wal_shape.specs.Metadata.{BlobMetadata}
 use Rattle.wal_shape.specs.MetadataReading.{spelled_metadata}
 use Rattle.wal_shape.specs.MetaRef.{metadata_shown}
-use Rattle.wal_shape.proofs.MetadataLaws.{IsMetadata-spelled, metadata_text-spelled, spelled_by}
+use Rattle.wal_shape.proofs.MetadataLaws.{spelled_by}
 use Rattle.wal_frame.specs.Frame.{Metadata}
-use Rattle.wal_frame.proofs.KindLaws.{metadata_is}
+use Rattle.wal_frame.proofs.KindLaws.{Outcome, metadata_is, metadata_found}
 use Rattle.wal_frame.proofs.reading.metadata_of.Goals as goal
 
 pub unreachable-requires : goal.unreachable-requires
 unreachable-requires c =
     let bytes = c.args.bytes.now in
-    let is = metadata_is bytes (Metadata (spelled_metadata bytes)) (λ i. omega (arith, c.type_inv.bytes i)) c.in_ok-check_metadata.ensures in
-    c.in-None.ensures.none (spelled_metadata bytes) (IsMetadata-spelled bytes is.spell) (metadata_text-spelled bytes (λ i. omega (arith, c.type_inv.bytes i)) is.spell)
+    let found = metadata_found One bytes (spelled_metadata bytes) (λ i. omega (arith, c.type_inv.bytes i)) (subst (Outcome (0x10 ∷ bytes)) c.in_ok-check_metadata.ensures (metadata_is bytes)) in
+    c.in-None.ensures.none (spelled_metadata bytes) found.0 found.1
 
 pub returns-clause-frame : goal.returns-clause-frame
 returns-clause-frame c =
@@ -21,5 +22,5 @@ returns-clause-frame c =
 pub returns-clause-kind : goal.returns-clause-kind
 returns-clause-kind c =
     let bytes = c.args.bytes.now in
-    let is = metadata_is bytes (Metadata (spelled_metadata bytes)) (λ i. omega (arith, c.type_inv.bytes i)) c.in_ok-check_metadata.ensures in
-    ap (λ (m : BlobMetadata). m.format) (sym (spelled_by bytes (metadata_shown c.in-Some.metadata) c.in-Some.ensures.metadata c.in-Some.ensures.spelled).1) ∙ is.format_is
+    let found = metadata_found One bytes (spelled_metadata bytes) (λ i. omega (arith, c.type_inv.bytes i)) (subst (Outcome (0x10 ∷ bytes)) c.in_ok-check_metadata.ensures (metadata_is bytes)) in
+    ap (λ (m : BlobMetadata). m.format) (sym (spelled_by bytes (metadata_shown c.in-Some.metadata) c.in-Some.ensures.metadata c.in-Some.ensures.spelled).1) ∙ found.2

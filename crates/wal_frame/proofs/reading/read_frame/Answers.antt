@@ -2,8 +2,7 @@ use Rattle.std.proofs.Common.{subst, ap, ◌∙◌, arith}
 use Rattle.wal_frame.specs.Shown.{frame_shown}
 use Rattle.wal_shape.specs.FieldReading.{Gives}
 use Rattle.wal_frame.specs.Reading.{read_of}
-use Rattle.wal_frame.proofs.FrameLaws.{read_again, frame_found, frame_spelled, frame_alone}
-use Rattle.wal_frame.proofs.FaultLaws.{frame_place}
+use Rattle.wal_frame.proofs.FrameLaws.{read_again, frame_found, frame_spelled, frame_alone, frame_place}
 use Rattle.wal_frame.proofs.reading.read_frame.Goals as goal
 
 pub returns-clause-frame : goal.returns-clause-frame
@@ -19,4 +18,4 @@ pub returns-clause-alone : goal.returns-clause-alone
 returns-clause-alone c = frame_alone c.args.bytes.now c.frame_of.result (λ i. omega (arith, c.type_inv.bytes i)) c.frame_of.ensures.frame
 
 pub returns-clause-place : goal.returns-clause-place
-returns-clause-place c = frame_place c.args.bytes.now c.frame_of.result (λ i. omega (arith, c.type_inv.bytes i)) c.frame_of.ensures.frame
+returns-clause-place c = frame_place c.args.bytes.now c.frame_of.result c.frame_of.ensures.frame

@@ -2,7 +2,7 @@ use Rattle.std.proofs.Common.{List, ℕ, ◌++◌, Ok, sym, ap, ◌∙◌, arith
 use Rattle.wal_shape.specs.declared.opening.Opening.{Opening}
 use Rattle.wal_shape.specs.Opening.{opening_shown}
 use Rattle.wal_shape.specs.Spelling.{body_text}
-use Rattle.wal_shape.proofs.BodyLaws.{body_fits, body_takes, body_rest, body_read, length-body_text}
+use Rattle.wal_shape.proofs.BodyLaws.{body_taken, body_rest, body_read, length-body_text}
 use Rattle.wal_shape.proofs.body.read_body.Goals as goal
 
 pub returns-in_err-opening-clause-only : goal.returns-in_err-opening-clause-only
@@ -10,27 +10,27 @@ returns-in_err-opening-clause-only c = λ o rest h same. absurd (cc (body_read c
 
 pub overflow_add-size : goal.overflow_add-size
 overflow_add-size c =
-    let fits = body_fits c.args.bytes.now (opening_shown c.in_ok-opening.opening, c.in_ok-opening.field-0-1.now) c.in_ok-opening.ensures in
+    let fits = (body_taken c.args.bytes.now (opening_shown c.in_ok-opening.opening, c.in_ok-opening.field-0-1.now) c.in_ok-opening.ensures).0 in
     omega (arith, fits.symbol, fits.path)
 
 pub overflow_cast-size : goal.overflow_cast-size
 overflow_cast-size c =
-    let fits = body_fits c.args.bytes.now (opening_shown c.in_ok-opening.opening, c.in_ok-opening.field-0-1.now) c.in_ok-opening.ensures in
+    let fits = (body_taken c.args.bytes.now (opening_shown c.in_ok-opening.opening, c.in_ok-opening.field-0-1.now) c.in_ok-opening.ensures).0 in
     omega (arith, fits.symbol, fits.path)
 
 pub overflow_add-size-2 : goal.overflow_add-size-2
 overflow_add-size-2 c =
-    let fits = body_fits c.args.bytes.now (opening_shown c.in_ok-opening.opening, c.in_ok-opening.field-0-1.now) c.in_ok-opening.ensures in
+    let fits = (body_taken c.args.bytes.now (opening_shown c.in_ok-opening.opening, c.in_ok-opening.field-0-1.now) c.in_ok-opening.ensures).0 in
     omega (arith, fits.symbol, fits.path)
 
 pub returns-clause-opening : goal.returns-clause-opening
-returns-clause-opening c = body_fits c.args.bytes.now (opening_shown c.in_ok-opening.opening, c.in_ok-opening.field-0-1.now) c.in_ok-opening.ensures
+returns-clause-opening c = (body_taken c.args.bytes.now (opening_shown c.in_ok-opening.opening, c.in_ok-opening.field-0-1.now) c.in_ok-opening.ensures).0
 
 pub returns-clause-spelled : goal.returns-clause-spelled
 returns-clause-spelled c =
     let o = opening_shown c.in_ok-opening.opening in
     let x : Opening × List ℕ = (o, c.in_ok-opening.field-0-1.now) in
-    (body_takes c.args.bytes.now x (λ i. omega (arith, c.type_inv.bytes i)) c.in_ok-opening.ensures).parts
+    (body_taken c.args.bytes.now x c.in_ok-opening.ensures).1.parts (λ i. omega (arith, c.type_inv.bytes i))
     ∙ ap (λ (b : List ℕ). body_text o ++ b) (sym (body_rest c.args.bytes.now x (λ i. omega (arith, c.type_inv.bytes i)) c.in_ok-opening.ensures))
 
 pub returns-clause-size : goal.returns-clause-size
