@@ -49,8 +49,7 @@ module _ (digest : List ℕ → List ℕ) (id : List ℕ) (m : BlobMetadata) whe
         takes_more (GivesSliver digest id m) (λ x. x.index) (row_count m.f) [] payloads slivers (slivers ++ s ∷ []) payload was.1
             (adds s (omega (arith, short, long)) carries fresh refl),
         ks_are ∙ ap (λ (xs : List ℕ). xs ++ index ∷ []) was.2 ∙ sym (map-append (λ (x : IndexedSliver). x.index) slivers (s ∷ [])),
-        ls_are ∙ ap (λ (xs : List ℕ). xs ++ bytes) was.3 ∙ ap (λ (xs : List ℕ). flat_map (λ (x : IndexedSliver). x.bytes) slivers ++ xs) (sym (append-nil bytes))
-            ∙ sym (flat_map-append (λ (x : IndexedSliver). x.bytes) slivers (s ∷ [])),
+        cc (ls_are, was.3, append-nil bytes, flat_map-append (λ (x : IndexedSliver). x.bytes) slivers (s ∷ [])),
       )
 
   -- one more payload whose sliver is known, or that has none
@@ -148,8 +147,7 @@ module _ (digest : List ℕ → List ℕ) (id : List ℕ) (m : BlobMetadata) whe
         let inside : k < length was.0 = omega (arith, l, count) in
         let bytes : region (sliver_bytes m) js k ≡ s.bytes =
         ap (λ (xs : List ℕ). region (sliver_bytes m) xs k) was.3 ∙ piece_at (λ (x : IndexedSliver). x.bytes) (sliver_bytes m) was.0 k no_sliver lengths inside in
-        let H : ℕ → List ℕ → Type 0 = λ i b. HoldsSliver digest m Primary i b in
-        subst (λ (i : ℕ). H i (region (sliver_bytes m) js k)) (sym (at_place k 0 l)) (subst (λ (b : List ℕ). H s.index b) (sym bytes) (holds_at k no_sliver inside))
+        rw (at_place k 0 l, bytes) (holds_at k no_sliver inside)
 
     -- enough of them are evidence
     pub enough_are_held : length is ≡ row_count m.f → AreHeld digest m is js
@@ -159,11 +157,9 @@ module _ (digest : List ℕ → List ℕ) (id : List ℕ) (m : BlobMetadata) whe
     -- where there are too few, each held sliver that a payload carries is among them
     pub collects_all : length is < row_count m.f → (index : ℕ) → HasSliver digest id m payloads index → Contains is index
     collects_all short index has =
-        let below = has.2 in
-        let carries = has.4 in
         subst (λ (xs : List ℕ). Contains xs index) (sym was.2)
         (takes_all (GivesSliver digest id m) (λ x. x.index) (row_count m.f) one_given [] payloads was.0 was.1 (omega (arith, short, count)) has.1
-        (record { index = index; bytes = carries.0 }) (has.0, below, has.3) carries.1)
+        (record { index = index; bytes = has.4.0 }) (has.0, has.2, has.3) has.4.1)
 
   -- in other words
   pub held_as : (payloads : List (List ℕ)) (indices joined : List ℕ) (metadata : BlobMetadata) (is js : List ℕ) → Collects digest id m payloads indices joined
@@ -171,13 +167,10 @@ module _ (digest : List ℕ → List ℕ) (id : List ℕ) (m : BlobMetadata) whe
   held_as payloads indices joined metadata is js collects enough same_m same_is same_js =
       let few = collects_few payloads indices joined collects in
       let held = enough_are_held payloads indices joined collects (omega (arith, few, enough)) in
-      let H : BlobMetadata → List ℕ → List ℕ → Type 0 = λ x y z. AreHeld digest x y z in
-      subst (λ (x : BlobMetadata). H x is js) (sym same_m) (subst (λ (y : List ℕ). H m y js) (sym same_is) (subst (λ (z : List ℕ). H m indices z) (sym same_js) held))
+      rw (same_m, same_is, same_js) held
 
   -- they can be counted
   pub collects_counted : (payloads : List (List ℕ)) (is js : List ℕ) → IsMetadataIn digest id payloads m → Collects digest id m payloads is js → length is ≤ 334
   collects_counted payloads is js one collects =
       let few = collects_few payloads is js collects in
-      let fit = one.0.4.1.fit in
-      let faults = fit.shape.1 in
-      omega (arith, few, faults)
+      omega (arith, few, one.0.4.1.fit.shape.1)

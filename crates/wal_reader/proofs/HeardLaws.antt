@@ -18,26 +18,15 @@ use Rattle.wal_reader.proofs.KnownLaws.{parts_past}
 
 -- what holds of some payload holds of some payload of a longer list
 pub any_front : (P : List ℕ → Type 0) (payloads more : List (List ℕ)) → Any P payloads → Any P (payloads ++ more)
-any_front P payloads more found =
-    let below = found.2 in
+any_front P payloads more (k, x, below, at, holds) =
     let long = length-append payloads more in
-    (found.0, found.1, omega arith, get_or_append_left payloads more found.1 found.0 below ∙ found.3, found.4)
+    (k, x, omega arith, get_or_append_left payloads more x k below ∙ at, holds)
 
 -- one more payload behind a seam
 longer_seam : (payloads front : List (List ℕ)) (middle : List ℕ) (back : List (List ℕ)) (payload : List ℕ) → payloads ≡ front ++ middle ∷ back
     → payloads ++ payload ∷ [] ≡ front ++ middle ∷ (back ++ payload ∷ [])
 longer_seam payloads front middle back payload parts =
     ap (λ (ps : List (List ℕ)). ps ++ payload ∷ []) parts ∙ append_assoc front (middle ∷ back) (payload ∷ [])
-
--- a metadata of a front
-pub has_front : (digest : List ℕ → List ℕ) (id : List ℕ) (payloads : List (List ℕ)) (payload : List ℕ) (m : BlobMetadata) → HasMetadata digest id payloads m
-    → HasMetadata digest id (payloads ++ payload ∷ []) m
-has_front digest id payloads payload m has = any_front (CarriesMetadata digest id m) payloads (payload ∷ []) has
-
--- and of the last payload
-pub has_last : (digest : List ℕ → List ℕ) (id : List ℕ) (payloads : List (List ℕ)) (payload : List ℕ) (m : BlobMetadata) → CarriesMetadata digest id m payload
-    → HasMetadata digest id (payloads ++ payload ∷ []) m
-has_last digest id payloads payload m carries = Any-push (CarriesMetadata digest id m) payloads payload carries
 
 -- a payload without metadata
 pub none_still : (digest : List ℕ → List ℕ) (id : List ℕ) (payloads : List (List ℕ)) (payload : List ℕ) → ((m : BlobMetadata) → HasMetadata digest id payloads m → ⊥)
@@ -49,7 +38,7 @@ none_still digest id payloads payload before here m has =
 pub one_still : (digest : List ℕ → List ℕ) (id : List ℕ) (payloads : List (List ℕ)) (payload : List ℕ) (m : BlobMetadata) → IsMetadataIn digest id payloads m
     → ((other : BlobMetadata) → CarriesMetadata digest id other payload → other ≡ m) → IsMetadataIn digest id (payloads ++ payload ∷ []) m
 one_still digest id payloads payload m one here = (
-  has_front digest id payloads payload m one.0,
+  any_front (CarriesMetadata digest id m) payloads (payload ∷ []) one.0,
   λ other has. ⊎_elim (one.1 other) (here other) (any_push_cases (CarriesMetadata digest id other) payloads payload has),
 )
 
@@ -57,7 +46,7 @@ one_still digest id payloads payload m one here = (
 pub one_new : (digest : List ℕ → List ℕ) (id : List ℕ) (payloads : List (List ℕ)) (payload : List ℕ) (m : BlobMetadata) → ((x : BlobMetadata) → HasMetadata digest id payloads x → ⊥)
     → CarriesMetadata digest id m payload → IsMetadataIn digest id (payloads ++ payload ∷ []) m
 one_new digest id payloads payload m before carries = (
-  has_last digest id payloads payload m carries,
+  Any-push (CarriesMetadata digest id m) payloads payload carries,
   λ other has. ⊎_elim (λ old. absurd (before other old)) (λ new. one_metadata (read_of payload) other m new.0 carries.0)
       (any_push_cases (CarriesMetadata digest id other) payloads payload has),
 )
@@ -79,9 +68,9 @@ pub known_new : (digest : List ℕ → List ℕ) (id : List ℕ) (k : Known) (pa
     → HasKnown digest id k (payloads ++ payload ∷ [])
 known_new digest id k payloads payload m before carries same held =
     let idle = no_part digest id payload m carries in (
-      subst (λ (x : BlobMetadata). IsMetadataIn digest id (payloads ++ payload ∷ []) x) (sym same) (one_new digest id payloads payload m before carries),
+      rw same (one_new digest id payloads payload m before carries),
       parts_past digest id k payloads payload (λ index bytes is. idle.0 index bytes is.0) (λ p is. idle.1 p is.0) held,
-      subst (λ (x : BlobMetadata). IsFirstMetadata digest id (payloads ++ payload ∷ []) x) (sym same) (payloads, payload, [], refl, carries, before),
+      rw same (payloads, payload, [], refl, carries, before),
     )
 
 -- the first metadata stays the first
@@ -96,10 +85,9 @@ pub known_still : (digest : List ℕ → List ℕ) (id : List ℕ) (old new : Kn
     → (HasParts digest id old payloads → HasParts digest id new (payloads ++ payload ∷ [])) → HasKnown digest id old payloads
     → HasKnown digest id new (payloads ++ payload ∷ [])
 known_still digest id old new payloads payload m is same only takes was = (
-  subst (λ (x : BlobMetadata). IsMetadataIn digest id (payloads ++ payload ∷ []) x) (sym same)
-      (one_still digest id payloads payload old.metadata was.0 (λ other carries. only other carries ∙ is)),
+  rw same (one_still digest id payloads payload old.metadata was.0 (λ other carries. only other carries ∙ is)),
   takes was.1,
-  subst (λ (x : BlobMetadata). IsFirstMetadata digest id (payloads ++ payload ∷ []) x) (sym same) (first_still digest id payloads payload old.metadata was.2),
+  rw same (first_still digest id payloads payload old.metadata was.2),
 )
 
 -- one more payload with the first other metadata

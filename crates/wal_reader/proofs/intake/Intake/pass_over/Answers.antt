@@ -1,7 +1,5 @@
-use Rattle.std.proofs.Common.{◌≡◌, List, ℕ, refl, sym, subst, ap, arith}
-use Rattle.wal_frame.specs.Stream.{envelope_at}
-use Rattle.wal_reader.specs.inside.Intake.{IsLacking, IsUnfinished}
-use Rattle.wal_reader.proofs.IntakeLaws.{begins_past, lacks_deref, none_unfinished}
+use Rattle.std.proofs.Common.{refl, arith}
+use Rattle.wal_reader.proofs.IntakeLaws.{begins_past, lacks_deref, sound_empty}
 use Rattle.wal_reader.proofs.intake.Intake.pass_over.Goals as goal
 
 pub returns-clause-takes : goal.returns-clause-takes
@@ -10,9 +8,6 @@ returns-clause-takes g c =
     c.lacking-self.ensures.some c.clear.ensures.items refl refl refl
 
 pub returns-clause-sound : goal.returns-clause-sound
-returns-clause-sound g c = record {
-  room = omega (arith, c.requires.sound.room, c.clear.ensures.capacity);
-  limit = c.requires.sound.limit;
-  unfinished = none_unfinished _ c.clear.ensures.items;
-  apart = λ some. c.clear.ensures.items;
-}
+returns-clause-sound g c =
+    sound_empty _ (omega (arith, c.requires.sound.room, c.clear.ensures.capacity)) c.requires.sound.limit
+    c.clear.ensures.items
