@@ -1,6 +1,5 @@
 -- The held slivers that are collected from payloads, one by one.
-use Rattle.std.proofs.Common.{◌≡◌, ℕ, ◌*◌, ◌<◌, ◌≤◌, List, [], ◌∷◌, ◌++◌, length, map, get_or, slice_index, refl, sym, ap, subst, ◌∙◌, arith, ⊎_elim, All, Contains, Result, Ok}
-use Rattle.std.specs.List.{flat_map}
+use Rattle.std.proofs.Common.{◌≡◌, ℕ, ◌*◌, ◌<◌, ◌≤◌, List, [], ◌∷◌, ◌++◌, length, map, get_or, slice_index, refl, sym, ap, subst, ◌∙◌, arith, ⊎_elim, All, Contains, Ok}
 use Rattle.std.proofs.lemmas.Grind.{flat_map-append}
 use Rattle.std.proofs.lemmas.List.{append-nil, get_or-map, length-map, map-append}
 use Rattle.wal_code.specs.Codeword.{Distinct}
@@ -8,8 +7,7 @@ use Rattle.wal_kernel.specs.Region.{region}
 use Rattle.wal_shape.specs.declared.axis.Axis.TheVariants.{Primary}
 use Rattle.wal_shape.specs.Shape.{row_count}
 use Rattle.wal_shape.specs.Metadata.{BlobMetadata}
-use Rattle.wal_frame.specs.declared.frame.FrameError.{FrameError}
-use Rattle.wal_frame.specs.Frame.{Frame, Sliver}
+use Rattle.wal_frame.specs.Frame.{Sliver}
 use Rattle.wal_frame.specs.Reading.{read_of}
 use Rattle.wal_commit.specs.Held.{HoldsSliver}
 use Rattle.wal_evidence.specs.Evidence.{AreHeld, sliver_bytes}
@@ -20,17 +18,12 @@ use Rattle.wal_evidence.proofs.Marked.{known_or_new}
 use Rattle.wal_evidence.proofs.Pieces.{piece_at, pieces_long}
 use Rattle.wal_reader.specs.Outcome.{CarriesSliver, Collects, GivesSliver, HasSliver, IndexedSliver, IsMetadataIn}
 
--- a payload gives one sliver
-abbrev sliver_or : IndexedSliver → Result Frame FrameError → IndexedSliver
-sliver_or d (Ok (Sliver id axis index bytes)) = record { index = index; bytes = bytes }
-sliver_or d _ = d
-
 abbrev no_sliver : IndexedSliver
 no_sliver = record { index = 0; bytes = [] }
 
 module _ (digest : List ℕ → List ℕ) (id : List ℕ) (m : BlobMetadata) where
   pub one_given : (payload : List ℕ) (a b : IndexedSliver) → GivesSliver digest id m payload a → GivesSliver digest id m payload b → a ≡ b
-  one_given payload a b is_a is_b = ap (sliver_or a) (sym is_a.0 ∙ is_b.0)
+  one_given payload a b is_a is_b = grind (arith, is_a.0, is_b.0)
 
   -- nothing is collected from no payloads
   pub collects_none : Collects digest id m [] [] []
@@ -75,7 +68,7 @@ module _ (digest : List ℕ → List ℕ) (id : List ℕ) (m : BlobMetadata) whe
       (λ i b short carries.
       let other : IndexedSliver = record { index = i; bytes = b } in
       let here : IndexedSliver = record { index = index; bytes = bytes } in
-      let same : other ≡ here = ap (sliver_or other) (sym carries.0 ∙ read) in
+      let same : other ≡ here = cc (carries.0, read) in
       let held : HoldsSliver digest m Primary index bytes = subst (λ (s : IndexedSliver). HoldsSliver digest m Primary s.index s.bytes) same carries.1 in
       subst (λ (s : IndexedSliver). Contains is s.index) (sym same)
       (⊎_elim (λ known. known) (λ new. absurd (unwanted short new held)) (known_or_new is index)))
@@ -92,10 +85,9 @@ module _ (digest : List ℕ → List ℕ) (id : List ℕ) (m : BlobMetadata) whe
   pub one_collection : (payloads : List (List ℕ)) (is js ks ls : List ℕ) → Collects digest id m payloads is js → Collects digest id m payloads ks ls
       → (is ≡ ks) × (js ≡ ls)
   one_collection payloads is js ks ls a b =
-      let same = one_taken (GivesSliver digest id m) (λ x. x.index) (row_count m.f) one_given [] payloads a.0 b.0 a.1 b.1 in (
-        a.2 ∙ ap (λ (xs : List IndexedSliver). map (λ x. x.index) xs) same ∙ sym b.2,
-        a.3 ∙ ap (λ (xs : List IndexedSliver). flat_map (λ x. x.bytes) xs) same ∙ sym b.3,
-      )
+      let same = one_taken (GivesSliver digest id m) (λ x. x.index) (row_count m.f) one_given [] payloads a.0 b.0 a.1
+      b.1 in
+      grind (arith, same, a.2, a.3, b.2, b.3)
 
   -- ---- what is collected
 

@@ -6,7 +6,7 @@ use Rattle.std.proofs.lemmas.Map.Made.{IsDistinct-from_AllPairs, is_member-Decid
 use Rattle.wal_code.specs.Codeword.{Distinct}
 use Rattle.wal_shape.specs.Metadata.{BlobMetadata}
 use Rattle.wal_reader.specs.declared.outcome.Outcome.{Outcome}
-use Rattle.wal_reader.specs.declared.outcome.Outcome.TheVariants.{Bytes, Reject, Short, NoMetadata, Collision}
+use Rattle.wal_reader.specs.declared.outcome.Outcome.TheVariants.{Short, NoMetadata, Collision}
 use Rattle.wal_reader.specs.Outcome.{HasEnough, HasSliver, HoldsFew, IsVerdict, IsMetadataIn, IsOutcome}
 use Rattle.wal_reader.proofs.Collections.{collects_all}
 use Rattle.wal_reader.proofs.OneOutcome.{not_two}
@@ -30,10 +30,9 @@ not_both digest id m payloads have enough few =
 -- one metadata and enough slivers lead to a verdict, whatever else the payloads are
 pub enough : (digest : List ℕ → List ℕ) (id : List ℕ) (payloads : List (List ℕ)) (m : BlobMetadata) (outcome : Outcome) → IsOutcome digest id payloads outcome
     → IsMetadataIn digest id payloads m → HasEnough digest id m payloads → IsVerdict outcome
-enough digest id payloads m (Bytes bytes) is one has = tt
-enough digest id payloads m Reject is one has = tt
 enough digest id payloads m (Short have need) is one has =
     let same : is.0 ≡ m = one.1 is.0 is.1.0 in
     not_both digest id m payloads have has (subst (λ (x : BlobMetadata). HoldsFew digest id x payloads have) same is.2)
 enough digest id payloads m NoMetadata is one has = is m one.0
 enough digest id payloads m (Collision clash) is one has = not_two digest id payloads m is.0 is.1 one is.2
+enough digest id payloads m outcome is one has = tt

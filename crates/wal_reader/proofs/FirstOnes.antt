@@ -17,9 +17,8 @@ use Rattle.wal_reader.proofs.Gathering.{all_done, front_more}
 pub parted : (payloads : List (List ℕ)) (i : ℕ) (payload : List ℕ) → i < length payloads → payload ≡ get_or payloads i payload
     → payloads ≡ take i payloads ++ payload ∷ drop (i + 1) payloads
 parted payloads i payload l is =
-    sym (take-append-drop (i + 1) payloads)
-    ∙ ap (λ (front : List (List ℕ)). front ++ drop (i + 1) payloads) (front_more payloads i payload l is)
-    ∙ append_assoc (take i payloads) (payload ∷ []) (drop (i + 1) payloads)
+    let seam = append_assoc (take i payloads) (payload ∷ []) (drop (i + 1) payloads) in
+    cc (take-append-drop (i + 1) payloads, front_more payloads i payload l is, seam)
 
 -- what holds of a payload in the middle holds of some payload
 pub has_seam : (P : List ℕ → Type 0) (payloads front : List (List ℕ)) (payload : List ℕ) (back : List (List ℕ)) → payloads ≡ front ++ payload ∷ back

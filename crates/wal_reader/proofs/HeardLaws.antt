@@ -1,13 +1,9 @@
 -- The metadata of payloads, and one payload more.
-use Rattle.std.proofs.Common.{◌≡◌, ◌≢◌, ℕ, List, [], ◌∷◌, ◌++◌, refl, sym, ap, subst, ◌∙◌, arith, ⊎_elim, append_assoc, length-append, Any, Result, Ok}
+use Rattle.std.proofs.Common.{◌≡◌, ◌≢◌, ℕ, List, [], ◌∷◌, ◌++◌, refl, sym, ap, subst, ◌∙◌, arith, ⊎_elim, append_assoc, length-append, Any}
 use Rattle.std.proofs.lemmas.List.{get_or_append_left}
 use Rattle.std.proofs.lemmas.List.Quantifiers.{Any-push}
-use Rattle.wal_shape.specs.declared.axis.Axis.TheVariants.{Primary}
 use Rattle.wal_shape.specs.Metadata.{BlobMetadata}
 use Rattle.wal_shape.specs.declared.text.MetaClash.{MetaClash}
-use Rattle.wal_shape.specs.EncodingProof.{EncodingProof}
-use Rattle.wal_frame.specs.declared.frame.FrameError.{FrameError}
-use Rattle.wal_frame.specs.Frame.{Frame, Metadata, Sliver, Proof}
 use Rattle.wal_frame.specs.Reading.{read_of}
 use Rattle.wal_reader.specs.declared.known.Known.{Known}
 use Rattle.wal_reader.specs.Outcome.{AreFirstTwo, CarriesMetadata, HasMetadata, IsFirstMetadata, IsFirstOther, IsMetadataIn}
@@ -52,15 +48,9 @@ one_new digest id payloads payload m before carries = (
 )
 
 -- the frame of a metadata carries no part
-no_sliver : (read : Result Frame FrameError) (m : BlobMetadata) (id : List ℕ) (index : ℕ) (bytes : List ℕ) → read ≡ Ok (Metadata m) → read ≡ Ok (Sliver id Primary index bytes) → ⊥
-no_sliver read m id index bytes is other = cc
-
-no_proof : (read : Result Frame FrameError) (m : BlobMetadata) (id : List ℕ) (p : EncodingProof) → read ≡ Ok (Metadata m) → read ≡ Ok (Proof id p) → ⊥
-no_proof read m id p is other = cc
-
 pub no_part : (digest : List ℕ → List ℕ) (id : List ℕ) (payload : List ℕ) (m : BlobMetadata) → CarriesMetadata digest id m payload → CarriesNoPart id payload
 no_part digest id payload m carries =
-    (λ index bytes e. no_sliver (read_of payload) m id index bytes carries.0 e, λ p e. no_proof (read_of payload) m id p carries.0 e)
+    (λ index bytes e. absurd (cc (carries.0, e)), λ p e. absurd (cc (carries.0, e)))
 
 -- what is held behind a metadata that came last
 pub known_new : (digest : List ℕ → List ℕ) (id : List ℕ) (k : Known) (payloads : List (List ℕ)) (payload : List ℕ) (m : BlobMetadata)

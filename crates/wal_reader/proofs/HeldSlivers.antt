@@ -1,23 +1,18 @@
 -- A payload that carries a sliver carries no other one.
-use Rattle.std.proofs.Common.{◌≡◌, ℕ, List, Result, Ok, sym, ap, subst, ◌∙◌}
+use Rattle.std.proofs.Common.{◌≡◌, ℕ, List, Ok, arith, sym, ap, subst, ◌∙◌}
 use Rattle.wal_shape.specs.declared.axis.Axis.{Axis}
 use Rattle.wal_shape.specs.Metadata.{BlobMetadata}
-use Rattle.wal_frame.specs.Frame.{Frame, Sliver}
+use Rattle.wal_frame.specs.Frame.{Sliver}
 use Rattle.wal_frame.specs.Reading.{read_of}
-use Rattle.wal_frame.specs.declared.frame.FrameError.{FrameError}
 use Rattle.wal_commit.specs.Held.{HoldsSliver}
 use Rattle.wal_reader.specs.Carried.{CarriesHeldSliver}
-
-one_sliver : (read : Result Frame FrameError) (id : List ℕ) (axis : Axis) (i j : ℕ) (a b : List ℕ)
-    → read ≡ Ok (Sliver id axis i a) → read ≡ Ok (Sliver id axis j b) → (i ≡ j) × (a ≡ b)
-one_sliver read id axis i j a b is_a is_b = (cc (is_a, is_b), cc (is_a, is_b))
 
 -- where the sliver that it carries is not wanted, it carries none that is
 pub not_held : (digest : List ℕ → List ℕ) (id : List ℕ) (m : BlobMetadata) (axis : Axis) (index : ℕ) (payload : List ℕ) (at : ℕ) (bytes : List ℕ)
     → read_of payload ≡ Ok (Sliver id axis at bytes) → ((at ≡ index) × HoldsSliver digest m axis index bytes → ⊥)
     → (other : List ℕ) → CarriesHeldSliver digest id m axis index payload other → ⊥
 not_held digest id m axis index payload at bytes read refused other carries =
-    let same = one_sliver (read_of payload) id axis at index bytes other read carries.0 in
+    let same : (at ≡ index) × (bytes ≡ other) = grind (arith, read, carries.0) in
     refused (same.0, subst (HoldsSliver digest m axis index) (sym same.1) carries.1)
 
 -- and where it is, it carries it

@@ -1,8 +1,8 @@
 -- Streams that are taken in pieces.
-use Rattle.std.proofs.Common.{◌≡◌, ℕ, suc, ◌+◌, ◌-◌, ◌^◌, ◌<◌, ◌≤◌, inl, inr, true, false, ltb, List, [], ◌∷◌, ◌++◌, length, take, drop, Some, None, refl, sym, ap, subst, ◌∙◌, append_assoc, append-nil, arith}
+use Rattle.std.proofs.Common.{◌≡◌, ℕ, suc, ◌+◌, ◌-◌, ◌^◌, ◌<◌, ◌≤◌, inl, inr, true, false, List, [], ◌∷◌, ◌++◌, length, take, drop, refl, sym, ap, subst, ◌∙◌, append_assoc, append-nil, arith}
 use Rattle.std.specs.Prelude.{replicate}
 use Rattle.std.specs.Int.{w16, w32, from_be_bytes}
-use Rattle.std.proofs.lemmas.Bool.{cases_lt, le-ltb}
+use Rattle.std.proofs.lemmas.Bool.{cases_lt}
 use Rattle.std.proofs.lemmas.List.{take_all, take-append-drop, length-append, length-take, length-drop, length-replicate, nil_from_length}
 use Rattle.std.proofs.lemmas.List.Elements.{All-append, All-from_get_or}
 use Rattle.wal_shape.specs.Spelling.{number_text}
@@ -23,21 +23,16 @@ use Rattle.wal_reader.specs.declared.errors.FeedError.TheVariants.{Malformed, To
 envelope_same : (s t : ℕ) (p q a b : List ℕ) → IsPayload p → IsPayload q → envelope s p ++ a ≡ envelope t q ++ b → (p ≡ q) × (a ≡ b)
 envelope_same s t p q a b fits other same =
     let here = envelope_read (envelope s p ++ a) s p a fits refl in
-    let there = envelope_read (envelope s p ++ a) t q b other same in
-    let both : ◌≡◌ {A = List ℕ × List ℕ} (p, a) (q, b) = cc (here, there) in
-    (ap (λ (x : List ℕ × List ℕ). x.0) both, ap (λ (x : List ℕ × List ℕ). x.1) both)
+    grind (arith, here, envelope_read (envelope s p ++ a) t q b other same)
 
 pub part_none : (bytes : List ℕ) → IsPart bytes → BeginsNone bytes
-part_none [] part sender payload after fits same = absurd cc
-part_none (b ∷ bytes) part sender payload after fits same = part.1 sender payload after fits same
+part_none bytes part sender payload after fits same = grind arith
 
 pub wrong_none : (bytes : List ℕ) → IsWrong bytes → BeginsNone bytes
-wrong_none [] wrong sender payload after fits same = absurd wrong
-wrong_none (b ∷ bytes) wrong sender payload after fits same = absurd (wrong cc)
+wrong_none bytes wrong sender payload after fits same = grind arith
 
 pub wrong_part : (bytes : List ℕ) → IsWrong bytes → IsPart bytes → ⊥
-wrong_part [] wrong part = wrong
-wrong_part (b ∷ bytes) wrong part = wrong part.0
+wrong_part bytes wrong part = grind arith
 
 pub one_cut : (ps qs : List (List ℕ)) (f g r s : List ℕ) → IsStream ps f → IsStream qs g → BeginsNone r → BeginsNone s → f ++ r ≡ g ++ s
     → (ps ≡ qs) × (length f ≡ length g) × (r ≡ s)
@@ -67,21 +62,10 @@ front_part (b ∷ bytes) more sender payload fits text some = (
       absurd (omega (arith, ap length none.1, length-append after more, some)),
 )
 
-none_some : {A : Type 0} (x : A) → Some x ≡ None → ⊥
-none_some x e = absurd cc
-
 -- the payload of an envelope that is not whole is not all there
 pub unfinished_long : (bytes : List ℕ) → IsUnfinished bytes → 7 ≤ length bytes → length bytes < 7 + size_in bytes
 unfolding envelope_at
-unfinished_long [] is long = absurd (omega arith)
-unfinished_long (b ∷ bytes) is long =
-    let head : ltb (length (b ∷ bytes)) 7 ≡ false = le-ltb _ _ long in
-    elim (cases_lt (length (drop 6 bytes)) (size_in (b ∷ bytes))) [
-      | inl few ↦ omega (arith, few, length-drop 6 bytes)
-      | inr enough ↦
-          let all : ltb (length (drop 6 bytes)) (size_in (b ∷ bytes)) ≡ false = le-ltb _ _ enough in
-          absurd (none_some (take (size_in (b ∷ bytes)) (drop 6 bytes), drop (size_in (b ∷ bytes)) (drop 6 bytes)) (sym (rw (head, is.1.0, all) refl) ∙ is.0))
-    ]
+unfinished_long bytes is long = grind (arith, length-drop)
 
 -- the elements of a text of bytes are bytes
 bytes_all : (xs : List ℕ) → IsBytes xs → AreBytes xs
@@ -100,16 +84,14 @@ lacking_whole (b ∷ bytes) missing fits part long count more is =
     let sender = from_be_bytes w16 (take 2 bytes) in
     let head = number_text w16 sender in
     let start = drop 6 bytes in
+    let parts = head_parts bytes tail (omega (arith, long)) in
     let payload = start ++ more in
     let len : length payload ≡ size = omega (arith, length-append start more, length-drop 6 bytes, is, count, long) in
     let small : size < 2 ^ 32 = wide32.below (take 4 (drop 2 bytes)) (IsBytes-take 4 (drop 2 bytes) (IsBytes-drop 2 bytes tail)) in (
       sender,
       payload,
       omega (arith, len, small),
-      ap (λ (k : ℕ). k ∷ (bytes ++ more)) part.0
-          ∙ ap (λ (t : List ℕ). 0x57 ∷ (t ++ more)) (head_parts bytes tail (omega (arith, long)))
-          ∙ ap (λ (t : List ℕ). 0x57 ∷ t) (append_assoc (head ++ number_text w32 size) start more)
-          ∙ ap (λ (k : ℕ). 0x57 ∷ (head ++ number_text w32 k ++ payload)) (sym len),
+      cc (part.0, parts, append_assoc (head ++ number_text w32 size) start more, len),
       len,
       λ all. All-append (λ b. b < 256) start more (bytes_all start (IsBytes-drop 6 bytes tail)) all,
     )
@@ -117,8 +99,7 @@ lacking_whole (b ∷ bytes) missing fits part long count more is =
 -- ---- what is kept
 
 pub rest_kept : (digest : List ℕ → List ℕ) (id : List ℕ) (i : IntakeState) (payloads : List (List ℕ)) (rest : List ℕ) → KeepsPart digest id i payloads rest → i.missing ≡ 0 → rest ≡ i.kept
-rest_kept digest id i payloads rest (kept none is) h = is
-rest_kept digest id i payloads rest (past some none reads) h = absurd (omega (arith, some, h))
+rest_kept digest id i payloads rest keeps h = grind arith
 
 pub rest_past : (digest : List ℕ → List ℕ) (id : List ℕ) (i : IntakeState) (payloads : List (List ℕ)) (rest : List ℕ) → KeepsPart digest id i payloads rest → 0 < i.missing
     → ReadsPast digest id i.heard payloads i.missing rest
@@ -185,8 +166,9 @@ goes_past digest old new bytes these some left more_left empty same count place 
     let reads = rest_past digest id old s.payloads s.rest s.keeps some in
     let on : ReadsPast digest id new.heard s.payloads new.missing (s.rest ++ bytes) = (λ more long.
     let l = reads (bytes ++ more) (omega (arith, length-append bytes more, long, left)) in
+    let joined : (s.rest ++ bytes) ++ more ≡ s.rest ++ (bytes ++ more) = append_assoc s.rest bytes more in
     let all = All-append (λ b. b < 256) bytes more these in
-    (l.0, l.1, l.2, append_assoc s.rest bytes more ∙ l.3, λ are. rw same (l.4 (all are)))) in
+    (l.0, l.1, l.2, joined ∙ l.3, λ are. rw same (l.4 (all are)))) in
     let l = on (zeros new.missing) (zeros_long new.missing) in
     let part = front_part (s.rest ++ bytes) (zeros new.missing) l.0 l.1 l.2 l.3 (omega (arith, zeros_long new.missing, more_left)) in
     grown digest id old new stream bytes s part (rw same s.heard) count place (past more_left empty on)
@@ -220,9 +202,10 @@ nothing_after front bytes missing sender payload after fits text few head whole 
       | inr enough ↦
           let pad = zeros (missing - length bytes) in
           let l = whole enough (bytes ++ pad) (omega (arith, length-append bytes pad, zeros_long (missing - length bytes), few)) in
+          let left = append_assoc front bytes pad in
+          let right = append_assoc (envelope sender payload) after pad in
           let both : envelope sender payload ++ (after ++ pad) ≡ envelope l.0 l.1 ++ [] =
-          cc (text, l.3, append_assoc (envelope sender payload) after pad, append_assoc front bytes pad,
-          append-nil (envelope l.0 l.1)) in
+          cc (text, l.3, left, right, append-nil (envelope l.0 l.1)) in
           let none = envelope_same sender l.0 payload l.1 (after ++ pad) [] fits l.2 both in
           nil_from_length after (omega (arith, ap length none.1, length-append after pad))
     ]
@@ -231,30 +214,23 @@ nothing_after front bytes missing sender payload after fits text few head whole 
 pub moved : (digest : List ℕ → List ℕ) (old new : IntakeState) (piece : List ℕ) (count : ℕ) → 0 < count → count ≤ length piece → new.taken ≡ old.taken + count
     → Takes digest old new (take count piece) → IsSound new → (IsSettledState old.heard → IsSettledState new.heard)
     → Moves digest old new piece (take (length piece - count) (drop count piece))
-moved digest old new piece count some le total takes sound settled = record {
-  bytes = take count piece;
-  parts = cc (take-append-drop count piece, take_all (length piece - count) (drop count piece)
-      (omega (arith, length-drop count piece)));
-  some = omega (arith, length-take count piece, some, le);
-  takes = takes;
-  count = omega (arith, length-take count piece, le, total);
-  sound = sound;
-  settled = settled;
-}
-
--- nothing is a part of an envelope
-pub none_unfinished : (bytes : List ℕ) → bytes ≡ [] → IsUnfinished bytes
-unfolding envelope_at
-none_unfinished bytes none = subst (λ (t : List ℕ). IsUnfinished t) (sym none) (refl, tt)
+moved digest old new piece count some le total takes sound settled =
+    let left = take_all (length piece - count) (drop count piece) (omega (arith, length-drop count piece)) in record {
+      bytes = take count piece;
+      parts = cc (take-append-drop count piece, left);
+      some = omega (arith, length-take count piece, some, le);
+      takes = takes;
+      count = omega (arith, length-take count piece, le, total);
+      sound = sound;
+      settled = settled;
+    }
 
 -- where nothing is kept there is nothing to be read
 pub sound_empty : (i : IntakeState) → 64019 ≤ i.room → i.taken ≤ 134217728 → i.kept ≡ [] → IsSound i
+unfolding envelope_at
 sound_empty i room limit none =
-    record { room = room; limit = limit; unfinished = none_unfinished i.kept none; apart = λ some. none }
-
--- what is missing of a slice is missing of the bytes that it lends
-pub lacks_deref : (bytes lent : List ℕ) (missing : ℕ) → lent ≡ bytes → 7 ≤ length bytes → (7 ≤ length lent → IsLacking lent missing) → IsLacking bytes missing
-lacks_deref bytes lent missing same long whole = rw same at (whole (omega (arith, ap length same, long)))
+    let unfinished = subst (λ (t : List ℕ). IsUnfinished t) (sym none) (refl, tt) in
+    record { room = room; limit = limit; unfinished = unfinished; apart = λ some. none }
 
 -- an envelope that was kept is whole
 pub kept_whole : (digest : List ℕ → List ℕ) (old new : IntakeState) (front all bytes : List ℕ) (missing : ℕ)
@@ -296,38 +272,6 @@ wrong_behind digest old piece place none empty wrong is id stream s =
       whole = s.cut.whole;
       wrong = wrong;
     }
-
--- a whole envelope was taken
-pub took_envelope : (digest : List ℕ → List ℕ) (old new : IntakeState) (piece rest : List ℕ) (sender : ℕ) (payload : List ℕ) → piece ≡ envelope sender payload ++ rest
-    → Takes digest old new (envelope sender payload) → new.taken ≡ old.taken + 7 + length payload → IsSound new → (IsSettledState old.heard → IsSettledState new.heard)
-    → Moves digest old new piece rest
-took_envelope digest old new piece rest sender payload parts takes count sound settled = record {
-  bytes = envelope sender payload;
-  parts = parts;
-  some = omega arith;
-  takes = takes;
-  count = omega (arith, count);
-  sound = sound;
-  settled = settled;
-}
-
--- nothing was taken, and then some bytes
-pub moves_after : (digest : List ℕ → List ℕ) (old mid new : IntakeState) (piece left : List ℕ) → Takes digest old mid [] → mid.taken ≡ old.taken → mid.heard ≡ old.heard
-    → Moves digest mid new piece left → Moves digest old new piece left
-moves_after digest old mid new piece left begins same heard moves = record {
-  bytes = moves.bytes;
-  parts = moves.parts;
-  some = moves.some;
-  takes = λ id stream s. rw append-nil at (moves.takes id (stream ++ []) (begins id stream s));
-  count = omega (arith, same, moves.count);
-  sound = moves.sound;
-  settled = λ settled. moves.settled (rw heard settled);
-}
-
--- some bytes, and then more
-pub takes_more : (digest : List ℕ → List ℕ) (old mid new : IntakeState) (bytes more : List ℕ) → Takes digest old mid bytes → Takes digest mid new more → Takes digest old new (bytes ++ more)
-takes_more digest old mid new bytes more first second id stream s =
-    rw append_assoc at (second id (stream ++ bytes) (first id stream s))
 
 -- why the rest of a piece is refused is why the piece is
 pub refuses_all : (digest : List ℕ → List ℕ) (old mid : IntakeState) (piece bytes left : List ℕ) (e : FeedError) → piece ≡ bytes ++ left → Takes digest old mid bytes

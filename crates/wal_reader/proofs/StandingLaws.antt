@@ -1,7 +1,6 @@
 -- What a reader stands for.
-use Rattle.std.proofs.Common.{◌≡◌, ℕ, zero, suc, ◌+◌, ◌<◌, ◌≤◌, inl, inr, List, [], ◌∷◌, ◌++◌, length, None, Result, Ok, Err, refl, sym, ap, subst, ◌∙◌, append-nil, arith}
+use Rattle.std.proofs.Common.{◌≡◌, ℕ, ◌+◌, ◌<◌, ◌≤◌, List, [], ◌++◌, length, None, Result, Ok, Err, sym, ap, subst, ◌∙◌, append-nil, arith}
 use Rattle.std.specs.Prelude.{replicate, IfOk, IfErr}
-use Rattle.std.proofs.lemmas.Bool.{cases_lt}
 use Rattle.std.proofs.lemmas.List.{length-append, length-replicate}
 use Rattle.wal_frame.specs.Front.{IsWrong}
 use Rattle.wal_frame.specs.Stream.{IsStream, IsMalformed}
@@ -33,10 +32,9 @@ never_wrong digest id i stream place s w =
 
 -- what is read past has begun
 past_begun : (digest : List ℕ → List ℕ) (id : List ℕ) (heard : HeardState) (payloads : List (List ℕ)) (missing : ℕ) (rest : List ℕ) → ReadsPast digest id heard payloads missing rest → rest ≡ [] → ⊥
-past_begun digest id heard payloads zero rest reads none = (let l = reads [] refl in absurd (cc (none, l.3)))
-past_begun digest id heard payloads (suc missing) rest reads none =
-    let l = reads (0 ∷ replicate missing 0) (ap suc (length-replicate {A = ℕ} missing 0)) in
-    absurd (cc (none, l.3))
+past_begun digest id heard payloads missing rest reads none =
+    let l = reads (replicate missing 0) (length-replicate {A = ℕ} missing 0) in
+    grind (arith, l.3, none)
 
 -- a stream that ends within an envelope is malformed there
 cut_malformed : (payloads : List (List ℕ)) (front rest stream : List ℕ) (place : ℕ) → IsCut payloads front rest stream → (rest ≡ [] → ⊥) → length front ≡ place → IsMalformed place stream
@@ -96,19 +94,11 @@ pub feeds_ok : (digest : List ℕ → List ℕ) (id : List ℕ) (old new : Intak
     → Takes digest old new piece → new.taken ≤ 134217728 → StandsAt digest id old stream → Feeds digest id r (stream ++ piece) (Ok done)
 feeds_ok digest id old new r stream piece done well same takes few s =
     let next = takes id stream s in
-    ((well, rw same next), omega (arith, next.taken, few), λ place wrong. never_wrong digest id new (stream ++ piece)
-    place next wrong)
-
--- too long, or not
-not_too_long : (e : FeedError) (n : ℕ) → (134217728 < n → e ≡ TooLong) → (e ≡ TooLong → ⊥) → n ≤ 134217728
-not_too_long e n long not = elim (cases_lt 134217728 n) [ inl more ↦ absurd (not (long more)) | inr few ↦ few ]
+    let right = λ (place : ℕ). never_wrong digest id new (stream ++ piece) place next in
+    ((well, rw same next), omega (arith, next.taken, few), right)
 
 pub feeds_err : (digest : List ℕ → List ℕ) (id : List ℕ) (old : IntakeState) (r : ReaderState) (stream piece : List ℕ) (e : FeedError) → (134217728 < old.taken + length piece → e ≡ TooLong)
     → Refuses digest old piece e → StandsAt digest id old stream → Feeds digest id r (stream ++ piece) (Err e)
 feeds_err digest id old r stream piece (Malformed place) long refuses s =
-    let few = not_too_long (Malformed place) (old.taken + length piece) long (λ same. absurd cc) in
-    (refuses id stream s, omega (arith, few, s.taken, length-append stream piece))
-feeds_err digest id old r stream piece TooLong long refuses s = omega (arith, refuses, s.taken, length-append stream piece)
-feeds_err digest id old r stream piece Memory long refuses s =
-    let few = not_too_long Memory (old.taken + length piece) long (λ same. absurd cc) in
-    omega (arith, few, s.taken, length-append stream piece)
+    (refuses id stream s, grind (arith, s.taken, length-append stream piece))
+feeds_err digest id old r stream piece e long refuses s = grind (arith, s.taken, length-append stream piece)

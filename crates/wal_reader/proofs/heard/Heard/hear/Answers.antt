@@ -4,5 +4,5 @@ use Rattle.wal_reader.proofs.heard.Heard.hear.Goals as goal
 
 pub invariant_of-self : goal.invariant_of-self
 invariant_of-self g c =
-    ([], rw c.replace-kept.ensures.after
-    (kept_none g.H.Hash32.digest c.self.inside.id.0 c.new.result.items c.new.ensures.items))
+    let none = kept_none g.H.Hash32.digest c.self.inside.id.0 c.new.result.items c.new.ensures.items in
+    ([], rw c.replace-kept.ensures.after none)

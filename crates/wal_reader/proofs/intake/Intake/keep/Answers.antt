@@ -15,7 +15,8 @@ returns-then-branch-clause-moves g c =
     (kept_whole g.H.Hash32.digest _ _ c.deref.result.now c.deref-2.result.now (take count piece) c.lacking.result
     c.deref.ensures.value whole (rw c.if-branch.true at c.in_ok-hear_whole.ensures.hears) (omega (arith, long, few))
     c.lacking.ensures.head c.lacking.ensures.whole c.requires.kept c.requires.kept c.clear.ensures.items
-    (omega (arith, long)) refl) (sound_empty _
+    (omega (arith, long)) refl)
+    (sound_empty _
     (omega (arith, c.requires.sound.room, c.in_ok-extend_from_slice.ensures.capacity, c.clear.ensures.capacity))
     (omega (arith, le, c.requires.limit)) c.clear.ensures.items)
     (λ settled. let m = c.in_ok-hear_whole.ensures.memory settled in m.1)
