@@ -1,5 +1,5 @@
 -- Flags of the numbers in a list, and lists without repetition.
-use Rattle.std.proofs.Common.{◌≡◌, ◌≢◌, ◌⊎◌, ℕ, ◌<◌, List, [], ◌∷◌, ◌++◌, length, take, get_or, replicate, Bool, true, false, Contains, sym, ap, subst, ◌∙◌, arith, ⊎_elim, nat_eq}
+use Rattle.std.proofs.Common.{◌≡◌, ◌≢◌, ◌⊎◌, ℕ, ◌<◌, List, [], ◌∷◌, ◌++◌, length, take, get_or, replicate, Bool, true, false, Contains, sym, ◌∙◌, arith, ⊎_elim, nat_eq}
 use Rattle.std.specs.Prelude.{slice_set}
 use Rattle.std.proofs.lemmas.Bool.{cases_eq, false≢true}
 use Rattle.std.proofs.lemmas.Bool.Decides.{Decides-eqb}
@@ -30,10 +30,7 @@ marks_more flags numbers x small marks =
     record {
       long = length-set flags x true ∙ long;
       up = λ i l. ⊎_elim
-          (λ same.
-          let at : get_or (slice_set flags x true) i false ≡ true =
-          ap (λ (j : ℕ). get_or (slice_set flags x true) j false) same ∙ get_or-set_same flags x true false (omega arith) in
-          ((λ up. subst (Contains (numbers ++ x ∷ [])) (sym same) (Contains-push numbers x)), (λ found. at)))
+          (λ same. rw same (λ up. Contains-push numbers x, λ found. get_or-set_same flags x true false (omega arith)))
           (λ other.
           let at = get_or-set_other flags x i true false other in (
             (λ up. Contains-append_left numbers (x ∷ []) i ((marks.up i l).0 (sym at ∙ up))),

@@ -62,10 +62,6 @@ pub held_more : (P : Opening → Type 0) (openings : List Opening) (i : ℕ) (o 
 held_more P openings i o is before holds =
     subst (All P) (sym (front_more openings i o is)) (All-push P (take i openings) o before holds)
 
--- it holds of all
-pub held_all : (P : Opening → Type 0) (openings : List Opening) (i : ℕ) → length openings ≤ i → All P (take i openings) → All P openings
-held_all P openings i all before = subst (All P) (take_all i openings all) before
-
 -- the tools have room for as many symbols as a sliver has
 pub symbols_load : (axis : Axis) (f length kept size count : ℕ) → length ≤ most_bytes → kept ≡ f → size ≡ symbol_size f length
     → count ≡ sliver_symbols axis f → size * count ≤ longest_sliver kept

@@ -12,7 +12,7 @@ use Rattle.wal_evidence.specs.declared.evidence.Evidence.{Evidence}
 use Rattle.wal_evidence.specs.declared.evidence.Verdict.{Verdict}
 use Rattle.wal_evidence.specs.declared.evidence.Verdict.TheVariants as told
 use Rattle.wal_reader.specs.declared.outcome.Outcome.{Outcome}
-use Rattle.wal_reader.specs.declared.outcome.Outcome.TheVariants.{Reject, Short, NoMetadata, Collision}
+use Rattle.wal_reader.specs.declared.outcome.Outcome.TheVariants.{Short, NoMetadata, Collision}
 use Rattle.wal_reader.specs.declared.outcome.ReadAnswer.{ReadAnswer}
 use Rattle.wal_reader.specs.Carried.{IsFirstBadProof, NoBadProof}
 use Rattle.wal_reader.specs.Outcome.{AreFirstTwo, Collects, Decides, HasMetadata, HoldsFew, IsAnswer, IsEvidenceFor, IsMetadataIn, IsOnlyOutcome}

@@ -66,12 +66,9 @@ module _ (digest : List ℕ → List ℕ) (id : List ℕ) (m : BlobMetadata) whe
   collects_unwanted payloads payload is js index bytes read unwanted was =
       collects_passed payloads payload is js
       (λ i b short carries.
-      let other : IndexedSliver = record { index = i; bytes = b } in
-      let here : IndexedSliver = record { index = index; bytes = bytes } in
-      let same : other ≡ here = cc (carries.0, read) in
-      let held : HoldsSliver digest m Primary index bytes = subst (λ (s : IndexedSliver). HoldsSliver digest m Primary s.index s.bytes) same carries.1 in
-      subst (λ (s : IndexedSliver). Contains is s.index) (sym same)
-      (⊎_elim (λ known. known) (λ new. absurd (unwanted short new held)) (known_or_new is index)))
+      let same : (i ≡ index) × (b ≡ bytes) = grind (arith, carries.0, read) in
+      let held = rw (same.0, same.1) at carries.1 in
+      rw same.0 (⊎_elim (λ known. known) (λ new. absurd (unwanted short new held)) (known_or_new is index)))
       was
 
   -- where there are enough, more payloads add nothing

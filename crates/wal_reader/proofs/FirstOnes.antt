@@ -1,8 +1,8 @@
 -- The first payload that carries something.
-use Rattle.std.proofs.Common.{◌≡◌, ◌≢◌, ℕ, ◌+◌, ◌<◌, ◌≤◌, List, [], ◌∷◌, ◌++◌, length, take, drop, get_or, sym, ap, subst, ◌∙◌, arith, append_assoc, length-append, Any, Result, Ok}
+use Rattle.std.proofs.Common.{◌≡◌, ◌≢◌, ℕ, suc, ◌+◌, ◌<◌, List, [], ◌∷◌, ◌++◌, length, take, drop, get_or, sym, ap, subst, ◌∙◌, arith, append_assoc, length-append, Any, Result, Ok}
 use Rattle.std.proofs.Math.Seq.{get_or-append_seam}
 use Rattle.std.proofs.lemmas.List.{take-append-drop}
-use Rattle.std.proofs.lemmas.List.Elements.{All-head, All-push, All-tail}
+use Rattle.std.proofs.lemmas.List.Elements.{All-push}
 use Rattle.wal_shape.specs.Metadata.{BlobMetadata}
 use Rattle.wal_shape.specs.EncodingProof.{EncodingProof}
 use Rattle.wal_frame.specs.declared.frame.FrameError.{FrameError}
@@ -11,7 +11,7 @@ use Rattle.wal_frame.specs.Reading.{read_of}
 use Rattle.wal_evidence.specs.BadProof.{IsBadProof}
 use Rattle.wal_reader.specs.Carried.{CarriesBadProof, CarriesProof, IsFirst, NoneIn}
 use Rattle.wal_reader.specs.Outcome.{AreFirstTwo, CarriesMetadata, HasMetadata, IsFirstMetadata, IsMetadataIn}
-use Rattle.wal_reader.proofs.Gathering.{all_done, front_more}
+use Rattle.wal_reader.proofs.Gathering.{front_more}
 
 -- the payloads before one, this one, and those behind it
 pub parted : (payloads : List (List ℕ)) (i : ℕ) (payload : List ℕ) → i < length payloads → payload ≡ get_or payloads i payload
@@ -41,12 +41,6 @@ none_more {X} Carries payloads i payload l is before here =
     rw (front_more payloads i payload l is)
     (All-push (λ p. (x : X) → Carries p x → ⊥) (take i payloads) payload before here)
 
--- all payloads
-pub none_done : {X : Type 0} (Carries : List ℕ → X → Type 0) (payloads items : List (List ℕ)) (i : ℕ) → items ≡ payloads → length items ≤ i
-    → NoneIn Carries (take i items) → NoneIn Carries payloads
-none_done Carries payloads items i same all none =
-    subst (λ (ps : List (List ℕ)). NoneIn Carries ps) same (all_done (λ ps. NoneIn Carries ps) items i all none)
-
 -- where there is a first one, there is one
 pub first_not_none : {X : Type 0} (Carries : List ℕ → X → Type 0) (payloads : List (List ℕ)) (x : X) → IsFirst Carries payloads x → NoneIn Carries payloads → ⊥
 first_not_none Carries payloads x first none =
@@ -57,16 +51,14 @@ one_first_in : {X : Type 0} (Carries : List ℕ → X → Type 0) (same : (paylo
     → (front : List (List ℕ)) (payload : List ℕ) (back others : List (List ℕ)) (other : List ℕ) (behind : List (List ℕ)) (x y : X)
     → front ++ payload ∷ back ≡ others ++ other ∷ behind → Carries payload x → Carries other y → NoneIn Carries front → NoneIn Carries others → x ≡ y
 one_first_in Carries same [] payload back [] other behind x y e carries also none no_other =
-    let head : payload ≡ other = cc e in same payload x y carries (subst (λ (p : List ℕ). Carries p y) (sym head) also)
-one_first_in {X} Carries same [] payload back (q ∷ others) other behind x y e carries also none no_other =
-    let head : payload ≡ q = cc e in
-    absurd (All-head (λ (p : List ℕ). (z : X) → Carries p z → ⊥) q others no_other x (subst (λ (p : List ℕ). Carries p x) head carries))
-one_first_in {X} Carries same (p ∷ front) payload back [] other behind x y e carries also none no_other =
-    let head : p ≡ other = cc e in
-    absurd (All-head (λ (z : List ℕ). (w : X) → Carries z w → ⊥) p front none y (subst (λ (z : List ℕ). Carries z y) (sym head) also))
-one_first_in {X} Carries same (p ∷ front) payload back (q ∷ others) other behind x y e carries also none no_other =
+    let head : payload ≡ other = cc e in same payload x y carries (rw head also)
+one_first_in Carries same [] payload back (q ∷ others) other behind x y e carries also none no_other =
+    let head : payload ≡ q = cc e in absurd (no_other 0 q (omega arith) x (rw head at carries))
+one_first_in Carries same (p ∷ front) payload back [] other behind x y e carries also none no_other =
+    let head : p ≡ other = cc e in absurd (none 0 p (omega arith) y (rw head also))
+one_first_in Carries same (p ∷ front) payload back (q ∷ others) other behind x y e carries also none no_other =
     one_first_in Carries same front payload back others other behind x y (cc e) carries also
-    (All-tail (λ (z : List ℕ). (w : X) → Carries z w → ⊥) p front none) (All-tail (λ (z : List ℕ). (w : X) → Carries z w → ⊥) q others no_other)
+    (λ k d l. none (suc k) d (omega arith)) (λ k d l. no_other (suc k) d (omega arith))
 
 -- what the first one carries is one thing
 pub one_first : {X : Type 0} (Carries : List ℕ → X → Type 0) → ((payload : List ℕ) (x y : X) → Carries payload x → Carries payload y → x ≡ y)

@@ -1,7 +1,7 @@
 -- Payloads one after the other, and the metadata among them.
-use Rattle.std.proofs.Common.{◌≡◌, ◌⊎◌, ℕ, ◌+◌, ◌<◌, ◌≤◌, List, [], ◌∷◌, ◌++◌, length, take, get_or, sym, ap, subst, ◌∙◌, arith, inl, inr, ⊎_elim, length-append, Any, Result, Ok, Err, IfOk}
+use Rattle.std.proofs.Common.{◌≡◌, ◌⊎◌, ℕ, ◌+◌, ◌<◌, List, [], ◌∷◌, ◌++◌, length, take, get_or, sym, ap, subst, ◌∙◌, arith, inl, inr, ⊎_elim, length-append, Any, Result, Ok, Err, IfOk}
 use Rattle.std.proofs.lemmas.Bool.{cases_lt}
-use Rattle.std.proofs.lemmas.List.{get_or_append_left, get_or_push, take_more, take_all}
+use Rattle.std.proofs.lemmas.List.{get_or_append_left, get_or_push, take_more}
 use Rattle.wal_shape.specs.Metadata.{BlobMetadata}
 use Rattle.wal_frame.specs.declared.frame.FrameError.{FrameError}
 use Rattle.wal_frame.specs.Frame.{Frame, Metadata}
@@ -39,7 +39,3 @@ one_metadata read a b is_a is_b = cc (is_a, is_b)
 pub weaken : {A E : Type 0} (P Q : A → Type 0) (r : Result A E) → ((x : A) → P x → Q x) → IfOk r P → IfOk r Q
 weaken P Q (Ok x) f p = f x p
 weaken P Q (Err e) f p = tt
-
--- what holds of the front of a list that is all of it
-pub all_done : (P : List (List ℕ) → Type 0) (payloads : List (List ℕ)) (i : ℕ) → length payloads ≤ i → P (take i payloads) → P payloads
-all_done P payloads i all front = subst P (take_all i payloads all) front

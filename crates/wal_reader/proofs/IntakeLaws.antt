@@ -166,9 +166,8 @@ goes_past digest old new bytes these some left more_left empty same count place 
     let reads = rest_past digest id old s.payloads s.rest s.keeps some in
     let on : ReadsPast digest id new.heard s.payloads new.missing (s.rest ++ bytes) = (λ more long.
     let l = reads (bytes ++ more) (omega (arith, length-append bytes more, long, left)) in
-    let joined : (s.rest ++ bytes) ++ more ≡ s.rest ++ (bytes ++ more) = append_assoc s.rest bytes more in
     let all = All-append (λ b. b < 256) bytes more these in
-    (l.0, l.1, l.2, joined ∙ l.3, λ are. rw same (l.4 (all are)))) in
+    (l.0, l.1, l.2, cc (append_assoc s.rest bytes more, l.3), λ are. rw same (l.4 (all are)))) in
     let l = on (zeros new.missing) (zeros_long new.missing) in
     let part = front_part (s.rest ++ bytes) (zeros new.missing) l.0 l.1 l.2 l.3 (omega (arith, zeros_long new.missing, more_left)) in
     grown digest id old new stream bytes s part (rw same s.heard) count place (past more_left empty on)
@@ -257,21 +256,6 @@ kept_part digest old new all bytes whole is hears none still count place = (
       count place (kept still (e ∙ is)),
   subst (λ (t : List ℕ). IsUnfinished t) is hears.1,
 )
-
--- a byte is wrong behind whole envelopes
-pub wrong_behind : (digest : List ℕ → List ℕ) (old : IntakeState) (piece : List ℕ) (place : ℕ) → old.missing ≡ 0 → old.kept ≡ [] → IsWrong piece → place ≡ old.taken
-    → Refuses digest old piece (Malformed place)
-wrong_behind digest old piece place none empty wrong is id stream s =
-    let nil : s.rest ≡ [] = rest_kept digest id old s.payloads s.rest s.keeps none ∙ empty in
-    let all : stream ≡ s.front = s.cut.parts ∙ ap (λ (t : List ℕ). s.front ++ t) nil ∙ append-nil s.front in record {
-      payloads = s.payloads;
-      front = s.front;
-      rest = piece;
-      parts = ap (λ (t : List ℕ). t ++ piece) all;
-      size = omega (arith, ap length all, s.taken, is);
-      whole = s.cut.whole;
-      wrong = wrong;
-    }
 
 -- why the rest of a piece is refused is why the piece is
 pub refuses_all : (digest : List ℕ → List ℕ) (old mid : IntakeState) (piece bytes left : List ℕ) (e : FeedError) → piece ≡ bytes ++ left → Takes digest old mid bytes

@@ -55,8 +55,7 @@ settled_from digest id (Two clash) payloads was settled = tt
 pub settled_heard : (digest : List ℕ → List ℕ) (id : List ℕ) (heard : HeardState) (payloads : List (List ℕ)) (b : Bool) → HasHeard digest id heard payloads
     → (IsTrue b ↔ IsSettledState heard) → (IsTrue b ↔ IsSettled digest id payloads)
 settled_heard digest id heard payloads b was is =
-    let here : IsTrue b ↔ IsSettled digest heard.id payloads = (
+    rw (← was.0) (
       λ yes. settled_to digest heard.id heard.kept payloads was.1 (is.0 yes),
       λ settled. is.1 (settled_from digest heard.id heard.kept payloads was.1 settled),
-    ) in
-    subst (λ (i : List ℕ). IsTrue b ↔ IsSettled digest i payloads) was.0 here
+    )

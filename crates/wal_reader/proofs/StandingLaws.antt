@@ -10,7 +10,7 @@ use Rattle.wal_reader.specs.inside.Intake.{Refuses, Takes}
 use Rattle.wal_reader.specs.Outcome.{IsAnswer}
 use Rattle.wal_reader.specs.Standing.{ReaderState, Feeds, FinishesStream}
 use Rattle.wal_reader.specs.declared.errors.FeedError.{FeedError}
-use Rattle.wal_reader.specs.declared.errors.FeedError.TheVariants.{Malformed, TooLong, Memory}
+use Rattle.wal_reader.specs.declared.errors.FeedError.TheVariants.{Malformed, TooLong}
 use Rattle.wal_reader.specs.declared.errors.FinishError.{FinishError}
 use Rattle.wal_reader.specs.declared.errors.FinishError.TheVariants as finish
 use Rattle.wal_reader.specs.declared.outcome.ReadAnswer.{ReadAnswer}
@@ -36,30 +36,19 @@ past_begun digest id heard payloads missing rest reads none =
     let l = reads (replicate missing 0) (length-replicate {A = ℕ} missing 0) in
     grind (arith, l.3, none)
 
--- a stream that ends within an envelope is malformed there
-cut_malformed : (payloads : List (List ℕ)) (front rest stream : List ℕ) (place : ℕ) → IsCut payloads front rest stream → (rest ≡ [] → ⊥) → length front ≡ place → IsMalformed place stream
-cut_malformed payloads front rest stream place cut some size = record {
-  front = front;
-  payloads = payloads;
-  rest = rest;
-  parts = cut.parts;
-  size = size;
-  whole = cut.whole;
-  more = some;
-  unfit = part_none rest cut.part;
-}
-
--- within one that is read past
+-- a stream that ends within an envelope that is read past is malformed there
 pub past_malformed : (digest : List ℕ → List ℕ) (id : List ℕ) (i : IntakeState) (stream : List ℕ) → 0 < i.missing → StandsAt digest id i stream → IsMalformed i.place stream
 past_malformed digest id i stream some s =
-    let reads = rest_past digest id i s.payloads s.rest s.keeps some in
-    cut_malformed s.payloads s.front s.rest stream i.place s.cut (past_begun digest id i.heard s.payloads i.missing s.rest reads) s.place
-
--- within one that is kept
-pub kept_malformed : (digest : List ℕ → List ℕ) (id : List ℕ) (i : IntakeState) (stream : List ℕ) → i.missing ≡ 0 → 0 < length i.kept → StandsAt digest id i stream → IsMalformed i.place stream
-kept_malformed digest id i stream none some s =
-    let is = rest_kept digest id i s.payloads s.rest s.keeps none in
-    cut_malformed s.payloads s.front s.rest stream i.place s.cut (λ nil. absurd (omega (arith, some, ap length is, ap length nil))) s.place
+    let reads = rest_past digest id i s.payloads s.rest s.keeps some in record {
+      front = s.front;
+      payloads = s.payloads;
+      rest = s.rest;
+      parts = s.cut.parts;
+      size = s.place;
+      whole = s.cut.whole;
+      more = past_begun digest id i.heard s.payloads i.missing s.rest reads;
+      unfit = part_none s.rest s.cut.part;
+    }
 
 -- behind whole envelopes
 whole_stream : (digest : List ℕ → List ℕ) (id : List ℕ) (i : IntakeState) (stream : List ℕ) → i.missing ≡ 0 → i.kept ≡ [] → (s : StandsAt digest id i stream) → IsStream s.payloads stream

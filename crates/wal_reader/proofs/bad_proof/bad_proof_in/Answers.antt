@@ -2,7 +2,8 @@ use Rattle.std.proofs.Common.{◌∙◌}
 use Rattle.wal_shape.specs.MetaRef.{metadata_shown}
 use Rattle.wal_shape.specs.ProofRef.{proof_shown}
 use Rattle.wal_reader.specs.Carried.{CarriesBadProof}
-use Rattle.wal_reader.proofs.FirstOnes.{first_at, none_done, none_more}
+use Rattle.std.proofs.lemmas.List.{take_all}
+use Rattle.wal_reader.proofs.FirstOnes.{first_at, none_more}
 use Rattle.wal_reader.proofs.bad_proof.bad_proof_in.Goals as goal
 
 pub returns-in-Some-clause-first : goal.returns-in-Some-clause-first
@@ -13,8 +14,8 @@ returns-in-Some-clause-first g c =
 
 pub returns-clause-none : goal.returns-clause-none
 returns-clause-none g c =
-    none_done (CarriesBadProof g.H.Hash32.digest c.args.id.now.0 (metadata_shown c.args.m)) c.args.payloads.now _ _
-    c.as_slice-payload-items.ensures c.loop-payload-test.false c.loop-payload.invariant.none
+    let all = rw (take_all _ _ c.loop-payload-test.false) at c.loop-payload.invariant.none in
+    rw c.as_slice-payload-items.ensures at all
 
 pub loop-payload-preserved : goal.loop-payload-preserved
 loop-payload-preserved g c = record {

@@ -1,6 +1,7 @@
 use Rattle.wal_shape.specs.ProofRef.{proof_shown}
 use Rattle.wal_reader.specs.Carried.{CarriesProof}
-use Rattle.wal_reader.proofs.FirstOnes.{first_at, none_done, none_more}
+use Rattle.std.proofs.lemmas.List.{take_all}
+use Rattle.wal_reader.proofs.FirstOnes.{first_at, none_more}
 use Rattle.wal_reader.proofs.bad_proof.proof_in.Goals as goal
 
 pub returns-in-Some-clause-first : goal.returns-in-Some-clause-first
@@ -11,8 +12,7 @@ returns-in-Some-clause-first c =
 
 pub returns-clause-none : goal.returns-clause-none
 returns-clause-none c =
-    none_done (CarriesProof c.args.id.now.0) c.args.payloads.now _ _
-    c.as_slice-payload-items.ensures c.loop-payload-test.false c.loop-payload.invariant
+    rw c.as_slice-payload-items.ensures at (rw (take_all _ _ c.loop-payload-test.false) at c.loop-payload.invariant)
 
 pub loop-payload-preserved : goal.loop-payload-preserved
 loop-payload-preserved c =

@@ -1,9 +1,8 @@
 use Rattle.std.proofs.Common.{◌≡◌, ◌+◌, take, drop}
-use Rattle.wal_shape.specs.Metadata.{BlobMetadata}
 use Rattle.wal_shape.specs.MetaRef.{metadata_shown}
-use Rattle.wal_reader.specs.Outcome.{HasMetadata}
+use Rattle.std.proofs.lemmas.List.{take_all}
 use Rattle.wal_reader.proofs.FirstOnes.{parted}
-use Rattle.wal_reader.proofs.Gathering.{only_more, all_done}
+use Rattle.wal_reader.proofs.Gathering.{only_more}
 use Rattle.wal_reader.proofs.finding.other_metadata.Goals as goal
 
 pub returns-in-Some-clause-some : goal.returns-in-Some-clause-some
@@ -24,6 +23,4 @@ loop-payload-preserved g c =
     c.in_default.ensures.none
 
 pub returns-clause-none : goal.returns-clause-none
-returns-clause-none g c =
-    all_done (λ ps. (other : BlobMetadata) → HasMetadata g.H.Hash32.digest c.args.id.now.0 ps other → other ≡ metadata_shown c.args.m)
-    c.args.payloads.now c.loop-payload.payload-index c.loop-payload-test.false c.loop-payload.invariant
+returns-clause-none g c = rw (take_all _ _ c.loop-payload-test.false) at c.loop-payload.invariant

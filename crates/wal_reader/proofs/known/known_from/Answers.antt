@@ -1,6 +1,6 @@
-use Rattle.std.proofs.Common.{◌≡◌, ◌+◌, ◌∷◌, List, ℕ, drop, get_or, sym, ap, ◌∙◌}
+use Rattle.std.proofs.Common.{◌≡◌, ◌+◌, ◌∷◌, drop, ◌∙◌}
 use Rattle.std.proofs.lemmas.List.{drop_more, drop_all}
-use Rattle.wal_reader.proofs.SiftLaws.{Reaches, reaches_all, reaches_more, reaches_none}
+use Rattle.wal_reader.proofs.SiftLaws.{reaches_all, reaches_more, reaches_none}
 use Rattle.wal_reader.proofs.known.known_from.Goals as goal
 
 pub loop-part-init : goal.loop-part-init
@@ -16,9 +16,9 @@ pub loop-part-preserved : goal.loop-part-preserved
 loop-part-preserved g c =
     let parts = c.args.parts.now in
     let i = c.loop-part.part-index in
-    let part : c.as_slice.result.now ≡ get_or parts i c.as_slice.result.now = cc (c.as_slice.ensures, c.part-item.is) in
+    let first = drop_more parts i c.as_slice.result.now c.loop-part-test.true in
     let left : drop i parts ≡ c.as_slice.result.now ∷ drop (i + 1) parts =
-    drop_more parts i c.as_slice.result.now c.loop-part-test.true ∙ ap (λ (p : List ℕ). p ∷ drop (i + 1) parts) (sym part) in
+    cc (first, c.as_slice.ensures, c.part-item.is) in
     record {
       metadata = c.take_part.ensures.metadata ∙ c.loop-part.invariant.metadata;
       f = c.take_part.ensures.f;
