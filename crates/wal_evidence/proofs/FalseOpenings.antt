@@ -28,23 +28,25 @@ value_at f n i l =
     slice_get-map f (range_with_len 0 n) i
     ∙ ap (option_map f) (slice_get_read (range_with_len 0 n) n i i (sym (length-range_with_len 0 n)) l (omega (arith, at)))
 
+-- the matrix is that of a blob of the length that m says
+pub length_is : (digest : List ℕ → List ℕ) (m : BlobMetadata) (blob e : List ℕ) → CommitsMatrix digest m blob e
+    → m.length ≡ length blob
+unfolding metadata_over
+length_is digest m blob e is = ap (λ (x : BlobMetadata). x.length) is.1
+
 -- m has the root over each row and column of the matrix
 pub line_root : (axis : Axis) (digest : List ℕ → List ℕ) (m : BlobMetadata) (blob e : List ℕ) (i : ℕ) → CommitsMatrix digest m blob e → i < shard_count m.f
     → HasRoot digest m axis i (line_of axis m.f (symbol_size m.f m.length) e i)
 unfolding metadata_over
 line_root Primary digest m blob e i is l =
     let n = shard_count m.f in
-    let Root : ℕ → Type 0 = λ long. slice_get m.primary i ≡ Some (root_over digest (symbol_size m.f long) (row_of n (symbol_size m.f long) e i)) in
     let s = symbol_size m.f (length blob) in
-    let length_is : m.length ≡ length blob = ap (λ (x : BlobMetadata). x.length) is.1 in
-    subst Root (sym length_is)
+    rw (length_is digest m blob e is)
     (ap (λ (x : BlobMetadata). slice_get x.primary i) is.1 ∙ value_at (λ r. root_over digest s (row_of n s e r)) n i l)
 line_root Secondary digest m blob e i is l =
     let n = shard_count m.f in
-    let Root : ℕ → Type 0 = λ long. slice_get m.secondary i ≡ Some (root_over digest (symbol_size m.f long) (column_of n (symbol_size m.f long) e i)) in
     let s = symbol_size m.f (length blob) in
-    let length_is : m.length ≡ length blob = ap (λ (x : BlobMetadata). x.length) is.1 in
-    subst Root (sym length_is)
+    rw (length_is digest m blob e is)
     (ap (λ (x : BlobMetadata). slice_get x.secondary i) is.1 ∙ value_at (λ j. root_over digest s (column_of n s e j)) n i l)
 
 -- openings that have a matrix's symbols lie on its line
@@ -66,8 +68,7 @@ line_through digest m axis index openings e are coded within own =
     }
 
 some_symbols : (axis : Axis) (f : ℕ) → 0 < sliver_symbols axis f
-some_symbols Primary f = omega arith
-some_symbols Secondary f = omega arith
+some_symbols axis f = grind arith
 
 -- a target of openings that hold is a sliver of the blob
 pub target_within : (digest : List ℕ → List ℕ) (m : BlobMetadata) (axis : Axis) (index : ℕ) (openings : List Opening)
@@ -87,9 +88,7 @@ false_opening digest m p blob e shape bad is =
     let at : ℕ → Opening = λ k. get_or os k no_opening in
     let are = bad.line.enough in
     let within = target_within digest m p.axis p.index os are in
-    let Coded : ℕ → Type 0 = λ long. IsCodedMatrix m.f (symbol_size m.f long) e in
-    let length_is : m.length ≡ length blob = ap (λ (x : BlobMetadata). x.length) is.1 in
-    let coded : Coded m.length = subst Coded (sym length_is) is.0.coded in
+    let coded : IsCodedMatrix m.f s e = rw (length_is digest m blob e is) is.0.coded in
     ⊎_elim
     (λ own.
     let same = one_line digest m p.axis p.index os are shape line bad.word (line_through digest m p.axis p.index os e are coded within own) bad.line.through in

@@ -1,20 +1,11 @@
 -- What is taken from items: one list, of distinct keys, and all that they give as long as there is room.
-use Rattle.std.proofs.Common.{◌≡◌, ℕ, suc, ◌<◌, ◌≤◌, List, [], ◌∷◌, ◌++◌, length, map, get_or, Contains, refl, sym, ap, subst, ◌∙◌, arith, ⊎_elim, length-append}
+use Rattle.std.proofs.Common.{◌≡◌, ℕ, zero, suc, ◌<◌, ◌≤◌, List, [], ◌∷◌, ◌++◌, length, map, Contains, refl, sym, ap, subst, ◌∙◌, arith, ⊎_elim, length-append}
 use Rattle.std.proofs.lemmas.List.{map-append}
-use Rattle.std.proofs.lemmas.List.Elements.{All-nil, All-push, Contains-append_cases, Contains-append_left, Contains-push}
+use Rattle.std.proofs.lemmas.List.Elements.{All-nil, All-push, Contains-append_left, Contains-push}
 use Rattle.wal_code.specs.Codeword.{Distinct}
 use Rattle.wal_evidence.specs.FirstOfEach.{Adds, TakesAfter, TakesFirst, adds, keeps}
 use Rattle.wal_evidence.specs.inside.FirstOfEach.{AreTaken}
 use Rattle.wal_evidence.proofs.Marked.{distinct_more, known_or_new}
-
-none_in : {X : Type 0} (x : X) → Contains [] x → ⊥
-none_in x found = let below = found.1 in absurd (omega arith)
-
-head_in : {X : Type 0} (x z : X) (found : Contains (x ∷ []) z) → x ≡ z
-head_in x z found = let below = found.1 in let first : found.0 ≡ 0 = omega arith in sym (ap (λ (k : ℕ). get_or (x ∷ []) k z) first) ∙ found.2
-
-behind_in : {X : Type 0} (x : X) (items : List X) (z : X) → Contains items z → Contains (x ∷ items) z
-behind_in x items z found = let below = found.1 in (suc found.0, omega arith, found.2)
 
 module _ {X Y : Type 0} (Gives : X → Y → Type 0) (key : Y → ℕ) (most : ℕ) where
   -- the keys with one more
@@ -62,7 +53,8 @@ module _ {X Y : Type 0} (Gives : X → Y → Type 0) (key : Y → ℕ) (most : �
         → TakesAfter Gives key most before items taken → AreTaken Is key most before → AreTaken Is key most taken
     taken_after before [] taken given takes was = subst (AreTaken Is key most) (sym takes) was
     taken_after before (x ∷ items) taken given takes was =
-        taken_after takes.0 items taken (λ z y there gives. given z y (behind_in x items z there) gives) takes.2
+        taken_after takes.0 items taken
+        (λ z y there gives. let below = there.1 in given z y (suc there.0, omega arith, there.2) gives) takes.2
         (addition_taken x before takes.0 (λ y gives. given x y (0, omega arith, refl) gives) takes.1 was)
 
     -- what is taken is at most so many, of distinct keys, and is what the items give
@@ -73,11 +65,7 @@ module _ {X Y : Type 0} (Gives : X → Y → Type 0) (key : Y → ℕ) (most : �
   -- an item that gives one thing adds one thing
   module _ (same : (x : X) (y z : Y) → Gives x y → Gives x z → y ≡ z) where
     one_addition : (x : X) (before a b : List Y) → Adds Gives key most x before a → Adds Gives key most x before b → a ≡ b
-    one_addition x before a b (adds y short gives new a_is) (adds z less also other b_is) =
-        a_is ∙ ap (λ (v : Y). before ++ v ∷ []) (same x y z gives also) ∙ sym b_is
-    one_addition x before a b (adds y short gives new a_is) (keeps none b_is) = absurd (new (none y short gives))
-    one_addition x before a b (keeps none a_is) (adds y short gives new b_is) = absurd (new (none y short gives))
-    one_addition x before a b (keeps none a_is) (keeps more b_is) = a_is ∙ sym b_is
+    one_addition x before a b p q = grind (arith, same)
 
     -- so one list is taken
     pub one_taken : (before : List Y) (items : List X) (a b : List Y) → TakesAfter Gives key most before items a → TakesAfter Gives key most before items b → a ≡ b
@@ -94,9 +82,9 @@ module _ {X Y : Type 0} (Gives : X → Y → Type 0) (key : Y → ℕ) (most : �
 
     one_grows : (x : X) (before after : List Y) → Adds Gives key most x before after → Grows before after
     one_grows x before after (adds y short gives new is) =
-        subst (Grows before) (sym is) (
+        rw is (
           omega (arith, length-append before (y ∷ [])),
-          λ k found. subst (λ (ks : List ℕ). Contains ks k) (sym (keys_more before y)) (Contains-append_left (map key before) (key y ∷ []) k found),
+          λ k found. rw (keys_more before y) (Contains-append_left (map key before) (key y ∷ []) k found),
         )
     one_grows x before after (keeps none is) = subst (Grows before) (sym is) (omega arith, λ k found. found)
 
@@ -113,26 +101,21 @@ module _ {X Y : Type 0} (Gives : X → Y → Type 0) (key : Y → ℕ) (most : �
     one_there : (x : X) (y : Y) (before after : List Y) → length before < most → Adds Gives key most x before after → Gives x y
         → Contains (map key after) (key y)
     one_there x y before after room (adds z short also new is) gives =
-        let same_key : key z ≡ key y = ap key (same x z y also gives) in
-        subst (λ (ys : List Y). Contains (map key ys) (key y)) (sym is)
-        (subst (λ (ks : List ℕ). Contains ks (key y)) (sym (keys_more before z))
-        (subst (λ (k : ℕ). Contains (map key before ++ k ∷ []) (key y)) (sym same_key) (Contains-push (map key before) (key y))))
-    one_there x y before after room (keeps none is) gives = subst (λ (ys : List Y). Contains (map key ys) (key y)) (sym is) (none y room gives)
+        let same_key = ap key (same x z y also gives) in
+        rw (is, keys_more before z, same_key) (Contains-push (map key before) (key y))
+    one_there x y before after room (keeps none is) gives = rw is (none y room gives)
 
     -- where fewer than `most` are taken, the key of all that an item gives is there
     pub takes_all : (before : List Y) (items : List X) (taken : List Y) → TakesAfter Gives key most before items taken → length taken < most
         → (x : X) (y : Y) → Contains items x → Gives x y → Contains (map key taken) (key y)
-    takes_all before [] taken is room x y there gives = absurd (none_in x there)
-    takes_all before (z ∷ items) taken is room x y there gives =
+    takes_all before [] taken is room x y (k, below, at) gives = absurd (omega arith)
+    takes_all before (z ∷ items) taken is room x y (zero, below, at) gives =
         let first = grows before (z ∷ items) taken is in
         let rest = grows is.0 items taken is.2 in
         let fewer = first.0 in
-        ⊎_elim
-        (λ here.
-        let is_z : z ≡ x = head_in z x here in
-        rest.1 (key y) (one_there z y before is.0 (omega (arith, room, fewer)) is.1 (subst (λ (w : X). Gives w y) (sym is_z) gives)))
-        (λ later. takes_all is.0 items taken is.2 room x y later gives)
-        (Contains-append_cases (z ∷ []) items x there)
+        rest.1 (key y) (one_there z y before is.0 (omega (arith, room, fewer)) is.1 (rw at gives))
+    takes_all before (z ∷ items) taken is room x y (suc k, below, at) gives =
+        takes_all is.0 items taken is.2 room x y (k, omega arith, at) gives
 
   -- ---- there is such a list
 

@@ -1,17 +1,15 @@
 -- Flags of the numbers in a list, and lists without repetition.
-use Rattle.std.proofs.Common.{◌≡◌, ◌≢◌, ◌⊎◌, ℕ, zero, suc, ◌<◌, List, [], ◌∷◌, ◌++◌, length, take, get_or, replicate, Bool, true, false, Contains, sym, ap, subst, ◌∙◌, arith, inl, inr, ⊎_elim}
+use Rattle.std.proofs.Common.{◌≡◌, ◌≢◌, ◌⊎◌, ℕ, ◌<◌, List, [], ◌∷◌, ◌++◌, length, take, get_or, replicate, Bool, true, false, Contains, sym, ◌∙◌, arith, ⊎_elim, nat_eq}
 use Rattle.std.specs.Prelude.{slice_set}
-use Rattle.std.proofs.lemmas.Bool.{cases_lt, false≢true}
+use Rattle.std.proofs.lemmas.Bool.{cases_eq, false≢true}
+use Rattle.std.proofs.lemmas.Bool.Decides.{Decides-eqb}
 use Rattle.std.proofs.lemmas.List.{get_or_default, get_or-replicate, get_or-set_other, get_or-set_same, get_or-take, length-replicate, length-set, length-take-le}
 use Rattle.std.proofs.lemmas.List.Elements.{Contains-append_left, Contains-push, Contains-push_cases}
 use Rattle.std.proofs.lemmas.List.Quantifiers.{all_pairs_push}
+use Rattle.std.proofs.lemmas.Map.Made.{is_member-Decides}
 use Rattle.wal_code.specs.Codeword.{Distinct}
 use Rattle.wal_evidence.specs.inside.Marks.{Marks, most_shards}
-
--- two numbers are equal or not
-same_number : (i j : ℕ) → (i ≡ j) ⊎ (i ≢ j)
-same_number i j =
-    ⊎_elim (λ below. inr (omega arith)) (λ least. ⊎_elim (λ above. inr (omega arith)) (λ most. inl (omega arith)) (cases_lt j i)) (cases_lt i j)
+use Rattle.wal_evidence.proofs.SameOrNot.{decided}
 
 -- no number is marked
 pub marks_none : Marks (replicate most_shards false) []
@@ -32,16 +30,13 @@ marks_more flags numbers x small marks =
     record {
       long = length-set flags x true ∙ long;
       up = λ i l. ⊎_elim
-          (λ same.
-          let at : get_or (slice_set flags x true) i false ≡ true =
-          ap (λ (j : ℕ). get_or (slice_set flags x true) j false) same ∙ get_or-set_same flags x true false (omega arith) in
-          ((λ up. subst (Contains (numbers ++ x ∷ [])) (sym same) (Contains-push numbers x)), (λ found. at)))
+          (λ same. rw same (λ up. Contains-push numbers x, λ found. get_or-set_same flags x true false (omega arith)))
           (λ other.
           let at = get_or-set_other flags x i true false other in (
             (λ up. Contains-append_left numbers (x ∷ []) i ((marks.up i l).0 (sym at ∙ up))),
             (λ found. at ∙ (marks.up i l).1 (⊎_elim (λ before. before) (λ last. absurd (other (sym last))) (Contains-push_cases numbers x i found))),
           ))
-          (same_number i x);
+          (cases_eq i x);
     }
 
 -- one more number, which is new
@@ -58,18 +53,5 @@ repeated numbers i x l is found distinct =
     (sym (get_or-take i numbers found.0 x (omega (arith, below, long))) ∙ found.2 ∙ sym is ∙ get_or_default numbers i 0 x l)
 
 -- a number stands in a list or not
-new_behind : (y : ℕ) (ys : List ℕ) (x : ℕ) → y ≢ x → (Contains ys x → ⊥) → (k : ℕ) → k < length (y ∷ ys) → get_or (y ∷ ys) k x ≡ x → ⊥
-new_behind y ys x other none zero l e = other e
-new_behind y ys x other none (suc k) l e = none (k, omega arith, e)
-
 pub known_or_new : (xs : List ℕ) (x : ℕ) → Contains xs x ⊎ (Contains xs x → ⊥)
-known_or_new [] x = inr (λ found. let l = found.1 in absurd (omega arith))
-known_or_new (y ∷ ys) x =
-    let behind : y ≢ x → Contains (y ∷ ys) x ⊎ (Contains (y ∷ ys) x → ⊥) = λ other.
-    ⊎_elim
-    (λ found. let l = found.1 in inl (suc found.0, omega arith, found.2))
-    (λ none. inr (λ found. new_behind y ys x other none found.0 found.1 found.2))
-    (known_or_new ys x) in
-    ⊎_elim (λ below. behind (omega arith))
-    (λ least. ⊎_elim (λ above. behind (omega arith)) (λ most. inl (0, omega arith, omega arith)) (cases_lt x y))
-    (cases_lt y x)
+known_or_new xs x = decided _ (is_member-Decides {eq = nat_eq} Decides-eqb xs x)

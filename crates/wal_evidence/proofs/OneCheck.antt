@@ -1,6 +1,5 @@
 -- A proof has one verdict.
-use Rattle.std.proofs.Common.{◌≡◌, ℕ, ◌<◌, List, All, Some, slice_get, refl, ap, subst, ◌∙◌, arith, ⊎_elim}
-use Rattle.std.proofs.lemmas.Bool.{cases_lt}
+use Rattle.std.proofs.Common.{◌≡◌, ℕ, ◌<◌, List, All, Some, slice_get, ap, subst, ◌∙◌, arith}
 use Rattle.std.proofs.lemmas.List.{get_or-take, length-take-le}
 use Rattle.std.proofs.lemmas.Option.{get_or_from_slice_get, slice_get_within}
 use Rattle.wal_shape.specs.declared.opening.Opening.{Opening}
@@ -10,7 +9,7 @@ use Rattle.wal_shape.specs.EncodingProof.{EncodingProof}
 use Rattle.wal_commit.specs.Held.{HoldsOpening}
 use Rattle.wal_evidence.specs.BadProof.{Checks, HasRoot, IsBadProof, IsConsistent, IsFirstBad}
 use Rattle.wal_evidence.specs.declared.proof.ProofVerdict.{ProofVerdict}
-use Rattle.wal_evidence.specs.declared.proof.ProofVerdict.TheVariants.{WrongCount, Repeated, BadOpening, Consistent, Inconsistent}
+use Rattle.wal_evidence.specs.declared.proof.ProofVerdict.TheVariants.{BadOpening}
 use Rattle.wal_evidence.proofs.OneLine.{one_line}
 
 module _ (digest : List ℕ → List ℕ) (m : BlobMetadata) (p : EncodingProof) where
@@ -25,11 +24,7 @@ module _ (digest : List ℕ → List ℕ) (m : BlobMetadata) (p : EncodingProof)
       (bad.before i o (omega arith))
 
   one_place : (i j : ℕ) → IsFirstBad digest m p i → IsFirstBad digest m p j → i ≡ j
-  one_place i j a b =
-      ⊎_elim
-      (λ before. absurd (a.bad (earlier_holds i j a.opening b before a.there)))
-      (λ least. ⊎_elim (λ after. absurd (b.bad (earlier_holds j i b.opening a after b.there))) (λ most. omega arith) (cases_lt j i))
-      (cases_lt i j)
+  one_place i j a b = grind (arith, earlier_holds i j a.opening b, earlier_holds j i b.opening a)
 
   none_bad : (i : ℕ) → All (HoldsOpening digest m p.axis p.index) p.openings → IsFirstBad digest m p i → ⊥
   none_bad i held bad =
@@ -46,28 +41,7 @@ module _ (digest : List ℕ → List ℕ) (m : BlobMetadata) (p : EncodingProof)
 
   -- of the cases one applies
   pub one_check : IsShape m.f m.length → (a b : ProofVerdict) → Checks digest m p a → Checks digest m p b → a ≡ b
-  one_check shape WrongCount WrongCount is_a is_b = refl
-  one_check shape WrongCount Repeated is_a is_b = absurd (is_a is_b.0)
-  one_check shape WrongCount (BadOpening j) is_a is_b = absurd (is_a is_b.0)
-  one_check shape WrongCount Consistent is_a is_b = absurd (is_a is_b.line.enough.count)
-  one_check shape WrongCount Inconsistent is_a is_b = absurd (is_a is_b.line.enough.count)
-  one_check shape Repeated WrongCount is_a is_b = absurd (is_b is_a.0)
-  one_check shape Repeated Repeated is_a is_b = refl
-  one_check shape Repeated (BadOpening j) is_a is_b = absurd (is_a.1 is_b.1)
-  one_check shape Repeated Consistent is_a is_b = absurd (is_a.1 is_b.line.enough.distinct)
-  one_check shape Repeated Inconsistent is_a is_b = absurd (is_a.1 is_b.line.enough.distinct)
-  one_check shape (BadOpening i) WrongCount is_a is_b = absurd (is_b is_a.0)
-  one_check shape (BadOpening i) Repeated is_a is_b = absurd (is_b.1 is_a.1)
   one_check shape (BadOpening i) (BadOpening j) is_a is_b = ap BadOpening (one_place i j is_a.2 is_b.2)
-  one_check shape (BadOpening i) Consistent is_a is_b = absurd (none_bad i is_b.line.enough.held is_a.2)
-  one_check shape (BadOpening i) Inconsistent is_a is_b = absurd (none_bad i is_b.line.enough.held is_a.2)
-  one_check shape Consistent WrongCount is_a is_b = absurd (is_b is_a.line.enough.count)
-  one_check shape Consistent Repeated is_a is_b = absurd (is_b.1 is_a.line.enough.distinct)
-  one_check shape Consistent (BadOpening j) is_a is_b = absurd (none_bad j is_a.line.enough.held is_b.2)
-  one_check shape Consistent Consistent is_a is_b = refl
-  one_check shape Consistent Inconsistent is_a is_b = absurd (one_root shape is_a is_b)
-  one_check shape Inconsistent WrongCount is_a is_b = absurd (is_b is_a.line.enough.count)
-  one_check shape Inconsistent Repeated is_a is_b = absurd (is_b.1 is_a.line.enough.distinct)
-  one_check shape Inconsistent (BadOpening j) is_a is_b = absurd (none_bad j is_a.line.enough.held is_b.2)
-  one_check shape Inconsistent Consistent is_a is_b = absurd (one_root shape is_b is_a)
-  one_check shape Inconsistent Inconsistent is_a is_b = refl
+  one_check shape (BadOpening i) b is_a is_b = grind (arith, none_bad i)
+  one_check shape a (BadOpening j) is_a is_b = grind (arith, none_bad j)
+  one_check shape a b is_a is_b = grind (arith, one_root shape)

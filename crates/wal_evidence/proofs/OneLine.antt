@@ -1,5 +1,5 @@
 -- Openings that hold, of distinct crosses and as many as a sliver has symbols, lie on one codeword.
-use Rattle.std.proofs.Common.{◌≡◌, ℕ, ◌*◌, ◌<◌, List, [], ◌∷◌, ◌++◌, length, get_or, slice_index, All, sym, ap, subst, ◌∙◌, arith}
+use Rattle.std.proofs.Common.{◌≡◌, ℕ, ◌*◌, ◌<◌, List, [], ◌∷◌, length, get_or, slice_index, All, sym, ap, subst, ◌∙◌, arith}
 use Rattle.std.proofs.lemmas.List.{get_or-map, length-map}
 use Rattle.std.proofs.lemmas.List.Concat.{flat_map-cons}
 use Rattle.std.proofs.lemmas.List.Elements.{All-head, All-tail}
@@ -21,9 +21,6 @@ use Rattle.wal_evidence.specs.BadProof.{AreEnough, IsLineThrough, ShowLine, cros
 abbrev pub no_opening : Opening
 no_opening = record { cross = 0; symbol = []; path = [] }
 
-symbols_behind : (o : Opening) (openings : List Opening) → symbols_of (o ∷ openings) ≡ o.symbol ++ symbols_of openings
-symbols_behind o openings = flat_map-cons (λ (x : Opening). x.symbol) o openings
-
 -- symbols of s bytes have s bytes each
 pub symbols_long : (s : ℕ) (openings : List Opening) → All (λ o. length o.symbol ≡ s) openings → length (symbols_of openings) ≡ length openings * s
 symbols_long s openings sizes = pieces_long (λ (o : Opening). o.symbol) s openings sizes
@@ -37,7 +34,7 @@ symbol_at s openings k d sizes l = piece_at (λ (o : Opening). o.symbol) s openi
 pub symbols_bytes : (openings : List Opening) → All (λ o. AreBytes o.symbol) openings → AreBytes (symbols_of openings)
 symbols_bytes [] each i = omega arith
 symbols_bytes (o ∷ openings) each i =
-    subst AreBytes (sym (symbols_behind o openings))
+    subst AreBytes (sym (flat_map-cons (λ (x : Opening). x.symbol) o openings))
     (bytes_joined o.symbol (symbols_of openings) (All-head (λ (x : Opening). AreBytes x.symbol) o openings each)
     (λ j. symbols_bytes openings (All-tail (λ (x : Opening). AreBytes x.symbol) o openings each) j)) i
 
@@ -60,9 +57,8 @@ module _ (digest : List ℕ → List ℕ) (m : BlobMetadata) (axis : Axis) (inde
   line_symbol word through k d l =
       let s = symbol_size m.f m.length in
       let known : slice_index (crosses_of openings) k ≡ (get_or openings k d).cross = get_or-map (λ (o : Opening). o.cross) openings k d 0 l in
-      ap (λ (i : ℕ). region s word i) (sym known)
-      ∙ through.through k (omega (arith, l, length-map openings (λ (o : Opening). o.cross)))
-      ∙ symbol_at s openings k d symbol_sizes l
+      let at = through.through k (omega (arith, l, length-map openings (λ (o : Opening). o.cross))) in
+      cc (known, at, symbol_at s openings k d symbol_sizes l)
 
   -- there is one codeword through them
   pub one_line : IsShape m.f m.length → (a b : List ℕ) → IsLineThrough m axis openings a → IsLineThrough m axis openings b → a ≡ b
@@ -89,11 +85,4 @@ module _ (digest : List ℕ → List ℕ) (m : BlobMetadata) (axis : Axis) (inde
       → known ≡ crosses_of openings → loaded ≡ symbols_of openings → IsWordThrough along shape.f (symbol_size shape.f shape.length) known loaded word
       → ShowLine digest m axis index openings word
   line_shown shape along known loaded word shape_is along_is known_is loaded_is is_word =
-      let T : BlobShape → Axis → List ℕ → List ℕ → Type 0 = λ s a is js. IsWordThrough a s.f (symbol_size s.f s.length) is js word in
-      let own : BlobShape = record { format = m.format; f = m.f; length = m.length } in
-      let there : IsLineThrough m axis openings word =
-      subst (T own axis (crosses_of openings)) loaded_is
-      (subst (λ (is : List ℕ). T own axis is loaded) known_is
-      (subst (λ (a : Axis). T own a known loaded) along_is
-      (subst (λ (s : BlobShape). T s along known loaded) shape_is is_word))) in
-      record { enough = are; through = there }
+      record { enough = are; through = rw (shape_is, along_is, known_is, loaded_is) at is_word }

@@ -1,5 +1,5 @@
 -- Pieces of one length that things have, one after the other.
-use Rattle.std.proofs.Common.{◌≡◌, ℕ, zero, suc, ◌+◌, ◌*◌, ◌<◌, List, [], ◌∷◌, ◌++◌, length, take, drop, get_or, All, sym, ap, ◌∙◌, arith, length-append}
+use Rattle.std.proofs.Common.{◌≡◌, ℕ, zero, suc, ◌+◌, ◌*◌, ◌<◌, List, [], ◌∷◌, length, get_or, All, ap, ◌∙◌, arith, length-append}
 use Rattle.std.specs.List.{flat_map}
 use Rattle.std.proofs.Math.Seq.{take-append_seam}
 use Rattle.std.proofs.lemmas.List.Concat.{flat_map-cons}
@@ -23,13 +23,10 @@ module _ {Y : Type 0} (piece : Y → List ℕ) where
   piece_at s (y ∷ ys) zero d sizes l =
       let first = All-head (λ (x : Y). length (piece x) ≡ s) y ys sizes in
       let none : s * 0 ≡ 0 = omega arith in
-      ap (λ (xs : List ℕ). region s xs 0) (flat_map-cons piece y ys)
-      ∙ ap (λ (k : ℕ). take s (drop k (piece y ++ flat_map piece ys))) none
-      ∙ ap (λ (n : ℕ). take n (piece y ++ flat_map piece ys)) (sym first) ∙ take-append_seam (piece y) (flat_map piece ys)
+      rw (flat_map-cons piece y ys, none, ← first) (take-append_seam (piece y) (flat_map piece ys))
   piece_at s (y ∷ ys) (suc k) d sizes l =
       let first = All-head (λ (x : Y). length (piece x) ≡ s) y ys sizes in
       let next : suc k ≡ 1 + k = omega arith in
-      ap (λ (xs : List ℕ). region s xs (suc k)) (flat_map-cons piece y ys)
-      ∙ ap (λ (j : ℕ). region s (piece y ++ flat_map piece ys) j) next
-      ∙ region_after s k 1 (piece y) (flat_map piece ys) (omega (arith, first))
-      ∙ piece_at s ys k d (All-tail (λ (x : Y). length (piece x) ≡ s) y ys sizes) (omega arith)
+      let after = region_after s k 1 (piece y) (flat_map piece ys) (omega (arith, first)) in
+      let rest = piece_at s ys k d (All-tail (λ (x : Y). length (piece x) ≡ s) y ys sizes) (omega arith) in
+      cc (flat_map-cons piece y ys, next, after, rest)

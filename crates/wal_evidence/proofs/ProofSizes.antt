@@ -5,7 +5,6 @@ use Rattle.std.proofs.lemmas.List.{length-append}
 use Rattle.std.proofs.lemmas.List.Concat.{flat_map-cons}
 use Rattle.std.proofs.lemmas.List.Elements.{All-head, All-tail}
 use Rattle.wal_shape.specs.declared.axis.Axis.{Axis}
-use Rattle.wal_shape.specs.declared.axis.Axis.TheVariants.{Primary, Secondary}
 use Rattle.wal_shape.specs.declared.opening.Opening.{Opening}
 use Rattle.wal_shape.specs.Shape.{column_count, sliver_symbols, symbol_size}
 use Rattle.wal_shape.specs.Metadata.{BlobMetadata}
@@ -25,18 +24,15 @@ length-proof_text q = omega arith
 bodies_most : (s : ℕ) (openings : List Opening) → AllByRecursion IsBody openings → All (has_size s) openings → length (flat_map body_text openings) ≤ length openings * (s + 327)
 bodies_most s [] fit sized = omega arith
 bodies_most s (o ∷ os) fit sized =
-    let first = length-body_text o in
     let size : length o.symbol ≡ s = All-head (has_size s) o os sized in
     let rest = bodies_most s os fit.1 (All-tail (has_size s) o os sized) in
-    let path : length o.path ≤ 320 = fit.0.path in
     let whole : length (flat_map body_text (o ∷ os)) ≡ length (body_text o) + length (flat_map body_text os) =
     ap length (flat_map-cons body_text o os) ∙ length-append (body_text o) (flat_map body_text os) in
-    omega (arith, first, size, rest, path, whole)
+    omega (arith, length-body_text o, size, rest, fit.0.path, whole)
 
 -- a sliver has no more symbols than a primary one
 pub narrow : (axis : Axis) (f : ℕ) → sliver_symbols axis f ≤ column_count f
-narrow Primary f = omega arith
-narrow Secondary f = omega arith
+narrow axis f = grind arith
 
 -- a bad proof has an opening for each symbol of a sliver, each of a symbol and a path
 pub bad_proof_long : (digest : List ℕ → List ℕ) (m : BlobMetadata) (q : EncodingProof) → IsBadProof digest m q → IsProof q

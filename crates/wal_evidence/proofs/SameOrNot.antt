@@ -6,13 +6,14 @@ use Rattle.std.proofs.lemmas.Slice.Eq.{bytes_eq-Decides}
 use Rattle.wal_tree.specs.Collision.{IsCollision}
 use Rattle.wal_commit.proofs.OneDigest.{IsDigest, IsOneToOne}
 
-decided : (r : Bool) (xs ys : List ℕ) → Decides r (xs ≡ ys) → (xs ≡ ys) ⊎ (xs ≢ ys)
-decided true xs ys d = inl (d.0 refl)
-decided false xs ys d = inr (λ e. false≢true (d.1 e))
+-- what a test decides is so or not
+pub decided : {P : Type 0} (r : Bool) → Decides r P → P ⊎ (P → ⊥)
+decided true d = inl (d.0 refl)
+decided false d = inr (λ p. false≢true (d.1 p))
 
 -- two lists are equal or not
 pub same_or_not : (xs ys : List ℕ) → (xs ≡ ys) ⊎ (xs ≢ ys)
-same_or_not xs ys = decided (bytes_eq xs ys) xs ys (bytes_eq-Decides xs ys)
+same_or_not xs ys = decided (bytes_eq xs ys) (bytes_eq-Decides xs ys)
 
 -- one of two things at each place: the first at all, or the second at some
 pub all_or_some : (P Q : ℕ → Type 0) (n : ℕ) → ((k : ℕ) → k < n → P k ⊎ Q k) → ((k : ℕ) → k < n → P k) ⊎ ((k : ℕ) × (k < n) × Q k)

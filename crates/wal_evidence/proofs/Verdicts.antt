@@ -1,7 +1,7 @@
 -- The verdict on held slivers is that on the blob that is decoded from them, and there is one.
-use Rattle.std.proofs.Common.{◌≡◌, ℕ, ◌-◌, ◌*◌, ◌<◌, ◌≤◌, List, length, take, replicate, Result, Ok, Err, IfOk, slice_index, refl, sym, ap, subst, ◌∙◌, arith, All}
-use Rattle.std.proofs.lemmas.List.{get_or_default, length-take-le}
-use Rattle.wal_shape.specs.Shape.{BlobShape, IsShape, shard_count, row_count, column_count, symbol_size}
+use Rattle.std.proofs.Common.{◌≡◌, ℕ, ◌-◌, ◌*◌, ◌<◌, List, length, take, replicate, slice_index, refl, sym, ap, subst, ◌∙◌, arith}
+use Rattle.std.proofs.lemmas.List.{length-take-le}
+use Rattle.wal_shape.specs.Shape.{BlobShape, IsShape, row_count, column_count, symbol_size}
 use Rattle.wal_shape.proofs.ShapeLaws.{symbol_size-least}
 use Rattle.wal_shape.specs.Metadata.{BlobMetadata, IsMetadata}
 use Rattle.std.proofs.Math.Seq.{take-append_seam}
@@ -14,8 +14,8 @@ use Rattle.wal_commit.specs.Identifier.{IsIdentifierOf, identifier_of, metadata_
 use Rattle.wal_evidence.specs.declared.evidence.Basis.{Basis}
 use Rattle.wal_evidence.specs.declared.evidence.Basis.TheVariants.{Slivers, Proof}
 use Rattle.wal_evidence.specs.declared.evidence.Verdict.{Verdict}
-use Rattle.wal_evidence.specs.declared.evidence.Verdict.TheVariants.{Bytes, Reject}
-use Rattle.wal_evidence.specs.Evidence.{AreHeld, IsVerdictOn, Judges, IsJudgedBy, sliver_bytes}
+use Rattle.wal_evidence.specs.declared.evidence.Verdict.TheVariants.{Bytes}
+use Rattle.wal_evidence.specs.Evidence.{IsVerdictOn, Judges, IsJudgedBy, sliver_bytes}
 
 -- the shape of a metadata's blob
 abbrev pub shape_of : BlobMetadata → BlobShape
@@ -31,31 +31,10 @@ abbrev pub IsOnlySource : BlobShape → List ℕ → List ℕ → List ℕ → T
 IsOnlySource shape indices joined block = (e : List ℕ) → IsMatrixThrough shape.f (symbol_size shape.f shape.length) indices joined e
     → source_of shape.f (symbol_size shape.f shape.length) e ≡ block
 
--- the indices of held slivers are those of shards
-pub indices_below : (digest : List ℕ → List ℕ) (m : BlobMetadata) (shape : BlobShape) (indices joined : List ℕ) → shape ≡ shape_of m
-    → AreHeld digest m indices joined → All (λ i. i < shard_count shape.f) indices
-indices_below digest m shape indices joined is held k d l =
-    let within = (held.held k l).within in
-    let f_is : shape.f ≡ m.f = ap (λ s. s.f) is in
-    let same = get_or_default indices k d 0 l in
-    omega (arith, within, f_is, same)
-
-pub verdict_on_decoded : (digest : List ℕ → List ℕ) (m : BlobMetadata) (shape : BlobShape) (indices joined block blob : List ℕ) (verdict : Verdict)
-    → shape ≡ shape_of m → IsDecoded shape indices joined block → blob ≡ take shape.length block
-    → IsVerdictOn digest m blob verdict → Judges digest m indices joined verdict
-verdict_on_decoded digest m shape indices joined block blob verdict is decoded cut judged =
-    let found : IsDecoded (shape_of m) indices joined block = subst (λ (s : BlobShape). IsDecoded s indices joined block) is decoded in
-    let blob_is : blob ≡ take m.length (source_of m.f (symbol_size m.f m.length) found.0) =
-    cut ∙ ap (λ (s : BlobShape). take s.length block) is ∙ ap (λ (b : List ℕ). take m.length b) found.2 in
-    (found.0, found.1, subst (λ (b : List ℕ). IsVerdictOn digest m b verdict) blob_is judged)
-
 -- one blob has one verdict
 pub one_verdict : (digest : List ℕ → List ℕ) (m : BlobMetadata) (blob : List ℕ) (a b : Verdict)
     → IsVerdictOn digest m blob a → IsVerdictOn digest m blob b → a ≡ b
-one_verdict digest m blob (Bytes x) (Bytes y) is_a is_b = ap Bytes (is_a.0 ∙ sym is_b.0)
-one_verdict digest m blob (Bytes x) Reject is_a is_b = absurd (is_b is_a.1)
-one_verdict digest m blob Reject (Bytes y) is_a is_b = absurd (is_a is_b.1)
-one_verdict digest m blob Reject Reject is_a is_b = refl
+one_verdict digest m blob a b is_a is_b = grind arith
 
 pub only_verdict : (digest : List ℕ → List ℕ) (m : BlobMetadata) (shape : BlobShape) (indices joined block blob : List ℕ) (verdict other : Verdict)
     → shape ≡ shape_of m → IsOnlySource shape indices joined block → blob ≡ take shape.length block
@@ -73,23 +52,15 @@ blob_long m shape indices joined block blob is decoded cut =
     let found : IsDecoded (shape_of m) indices joined block = subst (λ (s : BlobShape). IsDecoded s indices joined block) is decoded in
     let s = symbol_size m.f m.length in
     let long : length block ≡ row_count m.f * (column_count m.f * s) = ap length found.2 ∙ source_long m.f s found.0 found.1.coded.size in
-    let least = symbol_size-least m.f m.length in
-    let room : m.length ≤ row_count m.f * column_count m.f * s = least.room in
-    ap length cut ∙ ap (λ (t : BlobShape). length (take t.length block)) is ∙ length-take-le m.length block (omega (arith, long, room))
+    ap length cut ∙ ap (λ (t : BlobShape). length (take t.length block)) is
+    ∙ length-take-le m.length block (omega (arith, long, (symbol_size-least m.f m.length).room))
 
 -- the identifier of a blob is the only one
 pub other_identifier : (digest : List ℕ → List ℕ) (m : BlobMetadata) (shape : BlobShape) (blob bytes id : List ℕ) → shape ≡ shape_of m → bytes ≡ blob
     → ((other : List ℕ) → IsIdentifierOf digest shape.format shape.f bytes other → other ≡ id)
     → IsIdentifierOf digest m.format m.f blob (identifier_of digest m) → id ≡ identifier_of digest m
 other_identifier digest m shape blob bytes id is same only =
-    let P : BlobShape → List ℕ → Type 0 = λ s b. (other : List ℕ) → IsIdentifierOf digest s.format s.f b other → other ≡ id in
-    let one : P (shape_of m) blob = subst (λ (s : BlobShape). P s blob) is (subst (λ (b : List ℕ). P shape b) same only) in
-    λ found. sym (one (identifier_of digest m) found)
-
--- what holds of a result also holds in other words
-pub weaken : {A E : Type 0} (P Q : A → Type 0) (r : Result A E) → ((x : A) → P x → Q x) → IfOk r P → IfOk r Q
-weaken P Q (Ok x) f p = f x p
-weaken P Q (Err e) f p = tt
+    λ found. sym (only (identifier_of digest m) (rw (is, same) found))
 
 -- the slivers are those of the extended matrix of a blob that m commits
 abbrev pub AreTrue : (List ℕ → List ℕ) → BlobMetadata → Basis → List ℕ → Type 0
@@ -106,16 +77,15 @@ unfolding metadata_over padded
 true_verdict digest m (Slivers indices joined) blob fit is =
     let e = is.0 in
     let length_is : m.length ≡ length blob = ap (λ (x : BlobMetadata). x.length) is.2 in
-    let Begins : ℕ → Type 0 = λ n. (k : ℕ) → k < length indices
-    → primary_of m.f (symbol_size m.f n) e (slice_index indices k) ≡ region (column_count m.f * symbol_size m.f n) joined k in
-    let Through : ℕ → Type 0 = λ n. IsMatrixThrough m.f (symbol_size m.f n) indices joined e in
-    let Cut : ℕ → Type 0 = λ n. take n (source_of m.f (symbol_size m.f n) e) ≡ blob in
-    let through = extended_is_through m.f blob indices joined e is.1 (subst Begins length_is is.3) in
-    let cut : Cut (length blob) = ap (λ (b : List ℕ). take (length blob) b) (source_of_extended m.f blob e is.1)
+    let through = extended_is_through m.f blob indices joined e is.1 (rw length_is at is.3) in
+    let shape = subst (IsShape m.f) length_is fit.shape in
+    let cut : take (length blob) (source_of m.f (symbol_size m.f (length blob)) e) ≡ blob =
+    ap (λ (b : List ℕ). take (length blob) b) (source_of_extended m.f blob e is.1)
     ∙ take-append_seam blob (replicate (row_count m.f * column_count m.f * symbol_size m.f (length blob) - length blob) 0) in (
       e,
-      subst Through (sym length_is) through,
-      subst (λ (b : List ℕ). IsVerdictOn digest m b (Bytes blob)) (sym (subst Cut (sym length_is) cut)) (refl, (m, (e, is.1, is.2, subst (IsShape m.f) length_is fit.shape), record { fit = fit; identifier = refl })),
+      rw length_is through,
+      subst (λ (b : List ℕ). IsVerdictOn digest m b (Bytes blob)) (sym (rw length_is cut))
+          (refl, (m, (e, is.1, is.2, shape), record { fit = fit; identifier = refl })),
     )
 true_verdict digest m (Proof p) blob fit is = absurd is
 

@@ -1,12 +1,12 @@
 -- The openings of a sliver are those of the claims whose target it is.
-use Rattle.std.proofs.Common.{◌≡◌, ℕ, Bool, true, false, ◌&&◌, nat_eq, List, [], ◌∷◌, ◌++◌, Result, Ok, Err, if◌then◌else◌, refl, ap, ap₂, ◌∙◌}
+use Rattle.std.proofs.Common.{◌≡◌, ℕ, Bool, true, false, ◌&&◌, nat_eq, List, [], ◌∷◌, ◌++◌, Result, Ok, if◌then◌else◌, refl, ap₂, ◌∙◌}
 use Rattle.std.specs.List.{flat_map}
 use Rattle.std.specs.Cmp.Lexicographic.{pointwise}
 use Rattle.std.proofs.lemmas.List.{append-nil}
 use Rattle.std.proofs.lemmas.List.Concat.{flat_map-append}
 use Rattle.wal_shape.specs.declared.axis.Axis.{Axis}
 use Rattle.wal_shape.specs.declared.claim.Claim.{Claim}
-use Rattle.wal_frame.specs.Frame.{Frame, Metadata, Sliver, Opening, Proof, Read, Symbol, Ack, Attest, Forget, Answer, Clash, RegisterEntry, AckEntry, AttestEntry}
+use Rattle.wal_frame.specs.Frame.{Frame, Opening}
 use Rattle.wal_frame.specs.Reading.{read_of}
 use Rattle.wal_frame.specs.declared.frame.FrameError.{FrameError}
 use Rattle.wal_reader.specs.Carried.{claim_for, claims_in, opening_at, opening_for, openings_in, same_axis}
@@ -21,21 +21,8 @@ chosen axis index false c = refl
 -- the same of a frame
 frame_claim : (id : List ℕ) (axis : Axis) (index : ℕ) (read : Result Frame FrameError)
     → flat_map (opening_at axis index) (claim_for id read) ≡ opening_for id axis index read
-frame_claim id axis index (Ok (Metadata x0)) = refl
-frame_claim id axis index (Ok (Sliver x0 x1 x2 x3)) = refl
 frame_claim id axis index (Ok (Opening i a k o)) = chosen axis index (pointwise nat_eq i id) (record { axis = a; index = k; opening = o })
-frame_claim id axis index (Ok (Proof x0 x1)) = refl
-frame_claim id axis index (Ok (Read x0)) = refl
-frame_claim id axis index (Ok (Symbol x0 x1 x2)) = refl
-frame_claim id axis index (Ok (Ack x0)) = refl
-frame_claim id axis index (Ok (Attest x0)) = refl
-frame_claim id axis index (Ok (Forget x0)) = refl
-frame_claim id axis index (Ok (Answer x0 x1 x2)) = refl
-frame_claim id axis index (Ok (Clash x0 x1)) = refl
-frame_claim id axis index (Ok (RegisterEntry x0 x1)) = refl
-frame_claim id axis index (Ok (AckEntry x0 x1)) = refl
-frame_claim id axis index (Ok (AttestEntry x0 x1)) = refl
-frame_claim id axis index (Err e) = refl
+frame_claim id axis index read = refl
 
 pub claims_openings : (id : List ℕ) (axis : Axis) (index : ℕ) (payloads : List (List ℕ))
     → flat_map (opening_at axis index) (claims_in id payloads) ≡ openings_in id axis index payloads

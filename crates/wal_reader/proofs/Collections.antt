@@ -1,6 +1,5 @@
 -- The held slivers that are collected from payloads, one by one.
-use Rattle.std.proofs.Common.{◌≡◌, ℕ, ◌*◌, ◌<◌, ◌≤◌, List, [], ◌∷◌, ◌++◌, length, map, get_or, slice_index, refl, sym, ap, subst, ◌∙◌, arith, ⊎_elim, All, Contains, Result, Ok}
-use Rattle.std.specs.List.{flat_map}
+use Rattle.std.proofs.Common.{◌≡◌, ℕ, ◌*◌, ◌<◌, ◌≤◌, List, [], ◌∷◌, ◌++◌, length, map, get_or, slice_index, refl, sym, ap, subst, ◌∙◌, arith, ⊎_elim, All, Contains, Ok}
 use Rattle.std.proofs.lemmas.Grind.{flat_map-append}
 use Rattle.std.proofs.lemmas.List.{append-nil, get_or-map, length-map, map-append}
 use Rattle.wal_code.specs.Codeword.{Distinct}
@@ -8,8 +7,7 @@ use Rattle.wal_kernel.specs.Region.{region}
 use Rattle.wal_shape.specs.declared.axis.Axis.TheVariants.{Primary}
 use Rattle.wal_shape.specs.Shape.{row_count}
 use Rattle.wal_shape.specs.Metadata.{BlobMetadata}
-use Rattle.wal_frame.specs.declared.frame.FrameError.{FrameError}
-use Rattle.wal_frame.specs.Frame.{Frame, Sliver}
+use Rattle.wal_frame.specs.Frame.{Sliver}
 use Rattle.wal_frame.specs.Reading.{read_of}
 use Rattle.wal_commit.specs.Held.{HoldsSliver}
 use Rattle.wal_evidence.specs.Evidence.{AreHeld, sliver_bytes}
@@ -20,17 +18,12 @@ use Rattle.wal_evidence.proofs.Marked.{known_or_new}
 use Rattle.wal_evidence.proofs.Pieces.{piece_at, pieces_long}
 use Rattle.wal_reader.specs.Outcome.{CarriesSliver, Collects, GivesSliver, HasSliver, IndexedSliver, IsMetadataIn}
 
--- a payload gives one sliver
-abbrev sliver_or : IndexedSliver → Result Frame FrameError → IndexedSliver
-sliver_or d (Ok (Sliver id axis index bytes)) = record { index = index; bytes = bytes }
-sliver_or d _ = d
-
 abbrev no_sliver : IndexedSliver
 no_sliver = record { index = 0; bytes = [] }
 
 module _ (digest : List ℕ → List ℕ) (id : List ℕ) (m : BlobMetadata) where
   pub one_given : (payload : List ℕ) (a b : IndexedSliver) → GivesSliver digest id m payload a → GivesSliver digest id m payload b → a ≡ b
-  one_given payload a b is_a is_b = ap (sliver_or a) (sym is_a.0 ∙ is_b.0)
+  one_given payload a b is_a is_b = grind (arith, is_a.0, is_b.0)
 
   -- nothing is collected from no payloads
   pub collects_none : Collects digest id m [] [] []
@@ -49,8 +42,7 @@ module _ (digest : List ℕ → List ℕ) (id : List ℕ) (m : BlobMetadata) whe
         takes_more (GivesSliver digest id m) (λ x. x.index) (row_count m.f) [] payloads slivers (slivers ++ s ∷ []) payload was.1
             (adds s (omega (arith, short, long)) carries fresh refl),
         ks_are ∙ ap (λ (xs : List ℕ). xs ++ index ∷ []) was.2 ∙ sym (map-append (λ (x : IndexedSliver). x.index) slivers (s ∷ [])),
-        ls_are ∙ ap (λ (xs : List ℕ). xs ++ bytes) was.3 ∙ ap (λ (xs : List ℕ). flat_map (λ (x : IndexedSliver). x.bytes) slivers ++ xs) (sym (append-nil bytes))
-            ∙ sym (flat_map-append (λ (x : IndexedSliver). x.bytes) slivers (s ∷ [])),
+        cc (ls_are, was.3, append-nil bytes, flat_map-append (λ (x : IndexedSliver). x.bytes) slivers (s ∷ [])),
       )
 
   -- one more payload whose sliver is known, or that has none
@@ -74,12 +66,9 @@ module _ (digest : List ℕ → List ℕ) (id : List ℕ) (m : BlobMetadata) whe
   collects_unwanted payloads payload is js index bytes read unwanted was =
       collects_passed payloads payload is js
       (λ i b short carries.
-      let other : IndexedSliver = record { index = i; bytes = b } in
-      let here : IndexedSliver = record { index = index; bytes = bytes } in
-      let same : other ≡ here = ap (sliver_or other) (sym carries.0 ∙ read) in
-      let held : HoldsSliver digest m Primary index bytes = subst (λ (s : IndexedSliver). HoldsSliver digest m Primary s.index s.bytes) same carries.1 in
-      subst (λ (s : IndexedSliver). Contains is s.index) (sym same)
-      (⊎_elim (λ known. known) (λ new. absurd (unwanted short new held)) (known_or_new is index)))
+      let same : (i ≡ index) × (b ≡ bytes) = grind (arith, carries.0, read) in
+      let held = rw (same.0, same.1) at carries.1 in
+      rw same.0 (⊎_elim (λ known. known) (λ new. absurd (unwanted short new held)) (known_or_new is index)))
       was
 
   -- where there are enough, more payloads add nothing
@@ -93,10 +82,9 @@ module _ (digest : List ℕ → List ℕ) (id : List ℕ) (m : BlobMetadata) whe
   pub one_collection : (payloads : List (List ℕ)) (is js ks ls : List ℕ) → Collects digest id m payloads is js → Collects digest id m payloads ks ls
       → (is ≡ ks) × (js ≡ ls)
   one_collection payloads is js ks ls a b =
-      let same = one_taken (GivesSliver digest id m) (λ x. x.index) (row_count m.f) one_given [] payloads a.0 b.0 a.1 b.1 in (
-        a.2 ∙ ap (λ (xs : List IndexedSliver). map (λ x. x.index) xs) same ∙ sym b.2,
-        a.3 ∙ ap (λ (xs : List IndexedSliver). flat_map (λ x. x.bytes) xs) same ∙ sym b.3,
-      )
+      let same = one_taken (GivesSliver digest id m) (λ x. x.index) (row_count m.f) one_given [] payloads a.0 b.0 a.1
+      b.1 in
+      grind (arith, same, a.2, a.3, b.2, b.3)
 
   -- ---- what is collected
 
@@ -148,8 +136,7 @@ module _ (digest : List ℕ → List ℕ) (id : List ℕ) (m : BlobMetadata) whe
         let inside : k < length was.0 = omega (arith, l, count) in
         let bytes : region (sliver_bytes m) js k ≡ s.bytes =
         ap (λ (xs : List ℕ). region (sliver_bytes m) xs k) was.3 ∙ piece_at (λ (x : IndexedSliver). x.bytes) (sliver_bytes m) was.0 k no_sliver lengths inside in
-        let H : ℕ → List ℕ → Type 0 = λ i b. HoldsSliver digest m Primary i b in
-        subst (λ (i : ℕ). H i (region (sliver_bytes m) js k)) (sym (at_place k 0 l)) (subst (λ (b : List ℕ). H s.index b) (sym bytes) (holds_at k no_sliver inside))
+        rw (at_place k 0 l, bytes) (holds_at k no_sliver inside)
 
     -- enough of them are evidence
     pub enough_are_held : length is ≡ row_count m.f → AreHeld digest m is js
@@ -159,11 +146,9 @@ module _ (digest : List ℕ → List ℕ) (id : List ℕ) (m : BlobMetadata) whe
     -- where there are too few, each held sliver that a payload carries is among them
     pub collects_all : length is < row_count m.f → (index : ℕ) → HasSliver digest id m payloads index → Contains is index
     collects_all short index has =
-        let below = has.2 in
-        let carries = has.4 in
         subst (λ (xs : List ℕ). Contains xs index) (sym was.2)
         (takes_all (GivesSliver digest id m) (λ x. x.index) (row_count m.f) one_given [] payloads was.0 was.1 (omega (arith, short, count)) has.1
-        (record { index = index; bytes = carries.0 }) (has.0, below, has.3) carries.1)
+        (record { index = index; bytes = has.4.0 }) (has.0, has.2, has.3) has.4.1)
 
   -- in other words
   pub held_as : (payloads : List (List ℕ)) (indices joined : List ℕ) (metadata : BlobMetadata) (is js : List ℕ) → Collects digest id m payloads indices joined
@@ -171,13 +156,10 @@ module _ (digest : List ℕ → List ℕ) (id : List ℕ) (m : BlobMetadata) whe
   held_as payloads indices joined metadata is js collects enough same_m same_is same_js =
       let few = collects_few payloads indices joined collects in
       let held = enough_are_held payloads indices joined collects (omega (arith, few, enough)) in
-      let H : BlobMetadata → List ℕ → List ℕ → Type 0 = λ x y z. AreHeld digest x y z in
-      subst (λ (x : BlobMetadata). H x is js) (sym same_m) (subst (λ (y : List ℕ). H m y js) (sym same_is) (subst (λ (z : List ℕ). H m indices z) (sym same_js) held))
+      rw (same_m, same_is, same_js) held
 
   -- they can be counted
   pub collects_counted : (payloads : List (List ℕ)) (is js : List ℕ) → IsMetadataIn digest id payloads m → Collects digest id m payloads is js → length is ≤ 334
   collects_counted payloads is js one collects =
       let few = collects_few payloads is js collects in
-      let fit = one.0.4.1.fit in
-      let faults = fit.shape.1 in
-      omega (arith, few, faults)
+      omega (arith, few, one.0.4.1.fit.shape.1)

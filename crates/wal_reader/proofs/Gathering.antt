@@ -1,7 +1,7 @@
 -- Payloads one after the other, and the metadata among them.
-use Rattle.std.proofs.Common.{◌≡◌, ◌⊎◌, ℕ, ◌+◌, ◌<◌, ◌≤◌, List, [], ◌∷◌, ◌++◌, length, take, get_or, sym, ap, subst, ◌∙◌, arith, inl, inr, ⊎_elim, length-append, Any, Result, Ok, Err, IfOk}
+use Rattle.std.proofs.Common.{◌≡◌, ◌⊎◌, ℕ, ◌+◌, ◌<◌, List, [], ◌∷◌, ◌++◌, length, take, get_or, sym, ap, subst, ◌∙◌, arith, inl, inr, ⊎_elim, length-append, Any, Result, Ok, Err, IfOk}
 use Rattle.std.proofs.lemmas.Bool.{cases_lt}
-use Rattle.std.proofs.lemmas.List.{get_or_append_left, get_or_push, take_more, take_all}
+use Rattle.std.proofs.lemmas.List.{get_or_append_left, get_or_push, take_more}
 use Rattle.wal_shape.specs.Metadata.{BlobMetadata}
 use Rattle.wal_frame.specs.declared.frame.FrameError.{FrameError}
 use Rattle.wal_frame.specs.Frame.{Frame, Metadata}
@@ -9,15 +9,11 @@ use Rattle.wal_reader.specs.Outcome.{CarriesMetadata, HasMetadata}
 
 -- what holds of some element of a longer list holds of one before, or of the last
 pub any_push_cases : {X : Type 0} (P : X → Type 0) (xs : List X) (y : X) → Any P (xs ++ y ∷ []) → Any P xs ⊎ P y
-any_push_cases P xs y found =
-    let k = found.0 in
-    let x = found.1 in
-    let below = found.2 in
-    let at = found.3 in
+any_push_cases P xs y (k, x, below, at, holds) =
     let long = length-append xs (y ∷ []) in
     ⊎_elim
-    (λ inside. inl (k, x, inside, sym (get_or_append_left xs (y ∷ []) x k inside) ∙ at, found.4))
-    (λ past. let last : length xs ≡ k = omega arith in inr (subst P (sym at ∙ get_or_push xs y x k last) found.4))
+    (λ inside. inl (k, x, inside, sym (get_or_append_left xs (y ∷ []) x k inside) ∙ at, holds))
+    (λ past. let last : length xs ≡ k = omega arith in inr (subst P (sym at ∙ get_or_push xs y x k last) holds))
     (cases_lt k (length xs))
 
 -- one more payload in the front of the list
@@ -36,18 +32,10 @@ only_more digest id P payloads i payload l is before here m has =
     (subst (λ (ps : List (List ℕ)). HasMetadata digest id ps m) (front_more payloads i payload l is) has))
 
 -- a payload is one frame
-abbrev metadata_or : BlobMetadata → Result Frame FrameError → BlobMetadata
-metadata_or d (Ok (Metadata m)) = m
-metadata_or d _ = d
-
 pub one_metadata : (read : Result Frame FrameError) (a b : BlobMetadata) → read ≡ Ok (Metadata a) → read ≡ Ok (Metadata b) → a ≡ b
-one_metadata read a b is_a is_b = ap (metadata_or a) (sym is_a ∙ is_b)
+one_metadata read a b is_a is_b = cc (is_a, is_b)
 
 -- what holds of a result also holds in other words
 pub weaken : {A E : Type 0} (P Q : A → Type 0) (r : Result A E) → ((x : A) → P x → Q x) → IfOk r P → IfOk r Q
 weaken P Q (Ok x) f p = f x p
 weaken P Q (Err e) f p = tt
-
--- what holds of the front of a list that is all of it
-pub all_done : (P : List (List ℕ) → Type 0) (payloads : List (List ℕ)) (i : ℕ) → length payloads ≤ i → P (take i payloads) → P payloads
-all_done P payloads i all front = subst P (take_all i payloads all) front

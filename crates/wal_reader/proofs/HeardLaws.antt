@@ -1,13 +1,9 @@
 -- The metadata of payloads, and one payload more.
-use Rattle.std.proofs.Common.{◌≡◌, ◌≢◌, ℕ, List, [], ◌∷◌, ◌++◌, refl, sym, ap, subst, ◌∙◌, arith, ⊎_elim, append_assoc, length-append, Any, Result, Ok}
+use Rattle.std.proofs.Common.{◌≡◌, ◌≢◌, ℕ, List, [], ◌∷◌, ◌++◌, refl, sym, ap, subst, ◌∙◌, arith, ⊎_elim, append_assoc, length-append, Any}
 use Rattle.std.proofs.lemmas.List.{get_or_append_left}
 use Rattle.std.proofs.lemmas.List.Quantifiers.{Any-push}
-use Rattle.wal_shape.specs.declared.axis.Axis.TheVariants.{Primary}
 use Rattle.wal_shape.specs.Metadata.{BlobMetadata}
 use Rattle.wal_shape.specs.declared.text.MetaClash.{MetaClash}
-use Rattle.wal_shape.specs.EncodingProof.{EncodingProof}
-use Rattle.wal_frame.specs.declared.frame.FrameError.{FrameError}
-use Rattle.wal_frame.specs.Frame.{Frame, Metadata, Sliver, Proof}
 use Rattle.wal_frame.specs.Reading.{read_of}
 use Rattle.wal_reader.specs.declared.known.Known.{Known}
 use Rattle.wal_reader.specs.Outcome.{AreFirstTwo, CarriesMetadata, HasMetadata, IsFirstMetadata, IsFirstOther, IsMetadataIn}
@@ -18,26 +14,15 @@ use Rattle.wal_reader.proofs.KnownLaws.{parts_past}
 
 -- what holds of some payload holds of some payload of a longer list
 pub any_front : (P : List ℕ → Type 0) (payloads more : List (List ℕ)) → Any P payloads → Any P (payloads ++ more)
-any_front P payloads more found =
-    let below = found.2 in
+any_front P payloads more (k, x, below, at, holds) =
     let long = length-append payloads more in
-    (found.0, found.1, omega arith, get_or_append_left payloads more found.1 found.0 below ∙ found.3, found.4)
+    (k, x, omega arith, get_or_append_left payloads more x k below ∙ at, holds)
 
 -- one more payload behind a seam
 longer_seam : (payloads front : List (List ℕ)) (middle : List ℕ) (back : List (List ℕ)) (payload : List ℕ) → payloads ≡ front ++ middle ∷ back
     → payloads ++ payload ∷ [] ≡ front ++ middle ∷ (back ++ payload ∷ [])
 longer_seam payloads front middle back payload parts =
     ap (λ (ps : List (List ℕ)). ps ++ payload ∷ []) parts ∙ append_assoc front (middle ∷ back) (payload ∷ [])
-
--- a metadata of a front
-pub has_front : (digest : List ℕ → List ℕ) (id : List ℕ) (payloads : List (List ℕ)) (payload : List ℕ) (m : BlobMetadata) → HasMetadata digest id payloads m
-    → HasMetadata digest id (payloads ++ payload ∷ []) m
-has_front digest id payloads payload m has = any_front (CarriesMetadata digest id m) payloads (payload ∷ []) has
-
--- and of the last payload
-pub has_last : (digest : List ℕ → List ℕ) (id : List ℕ) (payloads : List (List ℕ)) (payload : List ℕ) (m : BlobMetadata) → CarriesMetadata digest id m payload
-    → HasMetadata digest id (payloads ++ payload ∷ []) m
-has_last digest id payloads payload m carries = Any-push (CarriesMetadata digest id m) payloads payload carries
 
 -- a payload without metadata
 pub none_still : (digest : List ℕ → List ℕ) (id : List ℕ) (payloads : List (List ℕ)) (payload : List ℕ) → ((m : BlobMetadata) → HasMetadata digest id payloads m → ⊥)
@@ -49,7 +34,7 @@ none_still digest id payloads payload before here m has =
 pub one_still : (digest : List ℕ → List ℕ) (id : List ℕ) (payloads : List (List ℕ)) (payload : List ℕ) (m : BlobMetadata) → IsMetadataIn digest id payloads m
     → ((other : BlobMetadata) → CarriesMetadata digest id other payload → other ≡ m) → IsMetadataIn digest id (payloads ++ payload ∷ []) m
 one_still digest id payloads payload m one here = (
-  has_front digest id payloads payload m one.0,
+  any_front (CarriesMetadata digest id m) payloads (payload ∷ []) one.0,
   λ other has. ⊎_elim (one.1 other) (here other) (any_push_cases (CarriesMetadata digest id other) payloads payload has),
 )
 
@@ -57,21 +42,15 @@ one_still digest id payloads payload m one here = (
 pub one_new : (digest : List ℕ → List ℕ) (id : List ℕ) (payloads : List (List ℕ)) (payload : List ℕ) (m : BlobMetadata) → ((x : BlobMetadata) → HasMetadata digest id payloads x → ⊥)
     → CarriesMetadata digest id m payload → IsMetadataIn digest id (payloads ++ payload ∷ []) m
 one_new digest id payloads payload m before carries = (
-  has_last digest id payloads payload m carries,
+  Any-push (CarriesMetadata digest id m) payloads payload carries,
   λ other has. ⊎_elim (λ old. absurd (before other old)) (λ new. one_metadata (read_of payload) other m new.0 carries.0)
       (any_push_cases (CarriesMetadata digest id other) payloads payload has),
 )
 
 -- the frame of a metadata carries no part
-no_sliver : (read : Result Frame FrameError) (m : BlobMetadata) (id : List ℕ) (index : ℕ) (bytes : List ℕ) → read ≡ Ok (Metadata m) → read ≡ Ok (Sliver id Primary index bytes) → ⊥
-no_sliver read m id index bytes is other = cc
-
-no_proof : (read : Result Frame FrameError) (m : BlobMetadata) (id : List ℕ) (p : EncodingProof) → read ≡ Ok (Metadata m) → read ≡ Ok (Proof id p) → ⊥
-no_proof read m id p is other = cc
-
 pub no_part : (digest : List ℕ → List ℕ) (id : List ℕ) (payload : List ℕ) (m : BlobMetadata) → CarriesMetadata digest id m payload → CarriesNoPart id payload
 no_part digest id payload m carries =
-    (λ index bytes e. no_sliver (read_of payload) m id index bytes carries.0 e, λ p e. no_proof (read_of payload) m id p carries.0 e)
+    (λ index bytes e. absurd (cc (carries.0, e)), λ p e. absurd (cc (carries.0, e)))
 
 -- what is held behind a metadata that came last
 pub known_new : (digest : List ℕ → List ℕ) (id : List ℕ) (k : Known) (payloads : List (List ℕ)) (payload : List ℕ) (m : BlobMetadata)
@@ -79,9 +58,9 @@ pub known_new : (digest : List ℕ → List ℕ) (id : List ℕ) (k : Known) (pa
     → HasKnown digest id k (payloads ++ payload ∷ [])
 known_new digest id k payloads payload m before carries same held =
     let idle = no_part digest id payload m carries in (
-      subst (λ (x : BlobMetadata). IsMetadataIn digest id (payloads ++ payload ∷ []) x) (sym same) (one_new digest id payloads payload m before carries),
+      rw same (one_new digest id payloads payload m before carries),
       parts_past digest id k payloads payload (λ index bytes is. idle.0 index bytes is.0) (λ p is. idle.1 p is.0) held,
-      subst (λ (x : BlobMetadata). IsFirstMetadata digest id (payloads ++ payload ∷ []) x) (sym same) (payloads, payload, [], refl, carries, before),
+      rw same (payloads, payload, [], refl, carries, before),
     )
 
 -- the first metadata stays the first
@@ -96,10 +75,9 @@ pub known_still : (digest : List ℕ → List ℕ) (id : List ℕ) (old new : Kn
     → (HasParts digest id old payloads → HasParts digest id new (payloads ++ payload ∷ [])) → HasKnown digest id old payloads
     → HasKnown digest id new (payloads ++ payload ∷ [])
 known_still digest id old new payloads payload m is same only takes was = (
-  subst (λ (x : BlobMetadata). IsMetadataIn digest id (payloads ++ payload ∷ []) x) (sym same)
-      (one_still digest id payloads payload old.metadata was.0 (λ other carries. only other carries ∙ is)),
+  rw same (one_still digest id payloads payload old.metadata was.0 (λ other carries. only other carries ∙ is)),
   takes was.1,
-  subst (λ (x : BlobMetadata). IsFirstMetadata digest id (payloads ++ payload ∷ []) x) (sym same) (first_still digest id payloads payload old.metadata was.2),
+  rw same (first_still digest id payloads payload old.metadata was.2),
 )
 
 -- one more payload with the first other metadata

@@ -1,30 +1,19 @@
 -- A payload that carries a sliver carries no other one.
-use Rattle.std.proofs.Common.{◌≡◌, ℕ, List, [], Result, Ok, sym, ap, subst, ◌∙◌}
+use Rattle.std.proofs.Common.{◌≡◌, ℕ, List, Ok, arith, sym, ap, subst, ◌∙◌}
 use Rattle.wal_shape.specs.declared.axis.Axis.{Axis}
 use Rattle.wal_shape.specs.Metadata.{BlobMetadata}
-use Rattle.wal_frame.specs.Frame.{Frame, Sliver}
+use Rattle.wal_frame.specs.Frame.{Sliver}
 use Rattle.wal_frame.specs.Reading.{read_of}
-use Rattle.wal_frame.specs.declared.frame.FrameError.{FrameError}
 use Rattle.wal_commit.specs.Held.{HoldsSliver}
 use Rattle.wal_reader.specs.Carried.{CarriesHeldSliver}
-
-abbrev index_or : ℕ → Result Frame FrameError → ℕ
-index_or d (Ok (Sliver id axis index bytes)) = index
-index_or d _ = d
-
-abbrev bytes_or : List ℕ → Result Frame FrameError → List ℕ
-bytes_or d (Ok (Sliver id axis index bytes)) = bytes
-bytes_or d _ = d
 
 -- where the sliver that it carries is not wanted, it carries none that is
 pub not_held : (digest : List ℕ → List ℕ) (id : List ℕ) (m : BlobMetadata) (axis : Axis) (index : ℕ) (payload : List ℕ) (at : ℕ) (bytes : List ℕ)
     → read_of payload ≡ Ok (Sliver id axis at bytes) → ((at ≡ index) × HoldsSliver digest m axis index bytes → ⊥)
     → (other : List ℕ) → CarriesHeldSliver digest id m axis index payload other → ⊥
 not_held digest id m axis index payload at bytes read refused other carries =
-    let same = sym read ∙ carries.0 in
-    let at_is : at ≡ index = ap (index_or at) same in
-    let bytes_is : bytes ≡ other = ap (bytes_or bytes) same in
-    refused (at_is, subst (HoldsSliver digest m axis index) (sym bytes_is) carries.1)
+    let same : (at ≡ index) × (bytes ≡ other) = grind (arith, read, carries.0) in
+    refused (same.0, subst (HoldsSliver digest m axis index) (sym same.1) carries.1)
 
 -- and where it is, it carries it
 pub is_carried : (digest : List ℕ → List ℕ) (id : List ℕ) (m : BlobMetadata) (axis : Axis) (index : ℕ) (payload : List ℕ) (at : ℕ) (bytes : List ℕ)

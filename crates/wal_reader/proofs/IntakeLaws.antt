@@ -1,69 +1,52 @@
 -- Streams that are taken in pieces.
-use Rattle.std.proofs.Common.{◌≡◌, ℕ, zero, suc, ◌+◌, ◌-◌, ◌^◌, ◌<◌, ◌≤◌, ◌⊎◌, inl, inr, Bool, true, false, cond, ltb, List, [], ◌∷◌, ◌++◌, length, take, drop, Option, Some, None, refl, sym, ap, subst, ◌∙◌, append_assoc, append-nil, arith}
-use Rattle.std.specs.Prelude.{slice_index, replicate}
+use Rattle.std.proofs.Common.{◌≡◌, ℕ, suc, ◌+◌, ◌-◌, ◌^◌, ◌<◌, ◌≤◌, inl, inr, true, false, List, [], ◌∷◌, ◌++◌, length, take, drop, refl, sym, ap, subst, ◌∙◌, append_assoc, append-nil, arith}
+use Rattle.std.specs.Prelude.{replicate}
 use Rattle.std.specs.Int.{w16, w32, from_be_bytes}
-use Rattle.std.proofs.lemmas.Bool.{cases_lt, ltb-false, le-ltb}
-use Rattle.std.proofs.lemmas.List.{take_all, take-append-drop, length-append, length-take, length-take-le, length-drop, length-replicate, nil_from_length}
-use Rattle.std.proofs.lemmas.List.Elements.{All-append}
+use Rattle.std.proofs.lemmas.Bool.{cases_lt}
+use Rattle.std.proofs.lemmas.List.{take_all, take-append-drop, length-append, length-take, length-drop, length-replicate, nil_from_length}
+use Rattle.std.proofs.lemmas.List.Elements.{All-append, All-from_get_or}
 use Rattle.wal_shape.specs.Spelling.{number_text}
 use Rattle.wal_shape.proofs.Numbers.{IsBytes, IsBytes-drop, IsBytes-take, wide32}
 use Rattle.wal_frame.specs.Frame.{envelope}
 use Rattle.wal_frame.specs.Front.{BeginsNone, IsPart, IsWrong}
-use Rattle.wal_frame.specs.Stream.{IsPayload, IsStream, IsMalformed, size_in, payload_at, envelope_at}
+use Rattle.wal_frame.specs.Stream.{IsPayload, IsStream, size_in, envelope_at}
 use Rattle.wal_frame.proofs.StreamLaws.{head_parts, envelope_read, stream_grows}
 use Rattle.wal_reader.specs.Heard.{HeardState, HasHeard, IsSettledState}
-use Rattle.wal_reader.specs.Intake.{AreBytes, IntakeState, IsCut, IsWrongAt, ReadsPast, KeepsPart, kept, past, StandsAt}
+use Rattle.wal_reader.specs.Intake.{AreBytes, IntakeState, ReadsPast, KeepsPart, kept, past, StandsAt}
 use Rattle.wal_reader.specs.inside.Intake.{Takes, IsUnfinished, IsLacking, CannotMatter, Hears, IsSound, Moves, Refuses}
 use Rattle.wal_reader.specs.declared.errors.FeedError.{FeedError}
 use Rattle.wal_reader.specs.declared.errors.FeedError.TheVariants.{Malformed, TooLong, Memory}
 
 -- ---- streams are cut in one way
 
-abbrev some_envelope : List ℕ × List ℕ → Option (List ℕ × List ℕ)
-some_envelope e = Some e
-
-two_same : (p q a b : List ℕ) → some_envelope (p, a) ≡ Some (q, b) → (p ≡ q) × (a ≡ b)
-two_same p q a b e =
-    let is : some_of (some_envelope (p, a)) ≡ some_of (some_envelope (q, b)) = ap some_of e in
-    (ap (λ (x : List ℕ × List ℕ). x.0) is, ap (λ (x : List ℕ × List ℕ). x.1) is)
-  where
-    some_of : Option (List ℕ × List ℕ) → List ℕ × List ℕ
-    some_of None = ([], [])
-    some_of (Some e) = e
-
 -- bytes begin with one envelope
 envelope_same : (s t : ℕ) (p q a b : List ℕ) → IsPayload p → IsPayload q → envelope s p ++ a ≡ envelope t q ++ b → (p ≡ q) × (a ≡ b)
 envelope_same s t p q a b fits other same =
-    two_same p q a b (sym (envelope_read (envelope s p ++ a) s p a fits refl) ∙ envelope_read (envelope s p ++ a) t q b other same)
+    let here = envelope_read (envelope s p ++ a) s p a fits refl in
+    grind (arith, here, envelope_read (envelope s p ++ a) t q b other same)
 
 pub part_none : (bytes : List ℕ) → IsPart bytes → BeginsNone bytes
-part_none [] part sender payload after fits same = (let long = ap length same in absurd (omega (arith, long, length-append (envelope sender payload) after)))
-part_none (b ∷ bytes) part sender payload after fits same = part.1 sender payload after fits same
+part_none bytes part sender payload after fits same = grind arith
 
 pub wrong_none : (bytes : List ℕ) → IsWrong bytes → BeginsNone bytes
-wrong_none [] wrong sender payload after fits same = absurd wrong
-wrong_none (b ∷ bytes) wrong sender payload after fits same = absurd (wrong cc)
+wrong_none bytes wrong sender payload after fits same = grind arith
 
 pub wrong_part : (bytes : List ℕ) → IsWrong bytes → IsPart bytes → ⊥
-wrong_part [] wrong part = wrong
-wrong_part (b ∷ bytes) wrong part = wrong part.0
+wrong_part bytes wrong part = grind arith
 
 pub one_cut : (ps qs : List (List ℕ)) (f g r s : List ℕ) → IsStream ps f → IsStream qs g → BeginsNone r → BeginsNone s → f ++ r ≡ g ++ s
     → (ps ≡ qs) × (length f ≡ length g) × (r ≡ s)
-one_cut [] [] f g r s hf hg nr ns e =
-    (refl, ap length (hf ∙ sym hg), ap (λ (t : List ℕ). t ++ r) (sym hf) ∙ e ∙ ap (λ (t : List ℕ). t ++ s) hg)
+one_cut [] [] f g r s hf hg nr ns e = (refl, cc, cc)
 one_cut [] (q ∷ qs) f g r s hf hg nr ns e =
-    absurd (nr hg.0 q (hg.1 ++ s) hg.2 (ap (λ (t : List ℕ). t ++ r) (sym hf) ∙ e ∙ ap (λ (t : List ℕ). t ++ s) hg.3 ∙ append_assoc (envelope hg.0 q) hg.1 s))
+    absurd (nr hg.0 q (hg.1 ++ s) hg.2 (cc (hg.3, append_assoc (envelope hg.0 q) hg.1 s)))
 one_cut (p ∷ ps) [] f g r s hf hg nr ns e =
-    absurd (ns hf.0 p (hf.1 ++ r) hf.2 (ap (λ (t : List ℕ). t ++ s) (sym hg) ∙ sym e ∙ ap (λ (t : List ℕ). t ++ r) hf.3 ∙ append_assoc (envelope hf.0 p) hf.1 r))
+    absurd (ns hf.0 p (hf.1 ++ r) hf.2 (cc (hf.3, append_assoc (envelope hf.0 p) hf.1 r)))
 one_cut (p ∷ ps) (q ∷ qs) f g r s hf hg nr ns e =
-    let left : f ++ r ≡ envelope hf.0 p ++ (hf.1 ++ r) = ap (λ (t : List ℕ). t ++ r) hf.3 ∙ append_assoc (envelope hf.0 p) hf.1 r in
-    let right : g ++ s ≡ envelope hg.0 q ++ (hg.1 ++ s) = ap (λ (t : List ℕ). t ++ s) hg.3 ∙ append_assoc (envelope hg.0 q) hg.1 s in
-    let same = envelope_same hf.0 hg.0 p q (hf.1 ++ r) (hg.1 ++ s) hf.2 hg.2 (sym left ∙ e ∙ right) in
+    let whole : envelope hf.0 p ++ (hf.1 ++ r) ≡ envelope hg.0 q ++ (hg.1 ++ s) =
+    cc (hf.3, hg.3, append_assoc (envelope hf.0 p) hf.1 r, append_assoc (envelope hg.0 q) hg.1 s) in
+    let same = envelope_same hf.0 hg.0 p q (hf.1 ++ r) (hg.1 ++ s) hf.2 hg.2 whole in
     let rest = one_cut ps qs hf.1 hg.1 r s hf.4 hg.4 nr ns same.1 in
-    let first : length f ≡ 7 + length p + length hf.1 = ap length hf.3 ∙ omega (arith, length-append (envelope hf.0 p) hf.1) in
-    let second : length g ≡ 7 + length q + length hg.1 = ap length hg.3 ∙ omega (arith, length-append (envelope hg.0 q) hg.1) in
-    (cc (same.0, rest.0), omega (arith, first, second, ap length same.0, rest.1), rest.2)
+    (cc (same.0, rest.0), omega (arith, simp length-append at (ap length e), ap length rest.2), rest.2)
 
 -- ---- parts of envelopes
 
@@ -79,27 +62,14 @@ front_part (b ∷ bytes) more sender payload fits text some = (
       absurd (omega (arith, ap length none.1, length-append after more, some)),
 )
 
-none_some : {A : Type 0} (x : A) → Some x ≡ None → ⊥
-none_some x e = absurd cc
-
 -- the payload of an envelope that is not whole is not all there
 pub unfinished_long : (bytes : List ℕ) → IsUnfinished bytes → 7 ≤ length bytes → length bytes < 7 + size_in bytes
 unfolding envelope_at
-unfinished_long [] is long = absurd (omega arith)
-unfinished_long (b ∷ bytes) is long =
-    let head : ltb (length (b ∷ bytes)) 7 ≡ false = le-ltb _ _ long in
-    elim (cases_lt (length (drop 6 bytes)) (size_in (b ∷ bytes))) [
-      | inl few ↦ omega (arith, few, length-drop 6 bytes)
-      | inr enough ↦
-          let all : ltb (length (drop 6 bytes)) (size_in (b ∷ bytes)) ≡ false = le-ltb _ _ enough in
-          absurd (none_some (take (size_in (b ∷ bytes)) (drop 6 bytes), drop (size_in (b ∷ bytes)) (drop 6 bytes)) (sym (rw (head, is.1.0, all) refl) ∙ is.0))
-    ]
+unfinished_long bytes is long = grind (arith, length-drop)
 
 -- the elements of a text of bytes are bytes
-pub bytes_all : (xs : List ℕ) → IsBytes xs → AreBytes xs
-bytes_all [] fits k d lt = absurd (omega arith)
-bytes_all (x ∷ xs) fits zero d lt = fits 0
-bytes_all (x ∷ xs) fits (suc k) d lt = bytes_all xs (λ i. fits (suc i)) k d (omega arith)
+bytes_all : (xs : List ℕ) → IsBytes xs → AreBytes xs
+bytes_all xs fits = All-from_get_or (λ b. b < 256) xs 0 (λ i l. fits i)
 
 -- and so are the first ones
 pub taken_bytes : (count : ℕ) (xs : List ℕ) → IsBytes xs → AreBytes (take count xs)
@@ -114,16 +84,14 @@ lacking_whole (b ∷ bytes) missing fits part long count more is =
     let sender = from_be_bytes w16 (take 2 bytes) in
     let head = number_text w16 sender in
     let start = drop 6 bytes in
+    let parts = head_parts bytes tail (omega (arith, long)) in
     let payload = start ++ more in
     let len : length payload ≡ size = omega (arith, length-append start more, length-drop 6 bytes, is, count, long) in
     let small : size < 2 ^ 32 = wide32.below (take 4 (drop 2 bytes)) (IsBytes-take 4 (drop 2 bytes) (IsBytes-drop 2 bytes tail)) in (
       sender,
       payload,
       omega (arith, len, small),
-      ap (λ (k : ℕ). k ∷ (bytes ++ more)) part.0
-          ∙ ap (λ (t : List ℕ). 0x57 ∷ (t ++ more)) (head_parts bytes tail (omega (arith, long)))
-          ∙ ap (λ (t : List ℕ). 0x57 ∷ t) (append_assoc (head ++ number_text w32 size) start more)
-          ∙ ap (λ (k : ℕ). 0x57 ∷ (head ++ number_text w32 k ++ payload)) (sym len),
+      cc (part.0, parts, append_assoc (head ++ number_text w32 size) start more, len),
       len,
       λ all. All-append (λ b. b < 256) start more (bytes_all start (IsBytes-drop 6 bytes tail)) all,
     )
@@ -131,8 +99,7 @@ lacking_whole (b ∷ bytes) missing fits part long count more is =
 -- ---- what is kept
 
 pub rest_kept : (digest : List ℕ → List ℕ) (id : List ℕ) (i : IntakeState) (payloads : List (List ℕ)) (rest : List ℕ) → KeepsPart digest id i payloads rest → i.missing ≡ 0 → rest ≡ i.kept
-rest_kept digest id i payloads rest (kept none is) h = is
-rest_kept digest id i payloads rest (past some none reads) h = absurd (omega (arith, some, h))
+rest_kept digest id i payloads rest keeps h = grind arith
 
 pub rest_past : (digest : List ℕ → List ℕ) (id : List ℕ) (i : IntakeState) (payloads : List (List ℕ)) (rest : List ℕ) → KeepsPart digest id i payloads rest → 0 < i.missing
     → ReadsPast digest id i.heard payloads i.missing rest
@@ -145,17 +112,16 @@ pub ended : (digest : List ℕ → List ℕ) (id : List ℕ) (old new : IntakeSt
     → new.taken ≡ old.taken + length bytes → new.place ≡ new.taken → StandsAt digest id new (stream ++ bytes)
 ended digest id old new stream bytes sender payload s fits text heard none empty count place =
     let front = s.front ++ envelope sender payload in
-    let parts : stream ++ bytes ≡ front ++ [] =
-    ap (λ (t : List ℕ). t ++ bytes) s.cut.parts ∙ append_assoc s.front s.rest bytes ∙ ap (λ (t : List ℕ). s.front ++ t) text ∙ sym (append-nil front) in
+    let parts : stream ++ bytes ≡ front ++ [] = cc (s.cut.parts, append_assoc s.front s.rest bytes, append-nil front) in
     let long : length (stream ++ bytes) ≡ new.taken = omega (arith, length-append stream bytes, s.taken, count) in
-    let all : length (stream ++ bytes) ≡ length front = ap length (parts ∙ append-nil front) in record {
+    record {
       payloads = s.payloads ++ payload ∷ [];
       front = front;
       rest = [];
       cut = record { parts = parts; whole = stream_grows s.payloads s.front sender payload s.cut.whole fits; part = tt };
       heard = heard;
       taken = long;
-      place = omega (arith, all, long, place);
+      place = omega (arith, ap length (parts ∙ append-nil front), long, place);
       keeps = kept none (sym empty);
     }
 
@@ -174,20 +140,17 @@ grown digest id old new stream bytes s part heard count place keeps = record {
   keeps = keeps;
 }
 
-same_heard : (digest : List ℕ → List ℕ) (id : List ℕ) (h k : HeardState) (payloads : List (List ℕ)) → k ≡ h → HasHeard digest id h payloads → HasHeard digest id k payloads
-same_heard digest id h k payloads same heard = let P : HeardState → Type 0 = λ x. HasHeard digest id x payloads in subst P (sym same) heard
-
 -- an envelope that is kept is read past from here on
 pub begins_past : (digest : List ℕ → List ℕ) (old new : IntakeState) → old.missing ≡ 0 → CannotMatter digest old.heard (size_in old.kept) → IsLacking old.kept new.missing → 0 < new.missing
     → new.kept ≡ [] → new.heard ≡ old.heard → new.taken ≡ old.taken → new.place ≡ old.place → Takes digest old new []
 begins_past digest old new none matter lacking some empty same count place id stream s =
     let is = rest_kept digest id old s.payloads s.rest s.keeps none in
-    let whole : s.rest ++ [] ≡ s.rest = append-nil s.rest in
-    let part : IsPart (s.rest ++ []) = (let P : List ℕ → Type 0 = λ t. IsPart t in subst P (sym whole) s.cut.part) in
+    let whole = append-nil s.rest in
     let reads : ReadsPast digest id new.heard s.payloads new.missing (s.rest ++ []) = (λ more long.
     let l = lacking more long in
-    (l.0, l.1, l.2, ap (λ (t : List ℕ). t ++ more) (whole ∙ is) ∙ l.3, λ all. same_heard digest id old.heard new.heard (s.payloads ++ l.1 ∷ []) same (matter id s.payloads l.1 s.heard (l.5 all) l.2 l.4))) in
-    grown digest id old new stream [] s part (same_heard digest id old.heard new.heard s.payloads same s.heard) (omega (arith, count)) place (past some empty reads)
+    (l.0, l.1, l.2, cc (whole, is, l.3), λ all. rw same (matter id s.payloads l.1 s.heard (l.5 all) l.2 l.4))) in
+    grown digest id old new stream [] s (rw whole s.cut.part) (rw same s.heard) (omega (arith, count)) place
+    (past some empty reads)
 
 -- so many bytes
 abbrev zeros : ℕ → List ℕ
@@ -203,26 +166,18 @@ goes_past digest old new bytes these some left more_left empty same count place 
     let reads = rest_past digest id old s.payloads s.rest s.keeps some in
     let on : ReadsPast digest id new.heard s.payloads new.missing (s.rest ++ bytes) = (λ more long.
     let l = reads (bytes ++ more) (omega (arith, length-append bytes more, long, left)) in
-    let joined : (s.rest ++ bytes) ++ more ≡ s.rest ++ (bytes ++ more) = append_assoc s.rest bytes more in
-    (l.0, l.1, l.2, joined ∙ l.3, λ all. same_heard digest id old.heard new.heard (s.payloads ++ l.1 ∷ []) same (l.4 (All-append (λ b. b < 256) bytes more these all)))) in
+    let all = All-append (λ b. b < 256) bytes more these in
+    (l.0, l.1, l.2, cc (append_assoc s.rest bytes more, l.3), λ are. rw same (l.4 (all are)))) in
     let l = on (zeros new.missing) (zeros_long new.missing) in
     let part = front_part (s.rest ++ bytes) (zeros new.missing) l.0 l.1 l.2 l.3 (omega (arith, zeros_long new.missing, more_left)) in
-    grown digest id old new stream bytes s part (same_heard digest id old.heard new.heard s.payloads same s.heard) count place (past more_left empty on)
+    grown digest id old new stream bytes s part (rw same s.heard) count place (past more_left empty on)
 
 -- all of it is read past
 pub ends_past : (digest : List ℕ → List ℕ) (old new : IntakeState) (bytes : List ℕ) → AreBytes bytes → 0 < old.missing → old.missing ≡ length bytes → new.missing ≡ 0
     → new.kept ≡ [] → new.heard ≡ old.heard → new.taken ≡ old.taken + length bytes → new.place ≡ new.taken → Takes digest old new bytes
 ends_past digest old new bytes these some left none empty same count place id stream s =
     let l = rest_past digest id old s.payloads s.rest s.keeps some bytes (sym left) in
-    ended digest id old new stream bytes l.0 l.1 s l.2 l.3 (same_heard digest id old.heard new.heard (s.payloads ++ l.1 ∷ []) same (l.4 these)) none empty count place
-
--- more of it is kept
-pub goes_on : (digest : List ℕ → List ℕ) (old new : IntakeState) (bytes : List ℕ) → old.missing ≡ 0 → new.missing ≡ 0 → new.kept ≡ old.kept ++ bytes → IsPart (old.kept ++ bytes)
-    → new.heard ≡ old.heard → new.taken ≡ old.taken + length bytes → new.place ≡ old.place → Takes digest old new bytes
-goes_on digest old new bytes none still more part same count place id stream s =
-    let is : s.rest ++ bytes ≡ old.kept ++ bytes = ap (λ (t : List ℕ). t ++ bytes) (rest_kept digest id old s.payloads s.rest s.keeps none) in
-    let P : List ℕ → Type 0 = λ t. IsPart t in
-    grown digest id old new stream bytes s (subst P (sym is) part) (same_heard digest id old.heard new.heard s.payloads same s.heard) count place (kept still (is ∙ sym more))
+    ended digest id old new stream bytes l.0 l.1 s l.2 l.3 (rw same (l.4 these)) none empty count place
 
 -- what was heard, and this payload
 abbrev pub HearsOne : (List ℕ → List ℕ) → HeardState → HeardState → List ℕ → Type 0
@@ -240,130 +195,73 @@ ends_kept digest old new bytes sender payload fits none text hears still empty c
 pub nothing_after : (front bytes : List ℕ) (missing sender : ℕ) (payload after : List ℕ) → IsPayload payload → front ++ bytes ≡ envelope sender payload ++ after → length bytes ≤ missing
     → (length front < 7 → length front + missing ≡ 7) → (7 ≤ length front → IsLacking front missing) → after ≡ []
 nothing_after front bytes missing sender payload after fits text few head whole =
-    let long : length front + length bytes ≡ 7 + length payload + length after =
-    sym (length-append front bytes) ∙ ap length text ∙ length-append (envelope sender payload) after ∙ omega arith in
+    let long = simp length-append at (ap length text) in
     elim (cases_lt (length front) 7) [
       | inl short ↦ (let seven = head short in nil_from_length after (omega (arith, long, seven, few)))
       | inr enough ↦
           let pad = zeros (missing - length bytes) in
           let l = whole enough (bytes ++ pad) (omega (arith, length-append bytes pad, zeros_long (missing - length bytes), few)) in
-          let first : envelope sender payload ++ (after ++ pad) ≡ (envelope sender payload ++ after) ++ pad = sym (append_assoc (envelope sender payload) after pad) in
-          let second : (envelope sender payload ++ after) ++ pad ≡ (front ++ bytes) ++ pad = ap (λ (t : List ℕ). t ++ pad) (sym text) in
-          let third : (front ++ bytes) ++ pad ≡ front ++ (bytes ++ pad) = append_assoc front bytes pad in
-          let last : envelope l.0 l.1 ≡ envelope l.0 l.1 ++ [] = sym (append-nil (envelope l.0 l.1)) in
-          let both : envelope sender payload ++ (after ++ pad) ≡ envelope l.0 l.1 ++ [] = first ∙ second ∙ third ∙ l.3 ∙ last in
+          let left = append_assoc front bytes pad in
+          let right = append_assoc (envelope sender payload) after pad in
+          let both : envelope sender payload ++ (after ++ pad) ≡ envelope l.0 l.1 ++ [] =
+          cc (text, l.3, left, right, append-nil (envelope l.0 l.1)) in
           let none = envelope_same sender l.0 payload l.1 (after ++ pad) [] fits l.2 both in
           nil_from_length after (omega (arith, ap length none.1, length-append after pad))
     ]
-
--- what is left of a piece
-pub left_of : (count : ℕ) (piece : List ℕ) → count ≤ length piece → piece ≡ take count piece ++ take (length piece - count) (drop count piece)
-left_of count piece le =
-    sym (take-append-drop count piece) ∙ ap (λ (t : List ℕ). take count piece ++ t) (sym (take_all (length piece - count) (drop count piece) (omega (arith, length-drop count piece))))
 
 -- so many bytes of a piece were taken
 pub moved : (digest : List ℕ → List ℕ) (old new : IntakeState) (piece : List ℕ) (count : ℕ) → 0 < count → count ≤ length piece → new.taken ≡ old.taken + count
     → Takes digest old new (take count piece) → IsSound new → (IsSettledState old.heard → IsSettledState new.heard)
     → Moves digest old new piece (take (length piece - count) (drop count piece))
-moved digest old new piece count some le total takes sound settled = record {
-  bytes = take count piece;
-  parts = left_of count piece le;
-  some = omega (arith, length-take count piece, some, le);
-  takes = takes;
-  count = omega (arith, length-take count piece, le, total);
-  sound = sound;
-  settled = settled;
-}
-
--- nothing is a part of an envelope
-pub none_unfinished : (bytes : List ℕ) → bytes ≡ [] → IsUnfinished bytes
-unfolding envelope_at
-none_unfinished bytes none = let P : List ℕ → Type 0 = λ t. IsUnfinished t in subst P (sym none) (refl, tt)
-
--- what is missing of a slice is missing of the bytes that it lends
-pub lacks_deref : (bytes lent : List ℕ) (missing : ℕ) → lent ≡ bytes → 7 ≤ length bytes → (7 ≤ length lent → IsLacking lent missing) → IsLacking bytes missing
-lacks_deref bytes lent missing same long whole = let P : List ℕ → Type 0 = λ t. IsLacking t missing in subst P same (whole (omega (arith, ap length same, long)))
-
--- an envelope that was kept is whole
-pub kept_whole : (digest : List ℕ → List ℕ) (old new : IntakeState) (front all piece : List ℕ) (count missing : ℕ) (done : Bool) → front ≡ old.kept → all ≡ old.kept ++ take count piece
-    → done ≡ true → Hears digest all old.heard new.heard done → count ≤ length piece → count ≤ missing
-    → (length front < 7 → length front + missing ≡ 7) → (7 ≤ length front → IsLacking front missing) → old.missing ≡ 0 → new.missing ≡ 0 → new.kept ≡ []
-    → new.taken ≡ old.taken + count → new.place ≡ new.taken → Takes digest old new (take count piece)
-kept_whole digest old new front all piece count missing false is whole done_is hears le few head lacking none still empty total place = absurd cc
-kept_whole digest old new front all piece count missing true is whole done_is hears le few head lacking none still empty total place =
-    let bytes = take count piece in
-    let long : length bytes ≡ count = length-take-le count piece le in
-    let text : front ++ bytes ≡ envelope hears.0 hears.1 ++ hears.2 = ap (λ (t : List ℕ). t ++ bytes) is ∙ sym whole ∙ hears.4 in
-    let nothing = nothing_after front bytes missing hears.0 hears.1 hears.2 hears.3 text (omega (arith, long, few)) head lacking in
-    let exact : old.kept ++ bytes ≡ envelope hears.0 hears.1 =
-    sym whole ∙ hears.4 ∙ ap (λ (t : List ℕ). envelope hears.0 hears.1 ++ t) nothing ∙ append-nil (envelope hears.0 hears.1) in
-    ends_kept digest old new bytes hears.0 hears.1 hears.3 none exact hears.5 still empty (omega (arith, long, total)) place
-
--- an envelope is kept as far as it came
-pub kept_part : (digest : List ℕ → List ℕ) (old new : IntakeState) (all piece : List ℕ) (count : ℕ) (done : Bool) → all ≡ old.kept ++ take count piece → all ≡ new.kept
-    → done ≡ false → Hears digest all old.heard new.heard done → count ≤ length piece → old.missing ≡ 0 → new.missing ≡ 0
-    → new.taken ≡ old.taken + count → new.place ≡ old.place → Takes digest old new (take count piece) × IsUnfinished new.kept
-kept_part digest old new all piece count true whole is done_is hears le none still total place = absurd cc
-kept_part digest old new all piece count false whole is done_is hears le none still total place =
-    let long : length (take count piece) ≡ count = length-take-le count piece le in
-    let P : List ℕ → Type 0 = λ t. IsPart t in
-    let Q : List ℕ → Type 0 = λ t. IsUnfinished t in
-    (goes_on digest old new (take count piece) none still (sym is ∙ whole) (subst P whole hears.1.1) hears.0 (omega (arith, long, total)) place, subst Q is hears.1)
-
--- a byte is wrong behind whole envelopes
-pub wrong_behind : (digest : List ℕ → List ℕ) (old : IntakeState) (piece : List ℕ) (place : ℕ) → old.missing ≡ 0 → old.kept ≡ [] → IsWrong piece → place ≡ old.taken
-    → Refuses digest old piece (Malformed place)
-wrong_behind digest old piece place none empty wrong is id stream s =
-    let nil : s.rest ≡ [] = rest_kept digest id old s.payloads s.rest s.keeps none ∙ empty in
-    let all : stream ≡ s.front = s.cut.parts ∙ ap (λ (t : List ℕ). s.front ++ t) nil ∙ append-nil s.front in record {
-      payloads = s.payloads;
-      front = s.front;
-      rest = piece;
-      parts = ap (λ (t : List ℕ). t ++ piece) all;
-      size = omega (arith, ap length all, s.taken, is);
-      whole = s.cut.whole;
-      wrong = wrong;
+moved digest old new piece count some le total takes sound settled =
+    let left = take_all (length piece - count) (drop count piece) (omega (arith, length-drop count piece)) in record {
+      bytes = take count piece;
+      parts = cc (take-append-drop count piece, left);
+      some = omega (arith, length-take count piece, some, le);
+      takes = takes;
+      count = omega (arith, length-take count piece, le, total);
+      sound = sound;
+      settled = settled;
     }
 
--- a whole envelope was taken
-pub took_envelope : (digest : List ℕ → List ℕ) (old new : IntakeState) (piece rest : List ℕ) (sender : ℕ) (payload : List ℕ) → piece ≡ envelope sender payload ++ rest
-    → Takes digest old new (envelope sender payload) → new.taken ≡ old.taken + 7 + length payload → IsSound new → (IsSettledState old.heard → IsSettledState new.heard)
-    → Moves digest old new piece rest
-took_envelope digest old new piece rest sender payload parts takes count sound settled = record {
-  bytes = envelope sender payload;
-  parts = parts;
-  some = omega arith;
-  takes = takes;
-  count = omega (arith, count);
-  sound = sound;
-  settled = settled;
-}
+-- where nothing is kept there is nothing to be read
+pub sound_empty : (i : IntakeState) → 64019 ≤ i.room → i.taken ≤ 134217728 → i.kept ≡ [] → IsSound i
+unfolding envelope_at
+sound_empty i room limit none =
+    let unfinished = subst (λ (t : List ℕ). IsUnfinished t) (sym none) (refl, tt) in
+    record { room = room; limit = limit; unfinished = unfinished; apart = λ some. none }
 
--- nothing was taken, and then some bytes
-pub moves_after : (digest : List ℕ → List ℕ) (old mid new : IntakeState) (piece left : List ℕ) → Takes digest old mid [] → mid.taken ≡ old.taken → mid.heard ≡ old.heard
-    → Moves digest mid new piece left → Moves digest old new piece left
-moves_after digest old mid new piece left begins same heard moves = record {
-  bytes = moves.bytes;
-  parts = moves.parts;
-  some = moves.some;
-  takes = λ id stream s. (let P : List ℕ → Type 0 = λ t. StandsAt digest id new (t ++ moves.bytes) in subst P (append-nil stream) (moves.takes id (stream ++ []) (begins id stream s)));
-  count = omega (arith, same, moves.count);
-  sound = moves.sound;
-  settled = λ settled. (let P : HeardState → Type 0 = λ h. IsSettledState h in moves.settled (subst P (sym heard) settled));
-}
+-- an envelope that was kept is whole
+pub kept_whole : (digest : List ℕ → List ℕ) (old new : IntakeState) (front all bytes : List ℕ) (missing : ℕ)
+    → front ≡ old.kept → all ≡ old.kept ++ bytes → Hears digest all old.heard new.heard true → length bytes ≤ missing
+    → (length front < 7 → length front + missing ≡ 7) → (7 ≤ length front → IsLacking front missing) → old.missing ≡ 0
+    → new.missing ≡ 0 → new.kept ≡ [] → new.taken ≡ old.taken + length bytes → new.place ≡ new.taken
+    → Takes digest old new bytes
+kept_whole digest old new front all bytes missing is whole hears few head lacking none still empty count place =
+    let text : front ++ bytes ≡ envelope hears.0 hears.1 ++ hears.2 = cc (is, whole, hears.4) in
+    let nothing = nothing_after front bytes missing hears.0 hears.1 hears.2 hears.3 text few head lacking in
+    let exact : old.kept ++ bytes ≡ envelope hears.0 hears.1 =
+    cc (is, text, nothing, append-nil (envelope hears.0 hears.1)) in
+    ends_kept digest old new bytes hears.0 hears.1 hears.3 none exact hears.5 still empty count place
 
--- some bytes, and then more
-pub takes_more : (digest : List ℕ → List ℕ) (old mid new : IntakeState) (bytes more : List ℕ) → Takes digest old mid bytes → Takes digest mid new more → Takes digest old new (bytes ++ more)
-takes_more digest old mid new bytes more first second id stream s =
-    let P : List ℕ → Type 0 = λ t. StandsAt digest id new t in
-    subst P (append_assoc stream bytes more) (second id (stream ++ bytes) (first id stream s))
+-- an envelope is kept as far as it came
+pub kept_part : (digest : List ℕ → List ℕ) (old new : IntakeState) (all bytes : List ℕ) → all ≡ old.kept ++ bytes
+    → all ≡ new.kept → Hears digest all old.heard new.heard false → old.missing ≡ 0 → new.missing ≡ 0
+    → new.taken ≡ old.taken + length bytes → new.place ≡ old.place → Takes digest old new bytes × IsUnfinished new.kept
+kept_part digest old new all bytes whole is hears none still count place = (
+  λ id stream s.
+      let was = rest_kept digest id old s.payloads s.rest s.keeps none in
+      let e : s.rest ++ bytes ≡ all = cc (was, whole) in
+      grown digest id old new stream bytes s (subst (λ (t : List ℕ). IsPart t) (sym e) hears.1.1) (rw hears.0 s.heard)
+      count place (kept still (e ∙ is)),
+  subst (λ (t : List ℕ). IsUnfinished t) is hears.1,
+)
 
 -- why the rest of a piece is refused is why the piece is
 pub refuses_all : (digest : List ℕ → List ℕ) (old mid : IntakeState) (piece bytes left : List ℕ) (e : FeedError) → piece ≡ bytes ++ left → Takes digest old mid bytes
     → (IsSettledState old.heard → IsSettledState mid.heard) → mid.taken + length left ≤ 134217728 → Refuses digest mid left e → Refuses digest old piece e
 refuses_all digest old mid piece bytes left (Malformed place) parts takes settled few refuses = λ id stream s.
-    let P : List ℕ → Type 0 = λ t. IsWrongAt place t in
-    subst P (append_assoc stream bytes left ∙ ap (λ (t : List ℕ). stream ++ t) (sym parts)) (refuses id (stream ++ bytes) (takes id stream s))
+    rw parts (rw append_assoc at (refuses id (stream ++ bytes) (takes id stream s)))
 refuses_all digest old mid piece bytes left TooLong parts takes settled few refuses = absurd (omega (arith, few, refuses))
 refuses_all digest old mid piece bytes left Memory parts takes settled few refuses = λ h. refuses (settled h)
 

@@ -1,5 +1,5 @@
 -- What is held for one metadata, payload by payload.
-use Rattle.std.proofs.Common.{◌≡◌, ◌≢◌, ◌⊎◌, ℕ, ◌<◌, List, [], ◌∷◌, ◌++◌, length, refl, sym, ap, subst, ◌∙◌, arith, inl, inr, ⊎_elim, append_assoc, Option, Some, None}
+use Rattle.std.proofs.Common.{◌≡◌, ◌≢◌, ℕ, List, [], ◌∷◌, ◌++◌, length, refl, sym, ap, ◌∙◌, arith, ⊎_elim, append_assoc, Option, Some, None}
 use Rattle.std.proofs.lemmas.Bool.{cases_lt}
 use Rattle.std.proofs.lemmas.List.Elements.{All-push}
 use Rattle.wal_shape.specs.Shape.{row_count}
@@ -15,13 +15,10 @@ use Rattle.wal_reader.proofs.Collections.{collects_few, collects_full, collects_
 pub parts_none : (digest : List ℕ → List ℕ) (id : List ℕ) (k : Known) → k.work.f ≡ k.metadata.f → k.collected.indices.items ≡ []
     → k.collected.joined.items ≡ [] → k.proof ≡ None → HasParts digest id k []
 parts_none digest id k same no_indices no_joined no_proof =
-    let none : Collects digest id k.metadata [] k.collected.indices.items k.collected.joined.items =
-    subst (λ (is : List ℕ). Collects digest id k.metadata [] is k.collected.joined.items) (sym no_indices)
-    (subst (λ (js : List ℕ). Collects digest id k.metadata [] [] js) (sym no_joined) (collects_none digest id k.metadata)) in
     record {
       f = same;
-      slivers = none;
-      proof = λ few. subst (λ (p : Option EncodingProof). IsProofFound digest id k.metadata [] p) (sym no_proof) (λ i d below. absurd (omega arith));
+      slivers = rw (no_indices, no_joined) (collects_none digest id k.metadata);
+      proof = λ few. rw no_proof (λ i d below. absurd (omega arith));
     }
 
 -- a payload that carries no bad proof, and one that follows a bad proof
@@ -29,8 +26,7 @@ pub proof_more : (digest : List ℕ → List ℕ) (id : List ℕ) (m : BlobMetad
     → ((p : EncodingProof) → proof ≡ None → CarriesBadProof digest id m payload p → ⊥)
     → IsProofFound digest id m payloads proof → IsProofFound digest id m (payloads ++ payload ∷ []) proof
 proof_more digest id m payloads payload None good found =
-    let P : List ℕ → Type 0 = λ q. (p : EncodingProof) → CarriesBadProof digest id m q p → ⊥ in
-    All-push P payloads payload found (λ p. good p refl)
+    All-push (λ q. (p : EncodingProof) → CarriesBadProof digest id m q p → ⊥) payloads payload found (λ p. good p refl)
 proof_more digest id m payloads payload (Some p) good found =
     (found.0, found.1, found.2 ++ payload ∷ [], ap (λ (ps : List (List ℕ)). ps ++ payload ∷ []) found.3 ∙ append_assoc found.0 (found.1 ∷ found.2) (payload ∷ []), found.4, found.5)
 
@@ -58,12 +54,10 @@ pub parts_more : (digest : List ℕ → List ℕ) (id : List ℕ) (old new : Kno
     → ((IsEnough new → ⊥) → IsProofFound digest id old.metadata payloads old.proof → IsProofFound digest id old.metadata (payloads ++ payload ∷ []) new.proof)
     → HasParts digest id old payloads → HasParts digest id new (payloads ++ payload ∷ [])
 parts_more digest id old new payloads payload short same f collects found was =
-    let T : BlobMetadata → Type 0 = λ m. Collects digest id m (payloads ++ payload ∷ []) new.collected.indices.items new.collected.joined.items in
-    let P : BlobMetadata → Type 0 = λ m. IsProofFound digest id m (payloads ++ payload ∷ []) new.proof in
     record {
       f = f ∙ ap (λ (m : BlobMetadata). m.f) (sym same);
-      slivers = subst T (sym same) collects;
-      proof = λ still. subst P (sym same) (found (λ e. omega (arith, e, still)) (parts_found digest id old payloads short was));
+      slivers = rw same collects;
+      proof = λ still. rw same (found (λ e. omega (arith, e, still)) (parts_found digest id old payloads short was));
     }
 
 -- a payload that carries nothing for the metadata
@@ -74,14 +68,12 @@ pub parts_past : (digest : List ℕ → List ℕ) (id : List ℕ) (k : Known) (p
 parts_past digest id k payloads payload no_sliver no_proof was =
     let is = k.collected.indices.items in
     let js = k.collected.joined.items in
-    let either : (length is ≡ row_count k.metadata.f) ⊎ (length is < row_count k.metadata.f) =
     let few = collects_few digest id k.metadata payloads is js was.slivers in
-    ⊎_elim (λ less. inr less) (λ least. inl (omega arith)) (cases_lt (length is) (row_count k.metadata.f)) in
     ⊎_elim
-    (λ enough. parts_enough digest id k payloads payload enough was)
     (λ less.
     let short : length is ≢ row_count k.metadata.f = λ e. omega arith in
     parts_more digest id k k payloads payload short refl was.f
     (collects_passed digest id k.metadata payloads payload is js (λ i b less carries. absurd (no_sliver i b carries)) was.slivers)
     (λ still found. proof_more digest id k.metadata payloads payload k.proof (λ p none carries. no_proof p carries) found) was)
-    either
+    (λ least. parts_enough digest id k payloads payload (omega arith) was)
+    (cases_lt (length is) (row_count k.metadata.f))

@@ -9,7 +9,6 @@ mod SiftLaws
 mod HeardLaws
 mod SettledLaws
 mod LongestLaws
-mod ClosingLaws
 pub mod IntakeLaws
 pub mod StandingLaws
 pub mod ClaimLaws

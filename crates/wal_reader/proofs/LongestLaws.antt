@@ -11,7 +11,7 @@ use Rattle.wal_shape.specs.EncodingProof.{EncodingProof}
 use Rattle.wal_shape.proofs.MetadataLaws.{length-metadata_text, text_size-most}
 use Rattle.wal_shape.proofs.Numbers.{IsBytes}
 use Rattle.wal_evidence.proofs.ProofSizes.{bad_proof_long, narrow}
-use Rattle.wal_frame.specs.Frame.{Metadata, Sliver, Proof, frame_text}
+use Rattle.wal_frame.specs.Frame.{Metadata, Sliver, Proof}
 use Rattle.wal_frame.proofs.FrameLaws.{length-sliver_frame, read_is}
 use Rattle.wal_reader.specs.declared.known.Known.{Known}
 use Rattle.wal_reader.specs.Carried.{CarriesBadProof}
@@ -33,20 +33,15 @@ metadata_long : (digest : List ℕ → List ℕ) (id : List ℕ) (m : BlobMetada
     → length payload ≤ 64012
 metadata_long digest id m payload fit carries =
     let is = read_is payload (Metadata m) (in_range payload fit) carries.0 in
-    let long : length payload ≡ length (frame_text (Metadata m)) = ap length is.1 in
-    let most = text_size-most m.format m.f in
-    let few = is.0.shape.1 in
-    omega (arith, long, length-metadata_text m is.0, most, few)
+    omega (arith, ap length is.1, length-metadata_text m is.0, text_size-most m.format m.f, is.0.shape.1)
 
 -- and so has a held sliver
 sliver_long : (digest : List ℕ → List ℕ) (id : List ℕ) (m : BlobMetadata) (payload : List ℕ) (index : ℕ) (bytes : List ℕ) → Bytewise payload
     → CarriesSliver digest id m payload index bytes → length payload ≤ longest_part m
 sliver_long digest id m payload index bytes fit carries =
     let is = read_is payload (Sliver id Primary index bytes) (in_range payload fit) carries.0 in
-    let long : length payload ≡ length (frame_text (Sliver id Primary index bytes)) = ap length is.1 in
-    let s = symbol_size m.f m.length in
-    let size : length bytes ≡ column_count m.f * s = carries.1.size in
-    omega (arith, long, length-sliver_frame id Primary index bytes is.0.id_size, size)
+    let size : length bytes ≡ column_count m.f * symbol_size m.f m.length = carries.1.size in
+    omega (arith, ap length is.1, length-sliver_frame id Primary index bytes is.0.id_size, size)
 
 -- and a bad proof
 proof_long : (digest : List ℕ → List ℕ) (id : List ℕ) (m : BlobMetadata) (payload : List ℕ) (p : EncodingProof) → Bytewise payload
@@ -54,9 +49,9 @@ proof_long : (digest : List ℕ → List ℕ) (id : List ℕ) (m : BlobMetadata)
 proof_long digest id m payload p fit carries =
     let is = read_is payload (Proof id p) (in_range payload fit) carries.0 in
     let s = symbol_size m.f m.length in
-    let long : length payload ≡ length (frame_text (Proof id p)) = ap length is.1 in
     let most : sliver_symbols p.axis m.f * (s + 327) ≤ column_count m.f * (s + 327) = mul-le-mul_right (s + 327) (narrow p.axis m.f) in
-    omega (arith, long, is.0.0, length-append id (proof_text p), bad_proof_long digest m p carries.1 is.0.1, most)
+    let long = bad_proof_long digest m p carries.1 is.0.1 in
+    omega (arith, ap length is.1, is.0.0, length-append id (proof_text p), long, most)
 
 -- beside what is known
 past_parts : (digest : List ℕ → List ℕ) (id : List ℕ) (k : Known) (payloads : List (List ℕ)) (payload : List ℕ) → HasKnown digest id k payloads → Bytewise payload

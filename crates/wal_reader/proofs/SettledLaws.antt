@@ -1,5 +1,5 @@
 -- What is kept is settled exactly where the payloads are.
-use Rattle.std.proofs.Common.{◌≡◌, ◌↔◌, ℕ, IsTrue, Bool, List, length, refl, subst, arith, inl, inr, ⊎_elim}
+use Rattle.std.proofs.Common.{◌↔◌, ℕ, IsTrue, Bool, List, length, refl, subst, arith, inl, inr, ⊎_elim}
 use Rattle.std.proofs.lemmas.Bool.{cases_lt}
 use Rattle.wal_shape.specs.Shape.{row_count}
 use Rattle.wal_shape.specs.Metadata.{BlobMetadata}
@@ -26,8 +26,7 @@ enough_held digest id k payloads was enough =
 held_enough : (digest : List ℕ → List ℕ) (id : List ℕ) (k : Known) (payloads : List (List ℕ)) (m : BlobMetadata) → HasKnown digest id k payloads
     → IsMetadataIn digest id payloads m → HasEnough digest id m payloads → IsEnough k
 held_enough digest id k payloads m was one has =
-    let same : m ≡ k.metadata = was.0.1 m one.0 in
-    let here : HasEnough digest id k.metadata payloads = subst (λ (x : BlobMetadata). HasEnough digest id x payloads) same has in
+    let here = subst (λ (x : BlobMetadata). HasEnough digest id x payloads) (was.0.1 m one.0) has in
     let few = collects_few digest id k.metadata payloads k.collected.indices.items k.collected.joined.items was.1.slivers in
     ⊎_elim
     (λ less. absurd (not_both digest id k.metadata payloads (length k.collected.indices.items) here
@@ -45,21 +44,18 @@ settled_to digest id (Two clash) payloads was settled =
 
 settled_from : (digest : List ℕ → List ℕ) (id : List ℕ) (kept : Kept) (payloads : List (List ℕ)) → HasKept digest id kept payloads → IsSettled digest id payloads
     → IsSettledKept kept
-settled_from digest id (Waiting parts) payloads was settled = ⊎_elim (λ two. was.0 two.0 two.2) (λ one. was.0 one.0 one.1.0) settled
-settled_from digest id (One k) payloads was settled =
-    ⊎_elim
-    (λ two. absurd (two.4 (no_two digest id payloads k.metadata two.0 two.1 was.0 two.2 two.3)))
-    (λ one. held_enough digest id k payloads one.0 was one.1 one.2)
-    settled
+settled_from digest id (Waiting parts) payloads was (inl two) = was.0 two.0 two.2
+settled_from digest id (Waiting parts) payloads was (inr one) = was.0 one.0 one.1.0
+settled_from digest id (One k) payloads was (inl two) =
+    absurd (two.4 (no_two digest id payloads k.metadata two.0 two.1 was.0 two.2 two.3))
+settled_from digest id (One k) payloads was (inr one) = held_enough digest id k payloads one.0 was one.1 one.2
 settled_from digest id (Two clash) payloads was settled = tt
 
 -- the test for the one is the test for the other
-settled_same : (digest : List ℕ → List ℕ) (id : List ℕ) (kept : Kept) (payloads : List (List ℕ)) (b : Bool) → HasKept digest id kept payloads
-    → (IsTrue b ↔ IsSettledKept kept) → (IsTrue b ↔ IsSettled digest id payloads)
-settled_same digest id kept payloads b was is =
-    (λ yes. settled_to digest id kept payloads was (is.0 yes), λ settled. is.1 (settled_from digest id kept payloads was settled))
-
 pub settled_heard : (digest : List ℕ → List ℕ) (id : List ℕ) (heard : HeardState) (payloads : List (List ℕ)) (b : Bool) → HasHeard digest id heard payloads
     → (IsTrue b ↔ IsSettledState heard) → (IsTrue b ↔ IsSettled digest id payloads)
 settled_heard digest id heard payloads b was is =
-    subst (λ (i : List ℕ). IsTrue b ↔ IsSettled digest i payloads) was.0 (settled_same digest heard.id heard.kept payloads b was.1 is)
+    rw (← was.0) (
+      λ yes. settled_to digest heard.id heard.kept payloads was.1 (is.0 yes),
+      λ settled. is.1 (settled_from digest heard.id heard.kept payloads was.1 settled),
+    )

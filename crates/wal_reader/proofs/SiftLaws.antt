@@ -5,18 +5,14 @@ use Rattle.wal_reader.specs.declared.known.Known.{Known}
 use Rattle.wal_reader.specs.Heard.{CarriesNoPart, HasParts, Sifts, none, kept, dropped}
 use Rattle.wal_reader.proofs.KnownLaws.{parts_past}
 
--- one more payload
-pub sift_kept : (id : List ℕ) (parts payloads : List (List ℕ)) (payload : List ℕ) → (CarriesNoPart id payload → ⊥) → Sifts id parts payloads
-    → Sifts id (parts ++ payload ∷ []) (payloads ++ payload ∷ [])
-sift_kept id parts payloads payload carries none = kept payload [] [] carries none
-sift_kept id parts payloads payload carries (kept p ps qs is rest) = kept p (ps ++ payload ∷ []) (qs ++ payload ∷ []) is (sift_kept id ps qs payload carries rest)
-sift_kept id parts payloads payload carries (dropped p ps qs is rest) = dropped p (ps ++ payload ∷ []) (qs ++ payload ∷ []) is (sift_kept id ps qs payload carries rest)
-
-pub sift_dropped : (id : List ℕ) (parts payloads : List (List ℕ)) (payload : List ℕ) → CarriesNoPart id payload → Sifts id parts payloads
-    → Sifts id parts (payloads ++ payload ∷ [])
-sift_dropped id parts payloads payload idle none = dropped payload [] [] idle none
-sift_dropped id parts payloads payload idle (kept p ps qs is rest) = kept p ps (qs ++ payload ∷ []) is (sift_dropped id ps qs payload idle rest)
-sift_dropped id parts payloads payload idle (dropped p ps qs is rest) = dropped p ps (qs ++ payload ∷ []) is (sift_dropped id ps qs payload idle rest)
+-- the parts of some payloads, and of more
+pub sift_both : (id : List ℕ) (parts payloads more behind : List (List ℕ)) → Sifts id parts payloads
+    → Sifts id more behind → Sifts id (parts ++ more) (payloads ++ behind)
+sift_both id parts payloads more behind none rest = rest
+sift_both id parts payloads more behind (kept p ps qs is first) rest =
+    kept p (ps ++ more) (qs ++ behind) is (sift_both id ps qs more behind first rest)
+sift_both id parts payloads more behind (dropped p ps qs is first) rest =
+    dropped p (ps ++ more) (qs ++ behind) is (sift_both id ps qs more behind first rest)
 
 -- the parts that are left are those of the payloads behind some whose parts are held
 pub record Reaches (digest : List ℕ → List ℕ) (id : List ℕ) (k : Known) (parts payloads : List (List ℕ)) : Type 0 where
@@ -32,19 +28,18 @@ past_one : (digest : List ℕ → List ℕ) (id : List ℕ) (k : Known) (done : 
 past_one digest id k done payload idle was =
     parts_past digest id k done payload (λ index bytes carries. idle.0 index bytes carries.0) (λ p carries. idle.1 p carries.0) was
 
--- the payloads without parts before the next part are passed
-pub record Stands (digest : List ℕ → List ℕ) (id : List ℕ) (k : Known) (part : List ℕ) (parts payloads : List (List ℕ)) : Type 0 where
-  pub done : List (List ℕ)
-  pub left : List (List ℕ)
-  pub all : payloads ≡ done ++ part ∷ left
-  pub held : HasParts digest id k done
-  pub sifts : Sifts id parts left
-
-pub next_part : (digest : List ℕ → List ℕ) (id : List ℕ) (k : Known) (part : List ℕ) (parts payloads done left : List (List ℕ)) → payloads ≡ done ++ left
-    → HasParts digest id k done → Sifts id (part ∷ parts) left → Stands digest id k part parts payloads
-next_part digest id k part parts payloads done left all held (kept p ps qs is rest) = record { done = done; left = qs; all = all; held = held; sifts = rest }
-next_part digest id k part parts payloads done left all held (dropped p ps qs idle rest) =
-    next_part digest id k part parts payloads (done ++ p ∷ []) qs (all ∙ sym (append_assoc done (p ∷ []) qs)) (past_one digest id k done p idle held) rest
+-- the payloads without parts before the next part are passed, and it is taken
+next_part : (digest : List ℕ → List ℕ) (id : List ℕ) (old new : Known) (part : List ℕ)
+    (parts payloads done left : List (List ℕ))
+    → ((done : List (List ℕ)) → HasParts digest id old done → HasParts digest id new (done ++ part ∷ []))
+    → payloads ≡ done ++ left → HasParts digest id old done → Sifts id (part ∷ parts) left
+    → Reaches digest id new parts payloads
+next_part digest id old new part parts payloads done left takes all held (kept p ps qs is rest) =
+    let seam = all ∙ sym (append_assoc done (part ∷ []) qs) in
+    record { done = done ++ part ∷ []; left = qs; all = seam; held = takes done held; sifts = rest }
+next_part digest id old new part parts payloads done left takes all held (dropped p ps qs idle rest) =
+    next_part digest id old new part parts payloads (done ++ p ∷ []) qs takes
+    (all ∙ sym (append_assoc done (p ∷ []) qs)) (past_one digest id old done p idle held) rest
 
 -- and those behind the last part
 pub no_part : (digest : List ℕ → List ℕ) (id : List ℕ) (k : Known) (payloads done left : List (List ℕ)) → payloads ≡ done ++ left
@@ -58,14 +53,7 @@ pub reaches_more : (digest : List ℕ → List ℕ) (id : List ℕ) (old new : K
     → ((done : List (List ℕ)) → HasParts digest id old done → HasParts digest id new (done ++ part ∷ []))
     → Reaches digest id old (part ∷ parts) payloads → Reaches digest id new parts payloads
 reaches_more digest id old new part parts payloads takes was =
-    let at = next_part digest id old part parts payloads was.done was.left was.all was.held was.sifts in
-    record {
-      done = at.done ++ part ∷ [];
-      left = at.left;
-      all = at.all ∙ sym (append_assoc at.done (part ∷ []) at.left);
-      held = takes at.done at.held;
-      sifts = at.sifts;
-    }
+    next_part digest id old new part parts payloads was.done was.left takes was.all was.held was.sifts
 
 -- before the first part, and behind the last
 pub reaches_none : (digest : List ℕ → List ℕ) (id : List ℕ) (k : Known) (parts payloads : List (List ℕ)) → HasParts digest id k [] → Sifts id parts payloads

@@ -1,17 +1,16 @@
 -- What a reader stands for.
-use Rattle.std.proofs.Common.{◌≡◌, ℕ, zero, suc, ◌+◌, ◌<◌, ◌≤◌, ◌⊎◌, inl, inr, List, [], ◌∷◌, ◌++◌, length, None, Some, Result, Ok, Err, refl, sym, ap, subst, ◌∙◌, append-nil, arith}
+use Rattle.std.proofs.Common.{◌≡◌, ℕ, ◌+◌, ◌<◌, ◌≤◌, List, [], ◌++◌, length, None, Result, Ok, Err, sym, ap, subst, ◌∙◌, append-nil, arith}
 use Rattle.std.specs.Prelude.{replicate, IfOk, IfErr}
-use Rattle.std.proofs.lemmas.Bool.{cases_lt}
 use Rattle.std.proofs.lemmas.List.{length-append, length-replicate}
 use Rattle.wal_frame.specs.Front.{IsWrong}
 use Rattle.wal_frame.specs.Stream.{IsStream, IsMalformed}
-use Rattle.wal_reader.specs.Heard.{HeardState, HasHeard, IsSettledState}
+use Rattle.wal_reader.specs.Heard.{HeardState, HasHeard}
 use Rattle.wal_reader.specs.Intake.{IntakeState, IsCut, IsWrongAt, ReadsPast, StandsAt}
 use Rattle.wal_reader.specs.inside.Intake.{Refuses, Takes}
 use Rattle.wal_reader.specs.Outcome.{IsAnswer}
-use Rattle.wal_reader.specs.Standing.{ReaderState, StandsFor, Feeds, FinishesStream, IsStreamRead}
+use Rattle.wal_reader.specs.Standing.{ReaderState, Feeds, FinishesStream}
 use Rattle.wal_reader.specs.declared.errors.FeedError.{FeedError}
-use Rattle.wal_reader.specs.declared.errors.FeedError.TheVariants.{Malformed, TooLong, Memory}
+use Rattle.wal_reader.specs.declared.errors.FeedError.TheVariants.{Malformed, TooLong}
 use Rattle.wal_reader.specs.declared.errors.FinishError.{FinishError}
 use Rattle.wal_reader.specs.declared.errors.FinishError.TheVariants as finish
 use Rattle.wal_reader.specs.declared.outcome.ReadAnswer.{ReadAnswer}
@@ -29,50 +28,34 @@ one_payloads digest id i stream payloads front rest s cut =
 pub never_wrong : (digest : List ℕ → List ℕ) (id : List ℕ) (i : IntakeState) (stream : List ℕ) (place : ℕ) → StandsAt digest id i stream → IsWrongAt place stream → ⊥
 never_wrong digest id i stream place s w =
     let same = one_cut s.payloads w.payloads s.front w.front s.rest w.rest s.cut.whole w.whole (part_none s.rest s.cut.part) (wrong_none w.rest w.wrong) (sym s.cut.parts ∙ w.parts) in
-    let P : List ℕ → Type 0 = λ t. IsWrong t in
-    wrong_part s.rest (subst P (sym same.2) w.wrong) s.cut.part
+    wrong_part s.rest (subst (λ (t : List ℕ). IsWrong t) (sym same.2) w.wrong) s.cut.part
 
 -- what is read past has begun
 past_begun : (digest : List ℕ → List ℕ) (id : List ℕ) (heard : HeardState) (payloads : List (List ℕ)) (missing : ℕ) (rest : List ℕ) → ReadsPast digest id heard payloads missing rest → rest ≡ [] → ⊥
-past_begun digest id heard payloads zero rest reads none = (let l = reads [] refl in absurd (omega (arith, ap length none, ap length l.3, length-append rest [])))
-past_begun digest id heard payloads (suc missing) rest reads none =
-    let l = reads (0 ∷ replicate missing 0) (ap suc (length-replicate {A = ℕ} missing 0)) in
-    let same : 0 ∷ replicate missing 0 ≡ rest ++ (0 ∷ replicate missing 0) = ap (λ (t : List ℕ). t ++ (0 ∷ replicate missing 0)) (sym none) in
-    let first = same ∙ l.3 in
-    absurd cc
+past_begun digest id heard payloads missing rest reads none =
+    let l = reads (replicate missing 0) (length-replicate {A = ℕ} missing 0) in
+    grind (arith, l.3, none)
 
--- a stream that ends within an envelope is malformed there
-cut_malformed : (payloads : List (List ℕ)) (front rest stream : List ℕ) (place : ℕ) → IsCut payloads front rest stream → (rest ≡ [] → ⊥) → length front ≡ place → IsMalformed place stream
-cut_malformed payloads front rest stream place cut some size = record {
-  front = front;
-  payloads = payloads;
-  rest = rest;
-  parts = cut.parts;
-  size = size;
-  whole = cut.whole;
-  more = some;
-  unfit = part_none rest cut.part;
-}
-
--- within one that is read past
+-- a stream that ends within an envelope that is read past is malformed there
 pub past_malformed : (digest : List ℕ → List ℕ) (id : List ℕ) (i : IntakeState) (stream : List ℕ) → 0 < i.missing → StandsAt digest id i stream → IsMalformed i.place stream
 past_malformed digest id i stream some s =
-    let reads = rest_past digest id i s.payloads s.rest s.keeps some in
-    cut_malformed s.payloads s.front s.rest stream i.place s.cut (past_begun digest id i.heard s.payloads i.missing s.rest reads) s.place
-
--- within one that is kept
-pub kept_malformed : (digest : List ℕ → List ℕ) (id : List ℕ) (i : IntakeState) (stream : List ℕ) → i.missing ≡ 0 → 0 < length i.kept → StandsAt digest id i stream → IsMalformed i.place stream
-kept_malformed digest id i stream none some s =
-    let is = rest_kept digest id i s.payloads s.rest s.keeps none in
-    cut_malformed s.payloads s.front s.rest stream i.place s.cut (λ nil. absurd (omega (arith, some, ap length is, ap length nil))) s.place
+    let reads = rest_past digest id i s.payloads s.rest s.keeps some in record {
+      front = s.front;
+      payloads = s.payloads;
+      rest = s.rest;
+      parts = s.cut.parts;
+      size = s.place;
+      whole = s.cut.whole;
+      more = past_begun digest id i.heard s.payloads i.missing s.rest reads;
+      unfit = part_none s.rest s.cut.part;
+    }
 
 -- behind whole envelopes
 whole_stream : (digest : List ℕ → List ℕ) (id : List ℕ) (i : IntakeState) (stream : List ℕ) → i.missing ≡ 0 → i.kept ≡ [] → (s : StandsAt digest id i stream) → IsStream s.payloads stream
 whole_stream digest id i stream none empty s =
     let nil : s.rest ≡ [] = rest_kept digest id i s.payloads s.rest s.keeps none ∙ empty in
     let all : stream ≡ s.front = s.cut.parts ∙ ap (λ (t : List ℕ). s.front ++ t) nil ∙ append-nil s.front in
-    let P : List ℕ → Type 0 = λ t. IsStream s.payloads t in
-    subst P (sym all) s.cut.whole
+    subst (λ (t : List ℕ). IsStream s.payloads t) (sym all) s.cut.whole
 
 pub never_malformed : (digest : List ℕ → List ℕ) (id : List ℕ) (i : IntakeState) (stream : List ℕ) → i.missing ≡ 0 → i.kept ≡ [] → StandsAt digest id i stream
     → (place : ℕ) → IsMalformed place stream → ⊥
@@ -81,24 +64,18 @@ never_malformed digest id i stream none empty s place m =
     let same = one_cut s.payloads m.payloads stream m.front [] m.rest whole m.whole (part_none [] tt) m.unfit (append-nil stream ∙ m.parts) in
     m.more (sym same.2)
 
--- the answer for a whole stream
-pub finishes_answer : (digest : List ℕ → List ℕ) (id : List ℕ) (i : IntakeState) (stream : List ℕ) (answer : ReadAnswer) → i.missing ≡ 0 → i.kept ≡ [] → (s : StandsAt digest id i stream)
-    → IsAnswer digest id s.payloads answer → IsStreamRead digest id stream answer
-finishes_answer digest id i stream answer none empty s is = record {
-  payloads = s.payloads;
-  whole = whole_stream digest id i stream none empty s;
-  is = is;
-  enough = λ m one has. enough digest id s.payloads m answer.outcome is.0 one has;
-}
-
--- or memory ran out
+-- the answer for a whole stream, or memory ran out
 pub finishes_whole : (digest : List ℕ → List ℕ) (id : List ℕ) (i : IntakeState) (stream : List ℕ) (r : Result ReadAnswer FinishError) → i.missing ≡ 0 → i.kept ≡ []
     → ((payloads : List (List ℕ)) → HasHeard digest id i.heard payloads → IfOk r (IsAnswer digest id payloads)) → IfErr r (λ e. e ≡ finish.Memory) → StandsAt digest id i stream
     → FinishesStream digest id stream r
-finishes_whole digest id i stream (Ok answer) none empty answers memory s = finishes_answer digest id i stream answer none empty s (answers s.payloads s.heard)
+finishes_whole digest id i stream (Ok answer) none empty answers memory s = record {
+  payloads = s.payloads;
+  whole = whole_stream digest id i stream none empty s;
+  is = answers s.payloads s.heard;
+  enough = λ m one has. enough digest id s.payloads m answer.outcome (answers s.payloads s.heard).0 one has;
+}
 finishes_whole digest id i stream (Err e) none empty answers memory s =
-    let P : FinishError → Type 0 = λ x. FinishesStream digest id stream (Err x) in
-    subst P (sym memory) (never_malformed digest id i stream none empty s)
+    rw memory (never_malformed digest id i stream none empty s)
 
 -- ---- feeding
 
@@ -106,23 +83,11 @@ pub feeds_ok : (digest : List ℕ → List ℕ) (id : List ℕ) (old new : Intak
     → Takes digest old new piece → new.taken ≤ 134217728 → StandsAt digest id old stream → Feeds digest id r (stream ++ piece) (Ok done)
 feeds_ok digest id old new r stream piece done well same takes few s =
     let next = takes id stream s in
-    let P : IntakeState → Type 0 = λ i. StandsAt digest id i (stream ++ piece) in
-    ((well, subst P (sym same) next), omega (arith, next.taken, few), λ place wrong. never_wrong digest id new (stream ++ piece) place next wrong)
-
--- too long, or not
-not_too_long : (e : FeedError) (n : ℕ) → (134217728 < n → e ≡ TooLong) → (e ≡ TooLong → ⊥) → n ≤ 134217728
-not_too_long e n long not = elim (cases_lt 134217728 n) [ inl more ↦ absurd (not (long more)) | inr few ↦ few ]
+    let right = λ (place : ℕ). never_wrong digest id new (stream ++ piece) place next in
+    ((well, rw same next), omega (arith, next.taken, few), right)
 
 pub feeds_err : (digest : List ℕ → List ℕ) (id : List ℕ) (old : IntakeState) (r : ReaderState) (stream piece : List ℕ) (e : FeedError) → (134217728 < old.taken + length piece → e ≡ TooLong)
     → Refuses digest old piece e → StandsAt digest id old stream → Feeds digest id r (stream ++ piece) (Err e)
 feeds_err digest id old r stream piece (Malformed place) long refuses s =
-    let few = not_too_long (Malformed place) (old.taken + length piece) long (λ same. absurd cc) in
-    (refuses id stream s, omega (arith, few, s.taken, length-append stream piece))
-feeds_err digest id old r stream piece TooLong long refuses s = omega (arith, refuses, s.taken, length-append stream piece)
-feeds_err digest id old r stream piece Memory long refuses s =
-    let few = not_too_long Memory (old.taken + length piece) long (λ same. absurd cc) in
-    omega (arith, few, s.taken, length-append stream piece)
-
--- a settled one has memory
-pub has_memory : (digest : List ℕ → List ℕ) (old : IntakeState) (piece : List ℕ) (e : FeedError) → Refuses digest old piece e → IsSettledState old.heard → e ≡ Memory → ⊥
-has_memory digest old piece e refuses settled same = (let P : FeedError → Type 0 = λ x. Refuses digest old piece x in subst P same refuses settled)
+    (refuses id stream s, grind (arith, s.taken, length-append stream piece))
+feeds_err digest id old r stream piece e long refuses s = grind (arith, s.taken, length-append stream piece)

@@ -12,12 +12,10 @@ loop-number-init c = record { marks = marks_none; distinct = λ i j d before wit
 
 pub returns-then-seen-number : goal.returns-then-seen-number
 returns-then-seen-number c =
-    let numbers = c.args.numbers.now in
     let i = c.loop-number.number-index in
-    let x = get_or numbers i 0 in
     let inside = c.loop-number-test.true in
-    let found = (c.loop-number.invariant.marks.up x (c.requires i 0 inside)).0 c.if-seen-number.true in
-    ((λ t. absurd (false≢true t)), (λ distinct. absurd (repeated numbers i x inside refl found distinct)))
+    let found = (c.loop-number.invariant.marks.up _ (c.requires i 0 inside)).0 c.if-seen-number.true in
+    ((λ t. absurd (false≢true t)), (λ distinct. absurd (repeated c.args.numbers.now i _ inside refl found distinct)))
 
 pub loop-number-preserved : goal.loop-number-preserved
 loop-number-preserved c =

@@ -1,8 +1,9 @@
 use Rattle.wal_shape.specs.MetaRef.{metadata_shown}
 use Rattle.std.proofs.Common.{◌≡◌, ◌∙◌, take, ap}
+use Rattle.std.proofs.lemmas.Result.{IfOk-weaker}
 use Rattle.wal_evidence.specs.declared.evidence.Verdict.{Verdict}
 use Rattle.wal_evidence.specs.Evidence.{IsVerdictOn, Judges}
-use Rattle.wal_evidence.proofs.Verdicts.{blob_long, only_verdict, weaken}
+use Rattle.wal_evidence.proofs.Verdicts.{blob_long, only_verdict}
 use Rattle.wal_evidence.proofs.judging.judge.Goals as goal
 
 pub judge_blob-requires : goal.judge_blob-requires
@@ -15,7 +16,8 @@ returns-clause-only g c =
     let digest = g.H.Hash32.digest in
     let m = metadata_shown c.args.m in
     let blob = c.without_padding-blob.result in
-    weaken (IsVerdictOn digest m blob) (λ (v : Verdict). (other : Verdict) → Judges digest m c.args.indices.now c.args.joined.now other → other ≡ v) c.judge_blob.result
+    IfOk-weaker c.judge_blob.result (IsVerdictOn digest m blob)
+    (λ (v : Verdict). (other : Verdict) → Judges digest m c.args.indices.now c.args.joined.now other → other ≡ v)
     (λ v judged other found. only_verdict digest m c.shape-shape.result c.args.indices.now c.args.joined.now c.in_ok-block.block blob v other
     c.shape-shape.ensures.value c.in_ok-block.ensures.only (c.without_padding-blob.ensures ∙ ap (λ n. take n c.in_ok-block.block) c.length.ensures.value) judged found)
     c.judge_blob.ensures

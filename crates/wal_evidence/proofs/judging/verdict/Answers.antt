@@ -1,9 +1,9 @@
-use Rattle.std.proofs.Common.{rules, ◌≡◌, ◌⊎◌, ℕ, List, IfOk}
+use Rattle.std.proofs.Common.{rules, ◌≡◌, ◌⊎◌, ℕ, List}
+use Rattle.std.proofs.lemmas.Result.{IfOk-weaker}
 use Rattle.wal_evidence.specs.declared.evidence.Verdict.{Verdict}
 use Rattle.wal_evidence.specs.declared.evidence.Verdict.TheVariants as told
 use Rattle.wal_evidence.specs.Evidence.{CommitsMatrix, HasFalseSliver, IsJudgedBy}
 use Rattle.wal_evidence.proofs.FalseSlivers.{true_or_false}
-use Rattle.wal_evidence.proofs.Verdicts.{weaken}
 use Rattle.wal_evidence.proofs.judging.verdict.Goals as goal
 
 pub returns-in-Slivers-clause-committed : goal.returns-in-Slivers-clause-committed
@@ -11,15 +11,11 @@ returns-in-Slivers-clause-committed g c =
     let digest = g.H.Hash32.digest in
     let m = c.args.e.now.metadata in
     let basis = c.args.e.now.basis in
-    let only : IfOk c.judge.result (λ v. (other : Verdict) → IsJudgedBy digest m basis other → other ≡ v) = search rules in
-    weaken (λ v. (other : Verdict) → IsJudgedBy digest m basis other → other ≡ v)
+    IfOk-weaker c.judge.result (λ v. (other : Verdict) → IsJudgedBy digest m basis other → other ≡ v)
     (λ v. (blob matrix : List ℕ) → CommitsMatrix digest m blob matrix → (v ≡ told.Bytes blob) ⊎ HasFalseSliver digest m matrix basis)
-    c.judge.result (λ v one blob matrix is. true_or_false digest m basis v c.view-m.ensures.metadata c.requires.held one blob matrix is) only
+    (λ v one. true_or_false digest m basis v c.view-m.ensures.metadata c.requires.held one) (search rules)
 
 pub returns-in-Proof-clause-committed : goal.returns-in-Proof-clause-committed
 returns-in-Proof-clause-committed g c = λ blob matrix is.
-    let digest = g.H.Hash32.digest in
-    let m = c.args.e.now.metadata in
-    let basis = c.args.e.now.basis in
-    let only : (other : Verdict) → IsJudgedBy digest m basis other → other ≡ told.Reject = search rules in
-    true_or_false digest m basis told.Reject c.view-m.ensures.metadata c.requires.held only blob matrix is
+    true_or_false g.H.Hash32.digest c.args.e.now.metadata c.args.e.now.basis told.Reject c.view-m.ensures.metadata
+    c.requires.held (search rules) blob matrix is

@@ -1,4 +1,5 @@
-use Rattle.std.proofs.Common.{rules, ◌≡◌, ◌*◌, ◌∙◌, length, ap, sym, arith}
+use Rattle.std.proofs.Common.{rules, ◌≡◌, ◌*◌, ◌≤◌, ◌∙◌, length, ap, sym, arith}
+use Rattle.std.proofs.lemmas.List.{take_all}
 use Rattle.wal_shape.specs.declared.opening.Opening.{Opening}
 use Rattle.wal_shape.specs.Opening.{opening_shown}
 use Rattle.wal_shape.specs.Shape.{symbol_size}
@@ -6,7 +7,7 @@ use Rattle.wal_shape.specs.MetaRef.{metadata_shown}
 use Rattle.wal_shape.specs.ProofRef.{proof_shown}
 use Rattle.wal_matrix.proofs.Places.{run_fits}
 use Rattle.wal_commit.specs.Held.{HoldsOpening}
-use Rattle.wal_evidence.proofs.Openings.{held_all, held_more, symbol_written}
+use Rattle.wal_evidence.proofs.Openings.{held_more, symbol_written}
 use Rattle.wal_evidence.proofs.proof.copy_symbols.Goals as goal
 
 pub loop-place-preserved : goal.loop-place-preserved
@@ -31,7 +32,6 @@ loop-place-preserved g c =
 
 pub returns-clause-held : goal.returns-clause-held
 returns-clause-held g c =
-    let m = metadata_shown c.args.m in
-    let p = proof_shown c.args.p.now in
-    held_all (HoldsOpening g.H.Hash32.digest m p.axis p.index) p.openings c.loop-place.place
-    (omega (arith, c.loop-place-test.false, c.count-place-end.ensures.value)) c.loop-place.invariant.held
+    let all : length (proof_shown c.args.p.now).openings ≤ c.loop-place.place =
+    omega (arith, c.loop-place-test.false, c.count-place-end.ensures.value) in
+    rw (take_all _ _ all) at c.loop-place.invariant.held

@@ -1,18 +1,14 @@
 use Rattle.std.proofs.Common.{rules}
 use Rattle.wal_shape.specs.MetaRef.{metadata_shown}
 use Rattle.wal_shape.specs.ProofRef.{proof_shown}
-use Rattle.wal_evidence.specs.BadProof.{Checks}
 use Rattle.wal_evidence.specs.declared.proof.ProofVerdict.TheVariants.{Repeated}
 use Rattle.wal_evidence.proofs.OneCheck.{one_check}
 use Rattle.wal_evidence.proofs.proof.proof_check.Goals as goal
 
 pub returns-then-not-are_distinct-clause-only : goal.returns-then-not-are_distinct-clause-only
 returns-then-not-are_distinct-clause-only g c = λ other is.
-    let digest = g.H.Hash32.digest in
-    let m = metadata_shown c.args.m in
-    let p = proof_shown c.args.p.now in
-    let here : Checks digest m p Repeated = search rules in
-    one_check digest m p c.shape.ensures.metadata.shape other Repeated is here
+    one_check g.H.Hash32.digest (metadata_shown c.args.m) (proof_shown c.args.p.now) c.shape.ensures.metadata.shape
+    other Repeated is (search rules)
 
 pub returns-clause-only : goal.returns-clause-only
 returns-clause-only g c = λ other is.

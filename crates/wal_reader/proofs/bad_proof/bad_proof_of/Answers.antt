@@ -1,16 +1,13 @@
 use Rattle.std.proofs.Common.{rules}
 use Rattle.wal_shape.specs.MetaRef.{metadata_shown}
 use Rattle.wal_shape.specs.ProofRef.{proof_shown}
-use Rattle.wal_evidence.specs.BadProof.{IsBadProof}
 use Rattle.wal_reader.proofs.FirstOnes.{not_bad}
 use Rattle.wal_reader.proofs.bad_proof.bad_proof_of.Goals as goal
 
 pub returns-else-is_bad_proof-clause-none : goal.returns-else-is_bad_proof-clause-none
 returns-else-is_bad_proof-clause-none g c =
-    let m = metadata_shown c.args.m in
-    let p = proof_shown c.in-Some.p in
-    let good : IsBadProof g.H.Hash32.digest m p → ⊥ = search rules in
-    not_bad g.H.Hash32.digest c.args.id.now.0 m c.args.payload.now p c.in-Some.ensures.some good
+    not_bad g.H.Hash32.digest c.args.id.now.0 (metadata_shown c.args.m) c.args.payload.now (proof_shown c.in-Some.p)
+    c.in-Some.ensures.some (search rules)
 
 pub returns-then-is_bad_proof-clause-some : goal.returns-then-is_bad_proof-clause-some
 returns-then-is_bad_proof-clause-some g c = (c.in-Some.ensures.some, c.is_bad_proof.ensures.bad.0 c.if-is_bad_proof.true)

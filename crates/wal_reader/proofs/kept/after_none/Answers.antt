@@ -1,15 +1,12 @@
-use Rattle.std.proofs.Common.{List, ℕ, sym, subst}
 use Rattle.wal_shape.specs.MetaRef.{metadata_shown}
-use Rattle.wal_reader.specs.Heard.{Sifts}
 use Rattle.wal_reader.proofs.HeardLaws.{known_new, none_still}
 use Rattle.wal_reader.proofs.kept.after_none.Goals as goal
 
 pub returns-in_ok-known_from-in-Some : goal.returns-in_ok-known_from-in-Some
 returns-in_ok-known_from-in-Some g c = λ payloads before sifts.
-    let id = c.args.id.now.0 in
-    let lent : Sifts id c.deref.result.now payloads = subst (λ (ps : List (List ℕ)). Sifts id ps payloads) (sym c.deref.ensures.value) sifts in
-    known_new g.H.Hash32.digest id c.in_ok-known_from-in-Some.field-0 payloads c.args.payload.now (metadata_shown c.in-Some.m) before c.in-Some.ensures.some
-    c.in_ok-known_from-in-Some.ensures.metadata (c.in_ok-known_from-in-Some.ensures.parts payloads lent)
+    known_new g.H.Hash32.digest c.args.id.now.0 c.in_ok-known_from-in-Some.field-0 payloads c.args.payload.now
+    (metadata_shown c.in-Some.m) before c.in-Some.ensures.some c.in_ok-known_from-in-Some.ensures.metadata
+    (c.in_ok-known_from-in-Some.ensures.parts payloads (rw c.deref.ensures.value sifts))
 
 pub returns-in_ok-wait-in-None : goal.returns-in_ok-wait-in-None
 returns-in_ok-wait-in-None g c = λ payloads before sifts.

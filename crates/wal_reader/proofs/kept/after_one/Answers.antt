@@ -1,23 +1,18 @@
-use Rattle.std.proofs.Common.{subst, sym, ◌∙◌}
+use Rattle.std.proofs.Common.{sym, ◌∙◌}
 use Rattle.wal_shape.specs.MetaRef.{metadata_shown}
-use Rattle.wal_shape.specs.Metadata.{BlobMetadata}
-use Rattle.wal_commit.specs.Identifier.{AreDigestedFor}
 use Rattle.wal_reader.proofs.HeardLaws.{known_still, two_new}
 use Rattle.wal_reader.proofs.kept.after_one.Goals as goal
 
 pub returns-in-Some-clause-heard : goal.returns-in-Some-clause-heard
 returns-in-Some-clause-heard g c = λ payloads was.
-    let digest = g.H.Hash32.digest in
-    let id = c.args.id.now.0 in
-    let payload = c.args.payload.now in
     let m = c.args.known.metadata in
     let other = metadata_shown c.in-Some.other in (
       m,
       other,
-      two_new digest id payloads payload m other was.0 was.2 c.in-Some.ensures.some (λ e. c.in-Some.ensures.apart (e ∙ sym c.view.ensures.value)),
+      two_new g.H.Hash32.digest c.args.id.now.0 payloads c.args.payload.now m other was.0 was.2 c.in-Some.ensures.some
+          (λ e. c.in-Some.ensures.apart (e ∙ sym c.view.ensures.value)),
       c.collide_metadata-clash.ensures.collision,
-      subst (λ (k : BlobMetadata). AreDigestedFor digest k other c.collide_metadata-clash.result.left c.collide_metadata-clash.result.right) c.view-in-Some.ensures.value
-          c.collide_metadata-clash.ensures.texts,
+      rw c.view-in-Some.ensures.value at c.collide_metadata-clash.ensures.texts,
     )
 
 pub returns-in_ok-take_part-in-None-clause-heard : goal.returns-in_ok-take_part-in-None-clause-heard

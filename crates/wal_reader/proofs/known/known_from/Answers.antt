@@ -1,6 +1,6 @@
-use Rattle.std.proofs.Common.{◌≡◌, ◌+◌, ◌∷◌, List, [], ℕ, drop, get_or, sym, ap, subst, ◌∙◌}
+use Rattle.std.proofs.Common.{◌≡◌, ◌+◌, ◌∷◌, drop, ◌∙◌}
 use Rattle.std.proofs.lemmas.List.{drop_more, drop_all}
-use Rattle.wal_reader.proofs.SiftLaws.{Reaches, reaches_all, reaches_more, reaches_none}
+use Rattle.wal_reader.proofs.SiftLaws.{reaches_all, reaches_more, reaches_none}
 use Rattle.wal_reader.proofs.known.known_from.Goals as goal
 
 pub loop-part-init : goal.loop-part-init
@@ -14,29 +14,22 @@ loop-part-init g c =
 
 pub loop-part-preserved : goal.loop-part-preserved
 loop-part-preserved g c =
-    let digest = g.H.Hash32.digest in
-    let id = c.args.id.now.0 in
     let parts = c.args.parts.now in
     let i = c.loop-part.part-index in
-    let old = c.loop-part.known in
-    let new = c.take_part.new.known in
-    let lent = c.as_slice.ensures in
-    let item = c.part-item.is in
-    let part : c.as_slice.result.now ≡ get_or parts i c.as_slice.result.now = cc in
+    let first = drop_more parts i c.as_slice.result.now c.loop-part-test.true in
     let left : drop i parts ≡ c.as_slice.result.now ∷ drop (i + 1) parts =
-    drop_more parts i c.as_slice.result.now c.loop-part-test.true ∙ ap (λ (p : List ℕ). p ∷ drop (i + 1) parts) (sym part) in
+    cc (first, c.as_slice.ensures, c.part-item.is) in
     record {
       metadata = c.take_part.ensures.metadata ∙ c.loop-part.invariant.metadata;
       f = c.take_part.ensures.f;
       parts = λ payloads sifts.
-          reaches_more digest id old new c.as_slice.result.now (drop (i + 1) parts) payloads (c.in_ok-take_part.ensures.taken)
-          (subst (λ (ps : List (List ℕ)). Reaches digest id old ps payloads) left (c.loop-part.invariant.parts payloads sifts));
+          reaches_more g.H.Hash32.digest c.args.id.now.0 c.loop-part.known c.take_part.new.known c.as_slice.result.now
+          (drop (i + 1) parts) payloads c.in_ok-take_part.ensures.taken
+          (rw left at (c.loop-part.invariant.parts payloads sifts));
     }
 
 pub returns-clause-parts : goal.returns-clause-parts
 returns-clause-parts g c = λ payloads sifts.
-    let digest = g.H.Hash32.digest in
-    let id = c.args.id.now.0 in
-    let none : drop c.loop-part.part-index c.args.parts.now ≡ [] = drop_all c.loop-part.part-index c.args.parts.now c.loop-part-test.false in
-    reaches_all digest id c.loop-part.known payloads
-    (subst (λ (ps : List (List ℕ)). Reaches digest id c.loop-part.known ps payloads) none (c.loop-part.invariant.parts payloads sifts))
+    let none = drop_all c.loop-part.part-index c.args.parts.now c.loop-part-test.false in
+    reaches_all g.H.Hash32.digest c.args.id.now.0 c.loop-part.known payloads
+    (rw none at (c.loop-part.invariant.parts payloads sifts))

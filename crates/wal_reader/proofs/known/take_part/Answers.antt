@@ -1,10 +1,7 @@
-use Rattle.std.proofs.Common.{◌++◌, ◌∷◌, [], sym, subst, ◌∙◌, None}
+use Rattle.std.proofs.Common.{◌++◌, ◌∷◌, [], sym, ◌∙◌, None}
 use Rattle.std.proofs.lemmas.Bool.{false≢true}
 use Rattle.std.proofs.lemmas.Result.{on_ok_weaker}
-use Rattle.wal_reader.specs.declared.collecting.Collected.{Collected}
-use Rattle.wal_shape.specs.Metadata.{BlobMetadata}
 use Rattle.wal_reader.specs.Heard.{HasParts, IsEnough, IsProofFound}
-use Rattle.wal_reader.specs.Outcome.{Collects}
 use Rattle.wal_reader.proofs.KnownLaws.{parts_enough, parts_found, parts_more}
 use Rattle.wal_reader.proofs.known.take_part.Goals as goal
 
@@ -31,14 +28,11 @@ returns-clause-taken g c = λ payloads was.
     let middle = c.take_sliver.new.known in
     let new = c.take_proof.new.known in
     let short : IsEnough old → ⊥ = λ e. false≢true (sym c.if-has_enough.false ∙ c.has_enough.ensures.1 e) in
-    let F : BlobMetadata → Type 0 = λ m. IsProofFound digest id m payloads middle.proof in
-    let before : IsProofFound digest id old.metadata payloads middle.proof =
-    subst (λ o. IsProofFound digest id old.metadata payloads o) (sym c.take_sliver.ensures.proof) (parts_found digest id old payloads short was) in
-    let found = c.take_proof.ensures.found payloads (subst F (sym c.take_sliver.ensures.metadata) before) in
-    let A : Collected → Type 0 = λ x. Collects digest id old.metadata (payloads ++ payload ∷ []) x.indices.items x.joined.items in
-    let collects : A new.collected = subst A (sym c.take_proof.ensures.collected) (c.in_ok-take_sliver.ensures.added payloads was.slivers) in
+    let before : IsProofFound digest id middle.metadata payloads middle.proof =
+    rw (c.take_sliver.ensures.metadata, c.take_sliver.ensures.proof) (parts_found digest id old payloads short was) in
+    let collects = rw (← c.take_proof.ensures.collected) at (c.in_ok-take_sliver.ensures.added payloads was.slivers) in
     on_ok_weaker {P = IsProofFound digest id middle.metadata (payloads ++ payload ∷ []) new.proof} {Q = HasParts digest id new (payloads ++ payload ∷ [])} c.take_proof.result
     (λ now. parts_more digest id old new payloads payload short (c.take_proof.ensures.metadata ∙ c.take_sliver.ensures.metadata)
     (c.take_proof.ensures.f ∙ c.take_sliver.ensures.f ∙ c.requires) collects
-    (λ still was_found. subst (λ (m : BlobMetadata). IsProofFound digest id m (payloads ++ payload ∷ []) new.proof) c.take_sliver.ensures.metadata now) was)
-    found
+    (λ still was_found. rw c.take_sliver.ensures.metadata at now) was)
+    (c.take_proof.ensures.found payloads before)

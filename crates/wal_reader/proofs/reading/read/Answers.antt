@@ -1,34 +1,21 @@
+use Rattle.std.proofs.Common.{List, ℕ, Result, Ok, Err, IfOk}
 use Rattle.wal_shape.specs.Metadata.{BlobMetadata}
 use Rattle.wal_reader.specs.Outcome.{HasEnough, HasEvidence, IsAnswer, IsVerdict, IsMetadataIn, IsOnlyOutcome, IsOutcome}
 use Rattle.wal_reader.proofs.Enough.{enough}
-use Rattle.wal_reader.proofs.Gathering.{weaken}
+use Rattle.wal_reader.specs.declared.outcome.ReadAnswer.{ReadAnswer}
 use Rattle.wal_reader.proofs.reading.read.Goals as goal
 
-pub returns-clause-outcome : goal.returns-clause-outcome
-returns-clause-outcome g c =
-    let digest = g.H.Hash32.digest in
-    let id = c.args.id.now.0 in
-    let payloads = c.args.payloads.now in
-    weaken (IsAnswer digest id payloads) (λ a. IsOutcome digest id payloads a.outcome) c.answer.result (λ a is. is.0) c.answer.ensures
+-- what an answer is, of a result
+parts : {E : Type 0} (digest : List ℕ → List ℕ) (id : List ℕ) (payloads : List (List ℕ)) (r : Result ReadAnswer E)
+    → IfOk r (IsAnswer digest id payloads)
+    → IfOk r (λ a. IsOutcome digest id payloads a.outcome) × IfOk r (λ a. IsOnlyOutcome digest id payloads a.outcome)
+    × IfOk r (λ a. HasEvidence digest id payloads a.outcome a.evidence)
+    × IfOk r (λ a. (m : BlobMetadata) → IsMetadataIn digest id payloads m → HasEnough digest id m payloads
+    → IsVerdict a.outcome)
+parts digest id payloads (Ok a) is = (is.0, is.1, is.2, λ m one has. enough digest id payloads m a.outcome is.0 one has)
+parts digest id payloads (Err e) is = (tt, tt, tt, tt)
 
-pub returns-clause-only : goal.returns-clause-only
-returns-clause-only g c =
-    let digest = g.H.Hash32.digest in
-    let id = c.args.id.now.0 in
-    let payloads = c.args.payloads.now in
-    weaken (IsAnswer digest id payloads) (λ a. IsOnlyOutcome digest id payloads a.outcome) c.answer.result (λ a is. is.1) c.answer.ensures
-
-pub returns-clause-evidence : goal.returns-clause-evidence
-returns-clause-evidence g c =
-    let digest = g.H.Hash32.digest in
-    let id = c.args.id.now.0 in
-    let payloads = c.args.payloads.now in
-    weaken (IsAnswer digest id payloads) (λ a. HasEvidence digest id payloads a.outcome a.evidence) c.answer.result (λ a is. is.2) c.answer.ensures
-
-pub returns-clause-enough : goal.returns-clause-enough
-returns-clause-enough g c =
-    let digest = g.H.Hash32.digest in
-    let id = c.args.id.now.0 in
-    let payloads = c.args.payloads.now in
-    weaken (IsAnswer digest id payloads) (λ a. (m : BlobMetadata) → IsMetadataIn digest id payloads m → HasEnough digest id m payloads → IsVerdict a.outcome) c.answer.result
-    (λ a is m one has. enough digest id payloads m a.outcome is.0 one has) c.answer.ensures
+pub returns : goal.returns
+returns g c =
+    let all = parts g.H.Hash32.digest c.args.id.now.0 c.args.payloads.now c.answer.result c.answer.ensures in
+    record { outcome = all.0; only = all.1; evidence = all.2; enough = all.3 }

@@ -1,6 +1,5 @@
-use Rattle.std.proofs.Common.{◌≡◌, rules}
+use Rattle.std.proofs.Common.{rules}
 use Rattle.wal_shape.specs.MetaRef.{metadata_shown}
-use Rattle.wal_commit.specs.Held.{HoldsSliver}
 use Rattle.wal_reader.proofs.HeldSlivers.{is_carried, not_held}
 use Rattle.wal_reader.proofs.slivers.held_sliver_of.Goals as goal
 
@@ -14,7 +13,5 @@ returns-then-is_held-clause-index g c = (c.is_held.ensures.held.0 c.if-is_held.t
 
 pub returns-else-is_held-clause-none : goal.returns-else-is_held-clause-none
 returns-else-is_held-clause-none g c =
-    let refused : (c.in-Some.sliver.index ≡ c.args.index)
-    × HoldsSliver g.H.Hash32.digest (metadata_shown c.args.m) c.args.axis c.args.index c.in-Some.sliver.bytes.now → ⊥ = search rules in
     not_held g.H.Hash32.digest c.args.id.now.0 (metadata_shown c.args.m) c.args.axis c.args.index c.args.payload.now c.in-Some.sliver.index
-    c.in-Some.sliver.bytes.now c.in-Some.ensures.some refused
+    c.in-Some.sliver.bytes.now c.in-Some.ensures.some (search rules)

@@ -1,29 +1,26 @@
-use Rattle.std.proofs.Common.{◌≡◌, get_or, ◌∙◌}
+use Rattle.std.proofs.Common.{◌∙◌}
 use Rattle.wal_shape.specs.MetaRef.{metadata_shown}
 use Rattle.wal_reader.specs.Carried.{CarriesHeldSliver}
-use Rattle.wal_reader.proofs.FirstOnes.{first_at, none_done, none_more}
+use Rattle.std.proofs.lemmas.List.{take_all}
+use Rattle.wal_reader.proofs.FirstOnes.{first_at, none_more}
 use Rattle.wal_reader.proofs.slivers.sliver_in.Goals as goal
 
 pub returns-in-Some-clause-first : goal.returns-in-Some-clause-first
 returns-in-Some-clause-first g c =
-    let items = c.as_slice-payload-items.result.now in
-    let i = c.loop-payload.payload-index in
-    let lent = c.as_slice.ensures in
-    let item = c.payload-item.is in
-    let payload : c.as_slice.result.now ≡ get_or items i c.as_slice.result.now = cc in
-    first_at (CarriesHeldSliver g.H.Hash32.digest c.args.id.now.0 (metadata_shown c.args.m) c.args.axis c.args.index) c.args.payloads.now items i c.as_slice.result.now c.in-Some.sliver.bytes.now
-    c.as_slice-payload-items.ensures c.loop-payload-test.true payload c.loop-payload.invariant.none c.in-Some.ensures.some
+    first_at (CarriesHeldSliver g.H.Hash32.digest c.args.id.now.0 (metadata_shown c.args.m)
+    c.args.axis c.args.index) c.args.payloads.now _ _
+    c.as_slice.result.now c.in-Some.sliver.bytes.now c.as_slice-payload-items.ensures c.loop-payload-test.true
+    (cc (c.as_slice.ensures, c.payload-item.is)) c.loop-payload.invariant.none c.in-Some.ensures.some
 
 pub returns-clause-none : goal.returns-clause-none
 returns-clause-none g c =
-    none_done (CarriesHeldSliver g.H.Hash32.digest c.args.id.now.0 (metadata_shown c.args.m) c.args.axis c.args.index) c.args.payloads.now c.as_slice-payload-items.result.now c.loop-payload.payload-index
-    c.as_slice-payload-items.ensures c.loop-payload-test.false c.loop-payload.invariant.none
+    let all = rw (take_all _ _ c.loop-payload-test.false) at c.loop-payload.invariant.none in
+    rw c.as_slice-payload-items.ensures at all
 
 pub loop-payload-preserved : goal.loop-payload-preserved
-loop-payload-preserved g c =
-    let items = c.as_slice-payload-items.result.now in
-    let i = c.loop-payload.payload-index in
-    let lent = c.as_slice.ensures in
-    let item = c.payload-item.is in
-    let payload : c.as_slice.result.now ≡ get_or items i c.as_slice.result.now = cc in
-    record { none = none_more (CarriesHeldSliver g.H.Hash32.digest c.args.id.now.0 (metadata_shown c.args.m) c.args.axis c.args.index) items i c.as_slice.result.now c.loop-payload-test.true payload c.loop-payload.invariant.none c.in_default.ensures.none; f = c.held_sliver_of.ensures.f ∙ c.loop-payload.invariant.f }
+loop-payload-preserved g c = record {
+  none = none_more (CarriesHeldSliver g.H.Hash32.digest c.args.id.now.0 (metadata_shown c.args.m) c.args.axis
+      c.args.index) _ _ c.as_slice.result.now c.loop-payload-test.true (cc (c.as_slice.ensures, c.payload-item.is))
+      c.loop-payload.invariant.none c.in_default.ensures.none;
+  f = c.held_sliver_of.ensures.f ∙ c.loop-payload.invariant.f;
+}

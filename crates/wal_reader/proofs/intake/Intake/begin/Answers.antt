@@ -1,9 +1,16 @@
-use Rattle.std.proofs.Common.{ap, sym, ◌∙◌, refl, arith}
-use Rattle.wal_reader.proofs.IntakeLaws.{took_envelope, wrong_behind}
+use Rattle.std.proofs.Common.{arith}
+use Rattle.wal_frame.specs.Frame.{envelope}
 use Rattle.wal_reader.proofs.intake.Intake.begin.Goals as goal
 
 pub returns-in_ok-hear-in-Whole-clause-moves : goal.returns-in_ok-hear-in-Whole-clause-moves
 returns-in_ok-hear-in-Whole-clause-moves g c =
-    let b = c.in-Whole.ensures.begins in
-    took_envelope g.H.Hash32.digest _ _ c.args.piece.now c.in-Whole.rest.now c.in-Whole.sender c.in-Whole.payload.now b.1 (c.in_ok-hear-in-Whole.ensures.takes c.in-Whole.sender)
-    c.in_ok-hear-in-Whole.ensures.count c.in_ok-hear-in-Whole.ensures.sound (λ settled. let m = c.in_ok-hear-in-Whole.ensures.memory settled in m.1)
+    let begins = c.in-Whole.ensures.begins in
+    let hears = c.in_ok-hear-in-Whole.ensures in record {
+      bytes = envelope c.in-Whole.sender c.in-Whole.payload.now;
+      parts = begins.1;
+      some = omega arith;
+      takes = hears.takes c.in-Whole.sender;
+      count = omega (arith, hears.count);
+      sound = hears.sound;
+      settled = λ settled. let m = hears.memory settled in m.1;
+    }

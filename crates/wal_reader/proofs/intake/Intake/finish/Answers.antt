@@ -1,8 +1,8 @@
-use Rattle.std.proofs.Common.{◌≡◌, ◌∙◌, [], length, vec_len, sym, arith}
+use Rattle.std.proofs.Common.{◌≡◌, ◌∙◌, vec_len, sym, arith}
 use Rattle.std.proofs.lemmas.Bool.{eqb-true}
 use Rattle.std.proofs.lemmas.List.{nil_from_length}
 use Rattle.wal_reader.specs.inside.Intake.{shown}
-use Rattle.wal_reader.proofs.StandingLaws.{past_malformed, kept_malformed, finishes_whole}
+use Rattle.wal_reader.proofs.StandingLaws.{past_malformed, finishes_whole}
 use Rattle.wal_reader.proofs.intake.Intake.finish.Goals as goal
 
 pub returns-then-missing-gt0-clause-finishes : goal.returns-then-missing-gt0-clause-finishes

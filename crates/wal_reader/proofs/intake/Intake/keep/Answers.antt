@@ -1,5 +1,6 @@
-use Rattle.std.proofs.Common.{◌≡◌, ◌+◌, ◌<◌, ◌≤◌, ◌++◌, ◌∙◌, List, ℕ, length, take, refl, arith}
-use Rattle.wal_reader.proofs.IntakeLaws.{kept_whole, kept_part, moved, none_unfinished}
+use Rattle.std.proofs.Common.{◌≤◌, ◌∙◌, length, take, refl, arith}
+use Rattle.std.proofs.lemmas.List.{length-take-le}
+use Rattle.wal_reader.proofs.IntakeLaws.{kept_whole, kept_part, moved, sound_empty}
 use Rattle.wal_reader.proofs.intake.Intake.keep.Goals as goal
 
 pub returns-then-branch-clause-moves : goal.returns-then-branch-clause-moves
@@ -8,16 +9,16 @@ returns-then-branch-clause-moves g c =
     let count = c.min-count.result in
     let le : count ≤ length piece = omega (arith, c.min-count.ensures) in
     let few : count ≤ c.lacking.result = omega (arith, c.min-count.ensures) in
+    let long = length-take-le count piece le in
     let whole = c.deref-2.ensures.value ∙ c.in_ok-extend_from_slice.ensures.items in
     moved g.H.Hash32.digest _ _ piece count (omega (arith, c.min-count.ensures, c.lacking.ensures.some, c.requires.some)) le refl
-    (kept_whole g.H.Hash32.digest _ _ c.deref.result.now c.deref-2.result.now piece count c.lacking.result c.in_ok-hear_whole.field-0 c.deref.ensures.value whole c.if-branch.true
-    c.in_ok-hear_whole.ensures.hears le few c.lacking.ensures.head c.lacking.ensures.whole c.requires.kept c.requires.kept c.clear.ensures.items refl refl)
-    (record {
-      room = omega (arith, c.requires.sound.room, c.in_ok-extend_from_slice.ensures.capacity, c.clear.ensures.capacity);
-      limit = omega (arith, le, c.requires.limit);
-      unfinished = none_unfinished _ c.clear.ensures.items;
-      apart = λ some. c.clear.ensures.items;
-    })
+    (kept_whole g.H.Hash32.digest _ _ c.deref.result.now c.deref-2.result.now (take count piece) c.lacking.result
+    c.deref.ensures.value whole (rw c.if-branch.true at c.in_ok-hear_whole.ensures.hears) (omega (arith, long, few))
+    c.lacking.ensures.head c.lacking.ensures.whole c.requires.kept c.requires.kept c.clear.ensures.items
+    (omega (arith, long)) refl)
+    (sound_empty _
+    (omega (arith, c.requires.sound.room, c.in_ok-extend_from_slice.ensures.capacity, c.clear.ensures.capacity))
+    (omega (arith, le, c.requires.limit)) c.clear.ensures.items)
     (λ settled. let m = c.in_ok-hear_whole.ensures.memory settled in m.1)
 
 pub returns-clause-moves : goal.returns-clause-moves
@@ -26,8 +27,9 @@ returns-clause-moves g c =
     let count = c.min-count.result in
     let le : count ≤ length piece = omega (arith, c.min-count.ensures) in
     let whole = c.deref-2.ensures.value ∙ c.in_ok-extend_from_slice.ensures.items in
-    let part = kept_part g.H.Hash32.digest _ _ c.deref-2.result.now piece count c.in_ok-hear_whole.field-0 whole c.deref-2.ensures.value c.if-branch.false
-    c.in_ok-hear_whole.ensures.hears le c.requires.kept c.requires.kept refl refl in
+    let hears = rw c.if-branch.false at c.in_ok-hear_whole.ensures.hears in
+    let part = kept_part g.H.Hash32.digest _ _ c.deref-2.result.now (take count piece) whole c.deref-2.ensures.value
+    hears c.requires.kept c.requires.kept (omega (arith, length-take-le count piece le)) refl in
     moved g.H.Hash32.digest _ _ piece count (omega (arith, c.min-count.ensures, c.lacking.ensures.some, c.requires.some)) le refl part.0
     (record {
       room = omega (arith, c.requires.sound.room, c.in_ok-extend_from_slice.ensures.capacity);

@@ -1,7 +1,7 @@
 use Rattle.std.proofs.Common.{◌++◌, ◌∙◌, List, ℕ, ap, sym, append_assoc, length, arith}
 use Rattle.std.proofs.lemmas.List.{length-append}
 use Rattle.std.proofs.lemmas.Result.{err_from_is_err_and}
-use Rattle.wal_reader.proofs.IntakeLaws.{takes_more, refuses_all}
+use Rattle.wal_reader.proofs.IntakeLaws.{refuses_all}
 use Rattle.wal_reader.proofs.intake.Intake.take.Goals as goal
 
 pub envelopes-preserved : goal.envelopes-preserved
@@ -14,7 +14,7 @@ envelopes-preserved g c =
       so_far = (
         bytes ++ m.bytes,
         inv.so_far.1 ∙ ap (λ (t : List ℕ). bytes ++ t) m.parts ∙ sym (append_assoc bytes m.bytes c.in_ok-left.left.now),
-        takes_more g.H.Hash32.digest _ _ _ bytes m.bytes inv.so_far.2 m.takes,
+        λ id stream s. rw append_assoc at (m.takes id (stream ++ bytes) (inv.so_far.2 id stream s)),
       );
       settled = λ settled. m.settled (inv.settled settled);
     }

@@ -1,21 +1,17 @@
-use Rattle.std.proofs.Common.{◌≡◌, Some, Ok, Err, refl, sym, subst}
+use Rattle.std.proofs.Common.{Some, refl}
 use Rattle.wal_reader.specs.inside.Intake.{shown}
-use Rattle.wal_reader.specs.Standing.{ReaderState, StandsFor}
-use Rattle.wal_reader.specs.declared.errors.FeedError.TheVariants.{TooLong}
 use Rattle.wal_reader.proofs.StandingLaws.{feeds_ok, feeds_err}
 use Rattle.wal_reader.proofs.reader.Reader.feed.Goals as goal
 
 pub returns-in-Ok-clause-feeds : goal.returns-in-Ok-clause-feeds
 returns-in-Ok-clause-feeds g c = λ id stream s.
-    let digest = g.H.Hash32.digest in
-    let P : ReaderState → Type 0 = λ r. StandsFor digest id r stream in
-    let here = subst P (sym c.self.view_is) s in
-    feeds_ok digest id _ (shown c.take.new.self) (record { intake = shown c.take.new.self; failed = c.self.inside.failed }) stream c.args.piece.now tt here.0 refl
+    let here = rw (← c.self.view_is) at s in
+    feeds_ok g.H.Hash32.digest id _ (shown c.take.new.self)
+    (record { intake = shown c.take.new.self; failed = c.self.inside.failed }) stream c.args.piece.now tt here.0 refl
     c.in-Ok.ensures.takes c.in-Ok.ensures.sound.limit here.1
 
 pub returns-in-Err-clause-feeds : goal.returns-in-Err-clause-feeds
 returns-in-Err-clause-feeds g c = λ id stream s.
-    let digest = g.H.Hash32.digest in
-    let P : ReaderState → Type 0 = λ r. StandsFor digest id r stream in
-    let here = subst P (sym c.self.view_is) s in
-    feeds_err digest id _ (record { intake = shown c.take.new.self; failed = Some c.in-Err.error }) stream c.args.piece.now c.in-Err.error (λ more. let is = c.in-Err.ensures.long more in cc) c.in-Err.ensures.refuses here.1
+    let here = rw (← c.self.view_is) at s in
+    feeds_err g.H.Hash32.digest id _ (record { intake = shown c.take.new.self; failed = Some c.in-Err.error }) stream
+    c.args.piece.now c.in-Err.error (λ more. let is = c.in-Err.ensures.long more in cc) c.in-Err.ensures.refuses here.1
