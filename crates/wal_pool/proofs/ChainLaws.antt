@@ -1,10 +1,8 @@
 -- A write to one page leaves the others, and the list of the free pages where it is not one of them.
-use Rattle.std.proofs.Common.{◌≡◌, ◌≢◌, ℕ, zero, suc, ◌+◌, ◌-◌, ◌*◌, ◌^◌, ◌<◌, ◌≤◌, true, false, not, ◌&&◌, inl, inr, List, [], ◌∷◌, length, take, drop, nat_eq, nat_lt, refl, sym, ap, ◌∙◌, arith}
+use Rattle.std.proofs.Common.{◌≡◌, ◌≢◌, ℕ, zero, suc, ◌+◌, ◌-◌, ◌*◌, ◌^◌, ◌<◌, ◌≤◌, true, false, not, ◌&&◌, inl, inr, List, ◌∷◌, length, take, drop, nat_eq, nat_lt, refl, sym, ap, ◌∙◌, arith, mul-le-mul_left, length-drop, length-take-le}
 use Rattle.std.specs.Int.{w32, from_be_bytes, to_be_bytes}
-use Rattle.std.proofs.Math.Nat.{mul-le-mul_left}
 use Rattle.std.proofs.lemmas.Bool.{cases_order, and_parts, or_parts, eqb-false, ltb-true, not-true}
 use Rattle.std.proofs.lemmas.Bool.Decides.{nat_tests}
-use Rattle.std.proofs.lemmas.List.{length-drop, length-take-le}
 use Rattle.std.proofs.lemmas.Nat.{from_be_bytes-to_be_bytes_4}
 use Rattle.std.proofs.lemmas.Slice.{drop-put_mid, take-put_mid_below}
 use Rattle.wal_pool.specs.Pages.{overwrite}
@@ -54,11 +52,8 @@ next-overwrite_other size r k j at m bs e fits room other = ap (λ p. from_be_by
 
 -- a number written at the front is read there
 front-overwrite : (p : List ℕ) (h : ℕ) → 4 ≤ length p → take 4 (overwrite p 0 (to_be_bytes w32 h)) ≡ to_be_bytes w32 h
-front-overwrite [] h long = absurd (omega arith)
-front-overwrite (a ∷ []) h long = absurd (omega arith)
-front-overwrite (a ∷ b ∷ []) h long = absurd (omega arith)
-front-overwrite (a ∷ b ∷ c ∷ []) h long = absurd (omega arith)
 front-overwrite (a ∷ b ∷ c ∷ d ∷ p) h long = refl
+front-overwrite p h long = absurd (omega arith)
 
 pub next-link : (size : ℕ) (r : List ℕ) (k h : ℕ) → 4 ≤ size → size * k + size ≤ length r → h < 2 ^ 32 → next size (overwrite r (size * k) (to_be_bytes w32 h)) k ≡ h
 unfolding next
@@ -75,9 +70,7 @@ pub chain-same : (size : ℕ) (r s : List ℕ) (k n h : ℕ) → ((j : ℕ) → 
 chain-same size r s k zero h same absent = refl
 chain-same size r s k (suc n) h same absent =
     let parts = absent_parts k h (chain size r n (next size r h)) absent in
-    let other : h ≢ k = λ e. parts.0 (sym e) in
-    ap (λ j. h ∷ chain size s n j) (same h other)
-    ∙ ap (λ ks. h ∷ ks) (chain-same size r s k n (next size r h) same parts.1)
+    cc (same h (λ e. parts.0 (sym e)), chain-same size r s k n (next size r h) same parts.1)
 
 pub chain-first : (size : ℕ) (r : List ℕ) (n m h : ℕ) → n ≡ suc m → chain size r n h ≡ h ∷ chain size r m (next size r h)
 chain-first size r n m h e = ap (λ i. chain size r i h) e

@@ -40,13 +40,12 @@ pub given_more : (pages n : ℕ) (xs ys : List PageState) → n < pages → Give
 given_more pages n xs ys lt given e = record {
   long = ap length e ∙ length-set xs n Free ∙ given.long;
   free = λ k below. elim (cases_eq k n) [
-    | inl same ↦ ap (slice_get ys) same ∙ ap (λ zs. slice_get zs n) e ∙ slice_get-set_same xs n Free (omega (arith, given.long))
-    | inr other ↦ ap (λ zs. slice_get zs k) e ∙ slice_get-set_other xs n k Free other ∙ given.free k (omega arith)
+    | inl same ↦ cc (same, slice_get-set_same xs n Free (omega (arith, given.long)))
+    | inr other ↦ cc (slice_get-set_other xs n k Free other, given.free k (omega arith))
   ];
   taken = λ k ge below.
       let other : k ≢ n = omega arith in
-      let kept : slice_get ys k ≡ slice_get xs k = ap (λ zs. slice_get zs k) e ∙ slice_get-set_other xs n k Free other in
-      kept ∙ given.taken k (omega arith) below ∙ ap (λ o. Some (Taken (bytes_in o))) (sym kept);
+      cc (slice_get-set_other xs n k Free other, given.taken k (omega arith) below);
 }
 
 pub given_all : (pages : ℕ) (xs : List PageState) → Given pages pages xs → xs ≡ replicate pages Free
@@ -55,9 +54,8 @@ given_all pages xs given =
     (λ k d lt. get_or_from_slice_get xs k Free d (given.free k (omega (arith, given.long))) ∙ sym (get_or-replicate pages k Free d (omega (arith, given.long))))
 
 none_taken : (n k : ℕ) → IsTakenPage (replicate n Free) k → ⊥
-none_taken zero k taken = cc
-none_taken (suc n) zero taken = cc
 none_taken (suc n) (suc k) taken = none_taken n k taken
+none_taken n k taken = cc
 
 -- where all pages are free, none lacks a byte
 pub whole_free : (size n : ℕ) (xs : List PageState) → xs ≡ replicate n Free → AreWhole size xs

@@ -1,6 +1,5 @@
 -- What a write from a place on leaves of a list.
-use Rattle.std.proofs.Common.{◌≡◌, ℕ, zero, suc, ◌+◌, ◌≤◌, List, [], ◌∷◌, ◌++◌, length, take, drop, refl, sym, ap, ◌∙◌, arith}
-use Rattle.std.proofs.lemmas.List.{take_at}
+use Rattle.std.proofs.Common.{◌≡◌, ℕ, zero, suc, ◌+◌, ◌≤◌, List, [], ◌∷◌, ◌++◌, length, take, drop, refl, ap, ◌∙◌, arith, take_at}
 use borrow.Rule.Slice.PartMut.{put_mid}
 use Rattle.wal_pool.specs.Pages.{overwrite}
 
@@ -11,11 +10,9 @@ length-overwrite (x ∷ xs) zero (b ∷ bs) = ap suc (length-overwrite xs zero b
 length-overwrite (x ∷ xs) (suc at) bs = ap suc (length-overwrite xs at bs)
 
 pub take-overwrite : (n : ℕ) (xs : List ℕ) (at : ℕ) (bs : List ℕ) → take n (overwrite xs at bs) ≡ overwrite (take n xs) at bs
-take-overwrite zero xs at bs = refl
-take-overwrite (suc n) [] at bs = refl
-take-overwrite (suc n) (x ∷ xs) zero [] = refl
 take-overwrite (suc n) (x ∷ xs) zero (b ∷ bs) = ap (λ ys. b ∷ ys) (take-overwrite n xs zero bs)
 take-overwrite (suc n) (x ∷ xs) (suc at) bs = ap (λ ys. x ∷ ys) (take-overwrite n xs at bs)
+take-overwrite n xs at bs = refl
 
 pub drop-overwrite : (n : ℕ) (xs : List ℕ) (at m : ℕ) (bs : List ℕ) → m ≡ n + at → drop n (overwrite xs m bs) ≡ overwrite (drop n xs) at bs
 drop-overwrite zero xs at m bs e = let same : m ≡ at = omega arith in ap (λ k. overwrite xs k bs) same
@@ -37,7 +34,7 @@ overwrite_is (x ∷ xs) (suc at) bs fits = ap (λ ys. x ∷ ys) (overwrite_is xs
 
 -- the same, where the part's length is known by an equation
 pub put_mid_is : (xs : List ℕ) (at k : ℕ) (bs ys : List ℕ) → ys ≡ bs → k ≡ length bs → at + length bs ≤ length xs → put_mid at k xs ys ≡ overwrite xs at bs
-put_mid_is xs at k bs ys same size fits = ap (λ n. put_mid at n xs ys) size ∙ ap (put_mid at (length bs) xs) same ∙ sym (overwrite_is xs at bs fits)
+put_mid_is xs at k bs ys same size fits = cc (overwrite_is xs at bs fits)
 
 -- what is written at the front stands there
 pub take-overwrite_front : (xs bs : List ℕ) → length bs ≤ length xs → take (length bs) (overwrite xs 0 bs) ≡ bs

@@ -1,15 +1,13 @@
 -- What a change of one page's state leaves of the others.
-use Rattle.std.proofs.Common.{◌≡◌, ◌≢◌, ℕ, zero, suc, ◌+◌, ◌<◌, Some, List, [], ◌∷◌, length, slice_get, slice_set, slice_index_or, count_by, cond, refl, sym, ap, ◌∙◌, arith}
+use Rattle.std.proofs.Common.{◌≡◌, ◌≢◌, ℕ, zero, suc, ◌+◌, ◌<◌, Some, List, [], ◌∷◌, length, slice_get, slice_set, slice_index_or, count_by, cond, refl, ap, arith}
 use Rattle.std.proofs.lemmas.List.Sums.{sum_by-cons, sum_by-set, count_by-le-length}
 use Rattle.std.proofs.lemmas.Option.{slice_get_within, get_or_from_slice_get}
 use Rattle.wal_pool.specs.Pages.{PageState, Free, Taken, is_free, bytes_in, page_bytes, IsTakenPage}
 
 pub slice_get-set_other : {X : Type 0} (xs : List X) (i k : ℕ) (x : X) → k ≢ i → slice_get (slice_set xs i x) k ≡ slice_get xs k
-slice_get-set_other [] i k x other = refl
 slice_get-set_other (y ∷ xs) zero zero x other = absurd (other refl)
-slice_get-set_other (y ∷ xs) zero (suc k) x other = refl
-slice_get-set_other (y ∷ xs) (suc i) zero x other = refl
 slice_get-set_other (y ∷ xs) (suc i) (suc k) x other = slice_get-set_other xs i k x (λ same. other (ap suc same))
+slice_get-set_other xs i k x other = refl
 
 pub slice_get-set_same : {X : Type 0} (xs : List X) (i : ℕ) (x : X) → i < length xs → slice_get (slice_set xs i x) i ≡ Some x
 slice_get-set_same [] i x within = absurd (omega arith)
@@ -22,21 +20,17 @@ page_bytes-kept pages n k s other = ap bytes_in (slice_get-set_other pages n k s
 
 -- another page that is taken stays taken
 pub taken_kept : (old new : List PageState) (n k : ℕ) (s : PageState) → new ≡ slice_set old n s → k ≢ n → IsTakenPage old k → IsTakenPage new k
-taken_kept old new n k s change other taken =
-    let same : slice_get new k ≡ slice_get old k = ap (λ pages. slice_get pages k) change ∙ slice_get-set_other old n k s other in
-    same ∙ taken ∙ ap (λ o. Some (Taken (bytes_in o))) (sym same)
+taken_kept old new n k s change other taken = cc (slice_get-set_other old n k s other)
 
 pub page_bytes-set : (pages : List PageState) (n : ℕ) (bytes : List ℕ) → n < length pages → page_bytes (slice_set pages n (Taken bytes)) n ≡ bytes
 page_bytes-set pages n bytes within = ap bytes_in (slice_get-set_same pages n (Taken bytes) within)
 
 pub taken_set : (pages : List PageState) (n : ℕ) (bytes : List ℕ) → n < length pages → IsTakenPage (slice_set pages n (Taken bytes)) n
-taken_set pages n bytes within =
-    slice_get-set_same pages n (Taken bytes) within ∙ ap (λ b. Some (Taken b)) (sym (page_bytes-set pages n bytes within))
+taken_set pages n bytes within = cc (slice_get-set_same pages n (Taken bytes) within)
 
 -- a free page is none that is taken
 pub free_apart : (pages : List PageState) (n k : ℕ) → slice_get pages n ≡ Some Free → IsTakenPage pages k → k ≢ n
-free_apart pages n k free taken same =
-    let both : slice_get pages k ≡ slice_get pages n = ap (slice_get pages) same in cc
+free_apart pages n k free taken same = cc
 
 -- where as many are free as there are, each is
 pub all_free : (pages : List PageState) → count_by is_free pages ≡ length pages → (k : ℕ) (d : PageState) → k < length pages → slice_index_or pages k d ≡ Free
@@ -50,20 +44,17 @@ all_free (Taken bytes ∷ pages) all k d within =
     absurd (omega (arith, counted, count_by-le-length is_free pages))
 
 -- the count of the free pages, after one is taken, given or written
+count-set : (xs : List PageState) (k : ℕ) (s was : PageState) → slice_get xs k ≡ Some was
+    → count_by is_free (slice_set xs k s) + cond (is_free was) 1 0 ≡ count_by is_free xs + cond (is_free s) 1 0
+count-set xs k s was e =
+    let change = sum_by-set (λ (x : PageState). cond (is_free x) 1 0) xs k s was (slice_get_within xs k was e) in
+    omega (arith, change, ap {B = ℕ} (λ x. cond (is_free x) 1 0) (get_or_from_slice_get xs k was was e))
+
 pub count-take : (xs : List PageState) (k : ℕ) (bytes : List ℕ) → slice_get xs k ≡ Some Free → count_by is_free (slice_set xs k (Taken bytes)) + 1 ≡ count_by is_free xs
-count-take xs k bytes e =
-    let change = sum_by-set (λ (s : PageState). cond (is_free s) 1 0) xs k (Taken bytes) Free (slice_get_within xs k Free e) in
-    let was = ap {B = ℕ} (λ s. cond (is_free s) 1 0) (get_or_from_slice_get xs k Free Free e) in
-    omega (arith, change, was)
+count-take xs k bytes e = omega (arith, count-set xs k (Taken bytes) Free e)
 
 pub count-give : (xs : List PageState) (k : ℕ) (bytes : List ℕ) → slice_get xs k ≡ Some (Taken bytes) → count_by is_free (slice_set xs k Free) ≡ count_by is_free xs + 1
-count-give xs k bytes e =
-    let change = sum_by-set (λ (s : PageState). cond (is_free s) 1 0) xs k Free Free (slice_get_within xs k (Taken bytes) e) in
-    let was = ap {B = ℕ} (λ s. cond (is_free s) 1 0) (get_or_from_slice_get xs k (Taken bytes) Free e) in
-    omega (arith, change, was)
+count-give xs k bytes e = omega (arith, count-set xs k Free (Taken bytes) e)
 
 pub count-write : (xs : List PageState) (k : ℕ) (bytes new : List ℕ) → slice_get xs k ≡ Some (Taken bytes) → count_by is_free (slice_set xs k (Taken new)) ≡ count_by is_free xs
-count-write xs k bytes new e =
-    let change = sum_by-set (λ (s : PageState). cond (is_free s) 1 0) xs k (Taken new) Free (slice_get_within xs k (Taken bytes) e) in
-    let was = ap {B = ℕ} (λ s. cond (is_free s) 1 0) (get_or_from_slice_get xs k (Taken bytes) Free e) in
-    omega (arith, change, was)
+count-write xs k bytes new e = omega (arith, count-set xs k (Taken new) (Taken bytes) e)

@@ -1,5 +1,5 @@
 -- What taking a page, giving one back and writing to one do to the region, its free pages and their states.
-use Rattle.std.proofs.Common.{◌≡◌, ◌≢◌, ℕ, ◌+◌, ◌-◌, ◌*◌, ◌^◌, ◌<◌, ◌≤◌, true, Some, List, [], ◌∷◌, length, slice_get, slice_set, get_or, count_by, take, refl, sym, ap, ◌∙◌, subst, arith}
+use Rattle.std.proofs.Common.{◌≡◌, ◌≢◌, ℕ, ◌+◌, ◌-◌, ◌*◌, ◌^◌, ◌<◌, ◌≤◌, true, Some, List, [], ◌∷◌, length, slice_get, slice_set, get_or, count_by, take, refl, sym, ap, ◌∙◌, arith}
 use Rattle.std.specs.Int.{w32, from_be_bytes, to_be_bytes}
 use Rattle.std.proofs.lemmas.List.Sums.{count_by-le-length}
 use Rattle.wal_pool.specs.Pages.{PageState, Free, Taken, is_free, bytes_in, page_bytes, IsTakenPage, AreWhole, overwrite}
@@ -11,11 +11,8 @@ use Rattle.wal_pool.proofs.StateLaws.{length-states, slice_get-states, state_fre
 
 -- the four bytes with which a page begins
 pub four_bytes : (p : List ℕ) → 4 ≤ length p → from_be_bytes w32 (get_or p 0 0 ∷ get_or p 1 0 ∷ get_or p 2 0 ∷ get_or p 3 0 ∷ []) ≡ from_be_bytes w32 (take 4 p)
-four_bytes [] long = absurd (omega arith)
-four_bytes (a ∷ []) long = absurd (omega arith)
-four_bytes (a ∷ b ∷ []) long = absurd (omega arith)
-four_bytes (a ∷ b ∷ c ∷ []) long = absurd (omega arith)
 four_bytes (a ∷ b ∷ c ∷ d ∷ p) long = refl
+four_bytes p long = absurd (omega arith)
 
 -- the invariant of a pool
 pub record Sound (size pages : ℕ) (r : List ℕ) (free first : ℕ) : Type 0 where
@@ -37,28 +34,24 @@ took size pages r free first n seen sound some read view =
     let old : List PageState = states size pages r (chain size r free first) in
     let new : List PageState = states size pages r ks in
     let e : chain size r free first ≡ first ∷ ks = chain-first size r free (free - 1) first (omega arith) in
-    let l : Listed pages first ks = listed_parts pages first ks (subst (λ xs. is_free_list pages xs ≡ true) e sound.listed) in
-    let was : slice_get old first ≡ Some Free =
-    ap (λ xs. slice_get (states size pages r xs) first) e
-    ∙ slice_get-states size pages r (first ∷ ks) first l.below
-    ∙ ap (λ s. Some s) (state_free size r (first ∷ ks) first (has_first first ks)) in
+    let l : Listed pages first ks = listed_parts pages first ks (rw e at sound.listed) in
+    let free_state = state_free size r (first ∷ ks) first (has_first first ks) in
+    let was : slice_get old first ≡ Some Free = cc (e, slice_get-states size pages r _ first l.below, free_state) in
     let seen_now : slice_get new first ≡ Some (Taken (page_of size r first)) =
-    slice_get-states size pages r ks first l.below ∙ ap (λ s. Some s) (state_taken size r ks first l.absent) in
+    cc (slice_get-states size pages r ks first l.below, state_taken size r ks first l.absent) in
     let bytes : page_bytes new first ≡ page_of size r first = ap bytes_in seen_now in
-    let held_from : IsTakenPage new first = seen_now ∙ ap (λ b. Some (Taken b)) (sym bytes) in
-    let set : new ≡ slice_set old first (Taken (page_of size r first)) =
-    states-take size pages r ks first l ∙ ap (λ xs. slice_set (states size pages r xs) first (Taken (page_of size r first))) (sym e) in
-    let fewer : count_by is_free (slice_set old first (Taken (page_of size r first))) + 1 ≡ count_by is_free old = count-take old first (page_of size r first) was in
-    let count : count_by is_free new ≡ count_by is_free (slice_set old first (Taken (page_of size r first))) = ap (count_by is_free) set in
-    let room : size * first + size ≤ length r = omega (arith, page_within size pages first l.below) in
+    let set : new ≡ slice_set old first (Taken (page_of size r first)) = cc (states-take size pages r ks first l, e) in
+    let fewer = count-take old first (page_of size r first) was in
+    let count = ap (count_by is_free) set in
+    let room : size * first + size ≤ length r = omega (arith, sound.large, page_within size pages first l.below) in
     let all : Took size pages r free first (next size r first) old = record {
       sound = record { large = sound.large; listed = l.rest; counted = omega (arith, fewer, count, sound.counted) };
       was = was;
-      now = set ∙ ap (λ b. slice_set old first (Taken b)) (sym bytes);
-      own = held_from;
+      now = cc (set, bytes);
+      own = cc (seen_now, bytes);
       long = ap length bytes ∙ length-page_of size r first room;
     } in
-    subst (λ x. Took size pages r free first n x) view (subst (λ m. Took size pages r free first m old) (sym read) all)
+    rw (← view, read) all
 
 -- a page that was taken is the first of the free ones
 pub record Linked (size pages : ℕ) (s : List ℕ) (free k : ℕ) (old : List PageState) : Type 0 where
@@ -72,31 +65,30 @@ linked size pages r s free first k seen large fits sound view is_taken write =
     let t : List ℕ = overwrite r (size * k) bytes in
     let ks : List ℕ = chain size r free first in
     let old : List PageState = states size pages r ks in
-    let taken : IsTakenPage old k = subst (λ x. IsTakenPage x k) (sym view) is_taken in
+    let taken : IsTakenPage old k = rw (← view) at is_taken in
     let out : Out size pages r ks k = out_from size pages r ks k taken in
     let room : size * k + size ≤ length r = omega (arith, page_within size pages k out.below) in
     let same : (j : ℕ) → j ≢ k → page_of size t j ≡ page_of size r j = λ j other. page_of-overwrite_other size r k j 0 (size * k) bytes (omega arith) large room other in
     let next_same : (j : ℕ) → j ≢ k → next size t j ≡ next size r j = λ j other. next-overwrite_other size r k j 0 (size * k) bytes (omega arith) large room other in
     let next_is : next size t k ≡ first = next-link size r k first large room fits in
     let e : chain size t (free + 1) k ≡ k ∷ ks =
-    chain-first size t (free + 1) free k (omega arith)
-    ∙ ap (λ h. k ∷ chain size t free h) next_is
-    ∙ ap (λ xs. k ∷ xs) (chain-same size r t k free first next_same out.absent) in
+    let rest = chain-same size r t k free first next_same out.absent in
+    cc (chain-first size t (free + 1) free k (omega arith), next_is, rest) in
     let set : states size pages t (chain size t (free + 1) k) ≡ slice_set old k Free =
-    ap (states size pages t) e ∙ states-link size pages r t ks k out.below same in
-    let more : count_by is_free (slice_set old k Free) ≡ count_by is_free old + 1 = count-give old k (page_bytes old k) taken in
-    let count : count_by is_free (states size pages t (chain size t (free + 1) k)) ≡ count_by is_free (slice_set old k Free) = ap (count_by is_free) set in
-    let most : count_by is_free (states size pages t (chain size t (free + 1) k)) ≤ pages = omega (arith, count_by-le-length is_free (states size pages t (chain size t (free + 1) k)), length-states size pages t (chain size t (free + 1) k)) in
+    cc (e, states-link size pages r t ks k out.below same) in
+    let count : count_by is_free (states size pages t (chain size t (free + 1) k)) ≡ count_by is_free old + 1 =
+    cc (set, count-give old k (page_bytes old k) taken) in
+    let most = count_by-le-length is_free (states size pages t (chain size t (free + 1) k)) in
     let all : Linked size pages t free k old = record {
       sound = record {
         large = length-overwrite r (size * k) bytes ∙ sound.large;
-        listed = subst (λ xs. is_free_list pages xs ≡ true) (sym e) (listed_from pages k ks out.below out.absent sound.listed);
-        counted = omega (arith, more, count, sound.counted);
+        listed = rw e (listed_from pages k ks out.below out.absent sound.listed);
+        counted = omega (arith, count, sound.counted);
       };
-      room = omega (arith, more, count, most, sound.counted);
+      room = omega (arith, count, most, length-states size pages t (chain size t (free + 1) k), sound.counted);
       now = set;
     } in
-    subst (λ x. Linked size pages s free k x) view (subst (λ x. Linked size pages x free k old) (sym write) all)
+    rw (← view, write) all
 
 -- a page that was taken is written
 pub record Wrote (size pages : ℕ) (s : List ℕ) (free first k at : ℕ) (bytes : List ℕ) (old : List PageState) : Type 0 where
@@ -108,42 +100,37 @@ wrote size pages r s free first k at m bytes seen fits sound view is_taken place
     let t : List ℕ = overwrite r m bytes in
     let ks : List ℕ = chain size r free first in
     let old : List PageState = states size pages r ks in
-    let taken : IsTakenPage old k = subst (λ x. IsTakenPage x k) (sym view) is_taken in
+    let taken : IsTakenPage old k = rw (← view) at is_taken in
     let out : Out size pages r ks k = out_from size pages r ks k taken in
     let room : size * k + size ≤ length r = omega (arith, page_within size pages k out.below) in
     let same : (j : ℕ) → j ≢ k → page_of size t j ≡ page_of size r j = λ j other. page_of-overwrite_other size r k j at m bytes place fits room other in
     let next_same : (j : ℕ) → j ≢ k → next size t j ≡ next size r j = λ j other. next-overwrite_other size r k j at m bytes place fits room other in
     let e : chain size t free first ≡ ks = chain-same size r t k free first next_same out.absent in
     let here : page_of size t k ≡ overwrite (page_bytes old k) at bytes =
-    page_of-overwrite size r k at m bytes place ∙ ap (λ p. overwrite p at bytes) (sym out.bytes) in
+    cc (page_of-overwrite size r k at m bytes place, out.bytes) in
     let set : states size pages t (chain size t free first) ≡ slice_set old k (Taken (overwrite (page_bytes old k) at bytes)) =
-    ap (states size pages t) e
-    ∙ states-write size pages r t ks k out.below out.absent same
-    ∙ ap (λ p. slice_set old k (Taken p)) here in
-    let kept : count_by is_free (slice_set old k (Taken (overwrite (page_bytes old k) at bytes))) ≡ count_by is_free old = count-write old k (page_bytes old k) (overwrite (page_bytes old k) at bytes) taken in
+    cc (e, states-write size pages r t ks k out.below out.absent same, here) in
+    let kept = count-write old k (page_bytes old k) (overwrite (page_bytes old k) at bytes) taken in
     let all : Wrote size pages t free first k at bytes old = record {
       sound = record {
         large = length-overwrite r m bytes ∙ sound.large;
-        listed = subst (λ xs. is_free_list pages xs ≡ true) (sym e) sound.listed;
-        counted = sound.counted ∙ sym kept ∙ ap (count_by is_free) (sym set);
+        listed = rw e sound.listed;
+        counted = cc (sound.counted, kept, set);
       };
       now = set;
     } in
-    subst (λ x. Wrote size pages s free first k at bytes x) view (subst (λ x. Wrote size pages x free first k at bytes old) (sym write) all)
+    rw (← view, write) all
 
 -- a page that is taken lies within the region
 pub taken_within : (size pages : ℕ) (r : List ℕ) (free first k : ℕ) (seen : List PageState) → length r ≡ size * pages → states size pages r (chain size r free first) ≡ seen → IsTakenPage seen k → size * k + size ≤ length r
 taken_within size pages r free first k seen large view is_taken =
-    let taken : IsTakenPage (states size pages r (chain size r free first)) k = subst (λ x. IsTakenPage x k) (sym view) is_taken in
-    let out : Out size pages r (chain size r free first) k = out_from size pages r (chain size r free first) k taken in
+    let out = out_from size pages r (chain size r free first) k (rw (← view) at is_taken) in
     omega (arith, page_within size pages k out.below)
 
 -- its bytes in the region are those that are seen
 pub taken_bytes : (size pages : ℕ) (r : List ℕ) (free first k : ℕ) (seen : List PageState) → states size pages r (chain size r free first) ≡ seen → IsTakenPage seen k → page_of size r k ≡ page_bytes seen k
 taken_bytes size pages r free first k seen view is_taken =
-    let taken : IsTakenPage (states size pages r (chain size r free first)) k = subst (λ x. IsTakenPage x k) (sym view) is_taken in
-    let out : Out size pages r (chain size r free first) k = out_from size pages r (chain size r free first) k taken in
-    sym out.bytes ∙ ap (λ x. page_bytes x k) view
+    cc ((out_from size pages r (chain size r free first) k (rw (← view) at is_taken)).bytes)
 
 -- and they are as many as a page has
 pub taken_size : (size pages : ℕ) (r : List ℕ) (free first k : ℕ) (seen : List PageState) → length r ≡ size * pages → states size pages r (chain size r free first) ≡ seen → IsTakenPage seen k → length (page_bytes seen k) ≡ size

@@ -5,7 +5,7 @@ use Rattle.std.proofs.lemmas.Bool.{cases_eq, cases_Bool, ne_eqb, eq-eqb}
 use Rattle.std.proofs.lemmas.List.{length-set, get_or-set_same, get_or-set_other, same_lists}
 use Rattle.std.proofs.lemmas.List.FromFn.{length-map-range_with_len, get_or-map-range_with_len}
 use Rattle.std.proofs.lemmas.Option.{slice_get_within, slice_get-get_or}
-use Rattle.wal_pool.specs.Pages.{Free, Taken, bytes_in, page_bytes, IsTakenPage}
+use Rattle.wal_pool.specs.Pages.{Free, Taken, page_bytes, IsTakenPage}
 use Rattle.wal_pool.specs.inside.FreeList.{page_of, has, state_of, states}
 use Rattle.wal_pool.proofs.ChainLaws.{Listed}
 
@@ -29,9 +29,10 @@ length-states size pages r ks = length-map-range_with_len (state_of size r ks) 0
 
 pub slice_get-states : (size pages : ℕ) (r ks : List ℕ) (k : ℕ) → k < pages → slice_get (states size pages r ks) k ≡ Some (state_of size r ks k)
 unfolding states
-slice_get-states size pages r ks k below =
-    slice_get-get_or (states size pages r ks) k Free (omega (arith, length-states size pages r ks))
-    ∙ ap (λ s. Some s) (get_or-map-range_with_len (state_of size r ks) 0 pages k k Free below (omega arith))
+slice_get-states size pages r ks k below = cc (
+  slice_get-get_or (states size pages r ks) k Free (omega (arith, length-states size pages r ks)),
+  get_or-map-range_with_len (state_of size r ks) 0 pages k k Free below (omega arith),
+)
 
 -- a page of the list is free
 pub state_free : (size : ℕ) (r ks : List ℕ) (k : ℕ) → has k ks ≡ true → state_of size r ks k ≡ Free
@@ -85,6 +86,6 @@ out_from size pages r ks k taken =
     let lt : k < pages = omega (arith, slice_get_within (states size pages r ks) k _ taken, length-states size pages r ks) in
     let found = slice_get-states size pages r ks k lt in
     elim (cases_Bool (has k ks)) [
-      | inl listed ↦ let free = state_free size r ks k listed in cc
-      | inr away ↦ record { below = lt; absent = away; bytes = ap bytes_in (found ∙ ap (λ s. Some s) (state_taken size r ks k away)) }
+      | inl listed ↦ cc (state_free size r ks k listed)
+      | inr away ↦ record { below = lt; absent = away; bytes = cc (found, state_taken size r ks k away) }
     ]

@@ -1,7 +1,9 @@
 -- Lists that are changed at a place.
-use Rattle.std.proofs.Common.{◌≡◌, ℕ, zero, suc, ◌+◌, Some, List, [], ◌∷◌, ◌++◌, map, length, take, drop, slice_get, slice_set, sym, ◌∙◌, subst, arith}
-use Rattle.std.specs.List.{AllByRecursion, insert, remove}
+use Rattle.std.proofs.Common.{◌≡◌, ℕ, zero, suc, ◌+◌, ◌≤◌, Some, List, [], ◌∷◌, ◌++◌, map, length, take, drop, slice_get, slice_set, sym, ap, ◌∙◌, arith}
+use Rattle.std.specs.List.{AllByRecursion, insert, remove, sum_by}
 use Rattle.std.proofs.lemmas.List.{map-append, take-map, drop-map, length-append, length-take, length-drop}
+use Rattle.std.proofs.lemmas.List.Sums.{sum_by-set, sum_by-insert, sum_by-remove, get_or-le-sum_by}
+use Rattle.std.proofs.lemmas.Option.{slice_get_within, get_or_from_slice_get}
 
 module _ {X Y : Type 0} (f : X → Y) where
   pub map-insert : (xs : List X) (i : ℕ) (x : X) → map f (insert xs i x) ≡ insert (map f xs) i (f x)
@@ -14,11 +16,31 @@ module _ {X Y : Type 0} (f : X → Y) where
 pub length-insert : {X : Type 0} (xs : List X) (i : ℕ) (x : X) → length (insert xs i x) ≡ length xs + 1
 length-insert xs i x = omega (arith, length-append (take i xs) (x ∷ drop i xs), length-take i xs, length-drop i xs)
 
+-- a sum over a list, where one element comes, goes or stands in place of another
+module _ {X : Type 0} (F : List X → ℕ) (f : X → ℕ) (is : (xs : List X) → F xs ≡ sum_by f xs) (xs : List X) (i : ℕ) where
+  pub sum-insert : (x : X) → F (insert xs i x) ≡ F xs + f x
+  sum-insert x = omega (arith, is (insert xs i x), is xs, sum_by-insert f xs i x)
+
+  pub sum-set : (x : X) → slice_get xs i ≡ Some x → (y : X) → F (slice_set xs i y) + f x ≡ F xs + f y
+  sum-set x found y =
+      let at = ap f (get_or_from_slice_get xs i x x found) in
+      omega (arith, is (slice_set xs i y), is xs, sum_by-set f xs i y x (slice_get_within xs i x found), at)
+
+  pub sum-remove : (x : X) → slice_get xs i ≡ Some x → F (remove xs i) + f x ≡ F xs
+  sum-remove x found =
+      let at = ap f (get_or_from_slice_get xs i x x found) in
+      omega (arith, is (remove xs i), is xs, sum_by-remove f xs i x (slice_get_within xs i x found), at)
+
+  pub sum-within : (x : X) → slice_get xs i ≡ Some x → f x ≤ F xs
+  sum-within x found =
+      let at = ap f (get_or_from_slice_get xs i x x found) in
+      omega (arith, is xs, get_or-le-sum_by f xs i x (slice_get_within xs i x found), at)
+
 -- what holds for all
 module _ {X : Type 0} (P : X → Type 0) where
   pub all-at : (xs : List X) (i : ℕ) (x : X) → AllByRecursion P xs → slice_get xs i ≡ Some x → P x
   all-at [] i x all found = cc
-  all-at (y ∷ xs) zero x all found = let same : y ≡ x = cc in subst P same all.0
+  all-at (y ∷ xs) zero x all found = let same : y ≡ x = cc in rw same at all.0
   all-at (y ∷ xs) (suc i) x all found = all-at xs i x all.1 found
 
   pub all-set : (xs : List X) (i : ℕ) (x : X) → AllByRecursion P xs → P x → AllByRecursion P (slice_set xs i x)
@@ -27,13 +49,12 @@ module _ {X : Type 0} (P : X → Type 0) where
   all-set (y ∷ xs) (suc i) x all p = (all.0, all-set xs i x all.1 p)
 
   pub all-insert : (xs : List X) (i : ℕ) (x : X) → AllByRecursion P xs → P x → AllByRecursion P (insert xs i x)
-  all-insert [] zero x all p = (p, tt)
-  all-insert [] (suc i) x all p = (p, tt)
-  all-insert (y ∷ xs) zero x all p = (p, all)
   all-insert (y ∷ xs) (suc i) x all p = (all.0, all-insert xs i x all.1 p)
+  all-insert xs zero x all p = (p, all)
+  all-insert xs i x all p = (p, tt)
 
   pub all-remove : (xs : List X) (i : ℕ) → AllByRecursion P xs → AllByRecursion P (remove xs i)
-  all-remove [] zero all = tt
-  all-remove [] (suc i) all = tt
   all-remove (x ∷ xs) zero all = all.1
   all-remove (x ∷ xs) (suc i) all = (all.0, all-remove xs i all.1)
+  all-remove [] zero all = tt
+  all-remove [] i all = tt

@@ -1,37 +1,24 @@
 -- Each holding of a keep has a part.
-use Rattle.std.proofs.Common.{◌≡◌, ℕ, zero, suc, Bool, true, false, cond, ◌&&◌, Some, List, [], ◌∷◌, slice_get, unwrap_or, refl, sym, ap, ◌∙◌}
-use Rattle.std.specs.declared.cmp.Ordering.TheVariants.{Less, Equal, Greater}
+use Rattle.std.proofs.Common.{◌≡◌, ℕ, zero, suc, Bool, true, false, cond, Some, List, [], ◌∷◌, slice_get, refl, ap, arith, Less, Equal, Greater, ◌+◌, Option, None, length, is_some, unwrap_or, ◌∙◌, option_map}
 use Rattle.std.specs.Ordering.{is_eq, match_ordering}
 use Rattle.std.specs.Cmp.{eq_by_cmp_equiv}
 use Rattle.std.specs.Map.{keys_of, remove_entry}
 use Rattle.std.specs.BTreeMap.{is_at, insert_entry}
+use Rattle.std.specs.List.Sorted.{IsStrictlySortedBy}
+use Rattle.std.proofs.lemmas.Map.Entries.{sum_by-insert_entry, sum_by-remove_entry}
 use Rattle.wal_shape.specs.declared.BlobId.{BlobId}
 use Rattle.wal_shape.specs.declared.part.Part.{Part}
-use Rattle.wal_shape.specs.declared.part.Part.TheVariants.{Metadata, Primary, Secondary, Proof}
+use Rattle.wal_shape.specs.declared.part.Part.TheVariants.{Metadata}
 use Rattle.wal_shape.specs.Identifiers.{id_cmp}
-use Rattle.wal_store.specs.Parts.{Parts, no_parts, with_part, is_absent, is_empty}
+use Rattle.wal_store.specs.Parts.{Parts, with_part, is_empty, no_parts, part_of, part_cost, cost_of}
 use Rattle.wal_store.specs.Entries.{Entries}
-use Rattle.wal_store.specs.inside.Entries.{found_in, parts_in, changed_in, AreKept}
+use Rattle.wal_store.specs.inside.Entries.{found_in, parts_in, changed_in, AreKept, cost_in, cost_at, needed_in, freed_in}
 use Rattle.wal_store.proofs.IdentifierLaws.{ids_total}
 
-and_false : (a b : Bool) → b ≡ false → a && b ≡ false
-and_false true b is = is
-and_false false b is = refl
-
-second_false : (a c d : Bool) → a && false && c && d ≡ false
-second_false true c d = refl
-second_false false c d = refl
-
-third_false : (a d : Bool) → a && false && d ≡ false
-third_false true d = refl
-third_false false d = refl
-
 -- a part that was put is there
-pub put_kept : (p : Parts) (part : Part) (bytes : List ℕ) → is_empty (with_part p part (Some bytes)) ≡ false
+put_kept : (p : Parts) (part : Part) (bytes : List ℕ) → is_empty (with_part p part (Some bytes)) ≡ false
 put_kept p Metadata bytes = refl
-put_kept p Primary bytes = second_false (is_absent p.metadata) (is_absent p.secondary) (is_absent p.proof)
-put_kept p Secondary bytes = third_false (is_absent p.metadata && is_absent p.primary) (is_absent p.proof)
-put_kept p Proof bytes = and_false (is_absent p.metadata && is_absent p.primary && is_absent p.secondary) false refl
+put_kept p part bytes = grind arith
 
 pub kept_insert : (es : Entries) (id : BlobId) (p : Parts) → AreKept es → is_empty p ≡ false → AreKept (insert_entry id_cmp es id p)
 kept_insert [] id p kept some = (some, tt)
@@ -60,25 +47,56 @@ changed_by es id p kept false is = kept_insert es id p kept is
 pub kept_changed : (es : Entries) (id : BlobId) (p : Parts) → AreKept es → AreKept (changed_in es id p)
 kept_changed es id p kept = changed_by es id p kept (is_empty p) refl
 
-found_by : (e : BlobId × Parts) (es : Entries) (id : BlobId) (i : ℕ) → is_empty e.1 ≡ false → slice_get (e.0 ∷ keys_of es) i ≡ Some id → ((j : ℕ) → slice_get (keys_of es) j ≡ Some id → is_empty (parts_in es id) ≡ false) → (b : Bool) → is_eq (id_cmp id e.0) ≡ b → is_empty (unwrap_or (cond b (Some e.1) (found_in es id)) no_parts) ≡ false
-found_by e es id i some at rest true is = some
-found_by e es id zero some at rest false is =
-    let same : e.0 ≡ id = cc in
-    let self : is_eq (id_cmp id e.0) ≡ true = ap (λ (x : BlobId). is_eq (id_cmp id x)) same ∙ (eq_by_cmp_equiv ids_total).refl id in
-    cc
-found_by e es id (suc i) some at rest false is = rest i at
-
 -- the holding of an identifier that is there has a part
 pub kept_at : (es : Entries) (id : BlobId) (i : ℕ) → AreKept es → slice_get (keys_of es) i ≡ Some id → is_empty (parts_in es id) ≡ false
 kept_at [] id i kept at = cc
-kept_at (e ∷ es) id i kept at =
-    found_by e es id i kept.0 at (λ j found. kept_at es id j kept.1 found) (is_eq (id_cmp id e.0)) refl
-
-first_kept : (e : BlobId × Parts) (es : Entries) (id : BlobId) (p : Parts) → is_empty e.1 ≡ false → (found_in es id ≡ Some p → is_empty p ≡ false) → (b : Bool) → cond b (Some e.1) (found_in es id) ≡ Some p → is_empty p ≡ false
-first_kept e es id p some rest true found = let same : e.1 ≡ p = cc in ap is_empty (sym same) ∙ some
-first_kept e es id p some rest false found = rest found
+kept_at (e ∷ es) id zero kept at =
+    let same : e.0 ≡ id = cc in grind (arith, ap (id_cmp id) same, (eq_by_cmp_equiv ids_total).refl id, kept.0)
+kept_at (e ∷ es) id (suc i) kept at = grind (arith, kept.0, kept_at es id i kept.1 at)
 
 -- a holding that is found has a part
 pub kept_found : (es : Entries) (id : BlobId) (p : Parts) → AreKept es → found_in es id ≡ Some p → is_empty p ≡ false
 kept_found [] id p kept found = cc
-kept_found (e ∷ es) id p kept found = first_kept e es id p kept.0 (kept_found es id p kept.1) (is_eq (id_cmp id e.0)) found
+kept_found (e ∷ es) id p kept found = grind (arith, kept.0, kept_found es id p kept.1)
+
+-- ---- What a change of one holding does to the pages of all.
+
+-- one part more, one less
+pub part_swap : (p : Parts) (part : Part) (bytes : Option (List ℕ)) → cost_of (with_part p part bytes) + part_cost (part_of p part) ≡ cost_of p + part_cost bytes
+part_swap p Metadata bytes = omega arith
+part_swap p part bytes = omega arith
+
+pub empty_still : (part : Part) → is_empty (with_part no_parts part None) ≡ true
+empty_still Metadata = refl
+empty_still part = refl
+
+insert_cost : (es : Entries) (id : BlobId) (p : Parts) → IsStrictlySortedBy id_cmp (keys_of es) → cost_in (insert_entry id_cmp es id p) + cost_at es id ≡ cost_in es + cost_of p
+insert_cost es id p sorted = sum_by-insert_entry cost_of ids_total es id p sorted
+
+pub remove_cost : (es : Entries) (id : BlobId) → cost_in (remove_entry (is_at (id_cmp id)) es) + cost_at es id ≡ cost_in es
+remove_cost es id = sum_by-remove_entry cost_of (is_at (id_cmp id)) es
+
+-- the cost of the holding under an identifier, and the page that a new one needs
+cost_parts : (o : Option Parts)
+    → unwrap_or (option_map cost_of o) 0 + cond (is_some o) 0 1 ≡ cost_of (unwrap_or o no_parts)
+cost_parts None = refl
+cost_parts (Some p) = omega arith
+
+-- a part that is put costs what it needs
+pub put_cost : (es : Entries) (id : BlobId) (part : Part) (bytes : List ℕ) → IsStrictlySortedBy id_cmp (keys_of es) → part_of (parts_in es id) part ≡ None → cost_in (insert_entry id_cmp es id (with_part (parts_in es id) part (Some bytes))) ≡ cost_in es + needed_in es id (length bytes)
+put_cost es id part bytes sorted absent =
+    let put = insert_cost es id (with_part (parts_in es id) part (Some bytes)) sorted in
+    let swap = part_swap (parts_in es id) part (Some bytes) in
+    let none : part_cost (part_of (parts_in es id) part) ≡ 0 = cc in
+    let fresh = cost_parts (found_in es id) in
+    omega (arith, put, swap, none, fresh)
+
+-- a part that goes frees its pages, and the last one the holding's page too
+pub clear_cost : (es : Entries) (id : BlobId) (part : Part) → IsStrictlySortedBy id_cmp (keys_of es) → cost_in (changed_in es id (with_part (parts_in es id) part None)) + freed_in es id part ≡ cost_in es
+clear_cost es id part sorted =
+    let p : Parts = with_part (parts_in es id) part None in
+    let put = insert_cost es id p sorted in
+    let swap = part_swap (parts_in es id) part None in
+    let low : found_in es id ≡ None → is_empty p ≡ true =
+    λ none. ap (λ o. is_empty (with_part (unwrap_or o no_parts) part None)) none ∙ empty_still part in
+    grind (arith, remove_cost es id, cost_parts (found_in es id))

@@ -1,8 +1,5 @@
 -- The places of the identifiers, after one went.
-use Rattle.std.proofs.Common.{◌≡◌, ℕ, zero, suc, ◌+◌, ◌<◌, ◌≤◌, Bool, true, false, T, ◌&&◌, Some, List, [], ◌∷◌, slice_get, refl, sym, ap, ◌∙◌, subst, arith}
-use Rattle.std.specs.declared.cmp.Ordering.{Ordering}
-use Rattle.std.specs.declared.cmp.Ordering.TheVariants.{Less, Equal, Greater}
-use Rattle.std.specs.Ordering.{is_lt}
+use Rattle.std.proofs.Common.{◌≡◌, ℕ, zero, suc, ◌+◌, ◌<◌, ◌≤◌, Bool, true, false, T, ◌&&◌, Some, List, [], ◌∷◌, slice_get, refl, sym, ap, ◌∙◌, arith, Ordering, Less, is_lt}
 use Rattle.std.specs.List.{AllByRecursion, remove}
 use Rattle.std.specs.List.Sorted.{IsStrictlySortedBy}
 use Rattle.std.specs.Map.{keys_of, remove_entry}
@@ -15,9 +12,8 @@ use Rattle.wal_store.specs.Parts.{Parts}
 use Rattle.wal_store.specs.Contents.{Contents}
 use Rattle.wal_store.specs.Entries.{Entries}
 use Rattle.wal_store.proofs.Edits.{map-remove}
-use Rattle.wal_store.proofs.EntriesLaws.{entries_view, remove_view}
+use Rattle.wal_store.proofs.EntriesLaws.{entries_view, remove_view, remove_at}
 use Rattle.wal_store.proofs.IdentifierLaws.{ids_total, exact_ids}
-use Rattle.wal_store.proofs.PlaceLaws.{remove_at}
 use Rattle.wal_store.proofs.TableLaws.{sorted-remove}
 
 pub both_of : (a b : Bool) → T (a && b) → T a × T b
@@ -26,8 +22,7 @@ both_of false b t = absurd t
 
 pub less_of : (o : Ordering) → T (is_lt o) → o ≡ Less
 less_of Less t = refl
-less_of Equal t = absurd t
-less_of Greater t = absurd t
+less_of o t = absurd t
 
 below_of : (k : BlobId) (es : Entries) → T (below_all id_cmp k es) → AllByRecursion (λ y. id_cmp k y ≡ Less) (keys_of es)
 below_of k [] t = tt
@@ -48,19 +43,15 @@ entry_of (e ∷ es) zero id at = let key : e.0 ≡ id = cc in (e.1, ap (λ (x : 
 entry_of (e ∷ es) (suc i) id at = entry_of es i id at
 
 pub slice_get-remove_below : {X : Type 0} (xs : List X) (i j : ℕ) → j < i → slice_get (remove xs i) j ≡ slice_get xs j
-slice_get-remove_below [] zero j below = absurd (omega arith)
-slice_get-remove_below [] (suc i) j below = refl
-slice_get-remove_below (x ∷ xs) zero j below = absurd (omega arith)
-slice_get-remove_below (x ∷ xs) (suc i) zero below = refl
 slice_get-remove_below (x ∷ xs) (suc i) (suc j) below = slice_get-remove_below xs i j (omega arith)
+slice_get-remove_below [] (suc i) j below = refl
+slice_get-remove_below xs i j below = grind arith
 
 moved_down : {X : Type 0} (xs : List X) (i j up : ℕ) → i ≤ j → up ≡ j + 1 → slice_get (remove xs i) j ≡ slice_get xs up
-moved_down [] zero j up above next = refl
-moved_down [] (suc i) j up above next = refl
-moved_down (x ∷ xs) zero j up above next = let is : up ≡ suc j = omega arith in ap (slice_get (x ∷ xs)) (sym is)
-moved_down (x ∷ xs) (suc i) zero up above next = absurd (omega arith)
-moved_down (x ∷ xs) (suc i) (suc j) zero above next = absurd (omega arith)
 moved_down (x ∷ xs) (suc i) (suc j) (suc up) above next = moved_down xs i j up (omega arith) (omega arith)
+moved_down (x ∷ xs) zero j up above next = let is : up ≡ suc j = omega arith in cc
+moved_down [] (suc i) j up above next = refl
+moved_down xs i j up above next = grind arith
 
 pub closes_place : (m : Contents) (id : BlobId) (i : ℕ) → slice_get (fin.keys m) i ≡ Some id → fin.keys (fin.remove m id) ≡ remove (fin.keys m) i
 closes_place m id i at =
@@ -70,8 +61,7 @@ closes_place m id i at =
     let whole : fin.from_sorted {R = id_cmp} es ≡ m = fin.same_entries_map _ _ (entries_view id_cmp es sorted) in
     let e = entry_of es i id at in
     let keys : keys_of left ≡ remove (keys_of es) i = ap keys_of (sym (remove_at id_cmp ids_total es i id e.0 sorted e.1)) ∙ map-remove (λ (e : BlobId × Parts). e.0) es i in
-    let P : List BlobId → Type 0 = λ ks. IsStrictlySortedBy id_cmp ks in
-    let after : IsStrictlySortedBy id_cmp (keys_of left) = subst P (sym keys) (sorted-remove (keys_of es) i sorted) in
+    let after : IsStrictlySortedBy id_cmp (keys_of left) = rw keys (sorted-remove (keys_of es) i sorted) in
     ap (λ (n : Contents). fin.keys (fin.remove n id)) (sym whole)
     ∙ ap (λ (n : Contents). fin.keys n) (sym (remove_view id_cmp ids_total exact_ids es id sorted after))
     ∙ ap keys_of (entries_view id_cmp left after) ∙ keys

@@ -1,26 +1,29 @@
 -- Rows that stay where they are, and the list of their numbers.
-use Rattle.std.proofs.Common.{◌≡◌, ◌≢◌, ℕ, zero, suc, ◌+◌, ◌<◌, ◌≤◌, inl, inr, Some, List, [], ◌∷◌, ◌++◌, map, length, slice_get, slice_set, get_or, refl, sym, ap, ◌∙◌, arith}
-use Rattle.std.specs.Option.{option_map}
-use Rattle.std.specs.List.{insert, remove, range_with_len}
-use Rattle.std.proofs.lemmas.Bool.{cases_eq}
-use Rattle.std.proofs.lemmas.List.{length-map, length-append, length-set, get_or-set_same, get_or-set_other}
+use Rattle.std.proofs.Common.{◌≡◌, ◌≢◌, ℕ, zero, suc, ◌+◌, ◌<◌, ◌≤◌, Some, List, [], ◌∷◌, ◌++◌, length, slice_get, slice_set, get_or, nat_eq, cond, refl, sym, ap, ◌∙◌, arith, option_map}
+use Rattle.std.specs.List.{insert, remove, range_with_len, sum_by}
+use Rattle.std.proofs.lemmas.Bool.Decides.{nat_tests}
+use Rattle.std.proofs.lemmas.List.{map-id, length-map, length-append, length-set, get_or-set_same, get_or-set_other}
 use Rattle.std.proofs.lemmas.List.Edits.{length-remove}
 use Rattle.std.proofs.lemmas.List.FromFn.{map-range_with_len_more, length-range_with_len}
+use Rattle.std.proofs.lemmas.List.Recursion.{is_sum_by}
+use Rattle.std.proofs.lemmas.List.Sums.{sum_by-append}
 use Rattle.std.proofs.lemmas.Option.{slice_get_read, slice_get_within, slice_get-map, get_or_from_slice_get}
 use Rattle.wal_store.specs.declared.rows.Row.{Row}
 use Rattle.wal_store.specs.inside.Chain.{uses}
-use Rattle.wal_store.specs.inside.Ordered.{row_of, rows_at, IsOrder}
-use Rattle.wal_store.proofs.Edits.{map-insert, map-remove, length-insert}
-use Rattle.wal_store.proofs.ChainLaws.{uses_self, uses_other, uses_cons}
+use Rattle.wal_store.specs.inside.Ordered.{RowList, row_of, rows_at, IsOrder}
+use Rattle.wal_store.proofs.Edits.{map-insert, map-remove, length-insert, sum-insert, sum-remove, sum-within}
+use Rattle.wal_store.proofs.ChainLaws.{uses_self, uses_cons}
 
 pub length-rows_at : (S : List Row) (ks : List ℕ) → length (rows_at S ks) ≡ length ks
 length-rows_at S ks = length-map ks (row_of S)
 
+-- how often a number is in a list, as a sum
+uses_sum : (k : ℕ) (ks : List ℕ) → uses k ks ≡ sum_by (λ x. cond (nat_eq k x) 1 0) ks
+uses_sum k = is_sum_by (uses k) (λ x. cond (nat_eq k x) 1 0) refl (λ x xs. refl)
+
 -- a number of the order is used
-pub used : (ks : List ℕ) (i k : ℕ) → slice_get ks i ≡ Some k → 0 < uses k ks
-used [] i k at = cc
-used (j ∷ ks) zero k at = let is : j ≡ k = cc in omega (arith, ap (λ n. uses k (n ∷ ks)) is, uses_self k ks)
-used (j ∷ ks) (suc i) k at = omega (arith, used ks i k at, uses_cons k j ks)
+used : (ks : List ℕ) (i k : ℕ) → slice_get ks i ≡ Some k → 0 < uses k ks
+used ks i k at = omega (arith, sum-within _ _ (uses_sum k) ks i k at, uses_self k [])
 
 -- the row at a place is the one with the number there
 pub numbered : (S : List Row) (ks : List ℕ) (i k : ℕ) → slice_get ks i ≡ Some k → slice_get (rows_at S ks) i ≡ Some (row_of S k)
@@ -29,9 +32,7 @@ numbered S ks i k at = slice_get-map (row_of S) ks i ∙ ap (option_map (row_of 
 pub rows_same : (S R : List Row) (ks : List ℕ) → ((k : ℕ) → 0 < uses k ks → row_of R k ≡ row_of S k) → rows_at R ks ≡ rows_at S ks
 rows_same S R [] same = refl
 rows_same S R (j ∷ ks) same =
-    let here : row_of R j ≡ row_of S j = same j (omega (arith, uses_self j ks)) in
-    let rest : (k : ℕ) → 0 < uses k ks → row_of R k ≡ row_of S k = λ k is. same k (omega (arith, is, uses_cons k j ks)) in
-    ap (λ r. r ∷ rows_at R ks) here ∙ ap (λ rs. row_of S j ∷ rs) (rows_same S R ks rest)
+    cc (same j (omega (arith, uses_self j ks)), rows_same S R ks (λ k is. same k (omega (arith, is, uses_cons k j ks))))
 
 -- a row that is written over is one of the list
 pub rows_at-set : (S : List Row) (ks : List ℕ) (i k : ℕ) (w : Row) → slice_get ks i ≡ Some k → ((j : ℕ) → uses j ks ≤ 1) → k < length S → rows_at (slice_set S k w) ks ≡ slice_set (rows_at S ks) i w
@@ -39,33 +40,43 @@ rows_at-set S [] i k w at once within = cc
 rows_at-set S (j ∷ ks) zero k w at once within =
     let is : j ≡ k = cc in
     let none : uses k ks ≡ 0 = omega (arith, once k, ap (λ n. uses k (n ∷ ks)) is, uses_self k ks) in
-    let head : row_of (slice_set S k w) j ≡ w = ap (λ n. row_of (slice_set S k w) n) is ∙ get_or-set_same S k w _ within in
-    ap (λ r. r ∷ rows_at (slice_set S k w) ks) head
-    ∙ ap (λ rs. w ∷ rs) (rows_same S (slice_set S k w) ks (λ m u. get_or-set_other S k m w _ (λ same. absurd (omega (arith, u, none, ap (λ n. uses n ks) same)))))
+    let head : row_of (slice_set S k w) k ≡ w = get_or-set_same S k w _ within in
+    let rest = rows_same S (slice_set S k w) ks
+    (λ m u. get_or-set_other S k m w _ (λ same. absurd (omega (arith, u, none, ap (λ n. uses n ks) same)))) in
+    cc (is, head, rest)
 rows_at-set S (j ∷ ks) (suc i) k w at once within =
     let u = used ks i k at in
     let other : j ≢ k = λ same. absurd (omega (arith, once k, u, ap (λ n. uses k (n ∷ ks)) same, uses_self k ks)) in
-    ap (λ r. r ∷ rows_at (slice_set S k w) ks) (get_or-set_other S k j w _ other)
-    ∙ ap (λ rs. row_of S j ∷ rs) (rows_at-set S ks i k w at (λ m. omega (arith, once m, uses_cons m j ks)) within)
+    let head : row_of (slice_set S k w) j ≡ row_of S j = get_or-set_other S k j w _ other in
+    cc (head, rows_at-set S ks i k w at (λ m. omega (arith, once m, uses_cons m j ks)) within)
 
 uses-insert : (k : ℕ) (ks : List ℕ) (i x : ℕ) → uses k (insert ks i x) ≡ uses k (x ∷ []) + uses k ks
-uses-insert k [] zero x = omega arith
-uses-insert k [] (suc i) x = omega arith
-uses-insert k (j ∷ ks) zero x = uses_cons k x (j ∷ ks)
-uses-insert k (j ∷ ks) (suc i) x = omega (arith, uses_cons k j (insert ks i x), uses-insert k ks i x, uses_cons k j ks)
+uses-insert k ks i x = omega (arith, sum-insert _ _ (uses_sum k) ks i x)
 
 uses-remove : (k : ℕ) (ks : List ℕ) (i x : ℕ) → slice_get ks i ≡ Some x → uses k (remove ks i) + uses k (x ∷ []) ≡ uses k ks
-uses-remove k [] i x at = cc
-uses-remove k (j ∷ ks) zero x at = let is : j ≡ x = cc in omega (arith, uses_cons k j ks, ap (λ n. uses k (n ∷ [])) is)
-uses-remove k (j ∷ ks) (suc i) x at = omega (arith, uses_cons k j (remove ks i), uses-remove k ks i x at, uses_cons k j ks)
+uses-remove k ks i x at = omega (arith, sum-remove _ _ (uses_sum k) ks i x at)
 
 uses-append : (k : ℕ) (xs ys : List ℕ) → uses k (xs ++ ys) ≡ uses k xs + uses k ys
-uses-append k [] ys = omega arith
-uses-append k (x ∷ xs) ys = omega (arith, uses_cons k x (xs ++ ys), uses-append k xs ys, uses_cons k x xs)
+uses-append k xs ys =
+    omega (arith, uses_sum k (xs ++ ys), uses_sum k xs, uses_sum k ys, sum_by-append (λ y. cond (nat_eq k y) 1 0) xs ys)
 
 -- the number at a place is that of a row
-pub number_within : (S : List Row) (order unused : List ℕ) (i k : ℕ) → IsOrder S order unused → slice_get order i ≡ Some k → k < length S
+number_within : (S : List Row) (order unused : List ℕ) (i k : ℕ) → IsOrder S order unused
+    → slice_get order i ≡ Some k → k < length S
 number_within S order unused i k is at = is.within k (omega (arith, used order i k at))
+
+-- as many rows are seen as there are numbers in the order
+pub seen_long : (S : List Row) (order : List ℕ) (room : ℕ) (seen : RowList)
+    → ◌≡◌ {A = RowList} (record { items = rows_at S order; room = room }) seen → length seen.items ≡ length order
+seen_long S order room seen view = ap (λ r. length r.items) (sym view) ∙ length-rows_at S order
+
+-- the number that is read at the place of a row
+pub number_at : (S : List Row) (order unused : List ℕ) (room : ℕ) (seen : RowList) (i k : ℕ) → IsOrder S order unused
+    → ◌≡◌ {A = RowList} (record { items = rows_at S order; room = room }) seen → i < length seen.items
+    → k ≡ get_or order i k → (slice_get order i ≡ Some k) × (k < length S)
+number_at S order unused room seen i k is view within read =
+    let at = slice_get_read order _ i k refl (omega (arith, seen_long S order room seen view)) read in
+    (at, number_within S order unused i k is at)
 
 -- the rows and their order after a change
 pub record Ordered (S : List Row) (ks unused : List ℕ) (rs : List Row) : Type 0 where
@@ -89,17 +100,16 @@ row_put S order unused left i k w is last =
     let split : (j : ℕ) → uses j unused ≡ uses j left + uses j (k ∷ []) = λ j. ap (uses j) last ∙ uses-append j left (k ∷ []) in
     let within = last_within S order unused left k is last in
     let none : uses k order ≡ 0 = omega (arith, is.once k, split k, uses_self k []) in
-    let others : rows_at (slice_set S k w) order ≡ rows_at S order =
-    rows_same S (slice_set S k w) order (λ m u. get_or-set_other S k m w _ (λ same. absurd (omega (arith, u, none, ap (λ n. uses n order) same)))) in
+    let others = rows_same S (slice_set S k w) order
+    (λ m u. get_or-set_other S k m w _ (λ same. absurd (omega (arith, u, none, ap (λ n. uses n order) same)))) in
+    let head : row_of (slice_set S k w) k ≡ w = get_or-set_same S k w _ within in
     record {
       sound = record {
         once = λ j. omega (arith, is.once j, split j, uses-insert j order i k);
         within = λ j u. let more : 0 < uses j order + uses j unused = omega (arith, u, split j, uses-insert j order i k) in omega (arith, is.within j more, length-set S k w);
         all = omega (arith, is.all, length-insert order i k, ap length last, length-append left (k ∷ []), length-set S k w);
       };
-      rows = map-insert (row_of (slice_set S k w)) order i k
-          ∙ ap (λ rs. insert rs i (row_of (slice_set S k w) k)) others
-          ∙ ap (insert (rows_at S order) i) (get_or-set_same S k w _ within);
+      rows = cc (map-insert (row_of (slice_set S k w)) order i k, others, head);
     }
 
 -- a row is taken out
@@ -116,23 +126,15 @@ row_gone S order unused i k is at = record {
 -- the numbers from one on have each number once
 below_range : (a n k : ℕ) → k < a → uses k (range_with_len a n) ≡ 0
 below_range a zero k below = refl
-below_range a (suc n) k below =
-    let other : k ≢ a = omega arith in
-    uses_other k a (range_with_len (a + 1) n) other ∙ below_range (a + 1) n k (omega arith)
+below_range a (suc n) k below = grind (arith, nat_tests, below_range (a + 1) n k (omega arith))
 
 range_once : (a n k : ℕ) → uses k (range_with_len a n) ≤ 1
 range_once a zero k = omega arith
-range_once a (suc n) k = elim (cases_eq k a) [
-  | inl same ↦ omega (arith, ap (λ j. uses j (a ∷ range_with_len (a + 1) n)) same, uses_self a (range_with_len (a + 1) n), below_range (a + 1) n a (omega arith))
-  | inr other ↦ omega (arith, uses_other k a (range_with_len (a + 1) n) other, range_once (a + 1) n k)
-]
+range_once a (suc n) k = grind (arith, nat_tests, range_once (a + 1) n k, below_range (a + 1) n k)
 
 range_within : (a n k : ℕ) → 0 < uses k (range_with_len a n) → k < a + n
 range_within a zero k u = absurd (omega arith)
-range_within a (suc n) k u = elim (cases_eq k a) [
-  | inl same ↦ omega arith
-  | inr other ↦ omega (arith, range_within (a + 1) n k (omega (arith, u, uses_other k a (range_with_len (a + 1) n) other)))
-]
+range_within a (suc n) k u = grind (arith, nat_tests, range_within (a + 1) n k)
 
 pub no_order : (S : List Row) (order unused : List ℕ) (n : ℕ) → length S ≡ n → order ≡ [] → unused ≡ range_with_len 0 n → IsOrder S order unused
 no_order S order unused n long none all = record {
@@ -151,8 +153,5 @@ row_there S order unused i k x is at read =
 
 -- the numbers from one on, and the next one
 pub range_more : (a n j : ℕ) → a + n ≡ j → range_with_len a (n + 1) ≡ range_with_len a n ++ j ∷ []
-range_more a n j next = sym (map_id (range_with_len a (n + 1))) ∙ map-range_with_len_more (λ k. k) a n j next ∙ ap (λ ks. ks ++ j ∷ []) (map_id (range_with_len a n))
-  where
-    map_id : (ks : List ℕ) → map (λ k. k) ks ≡ ks
-    map_id [] = refl
-    map_id (k ∷ ks) = ap (λ js. k ∷ js) (map_id ks)
+range_more a n j next =
+    cc (map-id (range_with_len a (n + 1)), map-range_with_len_more (λ k. k) a n j next, map-id (range_with_len a n))

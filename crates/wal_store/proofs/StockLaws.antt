@@ -1,15 +1,15 @@
 -- What is seen of a keep whose holdings stand in order.
-use Rattle.std.proofs.Common.{◌≡◌, ℕ, ◌+◌, ◌-◌, ◌≤◌, Bool, true, false, not, cond, Option, Some, None, Result, Ok, Err, List, length, slice_get, IfSome, is_some, unwrap_or, nat_lt, refl, sym, ap, ◌∙◌, subst, arith}
+use Rattle.std.proofs.Common.{◌≡◌, ℕ, ◌+◌, ◌-◌, ◌≤◌, Bool, true, false, not, cond, Option, Some, None, Ok, Err, List, length, slice_get, IfSome, is_some, unwrap_or, refl, sym, ap, ◌∙◌, arith}
 use Rattle.std.specs.Option.{option_map, ForSome}
 use Rattle.std.specs.List.Sorted.{IsStrictlySortedBy}
 use Rattle.std.specs.Map.{keys_of, remove_entry}
 use Rattle.std.specs.BTreeMap.{is_at, insert_entry}
 use Rattle.std.specs.FinMap as fin
-use Rattle.std.proofs.lemmas.Bool.{ltb-true, ltb-false}
+use Rattle.std.proofs.lemmas.Bool.Decides.{nat_tests}
 use Rattle.wal_shape.specs.declared.BlobId.{BlobId}
 use Rattle.wal_shape.specs.declared.part.Part.{Part}
 use Rattle.wal_store.specs.declared.contract.KeepError.{KeepError}
-use Rattle.wal_store.specs.declared.contract.KeepError.TheVariants.{Full}
+use Rattle.wal_store.specs.declared.contract.KeepError.TheVariants.{Full, Memory}
 use Rattle.wal_store.specs.declared.map_keep.Budget.{Budget}
 use Rattle.wal_shape.specs.Identifiers.{id_cmp}
 use Rattle.wal_store.specs.Parts.{Parts, no_parts, part_of, with_part, is_empty, pages_for}
@@ -25,6 +25,12 @@ use Rattle.wal_store.proofs.IdentifierLaws.{ids_total, exact_ids}
 pub record Shows (es : Entries) (m : Contents) : Type 0 where
   pub sorted : IsStrictlySortedBy id_cmp (keys_of es)
   pub view : fin.from_sorted {R = id_cmp} es ≡ m
+
+-- what a keep's view says of its entries
+pub shows_of : (es : Entries) (limit : Option ℕ) (s : StoreState) → IsStrictlySortedBy id_cmp (keys_of es)
+    → ◌≡◌ {A = StoreState} (record { contents = fin.from_sorted {R = id_cmp} es; limit = limit }) s
+    → Shows es s.contents
+shows_of es limit s sorted view = record { sorted = sorted; view = ap (λ t. t.contents) view }
 
 pub shown_get : (es : Entries) (m : Contents) (id : BlobId) → Shows es m → fin.get m id ≡ found_in es id
 shown_get es m id s = ap (λ n. fin.get n id) (sym s.view) ∙ get_view id_cmp es id s.sorted
@@ -54,10 +60,7 @@ shown_budget es m (Some most) s within = let fits = within most refl in omega (a
 
 pub budget_most : (budget : Option Budget) (limit : Option ℕ) (cost : ℕ) → InBudget budget cost → option_map {T = Budget} (λ b. b.limit) budget ≡ limit → ForSome limit (λ most. cost ≤ most)
 budget_most None limit cost within is most at = cc
-budget_most (Some b) limit cost within is most at =
-    let same : b.limit ≡ most = cc in
-    let fits = within b refl in
-    omega (arith, same, fits)
+budget_most (Some b) limit cost within is most at = grind (arith, within b refl)
 
 -- the holding of an identifier that is there has a part
 pub shown_kept : (es : Entries) (m : Contents) (id : BlobId) (i : ℕ) → Shows es m → AreKept es → slice_get (keys_of es) i ≡ Some id → is_empty (parts_at m id) ≡ false
@@ -65,90 +68,78 @@ shown_kept es m id i s kept at = ap is_empty (shown_parts es m id s) ∙ kept_at
 
 there_by : (o : Option Parts) → ((p : Parts) → o ≡ Some p → is_empty p ≡ false) → is_some o ≡ not (is_empty (unwrap_or o no_parts))
 there_by None some = refl
-there_by (Some p) some = sym (ap not (some p refl))
+there_by (Some p) some = cc (some p refl)
 
 -- an identifier has a holding exactly where a part is held under it
 pub shown_there : (es : Entries) (m : Contents) (id : BlobId) → Shows es m → AreKept es → fin.contains_key m id ≡ not (is_empty (parts_at m id))
 shown_there es m id s kept =
-    ap is_some (shown_get es m id s)
-    ∙ there_by (found_in es id) (λ p found. kept_found es id p kept found)
-    ∙ sym (ap (λ p. not (is_empty p)) (shown_parts es m id s))
+    cc (shown_get es m id s, there_by (found_in es id) (λ p found. kept_found es id p kept found))
 
--- parts that are put in a holding
-pub shown_insert : (es : Entries) (m : Contents) (id : BlobId) (p : Parts) → Shows es m → fin.from_sorted {R = id_cmp} (insert_entry id_cmp es id p) ≡ fin.insert m id p
-shown_insert es m id p s = insert_view id_cmp ids_total es id p s.sorted ∙ ap (λ n. fin.insert n id p) s.view
+-- holdings after a change, and the contents that they make
+module _ (es now : Entries) (m : Contents) (id : BlobId) (s : Shows es m) where
+  shown_insert : (p : Parts) → now ≡ insert_entry id_cmp es id p → fin.from_sorted {R = id_cmp} now ≡ fin.insert m id p
+  shown_insert p change =
+      ap fin.from_sorted change ∙ insert_view id_cmp ids_total es id p s.sorted ∙ ap (λ n. fin.insert n id p) s.view
 
-pub shown_put : (es : Entries) (m : Contents) (id : BlobId) (part : Part) (bytes : List ℕ) → Shows es m → fin.from_sorted {R = id_cmp} (insert_entry id_cmp es id (with_part (parts_in es id) part (Some bytes))) ≡ with_bytes m id part bytes
-shown_put es m id part bytes s =
-    shown_insert es m id (with_part (parts_in es id) part (Some bytes)) s
-    ∙ ap (λ p. fin.insert m id (with_part p part (Some bytes))) (sym (shown_parts es m id s))
+  pub shown_put : (part : Part) (bytes : List ℕ)
+      → now ≡ insert_entry id_cmp es id (with_part (parts_in es id) part (Some bytes))
+      → fin.from_sorted {R = id_cmp} now ≡ with_bytes m id part bytes
+  shown_put part bytes change =
+      shown_insert (with_part (parts_in es id) part (Some bytes)) change
+      ∙ ap (λ p. fin.insert m id (with_part p part (Some bytes))) (sym (shown_parts es m id s))
 
-pub shown_remove : (es : Entries) (m : Contents) (id : BlobId) → Shows es m → IsStrictlySortedBy id_cmp (keys_of (remove_entry (is_at (id_cmp id)) es)) → fin.from_sorted {R = id_cmp} (remove_entry (is_at (id_cmp id)) es) ≡ fin.remove m id
-shown_remove es m id s after = remove_view id_cmp ids_total exact_ids es id s.sorted after ∙ ap (λ n. fin.remove n id) s.view
+  pub shown_remove : now ≡ remove_entry (is_at (id_cmp id)) es → IsStrictlySortedBy id_cmp (keys_of now)
+      → fin.from_sorted {R = id_cmp} now ≡ fin.remove m id
+  shown_remove change after =
+      ap fin.from_sorted change ∙ remove_view id_cmp ids_total exact_ids es id s.sorted (rw change at after)
+      ∙ ap (λ n. fin.remove n id) s.view
 
-changed_by : (es : Entries) (m : Contents) (id : BlobId) (p : Parts) → Shows es m → (b : Bool) → IsStrictlySortedBy id_cmp (keys_of (cond b (remove_entry (is_at (id_cmp id)) es) (insert_entry id_cmp es id p))) → fin.from_sorted {R = id_cmp} (cond b (remove_entry (is_at (id_cmp id)) es) (insert_entry id_cmp es id p)) ≡ cond b (fin.remove m id) (fin.insert m id p)
-changed_by es m id p s true after = shown_remove es m id s after
-changed_by es m id p s false after = shown_insert es m id p s
+  changed_by : (p : Parts) (b : Bool) → now ≡ cond b (remove_entry (is_at (id_cmp id)) es) (insert_entry id_cmp es id p)
+      → IsStrictlySortedBy id_cmp (keys_of now)
+      → fin.from_sorted {R = id_cmp} now ≡ cond b (fin.remove m id) (fin.insert m id p)
+  changed_by p true change after = shown_remove change after
+  changed_by p false change after = shown_insert p change
 
-pub shown_clear : (es : Entries) (m : Contents) (id : BlobId) (part : Part) → Shows es m → IsStrictlySortedBy id_cmp (keys_of (changed_in es id (with_part (parts_in es id) part None))) → fin.from_sorted {R = id_cmp} (changed_in es id (with_part (parts_in es id) part None)) ≡ without_part m id part
-shown_clear es m id part s after =
-    let p : Parts = with_part (parts_in es id) part None in
-    changed_by es m id p s (is_empty p) after
-    ∙ ap (λ q. with_parts m id (with_part q part None)) (sym (shown_parts es m id s))
+  pub shown_clear : (part : Part) → now ≡ changed_in es id (with_part (parts_in es id) part None)
+      → IsStrictlySortedBy id_cmp (keys_of now) → fin.from_sorted {R = id_cmp} now ≡ without_part m id part
+  shown_clear part change after =
+      let p : Parts = with_part (parts_in es id) part None in
+      changed_by p (is_empty p) change after
+      ∙ ap (λ q. with_parts m id (with_part q part None)) (sym (shown_parts es m id s))
 
 -- the answer to a put, from the budget
-abbrev answer_by : ℕ → ℕ → Bool → Result (Unit {0}) KeepError
-answer_by needed free b = cond b (Err (Full needed free)) (Ok tt)
-
-room_by : (l u n : ℕ) (b : Bool) → nat_lt (l - u) n ≡ b → answer_by n (l - u) b ≡ Ok tt → n ≤ l - u
-room_by l u n true is e = cc
-room_by l u n false is e = ltb-false (l - u) n is
-
 pub has_room : (budget : Option Budget) (n : ℕ) → room_answer budget n ≡ Ok tt → ForSome budget (λ b. n ≤ b.limit - b.used)
 has_room None n e b is = cc
-has_room (Some a) n e b is =
-    let same : a ≡ b = cc in
-    subst (λ (x : Budget). n ≤ x.limit - x.used) same (room_by a.limit a.used n (nat_lt (a.limit - a.used) n) refl e)
+has_room (Some a) n e b is = grind (arith, nat_tests)
 
 pub answer_room : (budget : Option Budget) (m : Contents) (n : ℕ) → InBudget budget (cost m) → ForSome budget (λ b. n ≤ b.limit - b.used) → HasRoom (free_of (option_map {T = Budget} (λ b. b.limit) budget) m) n
 answer_room None m n within room = tt
-answer_room (Some b) m n within room =
-    let used = (within b refl).0 in let free = room b refl in
-    omega (arith, used, free)
-
-full_by : (l u n : ℕ) (limit : Option ℕ) (want : Bool) (m : Contents) (id : BlobId) (bytes : List ℕ) (e : KeepError) (b : Bool) → nat_lt (l - u) n ≡ b → answer_by n (l - u) b ≡ Err e → free_of limit m ≡ Some (l - u) → n ≡ needed_for m id bytes → IsPutAnswer limit want m id bytes (Err e)
-full_by l u n limit want m id bytes e true is answer free needed =
-    let same : Full n (l - u) ≡ e = cc in
-    subst (λ x. IsPutAnswer limit want m id bytes (Err x)) same (free, needed, ltb-true (l - u) n is)
-full_by l u n limit want m id bytes e false is answer free needed = cc
+answer_room (Some b) m n within room = omega (arith, (within b refl).0, room b refl)
 
 pub answer_full : (budget : Option Budget) (want : Bool) (m : Contents) (id : BlobId) (bytes : List ℕ) (n : ℕ) (e : KeepError) → InBudget budget (cost m) → n ≡ needed_for m id bytes → room_answer budget n ≡ Err e → IsPutAnswer (option_map {T = Budget} (λ b. b.limit) budget) want m id bytes (Err e)
 answer_full None want m id bytes n e within needed answer = cc
-answer_full (Some b) want m id bytes n e within needed answer =
-    let free : free_of (Some b.limit) m ≡ Some (b.limit - b.used) = ap (λ c. Some (b.limit - c)) (sym (within b refl).0) in
-    full_by b.limit b.used n (Some b.limit) want m id bytes e (nat_lt (b.limit - b.used) n) refl answer free needed
+answer_full (Some b) want m id bytes n Memory within needed answer = grind arith
+answer_full (Some b) want m id bytes n (Full k f) within needed answer = grind (arith, nat_tests, (within b refl).0)
 
 -- the budget after pages went, and others came
-pub recharge_fits : (budget : Option Budget) (cost after gone : ℕ) → InBudget budget cost → after + gone ≡ cost → ForSome budget (λ b. (gone ≤ b.used) × (b.used - gone + 0 ≤ b.limit))
-recharge_fits budget cost after gone within change b is =
-    let fits = within b is in (omega arith, omega arith)
-
 pub recharge_more : (budget : Option Budget) (cost needed : ℕ) → InBudget budget cost → ForSome budget (λ b. needed ≤ b.limit - b.used) → ForSome budget (λ b. (0 ≤ b.used) × (b.used - 0 + needed ≤ b.limit))
-recharge_more budget cost needed within room b is =
-    let fits = within b is in let free = room b is in (omega arith, omega arith)
+recharge_more budget cost needed within room b is = omega (arith, within b is, room b is)
 
 pub recharged_within : (budget now : Option Budget) (cost after gone more : ℕ) → InBudget budget cost → now ≡ option_map {T = Budget} (λ b. record b { used = b.used - gone + more }) budget → after + gone ≡ cost + more → ForSome budget (λ b. (gone ≤ b.used) × (b.used - gone + more ≤ b.limit)) → InBudget now after
 recharged_within None now cost after gone more within change moved fits b is = cc
 recharged_within (Some a) now cost after gone more within change moved fits b is =
     let same : b ≡ record a { used = a.used - gone + more } = cc in
-    let was = within a refl in
-    let room = fits a refl in
-    let P : Budget → Type 0 = λ x. (x.used ≡ after) × (x.used ≤ x.limit) in
-    subst P (sym same) (omega arith, room.1)
+    rw same (omega (arith, within a refl, fits a refl))
 
-pub recharged_limit : (budget now : Option Budget) (gone more : ℕ) → now ≡ option_map {T = Budget} (λ b. record b { used = b.used - gone + more }) budget → option_map {T = Budget} (λ b. b.limit) now ≡ option_map {T = Budget} (λ b. b.limit) budget
-recharged_limit None now gone more change = ap (option_map {T = Budget} (λ b. b.limit)) change
-recharged_limit (Some a) now gone more change = ap (option_map {T = Budget} (λ b. b.limit)) change
+-- where pages went alone
+pub recharged_less : (budget : Option Budget) (cost after gone : ℕ) → InBudget budget cost → after + gone ≡ cost
+    → ForSome budget (λ b. (gone ≤ b.used) × (b.used - gone + 0 ≤ b.limit))
+    × ((now : Option Budget) → now ≡ option_map {T = Budget} (λ b. record b { used = b.used - gone + 0 }) budget
+    → InBudget now after)
+recharged_less budget cost after gone within change =
+    let fits : ForSome budget (λ b. (gone ≤ b.used) × (b.used - gone + 0 ≤ b.limit)) =
+    λ b is. omega (arith, within b is) in
+    (fits, λ now is. recharged_within budget now cost after gone 0 within is (omega arith) fits)
 
 pub unused_limit : (limit : Option ℕ) → option_map {T = Budget} (λ b. b.limit) (option_map {T = ℕ} (λ most. record { limit = most; used = 0 }) limit) ≡ limit
 unused_limit None = refl

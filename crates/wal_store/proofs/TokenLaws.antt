@@ -1,8 +1,7 @@
 -- The rights to pages against the states of the pages.
-use Rattle.std.proofs.Common.{◌≡◌, ℕ, zero, suc, ◌+◌, ◌<◌, ◌≤◌, Option, Some, None, List, [], ◌∷◌, length, take, replicate, slice_get, slice_set, get_or, refl, sym, ap, ◌∙◌, arith}
-use Rattle.std.proofs.lemmas.List.{set-set}
+use Rattle.std.proofs.Common.{◌≡◌, ℕ, zero, suc, ◌+◌, ◌<◌, ◌≤◌, Option, Some, None, List, [], ◌∷◌, length, take, replicate, slice_get, slice_set, get_or, refl, ap, ◌∙◌, arith, set-set}
 use Rattle.std.proofs.lemmas.Option.{slice_get_within, slice_get_read, slice_get-get_or, get_or_from_slice_get}
-use Rattle.wal_pool.specs.Pages.{PageState, Free, Taken, bytes_in, page_bytes, IsTakenPage, overwrite}
+use Rattle.wal_pool.specs.Pages.{PageState, Free, Taken, bytes_in, page_bytes, overwrite}
 use Rattle.wal_pool.proofs.OverwriteLaws.{length-overwrite, take-overwrite_front}
 use Rattle.wal_pool.proofs.PageLaws.{slice_get-set_same}
 use Rattle.wal_store.specs.inside.Shelf.{token_of, tokens_of}
@@ -13,14 +12,12 @@ length-tokens_of a (s ∷ ss) = ap suc (length-tokens_of (suc a) ss)
 
 slice_get-tokens_of : (a : ℕ) (ss : List PageState) (k n : ℕ) (s : PageState) → n ≡ a + k → slice_get ss k ≡ Some s → slice_get (tokens_of a ss) k ≡ Some (token_of n s)
 slice_get-tokens_of a [] k n s at found = cc
-slice_get-tokens_of a (t ∷ ss) zero n s at found =
-    let same : t ≡ s = cc in let place : a ≡ n = omega arith in
-    ap (λ x. Some (token_of a x)) same ∙ ap (λ m. Some (token_of m s)) place
+slice_get-tokens_of a (t ∷ ss) zero n s at found = let place : a ≡ n = omega arith in cc
 slice_get-tokens_of a (t ∷ ss) (suc k) n s at found = slice_get-tokens_of (suc a) ss k n s (omega arith) found
 
 tokens-set : (a : ℕ) (ss : List PageState) (k n : ℕ) (s : PageState) → n ≡ a + k → slice_set (tokens_of a ss) k (token_of n s) ≡ tokens_of a (slice_set ss k s)
 tokens-set a [] k n s at = refl
-tokens-set a (t ∷ ss) zero n s at = let place : n ≡ a = omega arith in ap (λ m. token_of m s ∷ tokens_of (suc a) ss) place
+tokens-set a (t ∷ ss) zero n s at = let place : n ≡ a = omega arith in cc
 tokens-set a (t ∷ ss) (suc k) n s at = ap (λ ts. token_of a t ∷ ts) (tokens-set (suc a) ss k n s (omega arith))
 
 pub tokens_of-replicate : (a n : ℕ) → tokens_of a (replicate n Free) ≡ replicate n None
@@ -33,43 +30,30 @@ token_within tokens ss k s match found = omega (arith, ap length match, length-t
 
 pub token_read : (tokens : List (Option ℕ)) (ss : List PageState) (k : ℕ) (s : PageState) (x : Option ℕ) → tokens ≡ tokens_of 0 ss → slice_get ss k ≡ Some s → x ≡ get_or tokens k x → x ≡ token_of k s
 token_read tokens ss k s x match found read =
-    let there = slice_get_read tokens (length tokens) k x refl (token_within tokens ss k s match found) read in
-    let here = ap (λ ts. slice_get ts k) match ∙ slice_get-tokens_of 0 ss k k s (omega arith) found in
-    cc
+    let there = slice_get_read tokens _ k x refl (token_within tokens ss k s match found) read in
+    cc (there, slice_get-tokens_of 0 ss k k s (omega arith) found)
 
 pub token_changed : (tokens : List (Option ℕ)) (old new : List PageState) (k : ℕ) (s : PageState) → tokens ≡ tokens_of 0 old → new ≡ slice_set old k s → slice_set tokens k (token_of k s) ≡ tokens_of 0 new
-token_changed tokens old new k s match change =
-    ap (λ ts. slice_set ts k (token_of k s)) match ∙ tokens-set 0 old k k s (omega arith) ∙ ap (tokens_of 0) (sym change)
+token_changed tokens old new k s match change = cc (tokens-set 0 old k k s (omega arith))
 
 -- a page that is taken and written at its front
 pub record Written (size : ℕ) (old new : List PageState) (n : ℕ) (bytes : List ℕ) : Type 0 where
   pub now : new ≡ slice_set old n (Taken (page_bytes new n))
-  pub own : IsTakenPage new n
   pub front : take (length bytes) (page_bytes new n) ≡ bytes
   pub long : length (page_bytes new n) ≡ size
 
 pub written : (size : ℕ) (old mid new : List PageState) (n : ℕ) (bytes : List ℕ) → slice_get old n ≡ Some Free → mid ≡ slice_set old n (Taken (page_bytes mid n)) → length (page_bytes mid n) ≡ size → new ≡ slice_set mid n (Taken (overwrite (page_bytes mid n) 0 bytes)) → length bytes ≤ size → Written size old new n bytes
 written size old mid new n bytes free taken long write fits =
     let w : List ℕ = overwrite (page_bytes mid n) 0 bytes in
-    let set : new ≡ slice_set old n (Taken w) = write ∙ ap (λ ss. slice_set ss n (Taken w)) taken ∙ set-set old n (Taken (page_bytes mid n)) (Taken w) in
-    let seen : slice_get new n ≡ Some (Taken w) = ap (λ ss. slice_get ss n) set ∙ slice_get-set_same old n (Taken w) (slice_get_within old n Free free) in
+    let set : new ≡ slice_set old n (Taken w) = cc (set-set old n (Taken (page_bytes mid n)) (Taken w)) in
+    let seen : slice_get new n ≡ Some (Taken w) =
+    cc (slice_get-set_same old n (Taken w) (slice_get_within old n Free free)) in
     let is : page_bytes new n ≡ w = ap bytes_in seen in
     record {
-      now = set ∙ ap (λ b. slice_set old n (Taken b)) (sym is);
-      own = seen ∙ ap (λ b. Some (Taken b)) (sym is);
-      front = ap (take (length bytes)) is ∙ take-overwrite_front (page_bytes mid n) bytes (omega arith);
-      long = ap length is ∙ length-overwrite (page_bytes mid n) 0 bytes ∙ long;
+      now = cc;
+      front = cc (take-overwrite_front (page_bytes mid n) bytes (omega arith));
+      long = cc (length-overwrite (page_bytes mid n) 0 bytes);
     }
-
--- the token that is found is of the page that was asked for
-pub token_page : (k : ℕ) (bytes : List ℕ) (x : Option ℕ) (p : ℕ) → x ≡ token_of k (Taken bytes) → x ≡ Some p → p ≡ k
-token_page k bytes x p token found = cc
-
-pub token_kept : (k : ℕ) (bytes : List ℕ) (x : Option ℕ) → x ≡ token_of k (Taken bytes) → x ≡ None → ⊥
-token_kept k bytes x token none = cc
-
-pub no_token : (k : ℕ) (x : Option ℕ) (p : ℕ) → x ≡ token_of k Free → x ≡ Some p → ⊥
-no_token k x p token found = cc
 
 pub all_none : (tokens : List (Option ℕ)) (ss : List PageState) → tokens ≡ tokens_of 0 ss → ((k : ℕ) (d : PageState) → k < length ss → get_or ss k d ≡ Free) → (k : ℕ) (d : Option ℕ) → k < length tokens → get_or tokens k d ≡ None
 all_none tokens ss match all k d below =

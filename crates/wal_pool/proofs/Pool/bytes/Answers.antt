@@ -1,22 +1,19 @@
-use Rattle.std.proofs.Common.{ℕ, Some, ◌∙◌, ap, sym, subst, arith, length}
+use Rattle.std.proofs.Common.{Some, ◌∙◌, ap, sym, arith, length}
 use Rattle.wal_pool.specs.inside.FreeList.{page_of}
-use Rattle.wal_pool.specs.Pages.{Taken, page_bytes, IsTakenPage}
+use Rattle.wal_pool.specs.Pages.{Taken, page_bytes}
 use Rattle.wal_pool.proofs.PoolLaws.{taken_within, taken_bytes, pages_whole}
 use Rattle.wal_pool.proofs.Pool.bytes.Goals as goal
 
 pub page_in-requires : goal.page_in-requires
 page_in-requires c =
-    let i = c.self.inside in let n = c.page.inside.number in
-    let P : ℕ → Type 0 = λ k. IsTakenPage c.args.self.now k in
-    let taken = subst P (sym c.page.view_is) c.requires in
-    let within = taken_within 4096 i.pages i.region.items i.free i.first n c.args.self.now c.self.invariant.0 c.self.view_is taken in
+    let taken = rw (← c.page.view_is) at c.requires in
+    let within = taken_within 4096 _ _ _ _ _ _ c.self.invariant.0 c.self.view_is taken in
     omega (arith, within, ap length c.deref.ensures.value)
 
 pub returns : goal.returns
 returns c =
     let i = c.self.inside in let n = c.page.inside.number in
-    let P : ℕ → Type 0 = λ k. IsTakenPage c.args.self.now k in
-    let taken = subst P (sym c.page.view_is) c.requires in
+    let taken = rw (← c.page.view_is) at c.requires in
     let bytes = c.page_in.ensures.value ∙ ap (λ r. page_of 4096 r n) c.deref.ensures.value
     ∙ taken_bytes 4096 i.pages i.region.items i.free i.first n c.args.self.now c.self.view_is taken
     ∙ ap (page_bytes c.args.self.now) c.page.view_is in

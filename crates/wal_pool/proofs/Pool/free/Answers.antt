@@ -2,6 +2,4 @@ use Rattle.wal_pool.proofs.PoolLaws.{pages_whole}
 use Rattle.wal_pool.proofs.Pool.free.Goals as goal
 
 pub returns-clause-whole : goal.returns-clause-whole
-returns-clause-whole c =
-    let i = c.self.inside in
-    pages_whole 4096 i.pages i.region.items i.free i.first _ c.self.invariant.0 c.self.view_is
+returns-clause-whole c = pages_whole 4096 _ _ _ _ _ c.self.invariant.0 c.self.view_is

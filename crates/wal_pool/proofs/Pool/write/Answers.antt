@@ -1,37 +1,33 @@
-use Rattle.std.proofs.Common.{ℕ, ◌∙◌, sym, ap, subst, slice_set, refl, arith, ◌+◌, ◌*◌, length}
+use Rattle.std.proofs.Common.{◌∙◌, ap, slice_set, refl, arith, length}
 use Rattle.std.proofs.lemmas.List.{length-set, with_items_is}
-use Rattle.wal_pool.specs.Pages.{Taken, page_bytes, IsTakenPage, overwrite}
+use Rattle.wal_pool.specs.Pages.{Taken, page_bytes, overwrite}
 use Rattle.wal_pool.proofs.OverwriteLaws.{length-overwrite}
 use Rattle.wal_pool.proofs.PoolLaws.{taken_within, wrote, pages_whole}
 use Rattle.wal_pool.proofs.Pool.write.Goals as goal
 
 pub put-requires : goal.put-requires
 put-requires c =
-    let i = c.self.inside in let n = c.page.inside.number in
-    let P : ℕ → Type 0 = λ k. IsTakenPage c.args.self.now k in
-    let taken = subst P (sym c.page.view_is) c.requires.taken in
-    let within = taken_within 4096 i.pages i.region.items i.free i.first n c.args.self.now c.self.invariant.0 c.self.view_is taken in
+    let taken = rw (← c.page.view_is) at c.requires.taken in
+    let within = taken_within 4096 _ _ _ _ _ _ c.self.invariant.0 c.self.view_is taken in
     omega (arith, within, ap length c.deref_mut.ensures.value)
 
 pub invariant_of-self : goal.invariant_of-self
 invariant_of-self c =
-    let i = c.self.inside in let n = c.page.inside.number in
-    let P : ℕ → Type 0 = λ k. IsTakenPage c.args.self.now k in
-    let taken = subst P (sym c.page.view_is) c.requires.taken in
+    let i = c.self.inside in
+    let taken = rw (← c.page.view_is) at c.requires.taken in
     let kept = with_items_is i.region c.put.new.region (ap length c.put.ensures ∙ length-overwrite _ _ _ ∙ c.deref_mut.ensures.len) in
-    let write = kept ∙ c.put.ensures ∙ ap (λ r. overwrite r (4096 * n + c.args.at) c.args.bytes.now) c.deref_mut.ensures.value in
-    let w = wrote 4096 i.pages i.region.items _ i.free i.first n c.args.at _ c.args.bytes.now c.args.self.now c.requires.room
+    let write = kept ∙ rw c.deref_mut.ensures.value at c.put.ensures in
+    let w = wrote 4096 i.pages i.region.items _ i.free i.first _ c.args.at _ c.args.bytes.now _ c.requires.room
     (record { large = c.self.invariant.0; listed = c.self.invariant.2; counted = c.self.invariant.3 }) c.self.view_is taken refl write in
     (w.sound.large, c.self.invariant.1, w.sound.listed, w.sound.counted)
 
 pub returns : goal.returns
 returns c =
-    let i = c.self.inside in let n = c.page.inside.number in
-    let P : ℕ → Type 0 = λ k. IsTakenPage c.args.self.now k in
-    let taken = subst P (sym c.page.view_is) c.requires.taken in
+    let i = c.self.inside in
+    let taken = rw (← c.page.view_is) at c.requires.taken in
     let kept = with_items_is i.region c.put.new.region (ap length c.put.ensures ∙ length-overwrite _ _ _ ∙ c.deref_mut.ensures.len) in
-    let write = kept ∙ c.put.ensures ∙ ap (λ r. overwrite r (4096 * n + c.args.at) c.args.bytes.now) c.deref_mut.ensures.value in
-    let w = wrote 4096 i.pages i.region.items _ i.free i.first n c.args.at _ c.args.bytes.now c.args.self.now c.requires.room
+    let write = kept ∙ rw c.deref_mut.ensures.value at c.put.ensures in
+    let w = wrote 4096 i.pages i.region.items _ i.free i.first _ c.args.at _ c.args.bytes.now _ c.requires.room
     (record { large = c.self.invariant.0; listed = c.self.invariant.2; counted = c.self.invariant.3 }) c.self.view_is taken refl write in
     record {
       written = w.now ∙ ap (λ k. slice_set c.args.self.now k (Taken (overwrite (page_bytes c.args.self.now k) c.args.at c.args.bytes.now))) c.page.view_is;

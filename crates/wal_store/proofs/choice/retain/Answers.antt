@@ -7,15 +7,15 @@ pub loop-init : goal.loop-init
 loop-init g c =
     let old : Contents = g.K.Keep.contents c.args.keep.now in
     record {
-      passed = none_passed (g.C.Choice.chooses c.args.choice.now) old;
+      passed = none_passed _ old;
       few = omega (arith, all_to_come old, c.count-end.ensures.value);
       limit = refl;
     }
 
 pub loop-preserved : goal.loop-preserved
 loop-preserved g c =
-    let step = next_passed (g.C.Choice.chooses c.args.choice.now) (g.K.Keep.contents c.args.keep.now) (g.K.Keep.contents c.loop.keep) (g.K.Keep.contents c.drop_unchosen.new.keep)
-    c.loop.last c.in-Some.id c.loop.invariant.passed (sym c.in-Some.is ∙ c.next_id.ensures.value) c.drop_unchosen.ensures.kept in
+    let next = sym c.in-Some.is ∙ c.next_id.ensures.value in
+    let step = next_passed _ _ _ _ _ c.in-Some.id c.loop.invariant.passed next c.drop_unchosen.ensures.kept in
     record {
       passed = step.0;
       few = omega (arith, step.1, c.loop.invariant.few);
@@ -24,10 +24,8 @@ loop-preserved g c =
 
 pub returns-in-None-clause-retained : goal.returns-in-None-clause-retained
 returns-in-None-clause-retained g c =
-    none_next (g.C.Choice.chooses c.args.choice.now) (g.K.Keep.contents c.args.keep.now) (g.K.Keep.contents c.loop.keep) c.loop.last c.loop.invariant.passed
-    (sym c.in-None.is ∙ c.next_id.ensures.value)
+    none_next _ _ _ _ c.loop.invariant.passed (sym c.in-None.is ∙ c.next_id.ensures.value)
 
 pub returns-clause-retained : goal.returns-clause-retained
 returns-clause-retained g c =
-    all_passed (g.C.Choice.chooses c.args.choice.now) (g.K.Keep.contents c.args.keep.now) (g.K.Keep.contents c.loop.keep) c.loop.last c.loop.invariant.passed
-    (omega (arith, c.loop.invariant.few, c.loop-test.false))
+    all_passed _ _ _ _ c.loop.invariant.passed (omega (arith, c.loop.invariant.few, c.loop-test.false))

@@ -1,28 +1,18 @@
-use Rattle.std.proofs.Common.{◌∙◌, Some, None, sym, ap, arith}
-use Rattle.wal_store.specs.declared.rows.Row.{Row}
-use Rattle.wal_store.specs.inside.Rows.{slot_of}
-use Rattle.wal_store.proofs.TableLaws.{slot_of_row}
-use Rattle.wal_store.proofs.KeptLaws.{row_read, size_row, size_gap}
+use Rattle.std.proofs.Common.{arith, Some, ap, sym}
+use Rattle.wal_store.proofs.KeptLaws.{part_gap, part_at, slot_at}
 use Rattle.wal_store.proofs.kept.size_of.Goals as goal
 
-pub returns-in-Some-clause-value : goal.returns-in-Some-clause-value
-returns-in-Some-clause-value c =
-    let d : Row = c.row.result.now in
-    let at = row_read c.args.rows.now.items c.in-Ok.place d c.args.id.now c.in-Ok.ensures.found in
-    size_row c.args.chains.now c.args.rows.now.items c.in-Ok.place c.args.id.now c.args.part at (Some c.in-Some.slot) c.requires (ap (λ (r : Row). slot_of r c.args.part) (sym c.row.ensures) ∙ sym c.slot.ensures ∙ c.in-Some.is)
-
-pub returns-in-Some-clause-range : goal.returns-in-Some-clause-range
-returns-in-Some-clause-range c =
-    let d : Row = c.row.result.now in
-    let at = row_read c.args.rows.now.items c.in-Ok.place d c.args.id.now c.in-Ok.ensures.found in
-    let sized = slot_of_row c.args.chains.now c.args.rows.now.items c.in-Ok.place at.row c.args.part c.in-Some.slot c.requires.sized at.found (ap (λ (r : Row). slot_of r c.args.part) (sym c.row.ensures) ∙ sym c.slot.ensures ∙ c.in-Some.is) in
-    (omega (arith, sized.some), sized.most)
+pub returns-in-Some : goal.returns-in-Some
+returns-in-Some c =
+    let s = slot_at _ _ _ _ _ _ _ _ c.requires c.in-Ok.ensures.found c.row.ensures c.slot.ensures c.in-Some.is in
+    record {
+      value = rw s.bytes (ap (λ n. Some n) (sym s.sized.long));
+      range = (omega (arith, s.sized.some), s.sized.most);
+    }
 
 pub returns-in-None-clause-value : goal.returns-in-None-clause-value
 returns-in-None-clause-value c =
-    let d : Row = c.row.result.now in
-    let at = row_read c.args.rows.now.items c.in-Ok.place d c.args.id.now c.in-Ok.ensures.found in
-    size_row c.args.chains.now c.args.rows.now.items c.in-Ok.place c.args.id.now c.args.part at None c.requires (ap (λ (r : Row). slot_of r c.args.part) (sym c.row.ensures) ∙ sym c.slot.ensures ∙ c.in-None.is)
+    rw (part_at _ _ _ _ _ _ _ _ c.requires c.in-Ok.ensures.found c.row.ensures c.slot.ensures c.in-None.is)
 
 pub returns-in-Err-clause-value : goal.returns-in-Err-clause-value
-returns-in-Err-clause-value c = size_gap c.args.chains.now c.args.rows.now.items c.in-Err.field-0 c.args.id.now c.args.part c.requires c.in-Err.ensures.gap
+returns-in-Err-clause-value c = rw (part_gap _ _ c.in-Err.field-0 _ c.args.part c.requires c.in-Err.ensures.gap)

@@ -8,7 +8,6 @@ use Rattle.wal_store.proofs.laws.put_in_pool.Goals as goal
 
 pub returns-clause-never : goal.returns-clause-never
 returns-clause-never c =
-    let old = c.args.keep.now in
-    All-head (λ (answer : PutAnswer). answer ≢ Err Memory) c.put.result []
-    (never_wants old.limit old.contents c.put.new.keep.contents (Put c.args.id.now c.args.part c.args.bytes.now ∷ []) (c.put.result ∷ [])
-    (c.put.ensures.run old.contents [] [] refl))
+    let old = c.args.keep.now in let put = Put c.args.id.now c.args.part c.args.bytes.now in
+    let none = never_wants _ _ _ (put ∷ []) (c.put.result ∷ []) (c.put.ensures.run old.contents [] [] refl) in
+    All-head (λ (answer : PutAnswer). answer ≢ Err Memory) c.put.result [] none

@@ -5,7 +5,7 @@ use Rattle.wal_store.proofs.map_keep.duplicate_all.Goals as goal
 
 pub loop-id-preserved : goal.loop-id-preserved
 loop-id-preserved c = (
-  one_taken_over id_cmp ids_total c.loop-id.copy.entries c.loop-id.id-iterator c.next.new.self c.args.holdings.now.entries c.add.new.holdings.entries
-      c.in-Some.id.now c.in-Some.holding.now c.in_ok-duplicate.field-0 c.loop-id.invariant.0 c.in-Some.ensures.steps c.iter-id-items.ensures.ordered c.in_ok-duplicate.ensures c.in_ok-add.ensures.added,
+  one_taken_over id_cmp ids_total _ _ _ _ _ _ _ _ c.loop-id.invariant.0 c.in-Some.ensures.steps
+      c.iter-id-items.ensures.ordered c.in_ok-duplicate.ensures c.in_ok-add.ensures.added,
   c.in_ok-add.ensures.ordered,
 )

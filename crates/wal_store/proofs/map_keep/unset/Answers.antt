@@ -1,4 +1,4 @@
-use Rattle.std.proofs.Common.{◌∙◌, None, sym, ap}
+use Rattle.std.proofs.Common.{◌∙◌, sym, ap}
 use Rattle.std.specs.Option.{option_copied_mut}
 use Rattle.wal_store.proofs.IdentifierLaws.{part_written}
 use Rattle.wal_store.proofs.map_keep.unset.Goals as goal
@@ -7,4 +7,4 @@ pub returns-clause-unset : goal.returns-clause-unset
 returns-clause-unset c =
     let found = sym c.get_mut.ensures.value ∙ ap option_copied_mut c.in-Some.is in
     (c.get_mut.follows.holds c.set.new.self).0
-    ∙ part_written c.args.holdings.now.entries c.args.id.now c.args.part None c.in-Some.holding.now c.set.new.self c.get_mut.ensures.ordered found c.set.ensures
+    ∙ part_written _ c.args.id.now c.args.part _ _ _ c.get_mut.ensures.ordered found c.set.ensures

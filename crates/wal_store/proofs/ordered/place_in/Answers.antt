@@ -2,19 +2,17 @@ use Rattle.std.proofs.Common.{◌≡◌, rules}
 use Rattle.std.proofs.lemmas.Fn.{always_returns_same}
 use Rattle.wal_shape.specs.Identifiers.{id_cmp}
 use Rattle.wal_store.specs.inside.Ordered.{row_of}
-use Rattle.wal_store.proofs.SearchLaws.{numbers_found, numbers_missed}
+use Rattle.wal_store.proofs.NextLaws.{numbers_found, numbers_missed}
 use Rattle.wal_store.proofs.ordered.place_in.Goals as goal
 
-pub returns-clause-found : goal.returns-clause-found
-returns-clause-found c =
+pub returns : goal.returns
+returns c =
     let slots = c.args.slots.now in
     let id = c.args.id.now in
-    let searched = c.binary_search_by.ensures.position (λ k. id_cmp (row_of slots k).id id) (always_returns_same _ (λ a r. r ≡ id_cmp (row_of slots a.0.now).id id) _ (λ a r f k. search rules)) in
-    numbers_found slots c.args.numbers.now id c.binary_search_by.result c.binary_search_by.ensures.bound searched
-
-pub returns-clause-gap : goal.returns-clause-gap
-returns-clause-gap c =
-    let slots = c.args.slots.now in
-    let id = c.args.id.now in
-    let searched = c.binary_search_by.ensures.position (λ k. id_cmp (row_of slots k).id id) (always_returns_same _ (λ a r. r ≡ id_cmp (row_of slots a.0.now).id id) _ (λ a r f k. search rules)) in
-    numbers_missed slots c.args.numbers.now id c.binary_search_by.result c.requires c.binary_search_by.ensures.bound searched
+    let searched = c.binary_search_by.ensures.position (λ k. id_cmp (row_of slots k).id id)
+    (always_returns_same _ (λ a r. r ≡ id_cmp (row_of slots a.0.now).id id) _ (λ a r f k. search rules)) in
+    let bound = c.binary_search_by.ensures.bound in
+    record {
+      found = numbers_found slots c.args.numbers.now id c.binary_search_by.result bound searched;
+      gap = numbers_missed slots c.args.numbers.now id c.binary_search_by.result c.requires bound searched;
+    }

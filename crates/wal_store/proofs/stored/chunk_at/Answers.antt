@@ -1,5 +1,5 @@
 use Rattle.std.proofs.Common.{◌*◌, arith}
-use Rattle.wal_store.proofs.StoreLaws.{chunk_is}
+use Rattle.wal_store.proofs.ChainLaws.{chunk_is}
 use Rattle.wal_store.proofs.stored.chunk_at.Goals as goal
 
 pub returns-clause-value : goal.returns-clause-value

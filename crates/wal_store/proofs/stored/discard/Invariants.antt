@@ -1,7 +1,7 @@
 use Rattle.std.proofs.Common.{◌≡◌, ◌+◌, count_by}
 use Rattle.wal_pool.specs.Pages.{is_free}
 use Rattle.wal_store.specs.inside.Chain.{links}
-use Rattle.wal_store.proofs.StoreLaws.{Giving}
+use Rattle.wal_store.proofs.ChainLaws.{Giving}
 use Rattle.wal_store.proofs.stored.discard.Given as goal
 
 abbrev pub invariant-loop-left : goal.invariant-loop-left

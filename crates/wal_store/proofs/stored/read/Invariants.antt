@@ -1,6 +1,6 @@
 use Rattle.std.proofs.Common.{◌≡◌, ◌-◌, ◌≤◌, length, take, drop}
 use Rattle.wal_store.specs.inside.Chain.{links, joined}
-use Rattle.wal_store.proofs.ReadLaws.{Walking, Reading}
+use Rattle.wal_store.proofs.ChainLaws.{Walking, Reading}
 use Rattle.wal_store.proofs.stored.read.Given as goal
 
 abbrev pub invariant-loop : goal.invariant-loop

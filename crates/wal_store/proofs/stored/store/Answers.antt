@@ -1,15 +1,14 @@
-use Rattle.std.proofs.Common.{◌≡◌, ◌-◌, suc, ℕ, length, sym, subst, arith}
+use Rattle.std.proofs.Common.{◌≡◌, ◌-◌, suc, ℕ, length, arith}
 use Rattle.wal_store.specs.Parts.{pages_for}
-use Rattle.wal_store.proofs.StoreLaws.{Stored, stored_none, stored_more, pages_reach, pages_hold}
+use Rattle.wal_store.proofs.ChainLaws.{stored_none, stored_more, pages_reach, pages_hold}
 use Rattle.wal_store.proofs.stored.store.Goals as goal
 
 pub loop-left-init : goal.loop-left-init
 loop-left-init c =
-    let old = c.args.chains.now in let bytes = c.args.bytes.now in
-    let none : pages_for (length bytes) - c.pages_for-left.result ≡ 0 = omega (arith, c.pages_for-left.ensures.value) in
-    let P : ℕ → Type 0 = λ n. Stored 4096 old old bytes n c.pages_for-left.result 0 in (
-      omega (arith, c.pages_for-left.ensures.value),
-      subst P (sym none) (stored_none 4096 old bytes c.pages_for-left.result 0 (omega (arith, c.pages_for-left.ensures.value, pages_hold (length bytes)))),
+    let count = c.pages_for-left.ensures.value in
+    let none : pages_for (length c.args.bytes.now) - c.pages_for-left.result ≡ 0 = omega (arith, count) in (
+      omega (arith, count),
+      rw none (stored_none 4096 _ _ _ 0 (omega (arith, count, pages_hold (length c.args.bytes.now)))),
     )
 
 pub chunk_at-requires-clause-within : goal.chunk_at-requires-clause-within
@@ -18,14 +17,11 @@ chunk_at-requires-clause-within c =
 
 pub loop-left-preserved : goal.loop-left-preserved
 loop-left-preserved c =
-    let old = c.args.chains.now in let now = c.loop-left.chains in let bytes = c.args.bytes.now in
-    let n : ℕ = c.loop-left.left - 1 in
+    let n : ℕ = c.loop-left.left - 1 in let all = pages_for (length c.args.bytes.now) in
     let more : c.loop-left.left ≡ suc n = omega arith in
-    let done : pages_for (length bytes) - n ≡ suc (pages_for (length bytes) - c.loop-left.left) = omega (arith, c.loop-left.invariant.0) in
-    let P : ℕ → Type 0 = λ m. Stored 4096 old now bytes (pages_for (length bytes) - c.loop-left.left) m c.loop-left.first in
-    let Q : ℕ → Type 0 = λ m. Stored 4096 old c.prepend-first.new.self bytes m n c.prepend-first.result in (
+    let done : all - n ≡ suc (all - suc n) = omega (arith, c.loop-left.invariant.0) in
+    let next = c.prepend-first.ensures in (
       omega (arith, c.loop-left.invariant.0),
-      subst Q (sym done)
-          (stored_more 4096 old now c.prepend-first.new.self bytes c.chunk_at.result.now (pages_for (length bytes) - c.loop-left.left) n c.loop-left.first c.prepend-first.result
-          (subst P more c.loop-left.invariant.1) c.prepend-first.ensures.adds c.prepend-first.ensures.next c.prepend-first.ensures.size c.prepend-first.ensures.front c.chunk_at.ensures.value c.prepend-first.ensures.free),
+      rw done (stored_more 4096 _ _ _ _ c.chunk_at.result.now _ n _ _ (rw more at c.loop-left.invariant.1)
+          next.adds next.next next.size next.front c.chunk_at.ensures.value next.free),
     )

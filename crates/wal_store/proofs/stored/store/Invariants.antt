@@ -1,6 +1,6 @@
 use Rattle.std.proofs.Common.{◌-◌, ◌≤◌, length}
 use Rattle.wal_store.specs.Parts.{pages_for}
-use Rattle.wal_store.proofs.StoreLaws.{Stored}
+use Rattle.wal_store.proofs.ChainLaws.{Stored}
 use Rattle.wal_store.proofs.stored.store.Given as goal
 
 abbrev pub invariant-loop-left : goal.invariant-loop-left

@@ -1,22 +1,18 @@
-use Rattle.std.proofs.Common.{◌∙◌, List, sym, ap, subst, rules}
-use Rattle.std.specs.List.{insert}
-use Rattle.wal_store.specs.declared.rows.Row.{Row}
-use Rattle.wal_store.specs.inside.Rows.{ids_of, entries_of, Owns}
+use Rattle.std.proofs.Common.{◌∙◌, ap, rules}
 use Rattle.wal_store.specs.inside.Table.{all_pages}
 use Rattle.wal_store.proofs.TableLaws.{added}
 use Rattle.wal_store.proofs.table.add_row.Goals as goal
 
 pub returns : goal.returns
 returns c =
-    let old = c.args.chains.now in let new = c.prepend-home.new.self in
-    let rows = c.args.rows.now.items in let id = c.args.id.now in
-    let now = c.insert.ensures.items ∙ ap (insert rows c.args.place) c.empty.ensures in
-    let a = added old new rows c.args.place id c.prepend-home.result c.requires.owns c.requires.gap c.prepend-home.ensures.adds c.prepend-home.ensures.free c.prepend-home.ensures.front in
+    let page = c.prepend-home.ensures in
+    let a = added _ _ _ _ _ _ c.requires.owns c.requires.gap page.adds page.free page.front in
+    let now = rw c.empty.ensures at c.insert.ensures.items in
     record {
-      owns = subst (λ (rs : List Row). Owns new rs) (sym now) a.owns;
-      entries = ap (entries_of new) now ∙ a.entries;
-      pages = ap (all_pages new) now ∙ a.pages;
-      ids = ap ids_of now ∙ a.ids;
+      owns = rw now a.owns;
+      entries = cc (now, a.entries);
+      pages = ap (all_pages c.prepend-home.new.self) now ∙ a.pages;
+      ids = cc (now, a.ids);
       room = search rules;
-      free = c.prepend-home.ensures.free;
+      free = page.free;
     }

@@ -1,5 +1,4 @@
-use Rattle.std.proofs.Common.{◌∙◌, ap}
-use Rattle.std.specs.Option.{option_map}
+use Rattle.std.proofs.Common.{◌∙◌, ap, option_map}
 use Rattle.std.specs.FinMap.{from_sorted}
 use Rattle.wal_store.specs.declared.map_keep.Budget.{Budget}
 use Rattle.wal_shape.specs.Identifiers.{id_cmp}

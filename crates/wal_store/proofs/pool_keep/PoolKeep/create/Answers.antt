@@ -1,8 +1,6 @@
-use Rattle.std.proofs.Common.{◌∙◌, List, refl, sym, ap, subst, arith}
+use Rattle.std.proofs.Common.{◌∙◌, refl, ap, arith}
 use Rattle.std.specs.FinMap.{from_sorted}
 use Rattle.wal_shape.specs.Identifiers.{id_cmp}
-use Rattle.wal_store.specs.declared.rows.Row.{Row}
-use Rattle.wal_store.specs.inside.Entries.{AreKept}
 use Rattle.wal_store.specs.inside.Rows.{entries_of}
 use Rattle.wal_store.proofs.EntriesLaws.{empty_view}
 use Rattle.wal_store.proofs.StockLaws.{store_is}
@@ -12,8 +10,8 @@ use Rattle.wal_store.proofs.pool_keep.PoolKeep.create.Goals as goal
 pub invariant_of-result : goal.invariant_of-result
 invariant_of-result c =
     let none = ap (λ r. r.items) c.in_ok-rows.ensures in
-    let new = new_table c.in_ok-create.field-0 c.in_ok-rows.rows.items c.args.pages none c.in_ok-create.ensures in
-    (new.owns, new.all, c.requires.most, omega (arith, ap (λ r. r.room) c.in_ok-rows.ensures), subst (λ (rs : List Row). AreKept (entries_of c.in_ok-create.field-0 rs)) (sym none) tt)
+    let new = new_table c.in_ok-create.field-0 c.args.pages c.in_ok-create.ensures in
+    (rw none new.0, rw none new.1, c.requires.most, omega (arith, ap (λ r. r.room) c.in_ok-rows.ensures), rw none tt)
 
 pub returns : goal.returns
 returns c = store_is _ _ _ _
