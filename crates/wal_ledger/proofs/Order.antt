@@ -9,6 +9,8 @@ use Rattle.std.specs.List.Sorted.{IsStrictlySortedBy}
 use Rattle.std.specs.Cmp.{IsTotalOrder, on_total}
 use Rattle.std.specs.Cmp.Lexicographic.{nat_list_cmp_total}
 use Rattle.std.proofs.lemmas.Map.Keys.{Less-from_sorted, sorted_tail}
+use Rattle.std.proofs.lemmas.Map.Views.{All-insert_key}
+use Rattle.std.proofs.lemmas.List.Elements.{All-from_recursion, recursion_from_All}
 use Rattle.wal_shape.specs.declared.metadata.BlobId.{BlobId}
 use Rattle.wal_shape.specs.Identifiers.{id_cmp}
 use Rattle.wal_ledger.specs.Order.{Ascends}
@@ -54,16 +56,7 @@ module _ {K : Type 0} {R : K → K → Ordering} (o : IsTotalOrder R) where
       ap (λ l. x ∷ l) (insert_key_gap xs i k (omega arith) (λ j d lt. below (suc j) d (omega arith)) (λ j d ge lt. above (suc j) d (omega arith) (omega arith)))
       ∙ sym (insert_key_greater x k xs (back x k Less (below 0 x (omega arith))))
 
-  all_inserted : (P : K → Type 0) (ks : List K) (k : K) → AllByRecursion P ks → P k → AllByRecursion P (insert_key R ks k)
-  all_inserted P [] k all p = (p, tt)
-  all_inserted P (x ∷ xs) k all p = by (R k x) (all_inserted P xs k all.1 p)
-    where
-      by : (r : Ordering) → AllByRecursion P (insert_key R xs k) → AllByRecursion P (match_ordering r (k ∷ x ∷ xs) (x ∷ xs) (x ∷ insert_key R xs k))
-      by Less rest = (p, all)
-      by Equal rest = all
-      by Greater rest = (all.0, rest)
-
-  all_above : (x k : K) (ks : List K) → R k x ≡ Less → AllByRecursion (λ y. R x y ≡ Less) ks → AllByRecursion (λ y. R k y ≡ Less) ks
+  pub all_above : (x k : K) (ks : List K) → R k x ≡ Less → AllByRecursion (λ y. R x y ≡ Less) ks → AllByRecursion (λ y. R k y ≡ Less) ks
   all_above x k [] h all = tt
   all_above x k (y ∷ ys) h all = (o.trans k x y h all.0, all_above x k ys h all.1)
 
@@ -73,10 +66,13 @@ module _ {K : Type 0} {R : K → K → Ordering} (o : IsTotalOrder R) where
   insert_key_ascends [] k s = (tt, tt)
   insert_key_ascends (x ∷ xs) k s = by (R k x) refl (insert_key_ascends xs k s.1)
     where
+      P : K → Type 0
+      P y = R x y ≡ Less
+
       by : (r : Ordering) → R k x ≡ r → IsStrictlySortedBy R (insert_key R xs k) → IsStrictlySortedBy R (match_ordering r (k ∷ x ∷ xs) (x ∷ xs) (x ∷ insert_key R xs k))
       by Less h rest = ((h, all_above x k xs h s.0), s)
       by Equal h rest = s
-      by Greater h rest = (all_inserted (λ y. R x y ≡ Less) xs k s.0 (back k x Greater h), rest)
+      by Greater h rest = (recursion_from_All P _ (All-insert_key R k P xs (All-from_recursion P xs s.0) (back k x Greater h)), rest)
 
 pub id_inserted_ascends : (ids : List BlobId) (id : BlobId) → Ascends ids → Ascends (insert_key id_cmp ids id)
 id_inserted_ascends ids id s = insert_key_ascends ids_total ids id s

@@ -13,7 +13,7 @@ use Rattle.wal_ledger.specs.Shards.{committee_size, quorum_size}
 use Rattle.wal_ledger.specs.inside.Claims.{count_among, IsLeastQuorum}
 use Rattle.wal_ledger.specs.Within.{IsWithin}
 use Rattle.wal_ledger.specs.inside.Tally.{IsTally}
-use Rattle.wal_ledger.specs.inside.Rows.{IsRow, tally_of, no_row}
+use Rattle.wal_ledger.specs.inside.Rows.{IsRow, tally_of}
 use Rattle.wal_ledger.specs.Kept.{IsOfCommittee, IsLawful}
 use Rattle.wal_ledger.specs.inside.Kept.{IsKept}
 use Rattle.wal_ledger.specs.Ledger.{Log, writing, owners_at, is_live, until_of, is_moving, own_entries, signers, signer_count, is_signer_among, IsCertified, IsInvalid, MustHold}
@@ -23,7 +23,7 @@ use Rattle.wal_ledger.proofs.Own.{own_all}
 use Rattle.wal_ledger.proofs.Handover.{must_hold_now}
 use Rattle.wal_ledger.proofs.Counts.{count_below-none}
 use Rattle.wal_ledger.proofs.FlagLaws.{flag_cleared}
-use Rattle.wal_ledger.proofs.TallyLaws.{tally_empty}
+use Rattle.wal_ledger.proofs.TallyLaws.{row_none}
 
 -- an identifier's own entries are of the epochs that have been
 pub own_within : (log : Log) (id : BlobId) → IsLawful log → All (IsWithin log.first (writing log)) (own_entries log id)
@@ -95,16 +95,12 @@ kept_new f first start room some few last owned =
       ids_are = refl;
       ids_fit = omega arith;
       linked = refl;
-      rows = λ id. record { until = refl; tallies = none };
+      rows = λ id. record { until = refl; tallies = row_none f 0 (λ e. slice_index_or (start ∷ []) (e - first) []) [] [] [] (λ kind e s. refl) };
       nodes = length-replicate (committee_size f) false;
       ready = λ s lt. flag_cleared (committee_size f) (node_of (slice_index_or (start ∷ []) (first + 0 + 0 - first) []) s);
       counted = sym (count_below-none (committee_size f) (λ s. false) (λ s. refl));
       alive = refl;
     }
-  where
-    none : (kind : Kind) → IsTally f (λ e. slice_index_or (start ∷ []) (e - first) []) [] kind [] [] (tally_of kind no_row)
-    none Holds = tally_empty f (λ e. slice_index_or (start ∷ []) (e - first) []) Holds [] []
-    none Denies = tally_empty f (λ e. slice_index_or (start ∷ []) (e - first) []) Denies [] []
 
 -- while the epoch changes, one that is kept beyond it must be held if a quorum acknowledged it before
 pub must_hold_known : (log : Log) (id : BlobId) (epoch : ℕ) (r : Bool) → IsLawful log → IsDated log → is_moving log ≡ true → epoch ≡ writing log → writing log < until_of log id
