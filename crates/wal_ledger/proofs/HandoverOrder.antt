@@ -40,15 +40,31 @@ enters : (log : Log) (b : Body) (Signs : BlobId → Kind → ℕ → Type 0) (Is
 enters log b Signs IsReady orderly facts = record {
   stays = stays;
   signs = facts.signs;
-  musts = musts;
+  musts = λ id must.
+      let moving : is_moving log ≡ true = sym stays.moving ∙ must.moving in
+      let certified : IsCertified (cut log) id = subst (λ (c : Log). IsCertified c id) stays.cut must.certified in
+      let live : is_live log id ≡ true = orderly.lives moving id certified.live in
+      record { moving = moving; live = live; certified = certified; outlasts = facts.outlasts moving id live (omega (arith, stays.writing, must.outlasts)) };
   ready = λ s h. elim (ready_plain log b s facts.plain h) [ inl before ↦ inl before | inr now ↦ inr (facts.ready s now) ];
   orderly = record {
     turns = ap (λ (p : Phase). length p.brought) whole ∙ orderly.turns ∙ ap {B = ℕ} (λ (p : Phase). p.finishes + cond (nat_lt p.finishes (length p.brought)) 1 0) (sym whole);
     epochs = λ id k d lt. omega (arith, stays.writing, own_all_entered (λ (x : Entry). x.epoch ≤ writing log) log b id _ (orderly.epochs id) (omega arith) (owned log b id) k d lt);
-    old = old;
+    old = λ moving id kind e s live signed other.
+        let was = facts.signs id kind e s live signed in
+        elim was.1 [
+          | inl before ↦
+              subst (λ (c : Log). (is_live c id ≡ true) × (signers c id kind e s ≡ true)) (sym stays.cut)
+              (orderly.old (sym stays.moving ∙ moving) id kind e s was.0 before (λ same. other (same ∙ sym stays.writing)))
+          | inr now ↦ absurd (other (now.0 ∙ sym stays.writing))
+        ];
     lives = λ moving id was. facts.lives id (orderly.lives (sym stays.moving ∙ moving) id (subst (λ (c : Log). is_live c id ≡ true) stays.cut was));
   };
-  musts_stay = musts_stay;
+  musts_stay = λ id must. record {
+    moving = stays.moving ∙ must.moving;
+    live = facts.lives id must.live;
+    certified = subst (λ (c : Log). IsCertified c id) (sym stays.cut) must.certified;
+    outlasts = omega (arith, stays.writing, must.outlasts, until_kept log b id _ (ltb-true (reading log) (until_of log id) must.live) (owned log b id));
+  };
 }
   where
     new : Log
@@ -59,38 +75,6 @@ enters log b Signs IsReady orderly facts = record {
 
     whole : phase new ≡ record (phase log) { since = (phase log).since ++ entry_in log b ∷ [] }
     whole = phase_plain log b facts.plain
-
-    musts : (id : BlobId) → MustHold new id → MustHold log id
-    musts id must =
-        let moving : is_moving log ≡ true = sym stays.moving ∙ must.moving in
-        let certified : IsCertified (cut log) id = subst (λ (c : Log). IsCertified c id) stays.cut must.certified in
-        let live : is_live log id ≡ true = orderly.lives moving id certified.live in
-        record {
-          moving = moving;
-          live = live;
-          certified = certified;
-          outlasts = facts.outlasts moving id live (omega (arith, stays.writing, must.outlasts));
-        }
-
-    musts_stay : (id : BlobId) → MustHold log id → MustHold new id
-    musts_stay id must =
-        let kept : until_of log id ≤ until_of new id = until_kept log b id _ (ltb-true (reading log) (until_of log id) must.live) (owned log b id) in
-        record {
-          moving = stays.moving ∙ must.moving;
-          live = facts.lives id must.live;
-          certified = subst (λ (c : Log). IsCertified c id) (sym stays.cut) must.certified;
-          outlasts = omega (arith, stays.writing, must.outlasts, kept);
-        }
-
-    old : is_moving new ≡ true → (id : BlobId) (kind : Kind) (e s : ℕ) → is_live new id ≡ true → signers new id kind e s ≡ true → e ≢ writing new → (is_live (cut new) id ≡ true) × (signers (cut new) id kind e s ≡ true)
-    old moving id kind e s live signed other =
-        let was = facts.signs id kind e s live signed in
-        elim was.1 [
-          | inl before ↦
-            subst (λ (c : Log). (is_live c id ≡ true) × (signers c id kind e s ≡ true)) (sym stays.cut)
-            (orderly.old (sym stays.moving ∙ moving) id kind e s was.0 before (λ same. other (same ∙ sym stays.writing)))
-          | inr now ↦ absurd (other (now.0 ∙ sym stays.writing))
-        ]
 
 -- entries that are no registration leave who is live
 pub live_same : (log : Log) (b : Body) (id : BlobId) → is_plain b ≡ true → is_register b ≡ false → is_live (entered log b) id ≡ is_live log id
@@ -129,8 +113,8 @@ register_enters log id until orderly may = enters log b (λ i kind s. ⊥) (λ s
     signs : (i : BlobId) (kind : Kind) (e s : ℕ) → is_live new i ≡ true → signers new i kind e s ≡ true → (is_live log i ≡ true) × ((signers log i kind e s ≡ true) ⊎ ((e ≡ writing log) × ⊥))
     signs i kind e s live h = elim (signed_plain log b i kind e s refl h) [
       | inl before ↦
-        let lt = still (reading log) i _ (omega (arith, ltb-true (reading new) (until_of new i) live, stays.reading)) (λ n. before.stands refl n) (owned log b i) in
-        (lt-ltb (reading log) (until_of log i) lt, inl before.signed)
+          let lt = still (reading log) i _ (omega (arith, ltb-true (reading new) (until_of new i) live, stays.reading)) (λ n. before.stands refl n) (owned log b i) in
+          (lt-ltb (reading log) (until_of log i) lt, inl before.signed)
       | inr now ↦ absurd (both_ways _ (signs_register (owners_at log e) kind s id until) now.signed)
     ]
 
@@ -160,36 +144,28 @@ claim_readies Denies s id owners t = refl
 abbrev pub ClaimsFor : Log → Kind → ℕ → BlobId → BlobId → Kind → ℕ → Type 0
 ClaimsFor log kind s id i k t = (i ≡ id) × (k ≡ kind) × (same_node (owners_at log (writing log)) s t ≡ true)
 
+-- an entry that is plain and no registration
+unregistered_enters : (log : Log) (b : Body) (Signs : BlobId → Kind → ℕ → Type 0) (IsReady : ℕ → Type 0) → IsOrderly log → is_plain b ≡ true → is_register b ≡ false
+    → ((i : BlobId) (k : Kind) (e t : ℕ) → SignsNow log b i k e t (owners_at log e) → Signs i k t)
+    → ((t : ℕ) → readies (owners_of Next log) t b ≡ true → IsReady t) → Enters log (entered log b) Signs IsReady
+unregistered_enters log b Signs IsReady orderly plain none signs ready = enters log b Signs IsReady orderly (record {
+  plain = plain;
+  lives = λ i live. live_same log b i plain none ∙ live;
+  signs = λ i k e t live h.
+      (sym (live_same log b i plain none) ∙ live, elim (signed_plain log b i k e t plain h) [ inl before ↦ inl before.signed | inr now ↦ inr (now.now, signs i k e t now) ]);
+  outlasts = λ moving i live lt. omega (arith, lt, until_same log b i _ none (owned log b i));
+  ready = ready;
+})
+
 -- an acknowledgement or an attestation
 pub claim_enters : (log : Log) (kind : Kind) (s : ℕ) (id : BlobId) → IsOrderly log → Enters log (entered log (claim_of kind s id)) (ClaimsFor log kind s id) (λ t. ⊥)
-claim_enters log kind s id orderly = enters log b (ClaimsFor log kind s id) (λ t. ⊥) orderly (record {
-  plain = (claim_plain kind s id).0;
-  lives = λ i live. live_same log b i (claim_plain kind s id).0 (claim_plain kind s id).1 ∙ live;
-  signs = signs;
-  outlasts = λ moving i live lt. omega (arith, lt, until_same log b i _ (claim_plain kind s id).1 (owned log b i));
-  ready = λ t h. both_ways _ (claim_readies kind s id (owners_of Next log) t) h;
-})
-  where
-    b : Body
-    b = claim_of kind s id
-
-    signs : (i : BlobId) (k : Kind) (e t : ℕ) → is_live (entered log b) i ≡ true → signers (entered log b) i k e t ≡ true → (is_live log i ≡ true) × ((signers log i k e t ≡ true) ⊎ ((e ≡ writing log) × ClaimsFor log kind s id i k t))
-    signs i k e t live h = (
-      sym (live_same log b i (claim_plain kind s id).0 (claim_plain kind s id).1) ∙ live,
-      elim (signed_plain log b i k e t (claim_plain kind s id).0 h) [
-        | inl before ↦ inl before.signed
-        | inr now ↦
-          let claimed = signs_claim_for (owners_at log e) k kind s t id now.signed in
-          inr (now.now, (claim_names kind s id i now.named, claimed.0, subst (λ (n : ℕ). same_node (owners_at log n) s t ≡ true) now.now claimed.1))
-      ],
-    )
+claim_enters log kind s id orderly =
+    unregistered_enters log (claim_of kind s id) (ClaimsFor log kind s id) (λ t. ⊥) orderly (claim_plain kind s id).0 (claim_plain kind s id).1
+    (λ i k e t now. let claimed = signs_claim_for (owners_at log e) k kind s t id now.signed in
+    (claim_names kind s id i now.named, claimed.0, subst (λ (n : ℕ). same_node (owners_at log n) s t ≡ true) now.now claimed.1))
+    (λ t h. both_ways _ (claim_readies kind s id (owners_of Next log) t) h)
 
 -- the readiness of a shard
 pub ready_enters : (log : Log) (s : ℕ) → IsOrderly log → Enters log (entered log (Ready s)) (λ i kind t. ⊥) (λ t. same_node (owners_of Next log) s t ≡ true)
-ready_enters log s orderly = enters log (Ready s) (λ i kind t. ⊥) (λ t. same_node (owners_of Next log) s t ≡ true) orderly (record {
-  plain = refl;
-  lives = λ i live. live_same log (Ready s) i refl refl ∙ live;
-  signs = λ i kind e t live h. (sym (live_same log (Ready s) i refl refl) ∙ live, elim (signed_plain log (Ready s) i kind e t refl h) [ inl before ↦ inl before.signed | inr now ↦ absurd (false≢true now.named) ]);
-  outlasts = λ moving i live lt. omega (arith, lt, until_same log (Ready s) i _ refl (owned log (Ready s) i));
-  ready = λ t h. h;
-})
+ready_enters log s orderly =
+    unregistered_enters log (Ready s) (λ i kind t. ⊥) (λ t. same_node (owners_of Next log) s t ≡ true) orderly refl refl (λ i k e t now. false≢true now.named) (λ t h. h)

@@ -49,7 +49,8 @@ begun log owners orderly serving = record {
   live = lives;
   signs = signs;
   owners_kept = kept;
-  owners_next = brought;
+  owners_next = ap (λ (p : Phase). owners_in log.first log.owners p (writing new)) phase_is
+      ∙ brought_last (log.owners ∷ (phase log).brought) owners (writing new - log.first) (omega (arith, next, balanced));
   none_ready = ready_begin log owners;
   orderly = record {
     turns = omega (arith, ap (λ (p : Phase). length p.brought) phase_is, length-append (phase log).brought (owners ∷ []), ap (λ (p : Phase). p.finishes) phase_is, balanced, ap {B = ℕ} (λ m. cond m 1 0) moves);
@@ -93,10 +94,6 @@ begun log owners orderly serving = record {
     kept e le = ap (λ (p : Phase). owners_in log.first log.owners p e) phase_is
         ∙ brought_before (log.owners ∷ (phase log).brought) owners (e - log.first) (omega (arith, le, balanced))
 
-    brought : owners_at new (writing new) ≡ owners
-    brought = ap (λ (p : Phase). owners_in log.first log.owners p (writing new)) phase_is
-        ∙ brought_last (log.owners ∷ (phase log).brought) owners (writing new - log.first) (omega (arith, next, balanced))
-
     signs : (id : BlobId) (kind : Kind) (e s : ℕ) → signers new id kind e s ≡ true → (e ≤ reading log) × (signers log id kind e s ≡ true)
     signs id kind e s signed = elim (cases_lt (reading log) e) [
       | inl far ↦ absurd (both_ways _ (signers_outside (owners_at new e) (own_entries log id) kind e s (λ k d lt same. omega (arith, orderly.epochs id k d lt, serves))) here)
@@ -128,7 +125,15 @@ finished log orderly moving = record {
   signs = same_signs;
   until = λ id. ap until_among (own id);
   live = lived;
-  certified = certified;
+  certified = λ id c.
+      let e = c.quorum.0 in
+      let live = lived id c.live in
+      let quorum : quorum_size log.f ≤ signer_count log id Holds e =
+      omega (arith, c.quorum.1, count_below-same (committee_size log.f) (signers log id Holds e) (signers new id Holds e) (λ s lt. same_signs id Holds e s)) in
+      elim (cases_eq e (writing log)) [
+        | inl same ↦ inr (subst (λ (n : ℕ). quorum_size log.f ≤ signer_count log id Holds n) same quorum)
+        | inr other ↦ inl (record { moving = moving; live = live.0; certified = certified_before log id e orderly moving live.0 other quorum; outlasts = live.1 })
+      ];
   orderly = record {
     turns = omega (arith, ap (λ (p : Phase). length p.brought) phase_is, ap (λ (p : Phase). p.finishes) phase_is, balanced, ap {B = ℕ} (λ m. cond m 1 0) stops);
     epochs = λ id. subst (All (λ (x : Entry). x.epoch ≤ writing new)) (sym (own id)) (λ k d lt. omega (arith, orderly.epochs id k d lt, next, ap {B = ℕ} (λ m. cond m 1 0) stops));
@@ -168,17 +173,6 @@ finished log orderly moving = record {
     lived id live =
         let lt : writing log < until_of log id = omega (arith, ltb-true (reading new) (until_of new id) live, next, ap until_among (own id)) in
         (lt-ltb (reading log) (until_of log id) (omega (arith, lt, ahead)), lt)
-
-    certified : (id : BlobId) → IsCertified new id → MustHold log id ⊎ (quorum_size log.f ≤ signer_count log id Holds (writing log))
-    certified id c =
-        let e = c.quorum.0 in
-        let live = lived id c.live in
-        let quorum : quorum_size log.f ≤ signer_count log id Holds e =
-        omega (arith, c.quorum.1, count_below-same (committee_size log.f) (signers log id Holds e) (signers new id Holds e) (λ s lt. same_signs id Holds e s)) in
-        elim (cases_eq e (writing log)) [
-          | inl same ↦ inr (subst (λ (n : ℕ). quorum_size log.f ≤ signer_count log id Holds n) same quorum)
-          | inr other ↦ inl (record { moving = moving; live = live.0; certified = certified_before log id e orderly moving live.0 other quorum; outlasts = live.1 })
-        ]
 
 -- a ledger without entries
 pub orderly_new : (f first : ℕ) (owners : List ℕ) → IsOrderly (record { f = f; first = first; owners = owners; entries = [] })

@@ -15,13 +15,13 @@ use Rattle.wal_shape.specs.Identifiers.{id_cmp, id_eq}
 use Rattle.wal_ledger.specs.Order.{Ascends}
 use Rattle.wal_ledger.specs.inside.Rows.{Rows, row_in, row_registered, living}
 use Rattle.wal_ledger.specs.Ledger.{reading}
-use Rattle.wal_ledger.proofs.Order.{ids_total, all_above}
+use Rattle.wal_ledger.proofs.Order.{ids_total, insert_key_by, all_above}
 use Rattle.wal_ledger.proofs.RowsPlace.{exact_ids, id_itself, id_tied}
 
 -- what is below all goes first
 insert_first : (k : BlobId) (ks : List BlobId) → AllByRecursion (λ y. id_cmp k y ≡ Less) ks → insert_key id_cmp ks k ≡ k ∷ ks
 insert_first k [] all = refl
-insert_first k (x ∷ xs) all = ap (λ r. match_ordering r (k ∷ x ∷ xs) (x ∷ xs) (x ∷ insert_key id_cmp xs k)) all.0
+insert_first k (x ∷ xs) all = insert_key_by ids_total x k xs Less all.0
 
 all_filter : (P : BlobId → Type 0) (p : BlobId → Bool) (ks : List BlobId) → AllByRecursion P ks → AllByRecursion P (filter p ks)
 all_filter P p ks all = recursion_from_All P (filter p ks) (All-filter p P ks (All-from_recursion P ks all))
@@ -44,11 +44,11 @@ filter_more p q (x ∷ xs) k s more = by (id_cmp k x) refl (filter_more p q xs k
 
     last : (b : Bool) → id_cmp k x ≡ Greater → p x ≡ b → filter q (insert_key id_cmp xs k) ≡ insert_key id_cmp (filter p xs) k
         → cond b (x ∷ filter q (insert_key id_cmp xs k)) (filter q (insert_key id_cmp xs k)) ≡ insert_key id_cmp (cond b (x ∷ filter p xs) (filter p xs)) k
-    last true h is rest = ap (λ l. x ∷ l) rest ∙ sym (ap (λ r. match_ordering r (k ∷ x ∷ filter p xs) (x ∷ filter p xs) (x ∷ insert_key id_cmp (filter p xs) k)) h)
+    last true h is rest = ap (λ l. x ∷ l) rest ∙ sym (insert_key_by ids_total x k (filter p xs) _ h)
     last false h is rest = rest
 
     here : (b : Bool) → k ≡ x → id_cmp k x ≡ Equal → x ∷ filter p xs ≡ insert_key id_cmp (cond b (x ∷ filter p xs) (filter p xs)) k
-    here true e h = sym (ap (λ r. match_ordering r (k ∷ x ∷ filter p xs) (x ∷ filter p xs) (x ∷ insert_key id_cmp (filter p xs) k)) h)
+    here true e h = sym (insert_key_by ids_total x k (filter p xs) _ h)
     here false e h =
         ap (λ y. y ∷ filter p xs) (sym e)
         ∙ sym (insert_first k (filter p xs) (subst (λ (y : BlobId). AllByRecursion (λ z. id_cmp y z ≡ Less) (filter p xs)) (sym e) (all_filter (λ z. id_cmp x z ≡ Less) p xs s.0)))

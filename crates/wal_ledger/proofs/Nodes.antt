@@ -1,5 +1,5 @@
 -- Shards of one node, and the owners of each epoch.
-use Rattle.std.proofs.Common.{◌≡◌, ℕ, ◌+◌, ◌-◌, ◌<◌, ◌≤◌, List, [], ◌∷◌, ◌++◌, Bool, true, false, cond, ◌&&◌, ◌||◌, nat_eq, nat_lt, length, slice_index_or, refl, sym, ap, ◌∙◌, subst, arith}
+use Rattle.std.proofs.Common.{◌≡◌, ℕ, ◌+◌, ◌-◌, ◌<◌, ◌≤◌, List, [], ◌∷◌, ◌++◌, Bool, true, false, cond, nat_eq, nat_lt, length, slice_index_or, refl, sym, ap, ◌∙◌, subst, arith}
 use Rattle.std.specs.List.{list_any, list_all}
 use Rattle.std.proofs.lemmas.Bool.Decides.{nat_tests}
 use Rattle.std.proofs.lemmas.Bool.{eq-eqb, and_parts, both_ways, false_from_ne_true}
@@ -34,9 +34,7 @@ signs_for-node owners _ s t _ h = refl
 -- so all shards of a node are signers, or none is
 pub signers-node : (owners : List ℕ) (own : List Entry) (kind : Kind) (e s t : ℕ) → same_node owners s t ≡ true → is_signer_among owners own kind e s ≡ is_signer_among owners own kind e t
 signers-node owners [] kind e s t h = refl
-signers-node owners (x ∷ own) kind e s t h =
-    ap (λ b. (nat_eq x.epoch e && b) || is_signer_among owners own kind e s) (signs_for-node owners kind s t x.body h)
-    ∙ ap (λ b. (nat_eq x.epoch e && signs_for owners kind t x.body) || b) (signers-node owners own kind e s t h)
+signers-node owners (x ∷ own) kind e s t h = cc (signs_for-node owners kind s t x.body h, signers-node owners own kind e s t h)
 
 readies-node : (owners : List ℕ) (s t : ℕ) (b : Body) → same_node owners s t ≡ true → readies owners s b ≡ readies owners t b
 readies-node owners s t (Ready u) h = ap (nat_eq (node_of owners u)) (node_is owners s t h)
@@ -45,9 +43,7 @@ readies-node owners s t _ h = refl
 -- and all are ready, or none is
 pub ready-node : (owners : List ℕ) (since : List Entry) (s t : ℕ) → same_node owners s t ≡ true → list_any (λ (x : Entry). readies owners s x.body) since ≡ list_any (λ (x : Entry). readies owners t x.body) since
 ready-node owners [] s t h = refl
-ready-node owners (x ∷ since) s t h =
-    ap (λ b. b || list_any (λ (y : Entry). readies owners s y.body) since) (readies-node owners s t x.body h)
-    ∙ ap (λ b. readies owners t x.body || b) (ready-node owners since s t h)
+ready-node owners (x ∷ since) s t h = cc (readies-node owners s t x.body h, ready-node owners since s t h)
 
 -- a set that has all shards of a node or none, and not this shard, has no shard of this one's node
 pub node_apart : (owners : List ℕ) (p : ℕ → Bool) (t : ℕ) → ((s u : ℕ) → same_node owners s u ≡ true → p s ≡ p u) → p t ≡ false → (s : ℕ) → p s ≡ true → same_node owners t s ≡ false

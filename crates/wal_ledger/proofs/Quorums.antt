@@ -1,8 +1,8 @@
 -- Counting sets of shards.
-use Rattle.std.proofs.Common.{◌≡◌, ℕ, zero, suc, ◌+◌, ◌<◌, ◌≤◌, Bool, true, false, cond, not, ◌&&◌, ◌||◌, nat_eq, List, [], ◌∷◌, length, refl, ap, arith}
+use Rattle.std.proofs.Common.{◌≡◌, ℕ, zero, suc, ◌+◌, ◌<◌, ◌≤◌, Bool, true, false, cond, not, ◌&&◌, ◌||◌, nat_eq, inl, inr, List, [], ◌∷◌, length, refl, ap, arith}
 use Rattle.std.specs.List.{list_any}
 use Rattle.std.proofs.lemmas.Bool.Decides.{nat_tests}
-use Rattle.std.proofs.lemmas.Bool.{cases_lt}
+use Rattle.std.proofs.lemmas.Bool.{cases_lt, cases_Bool}
 use Rattle.wal_ledger.specs.Shards.{count_below, committee_size, quorum_size}
 use Rattle.wal_ledger.proofs.Counts.{count_below-none}
 
@@ -24,13 +24,12 @@ count_below-or (suc n) p q = grind (arith, nat_tests, count_below-or n p q)
 -- a set that counts for something has a member
 pub count_below-some : (n : ℕ) (p : ℕ → Bool) → 0 < count_below n p → (s : ℕ) × (s < n) × (p s ≡ true)
 count_below-some zero p some = absurd (omega arith)
-count_below-some (suc n) p some = by (p n) refl (λ more. count_below-some n p more)
-  where
-    by : (b : Bool) → p n ≡ b → (0 < count_below n p → (s : ℕ) × (s < n) × (p s ≡ true)) → (s : ℕ) × (s < suc n) × (p s ≡ true)
-    by true here before = (n, omega arith, here)
-    by false out before =
-        let found = before (omega (arith, ap {B = ℕ} (λ x. cond x 1 0) out)) in
-        (found.0, omega (arith, found.1), found.2)
+count_below-some (suc n) p some = elim (cases_Bool (p n)) [
+  | inl here ↦ (n, omega arith, here)
+  | inr out ↦
+      let found = count_below-some n p (omega (arith, ap {B = ℕ} (λ x. cond x 1 0) out)) in
+      (found.0, omega (arith, found.1), found.2)
+]
 
 -- one shard alone
 below_one : (t m : ℕ) → m ≤ t → count_below m (λ s. nat_eq t s) ≡ 0

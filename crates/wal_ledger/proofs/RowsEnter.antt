@@ -118,8 +118,7 @@ module _ (f first : ℕ) (start : List ℕ) (e : ℕ) (m : Bool) (now next : ℕ
       (record {
         ids = ids ∙ sym (claim_ids kind shard id table.ids);
         spare = omega arith;
-        rows = λ q. subst (λ (own : List Entry). IsRow f (owners_at log) own (book.entries ++ x ∷ []) (book.links ++ link_in w t ∷ []) (row_in new q)) (sym (history_after-claim kind shard w id q (history_of first book.entries q)))
-            (subst (IsRow f (owners_at log) (cond (id_eq id q) (own_entries log q ++ x ∷ []) (own_entries log q)) (book.entries ++ x ∷ []) (book.links ++ link_in w t ∷ [])) (sym (rows q)) (by q (id_eq id q) refl));
+        rows = λ q. rw (history_after-claim kind shard w id q (history_of first book.entries q), rows q) (by q (id_eq id q) refl);
       })
       (living_same e table new k.alive live ids (λ q. ap (λ (r : Row). r.until) (rows q) ∙ untils (id_eq id q) q refl))
     where
@@ -135,7 +134,7 @@ module _ (f first : ℕ) (start : List ℕ) (e : ℕ) (m : Bool) (now next : ℕ
 
       by : (q : BlobId) (b : Bool) → id_eq id q ≡ b → IsRow f (owners_at log) (cond b (own_entries log q ++ x ∷ []) (own_entries log q)) (book.entries ++ x ∷ []) (book.links ++ link_in w t ∷ []) (cond b (with_tally kind (tally_after f w place size t) (row_in table id)) (row_in table q))
       by q true same =
-          subst (λ (p : BlobId). IsRow f (owners_at log) (own_entries log p ++ x ∷ []) (book.entries ++ x ∷ []) (book.links ++ link_in w t ∷ []) (with_tally kind (tally_after f w place size t) (row_in table id))) (id_same id q same)
+          rw (← id_same id q same)
           (claimed_row f first w place size shard (owners_at log) kind id (own_entries log id) book.entries book.links (row_in table id) (k.rows id)
           (record { below = below; signed = signs_claim kind shard id; first_time = first_time; latest = own_within log id k.lawful })
           sized (sym at) (k.linked ∙ sym at))
@@ -150,7 +149,7 @@ module _ (f first : ℕ) (start : List ℕ) (e : ℕ) (m : Bool) (now next : ℕ
       (record {
         ids = ids;
         spare = spare;
-        rows = λ q. subst (IsRow f (owners_at log) (cond (id_eq id q) (cond (nat_le (until_among (own_entries log q)) (history_of first book.entries q).epoch) (x ∷ []) (own_entries log q ++ x ∷ [])) (own_entries log q)) (book.entries ++ x ∷ []) (book.links ++ 0 ∷ [])) (sym (rows q)) (by q (id_eq id q) refl);
+        rows = λ q. rw (rows q) (by q (id_eq id q) refl);
       })
       (living_registered e until id table new k.alive (subst Ascends (sym k.ids_are) (registered_ascends book.entries)) (omega (arith, k.epoch_is, beyond)) ids live rows)
     where
@@ -160,10 +159,8 @@ module _ (f first : ℕ) (start : List ℕ) (e : ℕ) (m : Bool) (now next : ℕ
       by : (q : BlobId) (b : Bool) → id_eq id q ≡ b
           → IsRow f (owners_at log) (cond b (cond (nat_le (until_among (own_entries log q)) (history_of first book.entries q).epoch) (x ∷ []) (own_entries log q ++ x ∷ [])) (own_entries log q)) (book.entries ++ x ∷ []) (book.links ++ 0 ∷ []) (cond b (row_registered e until (row_in table id)) (row_in table q))
       by q true same =
-          subst (λ (p : BlobId). IsRow f (owners_at log) (cond (nat_le (until_among (own_entries log p)) (history_of first book.entries p).epoch) (x ∷ []) (own_entries log p ++ x ∷ [])) (book.entries ++ x ∷ []) (book.links ++ 0 ∷ []) (row_registered e until (row_in table id))) (id_same id q same)
-          (subst (λ (n : ℕ). IsRow f (owners_at log) (cond (nat_le (until_among (own_entries log id)) n) (x ∷ []) (own_entries log id ++ x ∷ [])) (book.entries ++ x ∷ []) (book.links ++ 0 ∷ []) (row_registered e until (row_in table id)))
-          (k.epoch_is ∙ sym (history_of-epoch first book.entries id))
-          (registered_row f e (w) until (owners_at log) id (own_entries log id) book.entries book.links (row_in table id) (k.rows id)))
+          rw (← id_same id q same, history_of-epoch first book.entries id ∙ sym k.epoch_is)
+          (registered_row f e w until (owners_at log) id (own_entries log id) book.entries book.links (row_in table id) (k.rows id))
       by q false differ = row_kept f (owners_at log) (own_entries log q) book.entries (x ∷ []) book.links (0 ∷ []) (row_in table q) (k.rows q)
 
   -- what is kept after a node is ready

@@ -20,7 +20,7 @@ use Rattle.wal_ledger.specs.inside.Rows.{Rows, IsRow, row_in, living}
 use Rattle.wal_ledger.specs.Kept.{IsOfCommittee}
 use Rattle.wal_ledger.specs.inside.Kept.{IsKept, StandAt, log_of}
 use Rattle.wal_ledger.specs.Handover.{IsMadeIn, IsMadeSince}
-use Rattle.wal_ledger.specs.Ledger.{Log, Phase, phase, phase_in, phase_after, names, is_fresh, writing, reading, is_moving, owners_at, owners_of, own_entries, readies, with_registered, History, history_of, history_after}
+use Rattle.wal_ledger.specs.Ledger.{Log, Phase, phase, phase_in, phase_after, names, writing, reading, is_moving, owners_at, owners_of, own_entries, readies, with_registered, History, history_of, history_after}
 use Rattle.wal_ledger.specs.Within.{IsWithin}
 use Rattle.wal_ledger.proofs.Entering.{phase_push, phase_whole, history_of-push, since_push}
 use Rattle.wal_ledger.proofs.FlagLaws.{flag_cleared}
@@ -90,8 +90,7 @@ pub nameless : (f first : ℕ) (owners : ℕ → List ℕ) (book : BookState) (t
 nameless f first owners book table x link rows ids none = record {
   ids = sym ids;
   spare = omega arith;
-  rows = λ id. subst (λ (b : Bool). IsRow f owners (cond b (cond (is_fresh (history_of first book.entries id) x.body) (x ∷ []) ((history_of first book.entries id).own ++ x ∷ [])) (history_of first book.entries id).own) (book.entries ++ x ∷ []) (book.links ++ link ∷ []) (row_in table id))
-      (sym (none id)) (row_kept f owners (history_of first book.entries id).own book.entries (x ∷ []) book.links (link ∷ []) (row_in table id) (rows id));
+  rows = λ id. rw (none id) (row_kept f owners (history_of first book.entries id).own book.entries (x ∷ []) book.links (link ∷ []) (row_in table id) (rows id));
 }
 
 -- the entries, with one more and its link

@@ -58,14 +58,14 @@ table_push ids rows order live place id row t gap =
     }
 
 -- one more live identifier: there is room for it, and it stands among those that are live
-pub record Wakes (ids : List BlobId) (rows : List Row) (order live : List ℕ) (place number : ℕ) (id : BlobId) : Type 0 where
+pub record Wakes (ids : List BlobId) (rows : List Row) (order live new : List ℕ) (id : BlobId) : Type 0 where
   pub room : length live + 1 ≤ length ids
-  pub table : IsTable ids rows order (insert live place number)
-  pub lives : ids_of ids (insert live place number) ≡ insert_key id_cmp (ids_of ids live) id
+  pub table : IsTable ids rows order new
+  pub lives : ids_of ids new ≡ insert_key id_cmp (ids_of ids live) id
 
-pub wakes : (ids xs ys : List BlobId) (rows : List Row) (order live ns : List ℕ) (place number : ℕ) (id : BlobId) → IsTable ids rows order live → ys ≡ ids → ns ≡ live
-    → IsInsertionPoint (ids_of ys ns) id place → xs ≡ ids → number < length xs → id_of xs number ≡ id → Wakes ids rows order live place number id
-wakes ids xs ys rows order live ns place number id t ys_are ns_are missed xs_are below stands =
+pub wakes : (ids xs ys : List BlobId) (rows : List Row) (order live ns new : List ℕ) (place number : ℕ) (id : BlobId) → IsTable ids rows order live → ys ≡ ids → ns ≡ live
+    → IsInsertionPoint (ids_of ys ns) id place → xs ≡ ids → number < length xs → id_of xs number ≡ id → new ≡ insert live place number → Wakes ids rows order live new id
+wakes ids xs ys rows order live ns new place number id t ys_are ns_are missed xs_are below stands new_are =
     let gap = same_lists (λ l. IsInsertionPoint l id place) ys ids ns live ys_are ns_are missed in
     let is : id_of ids number ≡ id = ap (λ (l : List BlobId). id_of l number) (sym xs_are) ∙ stands in
     let within : number < length ids = subst (λ (l : List BlobId). number < length l) xs_are below in
@@ -75,11 +75,11 @@ wakes ids xs ys rows order live ns place number id t ys_are ns_are missed xs_are
       ascends = subst Ascends (sym lives) (id_inserted_ascends (ids_of ids live) id t.alive.ascends);
     } in
     let few = few_numbers ids (insert live place number) alive in
-    record {
+    rw new_are (record {
       room = omega (arith, few, length-insert live place number (omega (arith, gap.within, length-map live (id_of ids))));
       table = record { beside = t.beside; whole = t.whole; few = few; each = t.each; ordered = t.ordered; alive = alive };
       lives = lives;
-    }
+    })
 
 -- a table whose live identifiers change
 pub live_changed : (was new : Rows) (change : Rows → List BlobId) (live : List BlobId) → was ≡ new → live ≡ change was → record was { live = live } ≡ record new { live = change new }
@@ -172,11 +172,13 @@ pub record Pushed (ids xs : List BlobId) (rows rs : List Row) (order ns live : L
   pub rows_are : (q : BlobId) → row_beside (ids_of xs ns) (map (row_of rs) ns) q ≡ cond (id_eq id q) row (row_beside (ids_of ids order) (map (row_of rows) order) q)
   pub live_stays : ids_of xs live ≡ ids_of ids live
 
-pub pushed : (ids xs : List BlobId) (rows rs : List Row) (order ns live : List ℕ) (place number : ℕ) (id : BlobId) (row : Row) → IsTable ids rows order live → IsInsertionPoint (ids_of ids order) id place → number ≡ length ids
+pub pushed : (ids xs ys : List BlobId) (rows rs : List Row) (order ns ms live : List ℕ) (place number : ℕ) (id : BlobId) (row : Row) → IsTable ids rows order live → ys ≡ ids → ms ≡ order → IsInsertionPoint (ids_of ys ms) id place → number ≡ length ids
     → xs ≡ ids ++ id ∷ [] → rs ≡ rows ++ row ∷ [] → ns ≡ insert order place number → Pushed ids xs rows rs order ns live id row
-pushed ids xs rows rs order ns live place number id row t gap is xs_are rs_are ns_are = rw (xs_are, rs_are, ns_are, is) (record {
-  table = table_push ids rows order live place id row t gap;
-  ids_are = of_put ids id _ order place (length ids) refl t.ordered.below ∙ gap.inserted;
-  rows_are = λ q. rows_push ids rows order live id place row q t gap;
-  live_stays = of_push ids id _ live t.alive.below;
-})
+pushed ids xs ys rows rs order ns ms live place number id row t ys_are ms_are missed is xs_are rs_are ns_are =
+    let gap = same_lists (λ l. IsInsertionPoint l id place) ys ids ms order ys_are ms_are missed in
+    rw (xs_are, rs_are, ns_are, is) (record {
+      table = table_push ids rows order live place id row t gap;
+      ids_are = of_put ids id _ order place (length ids) refl t.ordered.below ∙ gap.inserted;
+      rows_are = λ q. rows_push ids rows order live id place row q t gap;
+      live_stays = of_push ids id _ live t.alive.below;
+    })

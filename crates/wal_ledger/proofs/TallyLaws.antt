@@ -230,8 +230,8 @@ pub tally_counts : (f first epoch : ℕ) (owners : ℕ → List ℕ) (own : List
 tally_counts f first epoch owners own kind entries links t i within = elim (cases_eq t.epoch epoch) [
   | inl e ↦ subst (λ (v : ℕ). count_among f owners own kind v ≡ t.count) e (sym i.counted) ∙ sym (cond-true (nat_eq t.epoch epoch) t.count 0 (eq-eqb t.epoch epoch e))
   | inr ne ↦
-    count_below-none (committee_size f) _ (λ s. i.later epoch s (omega (arith, ne, tally_epoch f first epoch owners own kind entries links t i within)))
-    ∙ sym (cond-false (nat_eq t.epoch epoch) t.count 0 (ne_eqb t.epoch epoch ne))
+      count_below-none (committee_size f) _ (λ s. i.later epoch s (omega (arith, ne, tally_epoch f first epoch owners own kind entries links t i within)))
+      ∙ sym (cond-false (nat_eq t.epoch epoch) t.count 0 (ne_eqb t.epoch epoch ne))
 ]
 
 -- and the nodes of these shards are found down its links, and no others
@@ -239,11 +239,11 @@ pub tally_signers : (f first epoch s : ℕ) (owners : ℕ → List ℕ) (own : L
     → is_signer_among (owners epoch) own kind epoch s ≡ (nat_eq t.epoch epoch && has_neighbour (owners epoch) i.shards s)
 tally_signers f first epoch s owners own kind entries links t i within = elim (cases_eq t.epoch epoch) [
   | inl e ↦
-    subst (λ (v : ℕ). is_signer_among (owners v) own kind v s ≡ has_neighbour (owners v) i.shards s) e (sym (i.members s))
-    ∙ sym (ap (λ b. b && has_neighbour (owners epoch) i.shards s) (eq-eqb t.epoch epoch e))
+      subst (λ (v : ℕ). is_signer_among (owners v) own kind v s ≡ has_neighbour (owners v) i.shards s) e (sym (i.members s))
+      ∙ sym (ap (λ b. b && has_neighbour (owners epoch) i.shards s) (eq-eqb t.epoch epoch e))
   | inr ne ↦
-    i.later epoch s (omega (arith, ne, tally_epoch f first epoch owners own kind entries links t i within))
-    ∙ sym (and_left (nat_eq t.epoch epoch) (has_neighbour (owners epoch) i.shards s) (ne_eqb t.epoch epoch ne))
+      i.later epoch s (omega (arith, ne, tally_epoch f first epoch owners own kind entries links t i within))
+      ∙ sym (and_left (nat_eq t.epoch epoch) (has_neighbour (owners epoch) i.shards s) (ne_eqb t.epoch epoch ne))
 ]
 
 -- the least quorum after one more signer in the last epoch

@@ -10,15 +10,8 @@ invariant_of-self c =
     let i = c.self.inside in
     let test = λ (r : Row). nat_lt c.args.epoch r.until in
     let kept = filter_same _ (λ n. test (row_of c.as_slice-rows.result.now n)) _ (λ x b f k. search rules) _ _ c.retain.ensures.filtered in
-    let after = retires i.ids.items i.rows.items c.as_slice-rows.result.now i.order.items i.live.items _ test c.self.invariant.0 c.as_slice-rows.ensures.value kept in (
-      after.0,
-      omega arith,
-      omega arith,
-      omega arith,
-      omega arith,
-      omega arith,
-      omega (arith, c.retain.ensures.capacity),
-    )
+    let after = retires i.ids.items i.rows.items c.as_slice-rows.result.now i.order.items i.live.items _ test c.self.invariant.0 c.as_slice-rows.ensures.value kept in
+    search (arith, after.0, c.retain.ensures.capacity)
 
 pub returns : goal.returns
 returns c =

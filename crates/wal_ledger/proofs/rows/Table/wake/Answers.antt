@@ -1,16 +1,15 @@
-use Rattle.std.proofs.Common.{ℕ, List, length, ap, ◌∙◌, arith}
+use Rattle.std.proofs.Common.{ℕ, List, length, ap, refl, arith}
 use Rattle.std.specs.BTreeSet.{insert_key}
 use Rattle.wal_shape.specs.declared.metadata.BlobId.{BlobId}
 use Rattle.wal_shape.specs.Identifiers.{id_cmp}
-use Rattle.wal_ledger.specs.inside.Rows.{ids_of}
 use Rattle.wal_ledger.proofs.RowsTable.{wakes, live_changed}
 use Rattle.wal_ledger.proofs.rows.Table.wake.Goals as goal
 
 pub insert-requires-clause-room : goal.insert-requires-clause-room
 insert-requires-clause-room c =
     let i = c.self.inside in
-    let after = wakes i.ids.items c.deref.result.now c.deref-3.result.now i.rows.items i.order.items i.live.items c.deref-4.result.now c.in-Err.place c.number_of-number.result c.args.id.now
-    c.self.invariant.0 c.deref-3.ensures.value c.deref-4.ensures.value c.in-Err.ensures.gap c.deref.ensures.value c.number_of-number.ensures.below c.number_of-number.ensures.id in
+    let after = wakes i.ids.items c.deref.result.now c.deref-3.result.now i.rows.items i.order.items i.live.items c.deref-4.result.now _ c.in-Err.place c.number_of-number.result c.args.id.now
+    c.self.invariant.0 c.deref-3.ensures.value c.deref-4.ensures.value c.in-Err.ensures.gap c.deref.ensures.value c.number_of-number.ensures.below c.number_of-number.ensures.id refl in
     omega (
       arith,
       after.room,
@@ -23,20 +22,13 @@ insert-requires-clause-room c =
 pub invariant_of-self : goal.invariant_of-self
 invariant_of-self c =
     let i = c.self.inside in
-    let after = wakes i.ids.items c.deref.result.now c.deref-3.result.now i.rows.items i.order.items i.live.items c.deref-4.result.now c.in-Err.place c.number_of-number.result c.args.id.now
-    c.self.invariant.0 c.deref-3.ensures.value c.deref-4.ensures.value c.in-Err.ensures.gap c.deref.ensures.value c.number_of-number.ensures.below c.number_of-number.ensures.id in (
-      rw c.insert.ensures.items after.table,
-      omega arith,
-      omega arith,
-      omega arith,
-      omega arith,
-      omega arith,
-      omega (arith, c.insert.ensures.capacity),
-    )
+    let after = wakes i.ids.items c.deref.result.now c.deref-3.result.now i.rows.items i.order.items i.live.items c.deref-4.result.now c.insert.new.list.items c.in-Err.place c.number_of-number.result c.args.id.now
+    c.self.invariant.0 c.deref-3.ensures.value c.deref-4.ensures.value c.in-Err.ensures.gap c.deref.ensures.value c.number_of-number.ensures.below c.number_of-number.ensures.id c.insert.ensures.items in
+    search (arith, after.table, c.insert.ensures.capacity)
 
 pub returns-in-Err : goal.returns-in-Err
 returns-in-Err c =
     let i = c.self.inside in
-    let after = wakes i.ids.items c.deref.result.now c.deref-3.result.now i.rows.items i.order.items i.live.items c.deref-4.result.now c.in-Err.place c.number_of-number.result c.args.id.now
-    c.self.invariant.0 c.deref-3.ensures.value c.deref-4.ensures.value c.in-Err.ensures.gap c.deref.ensures.value c.number_of-number.ensures.below c.number_of-number.ensures.id in
-    live_changed _ _ (λ t. insert_key id_cmp t.live c.args.id.now) _ c.self.view_is (ap (ids_of i.ids.items) c.insert.ensures.items ∙ after.lives)
+    let after = wakes i.ids.items c.deref.result.now c.deref-3.result.now i.rows.items i.order.items i.live.items c.deref-4.result.now c.insert.new.list.items c.in-Err.place c.number_of-number.result c.args.id.now
+    c.self.invariant.0 c.deref-3.ensures.value c.deref-4.ensures.value c.in-Err.ensures.gap c.deref.ensures.value c.number_of-number.ensures.below c.number_of-number.ensures.id c.insert.ensures.items in
+    live_changed _ _ (λ t. insert_key id_cmp t.live c.args.id.now) _ c.self.view_is after.lives
