@@ -1,8 +1,9 @@
 -- Leaf digests that lie one after the other, each in the place of its piece.
-use Rattle.std.proofs.Common.{◌≡◌, ℕ, zero, suc, ◌+◌, ◌*◌, ◌<◌, List, ◌∷◌, length, take, drop, get_or, refl, ap, ap₂, sym, ◌∙◌, arith}
+use Rattle.std.proofs.Common.{◌≡◌, ℕ, zero, suc, ◌+◌, ◌*◌, ◌<◌, List, length, take, drop, get_or, ap, sym, ◌∙◌, arith}
 use Rattle.std.specs.List.{concat}
 use Rattle.std.proofs.lemmas.List.{drop-drop}
 use Rattle.wal_tree.specs.Tree.{empty_entry, leaf, leaves, pieces}
+use Rattle.wal_tree.proofs.LevelPairs.{leaves-pieces}
 use Rattle.wal_tree.proofs.Paths.{get_or-leaves, length-leaves}
 use Rattle.wal_tree.proofs.Sizes.{All-leaves, length-concat, pieces-concat}
 
@@ -16,12 +17,11 @@ run_of_rest size k content =
 pub pieces-leaves : (digest : List ℕ → List ℕ) (count size : ℕ) (digests content : List ℕ) →
     ((k : ℕ) → k < count → take 32 (drop (32 * k) digests) ≡ leaf digest (take size (drop (size * k) content))) →
     pieces count 32 digests ≡ leaves digest count size content
-pieces-leaves digest zero size digests content each = refl
-pieces-leaves digest (suc count) size digests content each =
-    let none : size * 0 ≡ 0 = omega arith in
-    ap₂ ◌∷◌ (each 0 (omega arith) ∙ ap (λ n. leaf digest (take size (drop n content))) none)
-    (pieces-leaves digest count size (drop 32 digests) (drop size content)
-    (λ k below. run_of_rest 32 k digests ∙ each (k + 1) (omega arith) ∙ ap (leaf digest) (sym (run_of_rest size k content))))
+pieces-leaves digest count size digests content each =
+    leaves-pieces digest count size digests content (λ k below.
+    let at : k * 32 ≡ 32 * k = omega arith in
+    let place : size * k ≡ k * size = omega arith in
+    ap (λ n. take 32 (drop n digests)) at ∙ each k below ∙ ap (λ n. leaf digest (take size (drop n content))) place)
 
 -- a piece of a content
 pub get_or-pieces : (count size k : ℕ) (content : List ℕ) → k < count → get_or (pieces count size content) k empty_entry ≡ take size (drop (size * k) content)

@@ -82,10 +82,9 @@ paired digest (suc pairs) xs ys each =
 -- the empty entry behind an odd number of entries
 pub pair_up-odd : (digest : List ℕ → List ℕ) (half : ℕ) (entries : List (List ℕ)) → length entries ≡ 2 * half + 1
     → pair_up digest (entries ++ (empty_entry ∷ [])) ≡ pair_up digest entries
-pair_up-odd digest half [] long = absurd (omega arith)
 pair_up-odd digest half (a ∷ []) long = refl
-pair_up-odd digest zero (a ∷ (b ∷ more)) long = absurd (omega arith)
 pair_up-odd digest (suc half) (a ∷ (b ∷ more)) long = ap (λ (l : List (List ℕ)). node digest a b ∷ l) (pair_up-odd digest half more (omega arith))
+pair_up-odd digest half entries long = absurd (omega arith)
 
 -- a level of odd length that was completed
 pub completed : (digest : List ℕ → List ℕ) (width half at : ℕ) (old new : List ℕ) → width ≡ 2 * half + 1 → at ≡ width * 32 → new ≡ put_at at old (replicate 32 0) → at + 32 ≤ length old
@@ -111,13 +110,11 @@ pieces-put count old ys long = pieces-append count ys (drop (0 + length ys) old)
 
 -- the level above has the same root
 pub root_up : (digest : List ℕ → List ℕ) (width : ℕ) (xs : List ℕ) → 1 < width → root_of digest (pair_up digest (pieces width 32 xs)) ≡ root_of digest (pieces width 32 xs)
-root_up digest zero xs more = absurd (omega arith)
-root_up digest (suc zero) xs more = absurd (omega arith)
 root_up digest (suc (suc width)) xs more = sym (root_of-pair_up digest (take 32 xs) (take 32 (drop 32 xs)) (pieces width 32 (drop 32 (drop 32 xs))))
+root_up digest width xs more = absurd (omega arith)
 
 -- one entry is the root
 pub root_one : (digest : List ℕ → List ℕ) (width : ℕ) (xs : List ℕ) → width ≡ 1 → root_of digest (pieces width 32 xs) ≡ take 32 xs
 unfolding root_of
-root_one digest zero xs one = absurd (omega arith)
 root_one digest (suc zero) xs one = refl
-root_one digest (suc (suc width)) xs one = absurd (omega arith)
+root_one digest width xs one = absurd (omega arith)
