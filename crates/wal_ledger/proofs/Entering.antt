@@ -22,10 +22,7 @@ phase_after-whole _ x p = sym (append_assoc p.before p.since (x ∷ []))
 
 whole_from : (p : Phase) (xs : List Entry) → let q = fold (λ (o : Phase) (y : Entry). phase_after y.body y o) p xs in q.before ++ q.since ≡ (p.before ++ p.since) ++ xs
 whole_from p [] = sym (append-nil (p.before ++ p.since))
-whole_from p (x ∷ xs) =
-    whole_from (phase_after x.body x p) xs
-    ∙ ap (λ (l : List Entry). l ++ xs) (phase_after-whole x.body x p)
-    ∙ append_assoc (p.before ++ p.since) (x ∷ []) xs
+whole_from p (x ∷ xs) = rw (whole_from (phase_after x.body x p) xs, phase_after-whole x.body x p) (append_assoc (p.before ++ p.since) (x ∷ []) xs)
 
 -- the entries before the last Begin, and those from it on, are all entries
 pub phase_whole : (xs : List Entry) → (phase_in xs).before ++ (phase_in xs).since ≡ xs

@@ -10,7 +10,7 @@ use Rattle.std.proofs.lemmas.List.Sums.{fold_push, fold-append}
 use Rattle.wal_shape.specs.declared.metadata.BlobId.{BlobId}
 use Rattle.wal_ledger.specs.declared.entry.Entry.{Entry}
 use Rattle.wal_ledger.specs.declared.entry.Body.{Body}
-use Rattle.wal_ledger.specs.declared.entry.Body.TheVariants.{Register, Begin, Finish}
+use Rattle.wal_ledger.specs.declared.entry.Body.TheVariants.{Register, Finish}
 use Rattle.wal_ledger.specs.declared.entry.Kind.{Kind}
 use Rattle.wal_ledger.specs.declared.entry.Kind.TheVariants.{Holds}
 use Rattle.wal_ledger.specs.Shards.{count_below, committee_size, quorum_size}
@@ -95,13 +95,10 @@ carried_from : (w r : ℕ) (id : BlobId) (old : List Entry) (c : History) (xs : 
 carried_from w r id old c [] carried at last made = carried
 carried_from w r id old c (x ∷ xs) carried at last made =
     carried_from w r id old (history_after id c x) xs
-    (carried_step w r old c.own x (names id x.body) (is_fresh c x.body) carried (All-head (IsMadeIn w) x xs made id) (λ fresh. omega (arith, at, leb-true (until_among c.own) c.epoch (and_parts (is_register x.body) (nat_le (until_among c.own) c.epoch) fresh).1)) (not_fresh))
+    (carried_step w r old c.own x (names id x.body) (is_fresh c x.body) carried (All-head (IsMadeIn w) x xs made id) (λ fresh. omega (arith, at, leb-true (until_among c.own) c.epoch (and_parts (is_register x.body) (nat_le (until_among c.own) c.epoch) fresh).1)) (λ stale le. until_plain x.body (grind (arith, nat_tests))))
     (omega (arith, at, last, epoch_grows id (history_after id c x) xs))
     last
     (All-tail (IsMadeIn w) x xs made)
-  where
-    not_fresh : is_fresh c x.body ≡ false → until_among c.own ≤ r → until_in x.body ≡ 0
-    not_fresh h le = until_plain x.body (grind (arith, nat_tests))
 
 -- what an identifier's own entries before the last Begin have become
 pub carried : (log : Log) (id : BlobId) → IsLawful log → IsDated log → is_moving log ≡ true → Carried (writing log) (reading log) (own_entries (cut log) id) (own_entries log id)

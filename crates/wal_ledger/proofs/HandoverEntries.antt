@@ -17,6 +17,7 @@ use Rattle.wal_ledger.specs.Answers.{claim_of}
 use Rattle.wal_ledger.proofs.Handover.{history_of-epoch, until_push, until_plain}
 use Rattle.wal_ledger.proofs.Entering.{phase_push, history_of-push, since_push}
 use Rattle.wal_ledger.proofs.TallyLaws.{signers_push}
+use Rattle.wal_ledger.proofs.Nodes.{writes_in, owners_in}
 
 -- the entry that is made
 abbrev pub entry_in : Log → Body → Entry
@@ -144,14 +145,9 @@ signs_claim_for owners _ _ s t id h = cc
 -- the sets of shards that are ready
 pub ready_plain : (log : Log) (b : Body) (s : ℕ) → is_plain b ≡ true → ready_shards (entered log b) s ≡ true → (ready_shards log s ≡ true) ⊎ (readies (owners_of Next log) s b ≡ true)
 ready_plain log b s plain h =
-    let stay = plain_stays log b plain in
-    let owners : owners_of Next (entered log b) ≡ owners_of Next log = ap (λ (e : ℕ). owners_at (entered log b) e) stay.writing ∙ stay.owners (writing log) in
-    let since : (phase (entered log b)).since ≡ (phase log).since ++ entry_in log b ∷ [] = ap (λ (p : Phase). p.since) (phase_plain log b plain) in
-    let o = owners_of Next log in
-    or_cases (ready_shards log s) (readies o s b)
-    (sym (since_push o (phase log).since (entry_in log b) s)
-    ∙ ap (λ (l : List Entry). list_any (λ (x : Entry). readies o s x.body) l) (sym since)
-    ∙ ap (λ (q : List ℕ). list_any (λ (x : Entry). readies q s x.body) (phase (entered log b)).since) (sym owners) ∙ h)
+    or_cases (ready_shards log s) (readies (owners_of Next log) s b)
+    (sym (ap (λ (p : Phase). list_any (λ (x : Entry). readies (owners_in log.first log.owners p (writes_in log.first p)) s x.body) p.since) (phase_plain log b plain)
+    ∙ since_push (owners_of Next log) (phase log).since (entry_in log b) s) ∙ h)
 
 -- none is ready once the epoch begins to change
 pub ready_begin : (log : Log) (o : List ℕ) (s : ℕ) → ready_shards (entered log (Begin o)) s ≡ false

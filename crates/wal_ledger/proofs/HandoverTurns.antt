@@ -95,13 +95,12 @@ begun log owners orderly serving = record {
         ∙ brought_before (log.owners ∷ (phase log).brought) owners (e - log.first) (omega (arith, le, balanced))
 
     signs : (id : BlobId) (kind : Kind) (e s : ℕ) → signers new id kind e s ≡ true → (e ≤ reading log) × (signers log id kind e s ≡ true)
-    signs id kind e s signed = elim (cases_lt (reading log) e) [
-      | inl far ↦ absurd (both_ways _ (signers_outside (owners_at new e) (own_entries log id) kind e s (λ k d lt same. omega (arith, orderly.epochs id k d lt, serves))) here)
-      | inr le ↦ (le, ap (λ (o : List ℕ). is_signer_among o (own_entries log id) kind e s) (sym (kept e le)) ∙ here)
-    ]
-      where
-        here : is_signer_among (owners_at new e) (own_entries log id) kind e s ≡ true
-        here = ap (λ (l : List Entry). is_signer_among (owners_at new e) l kind e s) (sym (own id)) ∙ signed
+    signs id kind e s signed =
+        let here = ap (λ (l : List Entry). is_signer_among (owners_at new e) l kind e s) (sym (own id)) ∙ signed in
+        elim (cases_lt (reading log) e) [
+          | inl far ↦ absurd (both_ways _ (signers_outside (owners_at new e) (own_entries log id) kind e s (λ k d lt same. omega (arith, orderly.epochs id k d lt, serves))) here)
+          | inr le ↦ (le, ap (λ (o : List ℕ). is_signer_among o (own_entries log id) kind e s) (sym (kept e le)) ∙ here)
+        ]
 
 -- the next epoch begins
 pub record Finished (old new : Log) : Type 0 where

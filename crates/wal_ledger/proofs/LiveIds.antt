@@ -14,7 +14,6 @@ use Rattle.wal_ledger.specs.declared.rows.Row.{Row}
 use Rattle.wal_shape.specs.Identifiers.{id_cmp, id_eq}
 use Rattle.wal_ledger.specs.Order.{Ascends}
 use Rattle.wal_ledger.specs.inside.Rows.{Rows, row_in, row_registered, living}
-use Rattle.wal_ledger.specs.Ledger.{reading}
 use Rattle.wal_ledger.proofs.Order.{ids_total, insert_key_by, all_above}
 use Rattle.wal_ledger.proofs.RowsPlace.{exact_ids, id_itself, id_tied}
 
@@ -29,9 +28,7 @@ all_filter P p ks all = recursion_from_All P (filter p ks) (All-filter p P ks (A
 -- a test that passes one more passes above it what it passed
 above_same : (p q : BlobId → Bool) (k : BlobId) (ks : List BlobId) → ((x : BlobId) → q x ≡ cond (id_eq k x) true (p x)) → AllByRecursion (λ y. id_cmp k y ≡ Less) ks → filter q ks ≡ filter p ks
 above_same p q k [] more all = refl
-above_same p q k (x ∷ xs) more all =
-    let same : q x ≡ p x = more x ∙ ap (λ b. cond b true (p x)) (id_tied k x Less all.0) in
-    ap (λ b. cond b (x ∷ filter q xs) (filter q xs)) same ∙ ap (λ l. cond (p x) (x ∷ l) l) (above_same p q k xs more all.1)
+above_same p q k (x ∷ xs) more all = rw (more x ∙ ap (λ b. cond b true (p x)) (id_tied k x Less all.0), above_same p q k xs more all.1) refl
 
 -- one more that passes, put at its place before or after the others are left out
 pub filter_more : (p q : BlobId → Bool) (ks : List BlobId) (k : BlobId) → Ascends ks → ((x : BlobId) → q x ≡ cond (id_eq k x) true (p x)) → filter q (insert_key id_cmp ks k) ≡ insert_key id_cmp (filter p ks) k
@@ -57,18 +54,12 @@ filter_more p q (x ∷ xs) k s more = by (id_cmp k x) refl (filter_more p q xs k
         → filter q (match_ordering r (k ∷ x ∷ xs) (x ∷ xs) (x ∷ insert_key id_cmp xs k)) ≡ insert_key id_cmp (filter p (x ∷ xs)) k
     by Less h rest =
         let all : AllByRecursion (λ y. id_cmp k y ≡ Less) (x ∷ xs) = (h, all_above ids_total x k xs h s.0) in
-        ap (λ b. cond b (k ∷ filter q (x ∷ xs)) (filter q (x ∷ xs))) passes
-        ∙ ap (λ l. k ∷ l) (above_same p q k (x ∷ xs) more all)
-        ∙ sym (insert_first k (filter p (x ∷ xs)) (all_filter (λ y. id_cmp k y ≡ Less) p (x ∷ xs) all))
+        rw (passes, above_same p q k (x ∷ xs) more all) (sym (insert_first k (filter p (x ∷ xs)) (all_filter (λ y. id_cmp k y ≡ Less) p (x ∷ xs) all)))
     by Equal h rest =
         let e : k ≡ x = exact_ids k x h in
         let above : AllByRecursion (λ y. id_cmp k y ≡ Less) xs = subst (λ (y : BlobId). AllByRecursion (λ z. id_cmp y z ≡ Less) xs) (sym e) s.0 in
-        ap (λ b. cond b (x ∷ filter q xs) (filter q xs)) (ap q (sym e) ∙ passes)
-        ∙ ap (λ l. x ∷ l) (above_same p q k xs more above)
-        ∙ here (p x) e h
-    by Greater h rest =
-        ap (λ b. cond b (x ∷ filter q (insert_key id_cmp xs k)) (filter q (insert_key id_cmp xs k))) (more x ∙ ap (λ b. cond b true (p x)) (id_tied k x Greater h))
-        ∙ last (p x) h refl rest
+        rw (ap q (sym e) ∙ passes, above_same p q k xs more above) (here (p x) e h)
+    by Greater h rest = rw (more x ∙ ap (λ b. cond b true (p x)) (id_tied k x Greater h)) (last (p x) h refl rest)
 
 -- the live ones stay where no `until` changes
 pub living_same : (e : ℕ) (table new : Rows) → table.live ≡ living e table → new.live ≡ table.live → new.ids ≡ table.ids → ((q : BlobId) → (row_in new q).until ≡ (row_in table q).until) → new.live ≡ living e new

@@ -8,7 +8,7 @@ use Rattle.std.proofs.Math.Seq.{get_or-append_seam}
 use Rattle.wal_shape.specs.Owners.{node_of, are_owners}
 use Rattle.wal_ledger.specs.declared.entry.Entry.{Entry}
 use Rattle.wal_ledger.specs.declared.entry.Body.{Body}
-use Rattle.wal_ledger.specs.declared.entry.Body.TheVariants.{Ack, Attest, Ready, Begin}
+use Rattle.wal_ledger.specs.declared.entry.Body.TheVariants.{Ack, Attest, Ready}
 use Rattle.wal_ledger.specs.declared.entry.Kind.{Kind}
 use Rattle.wal_ledger.specs.declared.entry.Kind.TheVariants.{Holds, Denies}
 use Rattle.wal_ledger.specs.Ledger.{Log, Phase, phase, phase_in, reading, is_moving, owners_at, signs_for, is_signer_among, same_node, readies}
@@ -48,6 +48,13 @@ ready-node owners (x ∷ since) s t h = cc (readies-node owners s t x.body h, re
 -- a set that has all shards of a node or none, and not this shard, has no shard of this one's node
 pub node_apart : (owners : List ℕ) (p : ℕ → Bool) (t : ℕ) → ((s u : ℕ) → same_node owners s u ≡ true → p s ≡ p u) → p t ≡ false → (s : ℕ) → p s ≡ true → same_node owners t s ≡ false
 node_apart owners p t whole out s here = false_from_ne_true (same_node owners t s) (λ h. both_ways (p s) (sym (whole t s h) ∙ out) here)
+
+-- whether a phase is within a change of the epoch, and its writing epoch
+abbrev pub moves_in : Phase → Bool
+moves_in q = nat_lt q.finishes (length q.brought)
+
+abbrev pub writes_in : ℕ → Phase → ℕ
+writes_in first q = first + q.finishes + cond (moves_in q) 1 0
 
 -- the owners of an epoch, by the phase
 abbrev pub owners_in : ℕ → List ℕ → Phase → ℕ → List ℕ

@@ -21,7 +21,7 @@ use Rattle.wal_ledger.specs.inside.Rows.{Rows, IsRow, row_in, no_row, row_regist
 use Rattle.wal_ledger.specs.Kept.{IsOfCommittee}
 use Rattle.wal_ledger.specs.inside.Kept.{IsKept, log_of}
 use Rattle.wal_ledger.specs.Answers.{claim_of}
-use Rattle.wal_ledger.specs.Ledger.{Log, phase, phase_after, writing, owners_at, owners_of, until_among, same_node, signs_for, readies, ready_shards, signers, own_entries, History, history_of, history_after, with_registered}
+use Rattle.wal_ledger.specs.Ledger.{Log, phase, writing, owners_at, owners_of, until_among, same_node, signs_for, readies, ready_shards, signers, own_entries, History, history_of, history_after, with_registered}
 use Rattle.wal_shape.specs.Identifiers.{id_eq, id_cmp}
 use Rattle.wal_ledger.proofs.RowsPlace.{id_same}
 use Rattle.wal_ledger.proofs.Living.{registered_ascends}

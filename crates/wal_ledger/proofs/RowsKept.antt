@@ -25,7 +25,7 @@ use Rattle.wal_ledger.specs.Within.{IsWithin}
 use Rattle.wal_ledger.proofs.Entering.{phase_push, phase_whole, history_of-push, since_push}
 use Rattle.wal_ledger.proofs.FlagLaws.{flag_cleared}
 use Rattle.wal_ledger.proofs.Counts.{count_below-none}
-use Rattle.wal_ledger.proofs.Nodes.{owners_in, brought_before, brought_last}
+use Rattle.wal_ledger.proofs.Nodes.{moves_in, writes_in, owners_in, brought_before, brought_last}
 use Rattle.wal_ledger.proofs.RowsRead.{own_within}
 use Rattle.wal_ledger.proofs.LiveIds.{living_retired}
 use Rattle.wal_ledger.proofs.TallyLaws.{tally_kept, tally_owned, slice_get-front, slice_get-push, count_below-same}
@@ -54,13 +54,6 @@ stand_push start entries more (suc place) owners h = (h.0, slice_get-front entri
 stand_begun : (start : List ℕ) (entries : List Entry) (e link : ℕ) (owners : List ℕ) → link ≡ length entries + 1 → StandAt start (entries ++ record { epoch = e; body = Begin owners } ∷ []) link owners
 stand_begun start entries e zero owners at = absurd (omega arith)
 stand_begun start entries e (suc place) owners at = (e, slice_get-push entries (record { epoch = e; body = Begin owners }) place (omega arith))
-
--- whether a phase is within a change of the epoch, and its writing epoch
-abbrev pub moves_in : Phase → Bool
-moves_in q = nat_lt q.finishes (length q.brought)
-
-abbrev pub writes_in : ℕ → Phase → ℕ
-writes_in first q = first + q.finishes + cond (moves_in q) 1 0
 
 -- what is kept, of the phase and the writing epoch
 record AtPhase (f first : ℕ) (start : List ℕ) (entries : List Entry) (e : ℕ) (m : Bool) (now next : ℕ) (flags : List Bool) (total w : ℕ) (q : Phase) : Type 0 where
@@ -105,8 +98,7 @@ living_on e table = record table { live = filter (λ q. nat_lt (e + 1) (row_in t
 quiet_count : (n : ℕ) (owners : List ℕ) (since : List Entry) (x : Entry) → ((s : ℕ) → readies owners s x.body ≡ false)
     → count_below n (λ s. list_any (λ (y : Entry). readies owners s y.body) (since ++ x ∷ [])) ≡ count_below n (λ s. list_any (λ (y : Entry). readies owners s y.body) since)
 quiet_count n owners since x quiet =
-    count_below-same n (λ s. list_any (λ (y : Entry). readies owners s y.body) since) (λ s. list_any (λ (y : Entry). readies owners s y.body) (since ++ x ∷ []))
-    (λ s lt. since_push owners since x s ∙ ap (λ b. list_any (λ (y : Entry). readies owners s y.body) since || b) (quiet s) ∙ or-false (list_any (λ (y : Entry). readies owners s y.body) since))
+    count_below-same n _ _ (λ s lt. since_push owners since x s ∙ ap (λ b. list_any (λ (y : Entry). readies owners s y.body) since || b) (quiet s) ∙ or-false (list_any (λ (y : Entry). readies owners s y.body) since))
 
 module _ (f first : ℕ) (start : List ℕ) (e : ℕ) (m : Bool) (now next : ℕ) (book : BookState) (table : Rows) (flags : List Bool) (total : ℕ)
     (k : IsKept (log_of f first start book) book.spare book.links e m now next table flags total) (room : 0 < book.spare) where

@@ -17,7 +17,7 @@ use Rattle.wal_shape.specs.declared.metadata.BlobId.{BlobId}
 use Rattle.wal_ledger.specs.declared.rows.Row.{Row}
 use Rattle.wal_shape.specs.Identifiers.{id_cmp, id_eq}
 use Rattle.wal_ledger.specs.Order.{Ascends}
-use Rattle.wal_ledger.specs.inside.Rows.{IsPlace, IsInsertionPoint, IsOrder, id_of, ids_of, row_of}
+use Rattle.wal_ledger.specs.inside.Rows.{IsPlace, IsInsertionPoint, IsOrder, id_of, ids_of, no_row, row_of}
 use Rattle.wal_ledger.proofs.Order.{ids_total}
 use Rattle.wal_ledger.proofs.RowsPlace.{exact_ids, place_found, place_missed, id_itself, id_tied}
 
@@ -73,25 +73,21 @@ apart ids ns place j ascends within lt other same = elim (cases_lt j place) [
 set_else : (rows : List Row) (number : ℕ) (row : Row) (ns : List ℕ) → ((j : ℕ) → j < length ns → get_or ns j 0 ≢ number) → map (row_of (slice_set rows number row)) ns ≡ map (row_of rows) ns
 set_else rows number row [] other = refl
 set_else rows number row (n ∷ ns) other =
-    ap (λ r. r ∷ map (row_of (slice_set rows number row)) ns) (get_or-set_other rows number n row _ (other 0 (omega arith)))
-    ∙ ap (λ l. row_of rows n ∷ l) (set_else rows number row ns (λ j lt. other (suc j) (omega arith)))
+    cc (get_or-set_other rows number n row no_row (other 0 (omega arith)), set_else rows number row ns (λ j lt. other (suc j) (omega arith)))
 
 pub set_row : (rows : List Row) (number : ℕ) (row : Row) (ns : List ℕ) (place : ℕ) → number < length rows → place < length ns → get_or ns place 0 ≡ number
     → ((j : ℕ) → j < length ns → j ≢ place → get_or ns j 0 ≢ number) → map (row_of (slice_set rows number row)) ns ≡ slice_set (map (row_of rows) ns) place row
 set_row rows number row [] place within lt is other = absurd (omega arith)
 set_row rows number row (n ∷ ns) zero within lt is other =
-    ap (λ l. row_of (slice_set rows number row) n ∷ l) (set_else rows number row ns (λ j below. other (suc j) (omega arith) (λ e. omega arith)))
-    ∙ ap (λ r. r ∷ map (row_of rows) ns) (ap (row_of (slice_set rows number row)) is ∙ get_or-set_same rows number row _ within)
+    cc (set_else rows number row ns (λ j below. other (suc j) (omega arith) (λ e. omega arith)), get_or-set_same rows number row no_row within)
 set_row rows number row (n ∷ ns) (suc place) within lt is other =
-    ap (λ r. r ∷ map (row_of (slice_set rows number row)) ns) (get_or-set_other rows number n row _ (other 0 (omega arith) (λ e. omega arith)))
-    ∙ ap (λ l. row_of rows n ∷ l) (set_row rows number row ns place within (omega arith) is (λ j below ne. other (suc j) (omega arith) (λ e. ne (omega arith))))
+    cc (get_or-set_other rows number n row no_row (other 0 (omega arith) (λ e. omega arith)), set_row rows number row ns place within (omega arith) is (λ j below ne. other (suc j) (omega arith) (λ e. ne (omega arith))))
 
 -- those that pass, by their numbers
 pub filter_mapped : {Y : Type 0} (f : ℕ → Y) (p : ℕ → Bool) (q : Y → Bool) (ns : List ℕ) → All (λ n. p n ≡ q (f n)) ns → map f (filter p ns) ≡ filter q (map f ns)
 filter_mapped f p q [] all = refl
 filter_mapped {Y} f p q (n ∷ ns) all =
-    let rest = filter_mapped f p q ns (All-tail (λ n. p n ≡ q (f n)) n ns all) in
-    by (p n) ∙ ap (λ l. cond (p n) (f n ∷ l) l) rest ∙ ap (λ b. cond b (f n ∷ filter q (map f ns)) (filter q (map f ns))) (All-head (λ n. p n ≡ q (f n)) n ns all)
+    rw (← All-head (λ n. p n ≡ q (f n)) n ns all, ← filter_mapped f p q ns (All-tail (λ n. p n ≡ q (f n)) n ns all)) (by (p n))
   where
     by : (b : Bool) → map f (cond b (n ∷ filter p ns) (filter p ns)) ≡ cond b (f n ∷ map f (filter p ns)) (map f (filter p ns))
     by b = grind arith

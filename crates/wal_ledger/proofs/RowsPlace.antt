@@ -62,8 +62,7 @@ pub beside_place : (ids : List BlobId) (rows : List Row) (id : BlobId) (place : 
 beside_place (i ∷ ids) (r ∷ rows) id zero d same lt here before =
     ap (λ b. cond b r (row_beside ids rows id)) (ap (λ j. id_eq j id) (here i) ∙ id_itself id)
 beside_place (i ∷ ids) (r ∷ rows) id (suc p) d same lt here before =
-    ap (λ b. cond b r (row_beside ids rows id)) (before 0 (omega arith) i)
-    ∙ beside_place ids rows id p d (omega arith) (omega arith) here (λ j below. before (suc j) (omega arith))
+    rw (before 0 (omega arith) i) (beside_place ids rows id p d (omega arith) (omega arith) here (λ j below. before (suc j) (omega arith)))
 beside_place _ _ id place d same lt here before = absurd (omega arith)
 
 -- the row at a place is that of the identifier at this place
@@ -76,9 +75,7 @@ beside_at ids rows place d r ascends same lt =
 
 -- an identifier that does not stand there has no row
 pub beside_none : (ids : List BlobId) (rows : List Row) (id : BlobId) → All (λ i. id_eq i id ≡ false) ids → row_beside ids rows id ≡ no_row
-beside_none (i ∷ ids) (r ∷ rows) id none =
-    ap (λ b. cond b r (row_beside ids rows id)) (none 0 i (omega arith))
-    ∙ beside_none ids rows id (λ k d lt. none (suc k) d (omega arith))
+beside_none (i ∷ ids) (r ∷ rows) id none = rw (none 0 i (omega arith)) (beside_none ids rows id (λ k d lt. none (suc k) d (omega arith)))
 beside_none _ _ id none = refl
 
 swapped : (a b : Bool) (r s x : Row) → (a ≡ true → b ≡ true → ⊥) → cond a r (cond b s x) ≡ cond b s (cond a r x)
@@ -94,10 +91,7 @@ apart i id q differ left right =
 -- another row at that place
 pub beside_set : (ids : List BlobId) (rows : List Row) (id : BlobId) (place : ℕ) (row : Row) (q : BlobId) → length rows ≡ length ids → place < length ids → HoldsAt (λ i. i ≡ id) ids place → ((j : ℕ) → j < place → HoldsAt (λ i. id_eq i id ≡ false) ids j)
     → row_beside ids (slice_set rows place row) q ≡ cond (id_eq id q) row (row_beside ids rows q)
-beside_set (i ∷ ids) (r ∷ rows) id zero row q same lt here before =
-    ap (λ j. cond (id_eq j q) row (row_beside ids rows q)) (here i)
-    ∙ over (id_eq id q)
-    ∙ ap (λ j. cond (id_eq id q) row (cond (id_eq j q) r (row_beside ids rows q))) (sym (here i))
+beside_set (i ∷ ids) (r ∷ rows) id zero row q same lt here before = rw (here i) (over (id_eq id q))
   where
     over : (b : Bool) → cond b row (row_beside ids rows q) ≡ cond b row (cond b r (row_beside ids rows q))
     over b = grind arith

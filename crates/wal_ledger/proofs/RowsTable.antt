@@ -26,9 +26,7 @@ of_push {X} xs x d ns below = map_same (λ n. get_or (xs ++ x ∷ []) n d) (λ n
 -- and its number may be put among them
 pub of_put : {X : Type 0} (xs : List X) (x d : X) (ns : List ℕ) (place n : ℕ) → length xs ≡ n → All (λ m. m < n) ns → map (λ m. get_or (xs ++ x ∷ []) m d) (insert ns place n) ≡ insert (map (λ m. get_or xs m d) ns) place x
 of_put {X} xs x d ns place n same below =
-    map-insert (λ m. get_or (xs ++ x ∷ []) m d) ns place n
-    ∙ ap (λ (l : List X). insert l place (get_or (xs ++ x ∷ []) n d)) (of_push xs x d ns (subst (λ (k : ℕ). All (λ m. m < k) ns) (sym same) below))
-    ∙ ap (λ (y : X). insert (map (λ m. get_or xs m d) ns) place y) (get_or_push xs x d n same)
+    rw (map-insert (λ m. get_or (xs ++ x ∷ []) m d) ns place n, of_push xs x d ns (rw same below), get_or_push xs x d n same) refl
 
 -- one more identifier, with its row
 pub order_push : (ids : List BlobId) (ns : List ℕ) (id : BlobId) → IsOrder ids ns → IsOrder (ids ++ id ∷ []) ns
@@ -121,33 +119,31 @@ table_nil =
 pub table_new : (ids : List BlobId) (rows : List Row) (order live : List ℕ) → ids ≡ [] → rows ≡ [] → order ≡ [] → live ≡ [] → IsTable ids rows order live
 table_new ids rows order live no_ids no_rows no_order no_live = rw (no_ids, no_rows, no_order, no_live) table_nil
 
--- a place is one of the order, and its number one of an identifier
-pub place_within : (ids : List BlobId) (order : List ℕ) (id : BlobId) (place : ℕ) → IsPlace (ids_of ids order) id place → place < length order
-place_within ids order id place found = omega (arith, found.within, length-map order (id_of ids))
-
-pub number_within : (ids : List BlobId) (order : List ℕ) (id : BlobId) (place number : ℕ) → IsOrder ids order → IsPlace (ids_of ids order) id place → number ≡ get_or order place number → number < length ids
-number_within ids order id place number i found is = omega (arith, is, i.below place number (place_within ids order id place found))
+-- a place is one of the order, and its number one of a row
+placed : (ids : List BlobId) (rows : List Row) (order live : List ℕ) (id : BlobId) (place number : ℕ) → IsTable ids rows order live → IsPlace (ids_of ids order) id place → number ≡ get_or order place number
+    → (place < length order) × (number < length rows)
+placed ids rows order live id place number t found is =
+    let within : place < length order = omega (arith, found.within, length-map order (id_of ids)) in
+    (within, omega (arith, t.beside, is, t.ordered.below place number within))
 
 -- the row that is found
 pub find_row : (ids : List BlobId) (rows : List Row) (order live : List ℕ) (id : BlobId) (place number : ℕ) (row : Row) → IsTable ids rows order live → IsPlace (ids_of ids order) id place → number ≡ get_or order place number → row ≡ get_or rows number row
     → row ≡ row_beside (ids_of ids order) (map (row_of rows) order) id
 find_row ids rows order live id place number row t found is at =
-    let within : place < length order = place_within ids order id place found in
-    let below : number < length rows = omega (arith, t.beside, number_within ids order id place number t.ordered found is) in
+    let within = placed ids rows order live id place number t found is in
     at
-    ∙ get_or_default rows number row _ below
+    ∙ get_or_default rows number row _ within.1
     ∙ ap (row_of rows) is
-    ∙ sym (get_or-map (row_of rows) order place number row within)
+    ∙ sym (get_or-map (row_of rows) order place number row within.0)
     ∙ sym (beside_place (ids_of ids order) (map (row_of rows) order) id place row (omega (arith, length-map order (id_of ids), length-map order (row_of rows))) found.within found.here found.before)
 
 -- another row for it
 pub rows_set : (ids : List BlobId) (rows : List Row) (order live : List ℕ) (id : BlobId) (place number : ℕ) (row : Row) (q : BlobId) → IsTable ids rows order live → IsPlace (ids_of ids order) id place → number ≡ get_or order place number
     → row_beside (ids_of ids order) (map (row_of (slice_set rows number row)) order) q ≡ cond (id_eq id q) row (row_beside (ids_of ids order) (map (row_of rows) order) q)
 rows_set ids rows order live id place number row q t found is =
-    let within : place < length order = place_within ids order id place found in
-    let below : number < length rows = omega (arith, t.beside, number_within ids order id place number t.ordered found is) in
-    let here : get_or order place 0 ≡ number = get_or_default order place 0 number within ∙ sym is in
-    ap (λ (l : List Row). row_beside (ids_of ids order) l q) (set_row rows number row order place below within here (λ j lt ne same. apart ids order place j t.ordered.ascends within lt ne (same ∙ sym here)))
+    let within = placed ids rows order live id place number t found is in
+    let here : get_or order place 0 ≡ number = get_or_default order place 0 number within.0 ∙ sym is in
+    ap (λ (l : List Row). row_beside (ids_of ids order) l q) (set_row rows number row order place within.1 within.0 here (λ j lt ne same. apart ids order place j t.ordered.ascends within.0 lt ne (same ∙ sym here)))
     ∙ beside_set (ids_of ids order) (map (row_of rows) order) id place row q (omega (arith, length-map order (id_of ids), length-map order (row_of rows))) found.within found.here found.before
 
 -- the row of a new one

@@ -2,7 +2,7 @@
 use Rattle.std.proofs.Common.{◌≡◌, ◌≢◌, ℕ, zero, suc, ◌+◌, ◌-◌, ◌<◌, ◌≤◌, List, [], ◌∷◌, ◌++◌, Bool, true, false, cond, ◌&&◌, ◌||◌, nat_eq, nat_le, length, get_or, All, Option, Some, None, slice_get, inl, inr, refl, sym, ap, ◌∙◌, subst, arith}
 use Rattle.std.proofs.lemmas.Bool.Decides.{nat_tests}
 use Rattle.std.proofs.Math.Bool.{or-false}
-use Rattle.std.proofs.lemmas.Bool.{cases_lt, cases_eq, eq-eqb, eqb-true, eqb-false, ne_eqb, leb-true, leb-false, cond-true, cond-false, cond_both, and_left, and_right}
+use Rattle.std.proofs.lemmas.Bool.{cases_lt, cases_eq, eq-eqb, eqb-true, eqb-false, ne_eqb, leb-true, leb-false, cond_both, and_left, and_right}
 use Rattle.std.proofs.lemmas.Option.{slice_get_within, get_or_from_slice_get, gets}
 use Rattle.std.proofs.lemmas.List.Folds.{list_any-append}
 use Rattle.std.proofs.lemmas.Grind.{common_steps}
@@ -20,7 +20,7 @@ use Rattle.wal_ledger.specs.Ledger.{signs_for, same_node, is_signer_among}
 use Rattle.wal_ledger.specs.Answers.{claim_of}
 use Rattle.wal_ledger.specs.inside.Claims.{count_among}
 use Rattle.wal_ledger.specs.Within.{IsWithin}
-use Rattle.wal_ledger.specs.inside.Tally.{signs, Chain, HasLeast, IsTally, IsFirstClaim, no_tally, link_in, quorum_after, node_size, tally_after}
+use Rattle.wal_ledger.specs.inside.Tally.{signs, IsLinked, Chain, HasLeast, IsTally, IsFirstClaim, no_tally, link_in, quorum_after, node_size, tally_after}
 use Rattle.wal_ledger.specs.inside.Rows.{tally_of, no_row}
 use Rattle.wal_ledger.proofs.Counts.{count_below-none, count_below-has, count_below-joined, count_among-beyond, signers_outside}
 use Rattle.wal_ledger.proofs.Nodes.{same_node-self, signers-node, node_apart}
@@ -55,10 +55,8 @@ slice_get-push xs x i h = grind (arith, common_steps, gets)
 -- a chain is the same when more entries and links follow
 pub chain_push : (entries more : List Entry) (links after : List ℕ) (kind : Kind) (link : ℕ) (shards : List ℕ) → Chain entries links kind link shards → Chain (entries ++ more) (links ++ after) kind link shards
 chain_push entries more links after kind link [] h = h
-chain_push entries more links after kind link (s ∷ shards) (before, (l, rest)) = (
-  before,
-  (
-    record {
+chain_push entries more links after kind link (s ∷ shards) (before, (l, rest)) =
+    let here : IsLinked (entries ++ more) (links ++ after) kind link s before = record {
       place = l.place;
       entry = l.entry;
       follows = l.follows;
@@ -66,10 +64,8 @@ chain_push entries more links after kind link (s ∷ shards) (before, (l, rest))
       earlier = l.earlier;
       found = slice_get-front entries more l.place l.entry l.found;
       linked = slice_get-front links after l.place before l.linked;
-    },
-    chain_push entries more links after kind before shards rest,
-  ),
-)
+    } in
+    (before, (here, chain_push entries more links after kind before shards rest))
 
 -- its links are within
 pub chain_within : (entries : List Entry) (links : List ℕ) (kind : Kind) (link : ℕ) (shards : List ℕ) → Chain entries links kind link shards → link ≤ length entries
@@ -80,10 +76,8 @@ chain_within entries links kind link (s ∷ shards) (before, (l, rest)) = omega 
 pub chain_more : (entries : List Entry) (links : List ℕ) (kind : Kind) (link place shard : ℕ) (shards : List ℕ) (x : Entry)
     → Chain entries links kind link shards → length entries ≡ place → length links ≡ place → signs kind shard x.body ≡ true
     → Chain (entries ++ x ∷ []) (links ++ link ∷ []) kind (place + 1) (shard ∷ shards)
-chain_more entries links kind link place shard shards x chain entries_len links_len signed = (
-  link,
-  (
-    record {
+chain_more entries links kind link place shard shards x chain entries_len links_len signed =
+    let here : IsLinked (entries ++ x ∷ []) (links ++ link ∷ []) kind (place + 1) shard link = record {
       place = place;
       entry = x;
       follows = refl;
@@ -91,10 +85,8 @@ chain_more entries links kind link place shard shards x chain entries_len links_
       signed = signed;
       linked = slice_get-push links link place links_len;
       earlier = omega (arith, entries_len, chain_within entries links kind link shards chain);
-    },
-    chain_push entries (x ∷ []) links (link ∷ []) kind link shards chain,
-  ),
-)
+    } in
+    (link, (here, chain_push entries (x ∷ []) links (link ∷ []) kind link shards chain))
 
 -- a step of a walk down the links, at a place: the entry there and its link, which leads on
 pub record Walks (entries : List Entry) (links : List ℕ) (kind : Kind) (link : ℕ) (shards : List ℕ) : Type 0 where
@@ -118,9 +110,7 @@ walks entries links kind link (t ∷ shards) pos (before, (l, rest)) =
       link_within = slice_get_within links (link - 1) before linked;
       chain = subst (λ (i : ℕ). Chain entries links kind i shards) (sym next) rest;
       below = omega (arith, next, l.earlier, l.follows);
-      same = λ owners s d.
-          ap (λ b. b || has_neighbour owners shards s) (sym (signs_one owners kind t s l.entry.body l.signed))
-          ∙ ap (λ (x : Entry). signs_for owners kind s x.body || has_neighbour owners shards s) (sym (get_or_from_slice_get entries (link - 1) l.entry d found));
+      same = λ owners s d. rw (get_or_from_slice_get entries (link - 1) l.entry d found, signs_one owners kind t s l.entry.body l.signed) refl;
     }
 
 -- with no link left, a walk has found nobody
@@ -228,22 +218,16 @@ tally_most f owners own kind entries links t i = omega (arith, i.counted, count_
 pub tally_counts : (f first epoch : ℕ) (owners : ℕ → List ℕ) (own : List Entry) (kind : Kind) (entries : List Entry) (links : List ℕ) (t : Tally) → IsTally f owners own kind entries links t → All (IsWithin first epoch) own
     → count_among f owners own kind epoch ≡ cond (nat_eq t.epoch epoch) t.count 0
 tally_counts f first epoch owners own kind entries links t i within = elim (cases_eq t.epoch epoch) [
-  | inl e ↦ subst (λ (v : ℕ). count_among f owners own kind v ≡ t.count) e (sym i.counted) ∙ sym (cond-true (nat_eq t.epoch epoch) t.count 0 (eq-eqb t.epoch epoch e))
-  | inr ne ↦
-      count_below-none (committee_size f) _ (λ s. i.later epoch s (omega (arith, ne, tally_epoch f first epoch owners own kind entries links t i within)))
-      ∙ sym (cond-false (nat_eq t.epoch epoch) t.count 0 (ne_eqb t.epoch epoch ne))
+  | inl e ↦ rw (eq-eqb t.epoch epoch e) (subst (λ (v : ℕ). count_among f owners own kind v ≡ t.count) e (sym i.counted))
+  | inr ne ↦ rw (ne_eqb t.epoch epoch ne) (count_below-none (committee_size f) _ (λ s. i.later epoch s (omega (arith, ne, tally_epoch f first epoch owners own kind entries links t i within))))
 ]
 
 -- and the nodes of these shards are found down its links, and no others
 pub tally_signers : (f first epoch s : ℕ) (owners : ℕ → List ℕ) (own : List Entry) (kind : Kind) (entries : List Entry) (links : List ℕ) (t : Tally) (i : IsTally f owners own kind entries links t) → All (IsWithin first epoch) own
     → is_signer_among (owners epoch) own kind epoch s ≡ (nat_eq t.epoch epoch && has_neighbour (owners epoch) i.shards s)
 tally_signers f first epoch s owners own kind entries links t i within = elim (cases_eq t.epoch epoch) [
-  | inl e ↦
-      subst (λ (v : ℕ). is_signer_among (owners v) own kind v s ≡ has_neighbour (owners v) i.shards s) e (sym (i.members s))
-      ∙ sym (ap (λ b. b && has_neighbour (owners epoch) i.shards s) (eq-eqb t.epoch epoch e))
-  | inr ne ↦
-      i.later epoch s (omega (arith, ne, tally_epoch f first epoch owners own kind entries links t i within))
-      ∙ sym (and_left (nat_eq t.epoch epoch) (has_neighbour (owners epoch) i.shards s) (ne_eqb t.epoch epoch ne))
+  | inl e ↦ rw (eq-eqb t.epoch epoch e) (subst (λ (v : ℕ). is_signer_among (owners v) own kind v s ≡ has_neighbour (owners v) i.shards s) e (sym (i.members s)))
+  | inr ne ↦ rw (ne_eqb t.epoch epoch ne) (i.later epoch s (omega (arith, ne, tally_epoch f first epoch owners own kind entries links t i within)))
 ]
 
 -- the least quorum after one more signer in the last epoch
@@ -301,19 +285,15 @@ tally_signed f first place size shard owners own kind entries links t x i claim 
     new = own ++ x ∷ []
 
     apart : (e s : ℕ) → e ≢ x.epoch → is_signer_among (owners e) new kind e s ≡ is_signer_among (owners e) own kind e s
-    apart e s ne = signers_push (owners e) own kind x e s
-        ∙ ap (λ b. is_signer_among (owners e) own kind e s || b) (and_left (nat_eq x.epoch e) (signs_for (owners e) kind s x.body) (ne_eqb x.epoch e (λ h. ne (sym h))))
-        ∙ or-false (is_signer_among (owners e) own kind e s)
+    apart e s ne = rw (signers_push (owners e) own kind x e s, and_left (nat_eq x.epoch e) (signs_for (owners e) kind s x.body) (ne_eqb x.epoch e (λ h. ne (sym h))))
+        (or-false (is_signer_among (owners e) own kind e s))
 
     here : (s : ℕ) → is_signer_among (owners x.epoch) new kind x.epoch s ≡ (is_signer_among (owners x.epoch) own kind x.epoch s || same_node (owners x.epoch) shard s)
-    here s = signers_push (owners x.epoch) own kind x x.epoch s
-        ∙ ap (λ b. is_signer_among (owners x.epoch) own kind x.epoch s || (b && signs_for (owners x.epoch) kind s x.body)) (eq-eqb x.epoch x.epoch refl)
-        ∙ ap (λ b. is_signer_among (owners x.epoch) own kind x.epoch s || b) (signs_one (owners x.epoch) kind shard s x.body claim.signed)
+    here s = rw (signers_push (owners x.epoch) own kind x x.epoch s, eq-eqb x.epoch x.epoch refl, signs_one (owners x.epoch) kind shard s x.body claim.signed) refl
 
     counts_here : count_among f owners new kind x.epoch ≡ count_among f owners own kind x.epoch + size
-    counts_here = count_below-joined (committee_size f) (is_signer_among (owners x.epoch) own kind x.epoch) (same_node (owners x.epoch) shard) (is_signer_among (owners x.epoch) new kind x.epoch) here
-        (node_apart (owners x.epoch) (is_signer_among (owners x.epoch) own kind x.epoch) shard (λ s u h. signers-node (owners x.epoch) own kind x.epoch s u h) claim.first_time)
-        ∙ ap (λ (n : ℕ). count_among f owners own kind x.epoch + n) (sym sized)
+    counts_here = rw sized (count_below-joined (committee_size f) (is_signer_among (owners x.epoch) own kind x.epoch) (same_node (owners x.epoch) shard) (is_signer_among (owners x.epoch) new kind x.epoch) here
+        (node_apart (owners x.epoch) (is_signer_among (owners x.epoch) own kind x.epoch) shard (λ s u h. signers-node (owners x.epoch) own kind x.epoch s u h) claim.first_time))
 
     turned : (a b c : Bool) → b ≡ c → (a || b) ≡ (c || a)
     turned a b c h = grind (arith, nat_tests)

@@ -1,14 +1,11 @@
-use Rattle.std.proofs.Common.{◌≡◌, ◌<◌, ◌≤◌, ℕ, false, cond, List, length, sym, ap, subst, ◌∙◌, arith}
-use Rattle.wal_shape.specs.declared.metadata.BlobId.{BlobId}
+use Rattle.std.proofs.Common.{◌≡◌, ◌<◌, ℕ, false, List, length, sym, ap, subst, ◌∙◌, arith}
 use Rattle.wal_shape.specs.declared.axis.Side.TheVariants.{Next}
 use Rattle.wal_ledger.specs.declared.entry.Entry.{Entry}
-use Rattle.wal_ledger.specs.declared.rows.Row.{Row}
 use Rattle.wal_ledger.specs.declared.tally.Tally.{Tally}
 use Rattle.wal_ledger.specs.Shards.{committee_size}
-use Rattle.wal_ledger.specs.inside.Tally.{link_in, node_size, tally_after}
+use Rattle.wal_ledger.specs.inside.Tally.{node_size, tally_after}
 use Rattle.wal_ledger.specs.inside.Rows.{row_in, tally_of, with_tally}
 use Rattle.wal_ledger.specs.Ledger.{Log, LedgerState, writing, same_node, owners_at, owners_of, signers, own_entries}
-use Rattle.wal_shape.specs.Identifiers.{id_eq}
 use Rattle.wal_ledger.specs.inside.Kept.{log_of}
 use Rattle.wal_ledger.proofs.TallyLaws.{tally_most, count_below-most}
 use Rattle.wal_ledger.proofs.RowsEnter.{kept_claim}
@@ -19,16 +16,13 @@ after-requires-clause-few c =
     let i = c.self.inside in
     let log : Log = log_of i.f i.first i.owners i.book in
     let id = c.args.id.now in
-    let tally : c.tally-tally.result ≡ tally_of c.args.kind (row_in i.table id) = c.tally-tally.ensures ∙ ap (tally_of c.args.kind) c.find-row.ensures in
-    subst (λ (t : Tally). t.count ≤ committee_size i.f) (sym tally)
+    rw (c.tally-tally.ensures, c.find-row.ensures)
     (tally_most i.f (owners_at log) (own_entries log id) c.args.kind log.entries i.book.links (tally_of c.args.kind (row_in i.table id)) ((c.self.invariant.rows id).tallies c.args.kind))
 
 pub after-requires-clause-part : goal.after-requires-clause-part
 after-requires-clause-part c =
-    let i = c.self.inside in
-    let log : Log = log_of i.f i.first i.owners i.book in
-    let sized : c.node_size-size.result ≡ node_size i.f (owners_of Next log) c.args.shard = c.node_size-size.ensures ∙ sym (ap (λ (l : LedgerState). node_size l.log.f (owners_of Next l.log) c.args.shard) c.self.view_is) in
-    omega (arith, sized, count_below-most (committee_size i.f) (same_node (owners_of Next log) c.args.shard))
+    let log = c.args.self.now.log in
+    omega (arith, c.node_size-size.ensures, ap (λ (l : LedgerState). committee_size l.log.f) c.self.view_is, count_below-most (committee_size log.f) (same_node (owners_of Next log) c.args.shard))
 
 pub after-requires-clause-place : goal.after-requires-clause-place
 after-requires-clause-place c =
@@ -49,13 +43,11 @@ invariant_of-self c =
     let epoch : c.writing_epoch-epoch.result ≡ writing old = c.writing_epoch-epoch.ensures.value ∙ sym (ap writing view) in
     let row : c.with.result ≡ with_tally kind (tally_after i.f (writing old) place size t) (row_in i.table id) =
     cc (c.with.ensures, c.after.ensures.value, epoch, tally, c.find-row.ensures) in
-    let rows : (q : BlobId) → row_in c.set.new.self q ≡ cond (id_eq id q) (with_tally kind (tally_after i.f (writing old) place size t) (row_in i.table id)) (row_in i.table q) =
-    λ q. c.set.ensures.rows q ∙ ap (λ (r : Row). cond (id_eq id q) r (row_in i.table q)) row in
     rw (c.push.ensures, c.link_in.ensures, c.body.ensures, epoch, tally)
     (kept_claim i.f i.first i.owners i.epoch i.moving i.reads_at i.writes_at i.book i.table i.ready i.total c.self.invariant (subst (λ (l : LedgerState). 0 < l.spare) (sym c.self.view_is) c.requires.room)
     place size c.args.shard kind id c.set.new.self (subst (λ (l : Log). c.args.shard < committee_size l.f) (sym view) c.requires.shard)
     (subst (λ (l : Log). signers l id kind (writing l) c.args.shard ≡ false) (sym view) c.requires.first_time)
-    (ap (λ (l : List Entry). length l) c.entries.ensures.value) sized c.set.ensures.ids c.set.ensures.spare c.set.ensures.live rows)
+    (ap (λ (l : List Entry). length l) c.entries.ensures.value) sized c.set.ensures.ids c.set.ensures.spare c.set.ensures.live (λ q. rw (← row) (c.set.ensures.rows q)))
 
 pub returns-clause-lawful : goal.returns-clause-lawful
 returns-clause-lawful c = (invariant_of-self c).lawful

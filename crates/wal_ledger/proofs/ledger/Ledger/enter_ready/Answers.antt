@@ -16,8 +16,8 @@ pub overflow_add-self : goal.overflow_add-self
 overflow_add-self c =
     let i = c.self.inside in
     let old : Log = log_of i.f i.first i.owners i.book in
-    let sized : c.node_size-size.result ≡ node_size i.f (owners_of Next old) c.args.shard = c.node_size-size.ensures ∙ sym (ap (λ (l : LedgerState). node_size l.log.f (owners_of Next l.log) c.args.shard) c.self.view_is) in
-    omega (arith, c.self.invariant.lawful.few_faults, c.self.invariant.counted, count_below-most (committee_size i.f) (ready_shards old), sized, count_below-most (committee_size i.f) (same_node (owners_of Next old) c.args.shard))
+    let log = c.args.self.now.log in
+    omega (arith, c.self.invariant.lawful.few_faults, c.self.invariant.counted, count_below-most (committee_size i.f) (ready_shards old), c.node_size-size.ensures, ap (λ (l : LedgerState). committee_size l.log.f) c.self.view_is, count_below-most (committee_size log.f) (same_node (owners_of Next log) c.args.shard))
 
 pub invariant_of-self : goal.invariant_of-self
 invariant_of-self c =

@@ -1,9 +1,6 @@
-use Rattle.std.proofs.Common.{◌≡◌, ◌<◌, cond, sym, ap, subst, ◌∙◌}
-use Rattle.wal_shape.specs.declared.metadata.BlobId.{BlobId}
-use Rattle.wal_ledger.specs.declared.rows.Row.{Row}
+use Rattle.std.proofs.Common.{◌≡◌, ◌<◌, sym, ap, subst, ◌∙◌}
 use Rattle.wal_ledger.specs.inside.Rows.{row_in, row_registered}
 use Rattle.wal_ledger.specs.Ledger.{Log, LedgerState, writing}
-use Rattle.wal_shape.specs.Identifiers.{id_eq}
 use Rattle.wal_ledger.specs.inside.Kept.{log_of}
 use Rattle.wal_ledger.proofs.RowsEnter.{kept_registered}
 use Rattle.wal_ledger.proofs.ledger.Ledger.enter_registration.Goals as goal
@@ -14,12 +11,10 @@ invariant_of-self c =
     let view : log_of i.f i.first i.owners i.book ≡ c.args.self.now.log = ap (λ (l : LedgerState). l.log) c.self.view_is in
     let id = c.args.id.now in
     let row : c.registered-row.result ≡ row_registered i.epoch c.args.until (row_in i.table id) = c.registered-row.ensures ∙ ap (row_registered i.epoch c.args.until) c.find.ensures in
-    let rows : (q : BlobId) → row_in c.put.new.self q ≡ cond (id_eq id q) (row_registered i.epoch c.args.until (row_in i.table id)) (row_in i.table q) =
-    λ q. c.put.ensures.rows q ∙ ap (λ (r : Row). cond (id_eq id q) r (row_in i.table q)) row in
     let epoch : c.writing_epoch-epoch.result ≡ writing (log_of i.f i.first i.owners i.book) = c.writing_epoch-epoch.ensures.value ∙ sym (ap writing view) in
     rw (c.push.ensures, epoch)
     (kept_registered i.f i.first i.owners i.epoch i.moving i.reads_at i.writes_at i.book i.table i.ready i.total c.self.invariant (subst (λ (l : LedgerState). 0 < l.spare) (sym c.self.view_is) c.requires.room)
-    c.args.until id c.put.new.self (subst (λ (l : Log). writing l < c.args.until) (sym view) c.requires.beyond) c.put.ensures.ids c.put.ensures.live c.put.ensures.spare rows)
+    c.args.until id c.put.new.self (subst (λ (l : Log). writing l < c.args.until) (sym view) c.requires.beyond) c.put.ensures.ids c.put.ensures.live c.put.ensures.spare (λ q. rw (← row) (c.put.ensures.rows q)))
 
 pub returns-clause-lawful : goal.returns-clause-lawful
 returns-clause-lawful c = (invariant_of-self c).lawful
