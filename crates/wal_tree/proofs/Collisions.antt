@@ -80,16 +80,14 @@ digest-parent_text digest place e s = elim (cases_lt (place % 2) 1) [
 ]
 
 -- different entries have different texts above them
-texts_apart : (place : ℕ) (e f s t : List ℕ) → length e ≡ length f → length s ≡ length t → e ≢ f → parent_text place e s ≢ parent_text place f t
-texts_apart place e f s t long_e long_s differ = elim (cases_lt (place % 2) 1) [
-  | inl low ↦ let even : place % 2 ≡ 0 = omega arith in rw even (λ same. differ (append_front e f s t long_e (ap (drop 1) same)))
-  | inr high ↦ let odd : place % 2 ≡ 1 = omega arith in rw odd (λ same. differ (append_back s t e f long_s (ap (drop 1) same)))
-]
-
 pub texts_apart_above : (place : ℕ) (e f s t above_e above_f : List ℕ) → length e ≡ length f → length s ≡ length t → e ≢ f →
     above_e ≡ parent_text place e s → above_f ≡ parent_text place f t → above_e ≢ above_f
 texts_apart_above place e f s t above_e above_f long_e long_s differ above_e_is above_f_is same =
-    texts_apart place e f s t long_e long_s differ (sym above_e_is ∙ same ∙ above_f_is)
+    let joined : parent_text place e s ≡ parent_text place f t = sym above_e_is ∙ same ∙ above_f_is in
+    elim (cases_lt (place % 2) 1) [
+      | inl low ↦ let even : place % 2 ≡ 0 = omega arith in differ (append_front e f s t long_e (ap (drop 1) (rw even at joined)))
+      | inr high ↦ let odd : place % 2 ≡ 1 = omega arith in differ (append_back s t e f long_s (ap (drop 1) (rw odd at joined)))
+    ]
 
 -- one level higher the paths lead to one root still
 pub one_above : (digest : List ℕ → List ℕ) (place : ℕ) (e f p q s t text_e text_f above_e above_f rest_p rest_q : List ℕ) → 32 ≤ length p → length q ≡ length p →
@@ -120,10 +118,8 @@ pub meet_next : (digest : List ℕ → List ℕ) (place : ℕ) (x y e f p q abov
     MeetAbove digest (place / 2) above_x (pieces (length rest_p / 32) 32 rest_p) above_y (pieces (length rest_q / 32) 32 rest_q) left right →
     MeetAbove digest place x (pieces (length p / 32) 32 p) y (pieces (length q / 32) 32 q) left right
 meet_next digest place x y e f p q above_x above_y rest_p rest_q left right whole long differ one e_is f_is x_above y_above p_rest q_rest above =
-    let x_is : above_x ≡ parent_text place (digest x) (take 32 p) = x_above ∙ ap (λ (a : List ℕ). parent_text place a (take 32 p)) (sym e_is) in
-    let y_is : above_y ≡ parent_text place (digest y) (take 32 q) = y_above ∙ ap (λ (a : List ℕ). parent_text place a (take 32 q)) (sym f_is) in
     let some = way_on digest place e f p q whole long differ one in
-    let there = rw (x_is, p_rest, y_is, q_rest) at above in
+    let there = rw (x_above, ← e_is, p_rest, y_above, ← f_is, q_rest) at above in
     let apart : digest x ≢ digest y = λ same. differ (sym e_is ∙ same ∙ f_is) in
     let count_p : length p / 32 ≡ suc (length (drop 32 p) / 32) = omega (arith, length-drop 32 p) in
     let count_q : length q / 32 ≡ suc (length (drop 32 q) / 32) = omega (arith, length-drop 32 q) in

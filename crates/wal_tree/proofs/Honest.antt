@@ -2,9 +2,8 @@
 use Rattle.std.proofs.Common.{◌≡◌, ℕ, ◌+◌, ◌-◌, ◌*◌, ◌/◌, ◌%◌, ◌<◌, List, length, take, drop, get_or, ap, sym, ◌∙◌, arith, inl, inr}
 use Rattle.std.specs.List.{concat}
 use Rattle.std.proofs.lemmas.Bool.{cases_lt}
-use Rattle.wal_tree.specs.Tree.{empty_entry, leaf, leaves, pair_up, pieces, root_of, root_over}
+use Rattle.wal_tree.specs.Tree.{empty_entry, leaves, pair_up, root_of, root_over}
 use Rattle.wal_tree.specs.Path.{beside, folded, height, IsPathTo, parent, path_of}
-use Rattle.wal_tree.proofs.Roots.{length-pair_up}
 use Rattle.wal_tree.proofs.Paths.{by_levels, root_of-above, root_of-few, get_or-leaves, get_or-pair_up, height-end, height-step, length-leaves, length-pair_up-half, path_of-end, path_of-step}
 use Rattle.wal_tree.proofs.Sizes.{All-leaves, All-path_of, length-concat, pieces-concat}
 
@@ -54,9 +53,5 @@ IsPathTo-path_of digest size_is size place content within =
     record {
       within = within;
       long = length-concat 32 siblings all ∙ ap (λ n. 32 * n) high;
-      leads =
-          ap (λ (n : ℕ). folded digest place (leaf digest (take size (drop (place * size) content))) (pieces n 32 (concat siblings))) (sym high)
-          ∙ ap (folded digest place (leaf digest (take size (drop (place * size) content)))) (pieces-concat 32 siblings all)
-          ∙ ap (λ (e : List ℕ). folded digest place e siblings) (sym (get_or-leaves digest count size place content within))
-          ∙ path_of-leads digest entries place (omega arith);
+      leads = rw (← high, pieces-concat 32 siblings all, ← get_or-leaves digest count size place content within) (path_of-leads digest entries place (omega arith));
     }

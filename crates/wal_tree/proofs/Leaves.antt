@@ -1,5 +1,5 @@
 -- Leaf digests that lie one after the other, each in the place of its piece.
-use Rattle.std.proofs.Common.{◌≡◌, ℕ, zero, suc, ◌+◌, ◌*◌, ◌<◌, List, length, take, drop, get_or, ap, sym, ◌∙◌, arith}
+use Rattle.std.proofs.Common.{◌≡◌, ℕ, zero, suc, ◌+◌, ◌*◌, ◌<◌, List, length, take, drop, get_or, refl, ap, ◌∙◌, arith}
 use Rattle.std.specs.List.{concat}
 use Rattle.std.proofs.lemmas.List.{drop-drop}
 use Rattle.wal_tree.specs.Tree.{empty_entry, leaf, leaves, pieces}
@@ -42,10 +42,7 @@ module _ (digest : List ℕ → List ℕ) (size_is : (text : List ℕ) → lengt
   pub joined_at : (count size k : ℕ) (content : List ℕ) → k < count →
       take 32 (drop (32 * k) (concat (leaves digest count size content))) ≡ leaf digest (take size (drop (size * k) content))
   joined_at count size k content below =
-      let all = All-leaves digest size_is count size content in
+      let all = leaves digest count size content in
       let place : k * size ≡ size * k = omega arith in
-      sym (get_or-pieces count 32 k (concat (leaves digest count size content)) below)
-      ∙ ap (λ n. get_or (pieces n 32 (concat (leaves digest count size content))) k empty_entry) (sym (length-leaves digest count size content))
-      ∙ ap (λ (ps : List (List ℕ)). get_or ps k empty_entry) (pieces-concat 32 (leaves digest count size content) all)
-      ∙ get_or-leaves digest count size k content below
-      ∙ ap (λ n. leaf digest (take size (drop n content))) place
+      let long : k < length all = omega (arith, below, length-leaves digest count size content) in
+      rw (← get_or-pieces (length all) 32 k (concat all) long, pieces-concat 32 all (All-leaves digest size_is count size content), get_or-leaves digest count size k content below, place) refl

@@ -30,8 +30,7 @@ pieces-same (suc count) size xs ys each =
 pub pieces-more : (count size : ℕ) (xs : List ℕ) → pieces (suc count) size xs ≡ pieces count size xs ++ (take size (drop (count * size) xs) ∷ [])
 pieces-more zero size xs = ap (λ (p : List ℕ). p ∷ []) (sym (first size xs))
 pieces-more (suc count) size xs =
-    ap (λ (l : List (List ℕ)). take size xs ∷ l) (pieces-more count size (drop size xs))
-    ∙ ap (λ (p : List ℕ). take size xs ∷ (pieces count size (drop size xs) ++ (p ∷ []))) (sym (shifted size count xs))
+    rw (pieces-more count size (drop size xs), shifted size count xs) refl
 
 pub length-pieces : (count size : ℕ) (xs : List ℕ) → length (pieces count size xs) ≡ count
 length-pieces zero size xs = refl
@@ -75,9 +74,7 @@ paired digest (suc pairs) xs ys each =
     let head : take 32 ys ≡ first = each 0 (omega arith) ∙ ap (λ (l : List ℕ). digest (1 ∷ l)) (take-add 32 32 xs) in
     let tail = paired digest pairs (drop 64 xs) (drop 32 ys)
     (λ k l. sym (shifted 32 k ys) ∙ each (suc k) (omega arith) ∙ ap (λ (l : List ℕ). digest (1 ∷ l)) (shifted 64 k xs)) in
-    (λ i. head i ∷ tail i)
-    ∙ ap (λ (l : List ℕ). first ∷ pair_up digest (pieces (2 * pairs) 32 l)) (sym (drop-drop 32 32 xs))
-    ∙ ap (λ (n : ℕ). pair_up digest (pieces n 32 xs)) (sym two)
+    rw (two, drop-drop 32 32 xs) (λ i. head i ∷ tail i)
 
 -- the empty entry behind an odd number of entries
 pub pair_up-odd : (digest : List ℕ → List ℕ) (half : ℕ) (entries : List (List ℕ)) → length entries ≡ 2 * half + 1

@@ -8,7 +8,6 @@ use Rattle.wal_tree.specs.Path.{beside, height, path_of, path_over}
 use Rattle.wal_tree.proofs.Honest.{length-path_of}
 use Rattle.wal_tree.proofs.Leaves.{get_or-pieces}
 use Rattle.wal_tree.proofs.Paths.{by_levels, root_of-above, root_of-few, height-end, height-step, length-leaves, length-pair_up-half, path_of-end, path_of-step}
-use Rattle.wal_tree.proofs.Roots.{length-pair_up}
 use Rattle.wal_tree.proofs.Sizes.{All-leaves, All-path_of, pieces-concat}
 
 -- a level above the level above is one level higher
@@ -40,16 +39,12 @@ path_of-level digest k place (a ∷ []) within = absurd (omega (arith, ap length
 path_of-level digest zero place (a ∷ (b ∷ more)) within =
     let here = a ∷ (b ∷ more) in
     let same : place ≡ place / 2 ^ 0 = omega arith in
-    ap (λ (p : List (List ℕ)). get_or p 0 empty_entry) (path_of-step digest here place (omega arith))
-    ∙ ap (λ n. get_or here (beside n) empty_entry) same
+    rw (path_of-step digest here place (omega arith)) (ap (λ n. get_or here (beside n) empty_entry) same)
 path_of-level digest (suc k) place (a ∷ (b ∷ more)) within =
     let here = a ∷ (b ∷ more) in
     let up = pair_up digest here in
     let step = path_of-step digest here place (omega arith) in
-    ap (λ (p : List (List ℕ)). get_or p (suc k) empty_entry) step
-    ∙ path_of-level digest k (place / 2) up (omega (arith, ap length step))
-    ∙ ap (λ (l : List (List ℕ)). get_or l (beside (place / 2 / 2 ^ k)) empty_entry) (level_above-pair_up digest k here)
-    ∙ ap (λ n. get_or (level_above digest (suc k) here) (beside n) empty_entry) (halves k place)
+    rw (step, ← halves k place, ← level_above-pair_up digest k here) (path_of-level digest k (place / 2) up (omega (arith, ap length step)))
 
 -- and it fills the bytes of the path from 32 k on
 pub path_over-level : (digest : List ℕ → List ℕ) (size_is : (text : List ℕ) → length (digest text) ≡ 32) (size place k : ℕ) (content : List ℕ) → k < height (length content / size) →

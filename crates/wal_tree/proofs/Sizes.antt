@@ -83,5 +83,4 @@ pub root_over-concat : (digest : List ℕ → List ℕ) (size : ℕ) (xs : List 
     root_over digest size (concat xs) ≡ root_of digest (map (leaf digest) xs)
 root_over-concat digest size xs positive all =
     let count : length (concat xs) / size ≡ length xs = ap (λ n. n / size) (length-concat size xs all ∙ omega arith) ∙ mul-div_left (length xs) positive in
-    ap (λ n. root_of digest (leaves digest n size (concat xs))) count
-    ∙ ap (λ (ps : List (List ℕ)). root_of digest (map (leaf digest) ps)) (pieces-concat size xs all)
+    rw (count, pieces-concat size xs all) refl
