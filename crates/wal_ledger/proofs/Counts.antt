@@ -1,11 +1,11 @@
 -- Counts of shards below a number.
-use Rattle.std.proofs.Common.{◌≡◌, ◌≢◌, ℕ, zero, suc, ◌+◌, ◌<◌, List, Bool, true, false, cond, ◌&&◌, ◌||◌, nat_eq, All, get_or, ◌⊎◌, inl, inr, refl, ap, arith}
+use Rattle.std.proofs.Common.{◌≡◌, ◌≢◌, ℕ, zero, suc, ◌+◌, ◌<◌, List, Bool, true, false, cond, ◌&&◌, ◌||◌, nat_eq, All, refl, ap, arith}
 use Rattle.std.proofs.lemmas.Bool.{cases_eq, and_left, ne_eqb}
 use Rattle.std.proofs.lemmas.Bool.Decides.{nat_tests}
 use Rattle.std.proofs.lemmas.List.Folds.{list_any_none}
 use Rattle.wal_ledger.specs.declared.entry.Entry.{Entry}
 use Rattle.wal_ledger.specs.declared.entry.Kind.{Kind}
-use Rattle.wal_ledger.specs.Shards.{count_below, committee_size, quorum_size}
+use Rattle.wal_ledger.specs.Shards.{count_below, committee_size}
 use Rattle.wal_ledger.specs.Ledger.{signs_for, is_signer_among}
 use Rattle.wal_ledger.specs.inside.Claims.{count_among}
 use Rattle.wal_ledger.specs.Within.{IsWithin}
@@ -34,10 +34,6 @@ signers_outside owners own kind e s apart =
 pub count_among-outside : (f : ℕ) (owners : ℕ → List ℕ) (own : List Entry) (kind : Kind) (e : ℕ) → All (λ x. x.epoch ≢ e) own → count_among f owners own kind e ≡ 0
 count_among-outside f owners own kind e apart = count_below-none (committee_size f) _ (λ s. signers_outside (owners e) own kind e s apart)
 
--- nor in an epoch before or after all of them
-pub count_among-beyond : (f : ℕ) (owners : ℕ → List ℕ) (own : List Entry) (kind : Kind) (first last e : ℕ) → All (IsWithin first last) own → (e < first) ⊎ (last < e) → count_among f owners own kind e < quorum_size f
-count_among-beyond f owners own kind first last e within far = omega (arith, count_among-outside f owners own kind e (λ k d lt same. apart (get_or own k d) (within k d lt) same far))
-  where
-    apart : (x : Entry) → IsWithin first last x → x.epoch ≡ e → (e < first) ⊎ (last < e) → ⊥
-    apart x w same (inl lt) = omega (arith, w.low)
-    apart x w same (inr lt) = omega (arith, w.high)
+-- nor in an epoch after all of them
+pub count_among-beyond : (f : ℕ) (owners : ℕ → List ℕ) (own : List Entry) (kind : Kind) (first last e : ℕ) → All (IsWithin first last) own → last < e → count_among f owners own kind e ≡ 0
+count_among-beyond f owners own kind first last e within far = count_among-outside f owners own kind e (λ k d lt same. omega (arith, (within k d lt).high))

@@ -1,10 +1,9 @@
 -- The phase of a ledger after one more entry.
-use Rattle.std.proofs.Common.{◌≡◌, ℕ, ◌||◌, List, [], ◌∷◌, ◌++◌, fold, sym, ap, ◌∙◌, refl, append_assoc}
+use Rattle.std.proofs.Common.{arith, ◌≡◌, ℕ, ◌||◌, List, [], ◌∷◌, ◌++◌, fold, sym, refl, append_assoc}
 use Rattle.std.proofs.lemmas.List.{append-nil}
 use Rattle.std.proofs.lemmas.List.Sums.{fold_push}
 use Rattle.std.specs.List.{list_any}
-use Rattle.std.proofs.Math.Bool.{or-false}
-use Rattle.std.proofs.lemmas.List.Folds.{list_any-append}
+use Rattle.std.proofs.lemmas.Grind.{common_steps}
 use Rattle.wal_shape.specs.declared.metadata.BlobId.{BlobId}
 use Rattle.wal_ledger.specs.declared.entry.Entry.{Entry}
 use Rattle.wal_ledger.specs.declared.entry.Body.{Body}
@@ -34,6 +33,4 @@ history_of-push first xs x id = fold_push (history_after id) (record { epoch = f
 
 -- whether a shard's node is ready after one more entry
 pub since_push : (owners : List ℕ) (since : List Entry) (x : Entry) (s : ℕ) → list_any (λ (y : Entry). readies owners s y.body) (since ++ x ∷ []) ≡ (list_any (λ (y : Entry). readies owners s y.body) since || readies owners s x.body)
-since_push owners since x s =
-    list_any-append (λ (y : Entry). readies owners s y.body) since (x ∷ [])
-    ∙ ap (λ b. list_any (λ (y : Entry). readies owners s y.body) since || b) (or-false (readies owners s x.body))
+since_push owners since x s = grind (arith, common_steps)

@@ -1,11 +1,11 @@
 -- What a shard must hold while the epoch changes, told by what is known of an identifier now.
-use Rattle.std.proofs.Common.{◌≡◌, ◌≢◌, ℕ, ◌+◌, ◌<◌, ◌≤◌, max, List, [], ◌∷◌, ◌++◌, Bool, true, false, cond, ◌&&◌, ◌||◌, nat_eq, nat_le, All, fold, ◌⊎◌, ◌↔◌, inl, inr, refl, sym, ap, ◌∙◌, subst, arith, append_assoc}
-use Rattle.std.proofs.Math.Bool.{or-false}
+use Rattle.std.proofs.Common.{◌≡◌, ◌≢◌, ℕ, ◌+◌, ◌<◌, ◌≤◌, max, List, [], ◌∷◌, ◌++◌, Bool, true, false, cond, nat_le, All, fold, ◌⊎◌, ◌↔◌, inl, inr, refl, sym, ap, ◌∙◌, subst, arith, append_assoc}
 use Rattle.std.proofs.lemmas.Bool.{cases_lt, ltb-true, lt-ltb, leb-true, and_parts}
 use Rattle.std.proofs.lemmas.Bool.Decides.{nat_tests}
+use Rattle.std.proofs.lemmas.Grind.{common_steps}
 use Rattle.std.proofs.lemmas.List.{append-nil}
 use Rattle.std.proofs.lemmas.List.Elements.{All-nil, All-cons, All-head, All-tail, All-push}
-use Rattle.std.proofs.lemmas.List.Folds.{list_any-append, fold_along}
+use Rattle.std.proofs.lemmas.List.Folds.{fold_along}
 use Rattle.std.proofs.lemmas.List.Sums.{fold_push, fold-append}
 use Rattle.wal_shape.specs.declared.metadata.BlobId.{BlobId}
 use Rattle.wal_ledger.specs.declared.entry.Entry.{Entry}
@@ -14,7 +14,7 @@ use Rattle.wal_ledger.specs.declared.entry.Body.TheVariants.{Register, Finish}
 use Rattle.wal_ledger.specs.declared.entry.Kind.{Kind}
 use Rattle.wal_ledger.specs.declared.entry.Kind.TheVariants.{Holds}
 use Rattle.wal_ledger.specs.Shards.{count_below, committee_size, quorum_size}
-use Rattle.wal_ledger.specs.Ledger.{Log, Phase, History, phase, phase_in, phase_after, reading, writing, is_moving, cut, owners_at, names, signs_for, is_register, is_finish, until_in, until_among, is_fresh, history_after, history_of, own_entries, until_of, is_signer_among, signer_count, MustHold}
+use Rattle.wal_ledger.specs.Ledger.{Log, Phase, History, phase, phase_in, phase_after, reading, writing, is_moving, cut, owners_at, names, is_register, is_finish, until_in, until_among, is_fresh, history_after, history_of, own_entries, until_of, is_signer_among, signer_count, MustHold}
 use Rattle.wal_ledger.specs.inside.Claims.{count_among}
 use Rattle.wal_ledger.specs.Kept.{IsLawful}
 use Rattle.wal_ledger.specs.Handover.{IsMadeIn, IsDated}
@@ -116,10 +116,7 @@ carried log id lawful dated moving =
 -- entries of another epoch count for nothing in this one
 pub count_among-grown : (f : ℕ) (owners : ℕ → List ℕ) (old more : List Entry) (kind : Kind) (w e : ℕ) → All (λ x. x.epoch ≡ w) more → e ≢ w → count_among f owners (old ++ more) kind e ≡ count_among f owners old kind e
 count_among-grown f owners old more kind w e made ne =
-    count_below-same (committee_size f) _ _ (λ s lt.
-    list_any-append (λ (y : Entry). nat_eq y.epoch e && signs_for (owners e) kind s y.body) old more
-    ∙ ap (λ b. is_signer_among (owners e) old kind e s || b) (signers_outside (owners e) more kind e s (λ k d in' at. ne (sym at ∙ made k d in')))
-    ∙ or-false (is_signer_among (owners e) old kind e s))
+    count_below-same (committee_size f) _ _ (λ s lt. grind (arith, common_steps, signers_outside (owners e) more kind e s (λ k d in' at. ne (sym at ∙ made k d in'))))
 
 -- a quorum of an epoch before the writing one was reached before the last Begin, by a registration that still stands
 abbrev pub HoldsOn : Log → BlobId → Type 0

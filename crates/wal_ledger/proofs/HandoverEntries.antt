@@ -1,8 +1,8 @@
 -- What one more entry does to the phase of a ledger, to an identifier's own entries, and to who signed what.
-use Rattle.std.proofs.Common.{◌≡◌, ℕ, ◌+◌, ◌-◌, ◌<◌, ◌≤◌, List, [], ◌∷◌, ◌++◌, get_or, Bool, true, false, cond, ◌&&◌, nat_eq, nat_lt, nat_le, All, ◌⊎◌, inl, inr, refl, sym, ap, ◌∙◌, subst, arith, length}
+use Rattle.std.proofs.Common.{◌≡◌, ℕ, ◌+◌, ◌-◌, ◌<◌, ◌≤◌, List, [], ◌∷◌, ◌++◌, get_or, Bool, true, false, cond, ◌&&◌, nat_eq, nat_lt, All, ◌⊎◌, inl, inr, refl, sym, ap, ◌∙◌, subst, arith, length}
 use Rattle.std.specs.List.{list_any}
 use Rattle.std.proofs.Math.Bool.{or-false}
-use Rattle.std.proofs.lemmas.Bool.{or_cases, and_parts, and_cases, leb-true, leb-false}
+use Rattle.std.proofs.lemmas.Bool.{or_cases}
 use Rattle.std.proofs.lemmas.Bool.Decides.{nat_tests}
 use Rattle.std.proofs.lemmas.List.Elements.{All-nil, All-cons, All-push}
 use Rattle.wal_shape.specs.declared.metadata.BlobId.{BlobId}
@@ -82,13 +82,8 @@ owned log b id = subst (Owned log b id) (sym pushed) (by (names id b) refl (is_f
 
     by : (named : Bool) → names id b ≡ named → (fresh : Bool) → is_fresh history b ≡ fresh → Owned log b id (cond named (cond fresh (entry_in log b ∷ []) (history.own ++ entry_in log b ∷ [])) history.own)
     by false n fresh f = stays refl n
-    by true n true f =
-        let parts = and_parts (is_register b) (nat_le (until_among history.own) history.epoch) f in
-        anew refl n parts.0 (omega (arith, at, leb-true (until_among history.own) history.epoch parts.1))
-    by true n false f = grows refl n (λ registers. elim (and_cases (is_register b) (nat_le (until_among history.own) history.epoch) f) [
-      | inl plain ↦ let e : true ≡ false = sym registers ∙ plain in cc
-      | inr above ↦ omega (arith, at, leb-false (until_among history.own) history.epoch above)
-    ])
+    by true n true f = anew refl n (grind (arith, nat_tests)) (grind (arith, nat_tests, at))
+    by true n false f = grows refl n (λ registers. grind (arith, nat_tests, at))
 
 -- what is no registration leaves each `until`
 pub until_same : (log : Log) (b : Body) (id : BlobId) (own : List Entry) → is_register b ≡ false → Owned log b id own → until_among own ≡ until_of log id
@@ -121,8 +116,7 @@ pub record SignedBefore (log : Log) (b : Body) (id : BlobId) (kind : Kind) (e s 
 
 signs_new : (log : Log) (b : Body) (id : BlobId) (kind : Kind) (e s : ℕ) (owners : List ℕ) → names id b ≡ true → (nat_eq (writing log) e && signs_for owners kind s b) ≡ true → SignsNow log b id kind e s owners
 signs_new log b id kind e s owners n signs =
-    let parts = and_parts (nat_eq (writing log) e) (signs_for owners kind s b) signs in
-    record { named = n; now = grind (arith, nat_tests, parts.0); signed = parts.1 }
+    record { named = n; now = grind (arith, nat_tests); signed = grind (arith, nat_tests) }
 
 pub signed_cases : (log : Log) (b : Body) (id : BlobId) (kind : Kind) (e s : ℕ) (owners : List ℕ) (own : List Entry) → is_signer_among owners own kind e s ≡ true → Owned log b id own
     → SignedBefore log b id kind e s owners ⊎ SignsNow log b id kind e s owners

@@ -79,8 +79,7 @@ beside_none (i ∷ ids) (r ∷ rows) id none = rw (none 0 i (omega arith)) (besi
 beside_none _ _ id none = refl
 
 swapped : (a b : Bool) (r s x : Row) → (a ≡ true → b ≡ true → ⊥) → cond a r (cond b s x) ≡ cond b s (cond a r x)
-swapped true true r s x apart = absurd (apart refl refl)
-swapped _ _ r s x apart = refl
+swapped a b r s x apart = grind arith
 
 -- two tests for one identifier
 apart : (i id q : BlobId) → id_eq i id ≡ false → id_eq i q ≡ true → id_eq id q ≡ true → ⊥

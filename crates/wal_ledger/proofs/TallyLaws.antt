@@ -2,9 +2,8 @@
 use Rattle.std.proofs.Common.{◌≡◌, ◌≢◌, ℕ, zero, suc, ◌+◌, ◌-◌, ◌<◌, ◌≤◌, List, [], ◌∷◌, ◌++◌, Bool, true, false, cond, ◌&&◌, ◌||◌, nat_eq, nat_le, length, get_or, All, Option, Some, None, slice_get, inl, inr, refl, sym, ap, ◌∙◌, subst, arith}
 use Rattle.std.proofs.lemmas.Bool.Decides.{nat_tests}
 use Rattle.std.proofs.Math.Bool.{or-false}
-use Rattle.std.proofs.lemmas.Bool.{cases_lt, cases_eq, eq-eqb, eqb-true, eqb-false, ne_eqb, leb-true, leb-false, cond_both, and_left, and_right}
+use Rattle.std.proofs.lemmas.Bool.{cases_lt, cases_eq, eq-eqb, eqb-true, eqb-false, ne_eqb, leb-true, leb-false, cond_both, and_right}
 use Rattle.std.proofs.lemmas.Option.{slice_get_within, get_or_from_slice_get, gets}
-use Rattle.std.proofs.lemmas.List.Folds.{list_any-append}
 use Rattle.std.proofs.lemmas.Grind.{common_steps}
 use Rattle.wal_shape.specs.declared.metadata.BlobId.{BlobId}
 use Rattle.wal_shape.specs.Owners.{has_neighbour}
@@ -120,9 +119,7 @@ walk_end owners entries links kind link s (t ∷ shards) end (before, (l, rest))
 
 -- a set of signers after one more own entry
 pub signers_push : (owners : List ℕ) (own : List Entry) (kind : Kind) (x : Entry) (e s : ℕ) → is_signer_among owners (own ++ x ∷ []) kind e s ≡ (is_signer_among owners own kind e s || (nat_eq x.epoch e && signs_for owners kind s x.body))
-signers_push owners own kind x e s =
-    list_any-append (λ (y : Entry). nat_eq y.epoch e && signs_for owners kind s y.body) own (x ∷ [])
-    ∙ ap (λ b. is_signer_among owners own kind e s || b) (or-false (nat_eq x.epoch e && signs_for owners kind s x.body))
+signers_push owners own kind x e s = grind (arith, common_steps)
 
 -- nobody signs by an entry of another epoch
 pub signers_beyond : (owners : List ℕ) (own : List Entry) (kind : Kind) (first last e s : ℕ) → All (IsWithin first last) own → last < e → is_signer_among owners own kind e s ≡ false
@@ -189,10 +186,7 @@ row_none f until owners own entries links none Denies = tally_none f owners own 
 
 -- the last epoch in which some shard signed is within the epochs of the entries
 pub tally_epoch : (f first last : ℕ) (owners : ℕ → List ℕ) (own : List Entry) (kind : Kind) (entries : List Entry) (links : List ℕ) (t : Tally) → IsTally f owners own kind entries links t → All (IsWithin first last) own → t.epoch ≤ last
-tally_epoch f first last owners own kind entries links t i within = elim (cases_lt last t.epoch) [
-  | inl far ↦ omega (arith, i.idle (i.counted ∙ count_below-none (committee_size f) _ (λ s. signers_beyond (owners t.epoch) own kind first last t.epoch s within far)))
-  | inr le ↦ le
-]
+tally_epoch f first last owners own kind entries links t i within = grind (arith, i.idle, i.counted, count_among-beyond f owners own kind first last t.epoch within)
 
 -- a tally is right by all owners that are the same for the epochs of the entries
 pub tally_owned : (f first last : ℕ) (owners owns : ℕ → List ℕ) (own : List Entry) (kind : Kind) (entries : List Entry) (links : List ℕ) (t : Tally) → All (IsWithin first last) own → ((e : ℕ) → e ≤ last → owns e ≡ owners e)
@@ -256,10 +250,7 @@ least_grown f first epoch count owners own new kind (Some q) within same grown i
     })
   where
     le : q.epoch ≤ epoch
-    le = elim (cases_lt epoch q.epoch) [
-      | inl far ↦ absurd (omega (arith, h.counted, h.quorum, count_among-beyond f owners own kind first epoch q.epoch within (inr far)))
-      | inr at_most ↦ at_most
-    ]
+    le = grind (arith, h.counted, h.quorum, count_among-beyond f owners own kind first epoch q.epoch within)
 
 -- the tally after one more entry by which a shard signs, for the first time for its node in its epoch, which is the last so far
 pub tally_signed : (f first place size shard : ℕ) (owners : ℕ → List ℕ) (own : List Entry) (kind : Kind) (entries : List Entry) (links : List ℕ) (t : Tally) (x : Entry)
@@ -285,8 +276,7 @@ tally_signed f first place size shard owners own kind entries links t x i claim 
     new = own ++ x ∷ []
 
     apart : (e s : ℕ) → e ≢ x.epoch → is_signer_among (owners e) new kind e s ≡ is_signer_among (owners e) own kind e s
-    apart e s ne = rw (signers_push (owners e) own kind x e s, and_left (nat_eq x.epoch e) (signs_for (owners e) kind s x.body) (ne_eqb x.epoch e (λ h. ne (sym h))))
-        (or-false (is_signer_among (owners e) own kind e s))
+    apart e s ne = grind (arith, nat_tests, signers_push (owners e) own kind x e s)
 
     here : (s : ℕ) → is_signer_among (owners x.epoch) new kind x.epoch s ≡ (is_signer_among (owners x.epoch) own kind x.epoch s || same_node (owners x.epoch) shard s)
     here s = rw (signers_push (owners x.epoch) own kind x x.epoch s, eq-eqb x.epoch x.epoch refl, signs_one (owners x.epoch) kind shard s x.body claim.signed) refl
