@@ -159,10 +159,7 @@ module _ (log : Log) (id : BlobId) (lawful : IsLawful log) (dated : IsDated log)
         moving = moving;
         live = lt-ltb (reading log) (until_of log id) (omega (arith, next, now.0));
         certified = record {
-          live = elim (cases_lt (reading log) (until_of (cut log) id)) [
-            | inl lt ↦ lt-ltb (reading (cut log)) (until_of (cut log) id) (omega (arith, same_reading))
-            | inr le ↦ absurd (omega (arith, g.stays le, next, now.0))
-          ];
+          live = lt-ltb (reading (cut log)) (until_of (cut log) id) (grind (arith, same_reading, g.stays, next, now.0));
           quorum = (e, quorum);
         };
         outlasts = now.0;

@@ -6,7 +6,7 @@ use Rattle.std.specs.Ordering.{match_ordering}
 use Rattle.std.specs.List.{AllByRecursion}
 use Rattle.std.specs.List.Sorted.{IsStrictlySortedBy}
 use Rattle.std.specs.BTreeSet.{insert_key}
-use Rattle.std.proofs.lemmas.Bool.{lt-ltb, ltb-true, both_ways, false_from_ne_true}
+use Rattle.std.proofs.lemmas.Bool.{lt-ltb, ltb-true}
 use Rattle.std.proofs.lemmas.Bool.Decides.{nat_tests}
 use Rattle.std.proofs.lemmas.List.Elements.{All-filter, All-from_recursion, recursion_from_All, filter_agree}
 use Rattle.wal_shape.specs.declared.metadata.BlobId.{BlobId}
@@ -81,8 +81,7 @@ living_registered e until id table new alive ascends beyond ids live rows =
     ∙ ap (filter (λ q. nat_lt e (row_in new q).until)) (sym ids)
   where
     by : (b : Bool) (q : BlobId) → nat_lt e (cond b (row_registered e until (row_in table id)) (row_in table q)).until ≡ cond b true (nat_lt e (row_in table q).until)
-    by true q = outlasts e until (row_in table id) beyond
-    by false q = refl
+    by b q = grind (arith, outlasts e until (row_in table id) beyond)
 
 -- fewer pass twice than once
 filter_twice : (p q : BlobId → Bool) (ks : List BlobId) → ((x : BlobId) → q x ≡ true → p x ≡ true) → filter q (filter p ks) ≡ filter q ks
@@ -90,8 +89,7 @@ filter_twice p q [] less = refl
 filter_twice p q (x ∷ xs) less = by (p x) refl (filter_twice p q xs less)
   where
     by : (b : Bool) → p x ≡ b → filter q (filter p xs) ≡ filter q xs → filter q (cond b (x ∷ filter p xs) (filter p xs)) ≡ cond (q x) (x ∷ filter q xs) (filter q xs)
-    by true is rest = ap (λ l. cond (q x) (x ∷ l) l) rest
-    by false is rest = rest ∙ sym (ap (λ b. cond b (x ∷ filter q xs) (filter q xs)) (false_from_ne_true (q x) (λ passed. both_ways (p x) is (less x passed))))
+    by b is rest = grind (arith, less x)
 
 -- a later reading epoch leaves those that outlast it
 pub living_retired : (e : ℕ) (table : Rows) → table.live ≡ living e table → filter (λ q. nat_lt (e + 1) (row_in table q).until) table.live ≡ living (e + 1) table

@@ -112,8 +112,7 @@ exact : (x y : BlobId) → eq_by_cmp id_cmp x y ≡ true → x ≡ y
 exact x y h = exact_ids x y (by (id_cmp x y) h)
   where
     by : (r : Ordering) → is_eq r ≡ true → r ≡ Equal
-    by Equal h = refl
-    by _ h = cc
+    by r h = grind arith
 
 in_all : (ids : List BlobId) (ns : List ℕ) (q : BlobId) → All (λ n. n < length ids) ns → Contains (ids_of ids ns) q → Contains ids q
 in_all ids ns q below (k, lt, at) =

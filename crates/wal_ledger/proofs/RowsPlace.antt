@@ -27,16 +27,14 @@ pub id_itself : (a : BlobId) → id_eq a a ≡ true
 id_itself a = id_tied a a Equal (by (id_cmp a a) (ids_total.antisymm a a))
   where
     by : (r : Ordering) → r ≡ ordering_reverse r → r ≡ Equal
-    by Equal h = refl
-    by _ h = cc
+    by r h = grind arith
 
 -- identifiers with the same bytes are one
 pub id_same : (a b : BlobId) → id_eq a b ≡ true → a ≡ b
 id_same a b h = exact_ids a b (by (id_cmp a b) refl)
   where
     by : (r : Ordering) → id_cmp a b ≡ r → r ≡ Equal
-    by Equal e = refl
-    by r e = let f = id_tied a b r e in cc
+    by r e = grind (arith, id_tied a b r e)
 
 -- the place at which an identifier stands, and one between the smaller and the greater ones
 pub place_found : (ids : List BlobId) (id : BlobId) (place : ℕ) → Ascends ids → place < length ids → HoldsAt (λ i. id_cmp i id ≡ Equal) ids place → IsPlace ids id place

@@ -232,10 +232,7 @@ pub least_grown : (f first epoch count : ℕ) (owners : ℕ → List ℕ) (own n
 least_grown f first epoch count owners own new kind None within same grown is h =
     cond_both (nat_le (quorum_size f) count) (Some (record { epoch = epoch; count = count })) None (HasLeast f owners new kind)
     (λ le. record { counted = is; quorum = leb-true (quorum_size f) count le; least = λ e lt. omega (arith, same e (λ here. omega arith), h e) })
-    (λ few e. elim (cases_eq e epoch) [
-      | inl here ↦ subst (λ (v : ℕ). count_among f owners new kind v < quorum_size f) (sym here) (omega (arith, is, leb-false (quorum_size f) count few))
-      | inr ne ↦ omega (arith, same e ne, h e)
-    ])
+    (λ few e. grind (arith, is, leb-false (quorum_size f) count few, same e, h e))
 least_grown f first epoch count owners own new kind (Some q) within same grown is h =
     cond_both (nat_eq q.epoch epoch) (record { epoch = epoch; count = count }) q (λ r. HasLeast f owners new kind (Some r))
     (λ e. record {

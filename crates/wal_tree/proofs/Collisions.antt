@@ -1,9 +1,10 @@
 -- Two leaves or two contents that differ under one root, up to the texts that collide.
-use Rattle.std.proofs.Common.{◌≡◌, ◌≢◌, ℕ, suc, ◌+◌, ◌*◌, ◌/◌, ◌%◌, ◌<◌, ◌≤◌, List, [], ◌∷◌, ◌++◌, length, take, drop, get_or, refl, ap, ap₂, subst, sym, ◌∙◌, arith, inl, inr, append-nil, All, Result, Ok, Err, IfOk}
+use Rattle.std.proofs.Common.{◌≡◌, ◌≢◌, ℕ, suc, ◌+◌, ◌*◌, ◌/◌, ◌%◌, ◌<◌, ◌≤◌, List, [], ◌∷◌, ◌++◌, length, take, drop, get_or, ap, ap₂, subst, sym, ◌∙◌, arith, inl, inr, append-nil, All, Result, Ok, Err, IfOk}
 use Rattle.wal_shape.specs.declared.text.Collision.{Collision}
 use Rattle.std.proofs.Math.Nat.{div-le_of_le-mul, mul-le-mul_right}
 use Rattle.std.proofs.Math.Seq.{take-add, take-append_seam, drop-append_seam}
 use Rattle.std.proofs.lemmas.Bool.{cases_lt}
+use Rattle.std.proofs.lemmas.Bool.Decides.{nat_tests}
 use Rattle.std.proofs.lemmas.List.{length-drop, take_all}
 use Rattle.std.proofs.lemmas.List.Elements.{All-cons, All-from_get_or}
 use Rattle.wal_tree.specs.Collision.{IsCollision}
@@ -74,10 +75,7 @@ fold_next digest place e p some =
 
 -- the digest of a parent's text is the parent
 pub digest-parent_text : (digest : List ℕ → List ℕ) (place : ℕ) (e s : List ℕ) → digest (parent_text place e s) ≡ parent digest place e s
-digest-parent_text digest place e s = elim (cases_lt (place % 2) 1) [
-  | inl low ↦ let even : place % 2 ≡ 0 = omega arith in rw even refl
-  | inr high ↦ let odd : place % 2 ≡ 1 = omega arith in rw odd refl
-]
+digest-parent_text digest place e s = grind (arith, nat_tests)
 
 -- different entries have different texts above them
 pub texts_apart_above : (place : ℕ) (e f s t above_e above_f : List ℕ) → length e ≡ length f → length s ≡ length t → e ≢ f →
