@@ -131,7 +131,9 @@ module _ (log : Log) (id : BlobId) (lawful : IsLawful log) (dated : IsDated log)
 
   old_quorum : (e : ℕ) → quorum_size log.f ≤ signer_count (cut log) id Holds e → e ≤ reading log
   old_quorum e quorum = elim (cases_lt (reading log) e) [
-    | inl far ↦ absurd (omega (arith, quorum, count_among-outside log.f (owners_at (cut log)) (own_entries (cut log) id) Holds e (λ k d lt same. omega (arith, own_all (λ (x : Entry). x.epoch ≤ reading log) log.first id (phase log).before (own_entries (cut log) id) refl dated.earlier k d lt))))
+    | inl far ↦
+        let within = own_all (λ (x : Entry). x.epoch ≤ reading log) log.first id (phase log).before (own_entries (cut log) id) refl dated.earlier in
+        absurd (omega (arith, quorum, count_among-outside log.f (owners_at (cut log)) (own_entries (cut log) id) Holds e (λ k d lt same. omega (arith, within k d lt))))
     | inr le ↦ le
   ]
 

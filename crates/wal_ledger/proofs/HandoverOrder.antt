@@ -44,7 +44,12 @@ enters log b Signs IsReady orderly facts = record {
       let moving : is_moving log ≡ true = sym stays.moving ∙ must.moving in
       let certified : IsCertified (cut log) id = subst (λ (c : Log). IsCertified c id) stays.cut must.certified in
       let live : is_live log id ≡ true = orderly.lives moving id certified.live in
-      record { moving = moving; live = live; certified = certified; outlasts = facts.outlasts moving id live (omega (arith, stays.writing, must.outlasts)) };
+      record {
+        moving = moving;
+        live = live;
+        certified = certified;
+        outlasts = facts.outlasts moving id live (omega (arith, stays.writing, must.outlasts));
+      };
   ready = λ s h. elim (ready_plain log b s facts.plain h) [ inl before ↦ inl before | inr now ↦ inr (facts.ready s now) ];
   orderly = record {
     turns = ap (λ (p : Phase). length p.brought) whole ∙ orderly.turns ∙ ap {B = ℕ} (λ (p : Phase). p.finishes + cond (nat_lt p.finishes (length p.brought)) 1 0) (sym whole);

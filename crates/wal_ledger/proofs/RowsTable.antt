@@ -55,6 +55,17 @@ table_push ids rows order live place id row t gap =
       alive = order_push ids live id t.alive;
     }
 
+-- a table with other numbers of live identifiers
+live_table : (ids : List BlobId) (rows : List Row) (order live new : List ℕ) → IsTable ids rows order live → IsOrder ids new → IsTable ids rows order new
+live_table ids rows order live new t alive = record {
+  beside = t.beside;
+  whole = t.whole;
+  few = few_numbers ids new alive;
+  each = t.each;
+  ordered = t.ordered;
+  alive = alive;
+}
+
 -- one more live identifier: there is room for it, and it stands among those that are live
 pub record Wakes (ids : List BlobId) (rows : List Row) (order live new : List ℕ) (id : BlobId) : Type 0 where
   pub room : length live + 1 ≤ length ids
@@ -75,7 +86,7 @@ wakes ids xs ys rows order live ns new place number id t ys_are ns_are missed xs
     let few = few_numbers ids (insert live place number) alive in
     rw new_are (record {
       room = omega (arith, few, length-insert live place number (omega (arith, gap.within, length-map live (id_of ids))));
-      table = record { beside = t.beside; whole = t.whole; few = few; each = t.each; ordered = t.ordered; alive = alive };
+      table = live_table ids rows order live (insert live place number) t alive;
       lives = lives;
     })
 
@@ -107,8 +118,7 @@ retires ids rows rs order live new test t rs_are new_are =
       below = All-filter passes (λ n. n < length ids) live t.alive.below;
       ascends = subst Ascends (sym same) (IsStrictlySortedBy-filter id_cmp passed (ids_of ids live) t.alive.ascends);
     } in
-    let few = few_numbers ids (filter passes live) alive in
-    rw (new_are, rs_are) (record { beside = t.beside; whole = t.whole; few = few; each = t.each; ordered = t.ordered; alive = alive }, same)
+    rw (new_are, rs_are) (live_table ids rows order live (filter passes live) t alive, same)
 
 -- an empty table
 table_nil : IsTable [] [] [] []

@@ -231,7 +231,11 @@ pub least_grown : (f first epoch count : ℕ) (owners : ℕ → List ℕ) (own n
     → HasLeast f owners own kind q → HasLeast f owners new kind (quorum_after f epoch count q)
 least_grown f first epoch count owners own new kind None within same grown is h =
     cond_both (nat_le (quorum_size f) count) (Some (record { epoch = epoch; count = count })) None (HasLeast f owners new kind)
-    (λ le. record { counted = is; quorum = leb-true (quorum_size f) count le; least = λ e lt. omega (arith, same e (λ here. omega arith), h e) })
+    (λ le. record {
+      counted = is;
+      quorum = leb-true (quorum_size f) count le;
+      least = λ e lt. omega (arith, same e (λ here. omega arith), h e);
+    })
     (λ few e. grind (arith, is, leb-false (quorum_size f) count few, same e, h e))
 least_grown f first epoch count owners own new kind (Some q) within same grown is h =
     cond_both (nat_eq q.epoch epoch) (record { epoch = epoch; count = count }) q (λ r. HasLeast f owners new kind (Some r))
