@@ -1,11 +1,11 @@
 -- Counts of shards below a number.
-use Rattle.std.proofs.Common.{◌≡◌, ◌≢◌, ℕ, zero, suc, ◌+◌, ◌<◌, List, Bool, true, false, cond, ◌&&◌, ◌||◌, nat_eq, All, get_or, ◌⊎◌, inl, inr, refl, ap, subst, arith}
-use Rattle.std.proofs.lemmas.Bool.{cases_eq}
+use Rattle.std.proofs.Common.{◌≡◌, ◌≢◌, ℕ, zero, suc, ◌+◌, ◌<◌, List, Bool, true, false, cond, ◌&&◌, ◌||◌, nat_eq, All, refl, ap, arith}
+use Rattle.std.proofs.lemmas.Bool.{cases_eq, and_left, ne_eqb}
 use Rattle.std.proofs.lemmas.Bool.Decides.{nat_tests}
 use Rattle.std.proofs.lemmas.List.Folds.{list_any_none}
 use Rattle.wal_ledger.specs.declared.entry.Entry.{Entry}
 use Rattle.wal_ledger.specs.declared.entry.Kind.{Kind}
-use Rattle.wal_ledger.specs.Shards.{count_below, committee_size, quorum_size}
+use Rattle.wal_ledger.specs.Shards.{count_below, committee_size}
 use Rattle.wal_ledger.specs.Ledger.{signs_for, is_signer_among}
 use Rattle.wal_ledger.specs.inside.Claims.{count_among}
 use Rattle.wal_ledger.specs.Within.{IsWithin}
@@ -18,32 +18,22 @@ count_below-none (suc n) p none = omega (arith, count_below-none n p none, ap {B
 -- a set that has a member counts for something
 pub count_below-has : (n s : ℕ) (p : ℕ → Bool) → s < n → p s ≡ true → 0 < count_below n p
 count_below-has zero s p lt here = absurd (omega arith)
-count_below-has (suc n) s p lt here = by (λ below. count_below-has n s p below here) (cases_eq s n)
-  where
-    by : (s < n → 0 < count_below n p) → (s ≡ n) ⊎ (s ≢ n) → 0 < count_below (suc n) p
-    by rest (inl e) = omega (arith, ap {B = ℕ} (λ b. cond b 1 0) (subst (λ (v : ℕ). p v ≡ true) e here))
-    by rest (inr ne) = omega (arith, rest (omega arith))
-
-one_joined : (a b c : Bool) → c ≡ (a || b) → (a ≡ true → b ≡ false) → ◌≡◌ {A = ℕ} (cond c 1 0) (cond a 1 0 + cond b 1 0)
-one_joined true b c h apart = omega (arith, ap {B = ℕ} (λ x. cond x 1 0) h, ap {B = ℕ} (λ x. cond x 1 0) (apart refl))
-one_joined false b c h apart = omega (arith, ap {B = ℕ} (λ x. cond x 1 0) h)
+count_below-has (suc n) s p lt here = grind (arith, count_below-has n s p, cases_eq s n)
 
 -- two sets without a common member, joined
 pub count_below-joined : (n : ℕ) (p r q : ℕ → Bool) → ((s : ℕ) → q s ≡ (p s || r s)) → ((s : ℕ) → p s ≡ true → r s ≡ false) → count_below n q ≡ count_below n p + count_below n r
 count_below-joined zero p r q is apart = refl
-count_below-joined (suc n) p r q is apart = omega (arith, count_below-joined n p r q is apart, one_joined (p n) (r n) (q n) (is n) (apart n))
+count_below-joined (suc n) p r q is apart = grind (arith, nat_tests, count_below-joined n p r q is apart, is n, apart n)
 
 -- no shard signed in an epoch in which no entry was made
-pub count_among-outside : (f : ℕ) (owners : ℕ → List ℕ) (own : List Entry) (kind : Kind) (e : ℕ) → All (λ x. x.epoch ≢ e) own → count_among f owners own kind e ≡ 0
-count_among-outside f owners own kind e apart = count_below-none (committee_size f) (is_signer_among (owners e) own kind e) (λ s. list_any_none (λ x. nat_eq x.epoch e && signs_for (owners e) kind s x.body) own (λ k d lt. other (get_or own k d) s (apart k d lt)))
-  where
-    other : (x : Entry) (s : ℕ) → x.epoch ≢ e → (nat_eq x.epoch e && signs_for (owners e) kind s x.body) ≡ false
-    other x s ne = grind (arith, nat_tests)
+pub signers_outside : (owners : List ℕ) (own : List Entry) (kind : Kind) (e s : ℕ) → All (λ x. x.epoch ≢ e) own
+    → is_signer_among owners own kind e s ≡ false
+signers_outside owners own kind e s apart =
+    list_any_none (λ x. nat_eq x.epoch e && signs_for owners kind s x.body) own (λ k d lt. and_left _ _ (ne_eqb _ _ (apart k d lt)))
 
--- nor in an epoch before or after all of them
-pub count_among-beyond : (f : ℕ) (owners : ℕ → List ℕ) (own : List Entry) (kind : Kind) (first last e : ℕ) → All (IsWithin first last) own → (e < first) ⊎ (last < e) → count_among f owners own kind e < quorum_size f
-count_among-beyond f owners own kind first last e within far = omega (arith, count_among-outside f owners own kind e (λ k d lt same. apart (get_or own k d) (within k d lt) same far))
-  where
-    apart : (x : Entry) → IsWithin first last x → x.epoch ≡ e → (e < first) ⊎ (last < e) → ⊥
-    apart x w same (inl lt) = omega (arith, w.low)
-    apart x w same (inr lt) = omega (arith, w.high)
+pub count_among-outside : (f : ℕ) (owners : ℕ → List ℕ) (own : List Entry) (kind : Kind) (e : ℕ) → All (λ x. x.epoch ≢ e) own → count_among f owners own kind e ≡ 0
+count_among-outside f owners own kind e apart = count_below-none (committee_size f) _ (λ s. signers_outside (owners e) own kind e s apart)
+
+-- nor in an epoch after all of them
+pub count_among-beyond : (f : ℕ) (owners : ℕ → List ℕ) (own : List Entry) (kind : Kind) (first last e : ℕ) → All (IsWithin first last) own → last < e → count_among f owners own kind e ≡ 0
+count_among-beyond f owners own kind first last e within far = count_among-outside f owners own kind e (λ k d lt same. omega (arith, (within k d lt).high))

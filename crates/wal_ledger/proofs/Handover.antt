@@ -1,23 +1,24 @@
 -- What a shard must hold while the epoch changes, told by what is known of an identifier now.
-use Rattle.std.proofs.Common.{◌≡◌, ◌≢◌, ℕ, ◌+◌, ◌<◌, ◌≤◌, max, List, [], ◌∷◌, ◌++◌, Bool, true, false, cond, ◌&&◌, ◌||◌, nat_eq, nat_le, All, get_or, fold, ◌⊎◌, ◌↔◌, inl, inr, refl, sym, ap, ◌∙◌, subst, arith, append_assoc}
-use Rattle.std.proofs.Math.Bool.{or-false}
-use Rattle.std.proofs.lemmas.Bool.{cases_lt, ltb-true, lt-ltb, le-leb, leb-true, ne_eqb, and_left, and_parts, and_cases, both_ways}
+use Rattle.std.proofs.Common.{◌≡◌, ◌≢◌, ℕ, ◌+◌, ◌<◌, ◌≤◌, max, List, [], ◌∷◌, ◌++◌, Bool, true, false, cond, nat_le, All, fold, ◌⊎◌, ◌↔◌, inl, inr, refl, sym, ap, ◌∙◌, subst, arith, append_assoc}
+use Rattle.std.proofs.lemmas.Bool.{cases_lt, ltb-true, lt-ltb, leb-true, and_parts}
+use Rattle.std.proofs.lemmas.Bool.Decides.{nat_tests}
+use Rattle.std.proofs.lemmas.Grind.{common_steps}
 use Rattle.std.proofs.lemmas.List.{append-nil}
 use Rattle.std.proofs.lemmas.List.Elements.{All-nil, All-cons, All-head, All-tail, All-push}
-use Rattle.std.proofs.lemmas.List.Folds.{list_any-append, list_any_none}
+use Rattle.std.proofs.lemmas.List.Folds.{fold_along}
 use Rattle.std.proofs.lemmas.List.Sums.{fold_push, fold-append}
 use Rattle.wal_shape.specs.declared.metadata.BlobId.{BlobId}
 use Rattle.wal_ledger.specs.declared.entry.Entry.{Entry}
 use Rattle.wal_ledger.specs.declared.entry.Body.{Body}
-use Rattle.wal_ledger.specs.declared.entry.Body.TheVariants.{Register, Ack, Attest, Ready, Begin, Finish}
+use Rattle.wal_ledger.specs.declared.entry.Body.TheVariants.{Register, Finish}
 use Rattle.wal_ledger.specs.declared.entry.Kind.{Kind}
 use Rattle.wal_ledger.specs.declared.entry.Kind.TheVariants.{Holds}
 use Rattle.wal_ledger.specs.Shards.{count_below, committee_size, quorum_size}
-use Rattle.wal_ledger.specs.Ledger.{Log, Phase, History, phase, phase_in, phase_after, reading, writing, is_moving, cut, owners_at, names, signs_for, is_register, is_finish, until_in, until_among, is_fresh, history_after, history_of, own_entries, until_of, is_signer_among, signer_count, MustHold}
+use Rattle.wal_ledger.specs.Ledger.{Log, Phase, History, phase, phase_in, phase_after, reading, writing, is_moving, cut, owners_at, names, is_register, is_finish, until_in, until_among, is_fresh, history_after, history_of, own_entries, until_of, is_signer_among, signer_count, MustHold}
 use Rattle.wal_ledger.specs.inside.Claims.{count_among}
 use Rattle.wal_ledger.specs.Kept.{IsLawful}
 use Rattle.wal_ledger.specs.Handover.{IsMadeIn, IsDated}
-use Rattle.wal_ledger.proofs.Counts.{count_among-outside}
+use Rattle.wal_ledger.proofs.Counts.{signers_outside, count_among-outside}
 use Rattle.wal_ledger.proofs.TallyLaws.{count_below-same}
 use Rattle.wal_ledger.proofs.Entering.{phase_whole}
 use Rattle.wal_ledger.proofs.Own.{own_all}
@@ -30,11 +31,7 @@ until_push own x = fold_push (λ (most : ℕ) (y : Entry). max most (until_in y.
 -- is the same for what is no registration
 pub until_plain : (b : Body) → is_register b ≡ false → until_in b ≡ 0
 until_plain (Register id until) h = cc
-until_plain (Ack shard id) h = refl
-until_plain (Attest shard id) h = refl
-until_plain (Ready shard) h = refl
-until_plain (Begin owners) h = refl
-until_plain Finish h = refl
+until_plain _ h = refl
 
 -- and never less
 until_from : (most : ℕ) (more : List Entry) → most ≤ fold (λ (n : ℕ) (y : Entry). max n (until_in y.body)) most more
@@ -46,19 +43,13 @@ until_grows own more = subst (λ (n : ℕ). until_among own ≤ n) (sym (fold-ap
 
 -- an identifier's history is in the ledger's reading epoch
 phase_after-finishes : (b : Body) (x : Entry) (p : Phase) → (phase_after b x p).finishes ≡ p.finishes + cond (is_finish b) 1 0
-phase_after-finishes (Register id until) x p = omega arith
-phase_after-finishes (Ack shard id) x p = omega arith
-phase_after-finishes (Attest shard id) x p = omega arith
-phase_after-finishes (Ready shard) x p = omega arith
-phase_after-finishes (Begin owners) x p = omega arith
 phase_after-finishes Finish x p = refl
-
-epoch_from : (first : ℕ) (id : BlobId) (c : History) (p : Phase) (xs : List Entry) → c.epoch ≡ first + p.finishes → (fold (history_after id) c xs).epoch ≡ first + (fold (λ (o : Phase) (y : Entry). phase_after y.body y o) p xs).finishes
-epoch_from first id c p [] h = h
-epoch_from first id c p (x ∷ xs) h = epoch_from first id (history_after id c x) (phase_after x.body x p) xs (omega (arith, h, phase_after-finishes x.body x p))
+phase_after-finishes _ x p = omega arith
 
 pub history_of-epoch : (first : ℕ) (xs : List Entry) (id : BlobId) → (history_of first xs id).epoch ≡ first + (phase_in xs).finishes
-history_of-epoch first xs id = epoch_from first id (record { epoch = first; own = [] }) (record { finishes = 0; brought = []; before = []; since = [] }) xs (omega arith)
+history_of-epoch first xs id =
+    fold_along (history_after id) (λ (p : Phase) (x : Entry). phase_after x.body x p) (λ c p. c.epoch ≡ first + p.finishes)
+    (λ c p x h. omega (arith, h, phase_after-finishes x.body x p)) _ _ xs (omega arith)
 
 -- which never falls
 pub epoch_grows : (id : BlobId) (c : History) (xs : List Entry) → c.epoch ≤ (fold (history_after id) c xs).epoch
@@ -84,12 +75,8 @@ carried_step : (w r : ℕ) (old own : List Entry) (x : Entry) (named fresh : Boo
     → (fresh ≡ true → until_among own ≤ r) → (fresh ≡ false → until_among own ≤ r → until_in x.body ≡ 0)
     → Carried w r old (cond named (cond fresh (x ∷ []) (own ++ x ∷ [])) own)
 carried_step w r old own x false fresh carried made expired plain = carried
-carried_step w r old own x true true (inl g) made expired plain = inr (record {
-  expired = omega (arith, expired refl, until_grows old g.more, ap until_among g.is);
-  made = All-cons (λ (y : Entry). y.epoch ≡ w) x [] (made refl) (All-nil (λ (y : Entry). y.epoch ≡ w));
-})
-carried_step w r old own x true true (inr a) made expired plain = inr (record {
-  expired = a.expired;
+carried_step w r old own x true true carried made expired plain = inr (record {
+  expired = elim carried [ inl g ↦ omega (arith, expired refl, until_grows old g.more, ap until_among g.is) | inr a ↦ a.expired ];
   made = All-cons (λ (y : Entry). y.epoch ≡ w) x [] (made refl) (All-nil (λ (y : Entry). y.epoch ≡ w));
 })
 carried_step w r old own x true false (inl g) made expired plain = inl (record {
@@ -108,16 +95,10 @@ carried_from : (w r : ℕ) (id : BlobId) (old : List Entry) (c : History) (xs : 
 carried_from w r id old c [] carried at last made = carried
 carried_from w r id old c (x ∷ xs) carried at last made =
     carried_from w r id old (history_after id c x) xs
-    (carried_step w r old c.own x (names id x.body) (is_fresh c x.body) carried (All-head (IsMadeIn w) x xs made id) (λ fresh. omega (arith, at, leb-true (until_among c.own) c.epoch (and_parts (is_register x.body) (nat_le (until_among c.own) c.epoch) fresh).1)) (not_fresh))
+    (carried_step w r old c.own x (names id x.body) (is_fresh c x.body) carried (All-head (IsMadeIn w) x xs made id) (λ fresh. omega (arith, at, leb-true (until_among c.own) c.epoch (and_parts (is_register x.body) (nat_le (until_among c.own) c.epoch) fresh).1)) (λ stale le. until_plain x.body (grind (arith, nat_tests))))
     (omega (arith, at, last, epoch_grows id (history_after id c x) xs))
     last
     (All-tail (IsMadeIn w) x xs made)
-  where
-    not_fresh : is_fresh c x.body ≡ false → until_among c.own ≤ r → until_in x.body ≡ 0
-    not_fresh h le = elim (and_cases (is_register x.body) (nat_le (until_among c.own) c.epoch) h) [
-      | inl plain ↦ until_plain x.body plain
-      | inr above ↦ absurd (both_ways (nat_le (until_among c.own) c.epoch) above (le-leb (until_among c.own) c.epoch (omega (arith, at))))
-    ]
 
 -- what an identifier's own entries before the last Begin have become
 pub carried : (log : Log) (id : BlobId) → IsLawful log → IsDated log → is_moving log ≡ true → Carried (writing log) (reading log) (own_entries (cut log) id) (own_entries log id)
@@ -134,16 +115,8 @@ carried log id lawful dated moving =
 
 -- entries of another epoch count for nothing in this one
 pub count_among-grown : (f : ℕ) (owners : ℕ → List ℕ) (old more : List Entry) (kind : Kind) (w e : ℕ) → All (λ x. x.epoch ≡ w) more → e ≢ w → count_among f owners (old ++ more) kind e ≡ count_among f owners old kind e
-count_among-grown f owners old more kind w e made ne = count_below-same (committee_size f) (is_signer_among (owners e) old kind e) (is_signer_among (owners e) (old ++ more) kind e) (λ s lt. same s)
-  where
-    none : (s : ℕ) (x : Entry) → x.epoch ≡ w → (nat_eq x.epoch e && signs_for (owners e) kind s x.body) ≡ false
-    none s x at = and_left (nat_eq x.epoch e) (signs_for (owners e) kind s x.body) (ne_eqb x.epoch e (λ h. ne (sym h ∙ at)))
-
-    same : (s : ℕ) → is_signer_among (owners e) (old ++ more) kind e s ≡ is_signer_among (owners e) old kind e s
-    same s =
-        list_any-append (λ (y : Entry). nat_eq y.epoch e && signs_for (owners e) kind s y.body) old more
-        ∙ ap (λ b. is_signer_among (owners e) old kind e s || b) (list_any_none (λ (y : Entry). nat_eq y.epoch e && signs_for (owners e) kind s y.body) more (λ k d lt. none s (get_or more k d) (made k d lt)))
-        ∙ or-false (is_signer_among (owners e) old kind e s)
+count_among-grown f owners old more kind w e made ne =
+    count_below-same (committee_size f) _ _ (λ s lt. grind (arith, common_steps, signers_outside (owners e) more kind e s (λ k d in' at. ne (sym at ∙ made k d in'))))
 
 -- a quorum of an epoch before the writing one was reached before the last Begin, by a registration that still stands
 abbrev pub HoldsOn : Log → BlobId → Type 0
@@ -158,12 +131,11 @@ module _ (log : Log) (id : BlobId) (lawful : IsLawful log) (dated : IsDated log)
 
   old_quorum : (e : ℕ) → quorum_size log.f ≤ signer_count (cut log) id Holds e → e ≤ reading log
   old_quorum e quorum = elim (cases_lt (reading log) e) [
-    | inl far ↦ absurd (omega (arith, quorum, count_among-outside log.f (owners_at (cut log)) (own_entries (cut log) id) Holds e (λ k d lt same. omega (arith, within k d lt))))
+    | inl far ↦
+        let within = own_all (λ (x : Entry). x.epoch ≤ reading log) log.first id (phase log).before (own_entries (cut log) id) refl dated.earlier in
+        absurd (omega (arith, quorum, count_among-outside log.f (owners_at (cut log)) (own_entries (cut log) id) Holds e (λ k d lt same. omega (arith, within k d lt))))
     | inr le ↦ le
   ]
-    where
-      within : All (λ x. x.epoch ≤ reading log) (own_entries (cut log) id)
-      within = own_all (λ (x : Entry). x.epoch ≤ reading log) log.first id (phase log).before (own_entries (cut log) id) refl dated.earlier
 
   -- by the owners of an epoch up to the reading one the ledger that was cut counts as the whole does
   count_cut : (e : ℕ) → e ≤ reading log → count_among log.f (owners_at log) (own_entries (cut log) id) Holds e ≡ signer_count (cut log) id Holds e
@@ -188,13 +160,12 @@ module _ (log : Log) (id : BlobId) (lawful : IsLawful log) (dated : IsDated log)
       record {
         moving = moving;
         live = lt-ltb (reading log) (until_of log id) (omega (arith, next, now.0));
-        certified = record { live = lt-ltb (reading (cut log)) (until_of (cut log) id) (was_live (cases_lt (reading log) (until_of (cut log) id))); quorum = (e, quorum) };
+        certified = record {
+          live = lt-ltb (reading (cut log)) (until_of (cut log) id) (grind (arith, same_reading, g.stays, next, now.0));
+          quorum = (e, quorum);
+        };
         outlasts = now.0;
       }
-    where
-      was_live : (reading log < until_of (cut log) id) ⊎ (until_of (cut log) id ≤ reading log) → reading (cut log) < until_of (cut log) id
-      was_live (inl lt) = omega (arith, same_reading)
-      was_live (inr le) = absurd (omega (arith, g.stays le, next, now.0))
 
   -- what must be held, told by what is known of an identifier now
   pub must_hold_now : MustHold log id ↔ HoldsOn log id

@@ -1,23 +1,23 @@
 -- What one more entry does to the phase of a ledger, to an identifier's own entries, and to who signed what.
-use Rattle.std.proofs.Common.{◌≡◌, ℕ, ◌+◌, ◌-◌, ◌<◌, ◌≤◌, max, List, [], ◌∷◌, ◌++◌, get_or, Bool, true, false, cond, ◌&&◌, ◌||◌, nat_eq, nat_lt, nat_le, All, fold, ◌⊎◌, inl, inr, refl, sym, ap, ◌∙◌, subst, arith, length}
+use Rattle.std.proofs.Common.{◌≡◌, ℕ, ◌+◌, ◌-◌, ◌<◌, ◌≤◌, List, [], ◌∷◌, ◌++◌, get_or, Bool, true, false, cond, ◌&&◌, nat_eq, nat_lt, All, ◌⊎◌, inl, inr, refl, sym, ap, ◌∙◌, subst, arith, length}
 use Rattle.std.specs.List.{list_any}
 use Rattle.std.proofs.Math.Bool.{or-false}
-use Rattle.std.proofs.lemmas.Bool.{or_cases, and_parts, and_cases, leb-true, leb-false}
+use Rattle.std.proofs.lemmas.Bool.{or_cases}
 use Rattle.std.proofs.lemmas.Bool.Decides.{nat_tests}
 use Rattle.std.proofs.lemmas.List.Elements.{All-nil, All-cons, All-push}
-use Rattle.std.proofs.lemmas.List.Folds.{list_any-append}
-use Rattle.std.proofs.lemmas.List.Sums.{fold_push}
 use Rattle.wal_shape.specs.declared.metadata.BlobId.{BlobId}
 use Rattle.wal_shape.specs.declared.axis.Side.TheVariants.{Next}
 use Rattle.wal_ledger.specs.declared.entry.Entry.{Entry}
 use Rattle.wal_ledger.specs.declared.entry.Body.{Body}
-use Rattle.wal_ledger.specs.declared.entry.Body.TheVariants.{Register, Ack, Attest, Ready, Begin, Finish}
+use Rattle.wal_ledger.specs.declared.entry.Body.TheVariants.{Begin, Finish}
 use Rattle.wal_ledger.specs.declared.entry.Kind.{Kind}
 use Rattle.wal_ledger.specs.declared.entry.Kind.TheVariants.{Holds, Denies}
-use Rattle.wal_ledger.specs.Ledger.{Log, Phase, History, phase, phase_after, reading, writing, is_moving, owners_at, owners_of, cut, names, is_register, until_in, until_among, is_fresh, history_after, history_of, own_entries, until_of, same_node, signs_for, is_signer_among, readies, ready_shards, entered}
+use Rattle.wal_ledger.specs.Ledger.{Log, Phase, History, phase, phase_after, reading, writing, is_moving, owners_at, owners_of, cut, names, is_register, until_among, is_fresh, history_after, history_of, own_entries, until_of, same_node, signs_for, is_signer_among, readies, ready_shards, entered}
 use Rattle.wal_ledger.specs.Answers.{claim_of}
-use Rattle.wal_ledger.proofs.Handover.{history_of-epoch}
-use Rattle.wal_ledger.proofs.Entering.{phase_push}
+use Rattle.wal_ledger.proofs.Handover.{history_of-epoch, until_push, until_plain}
+use Rattle.wal_ledger.proofs.Entering.{phase_push, history_of-push, since_push}
+use Rattle.wal_ledger.proofs.TallyLaws.{signers_push}
+use Rattle.wal_ledger.proofs.Nodes.{writes_in, owners_in}
 
 -- the entry that is made
 abbrev pub entry_in : Log → Body → Entry
@@ -38,13 +38,10 @@ pub record StaysAs (old new : Log) : Type 0 where
   pub owners : (e : ℕ) → owners_at new e ≡ owners_at old e
   pub cut : cut new ≡ cut old
 
-phase_after-plain : (b : Body) (x : Entry) (p : Phase) → is_plain b ≡ true → phase_after b x p ≡ record p { since = p.since ++ x ∷ [] }
-phase_after-plain (Register id until) x p plain = refl
-phase_after-plain (Ack shard id) x p plain = refl
-phase_after-plain (Attest shard id) x p plain = refl
-phase_after-plain (Ready shard) x p plain = refl
+pub phase_after-plain : (b : Body) (x : Entry) (p : Phase) → is_plain b ≡ true → phase_after b x p ≡ record p { since = p.since ++ x ∷ [] }
 phase_after-plain (Begin owners) x p plain = cc
 phase_after-plain Finish x p plain = cc
+phase_after-plain _ x p plain = refl
 
 -- the phase after an entry that leaves the epoch as it is
 pub phase_plain : (log : Log) (b : Body) → is_plain b ≡ true → phase (entered log b) ≡ record (phase log) { since = (phase log).since ++ entry_in log b ∷ [] }
@@ -78,68 +75,33 @@ owned log b id = subst (Owned log b id) (sym pushed) (by (names id b) refl (is_f
     history = history_of log.first log.entries id
 
     pushed : own_entries (entered log b) id ≡ (history_after id history (entry_in log b)).own
-    pushed = ap (λ (c : History). c.own) (fold_push (history_after id) (record { epoch = log.first; own = [] }) log.entries (entry_in log b))
+    pushed = ap (λ (c : History). c.own) (history_of-push log.first log.entries (entry_in log b) id)
 
     at : history.epoch ≡ reading log
     at = history_of-epoch log.first log.entries id
 
     by : (named : Bool) → names id b ≡ named → (fresh : Bool) → is_fresh history b ≡ fresh → Owned log b id (cond named (cond fresh (entry_in log b ∷ []) (history.own ++ entry_in log b ∷ [])) history.own)
     by false n fresh f = stays refl n
-    by true n true f =
-        let parts = and_parts (is_register b) (nat_le (until_among history.own) history.epoch) f in
-        anew refl n parts.0 (omega (arith, at, leb-true (until_among history.own) history.epoch parts.1))
-    by true n false f = grows refl n (λ registers. elim (and_cases (is_register b) (nat_le (until_among history.own) history.epoch) f) [
-      | inl plain ↦ let e : true ≡ false = sym registers ∙ plain in cc
-      | inr above ↦ omega (arith, at, leb-false (until_among history.own) history.epoch above)
-    ])
-
--- the `until` of one more entry
-until_push : (own : List Entry) (x : Entry) → until_among (own ++ x ∷ []) ≡ max (until_among own) (until_in x.body)
-until_push own x = fold_push (λ (most : ℕ) (y : Entry). max most (until_in y.body)) 0 own x
-
-until_plain : (b : Body) → is_register b ≡ false → until_in b ≡ 0
-until_plain (Register id until) h = cc
-until_plain (Ack shard id) h = refl
-until_plain (Attest shard id) h = refl
-until_plain (Ready shard) h = refl
-until_plain (Begin owners) h = refl
-until_plain Finish h = refl
+    by true n true f = anew refl n (grind (arith, nat_tests)) (grind (arith, nat_tests, at))
+    by true n false f = grows refl n (λ registers. grind (arith, nat_tests, at))
 
 -- what is no registration leaves each `until`
-pub until_same : (log : Log) (b : Body) (id : BlobId) → is_register b ≡ false → until_of (entered log b) id ≡ until_of log id
-until_same log b id none = by (own_entries (entered log b) id) (owned log b id)
-  where
-    by : (own : List Entry) → Owned log b id own → until_among own ≡ until_of log id
-    by own (stays is n) = ap until_among is
-    by own (grows is n live) = omega (arith, ap until_among is, until_push (own_entries log id) (entry_in log b), until_plain b none)
-    by own (anew is n registers le) = let e : true ≡ false = sym registers ∙ none in cc
+pub until_same : (log : Log) (b : Body) (id : BlobId) (own : List Entry) → is_register b ≡ false → Owned log b id own → until_among own ≡ until_of log id
+until_same log b id own none (stays is n) = ap until_among is
+until_same log b id own none (grows is n live) = omega (arith, ap until_among is, until_push (own_entries log id) (entry_in log b), until_plain b none)
+until_same log b id own none (anew is n registers le) = cc
 
 -- what was live keeps at least its `until`
-pub until_kept : (log : Log) (b : Body) (id : BlobId) → reading log < until_of log id → until_of log id ≤ until_of (entered log b) id
-until_kept log b id live = by (own_entries (entered log b) id) (owned log b id)
-  where
-    by : (own : List Entry) → Owned log b id own → until_of log id ≤ until_among own
-    by own (stays is n) = omega (arith, ap until_among is)
-    by own (grows is n still) = omega (arith, ap until_among is, until_push (own_entries log id) (entry_in log b))
-    by own (anew is n registers le) = omega (arith, live)
+pub until_kept : (log : Log) (b : Body) (id : BlobId) (own : List Entry) → reading log < until_of log id → Owned log b id own → until_of log id ≤ until_among own
+until_kept log b id own live (stays is n) = omega (arith, ap until_among is)
+until_kept log b id own live (grows is n still) = omega (arith, ap until_among is, until_push (own_entries log id) (entry_in log b))
+until_kept log b id own live (anew is n registers le) = omega (arith, live)
 
 -- a quality of own entries that the new entry has
-pub own_all_entered : (P : Entry → Type 0) (log : Log) (b : Body) (id : BlobId) → All P (own_entries log id) → P (entry_in log b) → All P (own_entries (entered log b) id)
-own_all_entered P log b id all here = by (own_entries (entered log b) id) (owned log b id)
-  where
-    by : (own : List Entry) → Owned log b id own → All P own
-    by own (stays is n) = subst (All P) (sym is) all
-    by own (grows is n still) = subst (All P) (sym is) (All-push P (own_entries log id) (entry_in log b) all here)
-    by own (anew is n registers le) = subst (All P) (sym is) (All-cons P (entry_in log b) [] here (All-nil P))
-
--- whether the new entry signs
-signs_now : Log → Body → BlobId → Kind → ℕ → ℕ → List ℕ → Bool
-signs_now log b id kind e s owners = nat_eq (writing log) e && signs_for owners kind s b
-
-signers_push : (owners : List ℕ) (own : List Entry) (x : Entry) (kind : Kind) (e s : ℕ) → is_signer_among owners (own ++ x ∷ []) kind e s ≡ (is_signer_among owners own kind e s || (nat_eq x.epoch e && signs_for owners kind s x.body))
-signers_push owners own x kind e s =
-    list_any-append (λ (y : Entry). nat_eq y.epoch e && signs_for owners kind s y.body) own (x ∷ [])
-    ∙ ap (λ b. is_signer_among owners own kind e s || b) (or-false (nat_eq x.epoch e && signs_for owners kind s x.body))
+pub own_all_entered : (P : Entry → Type 0) (log : Log) (b : Body) (id : BlobId) (own : List Entry) → All P (own_entries log id) → P (entry_in log b) → Owned log b id own → All P own
+own_all_entered P log b id own all here (stays is n) = subst (All P) (sym is) all
+own_all_entered P log b id own all here (grows is n still) = subst (All P) (sym is) (All-push P (own_entries log id) (entry_in log b) all here)
+own_all_entered P log b id own all here (anew is n registers le) = subst (All P) (sym is) (All-cons P (entry_in log b) [] here (All-nil P))
 
 -- the new entry signs for a shard
 pub record SignsNow (log : Log) (b : Body) (id : BlobId) (kind : Kind) (e s : ℕ) (owners : List ℕ) : Type 0 where
@@ -152,49 +114,34 @@ pub record SignedBefore (log : Log) (b : Body) (id : BlobId) (kind : Kind) (e s 
   pub signed : is_signer_among owners (own_entries log id) kind e s ≡ true
   pub stands : is_register b ≡ true → names id b ≡ true → reading log < until_of log id
 
-pub signed_cases : (log : Log) (b : Body) (id : BlobId) (kind : Kind) (e s : ℕ) (owners : List ℕ) → is_signer_among owners (own_entries (entered log b) id) kind e s ≡ true
+signs_new : (log : Log) (b : Body) (id : BlobId) (kind : Kind) (e s : ℕ) (owners : List ℕ) → names id b ≡ true → (nat_eq (writing log) e && signs_for owners kind s b) ≡ true → SignsNow log b id kind e s owners
+signs_new log b id kind e s owners n signs =
+    record { named = n; now = grind (arith, nat_tests); signed = grind (arith, nat_tests) }
+
+pub signed_cases : (log : Log) (b : Body) (id : BlobId) (kind : Kind) (e s : ℕ) (owners : List ℕ) (own : List Entry) → is_signer_among owners own kind e s ≡ true → Owned log b id own
     → SignedBefore log b id kind e s owners ⊎ SignsNow log b id kind e s owners
-signed_cases log b id kind e s owners h = by (own_entries (entered log b) id) (owned log b id) h
-  where
-    new : names id b ≡ true → (nat_eq (writing log) e && signs_for owners kind s b) ≡ true → SignsNow log b id kind e s owners
-    new n signs = let parts = and_parts (nat_eq (writing log) e) (signs_for owners kind s b) signs in record { named = n; now = grind (arith, nat_tests, parts.0); signed = parts.1 }
-
-    by : (own : List Entry) → Owned log b id own → is_signer_among owners own kind e s ≡ true → SignedBefore log b id kind e s owners ⊎ SignsNow log b id kind e s owners
-    by own (stays is n) signed = inl (record { signed = ap (λ (l : List Entry). is_signer_among owners l kind e s) (sym is) ∙ signed; stands = λ registers named. let f : true ≡ false = sym named ∙ n in cc })
-    by own (grows is n still) signed = elim (or_cases (is_signer_among owners (own_entries log id) kind e s) (nat_eq (writing log) e && signs_for owners kind s b) (sym (signers_push owners (own_entries log id) (entry_in log b) kind e s) ∙ ap (λ (l : List Entry). is_signer_among owners l kind e s) (sym is) ∙ signed)) [
+signed_cases log b id kind e s owners own signed (stays is n) =
+    inl (record { signed = ap (λ (l : List Entry). is_signer_among owners l kind e s) (sym is) ∙ signed; stands = λ registers named. cc })
+signed_cases log b id kind e s owners own signed (grows is n still) =
+    elim (or_cases (is_signer_among owners (own_entries log id) kind e s) (nat_eq (writing log) e && signs_for owners kind s b) (sym (signers_push owners (own_entries log id) kind (entry_in log b) e s) ∙ ap (λ (l : List Entry). is_signer_among owners l kind e s) (sym is) ∙ signed)) [
       | inl before ↦ inl (record { signed = before; stands = λ registers named. still registers })
-      | inr now ↦ inr (new n now)
+      | inr now ↦ inr (signs_new log b id kind e s owners n now)
     ]
-    by own (anew is n registers le) signed = inr (new n (sym (or-false (nat_eq (writing log) e && signs_for owners kind s b)) ∙ ap (λ (l : List Entry). is_signer_among owners l kind e s) (sym is) ∙ signed))
-
--- a registration signs nothing
-pub signs_register : (owners : List ℕ) (kind : Kind) (s : ℕ) (b : Body) → is_register b ≡ true → signs_for owners kind s b ≡ true → ⊥
-signs_register owners Holds s (Register id until) r h = cc
-signs_register owners Denies s (Register id until) r h = cc
-signs_register owners kind s (Ack shard id) r h = cc
-signs_register owners kind s (Attest shard id) r h = cc
-signs_register owners kind s (Ready shard) r h = cc
-signs_register owners kind s (Begin o) r h = cc
-signs_register owners kind s Finish r h = cc
+signed_cases log b id kind e s owners own signed (anew is n registers le) =
+    inr (signs_new log b id kind e s owners n (sym (or-false (nat_eq (writing log) e && signs_for owners kind s b)) ∙ ap (λ (l : List Entry). is_signer_among owners l kind e s) (sym is) ∙ signed))
 
 -- a claim is signed for the shards of its node, in its own way
 pub signs_claim_for : (owners : List ℕ) (kind other : Kind) (s t : ℕ) (id : BlobId) → signs_for owners kind t (claim_of other s id) ≡ true → (kind ≡ other) × (same_node owners s t ≡ true)
 signs_claim_for owners Holds Holds s t id h = (refl, h)
 signs_claim_for owners Denies Denies s t id h = (refl, h)
-signs_claim_for owners Holds Denies s t id h = cc
-signs_claim_for owners Denies Holds s t id h = cc
+signs_claim_for owners _ _ s t id h = cc
 
 -- the sets of shards that are ready
 pub ready_plain : (log : Log) (b : Body) (s : ℕ) → is_plain b ≡ true → ready_shards (entered log b) s ≡ true → (ready_shards log s ≡ true) ⊎ (readies (owners_of Next log) s b ≡ true)
 ready_plain log b s plain h =
-    let stay = plain_stays log b plain in
-    let owners : owners_of Next (entered log b) ≡ owners_of Next log = ap (λ (e : ℕ). owners_at (entered log b) e) stay.writing ∙ stay.owners (writing log) in
-    let since : (phase (entered log b)).since ≡ (phase log).since ++ entry_in log b ∷ [] = ap (λ (p : Phase). p.since) (phase_plain log b plain) in
-    let o = owners_of Next log in
-    let here : list_any (λ (x : Entry). readies o s x.body) ((phase log).since ++ entry_in log b ∷ []) ≡ true =
-    ap (λ (l : List Entry). list_any (λ (x : Entry). readies o s x.body) l) (sym since) ∙ ap (λ (q : List ℕ). list_any (λ (x : Entry). readies q s x.body) (phase (entered log b)).since) (sym owners) ∙ h in
-    or_cases (ready_shards log s) (readies o s b)
-    (ap (λ c. ready_shards log s || c) (sym (or-false (readies o s b))) ∙ sym (list_any-append (λ (x : Entry). readies o s x.body) (phase log).since (entry_in log b ∷ [])) ∙ here)
+    or_cases (ready_shards log s) (readies (owners_of Next log) s b)
+    (sym (ap (λ (p : Phase). list_any (λ (x : Entry). readies (owners_in log.first log.owners p (writes_in log.first p)) s x.body) p.since) (phase_plain log b plain)
+    ∙ since_push (owners_of Next log) (phase log).since (entry_in log b) s) ∙ h)
 
 -- none is ready once the epoch begins to change
 pub ready_begin : (log : Log) (o : List ℕ) (s : ℕ) → ready_shards (entered log (Begin o)) s ≡ false

@@ -1,6 +1,6 @@
 -- What each kind of entry does to a ledger: who is live, who signed what, what must be held and who is ready.
-use Rattle.std.proofs.Common.{◌≡◌, ◌≢◌, ℕ, ◌+◌, ◌<◌, ◌≤◌, List, [], ◌∷◌, ◌++◌, length, true, false, cond, ◌&&◌, nat_lt, ◌⊎◌, inl, inr, refl, sym, ap, ◌∙◌, subst, arith}
-use Rattle.std.proofs.lemmas.Bool.{ltb-true, lt-ltb}
+use Rattle.std.proofs.Common.{◌≡◌, ℕ, ◌+◌, ◌<◌, ◌≤◌, List, [], ◌∷◌, ◌++◌, length, true, false, cond, ◌&&◌, nat_lt, ◌⊎◌, inl, inr, refl, sym, ap, ◌∙◌, subst, arith}
+use Rattle.std.proofs.lemmas.Bool.{ltb-true, lt-ltb, both_ways, false≢true}
 use Rattle.wal_shape.specs.declared.metadata.BlobId.{BlobId}
 use Rattle.wal_shape.specs.declared.axis.Side.TheVariants.{Next}
 use Rattle.wal_ledger.specs.declared.entry.Entry.{Entry}
@@ -12,7 +12,8 @@ use Rattle.wal_ledger.specs.Ledger.{Log, Phase, phase, reading, writing, is_movi
 use Rattle.wal_ledger.specs.Answers.{MayRegister, is_moving_extension, claim_of}
 use Rattle.wal_ledger.specs.Orderly.{IsOrderly}
 use Rattle.wal_ledger.proofs.RowsPlace.{id_same}
-use Rattle.wal_ledger.proofs.HandoverEntries.{entry_in, is_plain, StaysAs, plain_stays, phase_plain, Owned, owned, until_same, until_kept, own_all_entered, SignedBefore, SignsNow, signed_cases, signs_register, signs_claim_for, ready_plain}
+use Rattle.wal_ledger.proofs.TallyLaws.{signs_register}
+use Rattle.wal_ledger.proofs.HandoverEntries.{entry_in, is_plain, StaysAs, plain_stays, phase_plain, Owned, owned, until_same, until_kept, own_all_entered, SignedBefore, SignsNow, signed_cases, signs_claim_for, ready_plain}
 
 -- a ledger after entries that leave the epoch as it is: what is signed was signed before or is signed by them in the writing epoch;
 -- what must be held had to be before; and who is ready was so before or is so by them
@@ -39,15 +40,36 @@ enters : (log : Log) (b : Body) (Signs : BlobId → Kind → ℕ → Type 0) (Is
 enters log b Signs IsReady orderly facts = record {
   stays = stays;
   signs = facts.signs;
-  musts = musts;
+  musts = λ id must.
+      let moving : is_moving log ≡ true = sym stays.moving ∙ must.moving in
+      let certified : IsCertified (cut log) id = subst (λ (c : Log). IsCertified c id) stays.cut must.certified in
+      let live : is_live log id ≡ true = orderly.lives moving id certified.live in
+      record {
+        moving = moving;
+        live = live;
+        certified = certified;
+        outlasts = facts.outlasts moving id live (omega (arith, stays.writing, must.outlasts));
+      };
   ready = λ s h. elim (ready_plain log b s facts.plain h) [ inl before ↦ inl before | inr now ↦ inr (facts.ready s now) ];
   orderly = record {
     turns = ap (λ (p : Phase). length p.brought) whole ∙ orderly.turns ∙ ap {B = ℕ} (λ (p : Phase). p.finishes + cond (nat_lt p.finishes (length p.brought)) 1 0) (sym whole);
-    epochs = λ id k d lt. omega (arith, stays.writing, own_all_entered (λ (x : Entry). x.epoch ≤ writing log) log b id (orderly.epochs id) (omega arith) k d lt);
-    old = old;
+    epochs = λ id k d lt. omega (arith, stays.writing, own_all_entered (λ (x : Entry). x.epoch ≤ writing log) log b id _ (orderly.epochs id) (omega arith) (owned log b id) k d lt);
+    old = λ moving id kind e s live signed other.
+        let was = facts.signs id kind e s live signed in
+        elim was.1 [
+          | inl before ↦
+              subst (λ (c : Log). (is_live c id ≡ true) × (signers c id kind e s ≡ true)) (sym stays.cut)
+              (orderly.old (sym stays.moving ∙ moving) id kind e s was.0 before (λ same. other (same ∙ sym stays.writing)))
+          | inr now ↦ absurd (other (now.0 ∙ sym stays.writing))
+        ];
     lives = λ moving id was. facts.lives id (orderly.lives (sym stays.moving ∙ moving) id (subst (λ (c : Log). is_live c id ≡ true) stays.cut was));
   };
-  musts_stay = musts_stay;
+  musts_stay = λ id must. record {
+    moving = stays.moving ∙ must.moving;
+    live = facts.lives id must.live;
+    certified = subst (λ (c : Log). IsCertified c id) (sym stays.cut) must.certified;
+    outlasts = omega (arith, stays.writing, must.outlasts, until_kept log b id _ (ltb-true (reading log) (until_of log id) must.live) (owned log b id));
+  };
 }
   where
     new : Log
@@ -59,52 +81,21 @@ enters log b Signs IsReady orderly facts = record {
     whole : phase new ≡ record (phase log) { since = (phase log).since ++ entry_in log b ∷ [] }
     whole = phase_plain log b facts.plain
 
-    musts : (id : BlobId) → MustHold new id → MustHold log id
-    musts id must =
-        let moving : is_moving log ≡ true = sym stays.moving ∙ must.moving in
-        let certified : IsCertified (cut log) id = subst (λ (c : Log). IsCertified c id) stays.cut must.certified in
-        let live : is_live log id ≡ true = orderly.lives moving id certified.live in
-        record {
-          moving = moving;
-          live = live;
-          certified = certified;
-          outlasts = facts.outlasts moving id live (omega (arith, stays.writing, must.outlasts));
-        }
-
-    musts_stay : (id : BlobId) → MustHold log id → MustHold new id
-    musts_stay id must =
-        let kept : until_of log id ≤ until_of new id = until_kept log b id (ltb-true (reading log) (until_of log id) must.live) in
-        record {
-          moving = stays.moving ∙ must.moving;
-          live = facts.lives id must.live;
-          certified = subst (λ (c : Log). IsCertified c id) (sym stays.cut) must.certified;
-          outlasts = omega (arith, stays.writing, must.outlasts, kept);
-        }
-
-    old : is_moving new ≡ true → (id : BlobId) (kind : Kind) (e s : ℕ) → is_live new id ≡ true → signers new id kind e s ≡ true → e ≢ writing new → (is_live (cut new) id ≡ true) × (signers (cut new) id kind e s ≡ true)
-    old moving id kind e s live signed other = by (facts.signs id kind e s live signed)
-      where
-        by : (is_live log id ≡ true) × ((signers log id kind e s ≡ true) ⊎ ((e ≡ writing log) × Signs id kind s)) → (is_live (cut new) id ≡ true) × (signers (cut new) id kind e s ≡ true)
-        by (was, inl before) =
-            subst (λ (c : Log). (is_live c id ≡ true) × (signers c id kind e s ≡ true)) (sym stays.cut)
-            (orderly.old (sym stays.moving ∙ moving) id kind e s was before (λ same. other (same ∙ sym stays.writing)))
-        by (was, inr (now, signs)) = absurd (other (now ∙ sym stays.writing))
-
 -- entries that are no registration leave who is live
 pub live_same : (log : Log) (b : Body) (id : BlobId) → is_plain b ≡ true → is_register b ≡ false → is_live (entered log b) id ≡ is_live log id
-live_same log b id plain none = ap (λ (n : ℕ). nat_lt n (until_of (entered log b) id)) (plain_stays log b plain).reading ∙ ap (λ (n : ℕ). nat_lt (reading log) n) (until_same log b id none)
+live_same log b id plain none = ap (λ (n : ℕ). nat_lt n (until_of (entered log b) id)) (plain_stays log b plain).reading ∙ ap (λ (n : ℕ). nat_lt (reading log) n) (until_same log b id _ none (owned log b id))
 
 -- what was signed, after an entry that leaves the epoch as it is
 signed_plain : (log : Log) (b : Body) (id : BlobId) (kind : Kind) (e s : ℕ) → is_plain b ≡ true → signers (entered log b) id kind e s ≡ true
     → SignedBefore log b id kind e s (owners_at log e) ⊎ SignsNow log b id kind e s (owners_at log e)
 signed_plain log b id kind e s plain h =
-    signed_cases log b id kind e s (owners_at log e) (subst (λ (o : List ℕ). is_signer_among o (own_entries (entered log b) id) kind e s ≡ true) ((plain_stays log b plain).owners e) h)
+    signed_cases log b id kind e s (owners_at log e) _ (subst (λ (o : List ℕ). is_signer_among o (own_entries (entered log b) id) kind e s ≡ true) ((plain_stays log b plain).owners e) h) (owned log b id)
 
 -- a registration
 pub register_enters : (log : Log) (id : BlobId) (until : ℕ) → IsOrderly log → MayRegister log id until → Enters log (entered log (Register id until)) (λ i kind s. ⊥) (λ s. ⊥)
 register_enters log id until orderly may = enters log b (λ i kind s. ⊥) (λ s. ⊥) orderly (record {
   plain = refl;
-  lives = λ i live. lt-ltb (reading new) (until_of new i) (omega (arith, ltb-true (reading log) (until_of log i) live, stays.reading, until_kept log b i (ltb-true (reading log) (until_of log i) live)));
+  lives = λ i live. lt-ltb (reading new) (until_of new i) (omega (arith, ltb-true (reading log) (until_of log i) live, stays.reading, until_kept log b i _ (ltb-true (reading log) (until_of log i) live) (owned log b i)));
   signs = signs;
   outlasts = outlasts;
   ready = λ s h. cc;
@@ -119,38 +110,28 @@ register_enters log id until orderly may = enters log b (λ i kind s. ⊥) (λ s
     stays : StaysAs log new
     stays = plain_stays log b refl
 
-    still : (i : BlobId) → is_live new i ≡ true → (names i b ≡ true → reading log < until_of log i) → is_live log i ≡ true
-    still i live named = by (owned log b i)
-      where
-        by : Owned log b i (own_entries new i) → is_live log i ≡ true
-        by own = by_own (own_entries new i) own (omega (arith, ltb-true (reading new) (until_of new i) live, stays.reading))
-          where
-            by_own : (l : List Entry) → Owned log b i l → reading log < until_among l → is_live log i ≡ true
-            by_own l (Owned.stays is n) lt = lt-ltb (reading log) (until_of log i) (subst (λ (k : List Entry). reading log < until_among k) is lt)
-            by_own l (Owned.grows is n stands) lt = lt-ltb (reading log) (until_of log i) (named n)
-            by_own l (Owned.anew is n r le) lt = lt-ltb (reading log) (until_of log i) (named n)
+    still : (m : ℕ) (i : BlobId) (l : List Entry) → m < until_among l → (names i b ≡ true → m < until_of log i) → Owned log b i l → m < until_of log i
+    still m i l lt named (Owned.stays is n) = omega (arith, lt, ap until_among is)
+    still m i l lt named (Owned.grows is n stands) = named n
+    still m i l lt named (Owned.anew is n r le) = named n
 
     signs : (i : BlobId) (kind : Kind) (e s : ℕ) → is_live new i ≡ true → signers new i kind e s ≡ true → (is_live log i ≡ true) × ((signers log i kind e s ≡ true) ⊎ ((e ≡ writing log) × ⊥))
-    signs i kind e s live h = by (signed_plain log b i kind e s refl h)
-      where
-        by : SignedBefore log b i kind e s (owners_at log e) ⊎ SignsNow log b i kind e s (owners_at log e) → (is_live log i ≡ true) × ((signers log i kind e s ≡ true) ⊎ ((e ≡ writing log) × ⊥))
-        by (inl before) = (still i live (λ n. before.stands refl n), inl before.signed)
-        by (inr now) = absurd (signs_register (owners_at log e) kind s b refl now.signed)
+    signs i kind e s live h = elim (signed_plain log b i kind e s refl h) [
+      | inl before ↦
+          let lt = still (reading log) i _ (omega (arith, ltb-true (reading new) (until_of new i) live, stays.reading)) (λ n. before.stands refl n) (owned log b i) in
+          (lt-ltb (reading log) (until_of log i) lt, inl before.signed)
+      | inr now ↦ absurd (both_ways _ (signs_register (owners_at log e) kind s id until) now.signed)
+    ]
 
     -- while the epoch changes, what is live is not registered again
     outlasts : is_moving log ≡ true → (i : BlobId) → is_live log i ≡ true → writing log < until_of new i → writing log < until_of log i
-    outlasts moving i live lt = by (own_entries new i) (owned log b i) lt
+    outlasts moving i live lt = still (writing log) i _ lt not_named (owned log b i)
       where
-        not_named : names i b ≡ true → ⊥
+        not_named : names i b ≡ true → writing log < until_of log i
         not_named n =
             let same : id ≡ i = id_same id i n in
             let e : is_moving_extension log id ≡ true = ap (λ m. m && is_live log id) moving ∙ ap (is_live log) same ∙ live in
             let f : true ≡ false = sym e ∙ may.allowed in cc
-
-        by : (l : List Entry) → Owned log b i l → writing log < until_among l → writing log < until_of log i
-        by l (Owned.stays is n) h = subst (λ (k : List Entry). writing log < until_among k) is h
-        by l (Owned.grows is n stands) h = absurd (not_named n)
-        by l (Owned.anew is n r le) h = absurd (not_named n)
 
 pub claim_plain : (kind : Kind) (s : ℕ) (id : BlobId) → (is_plain (claim_of kind s id) ≡ true) × (is_register (claim_of kind s id) ≡ false)
 claim_plain Holds s id = (refl, refl)
@@ -160,46 +141,36 @@ claim_names : (kind : Kind) (s : ℕ) (id i : BlobId) → names i (claim_of kind
 claim_names Holds s id i h = sym (id_same id i h)
 claim_names Denies s id i h = sym (id_same id i h)
 
-claim_not_ready : (kind : Kind) (s t : ℕ) (id : BlobId) (owners : List ℕ) → readies owners t (claim_of kind s id) ≡ true → ⊥
-claim_not_ready Holds s t id owners h = cc
-claim_not_ready Denies s t id owners h = cc
+pub claim_readies : (kind : Kind) (s : ℕ) (id : BlobId) (owners : List ℕ) (t : ℕ) → readies owners t (claim_of kind s id) ≡ false
+claim_readies Holds s id owners t = refl
+claim_readies Denies s id owners t = refl
 
 -- the shards for which a shard's claim counts
 abbrev pub ClaimsFor : Log → Kind → ℕ → BlobId → BlobId → Kind → ℕ → Type 0
 ClaimsFor log kind s id i k t = (i ≡ id) × (k ≡ kind) × (same_node (owners_at log (writing log)) s t ≡ true)
 
+-- an entry that is plain and no registration
+unregistered_enters : (log : Log) (b : Body) (Signs : BlobId → Kind → ℕ → Type 0) (IsReady : ℕ → Type 0) → IsOrderly log → is_plain b ≡ true → is_register b ≡ false
+    → ((i : BlobId) (k : Kind) (e t : ℕ) → SignsNow log b i k e t (owners_at log e) → Signs i k t)
+    → ((t : ℕ) → readies (owners_of Next log) t b ≡ true → IsReady t) → Enters log (entered log b) Signs IsReady
+unregistered_enters log b Signs IsReady orderly plain none signs ready = enters log b Signs IsReady orderly (record {
+  plain = plain;
+  lives = λ i live. live_same log b i plain none ∙ live;
+  signs = λ i k e t live h.
+      (sym (live_same log b i plain none) ∙ live, elim (signed_plain log b i k e t plain h) [ inl before ↦ inl before.signed | inr now ↦ inr (now.now, signs i k e t now) ]);
+  outlasts = λ moving i live lt. omega (arith, lt, until_same log b i _ none (owned log b i));
+  ready = ready;
+})
+
 -- an acknowledgement or an attestation
 pub claim_enters : (log : Log) (kind : Kind) (s : ℕ) (id : BlobId) → IsOrderly log → Enters log (entered log (claim_of kind s id)) (ClaimsFor log kind s id) (λ t. ⊥)
-claim_enters log kind s id orderly = enters log b (ClaimsFor log kind s id) (λ t. ⊥) orderly (record {
-  plain = (claim_plain kind s id).0;
-  lives = λ i live. live_same log b i (claim_plain kind s id).0 (claim_plain kind s id).1 ∙ live;
-  signs = signs;
-  outlasts = λ moving i live lt. omega (arith, lt, until_same log b i (claim_plain kind s id).1);
-  ready = λ t h. claim_not_ready kind s t id (owners_of Next log) h;
-})
-  where
-    b : Body
-    b = claim_of kind s id
-
-    signs : (i : BlobId) (k : Kind) (e t : ℕ) → is_live (entered log b) i ≡ true → signers (entered log b) i k e t ≡ true → (is_live log i ≡ true) × ((signers log i k e t ≡ true) ⊎ ((e ≡ writing log) × ClaimsFor log kind s id i k t))
-    signs i k e t live h = (sym (live_same log b i (claim_plain kind s id).0 (claim_plain kind s id).1) ∙ live, by (signed_plain log b i k e t (claim_plain kind s id).0 h))
-      where
-        by : SignedBefore log b i k e t (owners_at log e) ⊎ SignsNow log b i k e t (owners_at log e) → (signers log i k e t ≡ true) ⊎ ((e ≡ writing log) × ClaimsFor log kind s id i k t)
-        by (inl before) = inl before.signed
-        by (inr now) =
-            let claimed = signs_claim_for (owners_at log e) k kind s t id now.signed in
-            inr (now.now, (claim_names kind s id i now.named, claimed.0, subst (λ (n : ℕ). same_node (owners_at log n) s t ≡ true) now.now claimed.1))
+claim_enters log kind s id orderly =
+    unregistered_enters log (claim_of kind s id) (ClaimsFor log kind s id) (λ t. ⊥) orderly (claim_plain kind s id).0 (claim_plain kind s id).1
+    (λ i k e t now. let claimed = signs_claim_for (owners_at log e) k kind s t id now.signed in
+    (claim_names kind s id i now.named, claimed.0, subst (λ (n : ℕ). same_node (owners_at log n) s t ≡ true) now.now claimed.1))
+    (λ t h. both_ways _ (claim_readies kind s id (owners_of Next log) t) h)
 
 -- the readiness of a shard
 pub ready_enters : (log : Log) (s : ℕ) → IsOrderly log → Enters log (entered log (Ready s)) (λ i kind t. ⊥) (λ t. same_node (owners_of Next log) s t ≡ true)
-ready_enters log s orderly = enters log (Ready s) (λ i kind t. ⊥) (λ t. same_node (owners_of Next log) s t ≡ true) orderly (record {
-  plain = refl;
-  lives = λ i live. live_same log (Ready s) i refl refl ∙ live;
-  signs = λ i kind e t live h. (sym (live_same log (Ready s) i refl refl) ∙ live, by i kind e t (signed_plain log (Ready s) i kind e t refl h));
-  outlasts = λ moving i live lt. omega (arith, lt, until_same log (Ready s) i refl);
-  ready = λ t h. h;
-})
-  where
-    by : (i : BlobId) (kind : Kind) (e t : ℕ) → SignedBefore log (Ready s) i kind e t (owners_at log e) ⊎ SignsNow log (Ready s) i kind e t (owners_at log e) → (signers log i kind e t ≡ true) ⊎ ((e ≡ writing log) × ⊥)
-    by i kind e t (inl before) = inl before.signed
-    by i kind e t (inr now) = let f : false ≡ true = now.named in cc
+ready_enters log s orderly =
+    unregistered_enters log (Ready s) (λ i kind t. ⊥) (λ t. same_node (owners_of Next log) s t ≡ true) orderly refl refl (λ i k e t now. false≢true now.named) (λ t h. h)

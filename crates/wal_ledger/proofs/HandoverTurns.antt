@@ -1,31 +1,21 @@
 -- What the entries do that change the epoch.
-use Rattle.std.proofs.Common.{◌≡◌, ◌≢◌, ℕ, ◌+◌, ◌-◌, ◌<◌, ◌≤◌, List, [], ◌∷◌, ◌++◌, length, get_or, Bool, true, false, cond, ◌&&◌, nat_eq, nat_lt, All, ◌⊎◌, inl, inr, refl, sym, ap, ◌∙◌, subst, arith}
-use Rattle.std.proofs.Math.ListN.{get_or-append}
-use Rattle.std.proofs.Math.Seq.{get_or-append_seam}
+use Rattle.std.proofs.Common.{◌≡◌, ◌≢◌, ℕ, ◌+◌, ◌-◌, ◌<◌, ◌≤◌, List, [], ◌∷◌, ◌++◌, length, true, false, cond, nat_lt, All, ◌⊎◌, inl, inr, refl, sym, ap, ◌∙◌, subst, arith}
 use Rattle.std.proofs.lemmas.List.{length-append}
-use Rattle.std.proofs.lemmas.Bool.{and_left, ltb-true, lt-ltb, ltb-false, le-ltb, cases_eq, ne_eqb}
-use Rattle.std.proofs.lemmas.List.Folds.{list_any_none}
+use Rattle.std.proofs.lemmas.Bool.{both_ways, false≢true, ltb-true, lt-ltb, le-ltb, cases_lt, cases_eq}
 use Rattle.wal_shape.specs.declared.metadata.BlobId.{BlobId}
 use Rattle.wal_ledger.specs.declared.entry.Entry.{Entry}
-use Rattle.wal_ledger.specs.declared.entry.Body.{Body}
 use Rattle.wal_ledger.specs.declared.entry.Body.TheVariants.{Begin, Finish}
 use Rattle.wal_ledger.specs.declared.entry.Kind.{Kind}
 use Rattle.wal_ledger.specs.declared.entry.Kind.TheVariants.{Holds}
 use Rattle.wal_ledger.specs.Shards.{committee_size, quorum_size}
-use Rattle.wal_ledger.specs.Ledger.{Log, Phase, phase, phase_after, reading, writing, is_moving, owners_at, cut, names, own_entries, until_among, until_of, is_live, signs_for, is_signer_among, signers, signer_count, IsCertified, MustHold, ready_shards, entered}
+use Rattle.wal_ledger.specs.Ledger.{Log, Phase, History, phase, phase_after, reading, writing, is_moving, owners_at, cut, own_entries, until_among, until_of, is_live, is_signer_among, signers, signer_count, IsCertified, MustHold, ready_shards, entered}
 use Rattle.wal_ledger.specs.Orderly.{IsOrderly}
-use Rattle.wal_ledger.proofs.Entering.{phase_push, phase_whole}
+use Rattle.wal_ledger.proofs.Entering.{phase_push, phase_whole, history_of-push}
+use Rattle.wal_ledger.proofs.Counts.{signers_outside}
+use Rattle.wal_ledger.proofs.Nodes.{owners_in, brought_before, brought_last}
+use Rattle.wal_ledger.proofs.TallyLaws.{count_below-same}
 use Rattle.wal_ledger.proofs.Quorums.{count_below-mono, count_below-some}
-use Rattle.wal_ledger.proofs.HandoverEntries.{entry_in, Owned, owned, ready_begin}
-
--- an entry that names no identifier leaves the own entries of each
-pub own_unnamed : (log : Log) (b : Body) (id : BlobId) → names id b ≡ false → own_entries (entered log b) id ≡ own_entries log id
-own_unnamed log b id none = by (own_entries (entered log b) id) (owned log b id)
-  where
-    by : (own : List Entry) → Owned log b id own → own ≡ own_entries log id
-    by own (Owned.stays is n) = is
-    by own (Owned.grows is n stands) = let e : true ≡ false = sym n ∙ none in cc
-    by own (Owned.anew is n r le) = let e : true ≡ false = sym n ∙ none in cc
+use Rattle.wal_ledger.proofs.HandoverEntries.{entry_in, ready_begin}
 
 -- what was certified in an earlier epoch was certified before the last Begin
 pub certified_before : (log : Log) (id : BlobId) (e : ℕ) → IsOrderly log → is_moving log ≡ true → is_live log id ≡ true → e ≢ writing log → quorum_size log.f ≤ signer_count log id Holds e → IsCertified (cut log) id
@@ -50,10 +40,6 @@ pub record Begun (old new : Log) (owners : List ℕ) : Type 0 where
   pub none_ready : (s : ℕ) → ready_shards new s ≡ false
   pub orderly : IsOrderly new
 
--- none signed in an epoch that none of the entries is of
-none_signed : (owners : List ℕ) (own : List Entry) (kind : Kind) (e s most : ℕ) → All (λ x. x.epoch ≤ most) own → most < e → is_signer_among owners own kind e s ≡ false
-none_signed owners own kind e s most all far = list_any_none (λ (x : Entry). nat_eq x.epoch e && signs_for owners kind s x.body) own (λ k d lt. and_left (nat_eq (get_or own k d).epoch e) (signs_for owners kind s (get_or own k d).body) (ne_eqb (get_or own k d).epoch e (λ same. omega (arith, all k d lt, same))))
-
 pub begun : (log : Log) (owners : List ℕ) → IsOrderly log → is_moving log ≡ false → Begun log (entered log (Begin owners)) owners
 begun log owners orderly serving = record {
   moving = moves;
@@ -63,7 +49,8 @@ begun log owners orderly serving = record {
   live = lives;
   signs = signs;
   owners_kept = kept;
-  owners_next = brought;
+  owners_next = ap (λ (p : Phase). owners_in log.first log.owners p (writing new)) phase_is
+      ∙ brought_last (log.owners ∷ (phase log).brought) owners (writing new - log.first) (omega (arith, next, balanced));
   none_ready = ready_begin log owners;
   orderly = record {
     turns = omega (arith, ap (λ (p : Phase). length p.brought) phase_is, length-append (phase log).brought (owners ∷ []), ap (λ (p : Phase). p.finishes) phase_is, balanced, ap {B = ℕ} (λ m. cond m 1 0) moves);
@@ -95,44 +82,25 @@ begun log owners orderly serving = record {
     next = omega (arith, same_reading, ap {B = ℕ} (λ m. cond m 1 0) moves)
 
     cut_is : cut new ≡ log
-    cut_is =
-        ap {B = Log} (λ (p : Phase). record { f = log.f; first = log.first; owners = log.owners; entries = p.before }) phase_is
-        ∙ ap {B = Log} (λ (l : List Entry). record { f = log.f; first = log.first; owners = log.owners; entries = l }) (phase_whole log.entries)
+    cut_is = ap (λ (l : List Entry). record log { entries = l }) (ap (λ (p : Phase). p.before) phase_is ∙ phase_whole log.entries)
 
     own : (id : BlobId) → own_entries new id ≡ own_entries log id
-    own id = own_unnamed log (Begin owners) id refl
+    own id = ap (λ (c : History). c.own) (history_of-push log.first log.entries (entry_in log (Begin owners)) id)
 
     lives : (id : BlobId) → is_live new id ≡ is_live log id
     lives id = ap (λ (n : ℕ). nat_lt n (until_of new id)) same_reading ∙ ap (λ (l : List Entry). nat_lt (reading log) (until_among l)) (own id)
 
-    start : List (List ℕ)
-    start = log.owners ∷ (phase log).brought
-
-    whole : (e : ℕ) → owners_at new e ≡ get_or (start ++ owners ∷ []) (e - log.first) []
-    whole e = ap (λ (p : Phase). get_or (log.owners ∷ p.brought) (e - log.first) []) phase_is
-
-    many : length start ≡ (phase log).finishes + 1
-    many = omega (arith, balanced)
-
     kept : (e : ℕ) → e ≤ reading log → owners_at new e ≡ owners_at log e
-    kept e le = whole e ∙ get_or-append start (owners ∷ []) [] (e - log.first) (omega (arith, many))
-
-    brought : owners_at new (writing new) ≡ owners
-    brought =
-        let at : writing new - log.first ≡ length start = omega (arith, next, many) in
-        whole (writing new)
-        ∙ ap (λ (k : ℕ). get_or (start ++ owners ∷ []) k []) at
-        ∙ get_or-append_seam start owners [] []
+    kept e le = ap (λ (p : Phase). owners_in log.first log.owners p e) phase_is
+        ∙ brought_before (log.owners ∷ (phase log).brought) owners (e - log.first) (omega (arith, le, balanced))
 
     signs : (id : BlobId) (kind : Kind) (e s : ℕ) → signers new id kind e s ≡ true → (e ≤ reading log) × (signers log id kind e s ≡ true)
-    signs id kind e s signed = by (nat_lt (reading log) e) refl
-      where
-        here : is_signer_among (owners_at new e) (own_entries log id) kind e s ≡ true
-        here = ap (λ (l : List Entry). is_signer_among (owners_at new e) l kind e s) (sym (own id)) ∙ signed
-
-        by : (b : Bool) → nat_lt (reading log) e ≡ b → (e ≤ reading log) × (signers log id kind e s ≡ true)
-        by true far = let f : true ≡ false = sym here ∙ none_signed (owners_at new e) (own_entries log id) kind e s (writing log) (orderly.epochs id) (omega (arith, serves, ltb-true (reading log) e far)) in cc
-        by false near = let le : e ≤ reading log = ltb-false (reading log) e near in (le, ap (λ (o : List ℕ). is_signer_among o (own_entries log id) kind e s) (sym (kept e le)) ∙ here)
+    signs id kind e s signed =
+        let here = ap (λ (l : List Entry). is_signer_among (owners_at new e) l kind e s) (sym (own id)) ∙ signed in
+        elim (cases_lt (reading log) e) [
+          | inl far ↦ absurd (both_ways _ (signers_outside (owners_at new e) (own_entries log id) kind e s (λ k d lt same. omega (arith, orderly.epochs id k d lt, serves))) here)
+          | inr le ↦ (le, ap (λ (o : List ℕ). is_signer_among o (own_entries log id) kind e s) (sym (kept e le)) ∙ here)
+        ]
 
 -- the next epoch begins
 pub record Finished (old new : Log) : Type 0 where
@@ -156,12 +124,20 @@ finished log orderly moving = record {
   signs = same_signs;
   until = λ id. ap until_among (own id);
   live = lived;
-  certified = certified;
+  certified = λ id c.
+      let e = c.quorum.0 in
+      let live = lived id c.live in
+      let quorum : quorum_size log.f ≤ signer_count log id Holds e =
+      omega (arith, c.quorum.1, count_below-same (committee_size log.f) (signers log id Holds e) (signers new id Holds e) (λ s lt. same_signs id Holds e s)) in
+      elim (cases_eq e (writing log)) [
+        | inl same ↦ inr (subst (λ (n : ℕ). quorum_size log.f ≤ signer_count log id Holds n) same quorum)
+        | inr other ↦ inl (record { moving = moving; live = live.0; certified = certified_before log id e orderly moving live.0 other quorum; outlasts = live.1 })
+      ];
   orderly = record {
     turns = omega (arith, ap (λ (p : Phase). length p.brought) phase_is, ap (λ (p : Phase). p.finishes) phase_is, balanced, ap {B = ℕ} (λ m. cond m 1 0) stops);
     epochs = λ id. subst (All (λ (x : Entry). x.epoch ≤ writing new)) (sym (own id)) (λ k d lt. omega (arith, orderly.epochs id k d lt, next, ap {B = ℕ} (λ m. cond m 1 0) stops));
-    old = λ m id kind e s live signed other. let f : true ≡ false = sym m ∙ stops in cc;
-    lives = λ m id was. let f : true ≡ false = sym m ∙ stops in cc;
+    old = λ m id kind e s live signed other. absurd (both_ways _ stops m);
+    lives = λ m id was. absurd (both_ways _ stops m);
   };
 }
   where
@@ -184,10 +160,10 @@ finished log orderly moving = record {
     next = omega (arith, ahead, ap (λ (p : Phase). log.first + p.finishes) phase_is)
 
     own : (id : BlobId) → own_entries new id ≡ own_entries log id
-    own id = own_unnamed log Finish id refl
+    own id = ap (λ (c : History). c.own) (history_of-push log.first log.entries (entry_in log Finish) id)
 
     kept : (e : ℕ) → owners_at new e ≡ owners_at log e
-    kept e = ap (λ (p : Phase). get_or (log.owners ∷ p.brought) (e - log.first) []) phase_is
+    kept e = ap (λ (p : Phase). owners_in log.first log.owners p e) phase_is
 
     same_signs : (id : BlobId) (kind : Kind) (e s : ℕ) → signers new id kind e s ≡ signers log id kind e s
     same_signs id kind e s = ap (λ (o : List ℕ). is_signer_among o (own_entries new id) kind e s) (kept e) ∙ ap (λ (l : List Entry). is_signer_among (owners_at log e) l kind e s) (own id)
@@ -197,27 +173,11 @@ finished log orderly moving = record {
         let lt : writing log < until_of log id = omega (arith, ltb-true (reading new) (until_of new id) live, next, ap until_among (own id)) in
         (lt-ltb (reading log) (until_of log id) (omega (arith, lt, ahead)), lt)
 
-    certified : (id : BlobId) → IsCertified new id → MustHold log id ⊎ (quorum_size log.f ≤ signer_count log id Holds (writing log))
-    certified id c = by (cases_eq e (writing log))
-      where
-        e : ℕ
-        e = c.quorum.0
-
-        live : (is_live log id ≡ true) × (writing log < until_of log id)
-        live = lived id c.live
-
-        quorum : quorum_size log.f ≤ signer_count log id Holds e
-        quorum = omega (arith, c.quorum.1, count_below-mono (committee_size log.f) (signers new id Holds e) (signers log id Holds e) (λ s lt signed. sym (same_signs id Holds e s) ∙ signed))
-
-        by : (e ≡ writing log) ⊎ (e ≢ writing log) → MustHold log id ⊎ (quorum_size log.f ≤ signer_count log id Holds (writing log))
-        by (inl same) = inr (subst (λ (n : ℕ). quorum_size log.f ≤ signer_count log id Holds n) same quorum)
-        by (inr other) = inl (record { moving = moving; live = live.0; certified = certified_before log id e orderly moving live.0 other quorum; outlasts = live.1 })
-
 -- a ledger without entries
 pub orderly_new : (f first : ℕ) (owners : List ℕ) → IsOrderly (record { f = f; first = first; owners = owners; entries = [] })
 orderly_new f first owners = record {
   turns = refl;
   epochs = λ id k d lt. absurd (omega arith);
-  old = λ m id kind e s live signed other. let f : false ≡ true = m in cc;
-  lives = λ m id was. let f : false ≡ true = m in cc;
+  old = λ m id kind e s live signed other. absurd (false≢true m);
+  lives = λ m id was. absurd (false≢true m);
 }

@@ -1,5 +1,5 @@
 -- The live identifiers of a table after each kind of entry.
-use Rattle.std.proofs.Common.{◌≡◌, ℕ, ◌+◌, ◌<◌, max, Bool, true, false, cond, nat_lt, nat_le, List, [], ◌∷◌, filter, refl, sym, ap, ◌∙◌, subst, arith}
+use Rattle.std.proofs.Common.{◌≡◌, ℕ, ◌+◌, ◌<◌, Bool, true, false, cond, nat_lt, List, [], ◌∷◌, filter, refl, sym, ap, ◌∙◌, subst, arith}
 use Rattle.std.specs.declared.cmp.Ordering.{Ordering}
 use Rattle.std.specs.declared.cmp.Ordering.TheVariants.{Less, Equal, Greater}
 use Rattle.std.specs.Ordering.{match_ordering}
@@ -7,40 +7,28 @@ use Rattle.std.specs.List.{AllByRecursion}
 use Rattle.std.specs.List.Sorted.{IsStrictlySortedBy}
 use Rattle.std.specs.BTreeSet.{insert_key}
 use Rattle.std.proofs.lemmas.Bool.{lt-ltb, ltb-true}
-use Rattle.std.proofs.lemmas.List.Elements.{filter_agree}
+use Rattle.std.proofs.lemmas.Bool.Decides.{nat_tests}
+use Rattle.std.proofs.lemmas.List.Elements.{All-filter, All-from_recursion, recursion_from_All, filter_agree}
 use Rattle.wal_shape.specs.declared.metadata.BlobId.{BlobId}
 use Rattle.wal_ledger.specs.declared.rows.Row.{Row}
 use Rattle.wal_shape.specs.Identifiers.{id_cmp, id_eq}
 use Rattle.wal_ledger.specs.Order.{Ascends}
-use Rattle.wal_ledger.specs.inside.Rows.{Rows, row_in, row_registered, no_row, living}
-use Rattle.wal_ledger.specs.inside.Kept.{IsKept}
-use Rattle.wal_ledger.specs.Ledger.{Log, is_live, live_ids, reading}
-use Rattle.wal_ledger.proofs.Order.{ids_total}
+use Rattle.wal_ledger.specs.inside.Rows.{Rows, row_in, row_registered, living}
+use Rattle.wal_ledger.proofs.Order.{ids_total, insert_key_by, all_above}
 use Rattle.wal_ledger.proofs.RowsPlace.{exact_ids, id_itself, id_tied}
 
 -- what is below all goes first
 insert_first : (k : BlobId) (ks : List BlobId) → AllByRecursion (λ y. id_cmp k y ≡ Less) ks → insert_key id_cmp ks k ≡ k ∷ ks
 insert_first k [] all = refl
-insert_first k (x ∷ xs) all = ap (λ r. match_ordering r (k ∷ x ∷ xs) (x ∷ xs) (x ∷ insert_key id_cmp xs k)) all.0
+insert_first k (x ∷ xs) all = insert_key_by ids_total x k xs Less all.0
 
 all_filter : (P : BlobId → Type 0) (p : BlobId → Bool) (ks : List BlobId) → AllByRecursion P ks → AllByRecursion P (filter p ks)
-all_filter P p [] all = tt
-all_filter P p (x ∷ xs) all = by (p x) (all_filter P p xs all.1)
-  where
-    by : (b : Bool) → AllByRecursion P (filter p xs) → AllByRecursion P (cond b (x ∷ filter p xs) (filter p xs))
-    by true rest = (all.0, rest)
-    by false rest = rest
+all_filter P p ks all = recursion_from_All P (filter p ks) (All-filter p P ks (All-from_recursion P ks all))
 
 -- a test that passes one more passes above it what it passed
 above_same : (p q : BlobId → Bool) (k : BlobId) (ks : List BlobId) → ((x : BlobId) → q x ≡ cond (id_eq k x) true (p x)) → AllByRecursion (λ y. id_cmp k y ≡ Less) ks → filter q ks ≡ filter p ks
 above_same p q k [] more all = refl
-above_same p q k (x ∷ xs) more all =
-    let same : q x ≡ p x = more x ∙ ap (λ b. cond b true (p x)) (id_tied k x Less all.0) in
-    ap (λ b. cond b (x ∷ filter q xs) (filter q xs)) same ∙ ap (λ l. cond (p x) (x ∷ l) l) (above_same p q k xs more all.1)
-
-all_greater : (x k : BlobId) (ks : List BlobId) → id_cmp k x ≡ Less → AllByRecursion (λ y. id_cmp x y ≡ Less) ks → AllByRecursion (λ y. id_cmp k y ≡ Less) ks
-all_greater x k [] h all = tt
-all_greater x k (y ∷ ys) h all = (ids_total.trans k x y h all.0, all_greater x k ys h all.1)
+above_same p q k (x ∷ xs) more all = rw (more x ∙ ap (λ b. cond b true (p x)) (id_tied k x Less all.0), above_same p q k xs more all.1) refl
 
 -- one more that passes, put at its place before or after the others are left out
 pub filter_more : (p q : BlobId → Bool) (ks : List BlobId) (k : BlobId) → Ascends ks → ((x : BlobId) → q x ≡ cond (id_eq k x) true (p x)) → filter q (insert_key id_cmp ks k) ≡ insert_key id_cmp (filter p ks) k
@@ -53,11 +41,11 @@ filter_more p q (x ∷ xs) k s more = by (id_cmp k x) refl (filter_more p q xs k
 
     last : (b : Bool) → id_cmp k x ≡ Greater → p x ≡ b → filter q (insert_key id_cmp xs k) ≡ insert_key id_cmp (filter p xs) k
         → cond b (x ∷ filter q (insert_key id_cmp xs k)) (filter q (insert_key id_cmp xs k)) ≡ insert_key id_cmp (cond b (x ∷ filter p xs) (filter p xs)) k
-    last true h is rest = ap (λ l. x ∷ l) rest ∙ sym (ap (λ r. match_ordering r (k ∷ x ∷ filter p xs) (x ∷ filter p xs) (x ∷ insert_key id_cmp (filter p xs) k)) h)
+    last true h is rest = ap (λ l. x ∷ l) rest ∙ sym (insert_key_by ids_total x k (filter p xs) _ h)
     last false h is rest = rest
 
     here : (b : Bool) → k ≡ x → id_cmp k x ≡ Equal → x ∷ filter p xs ≡ insert_key id_cmp (cond b (x ∷ filter p xs) (filter p xs)) k
-    here true e h = sym (ap (λ r. match_ordering r (k ∷ x ∷ filter p xs) (x ∷ filter p xs) (x ∷ insert_key id_cmp (filter p xs) k)) h)
+    here true e h = sym (insert_key_by ids_total x k (filter p xs) _ h)
     here false e h =
         ap (λ y. y ∷ filter p xs) (sym e)
         ∙ sym (insert_first k (filter p xs) (subst (λ (y : BlobId). AllByRecursion (λ z. id_cmp y z ≡ Less) (filter p xs)) (sym e) (all_filter (λ z. id_cmp x z ≡ Less) p xs s.0)))
@@ -65,19 +53,13 @@ filter_more p q (x ∷ xs) k s more = by (id_cmp k x) refl (filter_more p q xs k
     by : (r : Ordering) → id_cmp k x ≡ r → filter q (insert_key id_cmp xs k) ≡ insert_key id_cmp (filter p xs) k
         → filter q (match_ordering r (k ∷ x ∷ xs) (x ∷ xs) (x ∷ insert_key id_cmp xs k)) ≡ insert_key id_cmp (filter p (x ∷ xs)) k
     by Less h rest =
-        let all : AllByRecursion (λ y. id_cmp k y ≡ Less) (x ∷ xs) = (h, all_greater x k xs h s.0) in
-        ap (λ b. cond b (k ∷ filter q (x ∷ xs)) (filter q (x ∷ xs))) passes
-        ∙ ap (λ l. k ∷ l) (above_same p q k (x ∷ xs) more all)
-        ∙ sym (insert_first k (filter p (x ∷ xs)) (all_filter (λ y. id_cmp k y ≡ Less) p (x ∷ xs) all))
+        let all : AllByRecursion (λ y. id_cmp k y ≡ Less) (x ∷ xs) = (h, all_above ids_total x k xs h s.0) in
+        rw (passes, above_same p q k (x ∷ xs) more all) (sym (insert_first k (filter p (x ∷ xs)) (all_filter (λ y. id_cmp k y ≡ Less) p (x ∷ xs) all)))
     by Equal h rest =
         let e : k ≡ x = exact_ids k x h in
         let above : AllByRecursion (λ y. id_cmp k y ≡ Less) xs = subst (λ (y : BlobId). AllByRecursion (λ z. id_cmp y z ≡ Less) xs) (sym e) s.0 in
-        ap (λ b. cond b (x ∷ filter q xs) (filter q xs)) (ap q (sym e) ∙ passes)
-        ∙ ap (λ l. x ∷ l) (above_same p q k xs more above)
-        ∙ here (p x) e h
-    by Greater h rest =
-        ap (λ b. cond b (x ∷ filter q (insert_key id_cmp xs k)) (filter q (insert_key id_cmp xs k))) (more x ∙ ap (λ b. cond b true (p x)) (id_tied k x Greater h))
-        ∙ last (p x) h refl rest
+        rw (ap q (sym e) ∙ passes, above_same p q k xs more above) (here (p x) e h)
+    by Greater h rest = rw (more x ∙ ap (λ b. cond b true (p x)) (id_tied k x Greater h)) (last (p x) h refl rest)
 
 -- the live ones stay where no `until` changes
 pub living_same : (e : ℕ) (table new : Rows) → table.live ≡ living e table → new.live ≡ table.live → new.ids ≡ table.ids → ((q : BlobId) → (row_in new q).until ≡ (row_in table q).until) → new.live ≡ living e new
@@ -88,11 +70,7 @@ living_same e table new alive live ids untils =
 
 -- one that is registered is live
 outlasts : (e until : ℕ) (row : Row) → e < until → nat_lt e (row_registered e until row).until ≡ true
-outlasts e until row beyond = lt-ltb e (row_registered e until row).until (by (nat_le row.until e))
-  where
-    by : (b : Bool) → e < (cond b (record no_row { until = until }) (record row { until = max row.until until })).until
-    by true = beyond
-    by false = omega (arith, beyond)
+outlasts e until row beyond = grind (arith, nat_tests)
 
 pub living_registered : (e until : ℕ) (id : BlobId) (table new : Rows) → table.live ≡ living e table → Ascends table.ids → e < until → new.ids ≡ insert_key id_cmp table.ids id → new.live ≡ insert_key id_cmp table.live id
     → ((q : BlobId) → row_in new q ≡ cond (id_eq id q) (row_registered e until (row_in table id)) (row_in table q)) → new.live ≡ living e new
@@ -103,8 +81,7 @@ living_registered e until id table new alive ascends beyond ids live rows =
     ∙ ap (filter (λ q. nat_lt e (row_in new q).until)) (sym ids)
   where
     by : (b : Bool) (q : BlobId) → nat_lt e (cond b (row_registered e until (row_in table id)) (row_in table q)).until ≡ cond b true (nat_lt e (row_in table q).until)
-    by true q = outlasts e until (row_in table id) beyond
-    by false q = refl
+    by b q = grind (arith, outlasts e until (row_in table id) beyond)
 
 -- fewer pass twice than once
 filter_twice : (p q : BlobId → Bool) (ks : List BlobId) → ((x : BlobId) → q x ≡ true → p x ≡ true) → filter q (filter p ks) ≡ filter q ks
@@ -112,12 +89,7 @@ filter_twice p q [] less = refl
 filter_twice p q (x ∷ xs) less = by (p x) refl (filter_twice p q xs less)
   where
     by : (b : Bool) → p x ≡ b → filter q (filter p xs) ≡ filter q xs → filter q (cond b (x ∷ filter p xs) (filter p xs)) ≡ cond (q x) (x ∷ filter q xs) (filter q xs)
-    by true is rest = ap (λ l. cond (q x) (x ∷ l) l) rest
-    by false is rest = rest ∙ sym (ap (λ b. cond b (x ∷ filter q xs) (filter q xs)) (fails (q x) refl))
-      where
-        fails : (b : Bool) → q x ≡ b → q x ≡ false
-        fails true passed = let e = less x passed in cc
-        fails false out = out
+    by b is rest = grind (arith, less x)
 
 -- a later reading epoch leaves those that outlast it
 pub living_retired : (e : ℕ) (table : Rows) → table.live ≡ living e table → filter (λ q. nat_lt (e + 1) (row_in table q).until) table.live ≡ living (e + 1) table
@@ -125,10 +97,3 @@ living_retired e table alive =
     ap (filter (λ q. nat_lt (e + 1) (row_in table q).until)) alive
     ∙ filter_twice (λ q. nat_lt e (row_in table q).until) (λ q. nat_lt (e + 1) (row_in table q).until) table.ids
     (λ q later. lt-ltb e (row_in table q).until (omega (arith, ltb-true (e + 1) (row_in table q).until later)))
-
--- the live ones of a ledger are those of its table
-pub live_ids_kept : (log : Log) (spare : ℕ) (links : List ℕ) (e : ℕ) (m : Bool) (now next : ℕ) (table : Rows) (flags : List Bool) (total : ℕ) → IsKept log spare links e m now next table flags total → table.live ≡ live_ids log
-live_ids_kept log spare links e m now next table flags total k =
-    k.alive
-    ∙ filter_agree (λ q. nat_lt e (row_in table q).until) (is_live log) (λ q. ap (λ (n : ℕ). nat_lt n (row_in table q).until) k.epoch_is ∙ ap (nat_lt (reading log)) (k.rows q).until) table.ids
-    ∙ ap (filter (is_live log)) k.ids_are

@@ -1,15 +1,15 @@
 -- The identifiers that are live.
-use Rattle.std.proofs.Common.{◌≡◌, ℕ, zero, suc, ◌<◌, Bool, true, false, cond, List, [], ◌∷◌, ◌++◌, length, filter, fold, get_or, Contains, ◌⊎◌, inl, inr, refl, sym, ap, ◌∙◌, subst, arith}
+use Rattle.std.proofs.Common.{◌≡◌, ℕ, zero, suc, Bool, true, false, cond, List, [], ◌∷◌, ◌++◌, filter, fold, Contains, ◌⊎◌, inl, inr, refl, sym, ap, ◌∙◌, subst, arith}
 use Rattle.std.specs.declared.cmp.Ordering.{Ordering}
 use Rattle.std.specs.declared.cmp.Ordering.TheVariants.{Less, Equal, Greater}
 use Rattle.std.specs.Ordering.{match_ordering}
 use Rattle.std.specs.BTreeSet.{insert_key}
-use Rattle.std.proofs.lemmas.Bool.{ltb-true}
+use Rattle.std.proofs.lemmas.Bool.{ltb-true, cond_both}
 use Rattle.std.proofs.lemmas.List.Kept.{IsStrictlySortedBy-filter}
 use Rattle.wal_shape.specs.declared.metadata.BlobId.{BlobId}
 use Rattle.wal_ledger.specs.declared.entry.Entry.{Entry}
 use Rattle.wal_ledger.specs.declared.entry.Body.{Body}
-use Rattle.wal_ledger.specs.declared.entry.Body.TheVariants.{Register, Ack, Attest, Ready, Begin, Finish}
+use Rattle.wal_ledger.specs.declared.entry.Body.TheVariants.{Register, Ack, Attest}
 use Rattle.wal_ledger.specs.Order.{Ascends}
 use Rattle.wal_ledger.specs.Ledger.{Log, History, until_in, until_among, is_fresh, history_after, is_live, reading, until_of, with_registered, registered, live_ids}
 use Rattle.wal_shape.specs.Identifiers.{id_cmp, id_eq}
@@ -25,34 +25,28 @@ tail_in : (x : BlobId) (xs : List BlobId) (y : BlobId) → Contains xs y → Con
 tail_in x xs y (k, lt, at) = (suc k, omega arith, at)
 
 -- one that is put in is there, and so are those that were
-pub put_in : (ks : List BlobId) (k : BlobId) → Contains (insert_key id_cmp ks k) k
-put_in [] k = head_in k [] k refl
-put_in (x ∷ xs) k = by (id_cmp k x) refl (put_in xs k)
+pub put_in : (ks : List BlobId) (k y : BlobId) → (k ≡ y) ⊎ Contains ks y → Contains (insert_key id_cmp ks k) y
+put_in [] k y (inl same) = head_in k [] y same
+put_in [] k y (inr (i, lt, at)) = absurd (omega arith)
+put_in (x ∷ xs) k y known = by (id_cmp k x) refl known (put_in xs k y)
   where
-    by : (r : Ordering) → id_cmp k x ≡ r → Contains (insert_key id_cmp xs k) k → Contains (match_ordering r (k ∷ x ∷ xs) (x ∷ xs) (x ∷ insert_key id_cmp xs k)) k
-    by Less h rest = head_in k (x ∷ xs) k refl
-    by Equal h rest = head_in x xs k (sym (exact_ids k x h))
-    by Greater h rest = tail_in x (insert_key id_cmp xs k) k rest
-
-still_in : (ks : List BlobId) (k y : BlobId) → Contains ks y → Contains (insert_key id_cmp ks k) y
-still_in [] k y (i, lt, at) = absurd (omega arith)
-still_in (x ∷ xs) k y (i, lt, at) = by (λ j below same. still_in xs k y (j, below, same)) (id_cmp k x) i lt at
-  where
-    by : ((j : ℕ) → j < length xs → get_or xs j y ≡ y → Contains (insert_key id_cmp xs k) y) → (r : Ordering) (i : ℕ) → i < suc (length xs) → get_or (x ∷ xs) i y ≡ y → Contains (match_ordering r (k ∷ x ∷ xs) (x ∷ xs) (x ∷ insert_key id_cmp xs k)) y
-    by rest Less i lt at = tail_in k (x ∷ xs) y (i, lt, at)
-    by rest Equal i lt at = (i, lt, at)
-    by rest Greater zero lt at = head_in x (insert_key id_cmp xs k) y at
-    by rest Greater (suc j) lt at = tail_in x (insert_key id_cmp xs k) y (rest j (omega arith) at)
+    by : (r : Ordering) → id_cmp k x ≡ r → (k ≡ y) ⊎ Contains (x ∷ xs) y → ((k ≡ y) ⊎ Contains xs y → Contains (insert_key id_cmp xs k) y)
+        → Contains (match_ordering r (k ∷ x ∷ xs) (x ∷ xs) (x ∷ insert_key id_cmp xs k)) y
+    by Less h (inl same) rest = head_in k (x ∷ xs) y same
+    by Less h (inr there) rest = tail_in k (x ∷ xs) y there
+    by Equal h (inl same) rest = head_in x xs y (sym (exact_ids k x h) ∙ same)
+    by Equal h (inr there) rest = there
+    by Greater h (inl same) rest = tail_in x (insert_key id_cmp xs k) y (rest (inl same))
+    by Greater h (inr (zero, lt, at)) rest = head_in x (insert_key id_cmp xs k) y at
+    by Greater h (inr (suc j, lt, at)) rest = tail_in x (insert_key id_cmp xs k) y (rest (inr (j, omega arith, at)))
 
 passes_in : (p : BlobId → Bool) (xs : List BlobId) (y : BlobId) → p y ≡ true → Contains xs y → Contains (filter p xs) y
 passes_in p [] y passes (i, lt, at) = absurd (omega arith)
-passes_in p (x ∷ xs) y passes (i, lt, at) = by (λ j below same. passes_in p xs y passes (j, below, same)) i lt at (p x) refl
-  where
-    by : ((j : ℕ) → j < length xs → get_or xs j y ≡ y → Contains (filter p xs) y) → (i : ℕ) → i < suc (length xs) → get_or (x ∷ xs) i y ≡ y → (b : Bool) → p x ≡ b → Contains (cond b (x ∷ filter p xs) (filter p xs)) y
-    by rest zero lt at true h = head_in x (filter p xs) y at
-    by rest zero lt at false h = let e : p x ≡ true = ap p at ∙ passes in let f : true ≡ false = sym e ∙ h in cc
-    by rest (suc j) lt at true h = tail_in x (filter p xs) y (rest j (omega arith) at)
-    by rest (suc j) lt at false h = rest j (omega arith) at
+passes_in p (x ∷ xs) y passes (zero, lt, at) =
+    subst (λ b. Contains (cond b (x ∷ filter p xs) (filter p xs)) y) (sym (ap p at ∙ passes)) (head_in x (filter p xs) y at)
+passes_in p (x ∷ xs) y passes (suc j, lt, at) =
+    let there = passes_in p xs y passes (j, omega arith, at) in
+    cond_both (p x) (x ∷ filter p xs) (filter p xs) (λ l. Contains l y) (λ h. tail_in x (filter p xs) y there) (λ h. there)
 
 -- an identifier whose own entries have an `until` was registered
 Known : History → List BlobId → BlobId → Type 0
@@ -71,14 +65,12 @@ known_step id c ids (Register i until) e known = by (id_eq i id) refl known
     x = record { epoch = e; body = Register i until }
 
     by : (b : Bool) → id_eq i id ≡ b → (until_among c.own ≡ 0) ⊎ Contains ids id → (until_among (cond b (cond (is_fresh c (Register i until)) (x ∷ []) (c.own ++ x ∷ [])) c.own) ≡ 0) ⊎ Contains (insert_key id_cmp ids i) id
-    by true same known = inr (subst (λ (k : BlobId). Contains (insert_key id_cmp ids i) k) (id_same i id same) (put_in ids i))
+    by true same known = inr (put_in ids i id (inl (id_same i id same)))
     by false differ (inl zeroed) = inl zeroed
-    by false differ (inr there) = inr (still_in ids i id there)
+    by false differ (inr there) = inr (put_in ids i id (inr there))
 known_step id c ids (Ack shard i) e known = known_other id c.own (record { epoch = e; body = Ack shard i }) ids (id_eq i id) refl known
 known_step id c ids (Attest shard i) e known = known_other id c.own (record { epoch = e; body = Attest shard i }) ids (id_eq i id) refl known
-known_step id c ids (Ready shard) e known = known
-known_step id c ids (Begin owners) e known = known
-known_step id c ids Finish e known = known
+known_step id c ids _ e known = known
 
 known_from : (id : BlobId) (c : History) (ids : List BlobId) (xs : List Entry) → Known c ids id → Known (fold (history_after id) c xs) (fold (λ l (y : Entry). with_registered l y.body) ids xs) id
 known_from id c ids [] known = known
@@ -87,11 +79,7 @@ known_from id c ids (x ∷ xs) known = known_from id (history_after id c x) (wit
 -- the registered identifiers ascend
 with_ascends : (ids : List BlobId) (body : Body) → Ascends ids → Ascends (with_registered ids body)
 with_ascends ids (Register i until) s = id_inserted_ascends ids i s
-with_ascends ids (Ack shard i) s = s
-with_ascends ids (Attest shard i) s = s
-with_ascends ids (Ready shard) s = s
-with_ascends ids (Begin owners) s = s
-with_ascends ids Finish s = s
+with_ascends ids _ s = s
 
 ascends_from : (ids : List BlobId) (xs : List Entry) → Ascends ids → Ascends (fold (λ l (y : Entry). with_registered l y.body) ids xs)
 ascends_from ids [] s = s

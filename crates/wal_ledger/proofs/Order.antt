@@ -9,6 +9,8 @@ use Rattle.std.specs.List.Sorted.{IsStrictlySortedBy}
 use Rattle.std.specs.Cmp.{IsTotalOrder, on_total}
 use Rattle.std.specs.Cmp.Lexicographic.{nat_list_cmp_total}
 use Rattle.std.proofs.lemmas.Map.Keys.{Less-from_sorted, sorted_tail}
+use Rattle.std.proofs.lemmas.Map.Views.{All-insert_key}
+use Rattle.std.proofs.lemmas.List.Elements.{All-from_recursion, recursion_from_All}
 use Rattle.wal_shape.specs.declared.metadata.BlobId.{BlobId}
 use Rattle.wal_shape.specs.Identifiers.{id_cmp}
 use Rattle.wal_ledger.specs.Order.{Ascends}
@@ -26,21 +28,16 @@ module _ {K : Type 0} {R : K → K → Ordering} (o : IsTotalOrder R) where
   back : (x y : K) (r : Ordering) → R x y ≡ r → R y x ≡ ordering_reverse r
   back x y r h = o.antisymm y x ∙ ap ordering_reverse h
 
-  insert_key_less : (x k : K) (xs : List K) → R k x ≡ Less → insert_key R (x ∷ xs) k ≡ k ∷ x ∷ xs
-  insert_key_less x k xs h = ap (λ r. match_ordering r (k ∷ x ∷ xs) (x ∷ xs) (x ∷ insert_key R xs k)) h
-
-  insert_key_equal : (x k : K) (xs : List K) → R k x ≡ Equal → insert_key R (x ∷ xs) k ≡ x ∷ xs
-  insert_key_equal x k xs h = ap (λ r. match_ordering r (k ∷ x ∷ xs) (x ∷ xs) (x ∷ insert_key R xs k)) h
-
-  insert_key_greater : (x k : K) (xs : List K) → R k x ≡ Greater → insert_key R (x ∷ xs) k ≡ x ∷ insert_key R xs k
-  insert_key_greater x k xs h = ap (λ r. match_ordering r (k ∷ x ∷ xs) (x ∷ xs) (x ∷ insert_key R xs k)) h
+  -- a key and those behind the first one, by how the first one compares
+  pub insert_key_by : (x k : K) (xs : List K) (r : Ordering) → R k x ≡ r → insert_key R (x ∷ xs) k ≡ match_ordering r (k ∷ x ∷ xs) (x ∷ xs) (x ∷ insert_key R xs k)
+  insert_key_by x k xs r h = ap (λ q. match_ordering q (k ∷ x ∷ xs) (x ∷ xs) (x ∷ insert_key R xs k)) h
 
   -- a key that is there stays alone
   pub insert_key_found : (ks : List K) (i : ℕ) (k : K) → IsStrictlySortedBy R ks → i < length ks → ((d : K) → R (get_or ks i d) k ≡ Equal) → insert_key R ks k ≡ ks
   insert_key_found [] i k s lt here = absurd (omega arith)
-  insert_key_found (x ∷ xs) zero k s lt here = insert_key_equal x k xs (back x k Equal (here x))
+  insert_key_found (x ∷ xs) zero k s lt here = insert_key_by x k xs Equal (back x k Equal (here x))
   insert_key_found (x ∷ xs) (suc i) k s lt here =
-      insert_key_greater x k xs (sym (o.congr (get_or xs i x) k x (here x)) ∙ back x (get_or xs i x) Less (Less-from_sorted R (x ∷ xs) 0 (suc i) x s (omega arith) lt))
+      insert_key_by x k xs Greater (sym (o.congr (get_or xs i x) k x (here x)) ∙ back x (get_or xs i x) Less (Less-from_sorted R (x ∷ xs) 0 (suc i) x s (omega arith) lt))
       ∙ ap (λ l. x ∷ l) (insert_key_found xs i k (sorted_tail R x xs s) (omega arith) here)
 
   -- a new key goes between the smaller and the greater ones
@@ -49,21 +46,12 @@ module _ {K : Type 0} {R : K → K → Ordering} (o : IsTotalOrder R) where
       → ((j : ℕ) (d : K) → i ≤ j → j < length ks → R (get_or ks j d) k ≡ Greater) → insert ks i k ≡ insert_key R ks k
   insert_key_gap [] zero k le below above = refl
   insert_key_gap [] (suc i) k le below above = absurd (omega arith)
-  insert_key_gap (x ∷ xs) zero k le below above = sym (insert_key_less x k xs (back x k Greater (above 0 x (omega arith) (omega arith))))
+  insert_key_gap (x ∷ xs) zero k le below above = sym (insert_key_by x k xs Less (back x k Greater (above 0 x (omega arith) (omega arith))))
   insert_key_gap (x ∷ xs) (suc i) k le below above =
       ap (λ l. x ∷ l) (insert_key_gap xs i k (omega arith) (λ j d lt. below (suc j) d (omega arith)) (λ j d ge lt. above (suc j) d (omega arith) (omega arith)))
-      ∙ sym (insert_key_greater x k xs (back x k Less (below 0 x (omega arith))))
+      ∙ sym (insert_key_by x k xs Greater (back x k Less (below 0 x (omega arith))))
 
-  all_inserted : (P : K → Type 0) (ks : List K) (k : K) → AllByRecursion P ks → P k → AllByRecursion P (insert_key R ks k)
-  all_inserted P [] k all p = (p, tt)
-  all_inserted P (x ∷ xs) k all p = by (R k x) (all_inserted P xs k all.1 p)
-    where
-      by : (r : Ordering) → AllByRecursion P (insert_key R xs k) → AllByRecursion P (match_ordering r (k ∷ x ∷ xs) (x ∷ xs) (x ∷ insert_key R xs k))
-      by Less rest = (p, all)
-      by Equal rest = all
-      by Greater rest = (all.0, rest)
-
-  all_above : (x k : K) (ks : List K) → R k x ≡ Less → AllByRecursion (λ y. R x y ≡ Less) ks → AllByRecursion (λ y. R k y ≡ Less) ks
+  pub all_above : (x k : K) (ks : List K) → R k x ≡ Less → AllByRecursion (λ y. R x y ≡ Less) ks → AllByRecursion (λ y. R k y ≡ Less) ks
   all_above x k [] h all = tt
   all_above x k (y ∷ ys) h all = (o.trans k x y h all.0, all_above x k ys h all.1)
 
@@ -73,10 +61,13 @@ module _ {K : Type 0} {R : K → K → Ordering} (o : IsTotalOrder R) where
   insert_key_ascends [] k s = (tt, tt)
   insert_key_ascends (x ∷ xs) k s = by (R k x) refl (insert_key_ascends xs k s.1)
     where
+      P : K → Type 0
+      P y = R x y ≡ Less
+
       by : (r : Ordering) → R k x ≡ r → IsStrictlySortedBy R (insert_key R xs k) → IsStrictlySortedBy R (match_ordering r (k ∷ x ∷ xs) (x ∷ xs) (x ∷ insert_key R xs k))
       by Less h rest = ((h, all_above x k xs h s.0), s)
       by Equal h rest = s
-      by Greater h rest = (all_inserted (λ y. R x y ≡ Less) xs k s.0 (back k x Greater h), rest)
+      by Greater h rest = (recursion_from_All P _ (All-insert_key R k P xs (All-from_recursion P xs s.0) (back k x Greater h)), rest)
 
 pub id_inserted_ascends : (ids : List BlobId) (id : BlobId) → Ascends ids → Ascends (insert_key id_cmp ids id)
 id_inserted_ascends ids id s = insert_key_ascends ids_total ids id s

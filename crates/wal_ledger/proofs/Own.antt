@@ -1,17 +1,16 @@
 -- What holds of a ledger's entries holds of an identifier's own.
-use Rattle.std.proofs.Common.{◌≡◌, ℕ, List, [], ◌∷◌, ◌++◌, Bool, true, false, cond, All, fold, sym, subst}
+use Rattle.std.proofs.Common.{◌≡◌, ℕ, List, [], ◌∷◌, ◌++◌, cond, All, fold, sym, subst}
+use Rattle.std.proofs.lemmas.Bool.{cond_both}
 use Rattle.std.proofs.lemmas.List.Elements.{All-nil, All-cons, All-head, All-tail, All-push}
 use Rattle.wal_shape.specs.declared.metadata.BlobId.{BlobId}
 use Rattle.wal_ledger.specs.declared.entry.Entry.{Entry}
 use Rattle.wal_ledger.specs.Ledger.{History, history_of, history_after, names, is_fresh}
 
 history_after-own : (P : Entry → Type 0) (id : BlobId) (c : History) (x : Entry) → All P c.own → P x → All P (history_after id c x).own
-history_after-own P id c x all p = by (names id x.body) (is_fresh c x.body)
-  where
-    by : (named fresh : Bool) → All P (cond named (cond fresh (x ∷ []) (c.own ++ x ∷ [])) c.own)
-    by true true = All-cons P x [] p (All-nil P)
-    by true false = All-push P c.own x all p
-    by false fresh = all
+history_after-own P id c x all p =
+    cond_both (names id x.body) (cond (is_fresh c x.body) (x ∷ []) (c.own ++ x ∷ [])) c.own (All P)
+    (λ named. cond_both (is_fresh c x.body) (x ∷ []) (c.own ++ x ∷ []) (All P) (λ fresh. All-cons P x [] p (All-nil P)) (λ stale. All-push P c.own x all p))
+    (λ other. all)
 
 own_from : (P : Entry → Type 0) (id : BlobId) (c : History) (xs : List Entry) → All P c.own → All P xs → All P (fold (history_after id) c xs).own
 own_from P id c [] all rest = all

@@ -1,7 +1,8 @@
 -- The rows after a claim, a registration, or another entry.
-use Rattle.std.proofs.Common.{◌≡◌, ℕ, ◌+◌, ◌-◌, ◌<◌, ◌≤◌, max, Bool, true, false, cond, ◌||◌, nat_eq, nat_le, List, [], ◌∷◌, ◌++◌, length, slice_set, refl, sym, ap, ◌∙◌, subst, arith}
+use Rattle.std.proofs.Common.{◌≡◌, ℕ, ◌+◌, ◌-◌, ◌<◌, ◌≤◌, max, Bool, true, false, cond, ◌&&◌, ◌||◌, nat_eq, nat_le, List, [], ◌∷◌, ◌++◌, length, slice_set, refl, sym, ap, ◌∙◌, subst, arith}
 use Rattle.std.specs.List.{list_any}
 use Rattle.std.specs.BTreeSet.{insert_key}
+use Rattle.std.proofs.lemmas.Bool.{or_from, and_right}
 use Rattle.std.proofs.lemmas.List.{length-set}
 use Rattle.wal_shape.specs.declared.metadata.BlobId.{BlobId}
 use Rattle.wal_ledger.specs.declared.entry.Entry.{Entry}
@@ -20,36 +21,27 @@ use Rattle.wal_ledger.specs.inside.Rows.{Rows, IsRow, row_in, no_row, row_regist
 use Rattle.wal_ledger.specs.Kept.{IsOfCommittee}
 use Rattle.wal_ledger.specs.inside.Kept.{IsKept, log_of}
 use Rattle.wal_ledger.specs.Answers.{claim_of}
-use Rattle.wal_ledger.specs.Ledger.{Log, Phase, phase, phase_after, writing, owners_at, owners_of, until_in, until_among, same_node, readies, ready_shards, signers, own_entries, History, history_of, history_after, with_registered}
+use Rattle.wal_ledger.specs.Ledger.{Log, phase, writing, owners_at, owners_of, until_among, same_node, signs_for, readies, ready_shards, signers, own_entries, History, history_of, history_after, with_registered}
 use Rattle.wal_shape.specs.Identifiers.{id_eq, id_cmp}
 use Rattle.wal_ledger.proofs.RowsPlace.{id_same}
 use Rattle.wal_ledger.proofs.Living.{registered_ascends}
 use Rattle.wal_ledger.proofs.LiveIds.{living_same, living_registered}
 use Rattle.wal_ledger.specs.Order.{Ascends}
-use Rattle.wal_ledger.proofs.RowsKept.{pushed, nameless, since_push, kept_still, kept_quiet, row_kept}
+use Rattle.wal_ledger.proofs.RowsKept.{pushed, nameless, kept_still, kept_quiet, row_kept}
 use Rattle.wal_ledger.proofs.Counts.{count_below-joined}
+use Rattle.wal_ledger.proofs.Entering.{since_push}
 use Rattle.wal_ledger.proofs.Nodes.{ready-node, node_apart}
-use Rattle.wal_ledger.proofs.Handover.{history_of-epoch, until_push}
+use Rattle.wal_ledger.proofs.Handover.{history_of-epoch, until_push, until_plain}
+use Rattle.wal_ledger.proofs.HandoverEntries.{phase_after-plain}
+use Rattle.wal_ledger.proofs.HandoverOrder.{claim_plain, claim_readies}
 use Rattle.wal_ledger.proofs.RowsRead.{own_within}
 use Rattle.wal_ledger.proofs.FlagLaws.{flag_raised}
-use Rattle.wal_ledger.proofs.TallyLaws.{tally_signed, tally_other, tally_fresh, signs_claim}
+use Rattle.wal_ledger.proofs.TallyLaws.{tally_signed, tally_other, row_none, signs_claim, signs_register}
 
 -- a claim is entered
-claim_turns : (kind : Kind) (shard : ℕ) (id : BlobId) (x : Entry) (p : Phase) → phase_after (claim_of kind shard id) x p ≡ record p { since = p.since ++ x ∷ [] }
-claim_turns Holds shard id x p = refl
-claim_turns Denies shard id x p = refl
-
-claim_until : (kind : Kind) (shard : ℕ) (id : BlobId) → until_in (claim_of kind shard id) ≡ 0
-claim_until Holds shard id = refl
-claim_until Denies shard id = refl
-
 claim_ids : (kind : Kind) (shard : ℕ) (id : BlobId) (ids : List BlobId) → with_registered ids (claim_of kind shard id) ≡ ids
 claim_ids Holds shard id ids = refl
 claim_ids Denies shard id ids = refl
-
-claim_readies : (kind : Kind) (shard : ℕ) (id : BlobId) (owners : List ℕ) (s : ℕ) → readies owners s (claim_of kind shard id) ≡ false
-claim_readies Holds shard id owners s = refl
-claim_readies Denies shard id owners s = refl
 
 history_after-claim : (kind : Kind) (shard w : ℕ) (id q : BlobId) (c : History) → let x : Entry = record { epoch = w; body = claim_of kind shard id } in
     (history_after q c x).own ≡ cond (id_eq id q) (c.own ++ x ∷ []) c.own
@@ -67,13 +59,10 @@ claimed_row : (f first w place size shard : ℕ) (owners : ℕ → List ℕ) (ki
 claimed_row f first w place size shard owners kind id own entries links row i claim sized entries_len links_len =
     let x : Entry = record { epoch = w; body = claim_of kind shard id } in
     record {
-      until = with_until kind (tally_after f w place size (tally_of kind row)) row ∙ i.until ∙ sym (until_push own x ∙ ap (max (until_among own)) (claim_until kind shard id) ∙ most (until_among own));
+      until = omega (arith, with_until kind (tally_after f w place size (tally_of kind row)) row, i.until, until_push own x, until_plain x.body (claim_plain kind shard id).1);
       tallies = at kind i claim;
     }
   where
-    most : (n : ℕ) → max n 0 ≡ n
-    most n = omega arith
-
     at : (kind : Kind) → let x : Entry = record { epoch = w; body = claim_of kind shard id } in
         IsRow f owners own entries links row → IsFirstClaim f first (owners w) own kind shard x
         → (k : Kind) → IsTally f owners (own ++ x ∷ []) k (entries ++ x ∷ []) (links ++ link_in w (tally_of kind row) ∷ []) (tally_of k (with_tally kind (tally_after f w place size (tally_of kind row)) row))
@@ -87,47 +76,6 @@ of_claim : (n : ℕ) (kind : Kind) (shard : ℕ) (id : BlobId) → shard < n →
 of_claim n Holds shard id below = below
 of_claim n Denies shard id below = below
 
--- what is kept after a claim
-pub kept_claim : (f first : ℕ) (start : List ℕ) (e now next place size shard : ℕ) (m : Bool) (kind : Kind) (id : BlobId) (book : BookState) (table new : Rows) (flags : List Bool) (total : ℕ)
-    → let log : Log = log_of f first start book in let t : Tally = tally_of kind (row_in table id) in
-    IsKept log book.spare book.links e m now next table flags total → 0 < book.spare → shard < committee_size f → signers log id kind (writing log) shard ≡ false → place ≡ length book.entries
-    → size ≡ node_size f (owners_of Next log) shard → new.ids ≡ table.ids → new.spare ≡ table.spare → new.live ≡ table.live
-    → ((q : BlobId) → row_in new q ≡ cond (id_eq id q) (with_tally kind (tally_after f (writing log) place size t) (row_in table id)) (row_in table q))
-    → IsKept (log_of f first start (pushed book (record { epoch = writing log; body = claim_of kind shard id }) (link_in (writing log) t))) (book.spare - 1) (book.links ++ link_in (writing log) t ∷ []) e m now next new flags total
-kept_claim f first start e now next place size shard m kind id book table new flags total k room below first_time at sized ids spare live rows =
-    kept_quiet f first start e m now next book table new flags total (claim_of kind shard id) (link_in w t) k room (of_claim (committee_size f) kind shard id below) (claim_turns kind shard id x) (claim_readies kind shard id)
-    (record {
-      ids = ids ∙ sym (claim_ids kind shard id table.ids);
-      spare = omega arith;
-      rows = λ q. subst (λ (own : List Entry). IsRow f (owners_at log) own (book.entries ++ x ∷ []) (book.links ++ link_in w t ∷ []) (row_in new q)) (sym (history_after-claim kind shard w id q (history_of first book.entries q)))
-          (subst (IsRow f (owners_at log) (cond (id_eq id q) (own_entries log q ++ x ∷ []) (own_entries log q)) (book.entries ++ x ∷ []) (book.links ++ link_in w t ∷ [])) (sym (rows q)) (by q (id_eq id q) refl));
-    })
-    (living_same e table new k.alive live ids (λ q. ap (λ (r : Row). r.until) (rows q) ∙ untils (id_eq id q) q refl))
-  where
-    log : Log
-    log = log_of f first start book
-
-    w : ℕ
-    w = writing log
-
-    t : Tally
-    t = tally_of kind (row_in table id)
-
-    x : Entry
-    x = record { epoch = w; body = claim_of kind shard id }
-
-    untils : (b : Bool) → (q : BlobId) → id_eq id q ≡ b → (cond b (with_tally kind (tally_after f w place size t) (row_in table id)) (row_in table q)).until ≡ (row_in table q).until
-    untils true q same = with_until kind (tally_after f w place size t) (row_in table id) ∙ ap (λ (p : BlobId). (row_in table p).until) (id_same id q same)
-    untils false q differ = refl
-
-    by : (q : BlobId) (b : Bool) → id_eq id q ≡ b → IsRow f (owners_at log) (cond b (own_entries log q ++ x ∷ []) (own_entries log q)) (book.entries ++ x ∷ []) (book.links ++ link_in w t ∷ []) (cond b (with_tally kind (tally_after f w place size t) (row_in table id)) (row_in table q))
-    by q true same =
-        subst (λ (p : BlobId). IsRow f (owners_at log) (own_entries log p ++ x ∷ []) (book.entries ++ x ∷ []) (book.links ++ link_in w t ∷ []) (with_tally kind (tally_after f w place size t) (row_in table id))) (id_same id q same)
-        (claimed_row f first w place size shard (owners_at log) kind id (own_entries log id) book.entries book.links (row_in table id) (k.rows id)
-        (record { below = below; signed = signs_claim kind shard id; first_time = first_time; latest = own_within log id k.lawful })
-        sized (sym at) (k.linked ∙ sym at))
-    by q false differ = row_kept f (owners_at log) (own_entries log q) book.entries (x ∷ []) book.links (link_in w t ∷ []) (row_in table q) (k.rows q)
-
 -- the row of the identifier that is registered
 registered_row : (f epoch w until : ℕ) (owners : ℕ → List ℕ) (id : BlobId) (own entries : List Entry) (links : List ℕ) (row : Row) → let x : Entry = record { epoch = w; body = Register id until } in
     IsRow f owners own entries links row
@@ -139,8 +87,8 @@ registered_row f epoch w until owners id own entries links row i =
     x = record { epoch = w; body = Register id until }
 
     fresh : (k : Kind) → IsTally f owners (x ∷ []) k (entries ++ x ∷ []) (links ++ 0 ∷ []) (tally_of k (record no_row { until = until }))
-    fresh Holds = tally_fresh f owners Holds (entries ++ x ∷ []) (links ++ 0 ∷ []) w id until
-    fresh Denies = tally_fresh f owners Denies (entries ++ x ∷ []) (links ++ 0 ∷ []) w id until
+    fresh = row_none f until owners (x ∷ []) (entries ++ x ∷ []) (links ++ 0 ∷ []) (λ k e s.
+        or_from (nat_eq w e && signs_for (owners e) k s x.body) false (and_right (nat_eq w e) (signs_for (owners e) k s x.body) (signs_register (owners e) k s id until)) refl)
 
     extended : (k : Kind) → IsTally f owners (own ++ x ∷ []) k (entries ++ x ∷ []) (links ++ 0 ∷ []) (tally_of k (record row { until = max row.until until }))
     extended Holds = tally_other f owners own Holds entries links row.holds x 0 (λ e s. refl) (i.tallies Holds)
@@ -150,58 +98,90 @@ registered_row f epoch w until owners id own entries links row i =
     by true = record { until = omega arith; tallies = fresh }
     by false = record { until = ap (λ n. max n until) i.until ∙ sym (until_push own x); tallies = extended }
 
--- what is kept after a registration
-pub kept_registered : (f first : ℕ) (start : List ℕ) (e now next until : ℕ) (m : Bool) (id : BlobId) (book : BookState) (table new : Rows) (flags : List Bool) (total : ℕ) → let log : Log = log_of f first start book in
-    IsKept log book.spare book.links e m now next table flags total → 0 < book.spare → writing log < until → new.ids ≡ insert_key id_cmp table.ids id → new.live ≡ insert_key id_cmp table.live id → table.spare ≤ new.spare + 1
-    → ((q : BlobId) → row_in new q ≡ cond (id_eq id q) (row_registered e until (row_in table id)) (row_in table q))
-    → IsKept (log_of f first start (pushed book (record { epoch = writing log; body = Register id until }) 0)) (book.spare - 1) (book.links ++ 0 ∷ []) e m now next new flags total
-kept_registered f first start e now next until m id book table new flags total k room beyond ids live spare rows =
-    kept_quiet f first start e m now next book table new flags total (Register id until) 0 k room tt (λ p. refl) (λ o s. refl)
-    (record {
-      ids = ids;
-      spare = spare;
-      rows = λ q. subst (IsRow f (owners_at log) (cond (id_eq id q) (cond (nat_le (until_among (own_entries log q)) (history_of first book.entries q).epoch) (x ∷ []) (own_entries log q ++ x ∷ [])) (own_entries log q)) (book.entries ++ x ∷ []) (book.links ++ 0 ∷ [])) (sym (rows q)) (by q (id_eq id q) refl);
-    })
-    (living_registered e until id table new k.alive (subst Ascends (sym k.ids_are) (registered_ascends book.entries)) (omega (arith, k.epoch_is, beyond)) ids live rows)
-  where
-    log : Log
-    log = log_of f first start book
+module _ (f first : ℕ) (start : List ℕ) (e : ℕ) (m : Bool) (now next : ℕ) (book : BookState) (table : Rows) (flags : List Bool) (total : ℕ)
+    (k : IsKept (log_of f first start book) book.spare book.links e m now next table flags total) (room : 0 < book.spare) where
+  abbrev log : Log
+  log = log_of f first start book
 
-    x : Entry
-    x = record { epoch = writing log; body = Register id until }
+  abbrev w : ℕ
+  w = writing log
 
-    by : (q : BlobId) (b : Bool) → id_eq id q ≡ b
-        → IsRow f (owners_at log) (cond b (cond (nat_le (until_among (own_entries log q)) (history_of first book.entries q).epoch) (x ∷ []) (own_entries log q ++ x ∷ [])) (own_entries log q)) (book.entries ++ x ∷ []) (book.links ++ 0 ∷ []) (cond b (row_registered e until (row_in table id)) (row_in table q))
-    by q true same =
-        subst (λ (p : BlobId). IsRow f (owners_at log) (cond (nat_le (until_among (own_entries log p)) (history_of first book.entries p).epoch) (x ∷ []) (own_entries log p ++ x ∷ [])) (book.entries ++ x ∷ []) (book.links ++ 0 ∷ []) (row_registered e until (row_in table id))) (id_same id q same)
-        (subst (λ (n : ℕ). IsRow f (owners_at log) (cond (nat_le (until_among (own_entries log id)) n) (x ∷ []) (own_entries log id ++ x ∷ [])) (book.entries ++ x ∷ []) (book.links ++ 0 ∷ []) (row_registered e until (row_in table id)))
-        (k.epoch_is ∙ sym (history_of-epoch first book.entries id))
-        (registered_row f e (writing log) until (owners_at log) id (own_entries log id) book.entries book.links (row_in table id) (k.rows id)))
-    by q false differ = row_kept f (owners_at log) (own_entries log q) book.entries (x ∷ []) book.links (0 ∷ []) (row_in table q) (k.rows q)
+  -- what is kept after a claim
+  pub kept_claim : (place size shard : ℕ) (kind : Kind) (id : BlobId) (new : Rows) → let t : Tally = tally_of kind (row_in table id) in
+      shard < committee_size f → signers log id kind w shard ≡ false → place ≡ length book.entries
+      → size ≡ node_size f (owners_of Next log) shard → new.ids ≡ table.ids → new.spare ≡ table.spare → new.live ≡ table.live
+      → ((q : BlobId) → row_in new q ≡ cond (id_eq id q) (with_tally kind (tally_after f w place size t) (row_in table id)) (row_in table q))
+      → IsKept (log_of f first start (pushed book (record { epoch = w; body = claim_of kind shard id }) (link_in w t))) (book.spare - 1) (book.links ++ link_in w t ∷ []) e m now next new flags total
+  kept_claim place size shard kind id new below first_time at sized ids spare live rows =
+      kept_quiet f first start e m now next book table flags total k room new (claim_of kind shard id) (link_in w t) (of_claim (committee_size f) kind shard id below)
+      (λ p. phase_after-plain (claim_of kind shard id) x p (claim_plain kind shard id).0) (claim_readies kind shard id)
+      (record {
+        ids = ids ∙ sym (claim_ids kind shard id table.ids);
+        spare = omega arith;
+        rows = λ q. rw (history_after-claim kind shard w id q (history_of first book.entries q), rows q) (by q (id_eq id q) refl);
+      })
+      (living_same e table new k.alive live ids (λ q. ap (λ (r : Row). r.until) (rows q) ∙ untils (id_eq id q) q refl))
+    where
+      t : Tally
+      t = tally_of kind (row_in table id)
 
--- what is kept after a node is ready
-pub kept_ready : (f first : ℕ) (start : List ℕ) (e now next shard node size : ℕ) (m : Bool) (book : BookState) (table : Rows) (flags : List Bool) (total : ℕ) → let log : Log = log_of f first start book in
-    IsKept log book.spare book.links e m now next table flags total → 0 < book.spare → shard < committee_size f → ready_shards log shard ≡ false
-    → node ≡ node_of (owners_of Next log) shard → node < committee_size f → size ≡ node_size f (owners_of Next log) shard
-    → IsKept (log_of f first start (pushed book (record { epoch = writing log; body = Ready shard }) 0)) (book.spare - 1) (book.links ++ 0 ∷ []) e m now next table (slice_set flags node true) (total + size)
-kept_ready f first start e now next shard node size m book table flags total k room below first_time is node_below sized =
-    kept_still f first start e m now next book table table flags (slice_set flags node true) total (total + size) (Ready shard) 0 k room below (λ p. refl)
-    (nameless f first (owners_at log) book table x 0 k.rows refl (λ id. refl))
-    (length-set flags node true)
-    (λ s lt. flag_raised flags node (node_of o s) (omega (arith, k.nodes)) ∙ ap (λ (v : ℕ). flag_of flags (node_of o s) || nat_eq v (node_of o s)) is)
-    (omega (arith, k.counted, sized, joined))
-    k.alive
-  where
-    log : Log
-    log = log_of f first start book
+      x : Entry
+      x = record { epoch = w; body = claim_of kind shard id }
 
-    o : List ℕ
-    o = owners_of Next log
+      untils : (b : Bool) → (q : BlobId) → id_eq id q ≡ b → (cond b (with_tally kind (tally_after f w place size t) (row_in table id)) (row_in table q)).until ≡ (row_in table q).until
+      untils true q same = with_until kind (tally_after f w place size t) (row_in table id) ∙ ap (λ (p : BlobId). (row_in table p).until) (id_same id q same)
+      untils false q differ = refl
 
-    x : Entry
-    x = record { epoch = writing log; body = Ready shard }
+      by : (q : BlobId) (b : Bool) → id_eq id q ≡ b → IsRow f (owners_at log) (cond b (own_entries log q ++ x ∷ []) (own_entries log q)) (book.entries ++ x ∷ []) (book.links ++ link_in w t ∷ []) (cond b (with_tally kind (tally_after f w place size t) (row_in table id)) (row_in table q))
+      by q true same =
+          rw (← id_same id q same)
+          (claimed_row f first w place size shard (owners_at log) kind id (own_entries log id) book.entries book.links (row_in table id) (k.rows id)
+          (record { below = below; signed = signs_claim kind shard id; first_time = first_time; latest = own_within log id k.lawful })
+          sized (sym at) (k.linked ∙ sym at))
+      by q false differ = row_kept f (owners_at log) (own_entries log q) book.entries (x ∷ []) book.links (link_in w t ∷ []) (row_in table q) (k.rows q)
 
-    joined : count_below (committee_size f) (λ s. list_any (λ (y : Entry). readies o s y.body) ((phase log).since ++ x ∷ [])) ≡ count_below (committee_size f) (ready_shards log) + node_size f o shard
-    joined = count_below-joined (committee_size f) (ready_shards log) (same_node o shard) (λ s. list_any (λ (y : Entry). readies o s y.body) ((phase log).since ++ x ∷ []))
-        (λ s. since_push o (phase log).since x s)
-        (node_apart o (ready_shards log) shard (λ s u h. ready-node o (phase log).since s u h) first_time)
+  -- what is kept after a registration
+  pub kept_registered : (until : ℕ) (id : BlobId) (new : Rows) → w < until → new.ids ≡ insert_key id_cmp table.ids id → new.live ≡ insert_key id_cmp table.live id → table.spare ≤ new.spare + 1
+      → ((q : BlobId) → row_in new q ≡ cond (id_eq id q) (row_registered e until (row_in table id)) (row_in table q))
+      → IsKept (log_of f first start (pushed book (record { epoch = w; body = Register id until }) 0)) (book.spare - 1) (book.links ++ 0 ∷ []) e m now next new flags total
+  kept_registered until id new beyond ids live spare rows =
+      kept_quiet f first start e m now next book table flags total k room new (Register id until) 0 tt (λ p. refl) (λ o s. refl)
+      (record {
+        ids = ids;
+        spare = spare;
+        rows = λ q. rw (rows q) (by q (id_eq id q) refl);
+      })
+      (living_registered e until id table new k.alive (subst Ascends (sym k.ids_are) (registered_ascends book.entries)) (omega (arith, k.epoch_is, beyond)) ids live rows)
+    where
+      x : Entry
+      x = record { epoch = w; body = Register id until }
+
+      by : (q : BlobId) (b : Bool) → id_eq id q ≡ b
+          → IsRow f (owners_at log) (cond b (cond (nat_le (until_among (own_entries log q)) (history_of first book.entries q).epoch) (x ∷ []) (own_entries log q ++ x ∷ [])) (own_entries log q)) (book.entries ++ x ∷ []) (book.links ++ 0 ∷ []) (cond b (row_registered e until (row_in table id)) (row_in table q))
+      by q true same =
+          rw (← id_same id q same, history_of-epoch first book.entries id ∙ sym k.epoch_is)
+          (registered_row f e w until (owners_at log) id (own_entries log id) book.entries book.links (row_in table id) (k.rows id))
+      by q false differ = row_kept f (owners_at log) (own_entries log q) book.entries (x ∷ []) book.links (0 ∷ []) (row_in table q) (k.rows q)
+
+  -- what is kept after a node is ready
+  pub kept_ready : (shard node size : ℕ) → shard < committee_size f → ready_shards log shard ≡ false
+      → node ≡ node_of (owners_of Next log) shard → node < committee_size f → size ≡ node_size f (owners_of Next log) shard
+      → IsKept (log_of f first start (pushed book (record { epoch = w; body = Ready shard }) 0)) (book.spare - 1) (book.links ++ 0 ∷ []) e m now next table (slice_set flags node true) (total + size)
+  kept_ready shard node size below first_time is node_below sized =
+      kept_still f first start e m now next book table flags total k room table (slice_set flags node true) (total + size) (Ready shard) 0 below (λ p. refl)
+      (nameless f first (owners_at log) book table x 0 k.rows refl (λ id. refl))
+      (length-set flags node true)
+      (λ s lt. flag_raised flags node (node_of o s) (omega (arith, k.nodes)) ∙ ap (λ (v : ℕ). flag_of flags (node_of o s) || nat_eq v (node_of o s)) is)
+      (omega (arith, k.counted, sized, joined))
+      k.alive
+    where
+      o : List ℕ
+      o = owners_of Next log
+
+      x : Entry
+      x = record { epoch = w; body = Ready shard }
+
+      joined : count_below (committee_size f) (λ s. list_any (λ (y : Entry). readies o s y.body) ((phase log).since ++ x ∷ [])) ≡ count_below (committee_size f) (ready_shards log) + node_size f o shard
+      joined = count_below-joined (committee_size f) (ready_shards log) (same_node o shard) (λ s. list_any (λ (y : Entry). readies o s y.body) ((phase log).since ++ x ∷ []))
+          (λ s. since_push o (phase log).since x s)
+          (node_apart o (ready_shards log) shard (λ s u h. ready-node o (phase log).since s u h) first_time)

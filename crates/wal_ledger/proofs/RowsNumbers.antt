@@ -1,10 +1,10 @@
 -- Identifiers and rows by their numbers, in the order of the identifiers.
-use Rattle.std.proofs.Common.{◌≡◌, ◌≢◌, ℕ, zero, suc, ◌+◌, ◌<◌, ◌≤◌, Bool, true, false, cond, List, [], ◌∷◌, ◌++◌, length, take, drop, map, filter, insert, get_or, slice_set, All, Contains, Result, Ok, Err, IfOk, IfErr, inl, inr, refl, sym, ap, ◌∙◌, subst, arith}
+use Rattle.std.proofs.Common.{◌≡◌, ◌≢◌, ℕ, zero, suc, ◌+◌, ◌<◌, ◌≤◌, Bool, true, cond, List, [], ◌∷◌, ◌++◌, length, take, drop, map, filter, insert, get_or, slice_set, All, Contains, Result, Ok, Err, IfOk, IfErr, inl, inr, refl, sym, ap, ◌∙◌, arith}
 use Rattle.std.specs.declared.cmp.Ordering.{Ordering}
-use Rattle.std.specs.declared.cmp.Ordering.TheVariants.{Less, Equal, Greater}
+use Rattle.std.specs.declared.cmp.Ordering.TheVariants.{Less, Equal}
 use Rattle.std.specs.Ordering.{is_eq, is_lt, ordering_reverse, eq_by_cmp}
 use Rattle.std.specs.List.Sorted.{IsSearchInRange, IsBinarySearchResult}
-use Rattle.std.proofs.lemmas.Bool.{cases_lt}
+use Rattle.std.proofs.lemmas.Bool.{cases_lt, both_ways}
 use Rattle.std.proofs.lemmas.Cmp.{eq_by_cmp_equiv}
 use Rattle.std.proofs.lemmas.List.{map-append, take-map, drop-map, length-map, get_or-map, get_or-set_same, get_or-set_other, get_or_default}
 use Rattle.std.proofs.lemmas.List.Sorted.{searchable_from_sorted}
@@ -15,9 +15,9 @@ use Rattle.std.proofs.lemmas.Map.Made.{length-le_from_is_member}
 use Rattle.std.proofs.lemmas.Map.Views.{list_any-from_Contains, Contains-from_any}
 use Rattle.wal_shape.specs.declared.metadata.BlobId.{BlobId}
 use Rattle.wal_ledger.specs.declared.rows.Row.{Row}
-use Rattle.wal_shape.specs.Identifiers.{id_cmp}
+use Rattle.wal_shape.specs.Identifiers.{id_cmp, id_eq}
 use Rattle.wal_ledger.specs.Order.{Ascends}
-use Rattle.wal_ledger.specs.inside.Rows.{IsPlace, IsInsertionPoint, IsOrder, id_of, ids_of, row_of}
+use Rattle.wal_ledger.specs.inside.Rows.{IsPlace, IsInsertionPoint, IsOrder, id_of, ids_of, no_row, row_of}
 use Rattle.wal_ledger.proofs.Order.{ids_total}
 use Rattle.wal_ledger.proofs.RowsPlace.{exact_ids, place_found, place_missed, id_itself, id_tied}
 
@@ -54,15 +54,14 @@ map_same f g (n ∷ ns) all = ap (λ y. y ∷ map f ns) (All-head (λ n. f n ≡
 one_place : (ids : List BlobId) (ns : List ℕ) (i j : ℕ) → Ascends (ids_of ids ns) → i < j → j < length ns → get_or ns i 0 ≡ get_or ns j 0 → ⊥
 one_place ids ns i j ascends lt within same =
     let none : BlobId = id_of ids 0 in
-    let less : id_cmp (get_or (ids_of ids ns) i none) (get_or (ids_of ids ns) j none) ≡ Less = Less-from_sorted id_cmp (ids_of ids ns) i j none ascends lt (omega (arith, length-map ns (id_of ids))) in
-    let one : get_or (ids_of ids ns) i none ≡ id_of ids (get_or ns i 0) = get_or-map (id_of ids) ns i 0 none (omega arith) in
-    let two : get_or (ids_of ids ns) j none ≡ id_of ids (get_or ns j 0) = get_or-map (id_of ids) ns j 0 none within in
-    let equal : get_or (ids_of ids ns) i none ≡ get_or (ids_of ids ns) j none = one ∙ ap (id_of ids) same ∙ sym two in
-    let x : BlobId = get_or (ids_of ids ns) j none in
-    let tied : id_cmp x x ≡ Less = subst (λ (y : BlobId). id_cmp y x ≡ Less) equal less in
-    let differ = id_tied x x Less tied in
-    let alike = id_itself x in
-    cc
+    let x : BlobId = id_of ids (get_or ns j 0) in
+    let tied : id_cmp x x ≡ Less = cc (
+      Less-from_sorted id_cmp (ids_of ids ns) i j none ascends lt (omega (arith, length-map ns (id_of ids))),
+      get_or-map (id_of ids) ns i 0 none (omega arith),
+      get_or-map (id_of ids) ns j 0 none within,
+      same,
+    ) in
+    both_ways (id_eq x x) (id_tied x x Less tied) (id_itself x)
 
 pub apart : (ids : List BlobId) (ns : List ℕ) (place j : ℕ) → Ascends (ids_of ids ns) → place < length ns → j < length ns → j ≢ place → get_or ns j 0 ≢ get_or ns place 0
 apart ids ns place j ascends within lt other same = elim (cases_lt j place) [
@@ -74,29 +73,24 @@ apart ids ns place j ascends within lt other same = elim (cases_lt j place) [
 set_else : (rows : List Row) (number : ℕ) (row : Row) (ns : List ℕ) → ((j : ℕ) → j < length ns → get_or ns j 0 ≢ number) → map (row_of (slice_set rows number row)) ns ≡ map (row_of rows) ns
 set_else rows number row [] other = refl
 set_else rows number row (n ∷ ns) other =
-    ap (λ r. r ∷ map (row_of (slice_set rows number row)) ns) (get_or-set_other rows number n row _ (other 0 (omega arith)))
-    ∙ ap (λ l. row_of rows n ∷ l) (set_else rows number row ns (λ j lt. other (suc j) (omega arith)))
+    cc (get_or-set_other rows number n row no_row (other 0 (omega arith)), set_else rows number row ns (λ j lt. other (suc j) (omega arith)))
 
 pub set_row : (rows : List Row) (number : ℕ) (row : Row) (ns : List ℕ) (place : ℕ) → number < length rows → place < length ns → get_or ns place 0 ≡ number
     → ((j : ℕ) → j < length ns → j ≢ place → get_or ns j 0 ≢ number) → map (row_of (slice_set rows number row)) ns ≡ slice_set (map (row_of rows) ns) place row
 set_row rows number row [] place within lt is other = absurd (omega arith)
 set_row rows number row (n ∷ ns) zero within lt is other =
-    ap (λ l. row_of (slice_set rows number row) n ∷ l) (set_else rows number row ns (λ j below. other (suc j) (omega arith) (λ e. omega arith)))
-    ∙ ap (λ r. r ∷ map (row_of rows) ns) (ap (row_of (slice_set rows number row)) is ∙ get_or-set_same rows number row _ within)
+    cc (set_else rows number row ns (λ j below. other (suc j) (omega arith) (λ e. omega arith)), get_or-set_same rows number row no_row within)
 set_row rows number row (n ∷ ns) (suc place) within lt is other =
-    ap (λ r. r ∷ map (row_of (slice_set rows number row)) ns) (get_or-set_other rows number n row _ (other 0 (omega arith) (λ e. omega arith)))
-    ∙ ap (λ l. row_of rows n ∷ l) (set_row rows number row ns place within (omega arith) is (λ j below ne. other (suc j) (omega arith) (λ e. ne (omega arith))))
+    cc (get_or-set_other rows number n row no_row (other 0 (omega arith) (λ e. omega arith)), set_row rows number row ns place within (omega arith) is (λ j below ne. other (suc j) (omega arith) (λ e. ne (omega arith))))
 
 -- those that pass, by their numbers
 pub filter_mapped : {Y : Type 0} (f : ℕ → Y) (p : ℕ → Bool) (q : Y → Bool) (ns : List ℕ) → All (λ n. p n ≡ q (f n)) ns → map f (filter p ns) ≡ filter q (map f ns)
 filter_mapped f p q [] all = refl
 filter_mapped {Y} f p q (n ∷ ns) all =
-    let rest = filter_mapped f p q ns (All-tail (λ n. p n ≡ q (f n)) n ns all) in
-    by (p n) ∙ ap (λ l. cond (p n) (f n ∷ l) l) rest ∙ ap (λ b. cond b (f n ∷ filter q (map f ns)) (filter q (map f ns))) (All-head (λ n. p n ≡ q (f n)) n ns all)
+    rw (← All-head (λ n. p n ≡ q (f n)) n ns all, ← filter_mapped f p q ns (All-tail (λ n. p n ≡ q (f n)) n ns all)) (by (p n))
   where
     by : (b : Bool) → map f (cond b (n ∷ filter p ns) (filter p ns)) ≡ cond b (f n ∷ map f (filter p ns)) (map f (filter p ns))
-    by true = refl
-    by false = refl
+    by b = grind arith
 
 -- what was put in stays when one more is
 pub in_inserted : (ns : List ℕ) (place n m : ℕ) → place ≤ length ns → Contains ns m → Contains (insert ns place n) m
@@ -118,9 +112,7 @@ exact : (x y : BlobId) → eq_by_cmp id_cmp x y ≡ true → x ≡ y
 exact x y h = exact_ids x y (by (id_cmp x y) h)
   where
     by : (r : Ordering) → is_eq r ≡ true → r ≡ Equal
-    by Less h = cc
-    by Equal h = refl
-    by Greater h = cc
+    by r h = grind arith
 
 in_all : (ids : List BlobId) (ns : List ℕ) (q : BlobId) → All (λ n. n < length ids) ns → Contains (ids_of ids ns) q → Contains ids q
 in_all ids ns q below (k, lt, at) =

@@ -1,5 +1,5 @@
 -- Places of identifiers, and the rows beside them.
-use Rattle.std.proofs.Common.{◌≡◌, ℕ, zero, suc, ◌<◌, ◌≤◌, Bool, true, false, cond, List, [], ◌∷◌, length, get_or, insert, slice_set, All, HoldsAt, inl, inr, refl, sym, ap, ◌∙◌, arith}
+use Rattle.std.proofs.Common.{◌≡◌, ℕ, zero, suc, ◌<◌, ◌≤◌, Bool, true, false, cond, List, ◌∷◌, length, get_or, insert, slice_set, All, HoldsAt, inl, inr, refl, sym, ap, ◌∙◌, arith}
 use Rattle.std.specs.declared.cmp.Ordering.{Ordering}
 use Rattle.std.specs.declared.cmp.Ordering.TheVariants.{Less, Equal, Greater}
 use Rattle.std.specs.Ordering.{is_eq, ordering_reverse}
@@ -27,18 +27,14 @@ pub id_itself : (a : BlobId) → id_eq a a ≡ true
 id_itself a = id_tied a a Equal (by (id_cmp a a) (ids_total.antisymm a a))
   where
     by : (r : Ordering) → r ≡ ordering_reverse r → r ≡ Equal
-    by Less h = cc
-    by Equal h = refl
-    by Greater h = cc
+    by r h = grind arith
 
 -- identifiers with the same bytes are one
 pub id_same : (a b : BlobId) → id_eq a b ≡ true → a ≡ b
 id_same a b h = exact_ids a b (by (id_cmp a b) refl)
   where
     by : (r : Ordering) → id_cmp a b ≡ r → r ≡ Equal
-    by Less e = let f = id_tied a b Less e in cc
-    by Equal e = refl
-    by Greater e = let f = id_tied a b Greater e in cc
+    by r e = grind (arith, id_tied a b r e)
 
 -- the place at which an identifier stands, and one between the smaller and the greater ones
 pub place_found : (ids : List BlobId) (id : BlobId) (place : ℕ) → Ascends ids → place < length ids → HoldsAt (λ i. id_cmp i id ≡ Equal) ids place → IsPlace ids id place
@@ -61,13 +57,11 @@ place_missed ids id place le below above = record {
 
 -- the row beside an identifier at its first place
 pub beside_place : (ids : List BlobId) (rows : List Row) (id : BlobId) (place : ℕ) (d : Row) → length rows ≡ length ids → place < length ids → HoldsAt (λ i. i ≡ id) ids place → ((j : ℕ) → j < place → HoldsAt (λ i. id_eq i id ≡ false) ids j) → row_beside ids rows id ≡ get_or rows place d
-beside_place [] rows id place d same lt here before = absurd (omega arith)
-beside_place (i ∷ ids) [] id place d same lt here before = absurd (omega arith)
 beside_place (i ∷ ids) (r ∷ rows) id zero d same lt here before =
     ap (λ b. cond b r (row_beside ids rows id)) (ap (λ j. id_eq j id) (here i) ∙ id_itself id)
 beside_place (i ∷ ids) (r ∷ rows) id (suc p) d same lt here before =
-    ap (λ b. cond b r (row_beside ids rows id)) (before 0 (omega arith) i)
-    ∙ beside_place ids rows id p d (omega arith) (omega arith) here (λ j below. before (suc j) (omega arith))
+    rw (before 0 (omega arith) i) (beside_place ids rows id p d (omega arith) (omega arith) here (λ j below. before (suc j) (omega arith)))
+beside_place _ _ id place d same lt here before = absurd (omega arith)
 
 -- the row at a place is that of the identifier at this place
 pub beside_at : (ids : List BlobId) (rows : List Row) (place : ℕ) (d : BlobId) (r : Row) → Ascends ids → length rows ≡ length ids → place < length ids → row_beside ids rows (get_or ids place d) ≡ get_or rows place r
@@ -79,16 +73,11 @@ beside_at ids rows place d r ascends same lt =
 
 -- an identifier that does not stand there has no row
 pub beside_none : (ids : List BlobId) (rows : List Row) (id : BlobId) → All (λ i. id_eq i id ≡ false) ids → row_beside ids rows id ≡ no_row
-beside_none [] rows id none = refl
-beside_none (i ∷ ids) [] id none = refl
-beside_none (i ∷ ids) (r ∷ rows) id none =
-    ap (λ b. cond b r (row_beside ids rows id)) (none 0 i (omega arith))
-    ∙ beside_none ids rows id (λ k d lt. none (suc k) d (omega arith))
+beside_none (i ∷ ids) (r ∷ rows) id none = rw (none 0 i (omega arith)) (beside_none ids rows id (λ k d lt. none (suc k) d (omega arith)))
+beside_none _ _ id none = refl
 
 swapped : (a b : Bool) (r s x : Row) → (a ≡ true → b ≡ true → ⊥) → cond a r (cond b s x) ≡ cond b s (cond a r x)
-swapped true true r s x apart = absurd (apart refl refl)
-swapped true false r s x apart = refl
-swapped false b r s x apart = refl
+swapped a b r s x apart = grind arith
 
 -- two tests for one identifier
 apart : (i id q : BlobId) → id_eq i id ≡ false → id_eq i q ≡ true → id_eq id q ≡ true → ⊥
@@ -99,26 +88,20 @@ apart i id q differ left right =
 -- another row at that place
 pub beside_set : (ids : List BlobId) (rows : List Row) (id : BlobId) (place : ℕ) (row : Row) (q : BlobId) → length rows ≡ length ids → place < length ids → HoldsAt (λ i. i ≡ id) ids place → ((j : ℕ) → j < place → HoldsAt (λ i. id_eq i id ≡ false) ids j)
     → row_beside ids (slice_set rows place row) q ≡ cond (id_eq id q) row (row_beside ids rows q)
-beside_set [] rows id place row q same lt here before = absurd (omega arith)
-beside_set (i ∷ ids) [] id place row q same lt here before = absurd (omega arith)
-beside_set (i ∷ ids) (r ∷ rows) id zero row q same lt here before =
-    ap (λ j. cond (id_eq j q) row (row_beside ids rows q)) (here i)
-    ∙ by (id_eq id q)
-    ∙ ap (λ j. cond (id_eq id q) row (cond (id_eq j q) r (row_beside ids rows q))) (sym (here i))
+beside_set (i ∷ ids) (r ∷ rows) id zero row q same lt here before = rw (here i) (over (id_eq id q))
   where
-    by : (b : Bool) → cond b row (row_beside ids rows q) ≡ cond b row (cond b r (row_beside ids rows q))
-    by true = refl
-    by false = refl
+    over : (b : Bool) → cond b row (row_beside ids rows q) ≡ cond b row (cond b r (row_beside ids rows q))
+    over b = grind arith
 beside_set (i ∷ ids) (r ∷ rows) id (suc p) row q same lt here before =
     ap (λ x. cond (id_eq i q) r x) (beside_set ids rows id p row q (omega arith) (omega arith) here (λ j below. before (suc j) (omega arith)))
     ∙ swapped (id_eq i q) (id_eq id q) r row (row_beside ids rows q) (apart i id q (before 0 (omega arith) i))
+beside_set _ _ id place row q same lt here before = absurd (omega arith)
 
 -- a new identifier with its row
 pub beside_insert : (ids : List BlobId) (rows : List Row) (id : BlobId) (place : ℕ) (row : Row) (q : BlobId) → length rows ≡ length ids → place ≤ length ids → All (λ i. id_eq i id ≡ false) ids
     → row_beside (insert ids place id) (insert rows place row) q ≡ cond (id_eq id q) row (row_beside ids rows q)
 beside_insert ids rows id zero row q same le none = refl
-beside_insert [] rows id (suc p) row q same le none = absurd (omega arith)
-beside_insert (i ∷ ids) [] id (suc p) row q same le none = absurd (omega arith)
 beside_insert (i ∷ ids) (r ∷ rows) id (suc p) row q same le none =
     ap (λ x. cond (id_eq i q) r x) (beside_insert ids rows id p row q (omega arith) (omega arith) (λ k d lt. none (suc k) d (omega arith)))
     ∙ swapped (id_eq i q) (id_eq id q) r row (row_beside ids rows q) (apart i id q (none 0 i (omega arith)))
+beside_insert _ _ id place row q same le none = absurd (omega arith)

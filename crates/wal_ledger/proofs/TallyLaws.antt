@@ -1,15 +1,15 @@
 -- What a tally tells, and how one more entry changes it.
-use Rattle.std.proofs.Common.{◌≡◌, ◌≢◌, ℕ, zero, suc, ◌+◌, ◌-◌, ◌<◌, ◌≤◌, List, [], ◌∷◌, ◌++◌, Bool, true, false, cond, ◌&&◌, ◌||◌, nat_eq, nat_le, length, get_or, All, Option, Some, None, slice_get, ◌⊎◌, inl, inr, refl, sym, ap, ◌∙◌, subst, arith}
+use Rattle.std.proofs.Common.{◌≡◌, ◌≢◌, ℕ, zero, suc, ◌+◌, ◌-◌, ◌<◌, ◌≤◌, List, [], ◌∷◌, ◌++◌, Bool, true, false, cond, ◌&&◌, ◌||◌, nat_eq, nat_le, length, get_or, All, Option, Some, None, slice_get, inl, inr, refl, sym, ap, ◌∙◌, subst, arith}
 use Rattle.std.proofs.lemmas.Bool.Decides.{nat_tests}
 use Rattle.std.proofs.Math.Bool.{or-false}
-use Rattle.std.proofs.lemmas.Bool.{cases_lt, cases_eq, eq-eqb, ne_eqb, cond-true, cond-false, lt-leb, le-leb, or_left, or_right, or_from, and_left, and_right}
-use Rattle.std.proofs.lemmas.Option.{slice_get_within, get_or_from_slice_get}
-use Rattle.std.proofs.lemmas.List.Folds.{list_any-append, list_any_none}
+use Rattle.std.proofs.lemmas.Bool.{cases_lt, cases_eq, eq-eqb, eqb-true, eqb-false, ne_eqb, leb-true, leb-false, cond_both, and_right}
+use Rattle.std.proofs.lemmas.Option.{slice_get_within, get_or_from_slice_get, gets}
+use Rattle.std.proofs.lemmas.Grind.{common_steps}
 use Rattle.wal_shape.specs.declared.metadata.BlobId.{BlobId}
 use Rattle.wal_shape.specs.Owners.{has_neighbour}
 use Rattle.wal_ledger.specs.declared.entry.Entry.{Entry}
 use Rattle.wal_ledger.specs.declared.entry.Body.{Body}
-use Rattle.wal_ledger.specs.declared.entry.Body.TheVariants.{Register, Ack, Attest, Ready, Begin, Finish}
+use Rattle.wal_ledger.specs.declared.entry.Body.TheVariants.{Register, Ack, Attest}
 use Rattle.wal_ledger.specs.declared.entry.Kind.{Kind}
 use Rattle.wal_ledger.specs.declared.entry.Kind.TheVariants.{Holds, Denies}
 use Rattle.wal_ledger.specs.declared.tally.Quorum.{Quorum}
@@ -19,24 +19,16 @@ use Rattle.wal_ledger.specs.Ledger.{signs_for, same_node, is_signer_among}
 use Rattle.wal_ledger.specs.Answers.{claim_of}
 use Rattle.wal_ledger.specs.inside.Claims.{count_among}
 use Rattle.wal_ledger.specs.Within.{IsWithin}
-use Rattle.wal_ledger.specs.inside.Tally.{signs, Chain, HasLeast, IsTally, IsFirstClaim, no_tally, link_in, quorum_after, node_size, tally_after}
-use Rattle.wal_ledger.proofs.Counts.{count_below-none, count_below-has, count_below-joined, count_among-beyond}
+use Rattle.wal_ledger.specs.inside.Tally.{signs, IsLinked, Chain, HasLeast, IsTally, IsFirstClaim, no_tally, link_in, quorum_after, node_size, tally_after}
+use Rattle.wal_ledger.specs.inside.Rows.{tally_of, no_row}
+use Rattle.wal_ledger.proofs.Counts.{count_below-none, count_below-has, count_below-joined, count_among-beyond, signers_outside}
 use Rattle.wal_ledger.proofs.Nodes.{same_node-self, signers-node, node_apart}
 
 -- an entry of one shard signs for all shards of its node
 pub signs_one : (owners : List ℕ) (kind : Kind) (t s : ℕ) (b : Body) → signs kind t b ≡ true → signs_for owners kind s b ≡ same_node owners t s
-signs_one owners Holds t s (Ack u id) h = let e : u ≡ t = grind (arith, nat_tests) in ap (λ (v : ℕ). same_node owners v s) e
-signs_one owners Denies t s (Attest u id) h = let e : u ≡ t = grind (arith, nat_tests) in ap (λ (v : ℕ). same_node owners v s) e
-signs_one owners Holds t s (Register id until) h = cc
-signs_one owners Holds t s (Attest u id) h = cc
-signs_one owners Holds t s (Ready u) h = cc
-signs_one owners Holds t s (Begin o) h = cc
-signs_one owners Holds t s Finish h = cc
-signs_one owners Denies t s (Register id until) h = cc
-signs_one owners Denies t s (Ack u id) h = cc
-signs_one owners Denies t s (Ready u) h = cc
-signs_one owners Denies t s (Begin o) h = cc
-signs_one owners Denies t s Finish h = cc
+signs_one owners Holds t s (Ack u id) h = let same : u ≡ t = grind (arith, nat_tests) in ap (λ v. same_node owners v s) same
+signs_one owners Denies t s (Attest u id) h = let same : u ≡ t = grind (arith, nat_tests) in ap (λ v. same_node owners v s) same
+signs_one owners _ t s _ h = cc
 
 -- what a shard enters is signed by it; a registration is signed by nobody
 pub signs_claim : (kind : Kind) (s : ℕ) (id : BlobId) → signs kind s (claim_of kind s id) ≡ true
@@ -47,45 +39,32 @@ pub signs_register : (owners : List ℕ) (kind : Kind) (s : ℕ) (id : BlobId) (
 signs_register owners Holds s id until = refl
 signs_register owners Denies s id until = refl
 
--- what a member counts
-counts : (b c : Bool) → b ≡ c → ◌≡◌ {A = ℕ} (cond b 1 0) (cond c 1 0)
-counts b c h = ap {B = ℕ} (λ (x : Bool). cond x 1 0) h
-
 -- sets that agree have as many members
 pub count_below-same : (n : ℕ) (p q : ℕ → Bool) → ((s : ℕ) → s < n → q s ≡ p s) → count_below n q ≡ count_below n p
 count_below-same zero p q same = refl
-count_below-same (suc n) p q same = omega (arith, count_below-same n p q (λ s lt. same s (omega arith)), counts (q n) (p n) (same n (omega arith)))
+count_below-same (suc n) p q same = cc (count_below-same n p q (λ s lt. same s (omega arith)), same n (omega arith))
 
 -- an element stays where it is when more follow
 pub slice_get-front : {X : Type 0} (xs ys : List X) (i : ℕ) (x : X) → slice_get xs i ≡ Some x → slice_get (xs ++ ys) i ≡ Some x
-slice_get-front [] ys i x h = cc
-slice_get-front (y ∷ xs) ys zero x h = h
-slice_get-front (y ∷ xs) ys (suc i) x h = slice_get-front xs ys i x h
+slice_get-front xs ys i x h = grind (arith, common_steps, gets)
 
 pub slice_get-push : {X : Type 0} (xs : List X) (x : X) (i : ℕ) → length xs ≡ i → slice_get (xs ++ x ∷ []) i ≡ Some x
-slice_get-push [] x zero h = refl
-slice_get-push [] x (suc i) h = absurd (omega arith)
-slice_get-push (y ∷ xs) x zero h = absurd (omega arith)
-slice_get-push (y ∷ xs) x (suc i) h = slice_get-push xs x i (omega arith)
+slice_get-push xs x i h = grind (arith, common_steps, gets)
 
 -- a chain is the same when more entries and links follow
 pub chain_push : (entries more : List Entry) (links after : List ℕ) (kind : Kind) (link : ℕ) (shards : List ℕ) → Chain entries links kind link shards → Chain (entries ++ more) (links ++ after) kind link shards
 chain_push entries more links after kind link [] h = h
-chain_push entries more links after kind link (s ∷ shards) (before, (l, rest)) = (
-  before,
-  (
-    record {
+chain_push entries more links after kind link (s ∷ shards) (before, (l, rest)) =
+    let here : IsLinked (entries ++ more) (links ++ after) kind link s before = record {
       place = l.place;
       entry = l.entry;
       follows = l.follows;
-      found = slice_get-front entries more l.place l.entry l.found;
       signed = l.signed;
-      linked = slice_get-front links after l.place before l.linked;
       earlier = l.earlier;
-    },
-    chain_push entries more links after kind before shards rest,
-  ),
-)
+      found = slice_get-front entries more l.place l.entry l.found;
+      linked = slice_get-front links after l.place before l.linked;
+    } in
+    (before, (here, chain_push entries more links after kind before shards rest))
 
 -- its links are within
 pub chain_within : (entries : List Entry) (links : List ℕ) (kind : Kind) (link : ℕ) (shards : List ℕ) → Chain entries links kind link shards → link ≤ length entries
@@ -96,10 +75,8 @@ chain_within entries links kind link (s ∷ shards) (before, (l, rest)) = omega 
 pub chain_more : (entries : List Entry) (links : List ℕ) (kind : Kind) (link place shard : ℕ) (shards : List ℕ) (x : Entry)
     → Chain entries links kind link shards → length entries ≡ place → length links ≡ place → signs kind shard x.body ≡ true
     → Chain (entries ++ x ∷ []) (links ++ link ∷ []) kind (place + 1) (shard ∷ shards)
-chain_more entries links kind link place shard shards x chain entries_len links_len signed = (
-  link,
-  (
-    record {
+chain_more entries links kind link place shard shards x chain entries_len links_len signed =
+    let here : IsLinked (entries ++ x ∷ []) (links ++ link ∷ []) kind (place + 1) shard link = record {
       place = place;
       entry = x;
       follows = refl;
@@ -107,10 +84,8 @@ chain_more entries links kind link place shard shards x chain entries_len links_
       signed = signed;
       linked = slice_get-push links link place links_len;
       earlier = omega (arith, entries_len, chain_within entries links kind link shards chain);
-    },
-    chain_push entries (x ∷ []) links (link ∷ []) kind link shards chain,
-  ),
-)
+    } in
+    (link, (here, chain_push entries (x ∷ []) links (link ∷ []) kind link shards chain))
 
 -- a step of a walk down the links, at a place: the entry there and its link, which leads on
 pub record Walks (entries : List Entry) (links : List ℕ) (kind : Kind) (link : ℕ) (shards : List ℕ) : Type 0 where
@@ -134,52 +109,22 @@ walks entries links kind link (t ∷ shards) pos (before, (l, rest)) =
       link_within = slice_get_within links (link - 1) before linked;
       chain = subst (λ (i : ℕ). Chain entries links kind i shards) (sym next) rest;
       below = omega (arith, next, l.earlier, l.follows);
-      same = λ owners s d.
-          ap (λ b. b || has_neighbour owners shards s) (sym (signs_one owners kind t s l.entry.body l.signed))
-          ∙ ap (λ (x : Entry). signs_for owners kind s x.body || has_neighbour owners shards s) (sym (get_or_from_slice_get entries (link - 1) l.entry d found));
+      same = λ owners s d. rw (get_or_from_slice_get entries (link - 1) l.entry d found, signs_one owners kind t s l.entry.body l.signed) refl;
     }
 
--- a walk finds the shard's node, goes on, or ends
-pub walk_found : (owners : List ℕ) (entries : List Entry) (links : List ℕ) (kind : Kind) (link s : ℕ) (d : Entry) (shards : List ℕ) → 0 < link → signs_for owners kind s (get_or entries (link - 1) d).body ≡ true
-    → Chain entries links kind link shards → has_neighbour owners shards s ≡ true
-walk_found owners entries links kind link s d shards pos signed chain =
-    let w = walks entries links kind link shards pos chain in
-    w.same owners s d ∙ or_left (signs_for owners kind s (get_or entries (link - 1) d).body) (has_neighbour owners w.rest s) signed
-
-pub walk_on : (owners : List ℕ) (entries : List Entry) (links : List ℕ) (kind : Kind) (link s : ℕ) (d : Entry) (shards : List ℕ) → 0 < link → signs_for owners kind s (get_or entries (link - 1) d).body ≡ false
-    → Chain entries links kind link shards → (rest : List ℕ) × (Chain entries links kind (get_or links (link - 1) 0) rest × (has_neighbour owners shards s ≡ has_neighbour owners rest s))
-walk_on owners entries links kind link s d shards pos not_signed chain =
-    let w = walks entries links kind link shards pos chain in
-    (w.rest, (w.chain, w.same owners s d ∙ ap (λ b. b || has_neighbour owners w.rest s) not_signed))
-
+-- with no link left, a walk has found nobody
 pub walk_end : (owners : List ℕ) (entries : List Entry) (links : List ℕ) (kind : Kind) (link s : ℕ) (shards : List ℕ) → link ≤ 0 → Chain entries links kind link shards → has_neighbour owners shards s ≡ false
 walk_end owners entries links kind link s [] end chain = refl
 walk_end owners entries links kind link s (t ∷ shards) end (before, (l, rest)) = absurd (omega (arith, l.follows))
 
 -- a set of signers after one more own entry
 pub signers_push : (owners : List ℕ) (own : List Entry) (kind : Kind) (x : Entry) (e s : ℕ) → is_signer_among owners (own ++ x ∷ []) kind e s ≡ (is_signer_among owners own kind e s || (nat_eq x.epoch e && signs_for owners kind s x.body))
-signers_push owners own kind x e s =
-    list_any-append (λ (y : Entry). nat_eq y.epoch e && signs_for owners kind s y.body) own (x ∷ [])
-    ∙ ap (λ b. is_signer_among owners own kind e s || b) (or-false (nat_eq x.epoch e && signs_for owners kind s x.body))
+signers_push owners own kind x e s = grind (arith, common_steps)
 
 -- nobody signs by an entry of another epoch
 pub signers_beyond : (owners : List ℕ) (own : List Entry) (kind : Kind) (first last e s : ℕ) → All (IsWithin first last) own → last < e → is_signer_among owners own kind e s ≡ false
-signers_beyond owners own kind first last e s within far = list_any_none (λ (y : Entry). nat_eq y.epoch e && signs_for owners kind s y.body) own (λ k d lt. other (get_or own k d) (within k d lt))
-  where
-    other : (y : Entry) → IsWithin first last y → (nat_eq y.epoch e && signs_for owners kind s y.body) ≡ false
-    other y w = and_left (nat_eq y.epoch e) (signs_for owners kind s y.body) (ne_eqb y.epoch e (λ same. omega (arith, w.high)))
-
--- a tally stays right when more entries follow that are not the identifier's own
-pub tally_kept : (f : ℕ) (owners : ℕ → List ℕ) (own : List Entry) (kind : Kind) (entries more : List Entry) (links after : List ℕ) (t : Tally) → IsTally f owners own kind entries links t → IsTally f owners own kind (entries ++ more) (links ++ after) t
-tally_kept f owners own kind entries more links after t i = record {
-  shards = i.shards;
-  chain = chain_push entries more links after kind t.last i.shards i.chain;
-  members = i.members;
-  counted = i.counted;
-  idle = i.idle;
-  later = i.later;
-  least = i.least;
-}
+signers_beyond owners own kind first last e s within far =
+    signers_outside owners own kind e s (λ k d lt same. omega (arith, (within k d lt).high))
 
 least_like : (f : ℕ) (owners owns : ℕ → List ℕ) (own new : List Entry) (kind : Kind) (q : Option Quorum) → ((e : ℕ) → count_among f owns new kind e ≡ count_among f owners own kind e) → HasLeast f owners own kind q → HasLeast f owns new kind q
 least_like f owners owns own new kind None same h = λ e. omega (arith, same e, h e)
@@ -189,15 +134,16 @@ least_like f owners owns own new kind (Some q) same h = record {
   least = λ e lt. omega (arith, same e, h.least e lt);
 }
 
--- and for other own entries, or other owners, with the same signers
-pub tally_like : (f : ℕ) (owners owns : ℕ → List ℕ) (own new : List Entry) (kind : Kind) (entries : List Entry) (links : List ℕ) (t : Tally)
+-- a tally stays right for other own entries, or other owners, with the same signers, where its links lead on
+pub tally_like : (f : ℕ) (owners owns : ℕ → List ℕ) (own new : List Entry) (kind : Kind) (entries es : List Entry) (links ls : List ℕ) (t : Tally)
     → owns t.epoch ≡ owners t.epoch → ((e s : ℕ) → is_signer_among (owns e) new kind e s ≡ is_signer_among (owners e) own kind e s)
-    → IsTally f owners own kind entries links t → IsTally f owns new kind entries links t
-tally_like f owners owns own new kind entries links t at same i =
+    → ((shards : List ℕ) → Chain entries links kind t.last shards → Chain es ls kind t.last shards)
+    → IsTally f owners own kind entries links t → IsTally f owns new kind es ls t
+tally_like f owners owns own new kind entries es links ls t at same leads i =
     let counts_same : (e : ℕ) → count_among f owns new kind e ≡ count_among f owners own kind e = λ e. count_below-same (committee_size f) (is_signer_among (owners e) own kind e) (is_signer_among (owns e) new kind e) (λ s lt. same e s) in
     record {
       shards = i.shards;
-      chain = i.chain;
+      chain = leads i.shards i.chain;
       members = λ s. ap (λ (o : List ℕ). has_neighbour o i.shards s) at ∙ i.members s ∙ sym (same t.epoch s);
       counted = i.counted ∙ sym (counts_same t.epoch);
       idle = i.idle;
@@ -205,13 +151,18 @@ tally_like f owners owns own new kind entries links t at same i =
       least = least_like f owners owns own new kind t.quorum counts_same i.least;
     }
 
--- so after one more own entry by which nobody signs in this way
+-- so when more entries follow that are not the identifier's own
+pub tally_kept : (f : ℕ) (owners : ℕ → List ℕ) (own : List Entry) (kind : Kind) (entries more : List Entry) (links after : List ℕ) (t : Tally) → IsTally f owners own kind entries links t → IsTally f owners own kind (entries ++ more) (links ++ after) t
+tally_kept f owners own kind entries more links after t i =
+    tally_like f owners owners own own kind entries _ links _ t refl (λ e s. refl) (chain_push entries more links after kind t.last) i
+
+-- and after one more own entry by which nobody signs in this way
 pub tally_other : (f : ℕ) (owners : ℕ → List ℕ) (own : List Entry) (kind : Kind) (entries : List Entry) (links : List ℕ) (t : Tally) (x : Entry) (link : ℕ) → ((e s : ℕ) → signs_for (owners e) kind s x.body ≡ false)
     → IsTally f owners own kind entries links t → IsTally f owners (own ++ x ∷ []) kind (entries ++ x ∷ []) (links ++ link ∷ []) t
 tally_other f owners own kind entries links t x link none i =
-    tally_like f owners owners own (own ++ x ∷ []) kind (entries ++ x ∷ []) (links ++ link ∷ []) t refl
+    tally_like f owners owners own (own ++ x ∷ []) kind entries _ links _ t refl
     (λ e s. signers_push (owners e) own kind x e s ∙ ap (λ b. is_signer_among (owners e) own kind e s || b) (and_right (nat_eq x.epoch e) (signs_for (owners e) kind s x.body) (none e s)) ∙ or-false (is_signer_among (owners e) own kind e s))
-    (tally_kept f owners own kind entries (x ∷ []) links (link ∷ []) t i)
+    (chain_push entries (x ∷ []) links (link ∷ []) kind t.last) i
 
 -- the tally of nothing is right where nobody signed
 pub tally_none : (f : ℕ) (owners : ℕ → List ℕ) (own : List Entry) (kind : Kind) (entries : List Entry) (links : List ℕ) → ((e s : ℕ) → is_signer_among (owners e) own kind e s ≡ false) → IsTally f owners own kind entries links no_tally
@@ -227,31 +178,21 @@ tally_none f owners own kind entries links none =
       least = λ e. omega (arith, zero_counts e);
     }
 
--- of an identifier that has no own entries, and of a fresh registration
-pub tally_empty : (f : ℕ) (owners : ℕ → List ℕ) (kind : Kind) (entries : List Entry) (links : List ℕ) → IsTally f owners [] kind entries links no_tally
-tally_empty f owners kind entries links = tally_none f owners [] kind entries links (λ e s. refl)
-
-pub tally_fresh : (f : ℕ) (owners : ℕ → List ℕ) (kind : Kind) (entries : List Entry) (links : List ℕ) (epoch : ℕ) (id : BlobId) (until : ℕ)
-    → IsTally f owners (record { epoch = epoch; body = Register id until } ∷ []) kind entries links no_tally
-tally_fresh f owners kind entries links epoch id until =
-    tally_none f owners (record { epoch = epoch; body = Register id until } ∷ []) kind entries links
-    (λ e s. or_from (nat_eq epoch e && signs_for (owners e) kind s (Register id until)) false (and_right (nat_eq epoch e) (signs_for (owners e) kind s (Register id until)) (signs_register (owners e) kind s id until)) refl)
+-- so for both kinds, in the row of an identifier
+pub row_none : (f until : ℕ) (owners : ℕ → List ℕ) (own entries : List Entry) (links : List ℕ) → ((kind : Kind) (e s : ℕ) → is_signer_among (owners e) own kind e s ≡ false)
+    → (kind : Kind) → IsTally f owners own kind entries links (tally_of kind (record no_row { until = until }))
+row_none f until owners own entries links none Holds = tally_none f owners own Holds entries links (none Holds)
+row_none f until owners own entries links none Denies = tally_none f owners own Denies entries links (none Denies)
 
 -- the last epoch in which some shard signed is within the epochs of the entries
 pub tally_epoch : (f first last : ℕ) (owners : ℕ → List ℕ) (own : List Entry) (kind : Kind) (entries : List Entry) (links : List ℕ) (t : Tally) → IsTally f owners own kind entries links t → All (IsWithin first last) own → t.epoch ≤ last
-tally_epoch f first last owners own kind entries links t i within = by (cases_lt last t.epoch)
-  where
-    by : (last < t.epoch) ⊎ (t.epoch ≤ last) → t.epoch ≤ last
-    by (inl far) =
-        let nobody : count_among f owners own kind t.epoch ≡ 0 = count_below-none (committee_size f) (is_signer_among (owners t.epoch) own kind t.epoch) (λ s. signers_beyond (owners t.epoch) own kind first last t.epoch s within far) in
-        omega (arith, i.idle (i.counted ∙ nobody))
-    by (inr le) = le
+tally_epoch f first last owners own kind entries links t i within = grind (arith, i.idle, i.counted, count_among-beyond f owners own kind first last t.epoch within)
 
 -- a tally is right by all owners that are the same for the epochs of the entries
 pub tally_owned : (f first last : ℕ) (owners owns : ℕ → List ℕ) (own : List Entry) (kind : Kind) (entries : List Entry) (links : List ℕ) (t : Tally) → All (IsWithin first last) own → ((e : ℕ) → e ≤ last → owns e ≡ owners e)
     → IsTally f owners own kind entries links t → IsTally f owns own kind entries links t
 tally_owned f first last owners owns own kind entries links t within same i =
-    tally_like f owners owns own own kind entries links t (same t.epoch (tally_epoch f first last owners own kind entries links t i within)) signers_same i
+    tally_like f owners owns own own kind entries entries links links t (same t.epoch (tally_epoch f first last owners own kind entries links t i within)) signers_same (λ shards c. c) i
   where
     signers_same : (e s : ℕ) → is_signer_among (owns e) own kind e s ≡ is_signer_among (owners e) own kind e s
     signers_same e s = elim (cases_lt last e) [
@@ -262,11 +203,7 @@ tally_owned f first last owners owns own kind entries links t within same i =
 -- at most all shards signed in one epoch
 pub count_below-most : (n : ℕ) (p : ℕ → Bool) → count_below n p ≤ n
 count_below-most zero p = omega arith
-count_below-most (suc n) p = omega (arith, count_below-most n p, at_most (p n))
-  where
-    at_most : (b : Bool) → ◌≤◌ (cond b 1 0) 1
-    at_most true = omega arith
-    at_most false = omega arith
+count_below-most (suc n) p = grind (arith, nat_tests, count_below-most n p)
 
 pub tally_most : (f : ℕ) (owners : ℕ → List ℕ) (own : List Entry) (kind : Kind) (entries : List Entry) (links : List ℕ) (t : Tally) → IsTally f owners own kind entries links t → t.count ≤ committee_size f
 tally_most f owners own kind entries links t i = omega (arith, i.counted, count_below-most (committee_size f) (is_signer_among (owners t.epoch) own kind t.epoch))
@@ -274,132 +211,85 @@ tally_most f owners own kind entries links t i = omega (arith, i.counted, count_
 -- in the last epoch so far as many shards signed as a tally says of it
 pub tally_counts : (f first epoch : ℕ) (owners : ℕ → List ℕ) (own : List Entry) (kind : Kind) (entries : List Entry) (links : List ℕ) (t : Tally) → IsTally f owners own kind entries links t → All (IsWithin first epoch) own
     → count_among f owners own kind epoch ≡ cond (nat_eq t.epoch epoch) t.count 0
-tally_counts f first epoch owners own kind entries links t i within = by (cases_eq t.epoch epoch)
-  where
-    by : (t.epoch ≡ epoch) ⊎ (t.epoch ≢ epoch) → count_among f owners own kind epoch ≡ cond (nat_eq t.epoch epoch) t.count 0
-    by (inl e) = subst (λ (v : ℕ). count_among f owners own kind v ≡ t.count) e (sym i.counted) ∙ sym (cond-true (nat_eq t.epoch epoch) t.count 0 (eq-eqb t.epoch epoch e))
-    by (inr ne) =
-        let past : t.epoch < epoch = omega (arith, tally_epoch f first epoch owners own kind entries links t i within) in
-        count_below-none (committee_size f) (is_signer_among (owners epoch) own kind epoch) (λ s. i.later epoch s past)
-        ∙ sym (cond-false (nat_eq t.epoch epoch) t.count 0 (ne_eqb t.epoch epoch ne))
+tally_counts f first epoch owners own kind entries links t i within = elim (cases_eq t.epoch epoch) [
+  | inl e ↦ rw (eq-eqb t.epoch epoch e) (subst (λ (v : ℕ). count_among f owners own kind v ≡ t.count) e (sym i.counted))
+  | inr ne ↦ rw (ne_eqb t.epoch epoch ne) (count_below-none (committee_size f) _ (λ s. i.later epoch s (omega (arith, ne, tally_epoch f first epoch owners own kind entries links t i within))))
+]
 
 -- and the nodes of these shards are found down its links, and no others
 pub tally_signers : (f first epoch s : ℕ) (owners : ℕ → List ℕ) (own : List Entry) (kind : Kind) (entries : List Entry) (links : List ℕ) (t : Tally) (i : IsTally f owners own kind entries links t) → All (IsWithin first epoch) own
     → is_signer_among (owners epoch) own kind epoch s ≡ (nat_eq t.epoch epoch && has_neighbour (owners epoch) i.shards s)
-tally_signers f first epoch s owners own kind entries links t i within = by (cases_eq t.epoch epoch)
-  where
-    by : (t.epoch ≡ epoch) ⊎ (t.epoch ≢ epoch) → is_signer_among (owners epoch) own kind epoch s ≡ (nat_eq t.epoch epoch && has_neighbour (owners epoch) i.shards s)
-    by (inl e) =
-        subst (λ (v : ℕ). is_signer_among (owners v) own kind v s ≡ has_neighbour (owners v) i.shards s) e (sym (i.members s))
-        ∙ sym (ap (λ b. b && has_neighbour (owners epoch) i.shards s) (eq-eqb t.epoch epoch e))
-    by (inr ne) =
-        let past : t.epoch < epoch = omega (arith, tally_epoch f first epoch owners own kind entries links t i within) in
-        i.later epoch s past ∙ sym (and_left (nat_eq t.epoch epoch) (has_neighbour (owners epoch) i.shards s) (ne_eqb t.epoch epoch ne))
+tally_signers f first epoch s owners own kind entries links t i within = elim (cases_eq t.epoch epoch) [
+  | inl e ↦ rw (eq-eqb t.epoch epoch e) (subst (λ (v : ℕ). is_signer_among (owners v) own kind v s ≡ has_neighbour (owners v) i.shards s) e (sym (i.members s)))
+  | inr ne ↦ rw (ne_eqb t.epoch epoch ne) (i.later epoch s (omega (arith, ne, tally_epoch f first epoch owners own kind entries links t i within)))
+]
 
 -- the least quorum after one more signer in the last epoch
 pub least_grown : (f first epoch count : ℕ) (owners : ℕ → List ℕ) (own new : List Entry) (kind : Kind) (q : Option Quorum) → All (IsWithin first epoch) own
     → ((e : ℕ) → e ≢ epoch → count_among f owners new kind e ≡ count_among f owners own kind e)
     → count_among f owners own kind epoch ≤ count → count ≡ count_among f owners new kind epoch
     → HasLeast f owners own kind q → HasLeast f owners new kind (quorum_after f epoch count q)
-least_grown f first epoch count owners own new kind None within same grown is h = by (cases_lt count (quorum_size f))
-  where
-    all : count < quorum_size f → (e : ℕ) → count_among f owners new kind e < quorum_size f
-    all lt e = elim (cases_eq e epoch) [
-      | inl here ↦ subst (λ (v : ℕ). count_among f owners new kind v < quorum_size f) (sym here) (omega (arith, is))
-      | inr ne ↦ omega (arith, same e ne, h e)
-    ]
-
-    by : (count < quorum_size f) ⊎ (quorum_size f ≤ count) → HasLeast f owners new kind (quorum_after f epoch count None)
-    by (inl lt) = subst (HasLeast f owners new kind) (sym (cond-false (nat_le (quorum_size f) count) (Some (record { epoch = epoch; count = count })) None (lt-leb (quorum_size f) count lt))) (all lt)
-    by (inr le) = subst (HasLeast f owners new kind) (sym (cond-true (nat_le (quorum_size f) count) (Some (record { epoch = epoch; count = count })) None (le-leb (quorum_size f) count le))) (record {
+least_grown f first epoch count owners own new kind None within same grown is h =
+    cond_both (nat_le (quorum_size f) count) (Some (record { epoch = epoch; count = count })) None (HasLeast f owners new kind)
+    (λ le. record {
       counted = is;
-      quorum = le;
+      quorum = leb-true (quorum_size f) count le;
       least = λ e lt. omega (arith, same e (λ here. omega arith), h e);
     })
-least_grown f first epoch count owners own new kind (Some q) within same grown is h = by (cases_eq q.epoch epoch)
-  where
-    le : q.epoch ≤ epoch
-    le = elim (cases_lt epoch q.epoch) [
-      | inl far ↦ absurd (omega (arith, h.counted, h.quorum, count_among-beyond f owners own kind first epoch q.epoch within (inr far)))
-      | inr at_most ↦ at_most
-    ]
-
-    by : (q.epoch ≡ epoch) ⊎ (q.epoch ≢ epoch) → HasLeast f owners new kind (quorum_after f epoch count (Some q))
-    by (inl e) = subst (λ (r : Quorum). HasLeast f owners new kind (Some r)) (sym (cond-true (nat_eq q.epoch epoch) (record { epoch = epoch; count = count }) q (eq-eqb q.epoch epoch e))) (record {
+    (λ few e. grind (arith, is, leb-false (quorum_size f) count few, same e, h e))
+least_grown f first epoch count owners own new kind (Some q) within same grown is h =
+    cond_both (nat_eq q.epoch epoch) (record { epoch = epoch; count = count }) q (λ r. HasLeast f owners new kind (Some r))
+    (λ e. record {
       counted = is;
-      quorum = omega (arith, h.counted, h.quorum, ap (λ (v : ℕ). count_among f owners own kind v) e);
-      least = λ k lt. omega (arith, same k (λ here. omega arith), h.least k (omega arith));
+      quorum = omega (arith, h.counted, h.quorum, ap (λ (v : ℕ). count_among f owners own kind v) (eqb-true q.epoch epoch e));
+      least = λ k lt. omega (arith, same k (λ here. omega arith), h.least k (omega (arith, eqb-true q.epoch epoch e)));
     })
-    by (inr ne) = subst (λ (r : Quorum). HasLeast f owners new kind (Some r)) (sym (cond-false (nat_eq q.epoch epoch) (record { epoch = epoch; count = count }) q (ne_eqb q.epoch epoch ne))) (record {
-      counted = h.counted ∙ sym (same q.epoch ne);
+    (λ ne. record {
+      counted = h.counted ∙ sym (same q.epoch (eqb-false q.epoch epoch ne));
       quorum = h.quorum;
       least = λ k lt. omega (arith, same k (λ here. omega (arith, le)), h.least k lt);
     })
+  where
+    le : q.epoch ≤ epoch
+    le = grind (arith, h.counted, h.quorum, count_among-beyond f owners own kind first epoch q.epoch within)
 
 -- the tally after one more entry by which a shard signs, for the first time for its node in its epoch, which is the last so far
 pub tally_signed : (f first place size shard : ℕ) (owners : ℕ → List ℕ) (own : List Entry) (kind : Kind) (entries : List Entry) (links : List ℕ) (t : Tally) (x : Entry)
     → IsTally f owners own kind entries links t → IsFirstClaim f first (owners x.epoch) own kind shard x → size ≡ node_size f (owners x.epoch) shard → length entries ≡ place → length links ≡ place
     → IsTally f owners (own ++ x ∷ []) kind (entries ++ x ∷ []) (links ++ link_in x.epoch t ∷ []) (tally_after f x.epoch place size t)
-tally_signed f first place size shard owners own kind entries links t x i claim sized entries_len links_len = by (cases_eq t.epoch x.epoch)
+tally_signed f first place size shard owners own kind entries links t x i claim sized entries_len links_len =
+    let old = below (nat_eq t.epoch x.epoch) in
+    let counted : cond (nat_eq t.epoch x.epoch) t.count 0 + size ≡ count_among f owners new kind x.epoch = omega (arith, counts_here, tally_counts f first x.epoch owners own kind entries links t i claim.latest) in
+    record {
+      shards = shard ∷ old.0;
+      chain = chain_more entries links kind (link_in x.epoch t) place shard old.0 x old.1.0 entries_len links_len claim.signed;
+      members = λ s. turned (same_node (owners x.epoch) shard s) (has_neighbour (owners x.epoch) old.0 s) (is_signer_among (owners x.epoch) own kind x.epoch s)
+          (old.1.1 s ∙ sym (tally_signers f first x.epoch s owners own kind entries links t i claim.latest)) ∙ sym (here s);
+      counted = counted;
+      idle = λ h. absurd (omega (arith, sized, count_below-has (committee_size f) shard (same_node (owners x.epoch) shard) claim.below (same_node-self (owners x.epoch) shard)));
+      later = λ e s past. apart e s (λ h. omega arith) ∙ signers_beyond (owners e) own kind first x.epoch e s claim.latest past;
+      least = least_grown f first x.epoch (cond (nat_eq t.epoch x.epoch) t.count 0 + size) owners own new kind t.quorum claim.latest
+          (λ e ne. count_below-same (committee_size f) (is_signer_among (owners e) own kind e) (is_signer_among (owners e) new kind e) (λ s lt. apart e s ne))
+          (omega (arith, counts_here, counted)) counted i.least;
+    }
   where
     new : List Entry
     new = own ++ x ∷ []
 
-    here_owners : List ℕ
-    here_owners = owners x.epoch
-
     apart : (e s : ℕ) → e ≢ x.epoch → is_signer_among (owners e) new kind e s ≡ is_signer_among (owners e) own kind e s
-    apart e s ne = signers_push (owners e) own kind x e s
-        ∙ ap (λ b. is_signer_among (owners e) own kind e s || b) (and_left (nat_eq x.epoch e) (signs_for (owners e) kind s x.body) (ne_eqb x.epoch e (λ h. ne (sym h))))
-        ∙ or-false (is_signer_among (owners e) own kind e s)
+    apart e s ne = grind (arith, nat_tests, signers_push (owners e) own kind x e s)
 
-    here : (s : ℕ) → is_signer_among here_owners new kind x.epoch s ≡ (is_signer_among here_owners own kind x.epoch s || same_node here_owners shard s)
-    here s = signers_push here_owners own kind x x.epoch s
-        ∙ ap (λ b. is_signer_among here_owners own kind x.epoch s || (b && signs_for here_owners kind s x.body)) (eq-eqb x.epoch x.epoch refl)
-        ∙ ap (λ b. is_signer_among here_owners own kind x.epoch s || b) (signs_one here_owners kind shard s x.body claim.signed)
-
-    counts_apart : (e : ℕ) → e ≢ x.epoch → count_among f owners new kind e ≡ count_among f owners own kind e
-    counts_apart e ne = count_below-same (committee_size f) (is_signer_among (owners e) own kind e) (is_signer_among (owners e) new kind e) (λ s lt. apart e s ne)
+    here : (s : ℕ) → is_signer_among (owners x.epoch) new kind x.epoch s ≡ (is_signer_among (owners x.epoch) own kind x.epoch s || same_node (owners x.epoch) shard s)
+    here s = rw (signers_push (owners x.epoch) own kind x x.epoch s, eq-eqb x.epoch x.epoch refl, signs_one (owners x.epoch) kind shard s x.body claim.signed) refl
 
     counts_here : count_among f owners new kind x.epoch ≡ count_among f owners own kind x.epoch + size
-    counts_here = count_below-joined (committee_size f) (is_signer_among here_owners own kind x.epoch) (same_node here_owners shard) (is_signer_among here_owners new kind x.epoch) here
-        (node_apart here_owners (is_signer_among here_owners own kind x.epoch) shard (λ s u h. signers-node here_owners own kind x.epoch s u h) claim.first_time)
-        ∙ ap (λ (n : ℕ). count_among f owners own kind x.epoch + n) (sym sized)
-
-    some : 0 < size
-    some = omega (arith, sized, count_below-has (committee_size f) shard (same_node here_owners shard) claim.below (same_node-self here_owners shard))
-
-    later : (e s : ℕ) → x.epoch < e → is_signer_among (owners e) new kind e s ≡ false
-    later e s past = apart e s (λ h. omega arith) ∙ signers_beyond (owners e) own kind first x.epoch e s claim.latest past
+    counts_here = rw sized (count_below-joined (committee_size f) (is_signer_among (owners x.epoch) own kind x.epoch) (same_node (owners x.epoch) shard) (is_signer_among (owners x.epoch) new kind x.epoch) here
+        (node_apart (owners x.epoch) (is_signer_among (owners x.epoch) own kind x.epoch) shard (λ s u h. signers-node (owners x.epoch) own kind x.epoch s u h) claim.first_time))
 
     turned : (a b c : Bool) → b ≡ c → (a || b) ≡ (c || a)
-    turned true b c h = sym (or_right c true refl)
-    turned false b c h = h ∙ sym (or-false c)
+    turned a b c h = grind (arith, nat_tests)
 
-    grown : (shards : List ℕ) → Chain entries links kind (link_in x.epoch t) shards
-        → ((s : ℕ) → has_neighbour here_owners shards s ≡ is_signer_among here_owners own kind x.epoch s)
-        → IsTally f owners new kind (entries ++ x ∷ []) (links ++ link_in x.epoch t ∷ []) (tally_after f x.epoch place size t)
-    grown shards chain members =
-        let counted : cond (nat_eq t.epoch x.epoch) t.count 0 + size ≡ count_among f owners new kind x.epoch = omega (arith, counts_here, tally_counts f first x.epoch owners own kind entries links t i claim.latest) in
-        record {
-          shards = shard ∷ shards;
-          chain = chain_more entries links kind (link_in x.epoch t) place shard shards x chain entries_len links_len claim.signed;
-          members = λ s. turned (same_node here_owners shard s) (has_neighbour here_owners shards s) (is_signer_among here_owners own kind x.epoch s) (members s) ∙ sym (here s);
-          counted = counted;
-          idle = λ h. absurd (omega (arith, some));
-          later = later;
-          least = least_grown f first x.epoch (cond (nat_eq t.epoch x.epoch) t.count 0 + size) owners own new kind t.quorum claim.latest counts_apart (omega (arith, counts_here, counted)) counted i.least;
-        }
-
-    by : (t.epoch ≡ x.epoch) ⊎ (t.epoch ≢ x.epoch) → IsTally f owners new kind (entries ++ x ∷ []) (links ++ link_in x.epoch t ∷ []) (tally_after f x.epoch place size t)
-    by (inl e) =
-        let same : nat_eq t.epoch x.epoch ≡ true = eq-eqb t.epoch x.epoch e in
-        grown i.shards
-        (subst (λ (l : ℕ). Chain entries links kind l i.shards) (sym (cond-true (nat_eq t.epoch x.epoch) t.last 0 same)) i.chain)
-        (λ s. subst (λ (v : ℕ). has_neighbour (owners v) i.shards s ≡ is_signer_among (owners v) own kind v s) e (i.members s))
-    by (inr ne) =
-        let differ : nat_eq t.epoch x.epoch ≡ false = ne_eqb t.epoch x.epoch ne in
-        let past : t.epoch < x.epoch = omega (arith, tally_epoch f first x.epoch owners own kind entries links t i claim.latest) in
-        grown []
-        (cond-false (nat_eq t.epoch x.epoch) t.last 0 differ)
-        (λ s. sym (i.later x.epoch s past))
+    -- the shards that signed in this epoch so far, down the links
+    below : (b : Bool) → (shards : List ℕ) × (Chain entries links kind (cond b t.last 0) shards × ((s : ℕ) → has_neighbour (owners x.epoch) shards s ≡ (b && has_neighbour (owners x.epoch) i.shards s)))
+    below true = (i.shards, (i.chain, λ s. refl))
+    below false = ([], (refl, λ s. refl))

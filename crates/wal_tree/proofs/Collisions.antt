@@ -1,9 +1,10 @@
 -- Two leaves or two contents that differ under one root, up to the texts that collide.
-use Rattle.std.proofs.Common.{◌≡◌, ◌≢◌, ℕ, suc, ◌+◌, ◌*◌, ◌/◌, ◌%◌, ◌<◌, ◌≤◌, List, [], ◌∷◌, ◌++◌, length, take, drop, get_or, refl, ap, ap₂, subst, sym, ◌∙◌, arith, inl, inr, append-nil, All, Result, Ok, Err, IfOk}
+use Rattle.std.proofs.Common.{◌≡◌, ◌≢◌, ℕ, suc, ◌+◌, ◌*◌, ◌/◌, ◌%◌, ◌<◌, ◌≤◌, List, [], ◌∷◌, ◌++◌, length, take, drop, get_or, ap, ap₂, subst, sym, ◌∙◌, arith, inl, inr, append-nil, All, Result, Ok, Err, IfOk}
 use Rattle.wal_shape.specs.declared.text.Collision.{Collision}
 use Rattle.std.proofs.Math.Nat.{div-le_of_le-mul, mul-le-mul_right}
 use Rattle.std.proofs.Math.Seq.{take-add, take-append_seam, drop-append_seam}
 use Rattle.std.proofs.lemmas.Bool.{cases_lt}
+use Rattle.std.proofs.lemmas.Bool.Decides.{nat_tests}
 use Rattle.std.proofs.lemmas.List.{length-drop, take_all}
 use Rattle.std.proofs.lemmas.List.Elements.{All-cons, All-from_get_or}
 use Rattle.wal_tree.specs.Collision.{IsCollision}
@@ -74,22 +75,17 @@ fold_next digest place e p some =
 
 -- the digest of a parent's text is the parent
 pub digest-parent_text : (digest : List ℕ → List ℕ) (place : ℕ) (e s : List ℕ) → digest (parent_text place e s) ≡ parent digest place e s
-digest-parent_text digest place e s = elim (cases_lt (place % 2) 1) [
-  | inl low ↦ let even : place % 2 ≡ 0 = omega arith in rw even refl
-  | inr high ↦ let odd : place % 2 ≡ 1 = omega arith in rw odd refl
-]
+digest-parent_text digest place e s = grind (arith, nat_tests)
 
 -- different entries have different texts above them
-texts_apart : (place : ℕ) (e f s t : List ℕ) → length e ≡ length f → length s ≡ length t → e ≢ f → parent_text place e s ≢ parent_text place f t
-texts_apart place e f s t long_e long_s differ = elim (cases_lt (place % 2) 1) [
-  | inl low ↦ let even : place % 2 ≡ 0 = omega arith in rw even (λ same. differ (append_front e f s t long_e (ap (drop 1) same)))
-  | inr high ↦ let odd : place % 2 ≡ 1 = omega arith in rw odd (λ same. differ (append_back s t e f long_s (ap (drop 1) same)))
-]
-
 pub texts_apart_above : (place : ℕ) (e f s t above_e above_f : List ℕ) → length e ≡ length f → length s ≡ length t → e ≢ f →
     above_e ≡ parent_text place e s → above_f ≡ parent_text place f t → above_e ≢ above_f
 texts_apart_above place e f s t above_e above_f long_e long_s differ above_e_is above_f_is same =
-    texts_apart place e f s t long_e long_s differ (sym above_e_is ∙ same ∙ above_f_is)
+    let joined : parent_text place e s ≡ parent_text place f t = sym above_e_is ∙ same ∙ above_f_is in
+    elim (cases_lt (place % 2) 1) [
+      | inl low ↦ let even : place % 2 ≡ 0 = omega arith in differ (append_front e f s t long_e (ap (drop 1) (rw even at joined)))
+      | inr high ↦ let odd : place % 2 ≡ 1 = omega arith in differ (append_back s t e f long_s (ap (drop 1) (rw odd at joined)))
+    ]
 
 -- one level higher the paths lead to one root still
 pub one_above : (digest : List ℕ → List ℕ) (place : ℕ) (e f p q s t text_e text_f above_e above_f rest_p rest_q : List ℕ) → 32 ≤ length p → length q ≡ length p →
@@ -110,47 +106,29 @@ alone digest text lent same = ap digest (append-nil (lent ++ []) ∙ append-nil 
 -- two texts of one digest meet at once
 pub meet_here : (digest : List ℕ → List ℕ) (place : ℕ) (x : List ℕ) (p : List (List ℕ)) (y : List ℕ) (q : List (List ℕ)) (left right : List ℕ) →
     digest x ≡ digest y → left ≡ x → right ≡ y → MeetAbove digest place x p y q left right
-meet_here digest place x [] y q left right same left_is right_is = (same, left_is, right_is)
-meet_here digest place x (s ∷ p) y [] left right same left_is right_is = (same, left_is, right_is)
 meet_here digest place x (s ∷ p) y (t ∷ q) left right same left_is right_is = inl (same, left_is, right_is)
+meet_here digest place x _ y _ left right same left_is right_is = (same, left_is, right_is)
 
 -- and others where the texts of their parents do
-pub meet_next : (digest : List ℕ → List ℕ) (place : ℕ) (x y e f p q above_x above_y rest_p rest_q left right : List ℕ) → 32 ≤ length p → length q ≡ length p →
-    digest x ≡ e → digest y ≡ f → e ≢ f → above_x ≡ parent_text place e (take 32 p) → above_y ≡ parent_text place f (take 32 q) →
+pub meet_next : (digest : List ℕ → List ℕ) (place : ℕ) (x y e f p q above_x above_y rest_p rest_q left right : List ℕ) → length p % 32 ≡ 0 → length q ≡ length p → e ≢ f →
+    folded digest place e (pieces (length p / 32) 32 p) ≡ folded digest place f (pieces (length q / 32) 32 q) → digest x ≡ e → digest y ≡ f → above_x ≡ parent_text place e (take 32 p) → above_y ≡ parent_text place f (take 32 q) →
     rest_p ≡ drop 32 p → rest_q ≡ drop 32 q →
     MeetAbove digest (place / 2) above_x (pieces (length rest_p / 32) 32 rest_p) above_y (pieces (length rest_q / 32) 32 rest_q) left right →
     MeetAbove digest place x (pieces (length p / 32) 32 p) y (pieces (length q / 32) 32 q) left right
-meet_next digest place x y e f p q above_x above_y rest_p rest_q left right some long e_is f_is differ x_above y_above p_rest q_rest above =
-    let M : List ℕ → List ℕ → List ℕ → List ℕ → Type 0 =
-    λ a r b t. MeetAbove digest (place / 2) a (pieces (length r / 32) 32 r) b (pieces (length t / 32) 32 t) left right in
-    let x_is : above_x ≡ parent_text place (digest x) (take 32 p) = x_above ∙ ap (λ (a : List ℕ). parent_text place a (take 32 p)) (sym e_is) in
-    let y_is : above_y ≡ parent_text place (digest y) (take 32 q) = y_above ∙ ap (λ (a : List ℕ). parent_text place a (take 32 q)) (sym f_is) in
-    let there : M (parent_text place (digest x) (take 32 p)) (drop 32 p) (parent_text place (digest y) (take 32 q)) (drop 32 q) =
-    subst (λ (v : List ℕ). M (parent_text place (digest x) (take 32 p)) (drop 32 p) (parent_text place (digest y) (take 32 q)) v) q_rest
-    (subst (λ (v : List ℕ). M (parent_text place (digest x) (take 32 p)) (drop 32 p) v rest_q) y_is
-    (subst (λ (v : List ℕ). M (parent_text place (digest x) (take 32 p)) v above_y rest_q) p_rest
-    (subst (λ (v : List ℕ). M v rest_p above_y rest_q) x_is above))) in
+meet_next digest place x y e f p q above_x above_y rest_p rest_q left right whole long differ one e_is f_is x_above y_above p_rest q_rest above =
+    let some = way_on digest place e f p q whole long differ one in
+    let there = rw (x_above, ← e_is, p_rest, y_above, ← f_is, q_rest) at above in
     let apart : digest x ≢ digest y = λ same. differ (sym e_is ∙ same ∙ f_is) in
     let count_p : length p / 32 ≡ suc (length (drop 32 p) / 32) = omega (arith, length-drop 32 p) in
     let count_q : length q / 32 ≡ suc (length (drop 32 q) / 32) = omega (arith, length-drop 32 q) in
-    subst (λ n. MeetAbove digest place x (pieces n 32 p) y (pieces (length q / 32) 32 q) left right) (sym count_p)
-    (subst (λ n. MeetAbove digest place x (pieces (suc (length (drop 32 p) / 32)) 32 p) y (pieces n 32 q) left right) (sym count_q) (inr (apart, there)))
+    rw (count_p, count_q) (inr (apart, there))
 
 -- the texts that meet on the paths of the first piece that differs do so in the trees
 pub in_trees : (digest : List ℕ → List ℕ) (size place : ℕ) (a b x p y q left right : List ℕ) → place < length a / size → take (place * size) a ≡ take (place * size) b →
     take size (drop (place * size) a) ≢ take size (drop (place * size) b) → x ≡ take size (drop (place * size) a) → p ≡ path_over digest size a place →
     y ≡ take size (drop (place * size) b) → q ≡ path_over digest size b place → MeetOnPaths digest place x p y q left right → MeetInTrees digest size a b left right
 in_trees digest size place a b x p y q left right below first apart x_is p_is y_is q_is meet =
-    let M : List ℕ → List ℕ → List ℕ → List ℕ → Type 0 = λ u v w z. MeetOnPaths digest place u v w z left right in (
-      place,
-      below,
-      first,
-      apart,
-      subst (λ (z : List ℕ). M (take size (drop (place * size) a)) (path_over digest size a place) (take size (drop (place * size) b)) z) q_is
-          (subst (λ (w : List ℕ). M (take size (drop (place * size) a)) (path_over digest size a place) w q) y_is
-          (subst (λ (v : List ℕ). M (take size (drop (place * size) a)) v y q) p_is
-          (subst (λ (u : List ℕ). M u p y q) x_is meet))),
-    )
+    (place, below, first, apart, rw (x_is, p_is, y_is, q_is) at meet)
 
 -- the texts of two leaves of one digest meet on any paths
 pub leaves_meet : (digest : List ℕ → List ℕ) (place : ℕ) (x p y q e f left right : List ℕ) → e ≡ leaf digest x → f ≡ leaf digest y → e ≡ f →

@@ -1,5 +1,5 @@
 -- The columns of many stacks, and the stack of each row.
-use Rattle.std.proofs.Common.{◌≡◌, ℕ, zero, suc, ◌+◌, ◌*◌, ◌<◌, ◌≤◌, List, [], ◌∷◌, ◌++◌, All, length, map, take, drop, set, get_or, refl, ap, sym, subst, ◌∙◌, arith, append_assoc, add-one, length-take, length-drop, Vec, Global}
+use Rattle.std.proofs.Common.{◌≡◌, ℕ, suc, ◌+◌, ◌*◌, ◌<◌, ◌≤◌, List, [], ◌∷◌, ◌++◌, All, length, map, take, drop, set, get_or, refl, ap, sym, subst, ◌∙◌, arith, append_assoc, add-one, length-take, length-drop, Vec, Global}
 use Rattle.std.specs.Prelude.{Option, Some, None, Result, Ok, Err, OnErr}
 use Rattle.std.proofs.Math.ListN.{get_or-map}
 use Rattle.std.proofs.Math.Seq.{drop-cons}
@@ -50,10 +50,9 @@ row_long r levels = length-map (map column_bytes levels) (held_entry r) ∙ leng
 pub lost_more : (old : List (Option (List ℕ))) (level : ℕ) → set (emptied level old) level None ≡ emptied (level + 1) old
 lost_more old level = rw add-one (lost old level) where
   lost : (old : List (Option (List ℕ))) (level : ℕ) → set (emptied level old) level None ≡ emptied (suc level) old
-  lost [] zero = refl
-  lost (x ∷ old) zero = refl
-  lost [] (suc level) = refl
   lost (x ∷ old) (suc level) = ap (λ l. None ∷ l) (lost old level)
+  lost [] (suc level) = refl
+  lost _ _ = refl
 
 pub lost_level : (old levels : List (Option (Vec ℕ Global))) (level : ℕ) (w : Option (Vec ℕ Global)) → w ≡ None
     → map column_bytes levels ≡ emptied level (map column_bytes old) → map column_bytes (set levels level w) ≡ emptied (level + 1) (map column_bytes old)
@@ -66,17 +65,10 @@ pub lost_any : {T E : Type 0} (r : Result T E) (old new : List (Option (List ℕ
 lost_any (Ok x) old new level is = tt
 lost_any (Err e) old new level is = (level, is)
 
--- an element that is there, whatever stands for none
-pub get_same : {X : Type 0} → (xs : List X) (k : ℕ) (d e : X) → k < length xs → get_or xs k d ≡ get_or xs k e
-get_same [] k d e within = absurd (omega arith)
-get_same (x ∷ xs) zero d e within = refl
-get_same (x ∷ xs) (suc k) d e within = get_same xs k d e (omega arith)
-
 -- what is set twice
 set_twice : {X : Type 0} → (xs : List X) (k : ℕ) (a b : X) → set (set xs k a) k b ≡ set xs k b
-set_twice [] k a b = refl
-set_twice (x ∷ xs) zero a b = refl
 set_twice (x ∷ xs) (suc k) a b = ap (λ l. x ∷ l) (set_twice xs k a b)
+set_twice _ _ a b = refl
 
 -- at a taken place the columns are joined, and the carry goes on
 pub column_taken : (digest : List ℕ → List ℕ) (levels next : List (Option (Vec ℕ Global))) (k r : ℕ) (v : Vec ℕ Global) (entry above : List ℕ) → k < length levels
@@ -87,9 +79,7 @@ column_taken digest levels next k r v entry above within taken is joined =
     let zs = row_stack r (map column_bytes levels) in
     let after : row_stack r (map column_bytes next) ≡ set zs k None = ap (λ (l : List (Option (Vec ℕ Global))). row_stack r (map column_bytes l)) is ∙ row_set r k levels None in
     let here : get_or zs k None ≡ Some (entry_of r v.items) = row_at r k levels ∙ ap (λ (w : Option (Vec ℕ Global)). held_entry r (column_bytes w)) taken in
-    place_taken digest zs k (entry_of r v.items) (entry_of r entry) (omega (arith, row_long r levels)) here
-    ∙ ap (λ (l : List ℕ). take (k + 1) (set zs k None) ++ pushed digest (drop (k + 1) (set zs k None)) l) (sym joined)
-    ∙ ap (λ (l : List (Option (List ℕ))). take (k + 1) l ++ pushed digest (drop (k + 1) l) (entry_of r above)) (sym after)
+    rw (after, joined) (place_taken digest zs k (entry_of r v.items) (entry_of r entry) (omega (arith, row_long r levels)) here)
 
 -- at a free place the column stays
 pub column_free : (digest : List ℕ → List ℕ) (levels next : List (Option (Vec ℕ Global))) (k r : ℕ) (v : Vec ℕ Global) → k < length levels
@@ -99,9 +89,7 @@ pub column_free : (digest : List ℕ → List ℕ) (levels next : List (Option (
 column_free digest levels next k r v within free is =
     let zs = row_stack r (map column_bytes levels) in
     let here : get_or zs k None ≡ None = row_at r k levels ∙ ap (λ (w : Option (Vec ℕ Global)). held_entry r (column_bytes w)) free in
-    ap (λ (l : List (Option (Vec ℕ Global))). row_stack r (map column_bytes l)) (is ∙ set_twice levels k None (Some v))
-    ∙ row_set r k levels (Some v)
-    ∙ place_free digest zs k (entry_of r v.items) (omega (arith, row_long r levels)) here
+    rw (is, set_twice levels k None (Some v), row_set r k levels (Some v)) (place_free digest zs k (entry_of r v.items) (omega (arith, row_long r levels)) here)
 
 -- the entries of one level, and those of the level above them
 pub climb_step : (digest : List ℕ → List ℕ) (stack : List (Option (List ℕ))) (level : ℕ) (w pending above : Option (List ℕ)) → level + 1 < length stack
@@ -113,10 +101,7 @@ climb_step digest stack level w pending above within is joined =
     let next : drop (suc level) stack ≡ v ∷ rest = drop-cons stack (suc level) None (omega arith) in
     let here : drop level stack ≡ w ∷ (v ∷ rest) =
     drop-cons stack level None (omega arith) ∙ ap (λ (x : Option (List ℕ)). x ∷ drop (suc level) stack) (sym is) ∙ ap (λ (l : List (Option (List ℕ))). w ∷ l) next in
-    ap (λ (l : List (Option (List ℕ))). climb digest l (entries pending)) here
-    ∙ ap (climb digest (v ∷ rest)) (sym joined)
-    ∙ ap (λ (l : List (Option (List ℕ))). climb digest l (entries above)) (sym next)
-    ∙ ap (λ (k : ℕ). climb digest (drop k stack) (entries above)) (sym (add-one level))
+    rw (add-one level, here, next) (ap (climb digest (v ∷ rest)) (sym joined))
 
 -- the entry of a row at a level
 pub row_held : (r level : ℕ) (levels : List (Option (Vec ℕ Global)))
@@ -134,8 +119,4 @@ climb_nothing digest r (x ∷ levels) none = absurd (omega arith)
 pub stands_more : (digest : List ℕ → List ℕ) (stack new : List (Option (List ℕ))) (seen : List (List ℕ)) (a : List ℕ) → new ≡ pushed digest stack a
     → StandsFor digest stack seen → StandsFor digest new (seen ++ a ∷ [])
 stands_more digest stack new seen a is stands =
-    λ coming.
-    ap (λ (s : List (Option (List ℕ))). climb digest s coming) is
-    ∙ sym (climb-pushed digest stack a coming)
-    ∙ stands (a ∷ coming)
-    ∙ ap (root_of digest) (sym (append_assoc seen (a ∷ []) coming))
+    λ coming. rw (is, append_assoc seen (a ∷ []) coming) (sym (climb-pushed digest stack a coming) ∙ stands (a ∷ coming))

@@ -1,11 +1,10 @@
 -- The path of a place leads from its leaf to the root.
-use Rattle.std.proofs.Common.{◌≡◌, ℕ, zero, suc, ◌+◌, ◌-◌, ◌*◌, ◌/◌, ◌%◌, ◌<◌, ◌≤◌, List, [], ◌∷◌, length, take, drop, get_or, refl, ap, sym, ◌∙◌, arith, inl, inr}
+use Rattle.std.proofs.Common.{◌≡◌, ℕ, ◌+◌, ◌-◌, ◌*◌, ◌/◌, ◌%◌, ◌<◌, List, length, take, drop, get_or, ap, sym, ◌∙◌, arith, inl, inr}
 use Rattle.std.specs.List.{concat}
 use Rattle.std.proofs.lemmas.Bool.{cases_lt}
-use Rattle.wal_tree.specs.Tree.{empty_entry, leaf, leaves, pair_up, pieces, root_of, root_over}
+use Rattle.wal_tree.specs.Tree.{empty_entry, leaves, pair_up, root_of, root_over}
 use Rattle.wal_tree.specs.Path.{beside, folded, height, IsPathTo, parent, path_of}
-use Rattle.wal_tree.proofs.Roots.{length-pair_up, root_of-pair_up}
-use Rattle.wal_tree.proofs.Paths.{get_or-leaves, get_or-pair_up, height-end, height-step, length-leaves, length-pair_up-half, path_of-end, path_of-step}
+use Rattle.wal_tree.proofs.Paths.{by_levels, root_of-above, root_of-few, get_or-leaves, get_or-pair_up, height-end, height-step, length-leaves, length-pair_up-half, path_of-end, path_of-step}
 use Rattle.wal_tree.proofs.Sizes.{All-leaves, All-path_of, length-concat, pieces-concat}
 
 -- an entry and its sibling have the parent that stands above them
@@ -19,44 +18,26 @@ parent-pair_up digest entries place within = elim (cases_lt (place % 2) 1) [
       rw odd (sym (get_or-pair_up digest entries (place / 2) (place - 1) place (omega arith) (omega arith) (omega arith)))
 ]
 
-root_of-one : (digest : List ℕ → List ℕ) (a : List ℕ) → root_of digest (a ∷ []) ≡ a
-unfolding root_of
-root_of-one digest a = refl
-
-leads-within : (digest : List ℕ → List ℕ) (n place : ℕ) (entries : List (List ℕ)) → length entries ≤ n → place < length entries →
-    folded digest place (get_or entries place empty_entry) (path_of digest entries place) ≡ root_of digest entries
-leads-within digest n place [] few within = absurd (omega arith)
-leads-within digest n zero (a ∷ []) few within =
-    ap (folded digest 0 a) (path_of-end digest (a ∷ []) 0 (omega arith)) ∙ sym (root_of-one digest a)
-leads-within digest n (suc place) (a ∷ []) few within = absurd (omega arith)
-leads-within digest zero place (a ∷ (b ∷ more)) few within = absurd (omega arith)
-leads-within digest (suc n) place (a ∷ (b ∷ more)) few within =
-    let here = a ∷ (b ∷ more) in
-    let up = pair_up digest (a ∷ (b ∷ more)) in
-    ap (folded digest place (get_or here place empty_entry)) (path_of-step digest here place (omega arith))
-    ∙ ap (λ (e : List ℕ). folded digest (place / 2) e (path_of digest up (place / 2))) (parent-pair_up digest here place within)
-    ∙ leads-within digest n (place / 2) up (omega (arith, length-pair_up digest more)) (omega (arith, length-pair_up-half digest here))
-    ∙ sym (root_of-pair_up digest a b more)
-
 -- the path of a place leads from its entry to the root
 pub path_of-leads : (digest : List ℕ → List ℕ) (entries : List (List ℕ)) (place : ℕ) → place < length entries →
     folded digest place (get_or entries place empty_entry) (path_of digest entries place) ≡ root_of digest entries
-path_of-leads digest entries place within = leads-within digest (length entries) place entries (omega arith) within
-
-length-within : (digest : List ℕ → List ℕ) (n place : ℕ) (entries : List (List ℕ)) → length entries ≤ n → length (path_of digest entries place) ≡ height (length entries)
-length-within digest n place [] few = ap length (path_of-end digest [] place (omega arith)) ∙ sym (height-end 0 (omega arith))
-length-within digest n place (a ∷ []) few = ap length (path_of-end digest (a ∷ []) place (omega arith)) ∙ sym (height-end 1 (omega arith))
-length-within digest zero place (a ∷ (b ∷ more)) few = absurd (omega arith)
-length-within digest (suc n) place (a ∷ (b ∷ more)) few =
-    let here = a ∷ (b ∷ more) in
-    let up = pair_up digest (a ∷ (b ∷ more)) in
-    let rest : length (path_of digest up (place / 2)) ≡ height ((length here + 1) / 2) =
-    length-within digest n (place / 2) up (omega (arith, length-pair_up digest more)) ∙ ap height (length-pair_up-half digest here) in
-    ap length (path_of-step digest here place (omega arith)) ∙ omega (arith, rest, height-step (length here) (omega arith))
+path_of-leads digest entries place within =
+    by_levels digest (λ es. (place : ℕ) → place < length es → folded digest place (get_or es place empty_entry) (path_of digest es place) ≡ root_of digest es)
+    (λ es few place within. let lowest : place ≡ 0 = omega arith in
+    ap (folded digest place (get_or es place empty_entry)) (path_of-end digest es place few) ∙ ap (λ k. get_or es k empty_entry) lowest ∙ sym (root_of-few digest es few))
+    (λ es many rest place within.
+    ap (folded digest place (get_or es place empty_entry)) (path_of-step digest es place many)
+    ∙ ap (λ (e : List ℕ). folded digest (place / 2) e (path_of digest (pair_up digest es) (place / 2))) (parent-pair_up digest es place within)
+    ∙ rest (place / 2) (omega (arith, length-pair_up-half digest es)) ∙ sym (root_of-above digest es many))
+    (length entries) entries (omega arith) place within
 
 -- a path has one digest for each level above the leaves
 pub length-path_of : (digest : List ℕ → List ℕ) (entries : List (List ℕ)) (place : ℕ) → length (path_of digest entries place) ≡ height (length entries)
-length-path_of digest entries place = length-within digest (length entries) place entries (omega arith)
+length-path_of digest entries place =
+    by_levels digest (λ es. (place : ℕ) → length (path_of digest es place) ≡ height (length es))
+    (λ es few place. ap length (path_of-end digest es place few) ∙ sym (height-end (length es) few))
+    (λ es many rest place. omega (arith, ap length (path_of-step digest es place many), rest (place / 2), ap height (length-pair_up-half digest es), height-step (length es) many))
+    (length entries) entries (omega arith) place
 
 -- the path that `path` writes is one that `path_holds` accepts
 pub IsPathTo-path_of : (digest : List ℕ → List ℕ) (size_is : (text : List ℕ) → length (digest text) ≡ 32) (size place : ℕ) (content : List ℕ) → place < length content / size →
@@ -72,9 +53,5 @@ IsPathTo-path_of digest size_is size place content within =
     record {
       within = within;
       long = length-concat 32 siblings all ∙ ap (λ n. 32 * n) high;
-      leads =
-          ap (λ (n : ℕ). folded digest place (leaf digest (take size (drop (place * size) content))) (pieces n 32 (concat siblings))) (sym high)
-          ∙ ap (folded digest place (leaf digest (take size (drop (place * size) content)))) (pieces-concat 32 siblings all)
-          ∙ ap (λ (e : List ℕ). folded digest place e siblings) (sym (get_or-leaves digest count size place content within))
-          ∙ path_of-leads digest entries place (omega arith);
+      leads = rw (← high, pieces-concat 32 siblings all, ← get_or-leaves digest count size place content within) (path_of-leads digest entries place (omega arith));
     }

@@ -1,8 +1,9 @@
 -- Leaf digests that lie one after the other, each in the place of its piece.
-use Rattle.std.proofs.Common.{◌≡◌, ℕ, zero, suc, ◌+◌, ◌*◌, ◌<◌, List, ◌∷◌, length, take, drop, get_or, refl, ap, ap₂, sym, ◌∙◌, arith}
+use Rattle.std.proofs.Common.{◌≡◌, ℕ, zero, suc, ◌+◌, ◌*◌, ◌<◌, List, length, take, drop, get_or, refl, ap, ◌∙◌, arith}
 use Rattle.std.specs.List.{concat}
 use Rattle.std.proofs.lemmas.List.{drop-drop}
 use Rattle.wal_tree.specs.Tree.{empty_entry, leaf, leaves, pieces}
+use Rattle.wal_tree.proofs.LevelPairs.{leaves-pieces}
 use Rattle.wal_tree.proofs.Paths.{get_or-leaves, length-leaves}
 use Rattle.wal_tree.proofs.Sizes.{All-leaves, length-concat, pieces-concat}
 
@@ -16,12 +17,11 @@ run_of_rest size k content =
 pub pieces-leaves : (digest : List ℕ → List ℕ) (count size : ℕ) (digests content : List ℕ) →
     ((k : ℕ) → k < count → take 32 (drop (32 * k) digests) ≡ leaf digest (take size (drop (size * k) content))) →
     pieces count 32 digests ≡ leaves digest count size content
-pieces-leaves digest zero size digests content each = refl
-pieces-leaves digest (suc count) size digests content each =
-    let none : size * 0 ≡ 0 = omega arith in
-    ap₂ ◌∷◌ (each 0 (omega arith) ∙ ap (λ n. leaf digest (take size (drop n content))) none)
-    (pieces-leaves digest count size (drop 32 digests) (drop size content)
-    (λ k below. run_of_rest 32 k digests ∙ each (k + 1) (omega arith) ∙ ap (leaf digest) (sym (run_of_rest size k content))))
+pieces-leaves digest count size digests content each =
+    leaves-pieces digest count size digests content (λ k below.
+    let at : k * 32 ≡ 32 * k = omega arith in
+    let place : size * k ≡ k * size = omega arith in
+    ap (λ n. take 32 (drop n digests)) at ∙ each k below ∙ ap (λ n. leaf digest (take size (drop n content))) place)
 
 -- a piece of a content
 pub get_or-pieces : (count size k : ℕ) (content : List ℕ) → k < count → get_or (pieces count size content) k empty_entry ≡ take size (drop (size * k) content)
@@ -42,10 +42,7 @@ module _ (digest : List ℕ → List ℕ) (size_is : (text : List ℕ) → lengt
   pub joined_at : (count size k : ℕ) (content : List ℕ) → k < count →
       take 32 (drop (32 * k) (concat (leaves digest count size content))) ≡ leaf digest (take size (drop (size * k) content))
   joined_at count size k content below =
-      let all = All-leaves digest size_is count size content in
+      let all = leaves digest count size content in
       let place : k * size ≡ size * k = omega arith in
-      sym (get_or-pieces count 32 k (concat (leaves digest count size content)) below)
-      ∙ ap (λ n. get_or (pieces n 32 (concat (leaves digest count size content))) k empty_entry) (sym (length-leaves digest count size content))
-      ∙ ap (λ (ps : List (List ℕ)). get_or ps k empty_entry) (pieces-concat 32 (leaves digest count size content) all)
-      ∙ get_or-leaves digest count size k content below
-      ∙ ap (λ n. leaf digest (take size (drop n content))) place
+      let long : k < length all = omega (arith, below, length-leaves digest count size content) in
+      rw (← get_or-pieces (length all) 32 k (concat all) long, pieces-concat 32 all (All-leaves digest size_is count size content), get_or-leaves digest count size k content below, place) refl

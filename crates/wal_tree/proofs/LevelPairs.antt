@@ -30,8 +30,7 @@ pieces-same (suc count) size xs ys each =
 pub pieces-more : (count size : ℕ) (xs : List ℕ) → pieces (suc count) size xs ≡ pieces count size xs ++ (take size (drop (count * size) xs) ∷ [])
 pieces-more zero size xs = ap (λ (p : List ℕ). p ∷ []) (sym (first size xs))
 pieces-more (suc count) size xs =
-    ap (λ (l : List (List ℕ)). take size xs ∷ l) (pieces-more count size (drop size xs))
-    ∙ ap (λ (p : List ℕ). take size xs ∷ (pieces count size (drop size xs) ++ (p ∷ []))) (sym (shifted size count xs))
+    rw (pieces-more count size (drop size xs), shifted size count xs) refl
 
 pub length-pieces : (count size : ℕ) (xs : List ℕ) → length (pieces count size xs) ≡ count
 length-pieces zero size xs = refl
@@ -75,17 +74,14 @@ paired digest (suc pairs) xs ys each =
     let head : take 32 ys ≡ first = each 0 (omega arith) ∙ ap (λ (l : List ℕ). digest (1 ∷ l)) (take-add 32 32 xs) in
     let tail = paired digest pairs (drop 64 xs) (drop 32 ys)
     (λ k l. sym (shifted 32 k ys) ∙ each (suc k) (omega arith) ∙ ap (λ (l : List ℕ). digest (1 ∷ l)) (shifted 64 k xs)) in
-    (λ i. head i ∷ tail i)
-    ∙ ap (λ (l : List ℕ). first ∷ pair_up digest (pieces (2 * pairs) 32 l)) (sym (drop-drop 32 32 xs))
-    ∙ ap (λ (n : ℕ). pair_up digest (pieces n 32 xs)) (sym two)
+    rw (two, drop-drop 32 32 xs) (λ i. head i ∷ tail i)
 
 -- the empty entry behind an odd number of entries
 pub pair_up-odd : (digest : List ℕ → List ℕ) (half : ℕ) (entries : List (List ℕ)) → length entries ≡ 2 * half + 1
     → pair_up digest (entries ++ (empty_entry ∷ [])) ≡ pair_up digest entries
-pair_up-odd digest half [] long = absurd (omega arith)
 pair_up-odd digest half (a ∷ []) long = refl
-pair_up-odd digest zero (a ∷ (b ∷ more)) long = absurd (omega arith)
 pair_up-odd digest (suc half) (a ∷ (b ∷ more)) long = ap (λ (l : List (List ℕ)). node digest a b ∷ l) (pair_up-odd digest half more (omega arith))
+pair_up-odd digest half entries long = absurd (omega arith)
 
 -- a level of odd length that was completed
 pub completed : (digest : List ℕ → List ℕ) (width half at : ℕ) (old new : List ℕ) → width ≡ 2 * half + 1 → at ≡ width * 32 → new ≡ put_at at old (replicate 32 0) → at + 32 ≤ length old
@@ -111,13 +107,11 @@ pieces-put count old ys long = pieces-append count ys (drop (0 + length ys) old)
 
 -- the level above has the same root
 pub root_up : (digest : List ℕ → List ℕ) (width : ℕ) (xs : List ℕ) → 1 < width → root_of digest (pair_up digest (pieces width 32 xs)) ≡ root_of digest (pieces width 32 xs)
-root_up digest zero xs more = absurd (omega arith)
-root_up digest (suc zero) xs more = absurd (omega arith)
 root_up digest (suc (suc width)) xs more = sym (root_of-pair_up digest (take 32 xs) (take 32 (drop 32 xs)) (pieces width 32 (drop 32 (drop 32 xs))))
+root_up digest width xs more = absurd (omega arith)
 
 -- one entry is the root
 pub root_one : (digest : List ℕ → List ℕ) (width : ℕ) (xs : List ℕ) → width ≡ 1 → root_of digest (pieces width 32 xs) ≡ take 32 xs
 unfolding root_of
-root_one digest zero xs one = absurd (omega arith)
 root_one digest (suc zero) xs one = refl
-root_one digest (suc (suc width)) xs one = absurd (omega arith)
+root_one digest width xs one = absurd (omega arith)

@@ -1,5 +1,5 @@
 -- The root and the siblings of a path, by the levels of a tree.
-use Rattle.std.proofs.Common.{◌≡◌, ℕ, zero, suc, ◌*◌, ◌/◌, ◌^◌, ◌<◌, ◌≤◌, List, [], ◌∷◌, length, take, drop, get_or, refl, ap, sym, ◌∙◌, arith}
+use Rattle.std.proofs.Common.{◌≡◌, ℕ, zero, suc, ◌*◌, ◌/◌, ◌^◌, ◌<◌, List, [], ◌∷◌, length, take, drop, get_or, refl, ap, sym, ◌∙◌, arith}
 use Rattle.std.specs.List.{concat}
 use Rattle.std.proofs.Math.Nat.{div-div-eq-div-mul, pow-succ'}
 use Rattle.wal_tree.specs.Tree.{empty_entry, leaves, pair_up, root_of}
@@ -7,8 +7,7 @@ use Rattle.wal_tree.specs.inside.Tree.{level_above}
 use Rattle.wal_tree.specs.Path.{beside, height, path_of, path_over}
 use Rattle.wal_tree.proofs.Honest.{length-path_of}
 use Rattle.wal_tree.proofs.Leaves.{get_or-pieces}
-use Rattle.wal_tree.proofs.Paths.{height-end, height-step, length-leaves, length-pair_up-half, path_of-end, path_of-step}
-use Rattle.wal_tree.proofs.Roots.{length-pair_up, root_of-pair_up}
+use Rattle.wal_tree.proofs.Paths.{by_levels, root_of-above, root_of-few, height-end, height-step, length-leaves, length-pair_up-half, path_of-end, path_of-step}
 use Rattle.wal_tree.proofs.Sizes.{All-leaves, All-path_of, pieces-concat}
 
 -- a level above the level above is one level higher
@@ -16,24 +15,17 @@ pub level_above-pair_up : (digest : List ℕ → List ℕ) (levels : ℕ) (entri
 level_above-pair_up digest zero entries = refl
 level_above-pair_up digest (suc levels) entries = ap (pair_up digest) (level_above-pair_up digest levels entries)
 
-root-within : (digest : List ℕ → List ℕ) (n : ℕ) (entries : List (List ℕ)) → length entries ≤ n →
-    root_of digest entries ≡ get_or (level_above digest (height (length entries)) entries) 0 empty_entry
-unfolding root_of
-root-within digest n [] few = rw (height-end 0 (omega arith)) refl
-root-within digest n (a ∷ []) few = rw (height-end 1 (omega arith)) refl
-root-within digest zero (a ∷ (b ∷ more)) few = absurd (omega arith)
-root-within digest (suc n) (a ∷ (b ∷ more)) few =
-    let here = a ∷ (b ∷ more) in
-    let up = pair_up digest here in
-    let high : suc (height (length up)) ≡ height (length here) = ap (λ k. suc (height k)) (length-pair_up-half digest here) ∙ omega (arith, height-step (length here) (omega arith)) in
-    root_of-pair_up digest a b more
-    ∙ root-within digest n up (omega (arith, length-pair_up digest more))
-    ∙ ap (λ (l : List (List ℕ)). get_or l 0 empty_entry) (level_above-pair_up digest (height (length up)) here)
-    ∙ ap (λ k. get_or (level_above digest k here) 0 empty_entry) high
-
 -- the root is the entry of the level that stands the tree's height above its leaves
 pub root_of-level : (digest : List ℕ → List ℕ) (entries : List (List ℕ)) → root_of digest entries ≡ get_or (level_above digest (height (length entries)) entries) 0 empty_entry
-root_of-level digest entries = root-within digest (length entries) entries (omega arith)
+root_of-level digest entries =
+    by_levels digest (λ es. root_of digest es ≡ get_or (level_above digest (height (length es)) es) 0 empty_entry)
+    (λ es few. rw (height-end (length es) few) (root_of-few digest es few))
+    (λ es many rest.
+    let high : suc (height (length (pair_up digest es))) ≡ height (length es) = omega (arith, ap height (length-pair_up-half digest es), height-step (length es) many) in
+    root_of-above digest es many ∙ rest
+    ∙ ap (λ (l : List (List ℕ)). get_or l 0 empty_entry) (level_above-pair_up digest (height (length (pair_up digest es))) es)
+    ∙ ap (λ k. get_or (level_above digest k es) 0 empty_entry) high)
+    (length entries) entries (omega arith)
 
 -- half of a place, so many times, is the place by that power of two
 halves : (k place : ℕ) → place / 2 / 2 ^ k ≡ place / 2 ^ (suc k)
@@ -47,16 +39,12 @@ path_of-level digest k place (a ∷ []) within = absurd (omega (arith, ap length
 path_of-level digest zero place (a ∷ (b ∷ more)) within =
     let here = a ∷ (b ∷ more) in
     let same : place ≡ place / 2 ^ 0 = omega arith in
-    ap (λ (p : List (List ℕ)). get_or p 0 empty_entry) (path_of-step digest here place (omega arith))
-    ∙ ap (λ n. get_or here (beside n) empty_entry) same
+    rw (path_of-step digest here place (omega arith)) (ap (λ n. get_or here (beside n) empty_entry) same)
 path_of-level digest (suc k) place (a ∷ (b ∷ more)) within =
     let here = a ∷ (b ∷ more) in
     let up = pair_up digest here in
     let step = path_of-step digest here place (omega arith) in
-    ap (λ (p : List (List ℕ)). get_or p (suc k) empty_entry) step
-    ∙ path_of-level digest k (place / 2) up (omega (arith, ap length step))
-    ∙ ap (λ (l : List (List ℕ)). get_or l (beside (place / 2 / 2 ^ k)) empty_entry) (level_above-pair_up digest k here)
-    ∙ ap (λ n. get_or (level_above digest (suc k) here) (beside n) empty_entry) (halves k place)
+    rw (step, ← halves k place, ← level_above-pair_up digest k here) (path_of-level digest k (place / 2) up (omega (arith, ap length step)))
 
 -- and it fills the bytes of the path from 32 k on
 pub path_over-level : (digest : List ℕ → List ℕ) (size_is : (text : List ℕ) → length (digest text) ≡ 32) (size place k : ℕ) (content : List ℕ) → k < height (length content / size) →

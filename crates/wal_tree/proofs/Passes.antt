@@ -1,5 +1,5 @@
 -- The pass over the leaves: pushing an entry keeps the root, and the stack stays within ten levels.
-use Rattle.std.proofs.Common.{◌≡◌, ℕ, zero, suc, ◌+◌, ◌*◌, ◌/◌, ◌^◌, ◌<◌, ◌≤◌, List, [], ◌∷◌, ◌++◌, length, take, refl, ap, sym, ◌∙◌, arith}
+use Rattle.std.proofs.Common.{◌≡◌, ℕ, suc, ◌+◌, ◌*◌, ◌/◌, ◌^◌, ◌<◌, ◌≤◌, List, [], ◌∷◌, ◌++◌, length, take, refl, sym, ◌∙◌, arith}
 use Rattle.std.specs.Prelude.{Option, Some, None}
 use Rattle.std.proofs.Math.Nat.{div-le_of_le-mul}
 use Rattle.wal_tree.specs.Tree.{empty_entry, node, pair_up, root_of}
@@ -16,12 +16,11 @@ climb-past digest (Some b) more a coming = refl
 -- the next entry may be pushed: the root stays
 pub climb-pushed : (digest : List ℕ → List ℕ) (stack : List (Option (List ℕ))) (a : List ℕ) (coming : List (List ℕ)) →
     climb digest stack (a ∷ coming) ≡ climb digest (pushed digest stack a) coming
-climb-pushed digest [] a coming = refl
-climb-pushed digest (None ∷ []) a coming = refl
-climb-pushed digest (None ∷ (v ∷ more)) a coming = refl
 climb-pushed digest (Some b ∷ []) a coming = root_of-pair_up digest b a coming
 climb-pushed digest (Some b ∷ (v ∷ more)) a coming =
     climb-pushed digest (v ∷ more) (node digest b a) (pair_up digest coming) ∙ sym (climb-past digest v more (node digest b a) coming)
+climb-pushed digest (None ∷ (v ∷ more)) a coming = refl
+climb-pushed digest _ a coming = refl
 
 -- one more leaf
 pub weight-pushed : (digest : List ℕ → List ℕ) (stack : List (Option (List ℕ))) (a : List ℕ) → weight (pushed digest stack a) ≡ weight stack + 1
@@ -32,12 +31,9 @@ weight-pushed digest (Some b ∷ more) a = omega (arith, weight-pushed digest mo
 -- a stack within n levels that stands for fewer than 2 ^ n - 1 leaves has room for one more
 pub length-pushed : (digest : List ℕ → List ℕ) (n : ℕ) (stack : List (Option (List ℕ))) (a : List ℕ) →
     length stack ≤ n → weight stack + 1 < 2 ^ n → length (pushed digest stack a) ≤ n
-length-pushed digest zero [] a long light = absurd (omega arith)
-length-pushed digest (suc n) [] a long light = omega arith
-length-pushed digest n (None ∷ more) a long light = omega arith
-length-pushed digest zero (Some b ∷ more) a long light = absurd (omega arith)
 length-pushed digest (suc n) (Some b ∷ more) a long light =
     omega (arith, length-pushed digest n more (node digest b a) (omega arith) (omega arith))
+length-pushed digest n _ a long light = omega arith
 
 -- with no place in use there is no leaf
 pub climb-none : (digest : List ℕ → List ℕ) (height : ℕ) (levels : List (Option (List ℕ))) → height ≡ 0 →
@@ -49,8 +45,7 @@ climb-none digest height levels none = rw none refl
 pub pass-step : (digest : List ℕ → List ℕ) (entry : List ℕ) (before after : List (List ℕ)) (old new : List (Option (List ℕ))) →
     before ≡ entry ∷ after → new ≡ pushed digest old entry → climb digest old before ≡ climb digest new after
 pass-step digest entry before after old new is new_is =
-    ap (climb digest old) is ∙ climb-pushed digest old entry after
-    ∙ ap (λ (s : List (Option (List ℕ))). climb digest s after) (sym new_is)
+    rw (is, new_is) (climb-pushed digest old entry after)
 
 -- a content within 1000 pieces, of which this one is still to come, leaves room for it
 pub pass-room : (digest : List ℕ → List ℕ) (total size : ℕ) (piece rest whole : List ℕ) (stack : List (Option (List ℕ))) (entry : List ℕ) →

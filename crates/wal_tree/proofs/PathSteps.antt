@@ -14,8 +14,7 @@ pub fold-step : (digest : List ℕ → List ℕ) (size place : ℕ) (sibling res
     0 < size → length sibling ≡ size → whole ≡ sibling ++ rest → above ≡ parent digest place entry sibling →
     folded digest place entry (pieces (length whole / size) size whole) ≡ folded digest (place / 2) above (pieces (length rest / size) size rest)
 fold-step digest size place sibling rest whole entry above positive long is above_is =
-    ap (folded digest place entry) (pieces-cons size sibling rest whole positive long is)
-    ∙ ap (λ (e : List ℕ). folded digest (place / 2) e (pieces (length rest / size) size rest)) (sym above_is)
+    rw (pieces-cons size sibling rest whole positive long is, above_is) refl
 
 -- one more sibling is written, and the path goes on from the parent
 pub path-step : (digest : List ℕ → List ℕ) (entries : List (List ℕ)) (level at : ℕ) (old new sibling : List ℕ) →
@@ -24,12 +23,8 @@ pub path-step : (digest : List ℕ → List ℕ) (entries : List (List ℕ)) (le
     ≡ new ++ concat (path_of digest (level_above digest (level + 1) entries) (at / 2))
 path-step digest entries level at old new sibling many sibling_is new_is =
     let here = level_above digest level entries in
-    let rest = concat (path_of digest (pair_up digest here) (at / 2)) in
-    ap (λ (p : List (List ℕ)). old ++ concat p) (path_of-step digest here at many)
-    ∙ ap (λ (s : List ℕ). old ++ (s ++ rest)) (sym sibling_is)
-    ∙ sym (append_assoc old sibling rest)
-    ∙ ap (λ (o : List ℕ). o ++ rest) (sym new_is)
-    ∙ ap (λ (l : List (List ℕ)). new ++ concat (path_of digest l (at / 2))) (sym (level_above-next digest level (level + 1) entries refl))
+    rw (path_of-step digest here at many, ← sibling_is, new_is, level_above-next digest level (level + 1) entries refl)
+    (sym (append_assoc old sibling (concat (path_of digest (pair_up digest here) (at / 2)))))
 
 -- at the root there is no sibling left
 pub path-end : (digest : List ℕ → List ℕ) (entries : List (List ℕ)) (at : ℕ) (out whole : List ℕ) →
@@ -54,10 +49,7 @@ module _ (digest : List ℕ → List ℕ) (level count size i : ℕ) (content : 
       let wide = width-level_above digest below count size content in
       let up = width_of-next below level count next in
       let made = get_or-pair_up digest under i (2 * i) (2 * i + 1) (omega arith) refl refl in
-      ap (λ (a : List ℕ). node digest a right) left_is
-      ∙ ap (λ (b : List ℕ). node digest (get_or under (2 * i) empty_entry) b) right_is
-      ∙ sym made
-      ∙ ap (λ (l : List (List ℕ)). get_or l i empty_entry) (sym (level_above-next digest below level (leaves digest count size content) next))
+      rw (left_is, right_is, level_above-next digest below level (leaves digest count size content) next) (sym made)
 
 -- an entry of the lowest level is the leaf of its piece
 pub entry-leaf : (digest : List ℕ → List ℕ) (level count size i width : ℕ) (content : List ℕ) → level ≡ 0 → width ≡ width_of level count → i < width →

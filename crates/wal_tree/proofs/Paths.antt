@@ -1,17 +1,37 @@
 -- Facts on paths that do not depend on how they are computed.
-use Rattle.std.proofs.Common.{◌≡◌, ℕ, zero, suc, ◌+◌, ◌*◌, ◌/◌, ◌^◌, ◌<◌, ◌≤◌, List, [], ◌∷◌, length, take, drop, refl, ap, ◌∙◌, arith, get_or, slice_index_or}
+use Rattle.std.proofs.Common.{◌≡◌, ℕ, zero, suc, ◌+◌, ◌*◌, ◌/◌, ◌^◌, ◌<◌, ◌≤◌, List, [], ◌∷◌, length, take, drop, refl, ap, ◌∙◌, arith, get_or, slice_index_or, add-one, inl, inr}
+use Rattle.std.proofs.lemmas.Bool.{cases_lt}
 use Rattle.std.proofs.lemmas.List.{drop-drop}
-use Rattle.wal_tree.specs.Tree.{empty_entry, leaf, leaves, node, pair_up}
+use Rattle.wal_tree.specs.Tree.{empty_entry, leaf, leaves, node, pair_up, root_of}
 use Rattle.wal_tree.specs.inside.Tree.{level_above}
 use Rattle.wal_tree.specs.Path.{beside, height, height_within, path_of, path_within}
 use Rattle.wal_tree.specs.inside.Path.{width_of}
-use Rattle.wal_tree.proofs.Roots.{length-pair_up}
+use Rattle.wal_tree.proofs.Roots.{length-pair_up, root_of-pair_up}
 
 -- a level has half as many entries as the one below, rounded up
 pub length-pair_up-half : (digest : List ℕ → List ℕ) (entries : List (List ℕ)) → length (pair_up digest entries) ≡ (length entries + 1) / 2
 length-pair_up-half digest [] = refl
 length-pair_up-half digest (a ∷ []) = refl
 length-pair_up-half digest (a ∷ (b ∷ more)) = omega (arith, length-pair_up-half digest more)
+
+-- what holds of one entry or none, and of a level where it does of the one above, holds of all levels
+pub by_levels : (digest : List ℕ → List ℕ) (P : List (List ℕ) → Type 0) → ((entries : List (List ℕ)) → length entries ≤ 1 → P entries)
+    → ((entries : List (List ℕ)) → 1 < length entries → P (pair_up digest entries) → P entries) → (n : ℕ) (entries : List (List ℕ)) → length entries ≤ n → P entries
+by_levels digest P end step zero entries few = end entries (omega arith)
+by_levels digest P end step (suc n) entries few = elim (cases_lt 1 (length entries)) [
+  | inl many ↦ step entries many (by_levels digest P end step n (pair_up digest entries) (omega (arith, length-pair_up-half digest entries)))
+  | inr one ↦ end entries one
+]
+
+-- the root over a level is that over the one above, and one entry is its own root
+pub root_of-above : (digest : List ℕ → List ℕ) (entries : List (List ℕ)) → 1 < length entries → root_of digest entries ≡ root_of digest (pair_up digest entries)
+root_of-above digest (a ∷ (b ∷ more)) many = root_of-pair_up digest a b more
+root_of-above digest entries many = absurd (omega arith)
+
+pub root_of-few : (digest : List ℕ → List ℕ) (entries : List (List ℕ)) → length entries ≤ 1 → root_of digest entries ≡ get_or entries 0 empty_entry
+unfolding root_of
+root_of-few digest (a ∷ (b ∷ more)) few = absurd (omega arith)
+root_of-few digest _ few = refl
 
 pub length-level_above : (digest : List ℕ → List ℕ) (levels : ℕ) (entries : List (List ℕ)) → length (level_above digest levels entries) ≡ width_of levels (length entries)
 length-level_above digest zero entries = refl
@@ -37,53 +57,38 @@ get_or-leaves digest (suc count) size (suc i) content below =
 -- an entry of a level is the parent of two of the level below, of which the second may be empty
 pub get_or-pair_up : (digest : List ℕ → List ℕ) (entries : List (List ℕ)) (i j k : ℕ) → i < (length entries + 1) / 2 → j ≡ 2 * i → k ≡ 2 * i + 1 →
     get_or (pair_up digest entries) i empty_entry ≡ node digest (get_or entries j empty_entry) (get_or entries k empty_entry)
-get_or-pair_up digest [] i j k below ej ek = absurd (omega arith)
 get_or-pair_up digest (a ∷ []) zero zero (suc zero) below ej ek = refl
-get_or-pair_up digest (a ∷ []) zero zero zero below ej ek = absurd (omega arith)
-get_or-pair_up digest (a ∷ []) zero zero (suc (suc k)) below ej ek = absurd (omega arith)
-get_or-pair_up digest (a ∷ []) zero (suc j) k below ej ek = absurd (omega arith)
-get_or-pair_up digest (a ∷ []) (suc i) j k below ej ek = absurd (omega arith)
 get_or-pair_up digest (a ∷ (b ∷ more)) zero zero (suc zero) below ej ek = refl
-get_or-pair_up digest (a ∷ (b ∷ more)) zero zero zero below ej ek = absurd (omega arith)
-get_or-pair_up digest (a ∷ (b ∷ more)) zero zero (suc (suc k)) below ej ek = absurd (omega arith)
-get_or-pair_up digest (a ∷ (b ∷ more)) zero (suc j) k below ej ek = absurd (omega arith)
-get_or-pair_up digest (a ∷ (b ∷ more)) (suc i) zero k below ej ek = absurd (omega arith)
-get_or-pair_up digest (a ∷ (b ∷ more)) (suc i) (suc zero) k below ej ek = absurd (omega arith)
-get_or-pair_up digest (a ∷ (b ∷ more)) (suc i) (suc (suc j)) zero below ej ek = absurd (omega arith)
-get_or-pair_up digest (a ∷ (b ∷ more)) (suc i) (suc (suc j)) (suc zero) below ej ek = absurd (omega arith)
 get_or-pair_up digest (a ∷ (b ∷ more)) (suc i) (suc (suc j)) (suc (suc k)) below ej ek =
     get_or-pair_up digest more i j k (omega arith) (omega arith) (omega arith)
+get_or-pair_up digest entries i j k below ej ek = absurd (omega arith)
 
 -- more levels than leaves change nothing
 height_within-enough : (m n count : ℕ) → count ≤ m → count ≤ n → height_within m count ≡ height_within n count
 height_within-enough m n zero hm hn = refl
 height_within-enough m n (suc zero) hm hn = refl
-height_within-enough zero n (suc (suc more)) hm hn = absurd (omega arith)
-height_within-enough (suc m) zero (suc (suc more)) hm hn = absurd (omega arith)
 height_within-enough (suc m) (suc n) (suc (suc more)) hm hn =
     ap (λ k. k + 1) (height_within-enough m n ((suc (suc more) + 1) / 2) (omega arith) (omega arith))
+height_within-enough m n count hm hn = absurd (omega arith)
 
 -- more than one leaf has one level more above it than its parents have
 pub height-step : (count : ℕ) → 1 < count → height count ≡ height ((count + 1) / 2) + 1
 unfolding height
-height-step zero many = absurd (omega arith)
-height-step (suc zero) many = absurd (omega arith)
 height-step (suc (suc more)) many =
     ap (λ k. k + 1) (height_within-enough (suc more) ((suc (suc more) + 1) / 2) ((suc (suc more) + 1) / 2) (omega arith) (omega arith))
+height-step count many = absurd (omega arith)
 
 pub height-end : (count : ℕ) → count ≤ 1 → height count ≡ 0
 unfolding height
-height-end zero few = refl
-height-end (suc zero) few = refl
 height-end (suc (suc more)) few = absurd (omega arith)
+height-end _ few = refl
 
 height_within-le : (k n count : ℕ) → count ≤ 2 ^ k → height_within n count ≤ k
-height_within-le k n zero few = omega arith
-height_within-le k n (suc zero) few = omega arith
-height_within-le k zero (suc (suc more)) few = omega arith
-height_within-le zero (suc n) (suc (suc more)) few = absurd (omega arith)
 height_within-le (suc k) (suc n) (suc (suc more)) few =
     omega (arith, height_within-le k n ((suc (suc more) + 1) / 2) (omega arith))
+height_within-le zero (suc n) (suc (suc more)) few = absurd (omega arith)
+height_within-le k zero (suc (suc more)) few = omega arith
+height_within-le _ _ _ few = omega arith
 
 -- at most 2 ^ k leaves have at most k levels above them
 pub height-le : (k count : ℕ) → count ≤ 2 ^ k → height count ≤ k
@@ -94,11 +99,10 @@ height-le k count few = height_within-le k count count few
 path_within-enough : (digest : List ℕ → List ℕ) (m n place : ℕ) (entries : List (List ℕ)) → length entries ≤ m → length entries ≤ n → path_within digest m place entries ≡ path_within digest n place entries
 path_within-enough digest m n place [] hm hn = refl
 path_within-enough digest m n place (a ∷ []) hm hn = refl
-path_within-enough digest zero n place (a ∷ (b ∷ more)) hm hn = absurd (omega arith)
-path_within-enough digest (suc m) zero place (a ∷ (b ∷ more)) hm hn = absurd (omega arith)
 path_within-enough digest (suc m) (suc n) place (a ∷ (b ∷ more)) hm hn =
     ap (λ (rest : List (List ℕ)). slice_index_or (a ∷ (b ∷ more)) (beside place) empty_entry ∷ rest)
     (path_within-enough digest m n (place / 2) (pair_up digest (a ∷ (b ∷ more))) (omega (arith, length-pair_up digest more)) (omega (arith, length-pair_up digest more)))
+path_within-enough digest m n place entries hm hn = absurd (omega arith)
 
 -- the path from a place among two entries or more: its sibling, then the path from its parent
 path_of-cons : (digest : List ℕ → List ℕ) (a b : List ℕ) (more : List (List ℕ)) (place : ℕ) →
@@ -111,15 +115,13 @@ path_of-cons digest a b more place =
 
 pub path_of-step : (digest : List ℕ → List ℕ) (entries : List (List ℕ)) (place : ℕ) → 1 < length entries →
     path_of digest entries place ≡ get_or entries (beside place) empty_entry ∷ path_of digest (pair_up digest entries) (place / 2)
-path_of-step digest [] place many = absurd (omega arith)
-path_of-step digest (a ∷ []) place many = absurd (omega arith)
 path_of-step digest (a ∷ (b ∷ more)) place many = path_of-cons digest a b more place
+path_of-step digest entries place many = absurd (omega arith)
 
 pub path_of-end : (digest : List ℕ → List ℕ) (entries : List (List ℕ)) (place : ℕ) → length entries ≤ 1 → path_of digest entries place ≡ []
 unfolding path_of
-path_of-end digest [] place few = refl
-path_of-end digest (a ∷ []) place few = refl
 path_of-end digest (a ∷ (b ∷ more)) place few = absurd (omega arith)
+path_of-end digest _ place few = refl
 
 pub width-level_above : (digest : List ℕ → List ℕ) (levels count size : ℕ) (content : List ℕ) → length (level_above digest levels (leaves digest count size content)) ≡ width_of levels count
 width-level_above digest levels count size content =
@@ -127,11 +129,7 @@ width-level_above digest levels count size content =
 
 -- the level that stands one level higher
 pub level_above-next : (digest : List ℕ → List ℕ) (levels up : ℕ) (entries : List (List ℕ)) → up ≡ levels + 1 → level_above digest up entries ≡ pair_up digest (level_above digest levels entries)
-level_above-next digest levels zero entries next = absurd (omega arith)
-level_above-next digest levels (suc up) entries next =
-    let same : up ≡ levels = omega arith in ap (λ k. pair_up digest (level_above digest k entries)) same
+level_above-next digest levels up entries next = ap (λ k. level_above digest k entries) (next ∙ add-one levels)
 
 pub width_of-next : (levels up count : ℕ) → up ≡ levels + 1 → width_of up count ≡ (width_of levels count + 1) / 2
-width_of-next levels zero count next = absurd (omega arith)
-width_of-next levels (suc up) count next =
-    let same : up ≡ levels = omega arith in ap (λ k. (width_of k count + 1) / 2) same
+width_of-next levels up count next = ap (λ k. width_of k count) (next ∙ add-one levels)

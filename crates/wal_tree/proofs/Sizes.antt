@@ -1,15 +1,14 @@
 -- The sizes of digests in a tree, and pieces of a text that was joined from pieces of one size.
-use Rattle.std.proofs.Common.{◌≡◌, ℕ, zero, suc, ◌*◌, ◌/◌, ◌<◌, ◌≤◌, List, [], ◌∷◌, ◌++◌, length, map, take, drop, get_or, refl, ap, ap₂, sym, ◌∙◌, arith, length-append, inl, inr, All}
+use Rattle.std.proofs.Common.{◌≡◌, ℕ, zero, suc, ◌*◌, ◌/◌, ◌<◌, List, [], ◌∷◌, ◌++◌, length, map, take, drop, get_or, refl, ap, ap₂, sym, ◌∙◌, arith, length-append, inl, inr, All}
 use Rattle.std.specs.List.{concat}
 use Rattle.std.proofs.Math.Seq.{take-append_seam, drop-append_seam}
 use Rattle.std.proofs.Math.Nat.{mul-div_left}
 use Rattle.std.proofs.lemmas.Bool.{cases_lt}
 use Rattle.std.proofs.lemmas.List.{get_or_past}
-use Rattle.std.proofs.lemmas.List.Elements.{All-nil, All-cons, All-head, All-tail}
+use Rattle.std.proofs.lemmas.List.Elements.{All-nil, All-cons, All-head, All-tail, All-map}
 use Rattle.wal_tree.specs.Tree.{empty_entry, leaf, leaves, node, pair_up, pieces, root_of, root_over, root_within}
 use Rattle.wal_tree.specs.Path.{beside, path_of}
-use Rattle.wal_tree.proofs.Roots.{length-pair_up}
-use Rattle.wal_tree.proofs.Paths.{path_of-end, path_of-step}
+use Rattle.wal_tree.proofs.Paths.{by_levels, path_of-end, path_of-step}
 
 -- the list has the size of a digest
 abbrev pub IsDigest : List ℕ → Type 0
@@ -35,9 +34,8 @@ module _ (digest : List ℕ → List ℕ) (size_is : (text : List ℕ) → lengt
 
   -- each leaf is a digest
   pub All-leaves : (count size : ℕ) (content : List ℕ) → All IsDigest (leaves digest count size content)
-  All-leaves zero size content = All-nil IsDigest
-  All-leaves (suc count) size content =
-      All-cons IsDigest (leaf digest (take size content)) (leaves digest count size (drop size content)) (size_is (0 ∷ take size content)) (All-leaves count size (drop size content))
+  All-leaves count size content =
+      All-map IsDigest (leaf digest) (pieces count size content) (λ k d within. size_is (0 ∷ get_or (pieces count size content) k d))
 
   length-root_within : (levels : ℕ) (entries : List (List ℕ)) → All IsDigest entries → length (root_within digest levels entries) ≡ 32
   length-root_within levels [] all = refl
@@ -54,20 +52,14 @@ module _ (digest : List ℕ → List ℕ) (size_is : (text : List ℕ) → lengt
   pub length-root_over : (size : ℕ) (content : List ℕ) → length (root_over digest size content) ≡ 32
   length-root_over size content = length-root_of (leaves digest (length content / size) size content) (All-leaves (length content / size) size content)
 
-  All-path_within : (n place : ℕ) (entries : List (List ℕ)) → length entries ≤ n → All IsDigest entries → All IsDigest (path_of digest entries place)
-  All-path_within n place [] few all = rw (path_of-end digest [] place (omega arith)) (All-nil IsDigest)
-  All-path_within n place (a ∷ []) few all = rw (path_of-end digest (a ∷ []) place (omega arith)) (All-nil IsDigest)
-  All-path_within zero place (a ∷ (b ∷ more)) few all = absurd (omega arith)
-  All-path_within (suc n) place (a ∷ (b ∷ more)) few all =
-      let up = pair_up digest (a ∷ (b ∷ more)) in
-      rw (path_of-step digest (a ∷ (b ∷ more)) place (omega arith))
-      (All-cons IsDigest (get_or (a ∷ (b ∷ more)) (beside place) empty_entry) (path_of digest up (place / 2))
-      (length-get_or (a ∷ (b ∷ more)) (beside place) all)
-      (All-path_within n (place / 2) up (omega (arith, length-pair_up digest more)) (All-pair_up (a ∷ (b ∷ more)))))
-
   -- each entry of a path is a digest
   pub All-path_of : (entries : List (List ℕ)) (place : ℕ) → All IsDigest entries → All IsDigest (path_of digest entries place)
-  All-path_of entries place all = All-path_within (length entries) place entries (omega arith) all
+  All-path_of entries place all =
+      by_levels digest (λ es. (place : ℕ) → All IsDigest es → All IsDigest (path_of digest es place))
+      (λ es few place all. rw (path_of-end digest es place few) (All-nil IsDigest))
+      (λ es many rest place all. rw (path_of-step digest es place many)
+      (All-cons IsDigest (get_or es (beside place) empty_entry) (path_of digest (pair_up digest es) (place / 2)) (length-get_or es (beside place) all) (rest (place / 2) (All-pair_up es))))
+      (length entries) entries (omega arith) place all
 
 -- texts of one size, joined
 pub length-concat : (size : ℕ) (xs : List (List ℕ)) → All (λ (x : List ℕ). length x ≡ size) xs → length (concat xs) ≡ size * length xs
@@ -91,5 +83,4 @@ pub root_over-concat : (digest : List ℕ → List ℕ) (size : ℕ) (xs : List 
     root_over digest size (concat xs) ≡ root_of digest (map (leaf digest) xs)
 root_over-concat digest size xs positive all =
     let count : length (concat xs) / size ≡ length xs = ap (λ n. n / size) (length-concat size xs all ∙ omega arith) ∙ mul-div_left (length xs) positive in
-    ap (λ n. root_of digest (leaves digest n size (concat xs))) count
-    ∙ ap (λ (ps : List (List ℕ)). root_of digest (map (leaf digest) ps)) (pieces-concat size xs all)
+    rw (count, pieces-concat size xs all) refl

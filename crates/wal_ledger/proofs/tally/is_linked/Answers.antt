@@ -1,5 +1,7 @@
-use Rattle.std.proofs.Common.{sym, ◌∙◌, arith}
-use Rattle.wal_ledger.proofs.TallyLaws.{walks, walk_found, walk_on, walk_end}
+use Rattle.std.proofs.Common.{◌||◌, ap, sym, ◌∙◌, arith}
+use Rattle.std.proofs.lemmas.Bool.{or_left}
+use Rattle.wal_shape.specs.Owners.{has_neighbour}
+use Rattle.wal_ledger.proofs.TallyLaws.{walks, walk_end}
 use Rattle.wal_ledger.proofs.tally.is_linked.Goals as goal
 
 pub offset_bounds-entries-place : goal.offset_bounds-entries-place
@@ -11,7 +13,8 @@ bounds-entries-place c = (walks _ _ _ c.loop-next.next _ c.loop-next-test.true c
 pub returns-then-signs_for : goal.returns-then-signs_for
 returns-then-signs_for c shards chain =
     let on = c.loop-next.invariant.same shards chain in
-    sym (on.1.1 ∙ walk_found c.args.owners.now c.args.entries.now c.args.links.now c.args.kind c.loop-next.next c.args.shard _ on.0 c.loop-next-test.true (sym c.signs_for.ensures ∙ c.if-signs_for.true) on.1.0)
+    let here = walks _ _ _ c.loop-next.next _ c.loop-next-test.true on.1.0 in
+    sym (on.1.1 ∙ here.same c.args.owners.now c.args.shard _ ∙ or_left _ (has_neighbour c.args.owners.now here.rest c.args.shard) (sym c.signs_for.ensures ∙ c.if-signs_for.true))
 
 pub offset_bounds-links-place : goal.offset_bounds-links-place
 offset_bounds-links-place c = omega (arith, c.loop-next.invariant.fits)
@@ -30,8 +33,8 @@ loop-next-preserved c =
       chained = (here.rest, here.chain);
       same = λ shards chain.
           let on = c.loop-next.invariant.same shards chain in
-          let after = walk_on c.args.owners.now c.args.entries.now c.args.links.now c.args.kind c.loop-next.next c.args.shard _ on.0 c.loop-next-test.true (sym c.signs_for.ensures ∙ c.if-signs_for.false) on.1.0 in
-          (after.0, (after.1.0, on.1.1 ∙ after.1.1));
+          let after = walks _ _ _ c.loop-next.next _ c.loop-next-test.true on.1.0 in
+          (after.rest, (after.chain, on.1.1 ∙ after.same c.args.owners.now c.args.shard _ ∙ ap (λ b. b || has_neighbour c.args.owners.now after.rest c.args.shard) (sym c.signs_for.ensures ∙ c.if-signs_for.false)));
     }
 
 pub returns : goal.returns

@@ -6,19 +6,14 @@ use Rattle.wal_tree.proofs.collide.collide_short_lists.Goals as goal
 
 pub returns-then-eq-clause-texts : goal.returns-then-eq-clause-texts
 returns-then-eq-clause-texts g c =
-    let digest = g.H.Hash32.digest in
-    let size = c.args.size in
-    let place = c.first_apart-place.result in
-    let a = c.args.a.now in
-    let b = c.args.b.now in
     let x = c.piece_at-piece_a.result.now in
     let y = c.piece_at-piece_b.result.now in
-    let left = c.short_text-left.result in
-    let right = c.short_text-right.result in
+    let p = path_over g.H.Hash32.digest c.args.size c.args.a.now c.first_apart-place.result in
+    let q = path_over g.H.Hash32.digest c.args.size c.args.b.now c.first_apart-place.result in
     let same : c.leaf_digest-entry_a.result ≡ c.leaf_digest-entry_b.result = search rules in
-    in_trees digest size place a b x (path_over digest size a place) y (path_over digest size b place) left right c.first_apart-place.ensures.place
+    in_trees g.H.Hash32.digest c.args.size c.first_apart-place.result c.args.a.now c.args.b.now x p y q c.short_text-left.result c.short_text-right.result c.first_apart-place.ensures.place
     c.first_apart-place.ensures.first c.first_apart-place.ensures.apart c.piece_at-piece_a.ensures.piece refl c.piece_at-piece_b.ensures.piece refl
-    (leaves_meet digest place x (path_over digest size a place) y (path_over digest size b place) c.leaf_digest-entry_a.result c.leaf_digest-entry_b.result left right
+    (leaves_meet g.H.Hash32.digest c.first_apart-place.result x p y q c.leaf_digest-entry_a.result c.leaf_digest-entry_b.result c.short_text-left.result c.short_text-right.result
     c.leaf_digest-entry_a.ensures c.leaf_digest-entry_b.ensures same (c.short_text-left.ensures ∙ ap (λ (t : List ℕ). 0 ∷ t) (append-nil x))
     (c.short_text-right.ensures ∙ ap (λ (t : List ℕ). 0 ∷ t) (append-nil y)))
 

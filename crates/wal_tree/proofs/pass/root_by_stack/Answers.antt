@@ -29,13 +29,8 @@ loop-piece-preserved g c =
     let begins = pieces-cons 32 piece rest whole (omega arith) long step.0 ∙ ap (λ (d : List ℕ). d ∷ coming) (sym c.copy_from_slice.ensures.after) in
     let room = pass-room digest (length c.args.digests.now) 32 piece rest whole l.stack entry (omega arith) (omega arith) long step.0 l.invariant.seen l.invariant.within in
     let fewer = count-cons 32 piece rest whole (omega arith) long step.0 in
-    record {
-      same = l.invariant.same
-          ∙ pass-step digest entry (pieces (length whole / 32) 32 whole) coming l.stack c.push.new.self begins c.push.ensures;
-      size = c.in-Some.ensures.steps.0 ∙ l.invariant.size;
-      seen = omega (arith, ap weight c.push.ensures, weight-pushed digest l.stack entry, fewer, l.invariant.seen);
-      within = omega (arith, ap length c.push.ensures, room);
-    }
+    let same = l.invariant.same ∙ pass-step digest entry (pieces (length whole / 32) 32 whole) coming l.stack c.push.new.self begins c.push.ensures in
+    search (arith, same, c.in-Some.ensures.steps.0, l.invariant, ap weight c.push.ensures, weight-pushed digest l.stack entry, fewer, ap length c.push.ensures, room)
 
 pub returns : goal.returns
 returns g c =

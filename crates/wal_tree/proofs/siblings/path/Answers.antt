@@ -1,10 +1,10 @@
 -- A turn writes the sibling and goes on from the parent.
-use Rattle.std.proofs.Common.{◌+◌, ◌*◌, ◌/◌, ◌≤◌, List, ℕ, ◌++◌, drop, length, take, get_or, refl, arith, ap, subst, sym, ◌∙◌}
+use Rattle.std.proofs.Common.{◌+◌, ◌/◌, ◌≤◌, List, ℕ, ◌++◌, length, get_or, refl, arith, ap, sym, ◌∙◌}
 use Rattle.std.specs.List.{concat}
 use Rattle.std.proofs.Math.Nat.{div-le_of_le-mul}
-use Rattle.wal_tree.specs.Tree.{empty_entry, leaves, root_over}
+use Rattle.wal_tree.specs.Tree.{empty_entry, leaves}
 use Rattle.wal_tree.specs.inside.Tree.{level_above}
-use Rattle.wal_tree.specs.Path.{IsPathTo, path_of}
+use Rattle.wal_tree.specs.Path.{path_of}
 use Rattle.wal_tree.proofs.Honest.{IsPathTo-path_of}
 use Rattle.wal_tree.proofs.Paths.{height-le, height-step, length-leaves, length-pair_up-half, level_above-next}
 use Rattle.wal_tree.proofs.PathSteps.{path-end, path-step}
@@ -16,14 +16,8 @@ loop-width-init g c =
     let digest = g.H.Hash32.digest in
     let entries = leaves digest (length a.content.now / a.size) a.size a.content.now in
     let few : length a.content.now / a.size ≤ 1000 = div-le_of_le-mul a.size (omega arith) in
-    record {
-      same = ap (λ (o : List ℕ). o ++ concat (path_of digest entries a.place)) (sym c.clear.ensures);
-      wide = length-leaves digest (length a.content.now / a.size) a.size a.content.now;
-      long = ap length c.clear.ensures;
-      high = omega arith;
-      few = few;
-      place = omega arith;
-    }
+    let same = ap (λ (o : List ℕ). o ++ concat (path_of digest entries a.place)) (sym c.clear.ensures) in
+    search (arith, same, length-leaves digest (length a.content.now / a.size) a.size a.content.now, ap length c.clear.ensures, few)
 
 pub push-requires : goal.push-requires
 push-requires g c =
@@ -44,16 +38,10 @@ loop-width-preserved g c =
     let digest = g.H.Hash32.digest in
     let entries = leaves digest (length a.content.now / a.size) a.size a.content.now in
     let sibling = c.entry.ensures ∙ ap (λ k. get_or (level_above digest l.level entries) k empty_entry) c.place_beside.ensures in
-    record {
-      same = l.invariant.same
-          ∙ path-step digest entries l.level l.at l.out c.push.new.self c.entry.result (omega arith) sibling c.push.ensures.appended;
-      wide = ap length (level_above-next digest l.level (l.level + 1) entries refl)
-          ∙ length-pair_up-half digest (level_above digest l.level entries) ∙ ap (λ n. (n + 1) / 2) l.invariant.wide;
-      long = omega (arith, c.push.ensures.grows);
-      high = omega (arith, height-step l.width (omega arith));
-      few = omega arith;
-      place = omega arith;
-    }
+    let same = l.invariant.same ∙ path-step digest entries l.level l.at l.out c.push.new.self c.entry.result (omega arith) sibling c.push.ensures.appended in
+    let wide = ap length (level_above-next digest l.level (l.level + 1) entries refl)
+    ∙ length-pair_up-half digest (level_above digest l.level entries) ∙ ap (λ n. (n + 1) / 2) l.invariant.wide in
+    search (arith, same, wide, l.invariant, c.push.ensures, height-step l.width (omega arith))
 
 pub returns-clause-siblings : goal.returns-clause-siblings
 returns-clause-siblings g c =
@@ -66,8 +54,4 @@ returns-clause-siblings g c =
 pub returns-clause-holds : goal.returns-clause-holds
 returns-clause-holds g c =
     let a = c.args in
-    let digest = g.H.Hash32.digest in
-    let count = length a.content.now / a.size in
-    let content = take a.size (drop (a.place * a.size) a.content.now) in
-    subst (λ (out : List ℕ). IsPathTo digest (root_over digest a.size a.content.now) count a.place content out)
-    (sym (returns-clause-siblings g c)) (IsPathTo-path_of digest g.met.H.Hash32.size a.size a.place a.content.now (omega arith))
+    rw (returns-clause-siblings g c) (IsPathTo-path_of g.H.Hash32.digest g.met.H.Hash32.size a.size a.place a.content.now (omega arith))

@@ -1,9 +1,10 @@
 -- Each place that the carry comes to is free or taken.
 use Rattle.std.proofs.Common.{◌≡◌, ◌+◌, ◌<◌, ℕ, List, Some, None, arith, ap, ap₂, get_or, length, length-set, map, set, sym, ◌∙◌}
+use Rattle.std.proofs.lemmas.List.{get_or_default}
 use Rattle.wal_tree.specs.Tree.{node}
 use Rattle.wal_tree.specs.Stacks.{entry_of}
 use Rattle.wal_tree.specs.inside.Stacks.{column_bytes}
-use Rattle.wal_tree.proofs.Columns.{column_free, column_taken, get_same, level_has, levels_set, lost_any, lost_level}
+use Rattle.wal_tree.proofs.Columns.{column_free, column_taken, level_has, levels_set, lost_any, lost_level}
 use Rattle.wal_tree.proofs.stacks.carry.Goals as goal
 
 pub join_columns-requires-clause-left : goal.join_columns-requires-clause-left
@@ -11,7 +12,7 @@ join_columns-requires-clause-left g c =
     let l = c.loop-level in
     let within : l.level < length l.levels.items = omega (arith, c.loop-level-test.true, l.auto.level-end, l.invariant.long, c.len-level-end.ensures) in
     let taken : get_or l.levels.items l.level None ≡ Some c.in-Some.left =
-    get_same l.levels.items l.level None _ within ∙ sym c.index_mut.ensures.value ∙ sym c.take.ensures.value ∙ c.in-Some.is in
+    get_or_default l.levels.items l.level None _ within ∙ sym c.index_mut.ensures.value ∙ sym c.take.ensures.value ∙ c.in-Some.is in
     ap length c.deref.ensures.value ∙ level_has c.args.rows l.level l.levels.items c.in-Some.left l.invariant.levels within taken
 
 pub returns-in_err-entry-in-Some-clause-levels : goal.returns-in_err-entry-in-Some-clause-levels
@@ -37,7 +38,7 @@ returns-in-None-clause-pushed g c =
     let l = c.loop-level in
     let within : l.level < length l.levels.items = omega (arith, c.loop-level-test.true, l.auto.level-end, l.invariant.long, c.len-level-end.ensures) in
     let free : get_or l.levels.items l.level None ≡ None =
-    get_same l.levels.items l.level None _ within ∙ sym c.index_mut.ensures.value ∙ sym c.take.ensures.value ∙ c.in-None.is in
+    get_or_default l.levels.items l.level None _ within ∙ sym c.index_mut.ensures.value ∙ sym c.take.ensures.value ∙ c.in-None.is in
     column_free g.H.Hash32.digest l.levels.items _ l.level r l.entry within free
     (ap (λ w. set (set l.levels.items l.level w) l.level (Some l.entry)) c.take.ensures.after)
     ∙ sym (l.invariant.same r few)
@@ -49,7 +50,7 @@ loop-level-preserved g c =
     let above = c.in_ok-entry-in-Some.entry in
     let within : l.level < length l.levels.items = omega (arith, c.loop-level-test.true, l.auto.level-end, l.invariant.long, c.len-level-end.ensures) in
     let taken : get_or l.levels.items l.level None ≡ Some left =
-    get_same l.levels.items l.level None _ within ∙ sym c.index_mut.ensures.value ∙ sym c.take.ensures.value ∙ c.in-Some.is in
+    get_or_default l.levels.items l.level None _ within ∙ sym c.index_mut.ensures.value ∙ sym c.take.ensures.value ∙ c.in-Some.is in
     record {
       same = λ r few.
           l.invariant.same r few

@@ -7,10 +7,7 @@ pub overflow_add-levels : goal.overflow_add-levels
 overflow_add-levels c = omega (arith, height-le 10 c.args.count (omega arith), c.loop-width.invariant.high)
 
 pub loop-width-preserved : goal.loop-width-preserved
-loop-width-preserved c = record {
-  high = omega (arith, height-step c.loop-width.width (omega arith), c.loop-width.invariant.high);
-  few = omega arith;
-}
+loop-width-preserved c = search (arith, height-step c.loop-width.width (omega arith), c.loop-width.invariant)
 
 pub returns-clause-exact : goal.returns-clause-exact
 returns-clause-exact c = omega (arith, height-end c.loop-width.width (omega arith), c.loop-width.invariant.high)

@@ -10,12 +10,10 @@ pub loop-sibling-preserved : goal.loop-sibling-preserved
 loop-sibling-preserved g c =
     let l = c.loop-sibling in
     let step = c.in-Some.ensures.steps.1 in
-    record {
-      same = l.invariant.same
-          ∙ fold-step g.H.Hash32.digest 32 l.place c.in-Some.sibling.now (chunks_exact_rest c.next.new.self) (chunks_exact_rest l.sibling-iterator) l.entry c.parent_of-entry.result
-          (omega arith) (step.1 ∙ l.invariant.size) step.0 c.parent_of-entry.ensures;
-      size = c.in-Some.ensures.steps.0 ∙ l.invariant.size;
-    }
+    let same = l.invariant.same
+    ∙ fold-step g.H.Hash32.digest 32 l.place c.in-Some.sibling.now (chunks_exact_rest c.next.new.self) (chunks_exact_rest l.sibling-iterator) l.entry c.parent_of-entry.result
+    (omega arith) (step.1 ∙ l.invariant.size) step.0 c.parent_of-entry.ensures in
+    search (arith, same, c.in-Some.ensures.steps.0 ∙ l.invariant.size)
 
 pub returns : goal.returns
 returns g c =

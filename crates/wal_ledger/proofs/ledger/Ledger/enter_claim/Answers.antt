@@ -1,20 +1,13 @@
-use Rattle.std.proofs.Common.{◌≡◌, ◌<◌, ◌≤◌, ℕ, false, cond, List, length, sym, ap, subst, ◌∙◌, arith}
-use Rattle.wal_shape.specs.declared.metadata.BlobId.{BlobId}
+use Rattle.std.proofs.Common.{◌≡◌, ◌<◌, ℕ, false, List, length, sym, ap, subst, ◌∙◌, arith}
 use Rattle.wal_shape.specs.declared.axis.Side.TheVariants.{Next}
 use Rattle.wal_ledger.specs.declared.entry.Entry.{Entry}
-use Rattle.wal_ledger.specs.declared.entry.Body.{Body}
-use Rattle.wal_ledger.specs.declared.rows.Row.{Row}
 use Rattle.wal_ledger.specs.declared.tally.Tally.{Tally}
 use Rattle.wal_ledger.specs.Shards.{committee_size}
-use Rattle.wal_ledger.specs.inside.Book.{BookState}
-use Rattle.wal_ledger.specs.inside.Tally.{link_in, node_size, tally_after}
+use Rattle.wal_ledger.specs.inside.Tally.{node_size, tally_after}
 use Rattle.wal_ledger.specs.inside.Rows.{row_in, tally_of, with_tally}
 use Rattle.wal_ledger.specs.Ledger.{Log, LedgerState, writing, same_node, owners_at, owners_of, signers, own_entries}
-use Rattle.wal_shape.specs.Identifiers.{id_eq}
-use Rattle.wal_ledger.specs.Answers.{claim_of}
-use Rattle.wal_ledger.specs.inside.Kept.{IsKept, log_of}
+use Rattle.wal_ledger.specs.inside.Kept.{log_of}
 use Rattle.wal_ledger.proofs.TallyLaws.{tally_most, count_below-most}
-use Rattle.wal_ledger.proofs.RowsKept.{pushed}
 use Rattle.wal_ledger.proofs.RowsEnter.{kept_claim}
 use Rattle.wal_ledger.proofs.ledger.Ledger.enter_claim.Goals as goal
 
@@ -23,16 +16,13 @@ after-requires-clause-few c =
     let i = c.self.inside in
     let log : Log = log_of i.f i.first i.owners i.book in
     let id = c.args.id.now in
-    let tally : c.tally-tally.result ≡ tally_of c.args.kind (row_in i.table id) = c.tally-tally.ensures ∙ ap (tally_of c.args.kind) c.find-row.ensures in
-    subst (λ (t : Tally). t.count ≤ committee_size i.f) (sym tally)
+    rw (c.tally-tally.ensures, c.find-row.ensures)
     (tally_most i.f (owners_at log) (own_entries log id) c.args.kind log.entries i.book.links (tally_of c.args.kind (row_in i.table id)) ((c.self.invariant.rows id).tallies c.args.kind))
 
 pub after-requires-clause-part : goal.after-requires-clause-part
 after-requires-clause-part c =
-    let i = c.self.inside in
-    let log : Log = log_of i.f i.first i.owners i.book in
-    let sized : c.node_size-size.result ≡ node_size i.f (owners_of Next log) c.args.shard = c.node_size-size.ensures ∙ sym (ap (λ (l : LedgerState). node_size l.log.f (owners_of Next l.log) c.args.shard) c.self.view_is) in
-    omega (arith, sized, count_below-most (committee_size i.f) (same_node (owners_of Next log) c.args.shard))
+    let log = c.args.self.now.log in
+    omega (arith, c.node_size-size.ensures, ap (λ (l : LedgerState). committee_size l.log.f) c.self.view_is, count_below-most (committee_size log.f) (same_node (owners_of Next log) c.args.shard))
 
 pub after-requires-clause-place : goal.after-requires-clause-place
 after-requires-clause-place c =
@@ -51,25 +41,13 @@ invariant_of-self c =
     let sized : size ≡ node_size i.f (owners_of Next old) c.args.shard = c.node_size-size.ensures ∙ sym (ap (λ (l : Log). node_size l.f (owners_of Next l) c.args.shard) view) in
     let tally : c.tally-tally.result ≡ t = c.tally-tally.ensures ∙ ap (tally_of kind) c.find-row.ensures in
     let epoch : c.writing_epoch-epoch.result ≡ writing old = c.writing_epoch-epoch.ensures.value ∙ sym (ap writing view) in
-    let after : c.after.result ≡ tally_after i.f (writing old) place size t =
-    c.after.ensures.value ∙ ap (λ (w : ℕ). tally_after i.f w place size c.tally-tally.result) epoch ∙ ap (tally_after i.f (writing old) place size) tally in
     let row : c.with.result ≡ with_tally kind (tally_after i.f (writing old) place size t) (row_in i.table id) =
-    c.with.ensures ∙ ap (λ (u : Tally). with_tally kind u c.find-row.result) after ∙ ap (with_tally kind (tally_after i.f (writing old) place size t)) c.find-row.ensures in
-    let rows : (q : BlobId) → row_in c.set.new.self q ≡ cond (id_eq id q) (with_tally kind (tally_after i.f (writing old) place size t) (row_in i.table id)) (row_in i.table q) =
-    λ q. c.set.ensures.rows q ∙ ap (λ (r : Row). cond (id_eq id q) r (row_in i.table q)) row in
-    let kept = kept_claim i.f i.first i.owners i.epoch i.reads_at i.writes_at place size c.args.shard i.moving kind id i.book i.table c.set.new.self i.ready i.total c.self.invariant
-    (subst (λ (l : LedgerState). 0 < l.spare) (sym c.self.view_is) c.requires.room)
-    (subst (λ (l : Log). c.args.shard < committee_size l.f) (sym view) c.requires.shard)
+    cc (c.with.ensures, c.after.ensures.value, epoch, tally, c.find-row.ensures) in
+    rw (c.push.ensures, c.link_in.ensures, c.body.ensures, epoch, tally)
+    (kept_claim i.f i.first i.owners i.epoch i.moving i.reads_at i.writes_at i.book i.table i.ready i.total c.self.invariant (subst (λ (l : LedgerState). 0 < l.spare) (sym c.self.view_is) c.requires.room)
+    place size c.args.shard kind id c.set.new.self (subst (λ (l : Log). c.args.shard < committee_size l.f) (sym view) c.requires.shard)
     (subst (λ (l : Log). signers l id kind (writing l) c.args.shard ≡ false) (sym view) c.requires.first_time)
-    (ap (λ (l : List Entry). length l) c.entries.ensures.value) sized c.set.ensures.ids c.set.ensures.spare c.set.ensures.live rows in
-    let claimed : ℕ → Body → ℕ → BookState = λ w b l. pushed i.book (record { epoch = w; body = b }) l in
-    let link : c.link_in.result ≡ link_in (writing old) t = c.link_in.ensures ∙ ap (λ (w : ℕ). link_in w c.tally-tally.result) epoch ∙ ap (link_in (writing old)) tally in
-    let book : claimed (writing old) (claim_of kind c.args.shard id) (link_in (writing old) t) ≡ c.push.new.self =
-    sym (c.push.ensures
-    ∙ ap (λ (w : ℕ). claimed w c.body.result c.link_in.result) epoch
-    ∙ ap (λ (b : Body). claimed (writing old) b c.link_in.result) c.body.ensures
-    ∙ ap (claimed (writing old) (claim_of kind c.args.shard id)) link) in
-    subst (λ (b : BookState). IsKept (log_of i.f i.first i.owners b) b.spare b.links i.epoch i.moving i.reads_at i.writes_at c.set.new.self i.ready i.total) book kept
+    (ap (λ (l : List Entry). length l) c.entries.ensures.value) sized c.set.ensures.ids c.set.ensures.spare c.set.ensures.live (λ q. rw (← row) (c.set.ensures.rows q)))
 
 pub returns-clause-lawful : goal.returns-clause-lawful
 returns-clause-lawful c = (invariant_of-self c).lawful

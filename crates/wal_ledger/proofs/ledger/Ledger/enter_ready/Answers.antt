@@ -1,14 +1,11 @@
-use Rattle.std.proofs.Common.{◌≡◌, ◌+◌, ◌<◌, ℕ, Bool, List, false, sym, ap, subst, ◌∙◌, arith}
+use Rattle.std.proofs.Common.{◌≡◌, ◌<◌, false, sym, ap, subst, ◌∙◌, arith}
 use Rattle.wal_shape.specs.declared.axis.Side.TheVariants.{Next}
 use Rattle.wal_shape.specs.Owners.{node_of}
-use Rattle.wal_ledger.specs.declared.entry.Body.TheVariants.{Ready}
 use Rattle.wal_ledger.specs.Shards.{committee_size}
-use Rattle.wal_ledger.specs.inside.Book.{BookState}
 use Rattle.wal_ledger.specs.inside.Tally.{node_size}
 use Rattle.wal_ledger.specs.Ledger.{Log, LedgerState, writing, owners_of, same_node, ready_shards}
-use Rattle.wal_ledger.specs.inside.Kept.{IsKept, log_of}
+use Rattle.wal_ledger.specs.inside.Kept.{log_of}
 use Rattle.wal_ledger.proofs.TallyLaws.{count_below-most}
-use Rattle.wal_ledger.proofs.RowsKept.{pushed}
 use Rattle.wal_ledger.proofs.RowsEnter.{kept_ready}
 use Rattle.wal_ledger.proofs.ledger.Ledger.enter_ready.Goals as goal
 
@@ -19,26 +16,22 @@ pub overflow_add-self : goal.overflow_add-self
 overflow_add-self c =
     let i = c.self.inside in
     let old : Log = log_of i.f i.first i.owners i.book in
-    let sized : c.node_size-size.result ≡ node_size i.f (owners_of Next old) c.args.shard = c.node_size-size.ensures ∙ sym (ap (λ (l : LedgerState). node_size l.log.f (owners_of Next l.log) c.args.shard) c.self.view_is) in
-    omega (arith, c.self.invariant.lawful.few_faults, c.self.invariant.counted, count_below-most (committee_size i.f) (ready_shards old), sized, count_below-most (committee_size i.f) (same_node (owners_of Next old) c.args.shard))
+    let log = c.args.self.now.log in
+    omega (arith, c.self.invariant.lawful.few_faults, c.self.invariant.counted, count_below-most (committee_size i.f) (ready_shards old), c.node_size-size.ensures, ap (λ (l : LedgerState). committee_size l.log.f) c.self.view_is, count_below-most (committee_size log.f) (same_node (owners_of Next log) c.args.shard))
 
 pub invariant_of-self : goal.invariant_of-self
 invariant_of-self c =
     let i = c.self.inside in
     let old : Log = log_of i.f i.first i.owners i.book in
     let view : old ≡ c.args.self.now.log = ap (λ (l : LedgerState). l.log) c.self.view_is in
-    let readied : ℕ → BookState = λ w. pushed i.book (record { epoch = w; body = Ready c.args.shard }) 0 in
     let node : c.writer-node.result ≡ node_of (owners_of Next old) c.args.shard = c.writer-node.ensures.value ∙ sym (ap (λ (l : Log). node_of (owners_of Next l) c.args.shard) view) in
     let sized : c.node_size-size.result ≡ node_size i.f (owners_of Next old) c.args.shard = c.node_size-size.ensures ∙ sym (ap (λ (l : Log). node_size l.f (owners_of Next l) c.args.shard) view) in
-    let kept = kept_ready i.f i.first i.owners i.epoch i.reads_at i.writes_at c.args.shard c.writer-node.result c.node_size-size.result i.moving i.book i.table i.ready i.total c.self.invariant
-    (subst (λ (l : LedgerState). 0 < l.spare) (sym c.self.view_is) c.requires.room)
-    (subst (λ (l : Log). c.args.shard < committee_size l.f) (sym view) c.requires.shard)
-    (subst (λ (l : Log). ready_shards l c.args.shard ≡ false) (sym view) c.requires.first_time)
-    node (subst (λ (l : Log). c.writer-node.result < committee_size l.f) (sym view) c.writer-node.ensures.below) sized in
     let epoch : c.writing_epoch-epoch.result ≡ writing old = c.writing_epoch-epoch.ensures.value ∙ sym (ap writing view) in
-    let book : readied (writing old) ≡ c.push.new.self = ap readied (sym epoch) ∙ sym c.push.ensures in
-    let raised = subst (λ (l : List Bool). IsKept (log_of i.f i.first i.owners (readied (writing old))) (readied (writing old)).spare (readied (writing old)).links i.epoch i.moving i.reads_at i.writes_at i.table l (i.total + c.node_size-size.result)) (sym c.raise.ensures) kept in
-    subst (λ (b : BookState). IsKept (log_of i.f i.first i.owners b) b.spare b.links i.epoch i.moving i.reads_at i.writes_at i.table c.raise.new.self (i.total + c.node_size-size.result)) book raised
+    rw (c.push.ensures, c.raise.ensures, epoch)
+    (kept_ready i.f i.first i.owners i.epoch i.moving i.reads_at i.writes_at i.book i.table i.ready i.total c.self.invariant (subst (λ (l : LedgerState). 0 < l.spare) (sym c.self.view_is) c.requires.room)
+    c.args.shard c.writer-node.result c.node_size-size.result (subst (λ (l : Log). c.args.shard < committee_size l.f) (sym view) c.requires.shard)
+    (subst (λ (l : Log). ready_shards l c.args.shard ≡ false) (sym view) c.requires.first_time)
+    node (subst (λ (l : Log). c.writer-node.result < committee_size l.f) (sym view) c.writer-node.ensures.below) sized)
 
 pub returns-clause-lawful : goal.returns-clause-lawful
 returns-clause-lawful c = (invariant_of-self c).lawful

@@ -2,7 +2,6 @@ use Rattle.std.proofs.Common.{◌≡◌, true, ap, ◌∙◌, arith}
 use Rattle.std.proofs.lemmas.Bool.{lt-ltb}
 use Rattle.wal_ledger.specs.declared.entry.Kind.TheVariants.{Denies}
 use Rattle.wal_ledger.specs.Ledger.{LedgerState, reading, until_of, is_live, owners_at, own_entries}
-use Rattle.wal_ledger.proofs.RowsRead.{invalid_known}
 use Rattle.wal_ledger.proofs.ledger.Ledger.invalid.Goals as goal
 
 pub returns-then-row-self-clause-value : goal.returns-then-row-self-clause-value
@@ -12,4 +11,5 @@ returns-then-row-self-clause-value c =
     let kept = c.row-row.ensures.row in
     let epoch : c.self.inside.epoch ≡ reading log = c.self.invariant.epoch_is ∙ ap (λ (l : LedgerState). reading l.log) c.self.view_is in
     let live : is_live log id ≡ true = lt-ltb (reading log) (until_of log id) (omega (arith, epoch, c.row-row.ensures.until, c.if-row-self.true)) in
-    invalid_known log id c.has_quorum.result live (c.has_quorum.ensures log.f (owners_at log) (own_entries log id) Denies log.entries kept.0 (kept.1.tallies Denies))
+    let known = c.has_quorum.ensures log.f (owners_at log) (own_entries log id) Denies log.entries kept.0 (kept.1.tallies Denies) in
+    (λ yes. record { live = live; quorum = known.0 yes }, λ invalid. known.1 invalid.quorum)

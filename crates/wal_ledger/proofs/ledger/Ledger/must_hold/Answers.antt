@@ -4,7 +4,7 @@ use Rattle.wal_ledger.specs.Handover.{IsDated}
 use Rattle.wal_ledger.specs.Kept.{IsLawful}
 use Rattle.wal_ledger.specs.inside.Kept.{log_of}
 use Rattle.wal_ledger.specs.Ledger.{LedgerState, writing, is_moving, owners_at, own_entries}
-use Rattle.wal_ledger.proofs.RowsRead.{must_hold_known}
+use Rattle.wal_ledger.proofs.Handover.{must_hold_now}
 use Rattle.wal_ledger.proofs.ledger.Ledger.must_hold.Goals as goal
 
 pub returns-then-row-epoch-clause-value : goal.returns-then-row-epoch-clause-value
@@ -18,6 +18,6 @@ returns-then-row-epoch-clause-value c =
     let lawful = subst IsLawful view c.self.invariant.lawful in
     let dated = subst IsDated view (c.self.invariant.lawful.dated moves) in
     let epoch : c.writing_epoch-epoch.result ≡ writing log = c.writing_epoch-epoch.ensures.value in
-    must_hold_known log id c.writing_epoch-epoch.result c.has_quorum_before.result lawful dated (sym (ap is_moving view) ∙ moves) epoch
-    (omega (arith, epoch, c.row-row.ensures.until, c.if-row-epoch.true))
-    (c.has_quorum_before.ensures log.f (owners_at log) (own_entries log id) Holds log.entries kept.0 (kept.1.tallies Holds))
+    let now = must_hold_now log id lawful dated (sym (ap is_moving view) ∙ moves) in
+    let known = rw epoch at (c.has_quorum_before.ensures log.f (owners_at log) (own_entries log id) Holds log.entries kept.0 (kept.1.tallies Holds)) in
+    (λ yes. now.1 (omega (arith, epoch, c.row-row.ensures.until, c.if-row-epoch.true), known.0 yes), λ must. known.1 (now.0 must).1)
