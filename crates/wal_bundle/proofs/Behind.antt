@@ -23,8 +23,8 @@ count_kept {count = count} {total = total} f s bytes one two are count_is total_
 module _ {Column : ℕ → List ℕ → Type 0} {f s : ℕ} where
   -- a column that the index needs is missing
   pub index_missing : {count total j : ℕ} (bytes : List ℕ) → IsFirstMissing Column (0 + 1) (0 + total) j
-      → count ≡ count_in bytes → count ≤ 2 * f
-      → total ≡ index_columns (column_bytes f s) count → Column 0 bytes → (k : ℕ) → MissesColumn Column f s k j
+      → count ≡ count_in bytes → count ≤ 2 * f → total ≡ index_columns (column_bytes f s) count → Column 0 bytes
+      → (k : ℕ) → MissesColumn Column f s k j
   index_missing {total = total} bytes miss count_is few total_is is k =
       of_index bytes is (rw count_is at few) (rw (← count_is, ← total_is) (rw (zero-add total) at miss))
 

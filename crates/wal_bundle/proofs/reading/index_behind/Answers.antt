@@ -37,11 +37,10 @@ add_columns-requires-clause-columns g c =
 pub returns-in-Some-clause-told : goal.returns-in-Some-clause-told
 returns-in-Some-clause-told g c =
     let count_is = rw c.deref.ensures.value at c.count_in-count.ensures in
-    let few : c.count_in-count.result ≤ 2 * (metadata_shown c.args.m).f =
-    omega (arith, c.if-from-f.false, c.from.ensures, c.f.ensures.value) in
     let total_is = rw (c.column_size-size.ensures.value, c.from-2.ensures) at c.index_columns-total.ensures.value in
     let miss = rw c.in-Some.is at c.in_ok-j.ensures.missing in
-    index_missing c.args.columns.items (rw (← c.from-in-Some.ensures) at miss) count_is few total_is c.requires.first
+    index_missing c.args.columns.items (rw (← c.from-in-Some.ensures) at miss) count_is
+    (omega (arith, c.if-from-f.false, c.from.ensures, c.f.ensures.value)) total_is c.requires.first
 
 pub settle_index-requires : goal.settle_index-requires
 settle_index-requires g c =
@@ -53,10 +52,8 @@ settle_index-requires g c =
     let are = rw c.in-None.is at c.in_ok-j.ensures.there in
     let two = (symbol_size-least m.f m.length).positive in
     let kept = count_kept m.f _ c.args.columns.items one two are count_is total_is c.requires.first in
-    record {
-      few = rw (c.deref-in-None.ensures.value, ← kept.0) few;
-      long = rw (c.deref-in-None.ensures.value, ← kept.0) kept.1;
-    }
+    let lent = c.deref-in-None.ensures.value in
+    record { few = rw (lent, ← kept.0) few; long = rw (lent, ← kept.0) kept.1 }
 
 pub returns-in-Some-2-clause-told : goal.returns-in-Some-2-clause-told
 returns-in-Some-2-clause-told g c =
@@ -73,9 +70,9 @@ returns-in-Some-2-clause-told g c =
 pub returns-clause-told : goal.returns-clause-told
 returns-clause-told g c =
     let count_is = rw c.deref.ensures.value at c.count_in-count.ensures in
-    let few : c.count_in-count.result ≤ 2 * (metadata_shown c.args.m).f =
-    omega (arith, c.if-from-f.false, c.from.ensures, c.f.ensures.value) in
     let total_is = rw (c.column_size-size.ensures.value, c.from-2.ensures) at c.index_columns-total.ensures.value in
     let are = rw c.in-None.is at c.in_ok-j.ensures.there in
     let none = rw c.in-None-2.is at c.in_ok-lengths-in-None.ensures.none in
-    no_index c.args.columns.items are count_is few total_is c.requires.first (rw c.deref-in-None.ensures.value at none)
+    no_index c.args.columns.items are count_is
+    (omega (arith, c.if-from-f.false, c.from.ensures, c.f.ensures.value)) total_is c.requires.first
+    (rw c.deref-in-None.ensures.value at none)

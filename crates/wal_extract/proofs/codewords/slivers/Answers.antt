@@ -1,5 +1,5 @@
 -- The size of a symbol is the one that the slivers have, and their codewords those that have one root.
-use Rattle.std.proofs.Common.{◌≡◌, ◌*◌, ◌∙◌, length, arith}
+use Rattle.std.proofs.Common.{◌≡◌, ◌*◌, ◌∙◌, length, arith, rules}
 use Rattle.std.proofs.lemmas.Result.{IfOk-weaker}
 use Rattle.wal_shape.specs.Shape.{shard_count}
 use Rattle.wal_extract.proofs.OneRoot.{one_root, words_apart}
@@ -11,30 +11,19 @@ pub symbol_bytes-size-requires-clause-whole : goal.symbol_bytes-size-requires-cl
 symbol_bytes-size-requires-clause-whole g c =
     let one = c.requires.one in (one.size, size_short c.args.f one.size c.requires.some c.requires.few one.most, one.long_a)
 
-pub codeword_of-requires-clause-even : goal.codeword_of-requires-clause-even
-codeword_of-requires-clause-even g c =
-    let one = c.requires.one in rw (c.symbol_bytes-size.ensures one.size one.long_a) one.even
-
-pub codeword_of-requires-clause-least : goal.codeword_of-requires-clause-least
-codeword_of-requires-clause-least g c =
-    let one = c.requires.one in rw (c.symbol_bytes-size.ensures one.size one.long_a) one.least
-
-pub codeword_of-requires-clause-long : goal.codeword_of-requires-clause-long
-codeword_of-requires-clause-long g c =
-    let one = c.requires.one in rw (c.in_ok-work.ensures.f, c.symbol_bytes-size.ensures one.size one.long_a) one.long_a
-
-pub codeword_of-requires-2-clause-even : goal.codeword_of-requires-2-clause-even
-codeword_of-requires-2-clause-even g c =
-    let one = c.requires.one in rw (c.symbol_bytes-size.ensures one.size one.long_a) one.even
-
-pub codeword_of-requires-2-clause-least : goal.codeword_of-requires-2-clause-least
-codeword_of-requires-2-clause-least g c =
-    let one = c.requires.one in rw (c.symbol_bytes-size.ensures one.size one.long_a) one.least
-
-pub codeword_of-requires-2-clause-long : goal.codeword_of-requires-2-clause-long
-codeword_of-requires-2-clause-long g c =
+pub codeword_of-requires : goal.codeword_of-requires
+codeword_of-requires g c =
     let one = c.requires.one in
-    rw (c.codeword_of.ensures.f, c.in_ok-work.ensures.f, c.symbol_bytes-size.ensures one.size one.long_a) one.long_b
+    let same = c.symbol_bytes-size.ensures one.size one.long_a in
+    let f = c.in_ok-work.ensures.f in
+    record { even = rw same one.even; least = rw same one.least; most = search rules; long = rw (f, same) one.long_a }
+
+pub codeword_of-requires-2 : goal.codeword_of-requires-2
+codeword_of-requires-2 g c =
+    let one = c.requires.one in
+    let same = c.symbol_bytes-size.ensures one.size one.long_a in
+    let f = c.codeword_of.ensures.f ∙ c.in_ok-work.ensures.f in
+    record { even = rw same one.even; least = rw same one.least; most = search rules; long = rw (f, same) one.long_b }
 
 pub collide_lists-requires : goal.collide_lists-requires
 collide_lists-requires g c =
