@@ -119,9 +119,3 @@ member_room size members index columns k some h index_is is =
     let front = take-map (λ (x : List ℕ). length x) k members in
     rw (is, index_is, length-append, index_wholes, wholes_long, ← front, ← length_of members k h)
     (omega (arith, within))
-
--- all of them
-pub all_wholes : (size : ℕ) (members : List (List ℕ)) (index columns : List ℕ) (k : ℕ) → index ≡ index_text size (lengths_of members) → length members ≤ k
-    → columns ≡ whole_columns size index ++ flat_map (whole_columns size) (take k members) → columns ≡ columns_text size members
-unfolding columns_text
-all_wholes size members index columns k index_is past is = rw (is, index_is, take_all k members past)

@@ -39,18 +39,6 @@ bundle_padded f s members is =
     let none : row_count f * column_count f * s - length (bundle_text f s members) ≡ 0 = omega arith in
     rw (bundle_symbols f s members is, none) (append-nil (bundle_text f s members))
 
--- columns that were laid, by the numbers that they were laid with
-pub laid_long : (f s size used : ℕ) (lengths columns : List ℕ) (members : List (List ℕ)) → 2 ≤ s → size ≡ column_bytes f s → lengths ≡ lengths_of members
-    → used ≡ used_columns size lengths → columns ≡ columns_text size members → length columns ≡ used * (row_count f * s)
-laid_long f s size used lengths columns members two size_is lengths_are used_is columns_are =
-    rw (columns_are, used_is, lengths_are, size_is) (text_long (column_bytes f s) members (size_positive f s two))
-
-pub laid_text : (f s size used : ℕ) (lengths columns block : List ℕ) (members : List (List ℕ)) → size ≡ column_bytes f s → lengths ≡ lengths_of members
-    → used ≡ used_columns size lengths → columns ≡ columns_text size members → block ≡ block_of_columns f s columns used → block ≡ bundle_text f s members
-unfolding bundle_text
-laid_text f s size used lengths columns block members size_is lengths_are used_is columns_are is =
-    rw (is, columns_are, used_is, lengths_are, size_is)
-
 -- a bundle of symbols that are not too long
 pub bundle_short : (f half most : ℕ) (members : List (List ℕ)) → IsBundleSize f (lengths_of members) (2 * half) → half ≤ most → cell_count f * (2 * most) ≤ most_bytes
     → length (bundle_text f (2 * half) members) ≤ most_bytes

@@ -3,7 +3,7 @@ use Rattle.std.proofs.Common.{◌≡◌, ℕ, ◌+◌, ◌*◌, ◌^◌, ◌<◌
 use Rattle.std.specs.Int.{w16, w32, from_be_bytes}
 use Rattle.std.specs.List.{range_with_len}
 use Rattle.std.proofs.lemmas.List.{append-nil, append_assoc, take-take, ext_get_or, length-map}
-use Rattle.std.proofs.lemmas.List.FromFn.{get_or-map-range_with_len, length-range_with_len, map-range_with_len_more}
+use Rattle.std.proofs.lemmas.List.FromFn.{get_or-map-range_with_len, length-range_with_len}
 use Rattle.std.proofs.Math.Seq.{drop-append-add}
 use Rattle.wal_shape.specs.Shape.{cell_count}
 use Rattle.wal_shape.specs.Spelling.{number_text}
@@ -84,17 +84,6 @@ lengths_read f s columns lengths faults fits is =
 -- columns begin with the index of members of one list of lengths
 pub one_index : (f s : ℕ) (columns a b : List ℕ) → f ≤ 333 → cell_count f * s < 2 ^ 32 → IsIndex f s columns a → IsIndex f s columns b → a ≡ b
 one_index f s columns a b faults fits is_a is_b = sym (lengths_read f s columns a faults fits is_a) ∙ lengths_read f s columns b faults fits is_b
-
--- lengths that are read one after the other
-pub no_lengths : (columns read : List ℕ) → read ≡ [] → read ≡ spelled_lengths columns 0
-unfolding spelled_lengths
-no_lengths columns read none = none
-
-pub one_length : (columns : List ℕ) (k own : ℕ) (before after : List ℕ) → before ≡ spelled_lengths columns k → own ≡ spelled_length columns k → after ≡ before ++ own ∷ []
-    → after ≡ spelled_lengths columns (k + 1)
-unfolding spelled_lengths
-one_length columns k own before after is own_is more =
-    cc (map-range_with_len_more (spelled_length columns) 0 k k (zero-add k))
 
 -- a text of entries that grows
 pub no_entries : (size : ℕ) (lengths text : List ℕ) → text ≡ number_text w16 (length lengths) → text ≡ number_text w16 (length lengths) ++ entries_text size lengths 0

@@ -1,21 +1,12 @@
 -- The least size of a symbol, by halves.
-use Rattle.std.proofs.Common.{◌≡◌, ℕ, ◌+◌, ◌*◌, ◌/◌, ◌%◌, ◌<◌, ◌≤◌, List, zero, suc, get_or, Bool, IsTrue, true, false, not, length, refl, arith, inl, inr}
-use Rattle.std.proofs.lemmas.Bool.{cases_lt, false≢true}
+use Rattle.std.proofs.Common.{◌≡◌, ℕ, ◌+◌, ◌*◌, ◌/◌, ◌%◌, ◌<◌, ◌≤◌, List, zero, suc, get_or, length, refl, arith, inl, inr}
+use Rattle.std.proofs.lemmas.Bool.{cases_lt}
 use Rattle.std.specs.List.{sum_by}
 use Rattle.std.proofs.lemmas.List.Sums.{get_or-le-sum_by, sum_by-le}
 use Rattle.std.proofs.Math.Nat.{mul-le-mul_left, mul-le-mul_right}
 use Rattle.wal_shape.specs.Shape.{cell_count, column_count}
 use Rattle.wal_bundle.specs.Layout.{ColumnsFit, IsBundleSize, column_bytes, columns_for, index_bytes, member_columns, used_columns}
 use Rattle.wal_bundle.proofs.Room.{columns_for-close, length_within, room_more}
-
--- a test that fails
-pub not_true : (b : Bool) → IsTrue (not b) → IsTrue b → ⊥
-not_true true fails holds = false≢true fails
-not_true false fails holds = false≢true holds
-
-pub true_not : (b : Bool) → (IsTrue b → ⊥) → IsTrue (not b)
-true_not true fails = absurd (fails refl)
-true_not false fails = refl
 
 module _ (f : ℕ) (lengths : List ℕ) where
   -- no size with room is smaller than one below which no half has room

@@ -1,6 +1,7 @@
 use Rattle.std.proofs.Common.{◌≡◌, [], length, vec_len, ◌∙◌, arith, rules}
-use Rattle.std.proofs.lemmas.List.{get_or_read}
-use Rattle.wal_bundle.proofs.ColumnTexts.{all_wholes, member_room, index_room}
+use Rattle.std.proofs.lemmas.List.{get_or_read, take_all}
+use Rattle.wal_bundle.specs.Layout.{columns_text}
+use Rattle.wal_bundle.proofs.ColumnTexts.{member_room, index_room}
 use Rattle.wal_bundle.proofs.laying.columns_text.Goals as goal
 
 pub add_whole-requires-clause-room : goal.add_whole-requires-clause-room
@@ -19,4 +20,7 @@ add_whole-requires-in-loop-member-clause-room c =
     omega (arith, len, rw (← own) at room, c.requires.total, c.requires.fits)
 
 pub returns : goal.returns
-returns c = all_wholes c.args.size c.args.members.now c.args.index.now c.loop-member.columns.items c.loop-member.member-index c.requires.index (omega arith) c.loop-member.invariant
+unfolding columns_text
+returns c =
+    let all = take_all c.loop-member.member-index c.args.members.now (omega arith) in
+    rw (c.loop-member.invariant, c.requires.index, all)

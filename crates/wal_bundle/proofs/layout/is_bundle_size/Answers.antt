@@ -1,13 +1,13 @@
 use Rattle.std.proofs.Common.{◌-◌, arith}
-use Rattle.wal_bundle.proofs.Least.{least_by_next, none_below, not_true, true_not}
+use Rattle.std.proofs.lemmas.Bool.Decides.{Decides-not}
+use Rattle.wal_bundle.proofs.Least.{least_by_next, none_below}
 use Rattle.wal_bundle.proofs.layout.is_bundle_size.Goals as goal
 
 pub returns-else-half-eq1 : goal.returns-else-half-eq1
 returns-else-half-eq1 c =
     let some = c.requires.some in
     let other = c.if-half-eq1.false in
-    let below = c.has_room-else-half-eq1.ensures in (
-      λ fewer. least_by_next _ _ _ (c.args.half - 1) (omega arith) (c.has_room.ensures.0 c.if-has_room.true)
-          (λ room. not_true _ fewer (below.1 room)),
-      λ is. true_not _ (λ room. none_below _ _ _ (c.args.half - 1) is (omega arith) (omega arith) (below.0 room)),
+    let below = Decides-not c.has_room-else-half-eq1.result c.has_room-else-half-eq1.ensures in (
+      λ fewer. least_by_next _ _ _ (c.args.half - 1) (omega arith) (c.has_room.ensures.0 c.if-has_room.true) (below.0 fewer),
+      λ is. below.1 (none_below _ _ _ (c.args.half - 1) is (omega arith) (omega arith)),
     )
