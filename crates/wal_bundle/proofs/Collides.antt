@@ -1,7 +1,7 @@
 -- Answers on a member that contradict the bundle or each other go against a digest that tells all texts apart.
 use Rattle.std.proofs.Common.{◌≡◌, ℕ, List, All, sym, ◌∙◌}
 use Rattle.wal_shape.specs.declared.axis.Axis.TheVariants.{Secondary}
-use Rattle.wal_shape.specs.Shape.{BlobShape, shard_count, symbol_size}
+use Rattle.wal_shape.specs.Shape.{BlobShape}
 use Rattle.wal_tree.specs.Collision.{CanCollide}
 use Rattle.wal_tree.specs.Digests.{IsByte}
 use Rattle.wal_matrix.proofs.Codewords.{AreBytes}
@@ -11,8 +11,7 @@ use Rattle.wal_commit.proofs.MetadataBytes.{honest_bytes}
 use Rattle.wal_commit.proofs.OneDigest.{IsDigest, bytes_of_all, one_metadata, one_sliver}
 use Rattle.wal_evidence.proofs.SameOrNot.{one_to_one}
 use Rattle.wal_reader.proofs.PayloadBytes.{metadata_carried}
-use Rattle.wal_bundle.specs.Columns.{IsColumn, IsOwnColumn}
-use Rattle.wal_bundle.specs.Contradictions.{AgreeBelow, AreContraryMembers, ContradictsBundle}
+use Rattle.wal_bundle.specs.Contradictions.{AreContraryMembers, ContradictsBundle}
 use Rattle.wal_bundle.proofs.OneColumn.{column_held}
 use Rattle.wal_bundle.proofs.Truths.{contradicting_plain, not_contrary, plain_true, shape_in}
 
@@ -37,14 +36,13 @@ module _ (digest : List ℕ → List ℕ) (is : IsDigest digest) where
       (metadata_carried digest id payloads found.0 (all_bytes payloads are) has)
       (honest_bytes digest is shape.format shape.f b.bytes own.0 own.1) (sym has.4.1.identifier ∙ own.2.identifier) in
       let here = rw (same ∙ own.1.2, b.fits) at found.1 in
-      let fit = shape_in digest id payloads m here.0 in
+      let held = column_held digest id m (shape_in digest id payloads m here.0) payloads in
       let coded = rw b.fits at own.1.1.coded in
-      let agree : AgreeBelow (shard_count shape.f) (IsColumn digest id m payloads)
-      (IsOwnColumn shape.f (symbol_size shape.f shape.length) e) =
-      λ j less x y column at.
-      one_sliver digest one m Secondary j x y (column_held digest id m fit payloads j x column)
-      (rw at (honest_sliver digest Secondary shape e j coded less)) in
-      contrary.denied (plain_true digest shape members id b payloads e own.1.1 here agree k contrary.answer found)
+      contrary.denied
+      (plain_true digest shape members id b payloads e own.1.1 here
+      (λ j less x y column mine. one_sliver digest one m Secondary j x y (held j x column)
+      (rw mine (honest_sliver digest Secondary shape e j coded less)))
+      k contrary.answer found)
 
   -- two members
   pub members_collide : (id : List ℕ) (k : ℕ) (a b : List (List ℕ)) → All (All IsByte) a → All (All IsByte) b → AreContraryMembers digest id k a b → CanCollide digest
@@ -58,7 +56,6 @@ module _ (digest : List ℕ → List ℕ) (is : IsDigest digest) where
       let same : told_b.0 ≡ m =
       one_metadata digest one told_b.0 m has_b.4.1.fit has_a.4.1.fit (metadata_carried digest id b told_b.0 (all_bytes b are_b) has_b)
       (metadata_carried digest id a m (all_bytes a are_a) has_a) (sym has_b.4.1.identifier ∙ has_a.4.1.identifier) in
-      let fit = shape_in digest id a m has_a in
-      let agree : AgreeBelow (shard_count m.f) (IsColumn digest id m a) (IsColumn digest id m b) =
-      λ j less x y is_x is_y. one_sliver digest one m Secondary j x y (column_held digest id m fit a j x is_x) (column_held digest id m fit b j y is_y) in
-      not_contrary digest id k a b m contrary told_a.1 (rw same at told_b.1) agree
+      let held = column_held digest id m (shape_in digest id a m has_a) in
+      not_contrary digest id k a b m contrary told_a.1 (rw same at told_b.1)
+      (λ j less x y is_x is_y. one_sliver digest one m Secondary j x y (held a j x is_x) (held b j y is_y))

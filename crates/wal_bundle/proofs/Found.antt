@@ -1,9 +1,9 @@
 -- What is found in payloads: columns, and lengths.
-use Rattle.std.proofs.Common.{◌≡◌, ℕ, ◌*◌, ◌/◌, ◌^◌, ◌<◌, ◌≤◌, List, length, take, refl, sym, ap, ◌∙◌, arith, inl, inr, Option, Some, None, IfNone}
+use Rattle.std.proofs.Common.{◌≡◌, ℕ, ◌*◌, ◌/◌, ◌≤◌, List, length, refl, sym, ap, ◌∙◌, arith, inl, inr, Option, Some, None, IfNone}
 use Rattle.std.proofs.Math.Nat.{mul-le-mul_left}
 use Rattle.wal_shape.specs.declared.axis.Axis.TheVariants.{Secondary}
 use Rattle.wal_shape.specs.declared.opening.Opening.{Opening}
-use Rattle.wal_shape.specs.Shape.{BlobShape, IsShape, cell_count, row_count, shard_count, symbol_size}
+use Rattle.wal_shape.specs.Shape.{BlobShape, IsShape, row_count, shard_count, symbol_size}
 use Rattle.wal_shape.specs.Metadata.{BlobMetadata}
 use Rattle.wal_shape.specs.MetaRef.{metadata_shown}
 use Rattle.wal_shape.specs.declared.metadata.MetaRef.{MetaRef}
@@ -20,13 +20,10 @@ use Rattle.wal_reader.proofs.FirstOnes.{first_not_none}
 use Rattle.wal_recover.specs.Recovery.{OpeningsComeTo}
 use Rattle.wal_recover.specs.declared.outcome.Recovered.{Recovered}
 use Rattle.wal_recover.specs.declared.outcome.Recovered.TheVariants.{Sliver}
-use Rattle.wal_bundle.specs.Layout.{IsBundle, IsBundleSize, column_bytes, index_bytes, index_text}
+use Rattle.wal_bundle.specs.Layout.{IsBundle, column_bytes}
 use Rattle.wal_bundle.specs.Columns.{IsColumn, IsMissing, IsOwnColumn}
 use Rattle.wal_bundle.specs.Contradictions.{AgreeBelow, ContradictsBundle, IsBundleOf}
-use Rattle.wal_bundle.specs.Member.{IsIndex, count_in}
-use Rattle.wal_bundle.specs.inside.Reading.{spelled_lengths}
 use Rattle.wal_bundle.proofs.Bundled.{one_bundle}
-use Rattle.wal_bundle.proofs.IndexTexts.{lengths_read, spelled_count}
 use Rattle.wal_bundle.proofs.Truths.{contradicting_plain, plain_true}
 
 -- a column that no held sliver shows is missing where its openings give none
@@ -42,21 +39,6 @@ not_recovered digest id m payloads j openings outcome none same only refused byt
 -- a column has four bytes and more
 pub four_bytes : (f long : ℕ) → IsShape f long → 4 ≤ column_bytes f (symbol_size f long)
 four_bytes f long shape = omega (arith, mul-le-mul_left (row_count f) (symbol_size-least f long).positive, shape.0)
-
--- ---- lengths
-
-pub settled : (columns : List ℕ) (f g s t : ℕ) (lent lengths : List ℕ) → g ≡ f → t ≡ s → lent ≡ lengths → lengths ≡ spelled_lengths columns (count_in columns)
-    → count_in columns ≤ 2 * f → IsBundleSize g lent t × (take (index_bytes (length lent)) columns ≡ index_text (column_bytes g t) lent) → IsIndex f s columns lengths
-settled columns f g s t lent lengths f_is s_is same read few tested =
-    let here = rw (f_is, s_is, same) at tested in
-    let count = spelled_count columns (count_in columns) in
-    record { few = omega (arith, ap length read, count); size = here.0; text = here.1 }
-
-pub settled_back : (columns : List ℕ) (f g s t : ℕ) (lent lengths other : List ℕ) → g ≡ f → t ≡ s → lent ≡ lengths → lengths ≡ spelled_lengths columns (count_in columns)
-    → f ≤ 333 → cell_count f * s < 2 ^ 32 → IsIndex f s columns other
-    → IsBundleSize g lent t × (take (index_bytes (length lent)) columns ≡ index_text (column_bytes g t) lent)
-settled_back columns f g s t lent lengths other f_is s_is same read faults fits is =
-    rw (f_is, s_is, same, read, lengths_read f s columns other faults fits is) (is.size, is.text)
 
 -- ---- what the payloads' metadata are
 
@@ -102,7 +84,3 @@ twice_half n f long is = omega (arith, (symbol_size-least f long).even)
 pub weaken_none : {A : Type 0} (P Q : Type 0) (o : Option A) → (P → Q) → IfNone o P → IfNone o Q
 weaken_none P Q None f h = f h
 weaken_none P Q (Some x) f h = h
-
-pub metadata_over-f : (digest : List ℕ → List ℕ) (shape : BlobShape) (e : List ℕ) → (metadata_over digest shape e).f ≡ shape.f
-unfolding metadata_over
-metadata_over-f digest shape e = refl

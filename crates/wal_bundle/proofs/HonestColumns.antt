@@ -6,7 +6,6 @@ use Rattle.wal_kernel.specs.Region.{region}
 use Rattle.wal_shape.specs.Shape.{cell_count, column_count, row_count, symbol_size, most_bytes}
 use Rattle.wal_shape.proofs.ShapeLaws.{symbol_size-filled}
 use Rattle.wal_matrix.specs.Matrix.{IsExtended, padded, secondary_of}
-use Rattle.wal_matrix.specs.Columns.{block_of_columns}
 use Rattle.wal_matrix.proofs.ColumnLaws.{block_column, block_long, secondary_of_blob}
 use Rattle.wal_bundle.specs.Layout.{ColumnsFit, IsBundle, IsBundleSize, bundle_text, column_bytes, columns_for, columns_text, first_column, index_columns, index_text, lengths_of, used_columns, whole_columns}
 use Rattle.wal_bundle.specs.Columns.{AreColumns, IsOwnColumn}

@@ -1,8 +1,8 @@
 -- The text of an index tells the number and the lengths of the members.
-use Rattle.std.proofs.Common.{◌≡◌, ℕ, ◌+◌, ◌*◌, ◌^◌, ◌<◌, ◌≤◌, List, [], ◌∷◌, ◌++◌, zero-add, length, take, drop, map, get_or, refl, sym, ap, ◌∙◌, arith, length-append}
+use Rattle.std.proofs.Common.{◌≡◌, ℕ, ◌+◌, ◌*◌, ◌^◌, ◌<◌, ◌≤◌, List, ◌++◌, zero-add, length, take, drop, map, get_or, refl, sym, ap, ◌∙◌, arith, length-append}
 use Rattle.std.specs.Int.{w16, w32, from_be_bytes}
 use Rattle.std.specs.List.{range_with_len}
-use Rattle.std.proofs.lemmas.List.{append-nil, append_assoc, take-take, ext_get_or, length-map}
+use Rattle.std.proofs.lemmas.List.{append_assoc, take-take, ext_get_or, length-map}
 use Rattle.std.proofs.lemmas.List.FromFn.{get_or-map-range_with_len, length-range_with_len}
 use Rattle.std.proofs.Math.Seq.{drop-append-add}
 use Rattle.wal_shape.specs.Shape.{cell_count}
@@ -86,9 +86,6 @@ pub one_index : (f s : ℕ) (columns a b : List ℕ) → f ≤ 333 → cell_coun
 one_index f s columns a b faults fits is_a is_b = sym (lengths_read f s columns a faults fits is_a) ∙ lengths_read f s columns b faults fits is_b
 
 -- a text of entries that grows
-pub no_entries : (size : ℕ) (lengths text : List ℕ) → text ≡ number_text w16 (length lengths) → text ≡ number_text w16 (length lengths) ++ entries_text size lengths 0
-no_entries size lengths text is = is ∙ sym (append-nil (number_text w16 (length lengths)))
-
 pub entry_added : (size : ℕ) (lengths : List ℕ) (k first : ℕ) (before after : List ℕ) → first ≡ first_column size lengths k
     → before ≡ number_text w16 (length lengths) ++ entries_text size lengths k
     → after ≡ before ++ (number_text w16 first ++ number_text w32 (get_or lengths k 0))
@@ -97,8 +94,3 @@ unfolding entry_text
 entry_added size lengths k first before after is text more =
     rw (more, text, is, pieces_more (entry_text size lengths) k)
     (append_assoc (number_text w16 (length lengths)) (entries_text size lengths k) (entry_text size lengths k))
-
-pub all_entries : (size : ℕ) (lengths : List ℕ) (k : ℕ) (text : List ℕ) → k ≡ length lengths → text ≡ number_text w16 (length lengths) ++ entries_text size lengths k
-    → text ≡ index_text size lengths
-unfolding index_text
-all_entries size lengths k text is text_is = rw is at text_is

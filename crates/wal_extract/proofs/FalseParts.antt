@@ -5,16 +5,15 @@ use Rattle.std.proofs.lemmas.Option.{get_or_from_slice_get, slice_get_within}
 use Rattle.wal_kernel.specs.Region.{region}
 use Rattle.wal_shape.specs.declared.opening.Opening.{Opening}
 use Rattle.wal_shape.specs.EncodingProof.{EncodingProof}
-use Rattle.wal_shape.specs.Shape.{BlobShape, symbol_size}
+use Rattle.wal_shape.specs.Shape.{symbol_size}
 use Rattle.wal_shape.specs.Metadata.{BlobMetadata, IsMetadata}
 use Rattle.wal_matrix.specs.Matrix.{IsCodedMatrix, primary_of}
 use Rattle.wal_commit.specs.Held.{HoldsOpening}
 use Rattle.wal_commit.specs.Identifier.{metadata_over}
-use Rattle.wal_evidence.specs.declared.evidence.Basis.{Basis}
-use Rattle.wal_evidence.specs.declared.evidence.Basis.TheVariants.{Proof, Slivers}
+use Rattle.wal_evidence.specs.declared.evidence.Basis.TheVariants.{Slivers}
 use Rattle.wal_evidence.specs.declared.evidence.Verdict.TheVariants.{Bytes}
 use Rattle.wal_evidence.specs.BadProof.{IsBadProof}
-use Rattle.wal_evidence.specs.Evidence.{AreHeld, CommitsMatrix, IsHeldBy, IsJudgedBy, sliver_bytes}
+use Rattle.wal_evidence.specs.Evidence.{AreHeld, CommitsMatrix, IsJudgedBy, sliver_bytes}
 use Rattle.wal_evidence.proofs.FalseOpenings.{false_opening}
 use Rattle.wal_evidence.proofs.FalseSlivers.{matrix_holds}
 use Rattle.wal_evidence.proofs.OneLine.{no_opening}
@@ -37,7 +36,8 @@ own_metadata digest m blob e is =
 
 module _ (digest : List ℕ → List ℕ) (m : BlobMetadata) (blob e : List ℕ) (fit : IsMetadata m) (is : CommitsMatrix digest m blob e) where
   module _ (indices joined : List ℕ) (held : AreHeld digest m indices joined) where
-    slivers_meet : SliversMeet digest m.f (symbol_size m.f m.length) e indices joined
+    -- held slivers have one root with those of the matrix
+    pub slivers_meet : SliversMeet digest m.f (symbol_size m.f m.length) e indices joined
     slivers_meet = record {
       each = λ k below.
           let given = held.held k below in
@@ -45,7 +45,9 @@ module _ (digest : List ℕ → List ℕ) (m : BlobMetadata) (blob e : List ℕ)
           (matrix_holds digest m blob e (slice_index indices k) is given.within);
     }
 
-    false_sliver : (IsJudgedBy digest m (Slivers indices joined) (Bytes blob) → ⊥) → HaveFalseSliver m.f (symbol_size m.f m.length) e indices joined
+    -- and one of them is not its own where they do not lead to its blob
+    pub false_sliver : (IsJudgedBy digest m (Slivers indices joined) (Bytes blob) → ⊥)
+        → HaveFalseSliver m.f (symbol_size m.f m.length) e indices joined
     false_sliver wrong =
         let own : ℕ → List ℕ = λ k. primary_of m.f (symbol_size m.f m.length) e (slice_index indices k) in
         let given : ℕ → List ℕ = λ k. region (sliver_bytes m) joined k in
@@ -66,10 +68,12 @@ module _ (digest : List ℕ → List ℕ) (m : BlobMetadata) (blob e : List ℕ)
         let held = bad.line.enough.held k no_opening (slice_get_within p.openings k o there) in
         rw (get_or_from_slice_get p.openings k o no_opening there) at held
 
-    openings_meet : OpeningsMeet digest (shape_of m) e p
+    -- openings of a bad proof are committed by the metadata over the matrix
+    pub openings_meet : OpeningsMeet digest (shape_of m) e p
     openings_meet = record { each = λ k o there. rw (← own_metadata digest m blob e is) (holds_at k o there) }
 
-    false_one : HaveFalseOpening m.f (symbol_size m.f m.length) e p
+    -- and one of them has not its symbol
+    pub false_one : HaveFalseOpening m.f (symbol_size m.f m.length) e p
     false_one =
         let found = false_opening digest m p blob e fit.shape bad is in
         record {
@@ -81,20 +85,3 @@ module _ (digest : List ℕ → List ℕ) (m : BlobMetadata) (blob e : List ℕ)
           there = found.2;
           apart = found.3;
         }
-
--- the same in other words, for a basis of slivers
-pub basis_of_slivers : (digest : List ℕ → List ℕ) (m : BlobMetadata) (shape : BlobShape) (basis : Basis) (blob e indices joined xs ys : List ℕ) → shape ≡ shape_of m → IsMetadata m →
-    CommitsMatrix digest m blob e → IsHeldBy digest m basis → (IsJudgedBy digest m basis (Bytes blob) → ⊥) → basis ≡ Slivers indices joined → xs ≡ indices → ys ≡ joined →
-    HaveFalseSliver shape.f (symbol_size shape.f shape.length) e xs ys × SliversMeet digest shape.f (symbol_size shape.f shape.length) e xs ys
-basis_of_slivers digest m shape basis blob e indices joined xs ys shape_is fit is held wrong basis_is xs_is ys_is =
-    let kept = rw basis_is at held in
-    let false_one = false_sliver digest m blob e fit is indices joined kept (rw basis_is at wrong) in
-    rw (shape_is, xs_is, ys_is) (false_one, slivers_meet digest m blob e fit is indices joined kept)
-
--- and for a proof
-pub basis_of_proof : (digest : List ℕ → List ℕ) (m : BlobMetadata) (shape : BlobShape) (basis : Basis) (blob e : List ℕ) (p q : EncodingProof) → shape ≡ shape_of m → IsMetadata m →
-    CommitsMatrix digest m blob e → IsHeldBy digest m basis → basis ≡ Proof p → q ≡ p →
-    HaveFalseOpening shape.f (symbol_size shape.f shape.length) e q × OpeningsMeet digest shape e q
-basis_of_proof digest m shape basis blob e p q shape_is fit is held basis_is q_is =
-    let bad = rw basis_is at held in
-    rw (shape_is, q_is) (false_one digest m blob e fit is p bad, openings_meet digest m blob e fit is p bad)

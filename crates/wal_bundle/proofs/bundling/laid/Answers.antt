@@ -1,4 +1,4 @@
-use Rattle.std.proofs.Common.{◌*◌, refl}
+use Rattle.std.proofs.Common.{◌*◌}
 use Rattle.wal_bundle.specs.Layout.{bundle_text, column_bytes}
 use Rattle.wal_bundle.proofs.ColumnTexts.{text_long}
 use Rattle.wal_bundle.proofs.Room.{size_positive}
@@ -15,5 +15,6 @@ pub returns : goal.returns
 unfolding bundle_text
 returns c =
     let used = c.used_columns-used.ensures in
+    let columns = c.in_ok-columns.ensures in
     let block = c.in_ok-block.ensures.block in
-    rw (c.from_vec.ensures, block, c.deref-2.ensures.value, c.in_ok-columns.ensures, used, c.requires.lengths, c.from.ensures)
+    rw (c.from_vec.ensures, block, c.deref-2.ensures.value, columns, used, c.requires.lengths, c.from.ensures)

@@ -1,11 +1,12 @@
-use Rattle.std.proofs.Common.{◌≡◌, ◌<◌, sym, ◌∙◌, arith, below_more}
+use Rattle.std.proofs.Common.{◌<◌, sym, ap, ◌∙◌, arith, below_more}
 use Rattle.std.proofs.lemmas.Result.{IfOk-weaker}
 use Rattle.wal_shape.specs.declared.axis.Axis.TheVariants.{Secondary}
 use Rattle.wal_shape.specs.Shape.{shard_count}
 use Rattle.wal_shape.specs.MetaRef.{metadata_shown}
+use Rattle.wal_shape.specs.Metadata.{BlobMetadata}
+use Rattle.wal_commit.specs.Identifier.{metadata_over}
 use Rattle.wal_commit.proofs.HonestOpenings.{honest_sliver}
 use Rattle.wal_extract.proofs.OneRoot.{held_one_root}
-use Rattle.wal_bundle.proofs.Found.{metadata_over-f}
 use Rattle.wal_bundle.proofs.OneColumn.{column_held}
 use Rattle.wal_bundle.proofs.collisions.collide_own.Goals as goal
 
@@ -33,11 +34,10 @@ loop-j-preserved g c =
     }
 
 pub unreachable-requires : goal.unreachable-requires
+unfolding metadata_over
 unreachable-requires g c =
-    let e = c.args.matrix.now in
     let count = rw c.shape.ensures at c.n-j-end.ensures.value in
-    let faults : (metadata_shown c.args.m).f ≡ e.shape.f =
-    rw c.requires.metadata (metadata_over-f g.H.Hash32.digest e.shape e.cells) in
+    let faults = ap (λ (x : BlobMetadata). x.f) c.requires.metadata in
     c.requires.apart (λ j less. c.loop-j.invariant.agree j (omega (arith, faults, count, c.loop-j-test.false)))
 
 pub returns-in-Some-clause-texts : goal.returns-in-Some-clause-texts

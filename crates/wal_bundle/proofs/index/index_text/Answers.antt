@@ -1,5 +1,6 @@
-use Rattle.std.proofs.Common.{sym, ◌∙◌, arith, rules}
-use Rattle.wal_bundle.proofs.IndexTexts.{all_entries, entry_added, no_entries}
+use Rattle.std.proofs.Common.{◌≡◌, ◌∙◌, length, sym, arith, rules}
+use Rattle.wal_bundle.specs.Layout.{index_text}
+use Rattle.wal_bundle.proofs.IndexTexts.{entry_added}
 use Rattle.wal_bundle.proofs.Room.{first_column-more, first_column-none, member_within}
 use Rattle.wal_bundle.proofs.index.index_text.Goals as goal
 
@@ -14,7 +15,7 @@ overflow_add-first c =
 
 pub loop-length-init : goal.loop-length-init
 loop-length-init c = record {
-  text = no_entries c.args.size c.args.lengths.now c.extend_from_slice.new.self.items (search rules);
+  text = search rules;
   first = c.index_columns-first.ensures.value ∙ sym (first_column-none c.args.size c.args.lengths.now);
 }
 
@@ -29,4 +30,7 @@ loop-length-preserved c =
     }
 
 pub returns : goal.returns
-returns c = all_entries c.args.size c.args.lengths.now c.loop-length.length-index c.loop-length.text.items (omega arith) c.loop-length.invariant.text
+unfolding index_text
+returns c =
+    let end : c.loop-length.length-index ≡ length c.args.lengths.now = omega arith in
+    rw end at c.loop-length.invariant.text

@@ -7,7 +7,8 @@ pub returns-else-half-eq1 : goal.returns-else-half-eq1
 returns-else-half-eq1 c =
     let some = c.requires.some in
     let other = c.if-half-eq1.false in
+    let here = c.has_room.ensures in
     let below = Decides-not c.has_room-else-half-eq1.result c.has_room-else-half-eq1.ensures in (
-      λ fewer. least_by_next _ _ _ (c.args.half - 1) (omega arith) (c.has_room.ensures.0 c.if-has_room.true) (below.0 fewer),
+      λ fewer. least_by_next _ _ _ (c.args.half - 1) (omega arith) (here.0 c.if-has_room.true) (below.0 fewer),
       λ is. below.1 (none_below _ _ _ (c.args.half - 1) is (omega arith) (omega arith)),
     )

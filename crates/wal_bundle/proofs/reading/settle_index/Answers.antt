@@ -2,8 +2,8 @@ use Rattle.std.proofs.Common.{length, ap, sym, ◌∙◌, arith}
 use Rattle.std.proofs.lemmas.Bool.{false≢true}
 use Rattle.wal_shape.specs.MetaRef.{metadata_shown}
 use Rattle.wal_bundle.specs.Member.{count_in}
-use Rattle.wal_bundle.proofs.Found.{settled, settled_back, twice_half}
-use Rattle.wal_bundle.proofs.IndexTexts.{spelled_count}
+use Rattle.wal_bundle.proofs.Found.{twice_half}
+use Rattle.wal_bundle.proofs.IndexTexts.{lengths_read, spelled_count}
 use Rattle.wal_bundle.proofs.Truths.{cells_small}
 use Rattle.wal_bundle.proofs.reading.settle_index.Goals as goal
 
@@ -23,17 +23,19 @@ pub returns-then-branch-clause-some : goal.returns-then-branch-clause-some
 returns-then-branch-clause-some c =
     let m = metadata_shown c.args.m in
     let size = rw c.shape.ensures.value at c.symbol_size.ensures.value in
-    settled c.args.columns.now m.f _ _ _ _ _ c.f.ensures.value
-    (twice_half c.from-half.result m.f m.length (c.from-half.ensures ∙ size))
-    c.deref.ensures.value (rw c.count_in.ensures at c.in_ok-lengths.ensures) c.requires.few
-    (c.in_ok-is_index.ensures.0 c.if-branch.true)
+    let half = twice_half c.from-half.result m.f m.length (c.from-half.ensures ∙ size) in
+    let read = rw c.count_in.ensures at c.in_ok-lengths.ensures in
+    let tested = rw (c.f.ensures.value, half, c.deref.ensures.value) at (c.in_ok-is_index.ensures.0 c.if-branch.true) in
+    let count = spelled_count c.args.columns.now (count_in c.args.columns.now) in
+    record { few = omega (arith, ap length read, count, c.requires.few); size = tested.0; text = tested.1 }
 
 pub returns-else-branch-clause-none : goal.returns-else-branch-clause-none
 returns-else-branch-clause-none c = λ lengths is.
     let m = metadata_shown c.args.m in
     let fit = c.shape.ensures.metadata.shape in
     let size = rw c.shape.ensures.value at c.symbol_size.ensures.value in
-    let tested = settled_back c.args.columns.now m.f _ _ _ _ _ lengths c.f.ensures.value
-    (twice_half c.from-half.result m.f m.length (c.from-half.ensures ∙ size)) c.deref.ensures.value
-    (rw c.count_in.ensures at c.in_ok-lengths.ensures) fit.1 (cells_small m.f m.length fit) is in
-    false≢true (sym c.if-branch.false ∙ c.in_ok-is_index.ensures.1 tested)
+    let half = twice_half c.from-half.result m.f m.length (c.from-half.ensures ∙ size) in
+    let read = rw c.count_in.ensures at c.in_ok-lengths.ensures in
+    let own = lengths_read m.f _ c.args.columns.now lengths fit.1 (cells_small m.f m.length fit) is in
+    false≢true (sym c.if-branch.false
+    ∙ c.in_ok-is_index.ensures.1 (rw (c.f.ensures.value, half, c.deref.ensures.value, read, own) (is.size, is.text)))

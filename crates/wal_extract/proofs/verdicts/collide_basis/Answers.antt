@@ -1,6 +1,6 @@
 -- What the metadata is judged by has a part that is not the matrix's own.
 use Rattle.std.proofs.lemmas.Result.{IfOk-weaker}
-use Rattle.wal_extract.proofs.FalseParts.{basis_of_proof, basis_of_slivers}
+use Rattle.wal_extract.proofs.FalseParts.{false_one, false_sliver, openings_meet, slivers_meet}
 use Rattle.wal_extract.proofs.verdicts.collide_basis.Goals as goal
 
 pub collide_held-requires : goal.collide_held-requires
@@ -8,15 +8,23 @@ collide_held-requires g c =
     let r = c.requires in
     let lent = c.as_slice.ensures in
     let other = c.as_slice-in-Slivers.ensures in
-    let both =
-    basis_of_slivers _ _ _ _ _ _ _ _ _ _ r.shape r.fit r.other.1 r.held r.other.2 c.in-Slivers.is lent other in
-    record { shape = rw r.shape r.fit.shape; apart = both.0; meet = both.1 }
+    let kept = rw c.in-Slivers.is at r.held in
+    let wrong = rw c.in-Slivers.is at r.other.2 in
+    record {
+      shape = rw r.shape r.fit.shape;
+      apart = rw (r.shape, lent, other) (false_sliver _ _ _ _ r.fit r.other.1 _ _ kept wrong);
+      meet = rw (r.shape, lent, other) (slivers_meet _ _ _ _ r.fit r.other.1 _ _ kept);
+    }
 
 pub collide_openings-requires : goal.collide_openings-requires
 collide_openings-requires g c =
     let r = c.requires in
-    let both = basis_of_proof _ _ _ _ _ _ _ _ r.shape r.fit r.other.1 r.held c.in-Proof.is c.view.ensures.value in
-    record { shape = rw r.shape r.fit.shape; apart = both.0; meet = both.1 }
+    let bad = rw c.in-Proof.is at r.held in
+    record {
+      shape = rw r.shape r.fit.shape;
+      apart = rw (r.shape, c.view.ensures.value) (false_one _ _ _ _ r.fit r.other.1 _ bad);
+      meet = rw (r.shape, c.view.ensures.value) (openings_meet _ _ _ _ r.fit r.other.1 _ bad);
+    }
 
 pub returns-in-Slivers-clause-texts : goal.returns-in-Slivers-clause-texts
 returns-in-Slivers-clause-texts g c =
