@@ -1,6 +1,5 @@
 -- Columns that are added one after the other.
-use Rattle.std.proofs.Common.{◌≡◌, ℕ, ◌+◌, ◌-◌, ◌*◌, ◌<◌, ◌≤◌, List, [], ◌++◌, length, refl, sym, ap, subst, ◌∙◌, arith, length-append, ⊎_elim}
-use Rattle.std.proofs.lemmas.Bool.{cases_lt}
+use Rattle.std.proofs.Common.{◌≡◌, ℕ, ◌+◌, ◌-◌, ◌*◌, ◌<◌, ◌≤◌, List, [], ◌++◌, length, refl, ap, ◌∙◌, arith, length-append, below_more}
 use Rattle.wal_kernel.specs.Region.{region}
 use Rattle.wal_matrix.proofs.Places.{run_fits}
 use Rattle.wal_matrix.proofs.Runs.{run_at_end, run_in_front}
@@ -15,33 +14,24 @@ module _ (Column : ℕ → List ℕ → Type 0) (size : ℕ) where
   pub column_added : (start n : ℕ) (xs bytes after : List ℕ) → AreColumns Column size start n xs → Column (start + n) bytes → length bytes ≡ size → after ≡ xs ++ bytes
       → AreColumns Column size start (n + 1) after
   column_added start n xs bytes after are is own after_is =
-      let before = are.long in
-      let joined = length-append xs bytes in
-      let P : List ℕ → Type 0 = λ ys. AreColumns Column size start (n + 1) ys in
-      subst P (sym after_is)
+      rw after_is
       (record {
-        long = omega arith;
-        each = λ j h.
-            ⊎_elim
-            (λ early.
-            let fits = run_fits j n size early in
-            let same : region size (xs ++ bytes) j ≡ region size xs j = run_in_front (size * j) size xs bytes (omega arith) in
-            subst (λ (ys : List ℕ). Column (start + j) ys) (sym same) (are.each j early))
-            (λ last.
-            let here : n ≡ j = omega arith in
-            let place : length xs ≡ size * n = omega arith in
-            let same : region size (xs ++ bytes) n ≡ bytes = run_at_end (size * n) size xs bytes place own in
-            subst (λ (k : ℕ). Column (start + k) (region size (xs ++ bytes) k)) here (subst (λ (ys : List ℕ). Column (start + n) ys) (sym same) is))
-            (cases_lt j n);
+        long = rw length-append (omega (arith, are.long));
+        each = below_more (λ (j : ℕ). Column (start + j) (region size (xs ++ bytes) j)) n
+            (λ j early. rw (run_in_front (size * j) size xs bytes (omega (arith, are.long, run_fits j n size early)))
+            (are.each j early))
+            (rw (run_at_end (size * n) size xs bytes (omega (arith, are.long)) own) is);
       })
 
   -- column 0 alone
   pub first_alone : (bytes : List ℕ) → Column 0 bytes → length bytes ≡ size → AreColumns Column size 0 1 bytes
-  first_alone bytes is own =
-      let zero_is : 0 ≡ 0 + 0 = omega arith in
-      let P : ℕ → Type 0 = λ n. AreColumns Column size 0 n bytes in
-      let more : 0 + 1 ≡ 1 = omega arith in
-      subst P more (column_added 0 0 [] bytes bytes (no_columns 0 [] refl) (subst (λ (j : ℕ). Column j bytes) zero_is is) own refl)
+  first_alone bytes is own = column_added 0 0 [] bytes bytes (no_columns 0 [] refl) is own refl
+
+  -- one of columns that are there
+  pub column_at : (start n i : ℕ) (xs : List ℕ) → AreColumns Column size start n xs → start ≤ i → i < start + n
+      → Column i (region size xs (i - start))
+  column_at start n i xs are after before =
+      let place : start + (i - start) ≡ i = omega arith in rw place at (are.each (i - start) (omega arith))
 
   -- the first that is missing
   pub first_missing : (start have total n : ℕ) (xs : List ℕ) → AreColumns Column size start n xs → have ≤ n → n < total → IsMissing Column (start + n)
@@ -50,6 +40,5 @@ module _ (Column : ℕ → List ℕ → Type 0) (size : ℕ) where
     after = omega arith;
     before = omega arith;
     missing = missing;
-    there = λ i after before.
-        let place : start + (i - start) ≡ i = omega arith in (region size xs (i - start), subst (λ (k : ℕ). Column k (region size xs (i - start))) place (are.each (i - start) (omega arith)));
+    there = λ i after before. (region size xs (i - start), column_at start n i xs are (omega arith) before);
   }

@@ -1,8 +1,8 @@
 -- Members have one bundle, or one reason why there is none.
-use Rattle.std.proofs.Common.{refl, ◌≢◌, Result, IfOk, ◌≡◌, ℕ, ◌*◌, ◌<◌, ◌≤◌, List, length, Ok, Err, sym, ap, subst, ◌∙◌, arith}
-use Rattle.wal_shape.specs.Shape.{cell_count, symbol_size, most_bytes}
+use Rattle.std.proofs.Common.{◌≢◌, Result, IfOk, ◌≡◌, ℕ, ◌*◌, List, length, Ok, Err, sym, ap, ◌∙◌, arith}
+use Rattle.wal_shape.specs.Shape.{cell_count, symbol_size}
 use Rattle.wal_bundle.specs.declared.answer.BundleError.{BundleError}
-use Rattle.wal_bundle.specs.declared.answer.BundleError.TheVariants.{BadFaults, Memory, TooLong, TooMany}
+use Rattle.wal_bundle.specs.declared.answer.BundleError.TheVariants.{Memory, TooLong}
 use Rattle.wal_bundle.specs.Layout.{Bundles, IsBundle, IsBundleSize, bundle_text, lengths_of}
 use Rattle.wal_bundle.proofs.HonestColumns.{bundle_long, bundle_symbols}
 use Rattle.wal_bundle.proofs.Least.{one_size}
@@ -16,50 +16,21 @@ one_bundle f members a b is_a is_b =
 pub not_too_long : (f : ℕ) (members : List (List ℕ)) (bytes : List ℕ) → Bundles f members (Ok bytes) → Bundles f members (Err TooLong) → ⊥
 not_too_long f members bytes is over =
     let b = is.2 in
-    let same = one_size f (lengths_of members) over.3 b.size over.4 b.least in
-    let longer : most_bytes < cell_count f * b.size = subst (λ (s : ℕ). most_bytes < cell_count f * s) same over.5 in
+    let longer = rw (one_size f (lengths_of members) over.3 b.size over.4 b.least) at over.5 in
     let long = ap length b.text ∙ bundle_long f b.size members b.least.positive b.least.room in
-    let fits = is.3 in
-    omega arith
-
-many_or_few : (f : ℕ) (members : List (List ℕ)) → 2 * f < length members → length members ≤ 2 * f → ⊥
-many_or_few f members more few = omega arith
-
-not_many : (f : ℕ) (members : List (List ℕ)) (bytes : List ℕ) → Bundles f members (Ok bytes) → Bundles f members (Err TooMany) → ⊥
-not_many f members bytes is over = many_or_few f members over.2 is.2.few
+    omega (arith, longer, long, is.3)
 
 -- members have one bundle, or one reason why there is none
 pub one_bundling : (f : ℕ) (members : List (List ℕ)) (a b : Result (List ℕ) BundleError) → Bundles f members a → Bundles f members b → a ≢ Err Memory → b ≢ Err Memory → a ≡ b
 one_bundling f members (Ok x) (Ok y) is also told kept = ap Ok (one_bundle f members x y is.2 also.2)
-one_bundling f members (Err Memory) b is also told kept = absurd (told refl)
-one_bundling f members (Err BadFaults) (Err Memory) is also told kept = absurd (kept refl)
-one_bundling f members (Err BadFaults) (Err BadFaults) is also told kept = refl
-one_bundling f members (Err TooMany) (Err Memory) is also told kept = absurd (kept refl)
-one_bundling f members (Err TooMany) (Err TooMany) is also told kept = refl
-one_bundling f members (Err TooLong) (Err Memory) is also told kept = absurd (kept refl)
-one_bundling f members (Err TooLong) (Err TooLong) is also told kept = refl
-one_bundling f members (Ok x) (Err Memory) is also told kept = absurd (kept refl)
-one_bundling f members (Ok x) (Err BadFaults) is also told kept = absurd (also (is.0, is.1))
-one_bundling f members (Ok x) (Err TooMany) is also told kept = absurd (not_many f members x is also)
 one_bundling f members (Ok x) (Err TooLong) is also told kept = absurd (not_too_long f members x is also)
-one_bundling f members (Err BadFaults) (Ok y) is also told kept = absurd (is (also.0, also.1))
-one_bundling f members (Err BadFaults) (Err TooMany) is also told kept = absurd (is (also.0, also.1))
-one_bundling f members (Err BadFaults) (Err TooLong) is also told kept = absurd (is (also.0, also.1))
-one_bundling f members (Err TooMany) (Ok y) is also told kept = absurd (not_many f members y also is)
-one_bundling f members (Err TooMany) (Err BadFaults) is also told kept = absurd (also (is.0, is.1))
-one_bundling f members (Err TooMany) (Err TooLong) is also told kept = absurd (many_or_few f members is.2 also.2)
 one_bundling f members (Err TooLong) (Ok y) is also told kept = absurd (not_too_long f members y also is)
-one_bundling f members (Err TooLong) (Err BadFaults) is also told kept = absurd (also (is.0, is.1))
-one_bundling f members (Err TooLong) (Err TooMany) is also told kept = absurd (many_or_few f members also.2 is.2)
+one_bundling f members a b is also told kept = grind arith
 
 -- a bundle fills its source block
 pub bundled_long : (f : ℕ) (members : List (List ℕ)) (a : Result (List ℕ) BundleError) → Bundles f members a
     → IfOk a (λ bytes. (s : ℕ) → IsBundleSize f (lengths_of members) s → (length bytes ≡ cell_count f * s) × (symbol_size f (length bytes) ≡ s))
 bundled_long f members (Err e) is = tt
 bundled_long f members (Ok bytes) is = λ s least.
-    let b = is.2 in
-    let same = one_size f (lengths_of members) b.size s b.least least in
-    let text : bytes ≡ bundle_text f s members = b.text ∙ ap (λ (n : ℕ). bundle_text f n members) same in (
-      ap length text ∙ bundle_long f s members least.positive least.room,
-      ap (λ (xs : List ℕ). symbol_size f (length xs)) text ∙ bundle_symbols f s members least,
-    )
+    let text = rw (one_size f (lengths_of members) is.2.size s is.2.least least) at is.2.text in
+    (rw text (bundle_long f s members least.positive least.room), rw text (bundle_symbols f s members least))

@@ -1,24 +1,19 @@
 -- Answers on a member that contradict the bundle or each other go against a digest that tells all texts apart.
-use Rattle.std.proofs.Common.{◌≡◌, ℕ, ◌<◌, List, length, All, sym, ap, subst, ◌∙◌}
+use Rattle.std.proofs.Common.{◌≡◌, ℕ, List, All, sym, ◌∙◌}
 use Rattle.wal_shape.specs.declared.axis.Axis.TheVariants.{Secondary}
-use Rattle.wal_shape.specs.Shape.{BlobShape, shard_count, symbol_size}
-use Rattle.wal_shape.specs.Metadata.{BlobMetadata}
+use Rattle.wal_shape.specs.Shape.{BlobShape}
 use Rattle.wal_tree.specs.Collision.{CanCollide}
 use Rattle.wal_tree.specs.Digests.{IsByte}
-use Rattle.wal_matrix.specs.Matrix.{IsCodedMatrix, IsExtended, secondary_of}
 use Rattle.wal_matrix.proofs.Codewords.{AreBytes}
-use Rattle.wal_commit.specs.Held.{HoldsSliver}
 use Rattle.wal_commit.specs.Identifier.{metadata_over}
 use Rattle.wal_commit.proofs.HonestOpenings.{honest_sliver}
 use Rattle.wal_commit.proofs.MetadataBytes.{honest_bytes}
 use Rattle.wal_commit.proofs.OneDigest.{IsDigest, bytes_of_all, one_metadata, one_sliver}
 use Rattle.wal_evidence.proofs.SameOrNot.{one_to_one}
-use Rattle.wal_reader.specs.Outcome.{IsMetadataIn}
 use Rattle.wal_reader.proofs.PayloadBytes.{metadata_carried}
-use Rattle.wal_bundle.specs.Columns.{IsColumn, IsOwnColumn}
-use Rattle.wal_bundle.specs.Contradictions.{AgreeBelow, AreContraryMembers, ContradictsBundle}
+use Rattle.wal_bundle.specs.Contradictions.{AreContraryMembers, ContradictsBundle}
 use Rattle.wal_bundle.proofs.OneColumn.{column_held}
-use Rattle.wal_bundle.proofs.Truths.{answer_true, contradicting_one, members_same, shape_in}
+use Rattle.wal_bundle.proofs.Truths.{contradicting_plain, not_contrary, plain_true, shape_in}
 
 all_bytes : (payloads : List (List ℕ)) → All (All IsByte) payloads → All AreBytes payloads
 all_bytes payloads are i d l = bytes_of_all _ (are i d l)
@@ -31,26 +26,23 @@ module _ (digest : List ℕ → List ℕ) (is : IsDigest digest) where
   bundle_collides shape members id k payloads are contrary none =
       let one = one_to_one digest is none in
       let b = contrary.bundle in
-      let s = symbol_size shape.f shape.length in
-      let found = contradicting_one digest shape members id k payloads contrary.answer contrary.told contrary.denied in
-      let m = found.0 in
+      let found = contradicting_plain digest members id k payloads contrary.answer contrary.told contrary.denied in
       let has = found.1.0 in
       let own = b.identifier in
       let e = own.1.0 in
-      let same : m ≡ own.0 =
-      one_metadata digest one m own.0 has.4.1.fit own.2.fit (metadata_carried digest id payloads m (all_bytes payloads are) has)
+      let m = metadata_over digest shape e in
+      let same : found.0 ≡ own.0 =
+      one_metadata digest one found.0 own.0 has.4.1.fit own.2.fit
+      (metadata_carried digest id payloads found.0 (all_bytes payloads are) has)
       (honest_bytes digest is shape.format shape.f b.bytes own.0 own.1) (sym has.4.1.identifier ∙ own.2.identifier) in
-      let over : m ≡ metadata_over digest shape e =
-      same ∙ own.1.2 ∙ ap (λ (n : ℕ). metadata_over digest (record { format = shape.format; f = shape.f; length = n }) e) b.fits in
-      let fit = shape_in digest id payloads m has in
-      let coded : IsCodedMatrix shape.f s e = subst (λ (n : ℕ). IsCodedMatrix shape.f (symbol_size shape.f n) e) b.fits own.1.1.coded in
-      let mine : (j : ℕ) → j < shard_count m.f → HoldsSliver digest m Secondary j (secondary_of shape.f s e j) =
-      λ j less. subst (λ (x : BlobMetadata). HoldsSliver digest x Secondary j (secondary_of shape.f s e j)) (sym over)
-      (honest_sliver digest Secondary shape e j coded (subst (λ (x : BlobMetadata). j < shard_count x.f) over less)) in
-      let agree : AgreeBelow (shard_count m.f) (IsColumn digest id m payloads) (IsOwnColumn shape.f s e) =
-      λ j less x y column at.
-      one_sliver digest one m Secondary j x y (column_held digest id m fit payloads j x column) (subst (λ (z : List ℕ). HoldsSliver digest m Secondary j z) (sym at) (mine j less)) in
-      contrary.denied (answer_true digest shape members id b payloads m found.1 e own.1.1 over agree k contrary.answer contrary.told)
+      let here = rw (same ∙ own.1.2, b.fits) at found.1 in
+      let held = column_held digest id m (shape_in digest id payloads m here.0) payloads in
+      let coded = rw b.fits at own.1.1.coded in
+      contrary.denied
+      (plain_true digest shape members id b payloads e own.1.1 here
+      (λ j less x y column mine. one_sliver digest one m Secondary j x y (held j x column)
+      (rw mine (honest_sliver digest Secondary shape e j coded less)))
+      k contrary.answer found)
 
   -- two members
   pub members_collide : (id : List ℕ) (k : ℕ) (a b : List (List ℕ)) → All (All IsByte) a → All (All IsByte) b → AreContraryMembers digest id k a b → CanCollide digest
@@ -64,8 +56,6 @@ module _ (digest : List ℕ → List ℕ) (is : IsDigest digest) where
       let same : told_b.0 ≡ m =
       one_metadata digest one told_b.0 m has_b.4.1.fit has_a.4.1.fit (metadata_carried digest id b told_b.0 (all_bytes b are_b) has_b)
       (metadata_carried digest id a m (all_bytes a are_a) has_a) (sym has_b.4.1.identifier ∙ has_a.4.1.identifier) in
-      let fit = shape_in digest id a m has_a in
-      let agree : AgreeBelow (shard_count m.f) (IsColumn digest id m a) (IsColumn digest id m b) =
-      λ j less x y is_x is_y. one_sliver digest one m Secondary j x y (column_held digest id m fit a j x is_x) (column_held digest id m fit b j y is_y) in
-      contrary.differ
-      (members_same digest id k a b m contrary.left contrary.right told_a.1 (subst (λ (x : BlobMetadata). IsMetadataIn digest id b x) same told_b.1) agree told_a told_b)
+      let held = column_held digest id m (shape_in digest id a m has_a) in
+      not_contrary digest id k a b m contrary told_a.1 (rw same at told_b.1)
+      (λ j less x y is_x is_y. one_sliver digest one m Secondary j x y (held a j x is_x) (held b j y is_y))

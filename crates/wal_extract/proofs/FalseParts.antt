@@ -1,21 +1,19 @@
 -- Evidence for a metadata that does not lead to the blob of the metadata's matrix has a part that is not the matrix's own.
-use Rattle.std.proofs.Common.{◌≡◌, ◌≢◌, ℕ, ◌*◌, ◌<◌, List, length, slice_get, slice_index, Some, sym, ap, subst, ◌∙◌, arith, inl, inr, ⊎_elim}
+use Rattle.std.proofs.Common.{◌≡◌, ◌≢◌, ℕ, ◌*◌, ◌<◌, List, length, slice_get, slice_index, Some, sym, ap, ◌∙◌, arith, ⊎_elim}
 use Rattle.std.proofs.lemmas.List.{get_or_default}
 use Rattle.std.proofs.lemmas.Option.{get_or_from_slice_get, slice_get_within}
 use Rattle.wal_kernel.specs.Region.{region}
-use Rattle.wal_shape.specs.declared.axis.Axis.TheVariants.{Primary}
 use Rattle.wal_shape.specs.declared.opening.Opening.{Opening}
 use Rattle.wal_shape.specs.EncodingProof.{EncodingProof}
-use Rattle.wal_shape.specs.Shape.{BlobShape, IsShape, symbol_size}
+use Rattle.wal_shape.specs.Shape.{symbol_size}
 use Rattle.wal_shape.specs.Metadata.{BlobMetadata, IsMetadata}
 use Rattle.wal_matrix.specs.Matrix.{IsCodedMatrix, primary_of}
 use Rattle.wal_commit.specs.Held.{HoldsOpening}
 use Rattle.wal_commit.specs.Identifier.{metadata_over}
-use Rattle.wal_evidence.specs.declared.evidence.Basis.{Basis}
-use Rattle.wal_evidence.specs.declared.evidence.Basis.TheVariants.{Proof, Slivers}
+use Rattle.wal_evidence.specs.declared.evidence.Basis.TheVariants.{Slivers}
 use Rattle.wal_evidence.specs.declared.evidence.Verdict.TheVariants.{Bytes}
 use Rattle.wal_evidence.specs.BadProof.{IsBadProof}
-use Rattle.wal_evidence.specs.Evidence.{AreHeld, CommitsMatrix, IsHeldBy, IsJudgedBy, sliver_bytes}
+use Rattle.wal_evidence.specs.Evidence.{AreHeld, CommitsMatrix, IsJudgedBy, sliver_bytes}
 use Rattle.wal_evidence.proofs.FalseOpenings.{false_opening}
 use Rattle.wal_evidence.proofs.FalseSlivers.{matrix_holds}
 use Rattle.wal_evidence.proofs.OneLine.{no_opening}
@@ -27,8 +25,7 @@ use Rattle.wal_extract.proofs.OneRoot.{held_one_root}
 -- the matrix of a metadata has codewords of its symbols
 coded : (digest : List ℕ → List ℕ) (m : BlobMetadata) (blob e : List ℕ) → CommitsMatrix digest m blob e → IsCodedMatrix m.f (symbol_size m.f m.length) e
 unfolding metadata_over
-coded digest m blob e is =
-    subst (λ (long : ℕ). IsCodedMatrix m.f (symbol_size m.f long) e) (sym (ap (λ (x : BlobMetadata). x.length) is.1)) is.0.coded
+coded digest m blob e is = rw (ap (λ (x : BlobMetadata). x.length) is.1) is.0.coded
 
 -- the metadata of a matrix is the one over it, for its own shape
 own_metadata : (digest : List ℕ → List ℕ) (m : BlobMetadata) (blob e : List ℕ) → CommitsMatrix digest m blob e → m ≡ metadata_over digest (shape_of m) e
@@ -39,44 +36,44 @@ own_metadata digest m blob e is =
 
 module _ (digest : List ℕ → List ℕ) (m : BlobMetadata) (blob e : List ℕ) (fit : IsMetadata m) (is : CommitsMatrix digest m blob e) where
   module _ (indices joined : List ℕ) (held : AreHeld digest m indices joined) where
-    slivers_meet : SliversMeet digest m.f (symbol_size m.f m.length) e indices joined
+    -- held slivers have one root with those of the matrix
+    pub slivers_meet : SliversMeet digest m.f (symbol_size m.f m.length) e indices joined
     slivers_meet = record {
       each = λ k below.
-          held_one_root digest m Primary (slice_index indices k) (region (sliver_bytes m) joined k) (primary_of m.f (symbol_size m.f m.length) e (slice_index indices k)) fit.shape
-          (held.held k below) (matrix_holds digest m blob e (slice_index indices k) is (held.held k below).within);
+          let given = held.held k below in
+          held_one_root _ _ _ _ _ _ fit.shape given
+          (matrix_holds digest m blob e (slice_index indices k) is given.within);
     }
 
-    false_sliver : (IsJudgedBy digest m (Slivers indices joined) (Bytes blob) → ⊥) → HaveFalseSliver m.f (symbol_size m.f m.length) e indices joined
+    -- and one of them is not its own where they do not lead to its blob
+    pub false_sliver : (IsJudgedBy digest m (Slivers indices joined) (Bytes blob) → ⊥)
+        → HaveFalseSliver m.f (symbol_size m.f m.length) e indices joined
     false_sliver wrong =
         let own : ℕ → List ℕ = λ k. primary_of m.f (symbol_size m.f m.length) e (slice_index indices k) in
         let given : ℕ → List ℕ = λ k. region (sliver_bytes m) joined k in
-        let found : (k : ℕ) × (k < length indices) × (given k ≢ own k) =
-        ⊎_elim
-        (λ all. absurd (wrong (true_verdict digest m (Slivers indices joined) blob fit (e, is.0, is.1, all))))
-        (λ some. some)
-        (all_or_some (λ k. own k ≡ given k) (λ k. given k ≢ own k) (length indices)
-        (λ k below. ⊎_elim (λ same. inl (sym same)) (λ apart. inr apart) (same_or_not (given k) (own k)))) in
+        let found : (k : ℕ) × (k < length indices) × (own k ≢ given k) =
+        ⊎_elim (λ all. absurd (wrong (true_verdict digest m (Slivers indices joined) blob fit (e, is.0, is.1, all))))
+        (λ some. some) (all_or_some _ _ (length indices) (λ k below. same_or_not (own k) (given k))) in
         record {
-          below = λ k d below.
-              let within = (held.held k below).within in
-              let same = get_or_default indices k d 0 below in omega (arith, within, same);
+          below = λ k d below. omega (arith, (held.held k below).within, get_or_default indices k d 0 below);
           long = held.size ∙ ap (λ n. n * sliver_bytes m) (sym held.count);
           place = found.0;
           within = found.1;
-          apart = found.2;
+          apart = λ same. found.2 (sym same);
         }
 
   module _ (p : EncodingProof) (bad : IsBadProof digest m p) where
     holds_at : (k : ℕ) (o : Opening) → slice_get p.openings k ≡ Some o → HoldsOpening digest m p.axis p.index o
     holds_at k o there =
-        subst (HoldsOpening digest m p.axis p.index) (get_or_from_slice_get p.openings k o no_opening there) (bad.line.enough.held k no_opening (slice_get_within p.openings k o there))
+        let held = bad.line.enough.held k no_opening (slice_get_within p.openings k o there) in
+        rw (get_or_from_slice_get p.openings k o no_opening there) at held
 
-    openings_meet : OpeningsMeet digest (shape_of m) e p
-    openings_meet = record {
-      each = λ k o there. subst (λ (x : BlobMetadata). HoldsOpening digest x p.axis p.index o) (own_metadata digest m blob e is) (holds_at k o there);
-    }
+    -- openings of a bad proof are committed by the metadata over the matrix
+    pub openings_meet : OpeningsMeet digest (shape_of m) e p
+    openings_meet = record { each = λ k o there. rw (← own_metadata digest m blob e is) (holds_at k o there) }
 
-    false_one : HaveFalseOpening m.f (symbol_size m.f m.length) e p
+    -- and one of them has not its symbol
+    pub false_one : HaveFalseOpening m.f (symbol_size m.f m.length) e p
     false_one =
         let found = false_opening digest m p blob e fit.shape bad is in
         record {
@@ -88,29 +85,3 @@ module _ (digest : List ℕ → List ℕ) (m : BlobMetadata) (blob e : List ℕ)
           there = found.2;
           apart = found.3;
         }
-
--- the same in other words, for a basis of slivers
-pub basis_of_slivers : (digest : List ℕ → List ℕ) (m : BlobMetadata) (shape : BlobShape) (basis : Basis) (blob e indices joined xs ys : List ℕ) → shape ≡ shape_of m → IsMetadata m →
-    CommitsMatrix digest m blob e → IsHeldBy digest m basis → (IsJudgedBy digest m basis (Bytes blob) → ⊥) → basis ≡ Slivers indices joined → xs ≡ indices → ys ≡ joined →
-    HaveFalseSliver shape.f (symbol_size shape.f shape.length) e xs ys × SliversMeet digest shape.f (symbol_size shape.f shape.length) e xs ys
-basis_of_slivers digest m shape basis blob e indices joined xs ys shape_is fit is held wrong basis_is xs_is ys_is =
-    let Both : BlobShape → List ℕ → List ℕ → Type 0 = λ s is js. HaveFalseSliver s.f (symbol_size s.f s.length) e is js × SliversMeet digest s.f (symbol_size s.f s.length) e is js in
-    let held_here : AreHeld digest m indices joined = subst (λ (b : Basis). IsHeldBy digest m b) basis_is held in
-    let wrong_here : IsJudgedBy digest m (Slivers indices joined) (Bytes blob) → ⊥ = subst (λ (b : Basis). IsJudgedBy digest m b (Bytes blob) → ⊥) basis_is wrong in
-    let base : Both (shape_of m) indices joined = (false_sliver digest m blob e fit is indices joined held_here wrong_here, slivers_meet digest m blob e fit is indices joined held_here) in
-    subst (λ (s : BlobShape). Both s xs ys) (sym shape_is)
-    (subst (λ (l : List ℕ). Both (shape_of m) l ys) (sym xs_is) (subst (λ (l : List ℕ). Both (shape_of m) indices l) (sym ys_is) base))
-
--- and for a proof
-pub basis_of_proof : (digest : List ℕ → List ℕ) (m : BlobMetadata) (shape : BlobShape) (basis : Basis) (blob e : List ℕ) (p q : EncodingProof) → shape ≡ shape_of m → IsMetadata m →
-    CommitsMatrix digest m blob e → IsHeldBy digest m basis → basis ≡ Proof p → q ≡ p →
-    HaveFalseOpening shape.f (symbol_size shape.f shape.length) e q × OpeningsMeet digest shape e q
-basis_of_proof digest m shape basis blob e p q shape_is fit is held basis_is q_is =
-    let Both : BlobShape → EncodingProof → Type 0 = λ s p. HaveFalseOpening s.f (symbol_size s.f s.length) e p × OpeningsMeet digest s e p in
-    let bad : IsBadProof digest m p = subst (λ (b : Basis). IsHeldBy digest m b) basis_is held in
-    let base : Both (shape_of m) p = (false_one digest m blob e fit is p bad, openings_meet digest m blob e fit is p bad) in
-    subst (λ (s : BlobShape). Both s q) (sym shape_is) (subst (λ (x : EncodingProof). Both (shape_of m) x) (sym q_is) base)
-
--- a matrix for a metadata is of an allowed shape
-pub shape_fits : (m : BlobMetadata) (shape : BlobShape) → shape ≡ shape_of m → IsMetadata m → IsShape shape.f shape.length
-shape_fits m shape shape_is fit = subst (λ (s : BlobShape). IsShape s.f s.length) (sym shape_is) fit.shape

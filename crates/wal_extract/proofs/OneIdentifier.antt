@@ -1,5 +1,5 @@
 -- Blobs of one identifier, by their extended matrices.
-use Rattle.std.proofs.Common.{◌≡◌, ◌≢◌, ℕ, ◌-◌, ◌*◌, ◌<◌, ◌≤◌, List, length, slice_get, Some, replicate, sym, ap, ap₂, subst, ◌∙◌, arith}
+use Rattle.std.proofs.Common.{◌≡◌, ◌≢◌, ℕ, ◌-◌, ◌*◌, ◌<◌, ◌≤◌, List, length, slice_get, replicate, sym, ap, ap₂, ◌∙◌, arith}
 use Rattle.std.proofs.Math.Nat.{mul-le-mul_right}
 use Rattle.wal_shape.specs.declared.axis.Axis.TheVariants.{Primary}
 use Rattle.wal_shape.specs.Shape.{BlobShape, column_count, row_count, shard_count, symbol_size}
@@ -15,54 +15,52 @@ use Rattle.wal_matrix.proofs.Slivers.{row_is}
 use Rattle.wal_matrix.proofs.WordTables.{same_by_regions}
 use Rattle.wal_commit.specs.Identifier.{IsIdentifierOf, identifier_of, metadata_over}
 use Rattle.wal_commit.proofs.HonestOpenings.{root_of_line}
+use Rattle.wal_evidence.proofs.Verdicts.{shape_of}
 
 -- the identifier of a blob is that of the metadata over its only matrix
 pub identifier_over : (digest : List ℕ → List ℕ) (shape : BlobShape) (bytes id e : List ℕ) → length bytes ≡ shape.length →
     ((other : List ℕ) → IsExtended shape.f bytes other → other ≡ e) → IsIdentifierOf digest shape.format shape.f bytes id →
     id ≡ identifier_of digest (metadata_over digest shape e)
 identifier_over digest shape bytes id e fits only is =
-    let found = is.1 in
-    is.2.identifier
-    ∙ ap (identifier_of digest)
-    (found.2 ∙ ap (λ n. metadata_over digest (record { format = shape.format; f = shape.f; length = n }) found.0) fits ∙ ap (metadata_over digest shape) (only found.0 found.1))
+    is.2.identifier ∙ ap (identifier_of digest) (rw (fits, only is.1.0 is.1.1) at is.1.2)
 
 -- metadata that are spelled alike are the same
 pub same_metadata : (a b : BlobMetadata) (x y : List ℕ) → IsMetadata a → IsMetadata b → x ≡ metadata_text a → y ≡ metadata_text b → x ≡ y → a ≡ b
 same_metadata a b x y is_a is_b x_is y_is same = metadata_text-injective a b is_a is_b (sym x_is ∙ same ∙ y_is)
 
--- and metadata that are not spelled alike differ
-pub other_metadata : (a b : BlobMetadata) (x y : List ℕ) → x ≡ metadata_text a → y ≡ metadata_text b → x ≢ y → a ≢ b
-other_metadata a b x y x_is y_is differ same = differ (x_is ∙ ap metadata_text same ∙ sym y_is)
-
 -- the shape of a metadata over a matrix
+pub over_shape : (digest : List ℕ → List ℕ) (x : BlobShape) (e : List ℕ) (m : BlobMetadata)
+    → metadata_over digest x e ≡ m → x ≡ shape_of m
+unfolding metadata_over
+over_shape digest x e m same = ap shape_of same
+
 pub same_shape : (digest : List ℕ → List ℕ) (x y : BlobShape) (d e : List ℕ) → metadata_over digest x d ≡ metadata_over digest y e → x ≡ y
 unfolding metadata_over
-same_shape digest x y d e same =
-    let read : BlobMetadata → BlobShape = λ m. record { format = m.format; f = m.f; length = m.length } in ap read same
+same_shape digest x y d e same = ap shape_of same
 
 -- blobs of one shape and one matrix are the same
 same_bytes : (f : ℕ) (a b d e : List ℕ) → length a ≡ length b → IsExtended f a d → IsExtended f b e → d ≡ e → a ≡ b
 unfolding padded
 same_bytes f a b d e long is_a is_b same =
-    append_front a b (replicate (row_count f * column_count f * symbol_size f (length a) - length a) 0) (replicate (row_count f * column_count f * symbol_size f (length b) - length b) 0) long
+    append_front a b (replicate (row_count f * column_count f * symbol_size f (length a) - length a) 0)
+    (replicate (row_count f * column_count f * symbol_size f (length b) - length b) 0) long
     (sym (source_of_extended f a d is_a) ∙ ap₂ (λ n x. source_of f (symbol_size f n) x) long same ∙ source_of_extended f b e is_b)
 
 -- so that different blobs of one shape have different matrices
 pub matrices_apart : (x y : BlobShape) (a b d e : List ℕ) → x ≡ y → length a ≡ x.length → length b ≡ y.length → IsExtended x.f a d → IsExtended y.f b e → a ≢ b → d ≢ e
 matrices_apart x y a b d e shape fits_a fits_b is_a is_b differ same =
-    differ (same_bytes x.f a b d e (fits_a ∙ ap (λ (s : BlobShape). s.length) shape ∙ sym fits_b) is_a (subst (λ (s : BlobShape). IsExtended s.f b e) (sym shape) is_b) same)
+    differ (same_bytes x.f a b d e (rw (fits_a, fits_b, shape)) is_a (rw (← shape) at is_b) same)
 
 -- rows of one metadata have one root
 pub rows_one_root : (digest : List ℕ → List ℕ) (x y : BlobShape) (d e : List ℕ) (i : ℕ) → metadata_over digest x d ≡ metadata_over digest y e → x ≡ y → i < shard_count x.f →
     root_over digest (symbol_size x.f x.length) (row_of (shard_count x.f) (symbol_size x.f x.length) d i)
     ≡ root_over digest (symbol_size x.f x.length) (row_of (shard_count y.f) (symbol_size y.f y.length) e i)
 rows_one_root digest x y d e i same shape below =
-    let root : BlobShape → List ℕ → List ℕ = λ s m. root_over digest (symbol_size s.f s.length) (row_of (shard_count s.f) (symbol_size s.f s.length) m i) in
-    let other : i < shard_count y.f = omega (arith, below, ap (λ (s : BlobShape). s.f) shape) in
-    let both : Some (root x d) ≡ Some (root y e) =
-    sym (root_of_line digest Primary x d i below) ∙ ap (λ (m : BlobMetadata). slice_get (roots_of Primary m) i) same ∙ root_of_line digest Primary y e i other in
-    let one : root x d ≡ root y e = cc in
-    one ∙ ap (λ (s : BlobShape). root_over digest (symbol_size s.f s.length) (row_of (shard_count y.f) (symbol_size y.f y.length) e i)) (sym shape)
+    let other = rw shape at below in
+    let roots = ap (λ (m : BlobMetadata). slice_get (roots_of Primary m) i) same in
+    let both =
+    rw shape at (sym (root_of_line digest Primary x d i below) ∙ roots ∙ root_of_line digest Primary y e i other) in
+    rw shape (cc)
 
 -- matrices of one shape whose rows are the same are the same
 pub rows_all : (x y : BlobShape) (d e : List ℕ) → x ≡ y → length d ≡ shard_count x.f * shard_count x.f * symbol_size x.f x.length →
@@ -71,7 +69,8 @@ pub rows_all : (x y : BlobShape) (d e : List ℕ) → x ≡ y → length d ≡ s
 rows_all x y d e shape long_d long_e some each =
     let n = shard_count x.f in
     let s = symbol_size x.f x.length in
-    let long : length e ≡ n * n * s = long_e ∙ ap (λ (t : BlobShape). shard_count t.f * shard_count t.f * symbol_size t.f t.length) (sym shape) in
+    let long = rw (← shape) at long_e in
+    let same = rw (← shape) at each in
     let room : 1 * s ≤ n * s = mul-le-mul_right s (omega arith) in
     same_by_regions n (n * s) d e (omega (arith, room)) (long_d ∙ omega arith) (long ∙ omega arith)
-    (λ i below. sym (row_is n s d i) ∙ each i below ∙ ap (λ (t : BlobShape). row_of (shard_count t.f) (symbol_size t.f t.length) e i) (sym shape) ∙ row_is n s e i)
+    (λ i below. rw (← row_is n s d i, ← row_is n s e i) (same i below))

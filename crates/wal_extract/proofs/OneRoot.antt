@@ -1,7 +1,7 @@
 -- The codewords of slivers that are committed under one root.
-use Rattle.std.proofs.Common.{◌≡◌, ◌≢◌, ℕ, ◌*◌, List, take, Some, sym, ap, subst, ◌∙◌}
+use Rattle.std.proofs.Common.{◌≡◌, ◌≢◌, ℕ, List, Some, sym, ◌∙◌}
 use Rattle.wal_shape.specs.declared.axis.Axis.{Axis}
-use Rattle.wal_shape.specs.Shape.{IsShape, sliver_symbols, symbol_size}
+use Rattle.wal_shape.specs.Shape.{IsShape, symbol_size}
 use Rattle.wal_shape.specs.Metadata.{BlobMetadata}
 use Rattle.wal_shape.proofs.ShapeLaws.{symbol_size-least}
 use Rattle.wal_tree.specs.Tree.{root_over}
@@ -10,25 +10,17 @@ use Rattle.wal_matrix.proofs.ToolsLaws.{symbol_size-longest}
 use Rattle.wal_commit.specs.Held.{HoldsSliver}
 use Rattle.wal_extract.specs.Slivers.{HaveOneRoot}
 
--- a codeword in numbers that are the same
-moved : (axis : Axis) (f kept s t : ℕ) (sliver word : List ℕ) → kept ≡ f → s ≡ t → IsWordOf axis f t sliver word → IsWordOf axis kept s sliver word
-moved axis f kept s t sliver word kept_is s_is is =
-    subst (λ (k : ℕ). IsWordOf axis k s sliver word) (sym kept_is) (subst (λ (t : ℕ). IsWordOf axis f t sliver word) (sym s_is) is)
-
 -- the only codeword of each has one root
 pub one_root : (digest : List ℕ → List ℕ) (f kept_a kept_b s : ℕ) (axis : Axis) (a b x y : List ℕ) → (h : HaveOneRoot digest f axis a b) → kept_a ≡ f → kept_b ≡ f → s ≡ h.size →
     ((other : List ℕ) → IsWordOf axis kept_a s a other → other ≡ x) → ((other : List ℕ) → IsWordOf axis kept_b s b other → other ≡ y) →
     root_over digest s x ≡ root_over digest s y
 one_root digest f kept_a kept_b s axis a b x y h a_is b_is s_is only_x only_y =
-    ap (root_over digest s) (sym (only_x h.word_a (moved axis f kept_a s h.size a h.word_a a_is s_is h.is_a)))
-    ∙ ap (λ t. root_over digest t h.word_a) s_is ∙ h.root ∙ ap (λ t. root_over digest t h.word_b) (sym s_is)
-    ∙ ap (root_over digest s) (only_y h.word_b (moved axis f kept_b s h.size b h.word_b b_is s_is h.is_b))
+    rw (← only_x h.word_a (rw (a_is, s_is) h.is_a), ← only_y h.word_b (rw (b_is, s_is) h.is_b), s_is) h.root
 
 -- their codewords differ
 pub words_apart : (axis : Axis) (f kept_a kept_b s : ℕ) (a b x y : List ℕ) → a ≢ b → kept_a ≡ f → kept_b ≡ f → IsWordOf axis kept_a s a x → IsWordOf axis kept_b s b y → x ≢ y
 words_apart axis f kept_a kept_b s a b x y apart a_is b_is is_a is_b same =
-    let to_f = λ (k : ℕ) (xs : List ℕ). take (sliver_symbols axis k * s) xs in
-    apart (sym is_a.begins ∙ ap (λ k. to_f k x) (a_is ∙ sym b_is) ∙ ap (to_f kept_b) same ∙ is_b.begins)
+    apart (rw (← is_a.begins, ← is_b.begins, a_is, b_is, same))
 
 -- slivers that a metadata commits at one place have one root
 pub held_one_root : (digest : List ℕ → List ℕ) (m : BlobMetadata) (axis : Axis) (index : ℕ) (a b : List ℕ) → IsShape m.f m.length →

@@ -1,21 +1,20 @@
-use Rattle.std.proofs.Common.{◌≡◌, ℕ, ◌+◌, ◌*◌, ap, ◌∙◌}
-use Rattle.wal_bundle.specs.Layout.{column_bytes}
-use Rattle.wal_bundle.proofs.HonestColumns.{laid_long, laid_text}
+use Rattle.std.proofs.Common.{◌*◌}
+use Rattle.wal_bundle.specs.Layout.{bundle_text, column_bytes}
+use Rattle.wal_bundle.proofs.ColumnTexts.{text_long}
+use Rattle.wal_bundle.proofs.Room.{size_positive}
 use Rattle.wal_bundle.proofs.bundling.laid.Goals as goal
 
 pub block_of_columns-requires-clause-columns : goal.block_of_columns-requires-clause-columns
 block_of_columns-requires-clause-columns c =
     let s = 2 * c.args.half in
-    let size = (c.from.result + 1) * s in
-    let size_is : size ≡ column_bytes c.args.f s = ap (λ (n : ℕ). (n + 1) * s) c.from.ensures in
-    laid_long c.args.f s size c.used_columns-used.result c.args.lengths.now c.deref-2.result.now c.args.members.now c.requires.size.positive size_is c.requires.lengths
-    c.used_columns-used.ensures (c.deref-2.ensures.value ∙ c.in_ok-columns.ensures)
+    let columns = c.in_ok-columns.ensures in
+    rw (c.deref-2.ensures.value, columns, c.used_columns-used.ensures, c.requires.lengths, c.from.ensures)
+    (text_long (column_bytes c.args.f s) c.args.members.now (size_positive c.args.f s c.requires.size.positive))
 
 pub returns : goal.returns
+unfolding bundle_text
 returns c =
-    let s = 2 * c.args.half in
-    let size = (c.from.result + 1) * s in
-    let size_is : size ≡ column_bytes c.args.f s = ap (λ (n : ℕ). (n + 1) * s) c.from.ensures in
-    c.from_vec.ensures
-    ∙ laid_text c.args.f s size c.used_columns-used.result c.args.lengths.now c.deref-2.result.now c.in_ok-block.block.items c.args.members.now size_is c.requires.lengths
-    c.used_columns-used.ensures (c.deref-2.ensures.value ∙ c.in_ok-columns.ensures) c.in_ok-block.ensures.block
+    let used = c.used_columns-used.ensures in
+    let columns = c.in_ok-columns.ensures in
+    let block = c.in_ok-block.ensures.block in
+    rw (c.from_vec.ensures, block, c.deref-2.ensures.value, columns, used, c.requires.lengths, c.from.ensures)

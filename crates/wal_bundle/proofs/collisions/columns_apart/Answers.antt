@@ -4,8 +4,8 @@ use Rattle.wal_bundle.proofs.OneColumn.{one_column}
 use Rattle.wal_bundle.proofs.collisions.columns_apart.Goals as goal
 
 pub returns-in_default-clause-none : goal.returns-in_default-clause-none
-returns-in_default-clause-none g c = λ x y is_x is_y.
-    let missing = rw c.in_default.is at c.in_ok-left.ensures.missing in absurd (missing x is_x)
+returns-in_default-clause-none g c =
+    λ x y is_x is_y. absurd ((rw c.in_default.is at c.in_ok-left.ensures.missing) x is_x)
 
 pub returns-in-None-clause-none : goal.returns-in-None-clause-none
 returns-in-None-clause-none g c = λ x y is_x is_y.

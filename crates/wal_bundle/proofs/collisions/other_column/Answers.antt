@@ -11,5 +11,5 @@ returns-else-ne-clause-none g c = λ bytes column.
     ∙ sym c.as_slice.ensures ∙ same
 
 pub returns-in-None-clause-none : goal.returns-in-None-clause-none
-returns-in-None-clause-none g c = λ bytes column.
-    let missing = rw c.in-None.is at c.in_ok-column.ensures.missing in absurd (missing bytes column)
+returns-in-None-clause-none g c =
+    λ bytes column. absurd ((rw c.in-None.is at c.in_ok-column.ensures.missing) bytes column)

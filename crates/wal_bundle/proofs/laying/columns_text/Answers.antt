@@ -1,30 +1,26 @@
-use Rattle.std.proofs.Common.{◌≡◌, ℕ, ◌*◌, List, [], length, get_or, vec_len, ap, ◌∙◌, arith, rules}
-use Rattle.std.proofs.lemmas.List.{get_or_read}
-use Rattle.wal_bundle.specs.Layout.{columns_for}
-use Rattle.wal_bundle.proofs.ColumnTexts.{all_wholes, member_room, index_room}
+use Rattle.std.proofs.Common.{◌≡◌, [], length, vec_len, ◌∙◌, arith, rules}
+use Rattle.std.proofs.lemmas.List.{get_or_read, take_all}
+use Rattle.wal_bundle.specs.Layout.{columns_text}
+use Rattle.wal_bundle.proofs.ColumnTexts.{member_room, index_room}
 use Rattle.wal_bundle.proofs.laying.columns_text.Goals as goal
 
 pub add_whole-requires-clause-room : goal.add_whole-requires-clause-room
 add_whole-requires-clause-room c =
     let room = index_room c.args.size c.args.members.now c.args.index.now c.requires.index in
-    let total = c.requires.total in
-    let few = c.requires.fits in
-    omega (arith, c.in_ok-columns.ensures.len, room)
+    omega (arith, c.in_ok-columns.ensures.len, room, c.requires.total, c.requires.fits)
 
 pub add_whole-requires-in-loop-member-clause-room : goal.add_whole-requires-in-loop-member-clause-room
 add_whole-requires-in-loop-member-clause-room c =
     let members = c.args.members.now in
     let i = c.loop-member.member-index in
     let h = c.loop-member-test.true in
-    let item = c.member-item.is in
-    let lent = c.as_slice.ensures in
-    let own : c.as_slice.result.now ≡ get_or members i [] = lent ∙ get_or_read members i c.member-item.result h item [] in
+    let own = c.as_slice.ensures ∙ get_or_read members i c.member-item.result h c.member-item.is [] in
     let room = member_room c.args.size members c.args.index.now c.loop-member.columns.items i c.requires.some h c.requires.index c.loop-member.invariant in
     let len : vec_len c.loop-member.columns ≡ length c.loop-member.columns.items = search rules in
-    let total = c.requires.total in
-    let few = c.requires.fits in
-    let same = ap (λ (xs : List ℕ). columns_for c.args.size (length xs) * c.args.size) own in
-    omega arith
+    omega (arith, len, rw (← own) at room, c.requires.total, c.requires.fits)
 
 pub returns : goal.returns
-returns c = all_wholes c.args.size c.args.members.now c.args.index.now c.loop-member.columns.items c.loop-member.member-index c.requires.index (omega arith) c.loop-member.invariant
+unfolding columns_text
+returns c =
+    let all = take_all c.loop-member.member-index c.args.members.now (omega arith) in
+    rw (c.loop-member.invariant, c.requires.index, all)

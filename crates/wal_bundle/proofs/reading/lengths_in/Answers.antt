@@ -1,10 +1,15 @@
-use Rattle.std.proofs.Common.{rules}
-use Rattle.wal_bundle.proofs.IndexTexts.{no_lengths, one_length}
+use Rattle.std.proofs.Common.{◌≡◌, [], ◌∷◌, ◌++◌, zero-add, rules}
+use Rattle.std.proofs.lemmas.List.FromFn.{map-range_with_len_more}
+use Rattle.wal_bundle.specs.inside.Reading.{spelled_length, spelled_lengths}
 use Rattle.wal_bundle.proofs.reading.lengths_in.Goals as goal
 
 pub loop-k-init : goal.loop-k-init
-loop-k-init c = no_lengths c.args.index.now c.in_ok-lengths.lengths.items (search rules)
+unfolding spelled_lengths
+loop-k-init c = search rules
 
 pub loop-k-preserved : goal.loop-k-preserved
+unfolding spelled_lengths
 loop-k-preserved c =
-    one_length c.args.index.now c.loop-k.k c.length_in.result c.loop-k.lengths.items c.push.new.self.items c.loop-k.invariant c.length_in.ensures (search rules)
+    let more : c.push.new.self.items ≡ c.loop-k.lengths.items ++ c.length_in.result ∷ [] = search rules in
+    rw (more, c.loop-k.invariant, c.length_in.ensures)
+    (rw (map-range_with_len_more (spelled_length c.args.index.now) 0 c.loop-k.k c.loop-k.k (zero-add c.loop-k.k)))
