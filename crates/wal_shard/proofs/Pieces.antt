@@ -1,5 +1,5 @@
 -- Two texts of one length, of which pieces were compared in order.
-use Rattle.std.proofs.Common.{◌≡◌, ◌≢◌, ◌↔◌, ℕ, ◌+◌, ◌≤◌, Bool, IsTrue, Option, Some, IsSome, List, [], ◌++◌, length, take, drop, unwrap_or, sym, ap, ◌∙◌, subst}
+use Rattle.std.proofs.Common.{◌≡◌, ◌≢◌, ◌↔◌, ℕ, ◌+◌, ◌≤◌, Bool, IsTrue, Option, Some, IsSome, List, [], length, take, drop, unwrap_or, sym, ap, ◌∙◌, subst}
 use Rattle.std.proofs.Math.Seq.{take-add}
 use Rattle.std.proofs.lemmas.List.{take_all}
 use Rattle.wal_shard.proofs.HeldLaws.{some_of}
@@ -7,9 +7,7 @@ use Rattle.wal_shard.proofs.HeldLaws.{some_of}
 -- with one more piece that is the same
 pub same_more : (held given : List ℕ) (done size : ℕ) → take done held ≡ take done given → take size (drop done held) ≡ take size (drop done given)
     → take (done + size) held ≡ take (done + size) given
-same_more held given done size before same =
-    take-add done size held ∙ ap (λ (x : List ℕ). x ++ take size (drop done held)) before
-    ∙ ap (λ (x : List ℕ). take done given ++ x) same ∙ sym (take-add done size given)
+same_more held given done size before same = cc (take-add done size held, take-add done size given)
 
 -- where all pieces are the same, the texts are
 pub same_all : (held given : List ℕ) (done : ℕ) → length held ≡ length given → length given ≤ done → take done held ≡ take done given → held ≡ given

@@ -8,7 +8,7 @@ use Rattle.wal_store.specs.Parts.{with_part}
 use Rattle.wal_store.specs.Contents.{Contents, parts_at, part_at}
 use Rattle.wal_frame.specs.Frame.{Frame, Metadata}
 use Rattle.wal_shard.specs.declared.answers.PutAnswer.{PutAnswer}
-use Rattle.wal_shard.specs.declared.answers.PutAnswer.TheVariants.{Stored, Held, Unregistered, NoMetadata, Unverified, OtherMetadata, Full, Memory}
+use Rattle.wal_shard.specs.declared.answers.PutAnswer.TheVariants.{Stored, Held, OtherMetadata, Full, Memory}
 use Rattle.wal_shard.specs.Holding.{IsSound}
 use Rattle.wal_frame.specs.Stored.{stored_bytes}
 use Rattle.wal_shard.specs.Putting.{PutDesk, IsAccepted, PutsOrWants, Stores, Compares, put_id, put_part}
@@ -23,11 +23,7 @@ stored_as : (digest : List ℕ → List ℕ) (may_want : Bool) (d : PutDesk) (ol
 stored_as digest may_want d old frame Stored new a none s = (a, none, s.0, s.1)
 stored_as digest may_want d old frame (Full needed free) new a none s = (a, none, s.0, s.1, s.2, s.3)
 stored_as digest may_want d old frame Memory new a none s = (s.0, a, none, s.1)
-stored_as digest may_want d old frame Held new a none s = absurd s
-stored_as digest may_want d old frame Unregistered new a none s = absurd s
-stored_as digest may_want d old frame NoMetadata new a none s = absurd s
-stored_as digest may_want d old frame Unverified new a none s = absurd s
-stored_as digest may_want d old frame (OtherMetadata clash) new a none s = absurd s
+stored_as digest may_want d old frame answer new a none s = absurd s
 
 pub stored_puts : (digest : List ℕ → List ℕ) (may_want : Bool) (d : PutDesk) (old : Contents) (frame : Frame) (id : BlobId) (part : Part) (bytes : List ℕ) (answer : PutAnswer) (new : Contents)
     → put_id digest frame ≡ id → put_part frame ≡ part → stored_bytes frame ≡ bytes → IsAccepted digest d old frame → part_at old id part ≡ None
@@ -44,12 +40,7 @@ compared_as : (digest : List ℕ → List ℕ) (may_want : Bool) (d : PutDesk) (
     → PutsOrWants digest may_want d old (Metadata m) answer old
 compared_as digest may_want d old m Held a c = (a, c, refl)
 compared_as digest may_want d old m (OtherMetadata clash) a c = (a, m, c.0, refl, c.1, c.2, c.3, refl)
-compared_as digest may_want d old m Stored a c = absurd c
-compared_as digest may_want d old m Unregistered a c = absurd c
-compared_as digest may_want d old m NoMetadata a c = absurd c
-compared_as digest may_want d old m Unverified a c = absurd c
-compared_as digest may_want d old m (Full needed free) a c = absurd c
-compared_as digest may_want d old m Memory a c = absurd c
+compared_as digest may_want d old m answer a c = absurd c
 
 pub compared_puts : (digest : List ℕ → List ℕ) (may_want : Bool) (d : PutDesk) (old : Contents) (m : BlobMetadata) (id : BlobId) (answer : PutAnswer)
     → put_id digest (Metadata m) ≡ id → IsAccepted digest d old (Metadata m) → Compares digest (part_at old id parts.Metadata) m answer
@@ -64,8 +55,4 @@ pub stores_sound : (digest : List ℕ → List ℕ) (f shard : ℕ) (limit : Opt
 stores_sound digest f shard limit may_want old id part bytes Stored new s then to = subst (AreSound digest f shard) (sym to.1) (put_sound digest f shard old id part bytes s then)
 stores_sound digest f shard limit may_want old id part bytes (Full needed free) new s then to = subst (AreSound digest f shard) (sym to.3) s
 stores_sound digest f shard limit may_want old id part bytes Memory new s then to = subst (AreSound digest f shard) (sym to.1) s
-stores_sound digest f shard limit may_want old id part bytes Held new s then to = absurd to
-stores_sound digest f shard limit may_want old id part bytes Unregistered new s then to = absurd to
-stores_sound digest f shard limit may_want old id part bytes NoMetadata new s then to = absurd to
-stores_sound digest f shard limit may_want old id part bytes Unverified new s then to = absurd to
-stores_sound digest f shard limit may_want old id part bytes (OtherMetadata clash) new s then to = absurd to
+stores_sound digest f shard limit may_want old id part bytes answer new s then to = absurd to
