@@ -21,18 +21,15 @@ length-record : (c : Call) (text : List ℕ) → text ≡ spelling c ++ 0 ∷ []
 length-record c text is = omega (arith, ap length is, length-append (spelling c) (0 ∷ []), length-append (spelling c) [])
 
 only_span : (c : Call) (text old new : List ℕ) (tail : ℕ) → text ≡ spelling c ++ 0 ∷ []
-    → Agrees ((tail, 1 + length text) ∷ []) old new
-    → Agrees ((tail, span (c ∷ [])) ∷ []) old new
+    → Agrees ((tail, 1 + length text) ∷ []) old new → Agrees ((tail, span (c ∷ [])) ∷ []) old new
 only_span c text old new tail is only =
     let one : 1 + length text ≡ span (c ∷ []) = omega (arith, length-record c text is) in
     subst (λ (n : ℕ). Agrees ((tail, n) ∷ []) old new) one only
 
 -- where there is room
 pub not_full : {D K : Type 0} {d : _} {k : _} (now : D → List ℕ) (faults : D → ℕ) (old : D) (at : ℕ) (text : List ℕ)
-    (keep : K) (needed free : ℕ)
-    (result : Result (Journal D K d k) (ChangeRefusal D K d k)) → needed ≤ free
-    → IfErr result (IsStopped now faults old at text keep)
-    → IsDiskFull result ↔ (free < needed)
+    (keep : K) (needed free : ℕ) (result : Result (Journal D K d k) (ChangeRefusal D K d k)) → needed ≤ free
+    → IfErr result (IsStopped now faults old at text keep) → IsDiskFull result ↔ (free < needed)
 not_full now faults old at text keep needed free (Err (Kept journal why)) room stopped = absurd stopped
 not_full now faults old at text keep needed free result room stopped =
     (λ full. absurd full, λ lt. absurd (omega (arith, lt, room)))
@@ -43,8 +40,7 @@ module _ {D K : Type 0} {d : _} {k : _} (now : D → List ℕ) (faults : D → �
       → ((changes : List Call) → Accepts (now old.disk) changes → IsReady (now old.disk) old.tail text changes c)
       → text ≡ spelling c ++ 0 ∷ []
       → HadRoomForPuts (limit old.keep) (contents old.keep) (c ∷ []) → contents keep ≡ after_call (contents old.keep) c
-      → limit keep ≡ limit old.keep
-      → IfOk result (IsWritten now (now old.disk) old.tail text keep)
+      → limit keep ≡ limit old.keep → IfOk result (IsWritten now (now old.disk) old.tail text keep)
       → IfErr result (IsStopped now faults old.disk old.tail text keep)
       → EndsChange now faults contents limit is_why c old result
   ends_of is_why {c} old {text} keep (Ok journal) ready is room made same written stopped = record {

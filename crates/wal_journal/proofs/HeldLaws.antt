@@ -27,8 +27,7 @@ HasSome now tail contents = ∥ ((changes : List Call) × IsJournal now tail con
 
 -- where the gate stands, and what the keep holds
 pub stands_now : {now : List ℕ} {tail : ℕ} {contents : Contents} (changes : List Call) → HasSome now tail contents
-    → Accepts now changes
-    → (length (records changes) ≡ tail) × (contents ≡ after_calls no_contents changes)
+    → Accepts now changes → (length (records changes) ≡ tail) × (contents ≡ after_calls no_contents changes)
 stands_now {now} {tail} {contents} changes some accepts =
     let one : IsProp (contents ≡ after_calls no_contents changes) = Coded-set (map.code id_code parts_code) _ _ in
     ∥∥₁_elim some (hlevel (Coded-set coded_ℕ, one)) (λ j.
@@ -36,8 +35,7 @@ stands_now {now} {tail} {contents} changes some accepts =
     (stands_once now j.0 changes j.1.accepts.stands accepts.stands) (j.1.at, j.1.holds))
 
 module _ {now text : List ℕ} {tail : ℕ} {contents : Contents} (c : Call) (some : HasSome now tail contents)
-    (whole : IsWholeRecord c)
-    (lawful : IsLawfulCall contents c) (text_is : text ≡ spelling c ++ 0 ∷ []) where
+    (whole : IsWholeRecord c) (lawful : IsLawfulCall contents c) (text_is : text ≡ spelling c ++ 0 ∷ []) where
   -- a change that is lawful now is ready behind any changes that the disk accepts
   pub ready : (changes : List Call) → Accepts now changes → IsReady now tail text changes c
   ready changes accepts = record {
@@ -71,14 +69,12 @@ journal_more {new = new} one written =
 
 -- a change for which there is room, or may be
 pub with_room : (limit : Option ℕ) (held : Contents) (c : Call) {changes : List Call} {image : List ℕ}
-    → HadRoomForPuts limit held (c ∷ [])
-    → EitherWay changes c image → FitsEitherWay limit held changes c image
+    → HadRoomForPuts limit held (c ∷ []) → EitherWay changes c image → FitsEitherWay limit held changes c image
 with_room limit held c room (inl without) = inl without
 with_room limit held c room (inr with_it) = inr (room, with_it)
 
 pub either_of : (limit : Option ℕ) (held : Contents) (c : Call) {changes : List Call} {image : List ℕ}
-    → FitsEitherWay limit held changes c image
-    → EitherWay changes c image
+    → FitsEitherWay limit held changes c image → EitherWay changes c image
 either_of limit held c (inl without) = inl without
 either_of limit held c (inr with_it) = inr with_it.1
 

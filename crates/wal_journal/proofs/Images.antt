@@ -25,8 +25,7 @@ agrees_first : {range : ℕ × ℕ} {ranges : List (ℕ × ℕ)} {bytes image : 
 agrees_first agrees = agrees_within (λ k is. ⊎_elim (λ here. inl here) (λ none. absurd none) is) agrees
 
 pub agrees_wider : {at n from most : ℕ} {bytes image : List ℕ} → from ≤ at → at + n ≤ from + most
-    → Agrees ((at, n) ∷ []) bytes image
-    → Agrees ((from, most) ∷ []) bytes image
+    → Agrees ((at, n) ∷ []) bytes image → Agrees ((from, most) ∷ []) bytes image
 agrees_wider low high agrees = agrees_within (λ k is. grind arith) agrees
 
 -- the bytes that are put into others have their place
@@ -40,8 +39,7 @@ behind_put : (at : ℕ) (bytes old : List ℕ) (k : ℕ) → at + length bytes �
 behind_put at bytes old k fits past = grind (arith, common_steps)
 
 outside_put : (at : ℕ) (bytes old : List ℕ) (k : ℕ) → at + length bytes ≤ length old
-    → ((at ≤ k) × (k < at + length bytes) → ⊥)
-    → get_or (put_at at bytes old) k 0 ≡ get_or old k 0
+    → ((at ≤ k) × (k < at + length bytes) → ⊥) → get_or (put_at at bytes old) k 0 ≡ get_or old k 0
 outside_put at bytes old k fits out = elim (cases_lt k at) [
   | inl lt ↦ before_put at bytes old k fits lt
   | inr le ↦ elim (cases_lt k (at + length bytes)) [

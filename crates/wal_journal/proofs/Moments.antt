@@ -24,8 +24,7 @@ module _ {D : Type 0} {clock : D → ℕ} {since : D → ℕ → List ℕ → Ty
 
   -- two runs, one after the other
   pub both_runs : {old mid new : D} {P : List ℕ → Type 0} → LeavesOnly clock since old mid P
-      → LeavesOnly clock since mid new P
-      → LeavesOnly clock since old new P
+      → LeavesOnly clock since mid new P → LeavesOnly clock since old new P
   both_runs {old} first second = record {
     later = omega (arith, first.later, second.later);
     each = λ image left. ⊎_elim (λ past. first.each image past) (λ p. p) (second.before (clock old) image first.later left);
@@ -34,8 +33,7 @@ module _ {D : Type 0} {clock : D → ℕ} {since : D → ℕ → List ℕ → Ty
 
   -- what has P has Q
   pub weaker : {old new : D} {P Q : List ℕ → Type 0} → LeavesOnly clock since old new P
-      → ((image : List ℕ) → P image → Q image)
-      → LeavesOnly clock since old new Q
+      → ((image : List ℕ) → P image → Q image) → LeavesOnly clock since old new Q
   weaker run implies = record {
     later = run.later;
     each = λ image left. implies image (run.each image left);

@@ -13,14 +13,12 @@ use Rattle.wal_journal.proofs.Moments.{started, both_runs, weaker, over_call}
 
 -- what was read, with the open gate behind it
 pub read_to : (now : List ℕ) (at : ℕ) (contents : Contents) (changes : List Call) → ReadTo now at contents changes
-    → get_or now at 0 ≡ 1
-    → now ≡ records changes ++ 1 ∷ drop (at + 1) now
+    → get_or now at 0 ≡ 1 → now ≡ records changes ++ 1 ∷ drop (at + 1) now
 read_to now at contents changes read gate = cc (read.is, drop_more now at 0 read.within)
 
 -- no lawful change is spelled behind it
 bad_ends : (now : List ℕ) (at : ℕ) (contents : Contents) (changes : List Call) → ReadTo now at contents changes
-    → IsBad contents (drop (at + 1) now)
-    → Ends IsLawfulCall (after_calls no_contents changes) (1 ∷ drop (at + 1) now)
+    → IsBad contents (drop (at + 1) now) → Ends IsLawfulCall (after_calls no_contents changes) (1 ∷ drop (at + 1) now)
 bad_ends now at contents changes read bad = λ c next rest whole lawful is.
     bad c next rest whole (subst (λ m. IsLawfulCall m c) (sym read.holds) lawful) cc
 
@@ -63,8 +61,7 @@ gives now bytes tail contents others changes same so_far closed accepts =
 
 module _ {D : Type 0} {now : D → List ℕ} {pending : D → List (ℕ × ℕ)} {clock : D → ℕ} {since : D → ℕ → List ℕ → Type 0} where
   -- one call that writes nothing
-  pub still_one : {tells : Bool}
-      → (tells ≡ true → (disk : D) (image : List ℕ) → since disk (clock disk) image
+  pub still_one : {tells : Bool} → (tells ≡ true → (disk : D) (image : List ℕ) → since disk (clock disk) image
       → Agrees (pending disk) (now disk) image)
       → {old new : D} → now new ≡ now old → (tells ≡ true → pending new ≡ pending old)
       → (tells ≡ true → Elapses (clock old) (clock new) (since old) (since new) (Agrees (pending new) (now new)))

@@ -29,8 +29,7 @@ left_as s t b c image same left = rw (← same.0, ← same.1) left
 
 module _ (steps : List Step) (step : Step) (past bytes new : List ℕ) (kept : length past ≡ length steps * length bytes)
     (long : length new ≡ length bytes) where
-  kept_below : (k : ℕ) → k < length steps
-      → (take k (steps ++ step ∷ []) ≡ take k steps) ×
+  kept_below : (k : ℕ) → k < length steps → (take k (steps ++ step ∷ []) ≡ take k steps) ×
       (kept_at (length new) (past ++ bytes) k ≡ kept_at (length bytes) past k)
   kept_below k lt =
       let n = length bytes in

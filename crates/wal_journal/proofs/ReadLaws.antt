@@ -44,11 +44,7 @@ head_bytes text id size long small id_is size_is =
     )
   where
     four_small : (t : List ℕ) → ((i : ℕ) → get_or t i 0 < 256) → (i : ℕ) → get_or (get_or t 34 0 ∷ get_or t 35 0 ∷ get_or t 36 0 ∷ get_or t 37 0 ∷ []) i 0 < 256
-    four_small t low zero = low 34
-    four_small t low (suc zero) = low 35
-    four_small t low (suc (suc zero)) = low 36
-    four_small t low (suc (suc (suc zero))) = low 37
-    four_small t low (suc (suc (suc (suc i)))) = omega arith
+    four_small t low i = grind (arith, low)
 
 -- a head and what follows it, field by field
 head_parts : (h : Head) (rest : List ℕ) → head_text h ++ rest ≡ h.kind ∷ (h.id.0 ++ (h.part ∷ (size_text h.size ++ rest)))

@@ -31,9 +31,8 @@ size_once m n small other same = sym (size_read m small) ∙ ap (λ (l : List �
 -- a text and what follows it, field by field
 pub text_parts : (f : Fields) (r : List ℕ) → fields_text f ++ r ≡ f.kind ∷ (f.id ++ (f.part ∷ (size_text (length f.bytes) ++ (f.bytes ++ r))))
 text_parts f r =
-    ap (λ (l : List ℕ). f.kind ∷ l) (
-    append_assoc f.id (f.part ∷ (size_text (length f.bytes) ++ f.bytes)) r ∙ ap (λ (l : List ℕ). f.id ++ (f.part ∷ l)) (append_assoc (size_text (length f.bytes)) f.bytes r)
-    )
+    let size = size_text (length f.bytes) in
+    cc (append_assoc f.id (f.part ∷ (size ++ f.bytes)) r, append_assoc size f.bytes r)
 
 -- a kind, an identifier, a part and a size at the front of the same bytes
 pub parts_once : (k l p q m n : ℕ) (i j r s : List ℕ) → length i ≡ length j → m < 2 ^ 32 → n < 2 ^ 32

@@ -35,8 +35,7 @@ room_now now limit changes fits accepts =
 pub fits_with_one : {now text : List ℕ} {tail : ℕ} {contents : Contents} (c : Call) (limit most : Option ℕ)
     → HasSome now tail contents
     → ((changes : List Call) → Accepts now changes → IsReady now tail text changes c) → most ≡ limit
-    → HadRoomForPuts limit contents (c ∷ [])
-    → ∥ FitsSome now limit ∥₁ → ∥ FitsWithOne now tail text most ∥₁
+    → HadRoomForPuts limit contents (c ∷ []) → ∥ FitsSome now limit ∥₁ → ∥ FitsWithOne now tail text most ∥₁
 fits_with_one c limit most some ready same room fits =
     ∥∥₁_map fits (λ f. (
       f.0,

@@ -76,15 +76,12 @@ module _ (front : List ℕ) (gate tail : ℕ) (rest : List ℕ) (long : length f
       )
 
 module _ {tail : ℕ} {old text : List ℕ} {changes : List Call} {c : Call} (ready : IsReady old tail text changes c) where
-  gate : ℕ
-  gate = ready.accepts.stands.gate
-
   behind : List ℕ
   behind = drop (length text) ready.accepts.stands.rest
 
   -- the record stands whole behind its gate
-  is_staged : put_at (tail + 1) text old ≡ records changes ++ gate ∷ (spelling c ++ 0 ∷ behind)
-  unfolding gate behind
+  is_staged : put_at (tail + 1) text old ≡ records changes ++ ready.accepts.stands.gate ∷ (spelling c ++ 0 ∷ behind)
+  unfolding behind
   is_staged =
       let stands = ready.accepts.stands in
       cc (
@@ -119,6 +116,7 @@ module _ {tail : ℕ} {old text : List ℕ} {changes : List Call} {c : Call} (re
   pub accepts_more : (new : List ℕ) → new ≡ put_at tail (1 ∷ []) (put_at (tail + 1) text old)
       → Accepts new (changes ++ c ∷ [])
   accepts_more new written =
+      let gate = ready.accepts.stands.gate in
       let opened = put_front (records changes) (1 ∷ []) (gate ∷ (spelling c ++ 0 ∷ behind)) tail ready.at in
       with_it new behind (cc (written, is_staged, opened))
 
@@ -131,7 +129,7 @@ module _ {tail : ℕ} {old text : List ℕ} {changes : List Call} {c : Call} (re
       inl (without_it image stands.gate (drop (tail + 1) image)
       (torn_behind (records changes) stands.gate tail stands.rest ready.at (length text) image from) stands.closed)
   either_way image (inr torn) =
-      let shown = torn_gate (records changes) gate tail (spelling c ++ 0 ∷ behind) ready.at image
+      let shown = torn_gate (records changes) ready.accepts.stands.gate tail (spelling c ++ 0 ∷ behind) ready.at image
       (subst (λ (b : List ℕ). Agrees ((tail, 1) ∷ []) b image) is_staged torn) in
       elim (cases_eq (get_or image tail 0) 1) [
         | inl one ↦ inr (with_it image behind (cc (shown, one)))
@@ -146,8 +144,7 @@ torn_only tail text old image fits (inr torn) =
     agrees_trans (agrees_wider (omega arith) (omega arith) staged) (agrees_wider (omega arith) (omega arith) torn)
 
 pub append_only : (tail : ℕ) (text old new : List ℕ) → tail + 1 + length text ≤ length old
-    → new ≡ put_at tail (1 ∷ []) (put_at (tail + 1) text old)
-    → Agrees ((tail, 1 + length text) ∷ []) old new
+    → new ≡ put_at tail (1 ∷ []) (put_at (tail + 1) text old) → Agrees ((tail, 1 + length text) ∷ []) old new
 append_only tail text old new fits written =
     let mid : List ℕ = put_at (tail + 1) text old in
     let within : tail + 1 ≤ length mid = omega (arith, length-put (tail + 1) text old fits, fits) in

@@ -26,8 +26,7 @@ loop-payload-preserved g c =
       takes = rw more (takes_both so_far.takes c.in-Ok.ensures.packs);
       run = λ told changes accepts.
           front_run _ changes _ _ [] _ (rw append-nil more) so_far.takes.limit so_far.takes.holds so_far.takes.room
-          (so_far.run told changes accepts)
-          (c.in-Ok.ensures.any_moment told _ (so_far.takes.accepts changes accepts));
+          (so_far.run told changes accepts) (c.in-Ok.ensures.any_moment told _ (so_far.takes.accepts changes accepts));
       keeps = λ told. keeps_both (g.met.D.Disk.earlier told) (so_far.keeps told) (c.in-Ok.ensures.keeps told);
       later = omega (arith, so_far.later, c.in-Ok.ensures.later);
     }

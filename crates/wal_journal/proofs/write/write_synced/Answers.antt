@@ -18,8 +18,7 @@ returns-clause-any_moment g c = λ told.
     c.write_at.new.self c.requires (wrote.told told) wrote.written wrote.torn (wrote.time told) in
     goes_on first (c.sync.ensures.time told) (λ image left.
     write_left c.write_at.result c.args.at c.args.bytes.now _ _ _ _ _ _ c.requires (wrote.told told) wrote.written
-    wrote.torn image
-    (sync_left c.sync.result _ _ _ _ _ _ c.sync.ensures.now (c.sync.ensures.told told) image left))
+    wrote.torn image (sync_left c.sync.result _ _ _ _ _ _ c.sync.ensures.now (c.sync.ensures.told told) image left))
 
 pub returns-clause-torn : goal.returns-clause-torn
 returns-clause-torn g c =
