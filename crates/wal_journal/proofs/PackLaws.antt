@@ -71,7 +71,8 @@ module _ (limit : Option ℕ) {held : Contents} where
   -- puts, and then more of them, into a keep that holds what the first make
   pub front_run : {D : Type 0} {clock : D → ℕ} {since : D → ℕ → List ℕ → Type 0} {old mid new : D} {most : Option ℕ}
       {now : Contents} (changes a b more puts : List Call) → puts ≡ a ++ (b ++ more) → most ≡ limit
-      → now ≡ after_calls held a → HadRoomForPuts limit held a → LeavesOnly clock since old mid (AcceptsFront limit held changes a)
+      → now ≡ after_calls held a → HadRoomForPuts limit held a
+      → LeavesOnly clock since old mid (AcceptsFront limit held changes a)
       → LeavesOnly clock since mid new (AcceptsFront most now (changes ++ a) b)
       → LeavesOnly clock since old new (AcceptsFront limit held changes puts)
   front_run {clock = clock} {since} {old} {mid} changes a b more puts are same made room first second =

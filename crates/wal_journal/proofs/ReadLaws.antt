@@ -103,20 +103,24 @@ record_is now tail h c shown has bytes =
       head_and h c (drop (tail + 39 + h.size) now) has,
     )
 
--- the step of a change that is carried out
-next_record : (now : List ℕ) (tail next : ℕ) (h : Head) (c : Call) (old new : Contents) → get_or now tail 0 ≡ 1 → take 38 (drop (tail + 1) now) ≡ head_text h → HasHead h c → (fields c).bytes ≡ take h.size (drop (tail + 39) now)
-    → tail + 39 + h.size < length now → next ≡ tail + 39 + h.size → IsWholeRecord c → IsLawfulCall old c → new ≡ after_call old c → IsNext now tail next old new
-next_record now tail next h c old new gate shown has bytes fits at whole lawful makes = record {
-  change = c;
-  whole = whole;
-  lawful = lawful;
-  is = cc (drop_more now tail 0 (omega (arith, fits)), gate, at, record_is now tail h c shown has bytes);
-  at = omega (arith, at, spelling_long c whole, has.size);
-  within = omega (arith, fits, at);
-  makes = makes;
-}
-
 module _ (now : List ℕ) (tail : ℕ) (h : Head) (id : BlobId) (old new : Contents) (gate : get_or now tail 0 ≡ 1) (shown : take 38 (drop (tail + 1) now) ≡ head_text h) (long : length h.id.0 ≡ 32) (fits : tail + 39 + h.size < length now) where
+  -- the step of a change that is carried out, for which there is room
+  next_step : (limit : Option ℕ) (next : ℕ) (c : Call) → HasHead h c → (fields c).bytes ≡ take h.size (drop (tail + 39) now)
+      → next ≡ tail + 39 + h.size → IsWholeRecord c → IsLawfulCall old c → new ≡ after_call old c
+      → HadRoomForPuts limit old (c ∷ []) → (n : IsNext now tail next old new) × HadRoomForPuts limit old (n.change ∷ [])
+  next_step limit next c has bytes at whole lawful makes room = (
+    record {
+      change = c;
+      whole = whole;
+      lawful = lawful;
+      is = cc (drop_more now tail 0 (omega (arith, fits)), gate, at, record_is now tail h c shown has bytes);
+      at = omega (arith, at, spelling_long c whole, has.size);
+      within = omega (arith, fits, at);
+      makes = makes;
+    },
+    room,
+  )
+
   module _ (part : Part) (bytes : List ℕ) (is : IsHead h (read.Put id part h.size)) (read_is : bytes ≡ take h.size (drop (tail + 39) now)) where
     put_long : length bytes ≡ h.size
     put_long = ap length read_is ∙ length-take-le h.size (drop (tail + 39) now) (omega (arith, fits, length-drop (tail + 39) now))
@@ -133,14 +137,11 @@ module _ (now : List ℕ) (tail : ℕ) (h : Head) (id : BlobId) (old new : Conte
     pub put_most : length bytes ≤ most_bytes
     put_most = omega (arith, put_long, is.5)
 
-    put_next : part_at old id part ≡ None → new ≡ after_call old (Put id part bytes) → IsNext now tail (tail + 39 + h.size) old new
-    put_next absent makes =
-        next_record now tail (tail + 39 + h.size) h (Put id part bytes) old new gate shown put_has read_is fits refl (id_long, put_some, put_most) (absent, put_some, put_most) makes
-
     pub put_step : (limit : Option ℕ) → part_at old id part ≡ None → new ≡ after_call old (Put id part bytes) → HasRoom (free_of limit old) (needed_for old id bytes)
         → (n : IsNext now tail (tail + 39 + h.size) old new) × HadRoomForPuts limit old (n.change ∷ [])
-    unfolding next_record put_next
-    put_step limit absent makes room = (put_next absent makes, (room, tt))
+    put_step limit absent makes room =
+        next_step limit (tail + 39 + h.size) (Put id part bytes) put_has read_is refl (id_long, put_some, put_most)
+        (absent, put_some, put_most) makes (room, tt)
 
     pub put_full : (limit : Option ℕ) (may_want : Bool) (e : KeepError) → part_at old id part ≡ None → IsPutAnswer limit may_want old id bytes (Err e) → new ≡ old → Steps limit may_want now tail old new (Err (fault_of e))
     put_full limit may_want (keeps.Full needed free) absent answer same = (
@@ -161,26 +162,21 @@ module _ (now : List ℕ) (tail : ℕ) (h : Head) (id : BlobId) (old new : Conte
     put_full limit may_want keeps.Memory absent answer same = same
 
   -- a record of no bytes
-  drop_next : (c : Call) → HasHead h c → (fields c).bytes ≡ [] → IsWholeRecord c → IsLawfulCall old c
-      → new ≡ after_call old c → IsNext now tail (tail + 39) old new
-  drop_next c has none whole lawful makes =
-      let size : h.size ≡ 0 = has.size ∙ ap length none in
-      let bytes : (fields c).bytes ≡ take h.size (drop (tail + 39) now) = rw size none in
-      next_record now tail (tail + 39) h c old new gate shown has bytes fits (omega (arith, size)) whole lawful makes
+  drop_step : (limit : Option ℕ) (c : Call) → h.kind ≡ (fields c).kind → h.id.0 ≡ (fields c).id → h.part ≡ (fields c).part
+      → h.size ≡ 0 → (fields c).bytes ≡ [] → IsWholeRecord c → IsLawfulCall old c → new ≡ after_call old c
+      → HadRoomForPuts limit old (c ∷ [])
+      → (n : IsNext now tail (tail + 39) old new) × HadRoomForPuts limit old (n.change ∷ [])
+  drop_step limit c kind own part size none whole lawful makes room =
+      let has : HasHead h c = record { kind = kind; id = own; part = part; size = size ∙ sym (ap length none) } in
+      next_step limit (tail + 39) c has (rw size none) (omega (arith, size)) whole lawful makes room
 
   pub drop_part_step : (limit : Option ℕ) (part : Part) → IsHead h (read.DropPart id part) → new ≡ after_call old (DropPart id part) → (n : IsNext now tail (tail + 39) old new) × HadRoomForPuts limit old (n.change ∷ [])
-  unfolding next_record drop_next
   drop_part_step limit part is makes =
-      let own = ap (λ (b : BlobId). b.0) is.1 in
-      let has : HasHead h (DropPart id part) = record { kind = is.0; id = own; part = is.2; size = is.3 } in
-      (drop_next (DropPart id part) has refl (rw (← is.1) long) tt makes, tt)
+      drop_step limit (DropPart id part) is.0 (ap (λ (b : BlobId). b.0) is.1) is.2 is.3 refl (rw (← is.1) long) tt makes tt
 
   pub drop_id_step : (limit : Option ℕ) → IsHead h (read.DropId id) → new ≡ after_call old (DropId id) → (n : IsNext now tail (tail + 39) old new) × HadRoomForPuts limit old (n.change ∷ [])
-  unfolding next_record drop_next
   drop_id_step limit is makes =
-      let own = ap (λ (b : BlobId). b.0) is.1 in
-      let has : HasHead h (DropId id) = record { kind = is.0; id = own; part = is.2; size = is.3 } in
-      (drop_next (DropId id) has refl (rw (← is.1) long) tt makes, tt)
+      drop_step limit (DropId id) is.0 (ap (λ (b : BlobId). b.0) is.1) is.2 is.3 refl (rw (← is.1) long) tt makes tt
 
 -- one record more was read
 pub read_more : (now : List ℕ) (tail next : ℕ) (old new : Contents) (changes : List Call) → ReadTo now tail old changes → (n : IsNext now tail next old new) → ReadTo now next new (changes ++ n.change ∷ [])

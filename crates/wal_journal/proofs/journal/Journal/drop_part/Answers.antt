@@ -1,6 +1,6 @@
 use Rattle.std.proofs.Common.{inl, ◌-◌, length, arith}
 use Rattle.wal_store.specs.Calls.{DropPart}
-use Rattle.wal_journal.proofs.Moments.{started, at_rest}
+use Rattle.wal_journal.proofs.Moments.{at_rest}
 use Rattle.wal_journal.proofs.HeldLaws.{with_one, ready, keeps_change}
 use Rattle.wal_journal.proofs.EndLaws.{ends_of, not_full, held_after}
 use Rattle.wal_journal.proofs.RoomLaws.{fits_with_one}
@@ -9,9 +9,6 @@ use Rattle.wal_journal.proofs.journal.Journal.drop_part.Goals as goal
 pub returns-then-free-lt39-clause-any_moment : goal.returns-then-free-lt39-clause-any_moment
 returns-then-free-lt39-clause-any_moment g c = λ told changes accepts.
     at_rest (g.met.D.Disk.only_now told) (c.args.self.settled told) (inl accepts)
-
-pub returns-then-free-lt39-clause-keeps : goal.returns-then-free-lt39-clause-keeps
-returns-then-free-lt39-clause-keeps g c = λ told changes holds. started holds
 
 pub finish-requires-clause-taken : goal.finish-requires-clause-taken
 finish-requires-clause-taken g c =

@@ -1,7 +1,7 @@
 use Rattle.std.proofs.Common.{inl, ◌+◌, ◌-◌, length, arith, sym, subst, ◌∙◌, Option, ℕ}
 use Rattle.wal_store.specs.Calls.{Put}
 use Rattle.wal_journal.specs.inside.Held.{FitsSome}
-use Rattle.wal_journal.proofs.Moments.{started, at_rest, weaker}
+use Rattle.wal_journal.proofs.Moments.{at_rest, weaker}
 use Rattle.wal_journal.proofs.HeldLaws.{HasSome, with_one, ready, keeps_change, with_room, either_of}
 use Rattle.wal_journal.proofs.EndLaws.{ends_of, not_full, held_after}
 use Rattle.wal_journal.proofs.RoomLaws.{fits_with_one}
@@ -11,15 +11,9 @@ pub returns-then-free-needed-clause-any_moment : goal.returns-then-free-needed-c
 returns-then-free-needed-clause-any_moment g c = λ told changes accepts.
     at_rest (g.met.D.Disk.only_now told) (c.args.self.settled told) (inl accepts)
 
-pub returns-then-free-needed-clause-keeps : goal.returns-then-free-needed-clause-keeps
-returns-then-free-needed-clause-keeps g c = λ told changes holds. started holds
-
 pub returns-in_default-clause-any_moment : goal.returns-in_default-clause-any_moment
 returns-in_default-clause-any_moment g c = λ told changes accepts.
     at_rest (g.met.D.Disk.only_now told) (c.args.self.settled told) (inl accepts)
-
-pub returns-in_default-clause-keeps : goal.returns-in_default-clause-keeps
-returns-in_default-clause-keeps g c = λ told changes holds. started holds
 
 pub finish-requires-clause-taken : goal.finish-requires-clause-taken
 finish-requires-clause-taken g c =
@@ -60,9 +54,6 @@ returns-in-Ok-put-clause-acknowledged g c = λ told changes accepts.
 pub returns-clause-any_moment : goal.returns-clause-any_moment
 returns-clause-any_moment g c = λ told changes accepts.
     at_rest (g.met.D.Disk.only_now told) (c.args.self.settled told) (inl accepts)
-
-pub returns-clause-keeps : goal.returns-clause-keeps
-returns-clause-keeps g c = λ told changes holds. started holds
 
 pub invariant_of-result-in-Err : goal.invariant_of-result-in-Err
 invariant_of-result-in-Err g c = record {
