@@ -1,5 +1,5 @@
 -- How a change ends that is written behind those that are accepted.
-use Rattle.std.proofs.Common.{◌≡◌, ℕ, ◌+◌, ◌<◌, ◌≤◌, ◌↔◌, Option, List, [], ◌∷◌, ◌++◌, length, Result, Ok, Err, IfOk, IfErr, ap, ◌∙◌, arith, length-append, subst}
+use Rattle.std.proofs.Common.{◌≡◌, ℕ, ◌+◌, Option, List, [], ◌∷◌, ◌++◌, length, Result, Ok, Err, IfOk, IfErr, ap, ◌∙◌, arith, length-append, subst}
 use Rattle.wal_store.specs.Contents.{Contents}
 use Rattle.wal_store.specs.Calls.{Call, after_call}
 use Rattle.wal_journal.specs.declared.journal.Journal.{Journal}
@@ -11,7 +11,7 @@ use Rattle.wal_journal.specs.Crash.{Holds}
 use Rattle.wal_journal.specs.Record.{spelling, records, Accepts}
 use Rattle.wal_journal.specs.inside.Held.{IsReady}
 use Rattle.wal_journal.specs.Reading.{HadRoomForPuts}
-use Rattle.wal_journal.specs.Journal.{disk_of, IsDiskFull, span, EndsChange}
+use Rattle.wal_journal.specs.Journal.{disk_of, span, EndsChange}
 use Rattle.wal_journal.specs.inside.Journal.{IsStopped, IsWritten}
 use Rattle.wal_journal.proofs.HeldLaws.{with_room}
 use Rattle.wal_journal.proofs.Moments.{holds_settled}
@@ -25,14 +25,6 @@ only_span : (c : Call) (text old new : List ℕ) (tail : ℕ) → text ≡ spell
 only_span c text old new tail is only =
     let one : 1 + length text ≡ span (c ∷ []) = omega (arith, length-record c text is) in
     subst (λ (n : ℕ). Agrees ((tail, n) ∷ []) old new) one only
-
--- where there is room
-pub not_full : {D K : Type 0} {d : _} {k : _} (now : D → List ℕ) (faults : D → ℕ) (old : D) (at : ℕ) (text : List ℕ)
-    (keep : K) (needed free : ℕ) (result : Result (Journal D K d k) (ChangeRefusal D K d k)) → needed ≤ free
-    → IfErr result (IsStopped now faults old at text keep) → IsDiskFull result ↔ (free < needed)
-not_full now faults old at text keep needed free (Err (Kept journal why)) room stopped = absurd stopped
-not_full now faults old at text keep needed free result room stopped =
-    (λ full. absurd full, λ lt. absurd (omega (arith, lt, room)))
 
 module _ {D K : Type 0} {d : _} {k : _} (now : D → List ℕ) (faults : D → ℕ) (contents : K → Contents) (limit : K → Option ℕ) where
   pub ends_of : (is_why : Why → Type 0) {c : Call} (old : Journal D K d k) {text : List ℕ} (keep : K)

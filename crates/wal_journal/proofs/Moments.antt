@@ -56,15 +56,6 @@ module _ {D : Type 0} {clock : D → ℕ} {since : D → ℕ → List ℕ → Ty
       let agrees = subst (λ (r : List (ℕ × ℕ)). Agrees r (now disk) image) none (only_now disk image left) in
       subst P (sym (agrees_none (now disk) image agrees)) here)
 
-  -- a call that leaves no more than what is pending before it, and what follows it
-  pub over_call : {now : D → List ℕ} {pending : D → List (ℕ × ℕ)}
-      → ((disk : D) (image : List ℕ) → since disk (clock disk) image → Agrees (pending disk) (now disk) image)
-      → {old mid new : D} → Elapses (clock old) (clock mid) (since old) (since mid) (Agrees (pending mid) (now mid))
-      → ((image : List ℕ) → Agrees (pending mid) (now mid) image → Agrees (pending old) (now old) image)
-      → LeavesOnly clock since mid new (Agrees (pending mid) (now mid))
-      → LeavesOnly clock since old new (Agrees (pending old) (now old))
-  over_call only_now {old} time back run = both_runs (goes_on (started (only_now old)) time back) (weaker run back)
-
 -- and goes on after what the bytes accept
 pub holds_settled : {D : Type 0} {now : D → List ℕ} {pending : D → List (ℕ × ℕ)} (clock : D → ℕ) (since : D → ℕ → List ℕ → Type 0)
     → ((disk : D) (image : List ℕ) → since disk (clock disk) image → Agrees (pending disk) (now disk) image)

@@ -1,15 +1,14 @@
 -- What is read of an image that accepts changes: no record of it is bad, and the opening keeps what each crash held.
-use Rattle.std.proofs.Common.{◌≡◌, ◌≢◌, Bool, true, ℕ, ◌+◌, List, ◌∷◌, ◌++◌, drop, get_or, sym, ap, ◌∙◌, subst, arith}
+use Rattle.std.proofs.Common.{◌≡◌, ◌≢◌, ℕ, ◌+◌, List, ◌∷◌, ◌++◌, drop, get_or, sym, ap, ◌∙◌, subst, arith}
 use Rattle.std.proofs.lemmas.List.{drop_more}
 use Rattle.wal_store.specs.Contents.{Contents}
 use Rattle.wal_store.specs.Calls.{Call, no_contents, after_calls, IsLawfulCall, AreLawful}
-use Rattle.wal_journal.specs.Disk.{Agrees, Elapses}
 use Rattle.wal_journal.specs.Record.{records, Accepts}
 use Rattle.wal_journal.specs.Held.{IsJournal}
 use Rattle.wal_journal.specs.Reading.{ReadTo, IsBad}
 use Rattle.wal_journal.specs.inside.Reading.{Still}
 use Rattle.wal_journal.proofs.Records.{Ends, one_end, stands_once}
-use Rattle.wal_journal.proofs.Moments.{started, both_runs, weaker, over_call}
+use Rattle.wal_journal.proofs.Moments.{both_runs, weaker}
 
 -- what was read, with the open gate behind it
 pub read_to : (now : List ℕ) (at : ℕ) (contents : Contents) (changes : List Call) → ReadTo now at contents changes
@@ -59,23 +58,11 @@ gives now bytes tail contents others changes same so_far closed accepts =
     subst (λ (l : List Call). IsJournal now tail contents l) (stands_once now others changes journal.accepts.stands accepts.stands) journal
     )
 
-module _ {D : Type 0} {now : D → List ℕ} {pending : D → List (ℕ × ℕ)} {clock : D → ℕ} {since : D → ℕ → List ℕ → Type 0} where
-  -- one call that writes nothing
-  pub still_one : {tells : Bool} → (tells ≡ true → (disk : D) (image : List ℕ) → since disk (clock disk) image
-      → Agrees (pending disk) (now disk) image)
-      → {old new : D} → now new ≡ now old → (tells ≡ true → pending new ≡ pending old)
-      → (tells ≡ true → Elapses (clock old) (clock new) (since old) (since new) (Agrees (pending new) (now new)))
-      → tells ≡ true → Still now pending clock since old new
-  still_one only_now {old} {new} same kept time told = record {
-    same = kept told;
-    run =
-        over_call (only_now told) (time told) (λ image left. rw (← same, ← kept told) left)
-        (started (only_now told new));
-  }
-
-  -- two runs that write nothing
-  pub still_both : {old mid new : D} → now mid ≡ now old → Still now pending clock since old mid → Still now pending clock since mid new → Still now pending clock since old new
-  still_both same first second = record {
-    same = second.same ∙ first.same;
-    run = both_runs first.run (weaker second.run (λ image left. rw (← same, ← first.same) left));
-  }
+-- two runs that write nothing
+pub still_both : {D : Type 0} {now : D → List ℕ} {pending : D → List (ℕ × ℕ)} {clock : D → ℕ}
+    {since : D → ℕ → List ℕ → Type 0} {old mid new : D} → now mid ≡ now old → Still now pending clock since old mid
+    → Still now pending clock since mid new → Still now pending clock since old new
+still_both same first second = record {
+  same = second.same ∙ first.same;
+  run = both_runs first.run (weaker second.run (λ image left. rw (← same, ← first.same) left));
+}

@@ -18,10 +18,6 @@ pending_synced pending [] = refl
 pending_synced pending (Written a m ∷ steps) = pending_synced ((a, m) ∷ pending) steps
 pending_synced pending (Synced ∷ steps) = pending_synced [] steps
 
--- as many bytes for one more step
-pub kept_more : (past steps n past' steps' : ℕ) → past ≡ steps * n → past' ≡ past + n → steps' ≡ steps + 1 → past' ≡ steps' * n
-kept_more past steps n past' steps' kept more up = rw (more, kept, up) (omega arith)
-
 -- what is left at the same steps and bytes
 left_as : (s t : List Step) (b c image : List ℕ) → (s ≡ t) × (b ≡ c) → Agrees (pending_after [] s) b image
     → Agrees (pending_after [] t) c image

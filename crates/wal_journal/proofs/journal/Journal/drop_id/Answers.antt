@@ -1,14 +1,9 @@
-use Rattle.std.proofs.Common.{inl, ◌-◌, length, arith}
+use Rattle.std.proofs.Common.{◌-◌, arith}
 use Rattle.wal_store.specs.Calls.{DropId}
-use Rattle.wal_journal.proofs.Moments.{at_rest}
 use Rattle.wal_journal.proofs.HeldLaws.{with_one, ready, keeps_change}
-use Rattle.wal_journal.proofs.EndLaws.{ends_of, not_full, held_after}
+use Rattle.wal_journal.proofs.EndLaws.{ends_of, held_after}
 use Rattle.wal_journal.proofs.RoomLaws.{fits_with_one}
 use Rattle.wal_journal.proofs.journal.Journal.drop_id.Goals as goal
-
-pub returns-then-free-lt39-clause-any_moment : goal.returns-then-free-lt39-clause-any_moment
-returns-then-free-lt39-clause-any_moment g c = λ told changes accepts.
-    at_rest (g.met.D.Disk.only_now told) (c.args.self.settled told) (inl accepts)
 
 pub finish-requires-clause-taken : goal.finish-requires-clause-taken
 finish-requires-clause-taken g c =
@@ -29,11 +24,6 @@ returns-clause-ends g c =
     ends_of _ _ _ _ _ c.args.self c.drop_id.new.self c.finish.result
     (ready (DropId c.args.id.now) c.args.self.stands c.drop_id_text.ensures.id tt text) text tt
     c.drop_id.ensures.dropped c.drop_id.ensures.limit c.finish.ensures.written c.finish.ensures.stopped
-
-pub returns-clause-full : goal.returns-clause-full
-returns-clause-full g c =
-    not_full _ _ _ _ _ _ 39 (length (g.D.Disk.now c.args.self.disk) - c.args.self.tail - 1) c.finish.result
-    (omega (arith, c.if-free-lt39.false, c.len.ensures.value)) c.finish.ensures.stopped
 
 pub returns-clause-acknowledged : goal.returns-clause-acknowledged
 returns-clause-acknowledged g c = λ told changes accepts.

@@ -1,19 +1,11 @@
-use Rattle.std.proofs.Common.{inl, ◌+◌, ◌-◌, length, arith, sym, subst, ◌∙◌, Option, ℕ}
+use Rattle.std.proofs.Common.{inl, ◌-◌, arith, sym, subst, ◌∙◌, Option, ℕ}
 use Rattle.wal_store.specs.Calls.{Put}
 use Rattle.wal_journal.specs.inside.Held.{FitsSome}
 use Rattle.wal_journal.proofs.Moments.{at_rest, weaker}
 use Rattle.wal_journal.proofs.HeldLaws.{HasSome, with_one, ready, keeps_change, with_room, either_of}
-use Rattle.wal_journal.proofs.EndLaws.{ends_of, not_full, held_after}
+use Rattle.wal_journal.proofs.EndLaws.{ends_of, held_after}
 use Rattle.wal_journal.proofs.RoomLaws.{fits_with_one}
 use Rattle.wal_journal.proofs.journal.Journal.put.Goals as goal
-
-pub returns-then-free-needed-clause-any_moment : goal.returns-then-free-needed-clause-any_moment
-returns-then-free-needed-clause-any_moment g c = λ told changes accepts.
-    at_rest (g.met.D.Disk.only_now told) (c.args.self.settled told) (inl accepts)
-
-pub returns-in_default-clause-any_moment : goal.returns-in_default-clause-any_moment
-returns-in_default-clause-any_moment g c = λ told changes accepts.
-    at_rest (g.met.D.Disk.only_now told) (c.args.self.settled told) (inl accepts)
 
 pub finish-requires-clause-taken : goal.finish-requires-clause-taken
 finish-requires-clause-taken g c =
@@ -39,12 +31,6 @@ returns-in-Ok-put-clause-ends g c =
     (c.deref.ensures.value ∙ c.in-Ok.ensures.text)) (c.deref.ensures.value ∙ c.in-Ok.ensures.text)
     (c.in-Ok-put.ensures.answer, tt) c.in-Ok-put.ensures.stored c.put.ensures.limit c.finish.ensures.written
     c.finish.ensures.stopped
-
-pub returns-in-Ok-put-clause-full : goal.returns-in-Ok-put-clause-full
-returns-in-Ok-put-clause-full g c =
-    not_full _ _ _ _ _ _ (39 + length c.args.bytes.now)
-    (length (g.D.Disk.now c.args.self.disk) - c.args.self.tail - 1) c.finish.result
-    (omega (arith, c.if-free-needed.false, c.len.ensures.value)) c.finish.ensures.stopped
 
 pub returns-in-Ok-put-clause-acknowledged : goal.returns-in-Ok-put-clause-acknowledged
 returns-in-Ok-put-clause-acknowledged g c = λ told changes accepts.

@@ -1,11 +1,7 @@
 use Rattle.std.proofs.Common.{rules, ◌≡◌, ◌*◌, [], ◌∷◌, length, refl, arith, length-append}
 use Rattle.wal_journal.specs.declared.mem_disk.Step.TheVariants.{Synced}
-use Rattle.wal_journal.proofs.Past.{pending_synced, kept_more, elapses_step}
+use Rattle.wal_journal.proofs.Past.{pending_synced, elapses_step}
 use Rattle.wal_journal.proofs.mem_disk.MemDiskDisk.sync.Goals as goal
-
-pub invariant_of-self-2-clause-kept : goal.invariant_of-self-2-clause-kept
-invariant_of-self-2-clause-kept c =
-    kept_more _ _ _ _ _ c.args.self.now.kept (omega (arith, c.keep.ensures.len, c.deref.ensures.len)) c.keep.ensures.len_steps
 
 pub returns-clause-told : goal.returns-clause-told
 returns-clause-told c =

@@ -1,12 +1,8 @@
-use Rattle.std.proofs.Common.{rules, vec_len, ◌≡◌, ◌*◌, [], ◌∷◌, length, sym, ap, ◌∙◌, arith, length-append}
+use Rattle.std.proofs.Common.{rules, ◌≡◌, ◌*◌, [], ◌∷◌, length, ap, ◌∙◌, arith, length-append}
 use Rattle.wal_journal.specs.declared.mem_disk.Step.TheVariants.{Written}
 use Rattle.wal_journal.proofs.Images.{length-put}
-use Rattle.wal_journal.proofs.Past.{pending_push, kept_more, elapses_step}
+use Rattle.wal_journal.proofs.Past.{pending_push, elapses_step}
 use Rattle.wal_journal.proofs.mem_disk.MemDiskDisk.write_at.Goals as goal
-
-pub invariant_of-self-2-clause-kept : goal.invariant_of-self-2-clause-kept
-invariant_of-self-2-clause-kept c =
-    kept_more _ _ _ _ _ c.args.self.now.kept (omega (arith, c.keep.ensures.len, c.deref.ensures.len)) c.keep.ensures.len_steps ∙ ap (λ n. vec_len c.keep.new.steps * n) (sym c.overwrite.ensures.len)
 
 pub returns-clause-told : goal.returns-clause-told
 returns-clause-told c =
