@@ -1,9 +1,14 @@
-use Rattle.std.proofs.Common.{◌-◌, arith}
+use Rattle.std.proofs.Common.{inl, ◌-◌, arith}
 use Rattle.wal_store.specs.Calls.{DropId}
+use Rattle.wal_journal.proofs.Moments.{at_rest}
 use Rattle.wal_journal.proofs.HeldLaws.{with_one, ready, keeps_change}
 use Rattle.wal_journal.proofs.EndLaws.{ends_of, held_after}
 use Rattle.wal_journal.proofs.RoomLaws.{fits_with_one}
 use Rattle.wal_journal.proofs.journal.Journal.drop_id.Goals as goal
+
+pub returns-then-free-lt39-clause-any_moment : goal.returns-then-free-lt39-clause-any_moment
+returns-then-free-lt39-clause-any_moment g c = λ told changes accepts.
+    at_rest (g.met.D.Disk.only_now told) (c.args.self.settled told) (inl accepts)
 
 pub finish-requires-clause-taken : goal.finish-requires-clause-taken
 finish-requires-clause-taken g c =

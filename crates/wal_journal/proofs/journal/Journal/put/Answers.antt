@@ -7,6 +7,14 @@ use Rattle.wal_journal.proofs.EndLaws.{ends_of, held_after}
 use Rattle.wal_journal.proofs.RoomLaws.{fits_with_one}
 use Rattle.wal_journal.proofs.journal.Journal.put.Goals as goal
 
+pub returns-then-free-needed-clause-any_moment : goal.returns-then-free-needed-clause-any_moment
+returns-then-free-needed-clause-any_moment g c = λ told changes accepts.
+    at_rest (g.met.D.Disk.only_now told) (c.args.self.settled told) (inl accepts)
+
+pub returns-in_default-clause-any_moment : goal.returns-in_default-clause-any_moment
+returns-in_default-clause-any_moment g c = λ told changes accepts.
+    at_rest (g.met.D.Disk.only_now told) (c.args.self.settled told) (inl accepts)
+
 pub finish-requires-clause-taken : goal.finish-requires-clause-taken
 finish-requires-clause-taken g c =
     with_one (Put c.args.id.now c.args.part c.args.bytes.now) c.args.self.stands (assumption) (assumption)
