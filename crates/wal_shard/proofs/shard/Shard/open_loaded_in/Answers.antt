@@ -1,4 +1,4 @@
-use Rattle.std.proofs.Common.{◌≡◌, ◌<◌, sym, ap, ◌∙◌, arith}
+use Rattle.std.proofs.Common.{◌≡◌, ◌<◌, ap, ◌∙◌, arith}
 use Rattle.wal_shape.specs.MetaRef.{metadata_shown}
 use Rattle.wal_shape.specs.Shape.{shard_count, crossing}
 use Rattle.wal_shape.specs.Metadata.{held_index}
@@ -6,9 +6,6 @@ use Rattle.wal_shard.specs.Holding.{given}
 use Rattle.wal_shard.specs.State.{ShardState}
 use Rattle.wal_shard.proofs.ReplyLaws.{own_opening_fits}
 use Rattle.wal_shard.proofs.shard.Shard.open_loaded_in.Goals as goal
-
-pub put_opening-requires-clause-f : goal.put_opening-requires-clause-f
-put_opening-requires-clause-f g c = c.requires.f ∙ sym c.held_metadata-m.ensures.faults
 
 pub put_opening-requires-clause-sliver : goal.put_opening-requires-clause-sliver
 put_opening-requires-clause-sliver g c =
@@ -18,9 +15,6 @@ put_opening-requires-clause-sliver g c =
     ∙ ap (λ a. held_index m.format m.f a c.self.inside.index) c.crossing.ensures ∙ ap (λ (x : ShardState). held_index m.format m.f axis x.index) c.self.view_is in
     let sound = c.sound.ensures.sound c.args.id.now in
     rw cross (sound.slivers axis m c.args.work.now.loaded c.held_metadata-m.ensures.held c.requires.loaded)
-
-pub put_opening-requires-clause-index : goal.put_opening-requires-clause-index
-put_opening-requires-clause-index g c = omega (arith, c.requires.index, c.held_metadata-m.ensures.faults)
 
 pub put_opening-requires-clause-room : goal.put_opening-requires-clause-room
 put_opening-requires-clause-room g c =

@@ -23,7 +23,8 @@ returns-in-Some-clause-reply g c =
     let some : IsSome p.metadata = search rules in
     let frame = metadata_frame_is _ _ _ _ _ (c.sound.ensures.sound c.args.id.now) some in
     writes_held p.metadata (λ x. metadata_frame (spelled_metadata x)) c.args.self.now.index c.args.out.now _
-    ((c.held_kind.result ∷ []) ++ unwrap_or p.metadata []) some (cc (c.held_kind.ensures, frame)) c.reply_held.ensures.written
+    ((c.held_kind.result ∷ []) ++ unwrap_or p.metadata []) some (cc (c.held_kind.ensures, frame))
+    c.reply_held.ensures.written
 
 pub returns-in-Some-clause-room : goal.returns-in-Some-clause-room
 returns-in-Some-clause-room g c =
