@@ -1,5 +1,5 @@
 -- What is read of an image that accepts changes: no record of it is bad, and the opening keeps what each crash held.
-use Rattle.std.proofs.Common.{◌≡◌, ◌≢◌, ℕ, ◌+◌, List, ◌∷◌, ◌++◌, drop, get_or, sym, ap, ◌∙◌, subst, arith}
+use Rattle.std.proofs.Common.{◌≡◌, ◌≢◌, ℕ, ◌+◌, List, ◌∷◌, ◌++◌, drop, get_or, sym, ap, ◌∙◌, subst}
 use Rattle.std.proofs.lemmas.List.{drop_more}
 use Rattle.wal_store.specs.Contents.{Contents}
 use Rattle.wal_store.specs.Calls.{Call, no_contents, after_calls, IsLawfulCall, AreLawful}

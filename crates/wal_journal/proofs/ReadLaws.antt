@@ -13,11 +13,11 @@ use Rattle.wal_store.specs.Answer.{HasRoom, IsPutAnswer}
 use Rattle.wal_store.specs.Calls.{Call, Put, DropPart, DropId, no_contents, after_call, after_calls, IsLawfulCall}
 use Rattle.wal_store.proofs.CallLaws.{after_calls-append}
 use Rattle.wal_journal.specs.declared.open.OpenFault.{OpenFault}
-use Rattle.wal_journal.specs.declared.open.OpenFault.TheVariants.{BadRecord, Full, Memory}
+use Rattle.wal_journal.specs.declared.open.OpenFault.TheVariants.{BadRecord, Full}
 use Rattle.wal_journal.specs.declared.record.Head.{Head}
 use Rattle.wal_journal.specs.declared.record.Change.TheVariants as read
 use Rattle.wal_journal.specs.inside.Opening.{fault_of}
-use Rattle.wal_journal.specs.Record.{fields, part_byte, size_text, spelling, IsWholeRecord, records}
+use Rattle.wal_journal.specs.Record.{fields, part_byte, size_text, spelling, IsWholeRecord}
 use Rattle.wal_journal.specs.Reading.{ReadTo, IsBad, HadRoomForPuts, Opens}
 use Rattle.wal_journal.specs.inside.Reading.{head_text, HasHead, IsHead, IsNext, IsReadFault, Steps}
 use Rattle.wal_journal.proofs.Records.{parts_once, text_parts, part_once, whole_id, whole_size, spelling_long, length-records-push}

@@ -1,4 +1,4 @@
-use Rattle.std.proofs.Common.{inl, ◌-◌, arith}
+use Rattle.std.proofs.Common.{inl}
 use Rattle.wal_store.specs.Calls.{DropPart}
 use Rattle.wal_journal.proofs.Moments.{at_rest}
 use Rattle.wal_journal.proofs.HeldLaws.{with_one, ready, keeps_change}

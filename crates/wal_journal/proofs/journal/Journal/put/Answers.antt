@@ -1,4 +1,4 @@
-use Rattle.std.proofs.Common.{inl, ◌-◌, arith, sym, subst, ◌∙◌, Option, ℕ}
+use Rattle.std.proofs.Common.{inl, sym, subst, ◌∙◌, Option, ℕ}
 use Rattle.wal_store.specs.Calls.{Put}
 use Rattle.wal_journal.specs.inside.Held.{FitsSome}
 use Rattle.wal_journal.proofs.Moments.{at_rest, weaker}
