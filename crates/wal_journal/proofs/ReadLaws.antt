@@ -12,14 +12,13 @@ use Rattle.wal_store.specs.Contents.{Contents, part_at, free_of, needed_for}
 use Rattle.wal_store.specs.Answer.{HasRoom, IsPutAnswer}
 use Rattle.wal_store.specs.Calls.{Call, Put, DropPart, DropId, no_contents, after_call, after_calls, IsLawfulCall}
 use Rattle.wal_store.proofs.CallLaws.{after_calls-append}
-use Rattle.wal_journal.specs.declared.open.OpenFault.{OpenFault}
-use Rattle.wal_journal.specs.declared.open.OpenFault.TheVariants.{BadRecord, Full}
+use Rattle.wal_journal.specs.declared.open.OpenFault.TheVariants.{Full}
 use Rattle.wal_journal.specs.declared.record.Head.{Head}
 use Rattle.wal_journal.specs.declared.record.Change.TheVariants as read
 use Rattle.wal_journal.specs.inside.Opening.{fault_of}
 use Rattle.wal_journal.specs.Record.{fields, part_byte, size_text, spelling, IsWholeRecord}
-use Rattle.wal_journal.specs.Reading.{ReadTo, IsBad, HadRoomForPuts, Opens}
-use Rattle.wal_journal.specs.inside.Reading.{head_text, HasHead, IsHead, IsNext, IsReadFault, Steps}
+use Rattle.wal_journal.specs.Reading.{ReadTo, IsBad, HadRoomForPuts}
+use Rattle.wal_journal.specs.inside.Reading.{head_text, HasHead, IsHead, IsNext, Steps}
 use Rattle.wal_journal.proofs.Records.{parts_once, text_parts, part_once, whole_id, whole_size, spelling_long, length-records-push}
 use Rattle.wal_journal.proofs.Staged.{records-push, whole-push, lawful-push}
 
@@ -105,9 +104,10 @@ record_is now tail h c shown has bytes =
 
 module _ (now : List ℕ) (tail : ℕ) (h : Head) (id : BlobId) (old new : Contents) (gate : get_or now tail 0 ≡ 1) (shown : take 38 (drop (tail + 1) now) ≡ head_text h) (long : length h.id.0 ≡ 32) (fits : tail + 39 + h.size < length now) where
   -- the step of a change that is carried out, for which there is room
-  next_step : (limit : Option ℕ) (next : ℕ) (c : Call) → HasHead h c → (fields c).bytes ≡ take h.size (drop (tail + 39) now)
-      → next ≡ tail + 39 + h.size → IsWholeRecord c → IsLawfulCall old c → new ≡ after_call old c
-      → HadRoomForPuts limit old (c ∷ []) → (n : IsNext now tail next old new) × HadRoomForPuts limit old (n.change ∷ [])
+  next_step : (limit : Option ℕ) (next : ℕ) (c : Call) → HasHead h c
+      → (fields c).bytes ≡ take h.size (drop (tail + 39) now) → next ≡ tail + 39 + h.size → IsWholeRecord c → IsLawfulCall old c → new ≡ after_call old c
+      → HadRoomForPuts limit old (c ∷ [])
+      → (n : IsNext now tail next old new) × HadRoomForPuts limit old (n.change ∷ [])
   next_step limit next c has bytes at whole lawful makes room = (
     record {
       change = c;
@@ -162,8 +162,8 @@ module _ (now : List ℕ) (tail : ℕ) (h : Head) (id : BlobId) (old new : Conte
     put_full limit may_want keeps.Memory absent answer same = same
 
   -- a record of no bytes
-  drop_step : (limit : Option ℕ) (c : Call) → h.kind ≡ (fields c).kind → h.id.0 ≡ (fields c).id → h.part ≡ (fields c).part
-      → h.size ≡ 0 → (fields c).bytes ≡ [] → IsWholeRecord c → IsLawfulCall old c → new ≡ after_call old c
+  drop_step : (limit : Option ℕ) (c : Call) → h.kind ≡ (fields c).kind → h.id.0 ≡ (fields c).id
+      → h.part ≡ (fields c).part → h.size ≡ 0 → (fields c).bytes ≡ [] → IsWholeRecord c → IsLawfulCall old c → new ≡ after_call old c
       → HadRoomForPuts limit old (c ∷ [])
       → (n : IsNext now tail (tail + 39) old new) × HadRoomForPuts limit old (n.change ∷ [])
   drop_step limit c kind own part size none whole lawful makes room =
@@ -172,7 +172,8 @@ module _ (now : List ℕ) (tail : ℕ) (h : Head) (id : BlobId) (old new : Conte
 
   pub drop_part_step : (limit : Option ℕ) (part : Part) → IsHead h (read.DropPart id part) → new ≡ after_call old (DropPart id part) → (n : IsNext now tail (tail + 39) old new) × HadRoomForPuts limit old (n.change ∷ [])
   drop_part_step limit part is makes =
-      drop_step limit (DropPart id part) is.0 (ap (λ (b : BlobId). b.0) is.1) is.2 is.3 refl (rw (← is.1) long) tt makes tt
+      let own = ap (λ (b : BlobId). b.0) is.1 in
+      drop_step limit (DropPart id part) is.0 own is.2 is.3 refl (rw (← is.1) long) tt makes tt
 
   pub drop_id_step : (limit : Option ℕ) → IsHead h (read.DropId id) → new ≡ after_call old (DropId id) → (n : IsNext now tail (tail + 39) old new) × HadRoomForPuts limit old (n.change ∷ [])
   drop_id_step limit is makes =
@@ -194,17 +195,3 @@ pub room_both : (limit : Option ℕ) (held : Contents) (changes more : List Call
 room_both limit held [] more so_far room = room
 room_both limit held (Put id part bytes ∷ changes) more so_far room = (so_far.0, room_both limit (after_call held (Put id part bytes)) changes more so_far.1 room)
 room_both limit held (c ∷ changes) more so_far room = room_both limit (after_call held c) changes more so_far room
-
--- the reading ends where a step does not go on
-pub ends_here : (limit : Option ℕ) (may_want : Bool) (now : List ℕ) (tail : ℕ) (old new : Contents) (e : OpenFault) (changes : List Call) → ReadTo now tail old changes → HadRoomForPuts limit no_contents changes
-    → Steps limit may_want now tail old new (Err e) → Opens limit may_want now new (Err e)
-ends_here limit may_want now tail old new (BadRecord at) changes so_far room step =
-    (changes, rw (step.0, step.3) so_far, rw step.0 step.1, rw (step.0, step.3) step.2, room)
-ends_here limit may_want now tail old new (Full needed free) changes so_far room step =
-    (changes, tail, rw step.2 so_far, step.0, rw step.2 step.1, room)
-ends_here limit may_want now tail old new e changes so_far room step = (changes, tail, rw step so_far, room)
-
-pub read_fault : (limit : Option ℕ) (may_want : Bool) (now : List ℕ) (tail : ℕ) (old new : Contents) (e : OpenFault) → IsReadFault e → new ≡ old → Steps limit may_want now tail old new (Err e)
-read_fault limit may_want now tail old new (BadRecord at) is same = absurd is
-read_fault limit may_want now tail old new (Full needed free) is same = absurd is
-read_fault limit may_want now tail old new e is same = same

@@ -40,11 +40,6 @@ module _ (digest : List ℕ → List ℕ) (f : ℕ) (shard : ℕ) (id : List ℕ
       let held : HoldsMetadata p m = record { fit = fit; spelled = cc (some_of p.metadata some, same, text) } in
       subst (IsOwnMetadata digest f id p) (one_metadata p own.0 m own.1.held held) own.1
 
-  pub readable : (bytes : List ℕ) → IsSound digest f id shard p → IsSome p.metadata → bytes ≡ unwrap_or p.metadata [] → ((m : BlobMetadata) → IsMetadata m → metadata_text m ≡ bytes → ⊥) → ⊥
-  readable bytes s some same none =
-      let own = own_metadata s some in
-      none own.0 own.1.held.fit (ap (λ (o : Option (List ℕ)). unwrap_or o []) (sym own.1.held.spelled) ∙ sym same)
-
   own_size : (m : BlobMetadata) → IsOwnMetadata digest f id p m → length (unwrap_or p.metadata []) ≡ text_size m.format m.f
   own_size m own = ap (λ (o : Option (List ℕ)). length (unwrap_or o [])) own.held.spelled ∙ length-metadata_text m own.held.fit
 
