@@ -12,7 +12,6 @@ use Rattle.wal_store.specs.Contents.{Contents, part_at, free_of, needed_for}
 use Rattle.wal_store.specs.Answer.{HasRoom, IsPutAnswer}
 use Rattle.wal_store.specs.Calls.{Call, Put, DropPart, DropId, no_contents, after_call, after_calls, IsLawfulCall}
 use Rattle.wal_store.proofs.CallLaws.{after_calls-append}
-use Rattle.wal_journal.specs.declared.open.OpenFault.TheVariants.{Full}
 use Rattle.wal_journal.specs.declared.record.Head.{Head}
 use Rattle.wal_journal.specs.declared.record.Change.TheVariants as read
 use Rattle.wal_journal.specs.inside.Opening.{fault_of}
@@ -105,7 +104,8 @@ record_is now tail h c shown has bytes =
 module _ (now : List ℕ) (tail : ℕ) (h : Head) (id : BlobId) (old new : Contents) (gate : get_or now tail 0 ≡ 1) (shown : take 38 (drop (tail + 1) now) ≡ head_text h) (long : length h.id.0 ≡ 32) (fits : tail + 39 + h.size < length now) where
   -- the step of a change that is carried out, for which there is room
   next_step : (limit : Option ℕ) (next : ℕ) (c : Call) → HasHead h c
-      → (fields c).bytes ≡ take h.size (drop (tail + 39) now) → next ≡ tail + 39 + h.size → IsWholeRecord c → IsLawfulCall old c → new ≡ after_call old c
+      → (fields c).bytes ≡ take h.size (drop (tail + 39) now) → next ≡ tail + 39 + h.size → IsWholeRecord c
+      → IsLawfulCall old c → new ≡ after_call old c
       → HadRoomForPuts limit old (c ∷ [])
       → (n : IsNext now tail next old new) × HadRoomForPuts limit old (n.change ∷ [])
   next_step limit next c has bytes at whole lawful makes room = (
@@ -163,7 +163,8 @@ module _ (now : List ℕ) (tail : ℕ) (h : Head) (id : BlobId) (old new : Conte
 
   -- a record of no bytes
   drop_step : (limit : Option ℕ) (c : Call) → h.kind ≡ (fields c).kind → h.id.0 ≡ (fields c).id
-      → h.part ≡ (fields c).part → h.size ≡ 0 → (fields c).bytes ≡ [] → IsWholeRecord c → IsLawfulCall old c → new ≡ after_call old c
+      → h.part ≡ (fields c).part → h.size ≡ 0 → (fields c).bytes ≡ [] → IsWholeRecord c → IsLawfulCall old c
+      → new ≡ after_call old c
       → HadRoomForPuts limit old (c ∷ [])
       → (n : IsNext now tail (tail + 39) old new) × HadRoomForPuts limit old (n.change ∷ [])
   drop_step limit c kind own part size none whole lawful makes room =
