@@ -12,5 +12,4 @@ pub mod NeverFull
 mod EndLaws
 mod Stays
 mod Formatted
-mod Synced
 mod PackLaws

@@ -1,5 +1,5 @@
 -- A record that is read, and a record that is bad.
-use Rattle.std.proofs.Common.{◌≡◌, ℕ, zero, suc, ◌+◌, ◌<◌, ◌≤◌, ◌^◌, Bool, Option, None, List, [], ◌∷◌, ◌++◌, length, take, drop, get_or, Err, refl, sym, ap, ◌∙◌, subst, arith, length-append, length-drop}
+use Rattle.std.proofs.Common.{◌≡◌, ℕ, ◌+◌, ◌<◌, ◌≤◌, ◌^◌, Bool, Option, None, List, [], ◌∷◌, ◌++◌, length, take, drop, get_or, Err, refl, sym, ap, ◌∙◌, subst, arith, length-append, length-drop}
 use Rattle.std.specs.Int.{w32, from_be_bytes, to_be_bytes}
 use Rattle.std.proofs.lemmas.Nat.{be_bytes_4}
 use Rattle.std.proofs.lemmas.List.{append_assoc, drop-drop, drop_more, take-append-drop, length-take-le, drop_all}
@@ -12,15 +12,13 @@ use Rattle.wal_store.specs.Contents.{Contents, part_at, free_of, needed_for}
 use Rattle.wal_store.specs.Answer.{HasRoom, IsPutAnswer}
 use Rattle.wal_store.specs.Calls.{Call, Put, DropPart, DropId, no_contents, after_call, after_calls, IsLawfulCall}
 use Rattle.wal_store.proofs.CallLaws.{after_calls-append}
-use Rattle.wal_journal.specs.declared.open.OpenFault.{OpenFault}
-use Rattle.wal_journal.specs.declared.open.OpenFault.TheVariants.{DiskFault, BadRecord, Full, Memory}
 use Rattle.wal_journal.specs.declared.record.Head.{Head}
 use Rattle.wal_journal.specs.declared.record.Change.TheVariants as read
 use Rattle.wal_journal.specs.inside.Opening.{fault_of}
-use Rattle.wal_journal.specs.Record.{fields, part_byte, size_text, spelling, IsWholeRecord, records}
-use Rattle.wal_journal.specs.Reading.{ReadTo, IsBad, IsFull, HadRoomForPuts, Opens}
-use Rattle.wal_journal.specs.inside.Reading.{head_text, HasHead, IsHead, IsNext, IsReadFault, Steps}
-use Rattle.wal_journal.proofs.Records.{cons_once, split_same, size_long, size_once, text_parts, part_once, whole_id, whole_size, spelling_long, records-append}
+use Rattle.wal_journal.specs.Record.{fields, part_byte, size_text, spelling, IsWholeRecord}
+use Rattle.wal_journal.specs.Reading.{ReadTo, IsBad, HadRoomForPuts}
+use Rattle.wal_journal.specs.inside.Reading.{head_text, HasHead, IsHead, IsNext, Steps}
+use Rattle.wal_journal.proofs.Records.{parts_once, text_parts, part_once, whole_id, whole_size, spelling_long, length-records-push}
 use Rattle.wal_journal.proofs.Staged.{records-push, whole-push, lawful-push}
 
 -- 38 bytes as a head
@@ -29,26 +27,22 @@ pub head_bytes : (text id : List ℕ) (size : ℕ) → length text ≡ 38 → ((
 unfolding size_text
 head_bytes text id size long small id_is size_is =
     let four : List ℕ = get_or text 34 0 ∷ get_or text 35 0 ∷ get_or text 36 0 ∷ get_or text 37 0 ∷ [] in
-    let end : drop 38 text ≡ [] = drop_all 38 text (omega (arith, long)) in
-    let last : drop 34 text ≡ four =
-    drop_more text 34 0 (omega (arith, long)) ∙ ap (λ (l : List ℕ). get_or text 34 0 ∷ l) (
-    drop_more text 35 0 (omega (arith, long)) ∙ ap (λ (l : List ℕ). get_or text 35 0 ∷ l) (
-    drop_more text 36 0 (omega (arith, long)) ∙ ap (λ (l : List ℕ). get_or text 36 0 ∷ l) (drop_more text 37 0 (omega (arith, long)) ∙ ap (λ (l : List ℕ). get_or text 37 0 ∷ l) end)
-    )
-    ) in
     let spelled : to_be_bytes w32 size ≡ four = be_bytes_4 four size refl (four_small text small) size_is in
-    drop_more text 0 0 (omega (arith, long))
-    ∙ ap (λ (l : List ℕ). get_or text 0 0 ∷ l) (
-    sym (take-append-drop 32 (drop 1 text)) ∙ ap (λ (l : List ℕ). l ++ drop 32 (drop 1 text)) (sym id_is)
-    ∙ ap (λ (l : List ℕ). id ++ l) (drop-drop 32 1 text ∙ drop_more text 33 0 (omega (arith, long)) ∙ ap (λ (l : List ℕ). get_or text 33 0 ∷ l) (last ∙ sym spelled))
+    let within : 37 < length text = omega (arith, long) in
+    cc (
+      drop_more text 0 0 (omega arith),
+      take-append-drop 32 (drop 1 text),
+      drop-drop 32 1 text,
+      drop_more text 33 0 (omega arith),
+      drop_more text 34 0 (omega arith),
+      drop_more text 35 0 (omega arith),
+      drop_more text 36 0 (omega arith),
+      drop_more text 37 0 within,
+      drop_all 38 text (omega (arith, long)),
     )
   where
     four_small : (t : List ℕ) → ((i : ℕ) → get_or t i 0 < 256) → (i : ℕ) → get_or (get_or t 34 0 ∷ get_or t 35 0 ∷ get_or t 36 0 ∷ get_or t 37 0 ∷ []) i 0 < 256
-    four_small t low zero = low 34
-    four_small t low (suc zero) = low 35
-    four_small t low (suc (suc zero)) = low 36
-    four_small t low (suc (suc (suc zero))) = low 37
-    four_small t low (suc (suc (suc (suc i)))) = omega arith
+    four_small t low i = grind (arith, low)
 
 -- a head and what follows it, field by field
 head_parts : (h : Head) (rest : List ℕ) → head_text h ++ rest ≡ h.kind ∷ (h.id.0 ++ (h.part ∷ (size_text h.size ++ rest)))
@@ -64,11 +58,10 @@ head_once h c bytes more shown long small whole is =
     let f = fields c in
     let both : h.kind ∷ (h.id.0 ++ (h.part ∷ (size_text h.size ++ drop 38 bytes))) ≡ f.kind ∷ (f.id ++ (f.part ∷ (size_text (length f.bytes) ++ (f.bytes ++ more)))) =
     sym (head_parts h (drop 38 bytes)) ∙ ap (λ (l : List ℕ). l ++ drop 38 bytes) (sym shown) ∙ take-append-drop 38 bytes ∙ is ∙ text_parts f more in
-    let kinds = cons_once h.kind f.kind _ _ both in
-    let ids = split_same h.id.0 f.id _ _ (long ∙ sym (whole_id c whole)) kinds.1 in
-    let parts = cons_once h.part f.part _ _ ids.1 in
-    let sizes = split_same (size_text h.size) (size_text (length f.bytes)) _ _ (size_long h.size ∙ sym (size_long (length f.bytes))) parts.1 in
-    record { kind = kinds.0; id = ids.0; part = parts.0; size = size_once h.size (length f.bytes) small (omega (arith, whole_size c whole)) sizes.0 }
+    let parts =
+    parts_once h.kind f.kind h.part f.part h.size (length f.bytes) h.id.0 f.id _ _ (long ∙ sym (whole_id c whole)) small
+    (omega (arith, whole_size c whole)) both in
+    record { kind = parts.0; id = parts.1; part = parts.2; size = parts.3 }
 
 -- fewer bytes than a record and a byte behind it
 pub too_short : (contents : Contents) (bytes : List ℕ) → length bytes < 39 → IsBad contents bytes
@@ -88,10 +81,8 @@ too_long contents bytes h shown long small short c next more whole lawful is =
 put_held : (contents : Contents) (h : Head) (id : BlobId) (part : Part) (c : Call) → h.kind ≡ 1 → h.id ≡ id → h.part ≡ part_byte part → HasHead h c → IsLawfulCall contents c → part_at contents id part ≡ None
 put_held contents h id part (Put id' part' bytes) kind own number has lawful =
     let same : id' ≡ id = (λ i. record { 0 = sym has.id i }) ∙ own in
-    let one : part' ≡ part = part_once part' part (sym has.part ∙ number) in
-    (λ i. part_at contents (sym same i) (sym one i)) ∙ lawful.0
-put_held contents h id part (DropPart id' part') kind own number has lawful = absurd (omega (arith, kind, has.kind))
-put_held contents h id part (DropId id') kind own number has lawful = absurd (omega (arith, kind, has.kind))
+    cc (lawful.0, same, part_once part' part (sym has.part ∙ number))
+put_held contents h id part c kind own number has lawful = absurd (omega (arith, kind, has.kind))
 
 pub unlawful : (contents : Contents) (bytes : List ℕ) (h : Head) (id : BlobId) (part : Part) → take 38 bytes ≡ head_text h → length h.id.0 ≡ 32 → h.size < 2 ^ 32 → h.kind ≡ 1 → h.id ≡ id → h.part ≡ part_byte part
     → (part_at contents id part ≡ None → ⊥) → IsBad contents bytes
@@ -102,26 +93,34 @@ unlawful contents bytes h id part shown long small kind own number held c next m
 pub record_is : (now : List ℕ) (tail : ℕ) (h : Head) (c : Call) → take 38 (drop (tail + 1) now) ≡ head_text h → HasHead h c → (fields c).bytes ≡ take h.size (drop (tail + 39) now) → drop (tail + 1) now ≡ spelling c ++ drop (tail + 39 + h.size) now
 record_is now tail h c shown has bytes =
     let at : tail + 1 + 38 ≡ tail + 39 = omega arith in
-    let rest : drop (tail + 39) now ≡ (fields c).bytes ++ drop (tail + 39 + h.size) now =
-    sym (take-append-drop h.size (drop (tail + 39) now)) ∙ ap (λ (l : List ℕ). l ++ drop h.size (drop (tail + 39) now)) (sym bytes) ∙ ap (λ (l : List ℕ). (fields c).bytes ++ l) (drop-drop h.size (tail + 39) now) in
-    sym (take-append-drop 38 (drop (tail + 1) now)) ∙ ap (λ (l : List ℕ). l ++ drop 38 (drop (tail + 1) now)) shown
-    ∙ ap (λ (l : List ℕ). head_text h ++ l) (drop-drop 38 (tail + 1) now ∙ ap (λ (k : ℕ). drop k now) at ∙ rest) ∙ head_and h c (drop (tail + 39 + h.size) now) has
-
--- the step of a change that is carried out
-next_record : (now : List ℕ) (tail next : ℕ) (h : Head) (c : Call) (old new : Contents) → get_or now tail 0 ≡ 1 → take 38 (drop (tail + 1) now) ≡ head_text h → HasHead h c → (fields c).bytes ≡ take h.size (drop (tail + 39) now)
-    → tail + 39 + h.size < length now → next ≡ tail + 39 + h.size → IsWholeRecord c → IsLawfulCall old c → new ≡ after_call old c → IsNext now tail next old new
-next_record now tail next h c old new gate shown has bytes fits at whole lawful makes = record {
-  change = c;
-  whole = whole;
-  lawful = lawful;
-  is = drop_more now tail 0 (omega (arith, fits)) ∙ ap (λ (g : ℕ). g ∷ drop (tail + 1) now) gate
-      ∙ ap (λ (l : List ℕ). 1 ∷ l) (record_is now tail h c shown has bytes ∙ ap (λ (k : ℕ). spelling c ++ drop k now) (sym at));
-  at = omega (arith, at, spelling_long c whole, has.size);
-  within = omega (arith, fits, at);
-  makes = makes;
-}
+    cc (
+      take-append-drop 38 (drop (tail + 1) now),
+      drop-drop 38 (tail + 1) now,
+      take-append-drop h.size (drop (tail + 39) now),
+      drop-drop h.size (tail + 39) now,
+      head_and h c (drop (tail + 39 + h.size) now) has,
+    )
 
 module _ (now : List ℕ) (tail : ℕ) (h : Head) (id : BlobId) (old new : Contents) (gate : get_or now tail 0 ≡ 1) (shown : take 38 (drop (tail + 1) now) ≡ head_text h) (long : length h.id.0 ≡ 32) (fits : tail + 39 + h.size < length now) where
+  -- the step of a change that is carried out, for which there is room
+  next_step : (limit : Option ℕ) (next : ℕ) (c : Call) → HasHead h c
+      → (fields c).bytes ≡ take h.size (drop (tail + 39) now) → next ≡ tail + 39 + h.size → IsWholeRecord c
+      → IsLawfulCall old c → new ≡ after_call old c
+      → HadRoomForPuts limit old (c ∷ [])
+      → (n : IsNext now tail next old new) × HadRoomForPuts limit old (n.change ∷ [])
+  next_step limit next c has bytes at whole lawful makes room = (
+    record {
+      change = c;
+      whole = whole;
+      lawful = lawful;
+      is = cc (drop_more now tail 0 (omega (arith, fits)), gate, at, record_is now tail h c shown has bytes);
+      at = omega (arith, at, spelling_long c whole, has.size);
+      within = omega (arith, fits, at);
+      makes = makes;
+    },
+    room,
+  )
+
   module _ (part : Part) (bytes : List ℕ) (is : IsHead h (read.Put id part h.size)) (read_is : bytes ≡ take h.size (drop (tail + 39) now)) where
     put_long : length bytes ≡ h.size
     put_long = ap length read_is ∙ length-take-le h.size (drop (tail + 39) now) (omega (arith, fits, length-drop (tail + 39) now))
@@ -138,14 +137,11 @@ module _ (now : List ℕ) (tail : ℕ) (h : Head) (id : BlobId) (old new : Conte
     pub put_most : length bytes ≤ most_bytes
     put_most = omega (arith, put_long, is.5)
 
-    put_next : part_at old id part ≡ None → new ≡ after_call old (Put id part bytes) → IsNext now tail (tail + 39 + h.size) old new
-    put_next absent makes =
-        next_record now tail (tail + 39 + h.size) h (Put id part bytes) old new gate shown put_has read_is fits refl (id_long, put_some, put_most) (absent, put_some, put_most) makes
-
     pub put_step : (limit : Option ℕ) → part_at old id part ≡ None → new ≡ after_call old (Put id part bytes) → HasRoom (free_of limit old) (needed_for old id bytes)
         → (n : IsNext now tail (tail + 39 + h.size) old new) × HadRoomForPuts limit old (n.change ∷ [])
-    unfolding next_record put_next
-    put_step limit absent makes room = (put_next absent makes, (room, tt))
+    put_step limit absent makes room =
+        next_step limit (tail + 39 + h.size) (Put id part bytes) put_has read_is refl (id_long, put_some, put_most)
+        (absent, put_some, put_most) makes (room, tt)
 
     pub put_full : (limit : Option ℕ) (may_want : Bool) (e : KeepError) → part_at old id part ≡ None → IsPutAnswer limit may_want old id bytes (Err e) → new ≡ old → Steps limit may_want now tail old new (Err (fault_of e))
     put_full limit may_want (keeps.Full needed free) absent answer same = (
@@ -165,71 +161,38 @@ module _ (now : List ℕ) (tail : ℕ) (h : Head) (id : BlobId) (old new : Conte
     )
     put_full limit may_want keeps.Memory absent answer same = same
 
-  drop_part_next : (part : Part) → IsHead h (read.DropPart id part) → new ≡ after_call old (DropPart id part) → IsNext now tail (tail + 39) old new
-  drop_part_next part is makes =
-      let none : [] ≡ take h.size (drop (tail + 39) now) = ap (λ (n : ℕ). take n (drop (tail + 39) now)) (sym is.3) in
-      next_record now tail (tail + 39) h (DropPart id part) old new gate shown (record { kind = is.0; id = ap (λ (b : BlobId). b.0) is.1; part = is.2; size = is.3 }) none fits (omega (arith, is.3))
-      (ap (λ (b : BlobId). length b.0) (sym is.1) ∙ long) tt makes
+  -- a record of no bytes
+  drop_step : (limit : Option ℕ) (c : Call) → h.kind ≡ (fields c).kind → h.id.0 ≡ (fields c).id
+      → h.part ≡ (fields c).part → h.size ≡ 0 → (fields c).bytes ≡ [] → IsWholeRecord c → IsLawfulCall old c
+      → new ≡ after_call old c
+      → HadRoomForPuts limit old (c ∷ [])
+      → (n : IsNext now tail (tail + 39) old new) × HadRoomForPuts limit old (n.change ∷ [])
+  drop_step limit c kind own part size none whole lawful makes room =
+      let has : HasHead h c = record { kind = kind; id = own; part = part; size = size ∙ sym (ap length none) } in
+      next_step limit (tail + 39) c has (rw size none) (omega (arith, size)) whole lawful makes room
 
   pub drop_part_step : (limit : Option ℕ) (part : Part) → IsHead h (read.DropPart id part) → new ≡ after_call old (DropPart id part) → (n : IsNext now tail (tail + 39) old new) × HadRoomForPuts limit old (n.change ∷ [])
-  unfolding next_record drop_part_next
-  drop_part_step limit part is makes = (drop_part_next part is makes, tt)
-
-  drop_id_next : IsHead h (read.DropId id) → new ≡ after_call old (DropId id) → IsNext now tail (tail + 39) old new
-  drop_id_next is makes =
-      let none : [] ≡ take h.size (drop (tail + 39) now) = ap (λ (n : ℕ). take n (drop (tail + 39) now)) (sym is.3) in
-      next_record now tail (tail + 39) h (DropId id) old new gate shown (record { kind = is.0; id = ap (λ (b : BlobId). b.0) is.1; part = is.2; size = is.3 }) none fits (omega (arith, is.3))
-      (ap (λ (b : BlobId). length b.0) (sym is.1) ∙ long) tt makes
+  drop_part_step limit part is makes =
+      let own = ap (λ (b : BlobId). b.0) is.1 in
+      drop_step limit (DropPart id part) is.0 own is.2 is.3 refl (rw (← is.1) long) tt makes tt
 
   pub drop_id_step : (limit : Option ℕ) → IsHead h (read.DropId id) → new ≡ after_call old (DropId id) → (n : IsNext now tail (tail + 39) old new) × HadRoomForPuts limit old (n.change ∷ [])
-  unfolding next_record drop_id_next
-  drop_id_step limit is makes = (drop_id_next is makes, tt)
+  drop_id_step limit is makes =
+      drop_step limit (DropId id) is.0 (ap (λ (b : BlobId). b.0) is.1) is.2 is.3 refl (rw (← is.1) long) tt makes tt
 
 -- one record more was read
 pub read_more : (now : List ℕ) (tail next : ℕ) (old new : Contents) (changes : List Call) → ReadTo now tail old changes → (n : IsNext now tail next old new) → ReadTo now next new (changes ++ n.change ∷ [])
 read_more now tail next old new changes so_far n = record {
   whole = whole-push changes n.change so_far.whole n.whole;
   lawful = lawful-push changes n.change so_far.lawful (subst (λ m. IsLawfulCall m n.change) so_far.holds n.lawful);
-  is = so_far.is ∙ ap (λ (l : List ℕ). records changes ++ l) n.is ∙ sym (records-push changes n.change (drop next now));
-  at = omega (arith, ap length (records-append changes (n.change ∷ [])), length-append (records changes) (1 ∷ (spelling n.change ++ [])), length-append (spelling n.change) [], so_far.at, n.at);
+  is = cc (so_far.is, n.is, records-push changes n.change (drop next now));
+  at = omega (arith, length-records-push changes n.change, so_far.at, n.at);
   within = n.within;
-  holds = n.makes ∙ ap (λ m. after_call m n.change) so_far.holds ∙ sym (after_calls-append no_contents changes (n.change ∷ []));
+  holds = cc (n.makes, so_far.holds, after_calls-append no_contents changes (n.change ∷ []));
 }
-
--- nothing was read
-pub read_none : (now : List ℕ) (contents : Contents) → contents ≡ no_contents → 1 ≤ length now → ReadTo now 0 contents []
-read_none now contents none some = record { whole = tt; lawful = tt; is = refl; at = refl; within = omega (arith, some); holds = none }
 
 -- room for changes, and then for more
 pub room_both : (limit : Option ℕ) (held : Contents) (changes more : List Call) → HadRoomForPuts limit held changes → HadRoomForPuts limit (after_calls held changes) more → HadRoomForPuts limit held (changes ++ more)
 room_both limit held [] more so_far room = room
 room_both limit held (Put id part bytes ∷ changes) more so_far room = (so_far.0, room_both limit (after_call held (Put id part bytes)) changes more so_far.1 room)
-room_both limit held (DropPart id part ∷ changes) more so_far room = room_both limit (after_call held (DropPart id part)) changes more so_far room
-room_both limit held (DropId id ∷ changes) more so_far room = room_both limit (after_call held (DropId id)) changes more so_far room
-
--- the reading ends where a step does not go on
-pub ends_here : (limit : Option ℕ) (may_want : Bool) (now : List ℕ) (tail : ℕ) (old new : Contents) (e : OpenFault) (changes : List Call) → ReadTo now tail old changes → HadRoomForPuts limit no_contents changes
-    → Steps limit may_want now tail old new (Err e) → Opens limit may_want now new (Err e)
-ends_here limit may_want now tail old new DiskFault changes so_far room step = (changes, tail, subst (λ m. ReadTo now tail m changes) (sym step) so_far, room)
-ends_here limit may_want now tail old new (BadRecord at) changes so_far room step = (
-  changes,
-  subst (λ (k : ℕ). ReadTo now k new changes) (sym step.0) (subst (λ m. ReadTo now tail m changes) (sym step.3) so_far),
-  subst (λ (k : ℕ). get_or now k 0 ≡ 1) (sym step.0) step.1,
-  subst (λ (k : ℕ). IsBad new (drop (k + 1) now)) (sym step.0) (subst (λ m. IsBad m (drop (tail + 1) now)) (sym step.3) step.2),
-  room,
-)
-ends_here limit may_want now tail old new (Full needed free) changes so_far room step = (
-  changes,
-  tail,
-  subst (λ m. ReadTo now tail m changes) (sym step.2) so_far,
-  step.0,
-  subst (λ m. IsFull limit may_want m (drop (tail + 1) now) needed free) (sym step.2) step.1,
-  room,
-)
-ends_here limit may_want now tail old new Memory changes so_far room step = (changes, tail, subst (λ m. ReadTo now tail m changes) (sym step) so_far, room)
-
-pub read_fault : (limit : Option ℕ) (may_want : Bool) (now : List ℕ) (tail : ℕ) (old new : Contents) (e : OpenFault) → IsReadFault e → new ≡ old → Steps limit may_want now tail old new (Err e)
-read_fault limit may_want now tail old new DiskFault is same = same
-read_fault limit may_want now tail old new (BadRecord at) is same = absurd is
-read_fault limit may_want now tail old new (Full needed free) is same = absurd is
-read_fault limit may_want now tail old new Memory is same = same
+room_both limit held (c ∷ changes) more so_far room = room_both limit (after_call held c) changes more so_far room

@@ -2,16 +2,15 @@
 use Rattle.std.proofs.Common.{ℕ, ◌≤◌, List, [], ◌∷◌}
 use Rattle.wal_store.specs.Calls.{Call}
 use Rattle.wal_journal.specs.Crash.{LeavesOnly, GoesOnAfter, Holds, EachKeeps, last_of}
-use Rattle.wal_journal.proofs.Moments.{started, both_runs}
+use Rattle.wal_journal.proofs.Moments.{started, both_runs, after_run}
 
 module _ {D : Type 0} (clock : D → ℕ) (since : D → ℕ → List ℕ → Type 0) (earlier : (disk : D) (image : List ℕ) (t later : ℕ) → t ≤ later → since disk later image → since disk t image) where
   -- over any calls
   run_of : (first : D) (disks : List D) → EachKeeps clock since first disks → (changes : List Call) → Holds clock since first changes → LeavesOnly clock since first (last_of first disks) (GoesOnAfter changes)
-  run_of first [] each changes holds = started clock since first (GoesOnAfter changes) holds
+  run_of first [] each changes holds = started holds
   run_of first (next ∷ disks) each changes holds =
-      let run : LeavesOnly clock since first next (GoesOnAfter changes) = each.0 changes holds in
-      let here : Holds clock since next changes = λ image left. run.each image (earlier next image (clock first) (clock next) run.later left) in
-      both_runs clock since first next (last_of next disks) (GoesOnAfter changes) run (run_of next disks each.1 changes here)
+      let run = each.0 changes holds in
+      both_runs run (run_of next disks each.1 changes (after_run earlier run))
 
   pub stays : (first : D) (disks : List D) → EachKeeps clock since first disks → (changes : List Call) → Holds clock since first changes → (image : List ℕ) → since (last_of first disks) (clock first) image → GoesOnAfter changes image
-  stays first disks each changes holds image left = (run_of first disks each changes holds).each image left
+  stays first disks each changes holds = (run_of first disks each changes holds).each

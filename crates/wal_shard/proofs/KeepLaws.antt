@@ -1,15 +1,11 @@
 -- What a recovery keeps is sound.
-use Rattle.std.proofs.Common.{◌≡◌, ℕ, ◌≤◌, cond, is_some, Option, Some, None, List, Result, Ok, Err, length, refl, sym, ap, ◌∙◌, subst, arith}
+use Rattle.std.proofs.Common.{◌≡◌, ℕ, cond, is_some, Option, Some, None, List, Result, Ok, Err, refl, sym, ap, ◌∙◌, subst}
 use Rattle.std.specs.Prelude.{OnOk, OnErr}
-use Rattle.std.proofs.Math.Nat.{mul-le-mul_right}
 use Rattle.wal_shape.specs.declared.metadata.BlobId.{BlobId}
 use Rattle.wal_shape.specs.declared.axis.Axis.{Axis}
-use Rattle.wal_shape.specs.declared.axis.Axis.TheVariants.{Primary, Secondary}
-use Rattle.wal_shape.specs.Shape.{sliver_symbols, symbol_size, most_bytes}
 use Rattle.wal_shape.specs.Metadata.{BlobMetadata, IsMetadata, held_index}
 use Rattle.wal_shape.specs.Spelling.{metadata_text, proof_text}
 use Rattle.wal_shape.specs.EncodingProof.{EncodingProof, IsProof}
-use Rattle.wal_shape.proofs.ShapeLaws.{symbol_size-least}
 use Rattle.wal_shape.specs.declared.part.Part.{Part}
 use Rattle.wal_shape.specs.declared.part.Part.TheVariants as parts
 use Rattle.wal_store.specs.Parts.{with_part}
@@ -23,7 +19,6 @@ use Rattle.wal_shard.specs.Keeping.{kept}
 use Rattle.wal_shard.specs.State.{AreSound}
 use Rattle.wal_shard.proofs.Changes.{insert_changes, changed_there}
 use Rattle.wal_shard.proofs.Soundness.{put_sound, metadata_sound, sliver_sound, proof_sound}
-use Rattle.wal_shard.proofs.Sizes.{columns_most, sliver_most, bad_proof_most, proofs_fit}
 
 -- what is held after bytes were put
 put_there : (c : Contents) (id : BlobId) (part : Part) (bytes : List ℕ) → parts_at (with_bytes c id part bytes) id ≡ with_part (parts_at c id) part (Some bytes)
@@ -59,21 +54,6 @@ module _ (digest : List ℕ → List ℕ) (f shard : ℕ) where
       → IsBadProof digest m q → IsProof q → AreSound digest f shard c → AreSound digest f shard (kept c id parts.Proof (proof_text q))
   kept_proof_sound c id m q has bad fit s =
       kept_by c id parts.Proof (proof_text q) (part_at c id parts.Proof) s (λ none. proof_sound digest f shard id.0 (parts_at c id) m q has bad fit (s id))
-
-  pub sliver_least : (m : BlobMetadata) (axis : Axis) (index : ℕ) (bytes : List ℕ) → HoldsSliver digest m axis index bytes → 1 ≤ length bytes
-  sliver_least m axis index bytes holds =
-      let size = symbol_size-least m.f m.length in
-      omega (arith, holds.size, size.positive, mul-le-mul_right (symbol_size m.f m.length) (at_least axis m.f))
-    where
-      at_least : (a : Axis) (n : ℕ) → 1 ≤ sliver_symbols a n
-      at_least Primary n = omega arith
-      at_least Secondary n = omega arith
-
-  pub sliver_short : (m : BlobMetadata) (axis : Axis) (index : ℕ) (bytes : List ℕ) → IsMetadata m → HoldsSliver digest m axis index bytes → length bytes ≤ most_bytes
-  sliver_short m axis index bytes fit holds = omega (arith, sliver_most digest m axis index bytes fit holds, columns_most m.f fit.shape.0 fit.shape.1)
-
-  pub proof_short : (m : BlobMetadata) (q : EncodingProof) → IsMetadata m → IsBadProof digest m q → IsProof q → length (proof_text q) ≤ most_bytes
-  proof_short m q fit bad proof = omega (arith, bad_proof_most digest m q fit bad proof, proofs_fit m.f fit.shape.0 fit.shape.1)
 
 kept_held_by : (c : Contents) (id : BlobId) (m : BlobMetadata) (o : Option (List ℕ)) → part_at c id parts.Metadata ≡ o → IsMetadata m
     → ((other : List ℕ) → o ≡ Some other → other ≡ metadata_text m)

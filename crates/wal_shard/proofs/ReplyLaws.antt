@@ -1,5 +1,5 @@
 -- What a shard writes in answer to requests, part by part.
-use Rattle.std.proofs.Common.{◌≡◌, ℕ, ◌+◌, ◌-◌, ◌*◌, ◌/◌, ◌^◌, ◌<◌, ◌≤◌, Option, Some, None, IsSome, List, [], ◌∷◌, ◌++◌, length, refl, sym, ap, ◌∙◌, subst, unwrap_or, append_assoc, arith}
+use Rattle.std.proofs.Common.{◌≡◌, ℕ, ◌+◌, ◌-◌, ◌*◌, ◌/◌, ◌<◌, ◌≤◌, Option, Some, None, IsSome, List, [], ◌∷◌, ◌++◌, length, refl, sym, ap, ◌∙◌, subst, unwrap_or, append_assoc, arith}
 use Rattle.std.specs.List.{flat_map}
 use Rattle.std.proofs.lemmas.List.{length-append, append-nil}
 use Rattle.std.proofs.lemmas.List.Concat.{flat_map-cons}
@@ -12,6 +12,8 @@ use Rattle.wal_matrix.proofs.ToolsLaws.{symbol_size-longest}
 use Rattle.wal_shape.specs.Metadata.{BlobMetadata}
 use Rattle.wal_shape.specs.MetadataReading.{spelled_format, spelled_metadata}
 use Rattle.wal_shape.specs.Spelling.{metadata_text}
+use Rattle.wal_tree.specs.Path.{height}
+use Rattle.wal_tree.proofs.Paths.{height-le}
 use Rattle.wal_tree.proofs.Collisions.{count_few}
 use Rattle.wal_shape.proofs.MetadataLaws.{spelled_metadata-text, spelled_metadata-format}
 use Rattle.wal_store.specs.Parts.{Parts}
@@ -22,17 +24,15 @@ use Rattle.wal_shard.specs.State.{IsOwnMetadata}
 use Rattle.wal_shard.specs.Replying.{WritesReply}
 use Rattle.wal_shard.proofs.HeldLaws.{own_metadata}
 
-abbrev buffer_of : List ℕ → ℕ → Buffer
-buffer_of bytes spare = record { bytes = bytes; spare = spare }
-
 pub appended_then : (b : Buffer) (x y : List ℕ) → appended (appended b x) y ≡ appended b (x ++ y)
 appended_then b x y =
     let room : b.spare - length x - length y ≡ b.spare - length (x ++ y) = omega (arith, length-append x y) in
-    ap (λ (t : List ℕ). buffer_of t (b.spare - length x - length y)) (append_assoc b.bytes x y) ∙ ap (λ (k : ℕ). buffer_of (b.bytes ++ (x ++ y)) k) room
+    cc (append_assoc b.bytes x y, room)
 
 appended_none : (b : Buffer) → b ≡ appended b []
 appended_none b =
-    ap (λ (t : List ℕ). buffer_of t b.spare) (sym (append-nil b.bytes)) ∙ ap (λ (k : ℕ). buffer_of (b.bytes ++ []) k) (omega arith)
+    let room : b.spare ≡ b.spare - 0 = omega arith in
+    λ i. record { bytes = sym (append-nil b.bytes) i; spare = room i }
 
 pub length-envelope : (sender : ℕ) (payload : List ℕ) → length (envelope sender payload) ≡ 7 + length payload
 length-envelope sender payload = omega arith
@@ -54,21 +54,17 @@ writes_one sender old new payload e =
 
 -- one after the other
 pub writes_then : (sender : ℕ) (a b c : Buffer) (xs ys : List (List ℕ)) (n k : ℕ) → WritesReply sender a xs n b → WritesReply sender b ys k c → WritesReply sender a (xs ++ ys) (n + k) c
-writes_then sender a b c xs ys n k one two =
-    record {
-      written = two.written ∙ ap (λ (x : Buffer). appended x (flat_map (envelope sender) ys)) one.written
-          ∙ appended_then a (flat_map (envelope sender) xs) (flat_map (envelope sender) ys)
-          ∙ ap (appended a) (sym (flat_map-append (envelope sender) xs ys));
-      counted = omega (arith, one.counted, two.counted, length-append xs ys);
-    }
-
-no_some : IsSome {T = List ℕ} None → ⊥
-no_some h = cc
+writes_then sender a b c xs ys n k one two = record {
+  written =
+      let text = flat_map (envelope sender) in
+      cc (two.written, one.written, appended_then a (text xs) (text ys), flat_map-append (envelope sender) xs ys);
+  counted = omega (arith, one.counted, two.counted, length-append xs ys);
+}
 
 -- the payload of a part that is held
 pub writes_held : (o : Option (List ℕ)) (payload : List ℕ → List ℕ) (sender : ℕ) (old new : Buffer) (text : List ℕ) → IsSome o
     → text ≡ payload (unwrap_or o []) → new ≡ appended old (envelope sender text) → WritesReply sender old (payload_if o payload) 1 new
-writes_held None payload sender old new text some is e = absurd (no_some some)
+writes_held None payload sender old new text some is e = absurd cc
 writes_held (Some bytes) payload sender old new text some is e =
     writes_one sender old new (payload bytes) (e ∙ ap (λ (x : List ℕ). appended old (envelope sender x)) is)
 
@@ -85,11 +81,9 @@ metadata_frame_is digest f shard id p s some =
     ap (λ (k : Format). metadata_kind k ∷ bytes) (sym (spelled_metadata-format bytes))
     ∙ ap (λ (x : List ℕ). metadata_kind (spelled_metadata bytes).format ∷ x) again
 
--- at most a thousand pieces
-pub few_pieces : (long size : ℕ) → 1 ≤ size → long ≤ 1000 * size → long / size ≤ 2 ^ 10
-few_pieces long size some within =
-    let most : long / size ≤ 1000 = count_few size long within in
-    omega (arith, most)
+-- the path of one of at most a thousand pieces
+pub path_short : (long size : ℕ) → 1 ≤ size → long ≤ 1000 * size → height (long / size) ≤ 10
+path_short long size some within = height-le 10 (long / size) (omega (arith, count_few size long within))
 
 -- an opening fits where a sliver does
 pub opening_fits : (f length : ℕ) → 1 ≤ f → f ≤ 333 → length ≤ most_bytes → 370 + symbol_size f length ≤ 47 + column_count f * symbol_size f most_bytes

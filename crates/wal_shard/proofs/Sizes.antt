@@ -6,11 +6,11 @@ use Rattle.wal_shape.specs.Shape.{shard_count, column_count, sliver_symbols, sym
 use Rattle.wal_shape.specs.Metadata.{BlobMetadata, IsMetadata}
 use Rattle.wal_shape.specs.Spelling.{proof_text}
 use Rattle.wal_shape.specs.EncodingProof.{EncodingProof, IsProof}
-use Rattle.wal_shape.proofs.ShapeLaws.{matrix_bytes-bound}
+use Rattle.wal_shape.proofs.ShapeLaws.{matrix_bytes-bound, symbol_size-least}
 use Rattle.wal_matrix.proofs.ToolsLaws.{symbol_size-longest}
 use Rattle.wal_commit.specs.Held.{HoldsSliver}
 use Rattle.wal_evidence.specs.BadProof.{IsBadProof}
-use Rattle.wal_evidence.proofs.ProofSizes.{bad_proof_long, narrow}
+use Rattle.wal_evidence.proofs.ProofSizes.{bad_proof_long, narrow, length-proof_text}
 
 -- so many pieces of a symbol and a few bytes more are no more than as many of the longest symbol
 pub pieces_most : (axis : Axis) (f length more : ℕ) → length ≤ most_bytes → sliver_symbols axis f * (symbol_size f length + more) ≤ column_count f * (symbol_size f most_bytes + more)
@@ -46,3 +46,21 @@ pub sliver_most : (digest : List ℕ → List ℕ) (m : BlobMetadata) (axis : Ax
 sliver_most digest m axis index bytes fit holds =
     let all = pieces_most axis m.f m.length 0 fit.shape.2 in
     omega (arith, all, holds.size)
+
+-- a sliver and a proof have from 1 byte to as many as a part
+at_least : (axis : Axis) (n : ℕ) → 1 ≤ sliver_symbols axis n
+at_least axis n = grind arith
+
+pub sliver_least : (digest : List ℕ → List ℕ) (m : BlobMetadata) (axis : Axis) (index : ℕ) (bytes : List ℕ) → HoldsSliver digest m axis index bytes → 1 ≤ length bytes
+sliver_least digest m axis index bytes holds =
+    let size = symbol_size-least m.f m.length in
+    omega (arith, holds.size, size.positive, mul-le-mul_right (symbol_size m.f m.length) (at_least axis m.f))
+
+pub sliver_short : (digest : List ℕ → List ℕ) (m : BlobMetadata) (axis : Axis) (index : ℕ) (bytes : List ℕ) → IsMetadata m → HoldsSliver digest m axis index bytes → length bytes ≤ most_bytes
+sliver_short digest m axis index bytes fit holds = omega (arith, sliver_most digest m axis index bytes fit holds, columns_most m.f fit.shape.0 fit.shape.1)
+
+pub proof_short : (digest : List ℕ → List ℕ) (m : BlobMetadata) (q : EncodingProof) → IsMetadata m → IsBadProof digest m q → IsProof q → length (proof_text q) ≤ most_bytes
+proof_short digest m q fit bad proof = omega (arith, bad_proof_most digest m q fit bad proof, proofs_fit m.f fit.shape.0 fit.shape.1)
+
+pub proof_some : (q : EncodingProof) → 1 ≤ length (proof_text q)
+proof_some q = omega (arith, length-proof_text q)

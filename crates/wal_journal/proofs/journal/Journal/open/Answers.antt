@@ -1,8 +1,8 @@
-use Rattle.std.proofs.Common.{Err, subst, List, ℕ, sym}
+use Rattle.std.proofs.Common.{Err, subst}
 use Rattle.wal_journal.specs.declared.open.OpenFault.{OpenFault}
-use Rattle.wal_journal.specs.Record.{Accepts}
 use Rattle.wal_journal.specs.Reading.{Opens}
-use Rattle.wal_journal.proofs.NeverBad.{never_bad, gives, holds_settled}
+use Rattle.wal_journal.proofs.NeverBad.{never_bad, gives}
+use Rattle.wal_journal.proofs.Moments.{holds_settled}
 use Rattle.wal_journal.proofs.NeverFull.{never_full}
 use Rattle.wal_journal.proofs.RoomLaws.{fits_read}
 use Rattle.wal_journal.proofs.journal.Journal.open.Goals as goal
@@ -15,7 +15,7 @@ returns-in-Err-clause-never_bad g c = λ changes accepts at is.
 pub returns-in-Err-clause-fits : goal.returns-in-Err-clause-fits
 returns-in-Err-clause-fits g c = λ changes accepts room needed free is.
     let opens = subst (λ (fault : OpenFault). Opens (g.K.Keep.limit c.args.keep) g.K.Keep.may_want (g.D.Disk.now c.args.disk) (g.K.Keep.contents c.read_disk.new.keep) (Err fault)) is c.in-Err.ensures.opens in
-    never_full (g.K.Keep.limit c.args.keep) g.K.Keep.may_want (g.D.Disk.now c.args.disk) opens.1 (g.K.Keep.contents c.read_disk.new.keep) opens.0 changes needed free opens.2 opens.3 opens.4 accepts room
+    never_full (g.K.Keep.limit c.args.keep) g.K.Keep.may_want (g.D.Disk.now c.args.disk) opens.1 (g.K.Keep.contents c.read_disk.new.keep) opens.0 changes needed free opens.2 opens.3 opens.4 opens.5 accepts room
 
 pub returns-in-Ok-clause-gives : goal.returns-in-Ok-clause-gives
 returns-in-Ok-clause-gives g c = λ changes accepts.
@@ -24,8 +24,8 @@ returns-in-Ok-clause-gives g c = λ changes accepts.
 
 pub returns-in-Ok-clause-acknowledged : goal.returns-in-Ok-clause-acknowledged
 returns-in-Ok-clause-acknowledged g c = λ told changes accepts.
-    holds_settled g.D.Disk.now g.D.Disk.pending g.D.Disk.clock g.D.Disk.since (g.met.D.Disk.only_now told) c.read_disk.new.disk changes ((c.in-Ok.ensures.settled told).0)
-    (subst (λ (b : List ℕ). Accepts b changes) (sym c.in-Ok.ensures.now) accepts)
+    holds_settled g.D.Disk.clock g.D.Disk.since (g.met.D.Disk.only_now told) (c.in-Ok.ensures.settled told).0
+    (rw c.in-Ok.ensures.now accepts)
 
 pub invariant_of-result-clause-fits : goal.invariant_of-result-clause-fits
 invariant_of-result-clause-fits g c =

@@ -1,21 +1,17 @@
-use Rattle.std.proofs.Common.{rules, ◌≡◌, ◌*◌, ◌++◌, ℕ, List, [], length, refl, ap, ◌∙◌, arith, length-append, ◌∷◌}
+use Rattle.std.proofs.Common.{rules, ◌≡◌, ◌*◌, [], ◌∷◌, length, refl, arith, length-append}
 use Rattle.wal_journal.specs.declared.mem_disk.Step.TheVariants.{Synced}
-use Rattle.wal_journal.specs.MemDisk.{pending_after}
-use Rattle.wal_journal.proofs.Past.{pending_synced, kept_more, elapses_to}
+use Rattle.wal_journal.proofs.Past.{pending_synced, elapses_step}
 use Rattle.wal_journal.proofs.mem_disk.MemDiskDisk.sync.Goals as goal
 
-pub invariant_of-self-2-clause-kept : goal.invariant_of-self-2-clause-kept
-invariant_of-self-2-clause-kept c =
-    kept_more _ _ _ _ _ c.args.self.now.kept (omega (arith, c.keep.ensures.len, c.deref.ensures.len)) c.keep.ensures.len_steps
-
 pub returns-clause-told : goal.returns-clause-told
-returns-clause-told c = λ told. (
-  ap (λ s. pending_after [] s) c.keep.ensures.steps ∙ pending_synced [] c.args.self.now.steps.items,
-  omega (arith, ap length c.keep.ensures.steps, length-append c.args.self.now.steps.items (Synced ∷ [])),
-)
+returns-clause-told c =
+    λ told. rw c.keep.ensures.steps (
+      pending_synced [] c.args.self.now.steps.items,
+      omega (arith, length-append c.args.self.now.steps.items (Synced ∷ [])),
+    )
 
 pub returns-clause-time : goal.returns-clause-time
 returns-clause-time c = λ told.
     let kept : length c.args.self.now.past.items ≡ length c.args.self.now.steps.items * length c.args.self.now.bytes.items = search (rules, c.args.self.now.kept) in
-    elapses_to c.args.self.now.steps.items c.keep.new.steps.items Synced c.args.self.now.past.items c.keep.new.past.items c.args.self.now.bytes.items c.args.self.now.bytes.items kept refl c.keep.ensures.steps
-    (c.keep.ensures.past ∙ ap (λ (l : List ℕ). c.args.self.now.past.items ++ l) c.deref.ensures.value)
+    rw (c.keep.ensures.steps, c.keep.ensures.past, c.deref.ensures.value)
+    (elapses_step c.args.self.now.steps.items (Synced) _ _ c.args.self.now.bytes.items kept refl)

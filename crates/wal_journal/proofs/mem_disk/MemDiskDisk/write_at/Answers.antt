@@ -1,21 +1,20 @@
-use Rattle.std.proofs.Common.{rules, vec_len, ◌≡◌, ◌*◌, ◌++◌, ℕ, List, [], length, sym, ap, ◌∙◌, arith, length-append, ◌∷◌}
+use Rattle.std.proofs.Common.{rules, ◌≡◌, ◌*◌, [], ◌∷◌, length, ap, ◌∙◌, arith, length-append}
 use Rattle.wal_journal.specs.declared.mem_disk.Step.TheVariants.{Written}
-use Rattle.wal_journal.specs.MemDisk.{pending_after}
 use Rattle.wal_journal.proofs.Images.{length-put}
-use Rattle.wal_journal.proofs.Past.{pending_push, kept_more, elapses_to}
+use Rattle.wal_journal.proofs.Past.{pending_push, elapses_step}
 use Rattle.wal_journal.proofs.mem_disk.MemDiskDisk.write_at.Goals as goal
 
-pub invariant_of-self-2-clause-kept : goal.invariant_of-self-2-clause-kept
-invariant_of-self-2-clause-kept c = kept_more _ _ _ _ _ c.args.self.now.kept (omega (arith, c.keep.ensures.len, c.deref.ensures.len)) c.keep.ensures.len_steps ∙ ap (λ n. vec_len c.keep.new.steps * n) (sym c.overwrite.ensures.len)
-
 pub returns-clause-told : goal.returns-clause-told
-returns-clause-told c = λ told. (
-  ap (λ s. pending_after [] s) c.keep.ensures.steps ∙ pending_push [] c.args.self.now.steps.items c.args.at (length c.args.bytes.now),
-  omega (arith, ap length c.keep.ensures.steps, length-append c.args.self.now.steps.items (Written c.args.at (length c.args.bytes.now) ∷ [])),
-)
+returns-clause-told c =
+    λ told. rw c.keep.ensures.steps (
+      pending_push [] c.args.self.now.steps.items c.args.at (length c.args.bytes.now),
+      omega (arith, length-append c.args.self.now.steps.items (Written c.args.at (length c.args.bytes.now) ∷ [])),
+    )
 
 pub returns-clause-time : goal.returns-clause-time
 returns-clause-time c = λ told.
     let kept : length c.args.self.now.past.items ≡ length c.args.self.now.steps.items * length c.args.self.now.bytes.items = search (rules, c.args.self.now.kept) in
-    elapses_to c.args.self.now.steps.items c.keep.new.steps.items (Written c.args.at (length c.args.bytes.now)) c.args.self.now.past.items c.keep.new.past.items c.args.self.now.bytes.items c.overwrite.new.bytes.items kept
-    (ap length c.overwrite.ensures.put ∙ length-put c.args.at c.args.bytes.now c.args.self.now.bytes.items c.requires) c.keep.ensures.steps (c.keep.ensures.past ∙ ap (λ (l : List ℕ). c.args.self.now.past.items ++ l) c.deref.ensures.value)
+    let put = ap length c.overwrite.ensures.put
+    ∙ length-put c.args.at c.args.bytes.now c.args.self.now.bytes.items c.requires in
+    rw (c.keep.ensures.steps, c.keep.ensures.past, c.deref.ensures.value)
+    (elapses_step c.args.self.now.steps.items (Written c.args.at (length c.args.bytes.now)) _ _ _ kept put)

@@ -1,6 +1,5 @@
-use Rattle.std.proofs.Common.{rules, ◌≡◌, ◌+◌, ◌*◌, ◌≤◌, None, IsSome, [], length, unwrap_or, sym, subst, arith}
+use Rattle.std.proofs.Common.{rules, ◌≡◌, IsSome, [], length, unwrap_or, arith}
 use Rattle.wal_shape.specs.Shape.{crossing}
-use Rattle.wal_matrix.specs.Tools.{longest_sliver}
 use Rattle.wal_store.specs.Parts.{part_of}
 use Rattle.wal_store.specs.Contents.{parts_at}
 use Rattle.wal_shape.specs.Part.{sliver_part}
@@ -11,27 +10,20 @@ use Rattle.wal_shard.proofs.shard.Shard.reply_opening.Goals as goal
 
 pub returns-then-from-self-clause-reply : goal.returns-then-from-self-clause-reply
 returns-then-from-self-clause-reply g c =
-    let digest = g.H.Hash32.digest in
+    let sound = c.sound.ensures.sound c.args.id.now in
     let p = parts_at c.args.self.now.contents c.args.id.now in
-    let axis = crossing c.args.axis in
-    let some : IsSome (part_of p (sliver_part axis)) = search rules in
-    let own = own_metadata digest c.args.self.now.f c.args.self.now.index c.args.id.now.0 p (c.sound.ensures.sound c.args.id.now) (beside digest c.args.self.now.f c.args.self.now.index c.args.id.now.0 p axis (c.sound.ensures.sound c.args.id.now) some) in
-    let many : 3 * c.args.self.now.f + 1 ≤ c.args.index = search rules in
-    ([], no_shard own.0 own.1.held (too_many c.args.self.now.f own.0.f c.args.index own.1.faults many), writes_none c.args.self.now.index c.args.out.now)
+    let some : IsSome (part_of p (sliver_part (crossing c.args.axis))) = search rules in
+    let own = own_metadata _ _ _ _ _ sound (beside _ _ _ _ _ (crossing c.args.axis) sound some) in
+    let many = too_many c.args.self.now.f own.0.f c.args.index own.1.faults (search rules) in
+    ([], no_shard own.0 own.1.held many, writes_none c.args.self.now.index c.args.out.now)
 
 pub load_sliver-requires-clause-most : goal.load_sliver-requires-clause-most
 load_sliver-requires-clause-most g c =
-    let digest = g.H.Hash32.digest in
-    let p = parts_at c.args.self.now.contents c.args.id.now in
     let axis = crossing c.args.axis in
-    let some : IsSome (part_of p (sliver_part axis)) = search rules in
+    let p = parts_at c.args.self.now.contents c.args.id.now in
     let size : c.in-Some.size ≡ length (unwrap_or (part_of p (sliver_part axis)) []) = search rules in
-    let fits = sliver_fits digest c.args.self.now.f c.args.self.now.index c.args.id.now.0 p axis (c.sound.ensures.sound c.args.id.now) some in
-    let most : c.in-Some.size ≤ longest_sliver c.args.self.now.f = omega (arith, fits, size) in
-    subst (λ k. c.in-Some.size ≤ longest_sliver k) (sym c.requires.f) most
+    let sound = c.sound.ensures.sound c.args.id.now in
+    rw c.requires.f (omega (arith, sliver_fits _ _ _ _ _ axis sound (search rules), size))
 
 pub returns-in-None-clause-reply : goal.returns-in-None-clause-reply
-returns-in-None-clause-reply g c =
-    let p = parts_at c.args.self.now.contents c.args.id.now in
-    let none : part_of p (sliver_part (crossing c.args.axis)) ≡ None = search rules in
-    ([], not_held none, writes_none c.args.self.now.index c.args.out.now)
+returns-in-None-clause-reply g c = ([], not_held (search rules), writes_none c.args.self.now.index c.args.out.now)

@@ -1,18 +1,18 @@
-use Rattle.std.proofs.Common.{rules, ◌≡◌, IsSome, [], length, unwrap_or, arith}
+use Rattle.std.proofs.Common.{rules, ◌≡◌, [], length, unwrap_or, arith}
 use Rattle.wal_store.specs.Contents.{parts_at}
 use Rattle.wal_shard.proofs.HeldLaws.{proof_fits}
 use Rattle.wal_shard.proofs.shard.Shard.reply_proof.Goals as goal
 
 pub reply_held-requires-clause-room : goal.reply_held-requires-clause-room
 reply_held-requires-clause-room g c =
+    let sound = c.sound.ensures.sound c.args.id.now in
     let p = parts_at c.args.self.now.contents c.args.id.now in
-    let some : IsSome p.proof = search rules in
     let size : c.in-Some.size ≡ length (unwrap_or p.proof []) = search rules in
-    omega (arith, proof_fits g.H.Hash32.digest c.args.self.now.f c.args.self.now.index c.args.id.now.0 p (c.sound.ensures.sound c.args.id.now) some, size, c.requires.room)
+    omega (arith, proof_fits _ _ _ _ _ sound (search rules), size, c.requires.room)
 
 pub returns-in-Some-clause-room : goal.returns-in-Some-clause-room
 returns-in-Some-clause-room g c =
+    let sound = c.sound.ensures.sound c.args.id.now in
     let p = parts_at c.args.self.now.contents c.args.id.now in
-    let some : IsSome p.proof = search rules in
     let size : c.in-Some.size ≡ length (unwrap_or p.proof []) = search rules in
-    omega (arith, proof_fits g.H.Hash32.digest c.args.self.now.f c.args.self.now.index c.args.id.now.0 p (c.sound.ensures.sound c.args.id.now) some, size, c.reply_held.ensures.room)
+    omega (arith, proof_fits _ _ _ _ _ sound (search rules), size, c.reply_held.ensures.room)
