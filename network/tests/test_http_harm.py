@@ -382,7 +382,7 @@ class AtNodes(unittest.IsolatedAsyncioTestCase):
     async def test_a_blob_that_comes_again_costs_the_ledger_nothing(self) -> None:
         node, shard, came = mock.MagicMock(), mock.MagicMock(epoch=3), mock.MagicMock(identifier=bytes(32))
         node.name = "node-0"
-        shard.put_whole, node.durable = mock.AsyncMock(return_value=[answer(client.COUNTS[0])]), mock.AsyncMock()
+        shard.put_whole, node.store.durable = mock.AsyncMock(return_value=[answer(client.COUNTS[0])]), mock.AsyncMock()
         ledger_hears, posted = asyncio.Event(), list[str]()
 
         def leave(text: str) -> "asyncio.Future[int]":

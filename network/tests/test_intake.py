@@ -98,8 +98,7 @@ class Told(ShardCase):
         )
         self.node.port = types.SimpleNamespace(shape=client.Shape(1))
         self.node.recorders = types.SimpleNamespace(leave=self.leave)
-        for name in ("durable", "route"):
-            setattr(self.node, name, types.MethodType(getattr(Node, name), self.node))
+        self.node.route = types.MethodType(Node.route, self.node)
         self.node.intake = Intake(self.node)
         self.addAsyncCleanup(self.node.intake.close)
 

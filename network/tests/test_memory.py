@@ -436,7 +436,7 @@ class Cancelled(unittest.IsolatedAsyncioTestCase):
         seat = peers.Seat(known, "node-0", 0, 1)  # type: ignore[arg-type]
         sliver = Counted(8_000_000)
         seen = weakref.ref(sliver)
-        storing = asyncio.create_task(seat.ask([b"\x62", sliver]))  # type: ignore[list-item]
+        storing = asyncio.create_task(seat.exchange([[b"\x62", sliver]]))
         del sliver
         node = await accepted.get()
         self.addCleanup(node.transport.abort)

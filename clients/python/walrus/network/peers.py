@@ -44,11 +44,6 @@ class Seat(client.Shard):
         except ssl.SSLCertVerificationError as fault:
             raise ConnectionError(f"it has no certificate of {self.name}: {fault.verify_message}") from None
 
-    async def ask(self, *requests: client.Request) -> list[client.Reply]:
-        if any(isinstance(it, list) for it in requests):  # what is stored is let go at once where nobody waits for it
-            return await self.exchange(requests)
-        return await super().ask(*requests)
-
     async def exchange(self, requests: Sequence[client.Request]) -> list[client.Reply]:
         async with self.turns:
             if self.fault:
@@ -106,7 +101,7 @@ class Peers:
         self.kept = dict[tuple[str, int], Seat]()
         self.heard = 0  # bytes of parts that nodes replied
         self.pool = concurrent.futures.ThreadPoolExecutor(LOOKUPS, "names")  # and not asyncio's own, which is for all
-        self.sought = dict[str, "asyncio.Future[list[str]]"]()  # what is looked up for each node
+        self.sought = dict[str, "asyncio.Future[list[Any]]"]()  # what is looked up for each node
 
     def address(self, name: str) -> tuple[str, int]:
         """Where the ledger says that a node is."""
@@ -130,17 +125,15 @@ class Peers:
             return [host]
         sought = self.sought.get(name)
         if not sought or sought.done():
-            look = asyncio.get_running_loop().run_in_executor
-            sought = self.sought[name] = look(self.pool, look_up, host, port)
+            look = functools.partial(socket.getaddrinfo, host, port, type=socket.SOCK_STREAM)
+            sought = self.sought[name] = asyncio.get_running_loop().run_in_executor(self.pool, look)
             sought.add_done_callback(lambda it: it.cancelled() or it.exception())  # also where nobody waits any more
-        return await asyncio.shield(sought)
+        return [str(it[4][0]) for it in await asyncio.shield(sought)]
 
     def seats(self, owners: Sequence[str], faults: int) -> list[Seat]:
         """The shards of a committee, where their nodes are now."""
-        for number, name in enumerate(owners):
-            if (name, number) not in self.kept:
-                self.kept[name, number] = Seat(self, name, number, faults)
-        return [self.kept[name, number] for number, name in enumerate(owners)]
+        places = [(name, number) for number, name in enumerate(owners)]
+        return [self.kept.get(it) or self.kept.setdefault(it, Seat(self, *it, faults)) for it in places]
 
     async def told(self, name: str, request: bytes) -> dict[str, Any]:
         """A node's figures as it tells them; raises `ConnectionError` where it does not."""
@@ -160,8 +153,3 @@ class Peers:
     async def close(self) -> None:
         await asyncio.gather(*(seat.close() for seat in self.kept.values()))
         self.pool.shutdown(wait=False, cancel_futures=True)
-
-
-def look_up(host: str, port: int) -> list[str]:
-    """The addresses of a name."""
-    return [str(it[4][0]) for it in socket.getaddrinfo(host, port, type=socket.SOCK_STREAM)]

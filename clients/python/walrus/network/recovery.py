@@ -11,6 +11,7 @@ from typing import TYPE_CHECKING, NamedTuple, Optional
 from .. import client, frames
 from ..frames import METADATA, PRIMARY, SECONDARY, code_of
 
+from .groups import several
 from .judge import Busy, Clash, name_of
 from .ledger import ACK, ATTEST
 from .peers import Seat
@@ -69,22 +70,18 @@ async def passing(who: str, what: str, seconds: float = 0) -> AsyncIterator[None
 
 async def by_lanes(node: "Node", lacks: Iterable[Lack], step: Callable[[Lack], Awaitable[None]]) -> None:
     """Takes a step for each blob, several at once. What fails comes again."""
-    left = iter(lacks)
 
-    async def go_on() -> None:
-        for lack in left:
-            try:
-                async with passing(lack.shard.title, lack.identifier.hex()):
-                    await step(lack)
-            except (Clash, sqlite3.Error):
-                raise  # of digests, or of the disk: the node must not go on
-            except Exception as fault:  # whatever others reply, this node goes on
-                said = f"{lack.identifier.hex()}: {type(fault).__name__}: {fault}"
-                print(f"{lack.shard.title}: {said}", file=sys.stderr, flush=True)
+    async def take(lack: Lack) -> None:
+        try:
+            async with passing(lack.shard.title, lack.identifier.hex()):
+                await step(lack)
+        except (Clash, sqlite3.Error):
+            raise  # of digests, or of the disk: the node must not go on
+        except Exception as fault:  # whatever others reply, this node goes on
+            said = f"{lack.identifier.hex()}: {type(fault).__name__}: {fault}"
+            print(f"{lack.shard.title}: {said}", file=sys.stderr, flush=True)
 
-    async with asyncio.TaskGroup() as group:
-        for _ in range(max(1, min(LANES, SEATS // node.port.shape.shards))):
-            group.create_task(go_on())
+    await several(map(take, lacks), max(1, min(LANES, SEATS // node.port.shape.shards)))
 
 
 async def settle(node: "Node", epoch: int, owed: Iterable[bytes]) -> int:
@@ -116,7 +113,7 @@ async def settle(node: "Node", epoch: int, owed: Iterable[bytes]) -> int:
     await by_lanes(node, sorted(work, key=lambda it: it.identifier in later), measure)
     await by_lanes(node, sorted(work, key=lambda it: (it.identifier in later, -sizes.get(it, 0))), recover)
     left = sum(not shard.settled(it) for shard, it in work)  # what the disk lost meanwhile, too
-    return left if await node.durable() else len(work)
+    return left if await node.store.durable() else len(work)
 
 
 def sides(node: "Node") -> list[Sequence[Seat]]:
