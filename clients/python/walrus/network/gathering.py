@@ -6,7 +6,7 @@ import copy
 import hashlib
 import os
 import sqlite3
-from typing import Any, AsyncIterator, Coroutine, Iterator, Sequence
+from typing import Any, AsyncIterator, Coroutine, Iterator
 
 from . import pieces
 from .archives import Coming, opened
@@ -40,26 +40,14 @@ class Costs(Charge):
         """Takes what a folder costs of which so many bytes came, and so much is stored."""
         self.set_to(max(size, stored), max(self.least, count))
 
-    def begin(self) -> None:
-        """Takes what a file costs of which nothing has come yet."""
-        self.count += count_of(0)
-        self.add(0)
+    def more(self, size: int, count: int) -> None:
+        """Takes what so many bytes and blobs more cost; raises as `add` does, and then they do not count."""
+        self.take(self.size, self.stored + size, self.count + count)
+        self.less(-size, -count)
 
-    def more(self, size: int, before: int) -> None:
-        """Takes what so many bytes of a file cost, behind those before; raises as `add` does."""
-        stored, count = self.stored + size, self.count + count_of(before + size) - count_of(before)
-        self.take(self.size, stored, count)
-        self.stored, self.count = stored, count
-
-    def was_there(self, size: int) -> None:
-        """Gives back what a file costs that was stored before."""
-        self.stored, self.count = self.stored - size, self.count - count_of(size)
-
-    def broke(self, size: int) -> None:
-        """Gives back what is not stored of a file that broke off behind so many bytes: the piece that it broke."""
-        whole = max(0, size - 1) // PIECE
-        self.stored -= size - whole * PIECE
-        self.count -= count_of(size) - whole
+    def less(self, size: int, count: int) -> None:
+        """Has so many not count any more, which is given back with what is taken next."""
+        self.stored, self.count = self.stored - size, self.count - count
 
     def settle(self, is_stored: bool, is_new: bool) -> None:
         self.set_to(self.stored, self.count)
@@ -80,19 +68,20 @@ class Storing:
         async def counted() -> AsyncIterator[bytes]:
             nonlocal size
             async for part in stream:
-                self.costs.more(len(part), size)
+                self.costs.more(len(part), count_of(size + len(part)) - count_of(size))
                 size += len(part)
                 yield part
 
+        self.costs.more(0, count_of(0))
         try:
-            self.costs.begin()
             epochs = max(0, self.until - self.writer.network.ledger.writing_epoch)
             told = await self.writer.store(counted(), epochs, self.stored)
         except BaseException:  # such as that another file of the folder failed
-            self.costs.broke(size)
+            whole = max(0, size - 1) // PIECE
+            self.costs.less(size - whole * PIECE, count_of(size) - whole)
             raise
         if told["alreadyCertified"]:
-            self.costs.was_there(told["size"])
+            self.costs.less(size, count_of(size))
         else:
             self.is_new = True
         return told
@@ -110,12 +99,13 @@ class Spool(pieces.Spool):
 
     async def read(self, *spans: tuple[int, int]) -> bytes:
         """What was written at some places, each with its length, one behind the other."""
-        return await pieces.in_thread(self.read_spans, spans)
 
-    def read_spans(self, spans: Sequence[tuple[int, int]]) -> bytes:
-        with self.turn:
-            assert self.file
-            return b"".join(os.pread(self.file.fileno(), length, at) for length, at in spans)
+        def read() -> bytes:
+            with self.turn:
+                assert self.file
+                return b"".join(os.pread(self.file.fileno(), length, at) for length, at in spans)
+
+        return await pieces.in_thread(read)
 
 
 class Upload(Storing):

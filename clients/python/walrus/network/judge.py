@@ -158,10 +158,9 @@ class Judges:
     def keep(self, faults: int) -> None:
         """Keeps memory for one judge, by which one request after the other is answered whatever else wants memory: of
         the largest one, over a sliver and a proof of the largest blob."""
-        if not self.least:
-            self.least = need_of(2 * client.Shape(faults).longest)
-            self.room.grow(self.least)
-            self.kept = mmap.mmap(-1, self.least)
+        self.least = need_of(2 * client.Shape(faults).longest)
+        self.room.grow(self.least)
+        self.kept = mmap.mmap(-1, self.least)
 
     async def work(self, step: Callable[..., Result], *words: object, here: bool = False) -> Result:
         """What a step gives that must not hold up all others; it has a thread of its own, unless told otherwise."""

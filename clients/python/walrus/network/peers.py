@@ -8,14 +8,13 @@ import pathlib
 import socket
 import ssl
 import time
-from typing import Any, Awaitable, Callable, Sequence, TypeVar
+from typing import Any, Sequence
 
 from .. import client
 from ..wire import Wire, connect
 from .ledger import Ledger
 from .limits import read_address
 
-Result = TypeVar("Result")
 LOOKUPS = 32  # names that are looked up at once, one of a node
 LANES, LARGE = 8, 4_194_304  # exchanges with a shard at once; bytes of a large one
 FIGURES, SCRUB = b"\x60", b"\x61"  # requests of an operator: a node's figures, and these once it begins a scrub
@@ -38,11 +37,7 @@ class Seat(client.Shard):
             if not wire.at_eof() and not wire.exception():
                 return wire
             wire.transport.abort()  # it ended between two requests
-        words = {"ssl": self.peers.context, "server_hostname": self.name}
-        try:
-            return await self.peers.reach(self.name, functools.partial(connect, **words))
-        except ssl.SSLCertVerificationError as fault:
-            raise ConnectionError(f"it has no certificate of {self.name}: {fault.verify_message}") from None
+        return await self.peers.connect(self.name)
 
     async def exchange(self, requests: Sequence[client.Request]) -> list[client.Reply]:
         async with self.turns:
@@ -109,13 +104,17 @@ class Peers:
             raise ConnectionError(f"{name} has told no address")
         return self.ledger.addresses[name]
 
-    async def reach(self, name: str, to: Callable[[str, int], Awaitable[Result]]) -> Result:
+    async def connect(self, name: str) -> Wire:
         """A connection to a node, at the first of its addresses that takes one."""
         port, hosts = self.address(name)[1], await self.find(name)
+        to = functools.partial(connect, port=port, ssl=self.context, server_hostname=name)
         for host in hosts[:-1]:
             with contextlib.suppress(OSError):
-                return await to(host, port)
-        return await to(hosts[-1], port)
+                return await to(host)
+        try:
+            return await to(hosts[-1])
+        except ssl.SSLCertVerificationError as fault:
+            raise ConnectionError(f"it has no certificate of {name}: {fault.verify_message}") from None
 
     async def find(self, name: str) -> list[str]:
         """The addresses of a node. Its name is looked up once at a time, in a thread of its own, as one may be told
@@ -139,11 +138,9 @@ class Peers:
         """A node's figures as it tells them; raises `ConnectionError` where it does not."""
         try:
             async with asyncio.timeout(self.seconds):
-                words: dict[str, Any] = {"ssl": self.context, "server_hostname": name}
-                reader, writer = await self.reach(name, functools.partial(asyncio.open_connection, **words))
-                with contextlib.closing(writer):
-                    writer.write(client.envelope(request))
-                    _, payload = await client.take_envelope(reader, 65_536)
+                with contextlib.closing(await self.connect(name)) as wire:
+                    wire.write(client.envelope(request))
+                    _, payload = await client.take_envelope(wire, 65_535)
                     if not isinstance(told := json.loads(payload[1:]), dict):
                         raise ValueError("what it tells are no figures")
                     return told

@@ -2,6 +2,7 @@
 import asyncio
 import collections
 import dataclasses
+import functools
 import mmap
 import tempfile
 from typing import Iterator, Optional, Union
@@ -42,17 +43,13 @@ class Shelf:
         task = self.kept.get(name)
         if not task or not task.done():
             async with self.turns.take(ASKING.get()):
-                task = self.kept.get(name) or self.begin(name)
+                if not (task := self.kept.get(name)):
+                    task = self.kept[name] = asyncio.create_task(self.load(name))
+                    task.add_done_callback(functools.partial(self.loaded, name))
                 await asyncio.wait([task])
         if name in self.kept:
             self.kept.move_to_end(name)
         return await asyncio.shield(task)
-
-    def begin(self, name: bytes) -> "asyncio.Task[Manifest]":
-        """Has a manifest read."""
-        task = self.kept[name] = asyncio.create_task(self.load(name))
-        task.add_done_callback(lambda done: self.loaded(name, done))
-        return task
 
     def loaded(self, name: bytes, task: "asyncio.Task[Manifest]") -> None:
         fault = None if task.cancelled() else task.exception()

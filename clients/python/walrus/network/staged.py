@@ -6,8 +6,7 @@ import functools
 import os
 import pathlib
 import sqlite3
-import sys
-from typing import Callable, Iterable, Optional, TypeVar
+from typing import Any, Callable, Iterable, Optional, TypeVar
 
 from .database import Database
 from .files import Files
@@ -19,11 +18,6 @@ Written = asyncio.Future[bool]  # whether what was staged together came to the d
 SOON, LATER = 0.002, 0.5  # seconds until what waits is committed: what a reply waits for, and what nobody waits for
 
 
-def end(fault: Exception) -> None:
-    """Ends a process that has nobody else to tell."""
-    sys.exit(str(fault))
-
-
 class Staged(Database):
     """A database. What is staged is committed together, soon, and is on the disk once a thread has synced SQLite's log:
     so a slow disk holds up nobody else. What cannot be committed is lost. Behind a sync that failed nobody knows what
@@ -31,7 +25,7 @@ class Staged(Database):
 
     seconds = 5.0  # in which others wait too
 
-    def __init__(self, path: pathlib.Path, fail: Callable[[Exception], object]):
+    def __init__(self, path: pathlib.Path, fail: Callable[[Any], object]):
         self.path, self.fail, self.losses = path.resolve(), fail, 0  # how often what was staged was lost
         self.pending: Optional[Written] = None  # of what is staged
         self.flushed: asyncio.TimerHandle  # when that is committed

@@ -8,14 +8,15 @@ import contextlib
 import errno
 import pathlib
 import sqlite3
+import sys
 import weakref
-from typing import Callable, Iterable, NamedTuple, Optional, Sequence
+from typing import Any, Callable, Iterable, NamedTuple, Optional, Sequence
 
 from ..client import Data
 from ..frames import METADATA, PRIMARY, PROOF, SECONDARY
 
 from .judge import name_of
-from .staged import Staged, end
+from .staged import Staged
 
 LAST = b"\xff" * 32  # of all identifiers
 VERSION, BATCH = 1, 256  # of the tables; blobs that are dropped at once
@@ -64,7 +65,7 @@ class Part(NamedTuple):
 class Store(Staged):
     """The parts of a node."""
 
-    def __init__(self, path: pathlib.Path, recorded: bool = False, fail: Callable[[Exception], object] = end):
+    def __init__(self, path: pathlib.Path, recorded: bool = False, fail: Callable[[Any], object] = sys.exit):
         super().__init__(path, fail)
         self.recorded = recorded
         self.locks: "weakref.WeakValueDictionary[tuple[object, ...], asyncio.Lock]" = weakref.WeakValueDictionary()
