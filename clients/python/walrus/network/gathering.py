@@ -43,7 +43,7 @@ class Costs(Charge):
     def more(self, size: int, count: int) -> None:
         """Takes what so many bytes and blobs more cost; raises as `add` does, and then they do not count."""
         self.take(self.size, self.stored + size, self.count + count)
-        self.less(-size, -count)
+        self.stored, self.count = self.stored + size, self.count + count
 
     def less(self, size: int, count: int) -> None:
         """Has so many not count any more, which is given back with what is taken next."""
@@ -86,6 +86,15 @@ class Storing:
             self.is_new = True
         return told
 
+    async def store_named(self, path: str, kind: str, stream: AsyncIterator[bytes]) -> Told:
+        """Stores a file, and beside it the manifest of a folder that has it alone, under this name and media type."""
+        told = await self.store(stream)
+        size, file = told["size"], bytes.fromhex(told["blobId"])
+        offset = 0 if 0 < size <= SMALL else None  # a small file is a pack of its own
+        manifest = MARK + Place(path, kind, size, file if size else b"", offset).line()
+        folder = await self.store(once(manifest))
+        return {**told, "alreadyCertified": not self.is_new, "named": {"folder": folder["blobId"], "type": kind}}
+
 
 class Spool(pieces.Spool):
     """What comes of a folder."""
@@ -116,9 +125,19 @@ class Upload(Storing):
         self.folder, self.spool = Folder(), Spool(reserve)
         self.writer.reserve = 0.0  # once all of it has come, nothing keeps it from being stored
 
-    def close(self) -> None:
-        self.folder.close()
-        self.spool.close()
+    async def store_folder(self, kind: str, stream: AsyncIterator[bytes]) -> Told:
+        """Stores what comes as a folder of this media type."""
+        try:
+            async with contextlib.aclosing(opened(kind)(Source(stream))) as files:
+                async for coming in files:
+                    await self.take(coming)
+            return await self.finish()
+        except sqlite3.Error as fault:
+            words = f"the gateway cannot keep what it knows of the folder: {fault}; try again later"
+            raise Problem(503, words) from None
+        finally:
+            self.folder.close()
+            self.spool.close()
 
     async def take(self, coming: Coming) -> None:
         """Keeps the next file until it is known which others come."""
@@ -167,42 +186,6 @@ class Upload(Storing):
         told = await self.store(spread(self.folder))
         found = {"files": self.folder.count, "bytes": self.folder.bytes}
         return {**told, "alreadyCertified": not self.is_new, "folder": found}
-
-
-async def store_folder(
-    writer: Writer,
-    kind: str,
-    costs: Costs,
-    reserve: float,
-    stream: AsyncIterator[bytes],
-    epochs: int,
-    stored: list[bytes],
-) -> Told:
-    """Stores what comes as a folder of this media type."""
-    source = Source(stream)
-    upload = Upload(writer, costs, epochs, reserve, stored)
-    try:
-        async with contextlib.aclosing(opened(kind)(source)) as files:
-            async for coming in files:
-                await upload.take(coming)
-        return await upload.finish()
-    except sqlite3.Error as fault:
-        raise Problem(503, f"the gateway cannot keep what it knows of the folder: {fault}; try again later") from None
-    finally:
-        upload.close()
-
-
-async def store_named(
-    writer: Writer, path: str, kind: str, costs: Costs, stream: AsyncIterator[bytes], epochs: int, stored: list[bytes]
-) -> Told:
-    """Stores a file, and beside it the manifest of a folder that has it alone, under this name and media type."""
-    storing = Storing(writer, costs, epochs, stored)
-    told = await storing.store(stream)
-    size, file = told["size"], bytes.fromhex(told["blobId"])
-    offset = 0 if 0 < size <= SMALL else None  # a small file is a pack of its own
-    manifest = MARK + Place(path, kind, size, file if size else b"", offset).line()
-    folder = await storing.store(once(manifest))
-    return {**told, "alreadyCertified": not storing.is_new, "named": {"folder": folder["blobId"], "type": kind}}
 
 
 async def once(data: bytes) -> AsyncIterator[bytes]:
