@@ -126,12 +126,16 @@ class Upload(Storing):
         self.writer.reserve = 0.0  # once all of it has come, nothing keeps it from being stored
 
     async def store_folder(self, kind: str, stream: AsyncIterator[bytes]) -> Told:
-        """Stores what comes as a folder of this media type."""
+        """Stores what comes as a folder of this media type, once all of it has come, and the manifest last."""
         try:
             async with contextlib.aclosing(opened(kind)(Source(stream))) as files:
                 async for coming in files:
                     await self.take(coming)
-            return await self.finish()
+            await self.spool.flush()
+            await several(self.parts(), AHEAD)
+            told = await self.store(spread(self.folder))
+            found = {"files": self.folder.count, "bytes": self.folder.bytes}
+            return {**told, "alreadyCertified": not self.is_new, "folder": found}
         except sqlite3.Error as fault:
             words = f"the gateway cannot keep what it knows of the folder: {fault}; try again later"
             raise Problem(503, words) from None
@@ -178,14 +182,6 @@ class Upload(Storing):
             yield self.store_file(*file)
         for number, pack in enumerate(self.folder.packs()):
             yield self.store_pack(number, pack)
-
-    async def finish(self) -> Told:
-        """Stores what was kept, and once all of it is stored the manifest."""
-        await self.spool.flush()
-        await several(self.parts(), AHEAD)
-        told = await self.store(spread(self.folder))
-        found = {"files": self.folder.count, "bytes": self.folder.bytes}
-        return {**told, "alreadyCertified": not self.is_new, "folder": found}
 
 
 async def once(data: bytes) -> AsyncIterator[bytes]:

@@ -21,6 +21,7 @@ from ..serving import status_in_words
 from .. import shapes, wire
 
 Result = TypeVar("Result")
+Found = tuple[list[list[bytes]], list[int]]  # what a judge replies to each request, and which parts are wrong
 PARTS = client.METADATA, client.SECOND_METADATA, client.SLIVER, client.PROOF
 NO_MEMORY, PATIENCE = 5, 20.0  # a status of the program; seconds until who finds no memory is told to come again
 BESIDE, TIMES = 13_631_488, 6  # memory of a judge: so much, and so many times the bytes that it is told and asked

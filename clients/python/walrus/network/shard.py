@@ -13,7 +13,7 @@ from ..client import Data
 from ..frames import METADATA, PRIMARY, PROOF, SECONDARY, answer, code_of, joined, part_of
 
 from . import judge
-from .judge import Judges
+from .judge import Found, Judges
 from .ledger import ACK, ATTEST, Ledger
 from .store import Part, Store
 from .whole import Whole
@@ -25,7 +25,6 @@ WANTING = errno.ENOSPC, errno.EDQUOT, errno.EIO, errno.EROFS  # how a disk does 
 NAMES = "metadata", "primary sliver", "secondary sliver", "proof"
 Parts = Mapping[int, Data]
 Writing = Optional[asyncio.Task[dict[int, str]]]  # long parts that come to files, and the names that nobody has taken
-Found = tuple[list[list[bytes]], list[int]]  # what the judge replies to each request, and which parts are wrong
 
 
 def pages(parts: Iterable[Data]) -> int:

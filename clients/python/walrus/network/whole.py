@@ -66,9 +66,7 @@ class Whole:
         memory, start = memoryview(request.obj), front(shape)
         return cls(memory, start, start + len(request), name, came)
 
-    def judge(
-        self, engine: Engine, faults: int, shard: int, told: Sequence[bytes]
-    ) -> tuple[list[list[bytes]], list[int]]:
+    def judge(self, engine: Engine, faults: int, shard: int, told: Sequence[bytes]) -> judge.Found:
         """What a shard that holds nothing replies to the parts and to the wish, after what it is told; and no part of
         what it holds is wrong."""
         words = b"".join(map(client.envelope, told))
