@@ -387,7 +387,7 @@ class Trouble(ShardCase):
         wrong, unjudged, right = [await self.whole(size) for size in (LARGE, LARGE + 250, LARGE + 500)]
         wrong.parts[2][-1] ^= 1
         files = self.store.files
-        with mock.patch.object(self.judges, "here", lambda size: False):
+        with mock.patch.object(judge, "SHORT", 0):
             with mock.patch.object(files, "write", side_effect=files.write) as write:
                 self.assertEqual(code_of(await self.shard.put_whole(wrong)), kinds.UNVERIFIED)
                 await self.left(0)

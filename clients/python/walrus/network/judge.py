@@ -191,11 +191,7 @@ class Judges:
         async with self.room.take(need_of(size)):
             if size > LONG:
                 return await self.work(trimmed, step, *words)
-            return await self.work(step, *words, here=self.here(size))
-
-    def here(self, size: int) -> bool:
-        """Whether so many bytes are judged in place, as that is faster than another thread would begin to."""
-        return size < SHORT and isinstance(self.engine, Library)
+            return await self.work(step, *words, here=size < SHORT and isinstance(self.engine, Library))
 
     async def run(self, *words: object, data: Union[client.Data, list[client.Data]] = b"") -> tuple[int, client.Data]:
         """The status and the output of the program, as `client.Walrus` has them; a long one where it was written."""

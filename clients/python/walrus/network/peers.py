@@ -76,11 +76,6 @@ class Seat(client.Shard):
         done = isinstance(reply.end, client.Answer) and reply.end.code == client.DONE
         return "" if done else f"store at shard {self.number}: {client.in_words(reply.end)}"
 
-    async def hear_one(self, reader: client.Source, request: client.Request) -> client.Reply:
-        reply = await super().hear_one(reader, request)
-        self.peers.heard += sum(map(len, reply.kept.values()))
-        return reply
-
     async def drop(self) -> str:
         for wire in self.idle:
             wire.transport.abort()
@@ -94,7 +89,6 @@ class Peers:
         self.ledger, self.seconds = ledger, seconds
         self.context = ssl.create_default_context(cafile=str(authority))
         self.kept = dict[tuple[str, int], Seat]()
-        self.heard = 0  # bytes of parts that nodes replied
         self.pool = concurrent.futures.ThreadPoolExecutor(LOOKUPS, "names")  # and not asyncio's own, which is for all
         self.sought = dict[str, "asyncio.Future[list[Any]]"]()  # what is looked up for each node
 

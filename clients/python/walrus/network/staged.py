@@ -2,6 +2,7 @@
 import asyncio
 import concurrent.futures
 import contextlib
+import errno
 import functools
 import os
 import pathlib
@@ -44,6 +45,10 @@ class Staged(Database):
 
     def open_tables(self) -> None:
         """Finds whole pages, and the folder of files or makes it; a fault in here closes the database again."""
+        if self.base.execute("PRAGMA journal_mode").fetchone() != ("wal",):
+            raise OSError(
+                errno.EINVAL, f"SQLite keeps no log on the disk of {self.path}: have the database on another one"
+            )
         self.base.execute("PRAGMA synchronous = NORMAL")
         self.base.text_factory = functools.partial(str, encoding="utf-8", errors="replace")
         if self.base.execute("PRAGMA quick_check(1)").fetchone() != ("ok",):
