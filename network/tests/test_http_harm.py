@@ -126,7 +126,7 @@ class Harm(GuardCase):
             waiting.append(asyncio.create_task(self.have(places.take("b"))))
         async with asyncio.timeout(30):
             await asyncio.gather(*waiting)
-        self.assertEqual((len(places.waits), together.groups), (0, {}))
+        self.assertEqual((len(places.own), together.groups), (0, {}))
 
     @staticmethod
     async def have(place: contextlib.AbstractAsyncContextManager[None]) -> None:
@@ -344,7 +344,7 @@ class Readings(unittest.IsolatedAsyncioTestCase):
         self.reader.read_ahead((f"piece {it}".encode(), 9, 0, 9) for it in range(4))
         await self.settle(self.have("a", "now"))
         self.assertEqual(self.read[5:], ["piece 0", "piece 1", "now"])
-        self.assertEqual(self.reader.readings.waits, {})
+        self.assertEqual([it.waiting for it in self.reader.readings.own.values()], [{}])  # but for places
 
 
 class Tars(unittest.IsolatedAsyncioTestCase):
@@ -382,7 +382,7 @@ class AtNodes(unittest.IsolatedAsyncioTestCase):
     async def test_a_blob_that_comes_again_costs_the_ledger_nothing(self) -> None:
         node, shard, came = mock.MagicMock(), mock.MagicMock(epoch=3), mock.MagicMock(identifier=bytes(32))
         node.name = "node-0"
-        shard.put_whole, node.durable = mock.AsyncMock(return_value=[answer(client.COUNTS[0])]), mock.AsyncMock()
+        shard.put_whole, node.store.durable = mock.AsyncMock(return_value=[answer(client.COUNTS[0])]), mock.AsyncMock()
         ledger_hears, posted = asyncio.Event(), list[str]()
 
         def leave(text: str) -> "asyncio.Future[int]":

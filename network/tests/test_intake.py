@@ -80,7 +80,7 @@ class GivenUp(ShardCase):
             asked.wait()
             raise Unjudged("walrus serve ended")
 
-        self.enterContext(mock.patch.object(self.judges, "here", lambda size: False))
+        self.enterContext(mock.patch.object(judge, "SHORT", 0))
         with mock.patch.object(type(self.judges.engine), "run", run):
             await self.nothing_stays(self.shard.put_whole(whole), lambda _: asked.set(), Unjudged)
         self.assertEqual(code_of(await self.shard.put_whole(whole)), 13)
@@ -98,8 +98,7 @@ class Told(ShardCase):
         )
         self.node.port = types.SimpleNamespace(shape=client.Shape(1))
         self.node.recorders = types.SimpleNamespace(leave=self.leave)
-        for name in ("durable", "route"):
-            setattr(self.node, name, types.MethodType(getattr(Node, name), self.node))
+        self.node.route = types.MethodType(Node.route, self.node)
         self.node.intake = Intake(self.node)
         self.addAsyncCleanup(self.node.intake.close)
 

@@ -66,7 +66,7 @@ class Intake:
         node = self.node
         while self.words:
             words, self.words = self.words, []
-            durable = await node.durable()
+            durable = await node.store.durable()
             for losses, word in words:
                 if durable and node.store.losses == losses:
                     taken = node.recorders.leave(word)  # or refused

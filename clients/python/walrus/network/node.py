@@ -48,7 +48,7 @@ class Node(View):
 
     def __init__(self, settings: Settings):
         self.settings, self.name, authority = settings, settings.name, pathlib.Path(settings.authority)
-        self.store = Store(pathlib.Path(settings.database), settings.recorded)
+        self.store = Store(pathlib.Path(settings.database), settings.recorded, self.fail)
         recorders = Recorders(settings.recorders, settings.authority, settings.certificate, settings.key)
         path = self.store.path.with_suffix(".ledger")
         super().__init__(recorders, State.open(str(path), LAST_EPOCH if settings.recorded else TAIL, PAGES))
@@ -206,11 +206,6 @@ class Node(View):
             return [await it.forget(request) for it in both][-1]
         return [answer(DECLINED)]  # entries are posted to the ledger, and not to a node
 
-    async def durable(self) -> bool:
-        """Whether all that was staged comes to the disk."""
-        written = self.store.written()
-        return written is None or await asyncio.shield(written)
-
     async def vouch(self, kind: str, shard: Shard, request: bytes) -> list[bytes]:
         """Posts the node's word once its shard would give it, by the judge, and all others of it hold as much; says
         what the ledger made of it."""
@@ -220,7 +215,7 @@ class Node(View):
             return said
         if not all(it.vouches(kind, identifier) for it in self.sides.get(shard.epoch, {}).values()):
             return [answer(DECLINED)]  # one word counts for all shards of the node, and one of them cannot give it
-        if not await self.durable() or self.store.losses != losses:
+        if not await self.store.durable() or self.store.losses != losses:
             return [answer(FULL)]
         voted = functools.partial(ledger.voted, kind, identifier, self.name)
         if not self.port.give_way():

@@ -2,9 +2,10 @@
 import asyncio
 import collections
 import dataclasses
+import functools
 import mmap
 import tempfile
-from typing import Iterator, Optional, Union
+from typing import Iterator, Union
 
 from .chunks import NAME, PIECE, File
 from .manifest import MARK, MOST_BYTES, Foreign, Manifest, Place, Wrong
@@ -42,17 +43,13 @@ class Shelf:
         task = self.kept.get(name)
         if not task or not task.done():
             async with self.turns.take(ASKING.get()):
-                task = self.kept.get(name) or self.begin(name)
+                if not (task := self.kept.get(name)):
+                    task = self.kept[name] = asyncio.create_task(self.load(name))
+                    task.add_done_callback(functools.partial(self.loaded, name))
                 await asyncio.wait([task])
         if name in self.kept:
             self.kept.move_to_end(name)
         return await asyncio.shield(task)
-
-    def begin(self, name: bytes) -> "asyncio.Task[Manifest]":
-        """Has a manifest read."""
-        task = self.kept[name] = asyncio.create_task(self.load(name))
-        task.add_done_callback(lambda done: self.loaded(name, done))
-        return task
 
     def loaded(self, name: bytes, task: "asyncio.Task[Manifest]") -> None:
         fault = None if task.cancelled() else task.exception()
@@ -118,9 +115,14 @@ class Shelf:
         if file.names != name and file.length <= MOST_BYTES:
             async with self.reader.blob(next(file.pieces(0, 1))[0]) as blob:
                 front = bytes(blob[: len(MARK)])
-        manifest = await self.folder_at(name) if front == MARK else None
-        if manifest is None:
+        if front != MARK:
             return file.length, found
+        try:
+            manifest = await self.manifest(name)
+        except Problem as fault:
+            if "manifest" in fault.more:  # it begins as one and is none, and so is an ordinary file
+                return file.length, found
+            raise
         sizes = dict[bytes, int]()
         for number, place in enumerate(manifest):
             if place.length:
@@ -134,15 +136,6 @@ class Shelf:
                 async with self.reader.blob(other) as blob:
                     found |= blobs_of(File.of(other, blob))
         return file.length + sum(sizes.values()), found
-
-    async def folder_at(self, name: bytes) -> Optional[Manifest]:
-        """The manifest of what begins as one; nothing where it is none, and so an ordinary file."""
-        try:
-            return await self.manifest(name)
-        except Problem as fault:
-            if "manifest" in fault.more:
-                return None
-            raise
 
     async def close(self) -> None:
         for task in self.kept.values():
