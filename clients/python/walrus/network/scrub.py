@@ -18,6 +18,7 @@ if TYPE_CHECKING:
     from .node import Node
 
 DAY, NOTED, LOOKED = 86_400.0, 2.0, 60.0  # seconds: until where it stands is noted; until the clock is looked at
+AT_ONCE = 500  # blobs that expire in one step
 
 
 @dataclasses.dataclass
@@ -70,8 +71,8 @@ class Scrub:
         return max(shards, key=lambda it: it.epoch) if shards else None
 
     def is_over(self, identifier: bytes) -> bool:
-        """Whether the ledger has a blob no more, all of which was heard: a node that was killed behind a checkpoint has
-        not dropped all that expired by it."""
+        """Whether the ledger has a blob no more, all of which was heard: its row may have been lost before it was
+        dropped."""
         return self.node.caught_up and identifier not in self.node.ledger.blobs
 
     async def scrub(self) -> None:
@@ -110,9 +111,19 @@ class Scrub:
                 continue
             self.left.set()
 
+    async def expire(self) -> None:
+        """Drops what is over, step by step; the ledger has its rows until it is off the disk."""
+        store, blobs = self.node.store, self.node.ledger.blobs
+        while over := blobs.over(AT_ONCE):
+            store.expire(over)
+            if not await self.node.durable():
+                raise OSError(f"the disk does not take that {len(over)} blobs are over")
+            blobs.drop(over)
+
     async def sweep(self) -> None:
-        """Removes what a crash left without a name, and what a shard held that is here no more."""
+        """Removes what is over, what a crash left without a name, and what a shard held that is here no more."""
         store = self.node.store
+        await self.expire()
 
         def sweep_files() -> int:
             with contextlib.closing(store.reader()) as base:
