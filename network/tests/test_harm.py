@@ -46,7 +46,7 @@ class Turns(TurnCase):
     def made(self) -> Any:
         """A node over that disk and that ledger."""
         made: Any = types.SimpleNamespace(ledger=self.state.ledger, store=self.store, sides={}, shards=lambda epoch: {})
-        made.name, made.judges = "node-0", types.SimpleNamespace(least=1)
+        made.name, made.judges, made.turned = "node-0", types.SimpleNamespace(least=1), None
         made.scrub = types.SimpleNamespace(left=asyncio.Event(), node=made)
         made.scrub.expire = types.MethodType(Scrub.expire, made.scrub)
         for name in ("apply", "turn", "epochs", "durable"):

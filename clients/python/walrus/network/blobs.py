@@ -82,8 +82,8 @@ def ending_of(name: str, *words: object) -> list[bytes]:
 
 class Blobs(Mapping[bytes, Blob]):
     """Blobs in a database, those last that were registered last, and some in memory too. What is set goes to the
-    database when something else is asked of it. `needed` are the shards of a quorum, and `number` is that of the last
-    blob. What is kept until `epoch` at most is over: it is here no more, and its rows go by and by, so that a turn of the
+    database when something else is asked of it. `needed` are the shards of a quorum, `number` is that of the last blob.
+    What is kept until `epoch` at most is over: it is here no more, and its rows go by and by, so that a turn of the
     epoch costs the same however many blobs end with it."""
 
     needed, epoch, number = 1, 0, 0
@@ -119,13 +119,13 @@ class Blobs(Mapping[bytes, Blob]):
 
     def flush(self) -> sqlite3.Connection:
         """The database once it has all that was set."""
-        rows = [self.row(identifier, self.kept[identifier], number) for identifier, number in self.numbers.items()]
+        rows = [self.row(identifier, number) for identifier, number in self.numbers.items()]
         self.base.executemany(PUT, rows)
         self.numbers.clear()
         return self.base
 
-    def row(self, identifier: bytes, blob: Optional[Blob], number: int) -> Row:
-        assert blob, "what was set is kept"
+    def row(self, identifier: bytes, number: int) -> Row:
+        blob = self[identifier]
         votes = json.dumps([coded(blob.votes[kind]) for kind in (ACK, ATTEST)], separators=(",", ":"))
         first = [(blob.quorum(kind, self.needed) or (None,))[0] for kind in (ACK, ATTEST)]
         return identifier, number, blob.until, blob.poster, votes, first[0], first[1]

@@ -229,17 +229,13 @@ class View:
         if (seconds := self.silence()) > AWAY:
             self.absence = seconds, time.monotonic(), self.recorders.said
         state.identity, state.entering = news.ledger, True
-        if news.pieces:
-            await self.take(news.pieces)
+        if news.pieces:  # which stand for what was heard
+            state.take(news.pieces)
         await self.apply(news.entries)
         self.head, self.heard_at, state.entering = news.head, time.monotonic(), False
         if self.chain != news.chain or not state.whole:
             state.save(news.chain, news.entries, soon=True)
         self.waiting.tell()
-
-    async def take(self, pieces: list[bytes]) -> None:
-        """Has what a checkpoint says in place of what was heard."""
-        self.state.take(pieces)
 
     async def apply(self, entries: list[Entry]) -> None:
         for entry in entries:

@@ -67,6 +67,11 @@ class Ledger:
         return self.next or self.now
 
     @property
+    def nodes(self) -> list[str]:
+        """The nodes of both committees."""
+        return [*dict.fromkeys(self.now + self.next)]
+
+    @property
     def quorum(self) -> int:
         return 2 * self.faults + 1
 
@@ -165,6 +170,8 @@ class Ledger:
                 raise Void(f"epoch {self.writing_epoch} is written")
             if not owned(self.writing, poster):
                 raise Void(f"{poster} has no shard in the committee of epoch {self.writing_epoch}")
+        if kind in ("ready", "finish") and not self.moving:
+            raise Void("no epoch is to come")
         self.posted[poster] += kind in (REGISTER, ADDRESS)
         match kind, *entry.values:
             case "register", identifier, until:
@@ -178,7 +185,11 @@ class Ledger:
             case "finish", _:
                 return self._finish()
             case "past", epoch:
-                return self._past(poster, epoch)
+                if epoch != self.epoch or poster not in self.nodes:
+                    raise Void(f"epoch {self.epoch} is served, by others than {poster}, or it is another")
+                if self.past.get(poster) == epoch:
+                    return "already"
+                self.past[poster] = epoch
             case "address", host, port:
                 self.addresses[poster] = host, port
             case "share", name, count:
@@ -237,16 +248,12 @@ class Ledger:
 
     def _ready(self, poster: str) -> str:
         own = owned(self.next, poster)
-        if not self.moving:
-            raise Void("no epoch is to come")
         if own <= self.ready:
             return "already"
         self.ready |= own
         return f"counted {len(self.ready)}"
 
     def _finish(self) -> str:
-        if not self.moving:
-            raise Void("no epoch is to come")
         if len(self.ready) < self.quorum:
             return f"waiting {len(self.ready)}"
         self.epoch, self.now, self.next = self.epoch + 1, self.next, ()
@@ -254,11 +261,3 @@ class Ledger:
         live = self.blobs.expire(self.epoch).items()
         self.posted = collections.Counter({name: count for name, count in live if name not in self.expelled})
         return f"epoch {self.epoch}"
-
-    def _past(self, poster: str, epoch: int) -> str:
-        if epoch != self.epoch or poster not in (*self.now, *self.next):
-            raise Void(f"epoch {self.epoch} is served, by others than {poster}, or it is another")
-        if self.past.get(poster) == epoch:
-            return "already"
-        self.past[poster] = epoch
-        return "entered"

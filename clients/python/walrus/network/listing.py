@@ -58,7 +58,7 @@ class Lister:
             self.reader.must_stand(piece)
         short = [piece for piece in names if network.ledger.blobs[piece].until < until]
         if short:
-            charge.extend(size, len(short))
+            charge.set_to(size, len(short))  # the file costs its bytes again, and these blobs
         while short:
             await all_of(network.register(piece, until) for piece in short[:PAGE])
             del short[:PAGE]

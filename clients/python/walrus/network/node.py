@@ -59,6 +59,7 @@ class Node(View):
         self.scrub, self.intake, self.progress = Scrub(self), Intake(self), Progress()
         self.tasks: list["asyncio.Task[None]"] = []
         self.numbers: Any = None  # what tells Prometheus
+        self.turned: object = None  # the committees whose shards go on here
         self.wrong: "asyncio.Queue[bytes]" = asyncio.Queue()  # blobs of which something went wrong on the disk
 
     async def open(self) -> int:
@@ -98,7 +99,7 @@ class Node(View):
         """Tells the ledger each epoch that is on the disk here, so that what was before may go."""
         name, ledger = self.name, self.ledger
         while True:
-            await self.until(lambda it: name in it.now + it.next and it.past.get(name, 0) < it.epoch, None)
+            await self.until(lambda it: name in it.nodes and it.past.get(name, 0) < it.epoch, None)
             try:
                 await self.recorders.post(entry_key(name, PAST, ledger.epoch), None)
             except Refused:
@@ -115,24 +116,19 @@ class Node(View):
                     await settle(self, epoch, wrong)
 
     async def apply(self, entries: list[Entry]) -> None:
-        """Enters entries in their order."""
+        """Enters entries in their order, perhaps behind a checkpoint."""
         ledger = self.ledger
+        await self.turn()
         for entry in entries:
             if entry.words[1:2] == [REGISTER] and ledger.blobs.is_over(entry.values[0]):
                 await self.store.persist(functools.partial(self.store.expire, entry.values[:1]))  # it begins anew
-            before = ledger.now, ledger.next
             ledger.apply(entry)
-            if (ledger.now, ledger.next) != before:
-                await self.turn()
-
-    async def take(self, pieces: list[bytes]) -> None:
-        """Takes a checkpoint of the ledger, where it is too far ahead to be heard entry by entry."""
-        self.state.take(pieces)
-        await self.turn()
+            await self.turn()
 
     async def turn(self) -> None:
-        """Has the shards of the committees that there are go on once that is on the disk: what stays is a row, and no
-        part is touched. Those before hold nothing more, and blobs that are over go while others are served."""
+        """Where there are other committees than before, has their shards go on once that is on the disk: what stays is
+        a row, and no part is touched. Those before hold nothing more, and blobs that are over go while others are
+        served."""
 
         def stage() -> None:
             for epoch in self.epochs():
@@ -141,6 +137,8 @@ class Node(View):
             self.store.turn(self.ledger.epoch)
 
         ledger = self.ledger
+        if self.turned == (turned := (ledger.epoch, ledger.now, ledger.next)):
+            return
         await self.store.persist(stage)
         if ledger.faults and not self.judges.least:
             self.port.shape = client.Shape(ledger.faults)
@@ -148,6 +146,7 @@ class Node(View):
             self.repairs.grow(self.judges.room.size // 2)
         self.sides = {epoch: self.sides.get(epoch) or self.shards(epoch) for epoch in self.epochs()}
         self.scrub.left.set()
+        self.turned = turned
 
     def epochs(self) -> list[int]:
         """The epochs whose committees there are."""

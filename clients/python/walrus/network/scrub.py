@@ -102,11 +102,12 @@ class Scrub:
         print(f"{self.node.name}: a scrub {told}, and swept {figures.swept} files", file=sys.stderr, flush=True)
 
     async def sweep_always(self) -> None:
-        """Sweeps at the start, and whenever there may be something to sweep."""
+        """Drops what is over and sweeps at the start, and whenever there may be something to drop."""
         while True:
             await self.left.wait()
             self.left.clear()
-            async with passing(self.node.name, "what nothing names is swept later", NOTED):
+            async with passing(self.node.name, "what is over or nothing names is swept later", NOTED):
+                await self.expire()
                 await self.sweep()
                 continue
             self.left.set()
@@ -121,9 +122,8 @@ class Scrub:
             blobs.drop(over)
 
     async def sweep(self) -> None:
-        """Removes what is over, what a crash left without a name, and what a shard held that is here no more."""
+        """Removes what a crash left without a name, and what a shard held that is here no more."""
         store = self.node.store
-        await self.expire()
 
         def sweep_files() -> int:
             with contextlib.closing(store.reader()) as base:

@@ -158,7 +158,8 @@ class State(Database):
         self.settle()
         base = sqlite3.connect(self.name, check_same_thread=False) if self.name else self.base
         rows = base.execute(ALL, (self.ledger.epoch,))
-        return checkpoint.written(self.fields(), rows if self.name else rows.fetchall())
+        lines = checkpoint.written(self.fields(), rows if self.name else rows.fetchall())
+        return checkpoint.parted(lines, checkpoint.LONGEST)
 
     def entries(self, after: int = -1, count: int = -1) -> list[Entry]:
         """The tail behind a place, or so many entries of it."""
