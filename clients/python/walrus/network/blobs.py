@@ -12,23 +12,26 @@ from .entries import ACK, ATTEST
 
 CACHED = 8_192  # blobs kept as read
 COUNTED = "registered", "certified", "invalid"
-# How many blobs each poster has until each epoch is counted by SQLite: at a turn of the epoch none of them is read.
+# SQLite counts how many blobs each poster has until each epoch: at a turn of the epoch none of them is read.
 COUNT = """INSERT INTO counts VALUES (new.until, new.poster, 1, new.certified NOTNULL, new.invalid NOTNULL)
     ON CONFLICT DO UPDATE SET registered = registered + 1, certified = certified + excluded.certified,
-    invalid = invalid + excluded.invalid;"""
-TABLES = f"""
-CREATE TABLE IF NOT EXISTS blobs (identifier BLOB PRIMARY KEY, number INTEGER, until INTEGER, poster TEXT, votes TEXT,
-    certified INTEGER, invalid INTEGER) WITHOUT ROWID;
-CREATE INDEX IF NOT EXISTS of_epoch ON blobs (until);
-CREATE INDEX IF NOT EXISTS of_number ON blobs (number, until);
-CREATE TABLE IF NOT EXISTS counts (until INTEGER, poster TEXT, registered INTEGER, certified INTEGER, invalid INTEGER,
-    PRIMARY KEY (until, poster)) WITHOUT ROWID;
-CREATE TRIGGER IF NOT EXISTS made AFTER INSERT ON blobs BEGIN {COUNT} END;
-CREATE TRIGGER IF NOT EXISTS changed AFTER UPDATE ON blobs BEGIN
-    UPDATE counts SET registered = registered - 1, certified = certified - (old.certified NOTNULL),
-        invalid = invalid - (old.invalid NOTNULL) WHERE until = old.until AND poster = old.poster;
-    {COUNT} END;
-"""
+    invalid = invalid + excluded.invalid"""
+COUNT_ALL = """INSERT INTO counts SELECT until, poster, count(*), count(certified), count(invalid) FROM blobs
+    GROUP BY until, poster"""
+UNCOUNT = """UPDATE counts SET registered = registered - 1, certified = certified - (old.certified NOTNULL),
+    invalid = invalid - (old.invalid NOTNULL) WHERE until = old.until AND poster = old.poster"""
+TABLES = {
+    "TABLE blobs": """(identifier BLOB PRIMARY KEY, number INTEGER, until INTEGER, poster TEXT, votes TEXT,
+        certified INTEGER, invalid INTEGER) WITHOUT ROWID""",
+    "TABLE counts": """(until INTEGER, poster TEXT, registered INTEGER, certified INTEGER, invalid INTEGER,
+        PRIMARY KEY (until, poster)) WITHOUT ROWID""",
+}
+DERIVED = {  # from the blobs: where many come at once, it costs less if it is made anew behind them
+    "INDEX of_epoch": "ON blobs (until)",
+    "INDEX of_number": "ON blobs (number, until)",
+    "TRIGGER made": f"AFTER INSERT ON blobs BEGIN {COUNT}; END",
+    "TRIGGER changed": f"AFTER UPDATE ON blobs BEGIN {UNCOUNT}; {COUNT}; END",
+}
 ALL = "SELECT * FROM blobs WHERE until > ? ORDER BY identifier"
 PUT = """INSERT INTO blobs VALUES (?, ?, ?, ?, ?, ?, ?) ON CONFLICT DO UPDATE SET
     number = max(number, excluded.number), until = excluded.until, poster = excluded.poster, votes = excluded.votes,
@@ -90,9 +93,13 @@ class Blobs(Mapping[bytes, Blob]):
 
     def __init__(self, base: Optional[sqlite3.Connection] = None):
         self.base = base or sqlite3.connect(":memory:", isolation_level=None)
-        self.base.executescript(TABLES)
+        self.make({**TABLES, **DERIVED})
         self.kept = dict[bytes, Optional[Blob]]()  # in memory; none if it is not there
         self.numbers = dict[bytes, int]()  # of those that were set since, or 0 if they have one
+
+    def make(self, parts: dict[str, str]) -> None:
+        for name, words in parts.items():
+            self.base.execute(f"CREATE {name.replace(' ', ' IF NOT EXISTS ')} {words}")
 
     def __getitem__(self, identifier: bytes) -> Blob:
         if identifier not in self.kept:
@@ -205,9 +212,15 @@ class Blobs(Mapping[bytes, Blob]):
 
     def take(self, rows: Iterator[Row]) -> None:
         """Has these blobs alone; what was here and is no more is over."""
-        self.flush().execute("UPDATE blobs SET until = -1")
+        self.flush()
         self.forget()
+        for name in DERIVED:
+            self.base.execute(f"DROP {name}")
+        self.base.execute("UPDATE blobs SET until = -1")
         self.base.executemany(PUT, rows)
+        self.make(DERIVED)
+        self.base.execute("DELETE FROM counts")
+        self.base.execute(COUNT_ALL)
 
 
 class Over(Blobs):
