@@ -11,7 +11,6 @@ from .checkpoint import Row
 from .entries import ACK, ATTEST
 
 CACHED = 8_192  # blobs kept as read
-COUNTED = "registered", "certified", "invalid"
 # SQLite counts how many blobs each poster has until each epoch: at a turn of the epoch none of them is read.
 COUNT = """INSERT INTO counts VALUES (new.until, new.poster, 1, new.certified NOTNULL, new.invalid NOTNULL)
     ON CONFLICT DO UPDATE SET registered = registered + 1, certified = certified + excluded.certified,
@@ -20,18 +19,17 @@ COUNT_ALL = """INSERT INTO counts SELECT until, poster, count(*), count(certifie
     GROUP BY until, poster"""
 UNCOUNT = """UPDATE counts SET registered = registered - 1, certified = certified - (old.certified NOTNULL),
     invalid = invalid - (old.invalid NOTNULL) WHERE until = old.until AND poster = old.poster"""
-TABLES = {
-    "TABLE blobs": """(identifier BLOB PRIMARY KEY, number INTEGER, until INTEGER, poster TEXT, votes TEXT,
-        certified INTEGER, invalid INTEGER) WITHOUT ROWID""",
-    "TABLE counts": """(until INTEGER, poster TEXT, registered INTEGER, certified INTEGER, invalid INTEGER,
-        PRIMARY KEY (until, poster)) WITHOUT ROWID""",
-}
-DERIVED = {  # from the blobs: where many come at once, it costs less if it is made anew behind them
-    "INDEX of_epoch": "ON blobs (until)",
-    "INDEX of_number": "ON blobs (number, until)",
-    "TRIGGER made": f"AFTER INSERT ON blobs BEGIN {COUNT}; END",
-    "TRIGGER changed": f"AFTER UPDATE ON blobs BEGIN {UNCOUNT}; {COUNT}; END",
-}
+TABLES = (
+    """CREATE TABLE IF NOT EXISTS blobs (identifier BLOB PRIMARY KEY, number INTEGER, until INTEGER, poster TEXT,
+    votes TEXT, certified INTEGER, invalid INTEGER) WITHOUT ROWID""",
+    """CREATE TABLE IF NOT EXISTS counts (until INTEGER, poster TEXT, registered INTEGER, certified INTEGER,
+    invalid INTEGER, PRIMARY KEY (until, poster)) WITHOUT ROWID""",
+    "CREATE INDEX IF NOT EXISTS of_epoch ON blobs (until)",
+    "CREATE INDEX IF NOT EXISTS of_number ON blobs (number, until)",
+    f"CREATE TRIGGER IF NOT EXISTS made AFTER INSERT ON blobs BEGIN {COUNT}; END",
+    f"CREATE TRIGGER IF NOT EXISTS changed AFTER UPDATE ON blobs BEGIN {UNCOUNT}; {COUNT}; END",
+)
+DERIVED = "INDEX of_epoch", "INDEX of_number", "TRIGGER made", "TRIGGER changed"  # made anew they cost less for many
 ALL = "SELECT * FROM blobs WHERE until > ? ORDER BY identifier"
 PUT = """INSERT INTO blobs VALUES (?, ?, ?, ?, ?, ?, ?) ON CONFLICT DO UPDATE SET
     number = max(number, excluded.number), until = excluded.until, poster = excluded.poster, votes = excluded.votes,
@@ -93,13 +91,13 @@ class Blobs(Mapping[bytes, Blob]):
 
     def __init__(self, base: Optional[sqlite3.Connection] = None):
         self.base = base or sqlite3.connect(":memory:", isolation_level=None)
-        self.make({**TABLES, **DERIVED})
+        self.make()
         self.kept = dict[bytes, Optional[Blob]]()  # in memory; none if it is not there
         self.numbers = dict[bytes, int]()  # of those that were set since, or 0 if they have one
 
-    def make(self, parts: dict[str, str]) -> None:
-        for name, words in parts.items():
-            self.base.execute(f"CREATE {name.replace(' ', ' IF NOT EXISTS ')} {words}")
+    def make(self) -> None:
+        for words in TABLES:
+            self.base.execute(words)
 
     def __getitem__(self, identifier: bytes) -> Blob:
         if identifier not in self.kept:
@@ -187,9 +185,9 @@ class Blobs(Mapping[bytes, Blob]):
 
     def counts(self) -> dict[str, int]:
         """How many blobs there are, and how many of these are certified or declared invalid."""
-        sums = ", ".join(f"coalesce(sum({name}), 0)" for name in COUNTED)
-        found = self.flush().execute(f"SELECT {sums} FROM counts WHERE until > ?", (self.epoch,)).fetchone()
-        return dict(zip(COUNTED, found))
+        words = "SELECT total(registered), total(certified), total(invalid) FROM counts WHERE until > ?"
+        found = self.flush().execute(words, (self.epoch,)).fetchone()
+        return dict(zip(("registered", "certified", "invalid"), map(int, found)))
 
     def ending(self, after: bytes, last: int, count: int) -> list[bytes]:
         """Blobs in that order, behind one of them, that are kept until an epoch at most."""
@@ -218,7 +216,7 @@ class Blobs(Mapping[bytes, Blob]):
             self.base.execute(f"DROP {name}")
         self.base.execute("UPDATE blobs SET until = -1")
         self.base.executemany(PUT, rows)
-        self.make(DERIVED)
+        self.make()
         self.base.execute("DELETE FROM counts")
         self.base.execute(COUNT_ALL)
 

@@ -56,11 +56,8 @@ class Charge:
 
     def announce(self, size: int) -> None:
         """Raises where a file of this length is beyond the share, before its bytes come."""
-        if self.shares and self.token:
-            if self.shares.take(self.token, self.epoch, size, count_of(size)):
-                self.shares.take(self.token, self.epoch, -size, -count_of(size))
-            else:
-                self.refuse()
+        self.set_to(size, count_of(size))
+        self.set_to(0, 0)
 
     def add(self, size: int) -> None:
         """Takes what more bytes of the file cost; raises where that is beyond the share, and then they do not count."""
