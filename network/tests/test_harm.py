@@ -2,6 +2,7 @@
 import asyncio
 import contextlib
 import pathlib
+import sqlite3
 import tempfile
 import threading
 import time
@@ -53,6 +54,13 @@ class Turns(TurnCase):
             setattr(made, name, types.MethodType(getattr(Node, name), made))
         return made
 
+    def start(self, name: str) -> None:
+        """Has another node over that disk, and over a ledger by its name."""
+        self.state.close()
+        self.state = State(str(self.folder / name), 2)
+        self.addCleanup(self.state.close)
+        self.node = self.made()
+
     async def enter(self, texts: list[str]) -> None:
         """Enters what comes next, and saves it."""
         entries = (self.state.chain or Chain(0, bytes(32))).followed(texts)
@@ -78,9 +86,9 @@ class Turns(TurnCase):
         self.assertTrue(self.node.scrub.left.is_set())
         found, usual = list[int](), self.store.expire
 
-        def expire(some: list[bytes]) -> None:
+        def expire(some: list[bytes], before: int) -> None:
             found.append(len(some))
-            usual(some)
+            usual(some, before)
 
         with mock.patch.object(self.store, "expire", expire):
             expiring = asyncio.create_task(self.node.scrub.expire())
@@ -99,18 +107,27 @@ class Turns(TurnCase):
         for name in names:
             self.store.put(1, 0, name, 0, b"metadata", None)
         await self.enter([BEGUN, *OVER])
-        self.state.close()
-        self.state = State(str(self.folder / "a.ledger"), 2)
-        self.addCleanup(self.state.close)
-        self.node = self.made()
+        self.start("a.ledger")
         await self.node.turn()
         self.assertEqual((sorted(self.state.blobs.over(9)), self.held(names)), (names, [True] * 3))
+        with contextlib.closing(sqlite3.connect(self.folder / "killed.ledger")) as copy:
+            self.state.base.execute("COMMIT")
+            self.state.base.backup(copy)
+            self.state.base.execute("BEGIN IMMEDIATE")
         await self.enter([registration("x", 1)])
         self.assertEqual((self.held(names), names[1] in self.state.blobs), ([True, False, True], True))
         self.store.put(1, 1, names[1], 0, b"metadata", None)
         await self.enter([registration("x", 1, 7)])
         await self.node.scrub.expire()
         self.assertEqual((self.held(names), self.state.blobs.over(9)), ([False, True, False], []))
+        self.start("killed.ledger")  # which has not kept that it was registered anew
+        await self.node.turn()
+        await self.node.scrub.expire()
+        await self.enter([registration("x", 1)])
+        self.assertEqual((self.held(names), names[1] in self.state.blobs), ([False, True, False], True))
+        self.start("killed.ledger")
+        await self.enter([registration("x", 1)])
+        self.assertEqual((self.held(names), names[1] in self.state.blobs), ([False, True, False], True))
 
     async def test_a_turn_costs_a_ledger_the_same_however_many_blobs_end_with_it(self) -> None:
         self.enterContext(mock.patch.object(state, "DROPPED", 10))

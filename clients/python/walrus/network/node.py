@@ -120,8 +120,8 @@ class Node(View):
         ledger = self.ledger
         await self.turn()
         for entry in entries:
-            if entry.words[1:2] == [REGISTER] and ledger.blobs.is_over(entry.values[0]):
-                await self.store.persist(functools.partial(self.store.expire, entry.values[:1]))  # it begins anew
+            if entry.words[1:2] == [REGISTER] and ledger.blobs.is_over(entry.values[0]):  # it begins anew
+                await self.store.persist(functools.partial(self.store.expire, entry.values[:1], ledger.epoch))
             ledger.apply(entry)
             await self.turn()
 

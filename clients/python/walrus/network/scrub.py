@@ -113,10 +113,11 @@ class Scrub:
             self.left.set()
 
     async def expire(self) -> None:
-        """Drops what is over, step by step; the ledger has its rows until it is off the disk."""
+        """Drops what is over, step by step; the ledger has its rows until it is off the disk. The disk may be ahead of
+        the ledger, as nodes are killed: what it has of this epoch belongs to a blob that was registered anew."""
         store, blobs = self.node.store, self.node.ledger.blobs
         while over := blobs.over(AT_ONCE):
-            store.expire(over)
+            store.expire(over, self.node.ledger.epoch)
             if not await self.node.durable():
                 raise OSError(f"the disk does not take that {len(over)} blobs are over")
             blobs.drop(over)
