@@ -110,24 +110,25 @@ class Turns(TurnCase):
         self.start("a.ledger")
         await self.node.turn()
         self.assertEqual((sorted(self.state.blobs.over(9)), self.held(names)), (names, [True] * 3))
-        with contextlib.closing(sqlite3.connect(self.folder / "killed.ledger")) as copy:
-            self.state.base.execute("COMMIT")
-            self.state.base.backup(copy)
-            self.state.base.execute("BEGIN IMMEDIATE")
+        killed = "killed.ledger", "killed-too.ledger"
+        for name in killed:
+            with contextlib.closing(sqlite3.connect(self.folder / name)) as copy:
+                self.state.base.execute("COMMIT")
+                self.state.base.backup(copy)
+                self.state.base.execute("BEGIN IMMEDIATE")
         await self.enter([registration("x", 1)])
         self.assertEqual((self.held(names), names[1] in self.state.blobs), ([True, False, True], True))
         self.store.put(1, 1, names[1], 0, b"metadata", None)
         await self.enter([registration("x", 1, 7)])
         await self.node.scrub.expire()
         self.assertEqual((self.held(names), self.state.blobs.over(9)), ([False, True, False], []))
-        self.start("killed.ledger")  # which has not kept that it was registered anew
-        await self.node.turn()
-        await self.node.scrub.expire()
-        await self.enter([registration("x", 1)])
-        self.assertEqual((self.held(names), names[1] in self.state.blobs), ([False, True, False], True))
-        self.start("killed.ledger")
-        await self.enter([registration("x", 1)])
-        self.assertEqual((self.held(names), names[1] in self.state.blobs), ([False, True, False], True))
+        for name in killed:  # which have not kept that it was registered anew
+            self.start(name)
+            await self.node.turn()
+            if name == killed[0]:
+                await self.node.scrub.expire()
+            await self.enter([registration("x", 1)])
+            self.assertEqual((self.held(names), names[1] in self.state.blobs), ([False, True, False], True))
 
     async def test_a_turn_costs_a_ledger_the_same_however_many_blobs_end_with_it(self) -> None:
         self.enterContext(mock.patch.object(state, "DROPPED", 10))
