@@ -404,7 +404,7 @@ class Trouble(ShardCase):
         wholes[1].parts[2][-1] ^= 1
         self.ledger.blobs.expire(9)
         for whole in wholes[:3]:
-            self.apply("x", "register", whole.identifier.hex(), 9)
+            self.apply("x", "register", whole.identifier.hex(), 10)
         said = await asyncio.gather(*map(self.shard.put_whole, wholes))
         self.assertEqual([*map(code_of, said)], [13, kinds.UNVERIFIED, 13, shard.UNREGISTERED])
         self.assertEqual(self.judges.count - count, len(wholes))

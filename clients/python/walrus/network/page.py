@@ -82,7 +82,7 @@ class Watch:
         await self.peers.close()
 
     def nodes(self) -> list[str]:
-        return sorted({*self.network.ledger.now, *self.network.ledger.next})
+        return sorted(self.network.ledger.nodes)
 
     def seat(self, name: str, epoch: int) -> Optional[Seat]:
         """One of the shards that a node has in the committee of an epoch."""

@@ -17,6 +17,7 @@ if TYPE_CHECKING:
     from .node import Node
 
 DAY, PAUSE, LOOKED = 86_400.0, 2.0, 60.0  # seconds: until what failed is tried again; until the clock is looked at
+AT_ONCE = 500  # blobs that expire in one step
 
 
 @dataclasses.dataclass
@@ -76,7 +77,7 @@ class Scrub:
             figures.holding, figures.after = holding, identifier.hex()
             shards = [it for side in sides for it in side.values() if it.holding == holding]
             if self.node.caught_up and identifier not in self.node.ledger.blobs:
-                store.expire([identifier])  # who was killed behind a checkpoint has not dropped all that expired by it
+                store.expire([identifier])  # its row in the ledger was lost before it was dropped
                 await store.durable()
             elif shards:
                 size, fine = await max(shards, key=lambda it: it.epoch).check(identifier)
@@ -91,14 +92,25 @@ class Scrub:
         print(f"{self.node.name}: a scrub {told}, and swept {figures.swept} files", file=sys.stderr, flush=True)
 
     async def sweep_always(self) -> None:
-        """Sweeps at the start, and whenever there may be something to sweep."""
+        """Drops what is over and sweeps at the start, and whenever there may be something to drop."""
         while True:
             await self.left.wait()
             self.left.clear()
-            async with passing(self.node.name, "what nothing names is swept later", PAUSE):
+            async with passing(self.node.name, "what is over or nothing names is swept later", PAUSE):
+                await self.expire()
                 await self.sweep()
                 continue
             self.left.set()
+
+    async def expire(self) -> None:
+        """Drops what is over, step by step; the ledger has its rows until it is off the disk. The disk may be ahead of
+        the ledger, as nodes are killed: what it has of this epoch belongs to a blob that was registered anew."""
+        store, blobs = self.node.store, self.node.ledger.blobs
+        while over := blobs.over(AT_ONCE):
+            store.expire(over, self.node.ledger.epoch)
+            if not await store.durable():
+                raise OSError(f"the disk does not take that {len(over)} blobs are over")
+            blobs.drop(over)
 
     async def sweep(self) -> None:
         """Removes what a crash left without a name, and what a shard held that is here no more."""

@@ -162,10 +162,10 @@ class Store(Staged):
         self.stage("DELETE FROM sides WHERE epoch < ?", epoch)
         self.drop("gone <= ?", epoch)
 
-    def expire(self, expired: Sequence[bytes]) -> None:
-        """Stages that nothing is held any more of some blobs."""
+    def expire(self, expired: Sequence[bytes], before: float = float("inf")) -> None:
+        """Stages that nothing is held any more of some blobs that was held before an epoch."""
         for identifier in expired:
-            self.drop("holding IN (SELECT holding FROM sides) AND identifier = ?", identifier)
+            self.drop("holding IN (SELECT holding FROM sides) AND identifier = ? AND epoch < ?", identifier, before)
 
     def sweep(self) -> bool:
         """Stages that some parts go whose shard is no longer here; whether there are such."""
