@@ -2,7 +2,9 @@
 import asyncio
 import collections
 import contextlib
+import gc
 import hashlib
+import mmap
 import os
 import socket
 import tarfile
@@ -10,6 +12,7 @@ import threading
 import time
 import tracemalloc
 import unittest
+import weakref
 from typing import Any, AsyncIterator, Coroutine
 from unittest import mock
 
@@ -25,7 +28,7 @@ from walrus.network import source, turns, unfinished, whole
 from walrus.network.client import Network
 from walrus.network.exposure import Options
 from walrus.network.local import free_port
-from walrus.network.manifest import Place
+from walrus.network.manifest import MARK, Place
 
 LATER = {"Upload-Complete": "?0"}
 
@@ -233,6 +236,24 @@ class Harm(GuardCase):
                 status, headers, _ = await self.ask("GET", f"/v1/blobs/{name}", headers=wanted)
                 self.assertEqual((status, "repr-digest" in headers), (206, True))
         self.assertEqual(computed.call_count, 1)
+
+    async def test_of_a_malformed_manifest_nothing_stays_but_why(self) -> None:
+        """Else each keeps as much of the disk as it had, and 128 are known."""
+        await self.start()
+        made = list["weakref.ref[mmap.mmap]"]()
+
+        class Map(mmap.mmap):
+            def __init__(self, *_: Any, **words: Any) -> None:
+                made.append(weakref.ref(self))
+
+        for front in (MARK, b"none"):
+            name = self.keep(front + bytes(70_000))
+            with mock.patch.object(shelf.mmap, "mmap", Map):
+                found = [(await self.ask("GET", f"/v1/folders/{name}/"))[0] for _ in range(2)]
+            self.assertEqual(found, [410 if front == MARK else 404] * 2)
+            self.assertIn(bytes.fromhex(name), self.gateway.shelf.kept)
+        gc.collect()
+        self.assertEqual([it() for it in made], [None])
 
     async def test_long_lists_of_folders_are_made_beside_what_others_ask(self) -> None:
         await self.start()
