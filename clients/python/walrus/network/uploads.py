@@ -39,7 +39,8 @@ class Uploads:
     @property
     def kept(self) -> Unfinished:
         if self.known is None:
-            self.known = Unfinished(pathlib.Path(self.publisher.used).with_suffix(".uploads"))
+            folder = pathlib.Path(self.publisher.used).with_suffix(".uploads")
+            self.known = Unfinished(folder, self.publisher.options.reserve)
         return self.known
 
     @property
@@ -205,7 +206,7 @@ class Uploads:
         """Stores the last piece and the list of all; what is told of the file."""
         store, until, names = self.publisher.writer.store_blob, upload.about["until"], upload.names
         size, marked, was_there = upload.offset, upload.is_marked, upload.was_there
-        if upload.sizes or not names:
+        if any(upload.sizes) or not names:
             last = upload.piece(upload.count)
             marked = marked or not names and bytes(last[: len(MARK)]) == MARK
             name, before = await store(last, until)
