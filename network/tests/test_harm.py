@@ -169,6 +169,15 @@ class Places(unittest.IsolatedAsyncioTestCase):
         await asyncio.gather(*waiting, return_exceptions=True)
         self.assertEqual((order, places.waiting), ([*"xababb"], {}))
 
+    async def test_of_who_gives_up_nothing_is_kept_while_others_have_their_places(self) -> None:
+        places = fairness.Fair(1)
+        await places.acquire("x")
+        for _ in range(3):
+            with self.assertRaises(TimeoutError):
+                async with asyncio.timeout(0.01):
+                    await places.acquire("a")
+        self.assertEqual(places.waiting, {})
+
 
 class Ports(unittest.IsolatedAsyncioTestCase):
     """A port whose clients come from several addresses of this machine."""
