@@ -71,6 +71,20 @@ class Harm(GuardCase):
             counts = collections.Counter(path.name[:16] for path in self.folder.glob("tokens.uploads/*"))
             self.assertEqual(sorted(counts.values()), [1, 1, 2, 2])  # the two who had three gave one each
 
+    async def test_addresses_that_send_nothing_leave_places_for_another_one(self) -> None:
+        """Else four of them keep all others from it for a day, with a request each now and then."""
+        kept, about = unfinished.Unfinished(self.folder / "many"), {"until": 9, "epoch": 0, "length": None}
+        with mock.patch.object(unfinished, "ALL", 8):
+            for owner in ("address 192.0.2.1", "address 192.0.2.2") * 2:
+                kept.create(owner, about)
+            with self.assertRaises(problems.Problem) as raised:
+                kept.create("address 192.0.2.3", about)
+            self.assertEqual(raised.exception.status, 503)
+            for path in self.folder.glob("many/*/about"):
+                os.utime(path, (time.time() - 700, time.time() - 700))
+            kept.create("address 192.0.2.3", about)
+            self.assertEqual(len(kept.sweep()), 4)
+
     async def test_what_one_finished_is_known_and_costs_the_next_little(self) -> None:
         await self.start()
         kept = unfinished.Unfinished(self.folder / "many")
@@ -210,6 +224,55 @@ class Harm(GuardCase):
         for head, data in ((b"Connection: upgrade\r\nUpgrade: h2c\r\n", bytes(16_384)), (b"", put)):
             _, writer = await self.connect(asked + head + b"\r\n")
             self.assertTrue(await self.is_ended(writer, data, 400))
+
+    async def test_of_one_who_asks_and_goes_away_few_requests_are_answered(self) -> None:
+        """They go on without their clients, as long as what they wait for: of those who are connected there are few."""
+        alice = self.token("alice")
+        self.token("anyone", "read")
+        await self.start(connections=8)
+        goes_on, asked = asyncio.Event(), list[str]()
+        self.addCleanup(goes_on.set)
+
+        async def wait(request: web.Request, _: bytes) -> web.Response:
+            asked.append(turns.owner_of(request))
+            await goes_on.wait()
+            return web.Response()
+
+        self.enterContext(mock.patch.object(self.gateway.reader, "answer", wait))
+        path = f"/v1/blobs/{'0' * 64}"
+        for _ in range(24):
+            _, writer = await self.connect(f"GET {path} HTTP/1.1\r\nHost: 127.0.0.1:{self.port}\r\n\r\n".encode())
+            await asyncio.sleep(0.05)
+            writer.transport.abort()
+        async with asyncio.timeout(30):
+            status, headers, told = await self.ask("GET", path)
+        self.assertEqual((status, headers["retry-after"], len(asked)), (429, "5", 8), told)
+        task = asyncio.create_task(self.ask("GET", path, headers=alice))
+        async with asyncio.timeout(30):
+            while asked[-1] != "token alice":
+                await asyncio.sleep(0.01)
+        goes_on.set()
+        self.assertEqual((await task)[0], 200)
+        self.assertEqual(((await self.ask("GET", path))[0], self.gateway.guard.crowd.counts), (200, {}))
+
+    async def test_of_those_who_wait_for_an_upload_one_looks_whether_it_is_free(self) -> None:
+        await self.start()
+        path = (await self.ask("POST", "/v1/uploads?epochs=1", headers=LATER))[1]["location"]
+        kept, name = self.gateway.uploads.kept, path.rpartition("/")[2]
+        usual, looked = kept.lock, set["asyncio.Task[Any] | None"]()
+
+        def look(*words: str) -> Any:
+            looked.add(asyncio.current_task())
+            return usual(*words)
+
+        held = kept.lock("address 127.0.0.1", name)
+        assert held
+        with held, mock.patch.object(kept, "lock", look):
+            asked = [asyncio.create_task(self.ask("HEAD", path)) for _ in range(10)]
+            await asyncio.sleep(3)
+            self.assertEqual(len(looked), 1)
+        async with asyncio.timeout(30):
+            self.assertEqual([status for status, _, _ in await asyncio.gather(*asked)], [200] * 10)
 
     async def test_who_takes_no_reply_is_let_go(self) -> None:
         self.enterContext(mock.patch.multiple(connections, GRACE=0.5, LEAST=10**9))

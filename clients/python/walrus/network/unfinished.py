@@ -173,11 +173,11 @@ class Unfinished:
         if sum(name.startswith(mine) for name in known) >= OF_ONE:
             text = f"{OF_ONE} uploads are not finished: go on with one of them, or end one with DELETE"
             raise Problem(429, text, {"Retry-After": "60"})
-        strangers = sum(name.startswith(STRANGER) for name in known)
-        is_full = len(known) >= ALL and not self.make_place(mine, known)
-        if is_full or mine.startswith(STRANGER) and strangers >= ALL // 2:
-            count = len(known) if is_full else strangers
-            text = f"{count} uploads of others are not finished: send a file of up to 16 MiB by PUT, or later"
+        strangers = {name: touched for name, touched in known.items() if name.startswith(STRANGER)}
+        is_half = mine.startswith(STRANGER) and len(strangers) >= ALL // 2
+        others = strangers if is_half else known if len(known) >= ALL else {}
+        if others and not self.make_place(mine, others):
+            text = f"{len(others)} uploads of others are not finished: send a file of up to 16 MiB by PUT, or later"
             raise Problem(503, text)
         made = self.folder / (mine + secrets.token_hex(16))
         made.mkdir(parents=True, mode=0o700)
