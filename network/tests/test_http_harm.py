@@ -422,6 +422,27 @@ class Readings(unittest.IsolatedAsyncioTestCase):
         await self.settle(open_folder("a", "folder of a"), open_folder("b", "folder of b"))
         self.assertEqual(self.read[8:], ["folder of a", "folder of b"])
 
+    async def test_who_asks_for_many_lengths_leaves_the_shards_to_others(self) -> None:
+        """Each exchange with a shard has one of a few lanes, which all have in the order in which they come."""
+        asked, known = list[bytes](), self.reader.lengths.known
+
+        async def ask(name: bytes) -> int:
+            asked.append(name)
+            await self.goes_on["length"].wait()
+            return 9
+
+        async def look(whom: str, number: int) -> Any:
+            turns.ASKING.set(whom)
+            return await self.reader.length_alone(mock.Mock(method="HEAD", headers={}), number.to_bytes(32, "big"))
+
+        self.enterContext(mock.patch.object(self.reader.lengths, "ask", ask))
+        begun = await self.settle(*(look("a", it) for it in range(20)), look("b", 20))
+        self.assertEqual((len(asked), asked[-1][-1]), (9, 20))
+        known[bytes(32)] = 7
+        self.assertEqual(await look("a", 0), 7)  # what is known needs no place
+        self.goes_on["length"].set()
+        self.assertEqual(await asyncio.gather(*begun), [9] * 21)
+
     async def test_what_is_read_ahead_leaves_a_place_for_what_is_wanted_now(self) -> None:
         await self.settle(*(self.have("a", str(it)) for it in range(5)))
         turns.ASKING.set("a")
