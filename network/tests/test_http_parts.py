@@ -294,7 +294,6 @@ class Caches(unittest.IsolatedAsyncioTestCase):
         self.assertEqual([it() for it in seen], [None] * 3)
 
     async def test_what_is_small_takes_the_room_of_its_memory(self) -> None:
-
         async def read(identifier: bytes, size: int) -> bytes:
             return b"little"
 

@@ -30,7 +30,7 @@ NO_TOKEN = "only its own machine may store here, unless there are tokens (walrus
 
 
 class Crowd:
-    """Requests that are being answered, by who asks: at most so many of one, as those of clients that are gone go on."""
+    """Requests that are being answered, by who asks: at most so many of one, as those go on whose clients are gone."""
 
     def __init__(self, most: int):
         self.most, self.counts = most, collections.Counter[str]()
