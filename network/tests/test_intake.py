@@ -141,6 +141,24 @@ class Told(ShardCase):
         again = await Node.reply(self.node, 0, self.request(whole))  # type: ignore[arg-type]
         self.assertEqual(again.parts, said.parts)
 
+    async def test_no_word_is_given_for_what_is_lost_while_it_is_judged(self) -> None:
+        """Else the ledger certifies a blob of which this node has nothing."""
+        assert self.store
+        whole, ask, lose = await self.whole(250), self.judges.ask, self.store.lose
+        self.assertEqual(code_of(await self.shard.put(bytes(whole.parts[0]))), client.DONE)  # so that it is no longer new
+
+        async def judged(size: int, step: Any, request: bytes, *words: Any) -> Any:
+            if request == whole.wish:
+                lose(OSError(errno.ENOSPC, "No space left on device"))
+            return await ask(size, step, request, *words)
+
+        with mock.patch.object(self.judges, "ask", judged):
+            said = await Node.reply(self.node, 0, self.request(whole))  # type: ignore[arg-type]
+        [(_, payload)] = client.split(b"".join(said.parts))
+        await turns()
+        self.assertEqual((payload[:2], self.node.posted), (bytes([0x30, shard.FULL]), []))
+        self.assertEqual(self.shard.lacks(whole.identifier), [0, 1, 2])
+
     async def test_what_is_refused_waits_for_no_disk(self) -> None:
         assert self.store
         whole = await self.whole(250)
