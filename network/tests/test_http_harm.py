@@ -318,6 +318,23 @@ class Harm(GuardCase):
         gc.collect()
         self.assertEqual([it() for it in made], [None])
 
+    async def test_a_disk_that_is_slow_with_a_manifest_holds_up_nobody(self) -> None:
+        await self.start()
+        name, wrote = self.keep(MARK + b"".join(b"%08d\ta/b\t0\t-\n" % it for it in range(9_000))), list[int]()
+        usual = shelf.tempfile.TemporaryFile
+
+        def opened(**words: Any) -> Any:
+            file, out = usual(**words), mock.MagicMock()
+            out.__enter__.return_value = out
+            out.tell, out.fileno = file.tell, file.fileno
+            out.write = lambda data: wrote.append(threading.get_ident()) or file.write(data)
+            return out
+
+        with mock.patch.object(shelf.tempfile, "TemporaryFile", opened):
+            status, _, told = await self.ask("GET", f"/v1/folders/{name}/", headers={"Accept": "application/json"})
+        self.assertEqual((status, len(told["entries"]), len(wrote)), (200, 9_000, 1), told)
+        self.assertNotIn(threading.main_thread().ident, wrote)
+
     async def test_long_lists_of_folders_are_made_beside_what_others_ask(self) -> None:
         await self.start()
         made = manifest_of(*(Place(f"{it:05}", "a/b", 0, b"") for it in range(10_000)))

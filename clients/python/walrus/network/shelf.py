@@ -8,6 +8,7 @@ from typing import Iterator, Optional, Union
 
 from .chunks import NAME, PIECE, File
 from .manifest import MARK, MOST_BYTES, Foreign, Manifest, Place, Wrong
+from .pieces import to_the_end, write
 from .problems import Problem
 from .reading import Reader
 from .turns import ASKING, Turns
@@ -101,9 +102,7 @@ class Shelf:
                         raise Problem(404, NO_FOLDER, manifest=False)
                     if file.length > MOST_BYTES:
                         raise Problem(410, f"the folder's manifest has more than {MOST_BYTES} bytes", manifest=False)
-                    view = memoryview(blob)
-                    while view:
-                        view = view[out.write(view) :]  # noqa: E203
+                    await to_the_end(write, out, memoryview(blob))
             return memoryview(mmap.mmap(out.fileno(), file.length, access=mmap.ACCESS_READ))
 
     async def file(self, place: Place) -> File:
