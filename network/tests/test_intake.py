@@ -145,7 +145,7 @@ class Told(ShardCase):
         """Else the ledger certifies a blob of which this node has nothing."""
         assert self.store
         whole, ask, lose = await self.whole(250), self.judges.ask, self.store.lose
-        self.assertEqual(code_of(await self.shard.put(bytes(whole.parts[0]))), client.DONE)  # so that it is no longer new
+        self.assertEqual(code_of(await self.shard.put(bytes(whole.parts[0]))), client.DONE)  # so it is not new later
 
         async def judged(size: int, step: Any, request: bytes, *words: Any) -> Any:
             if request == whole.wish:
