@@ -44,7 +44,7 @@ class Turns(TurnCase):
         made: Any = types.SimpleNamespace(ledger=self.state.ledger, store=self.store, sides={}, shards=lambda epoch: {})
         made.name, made.judges = "node-0", types.SimpleNamespace(least=1)
         made.scrub = types.SimpleNamespace(left=asyncio.Event())
-        for name in ("apply", "turn", "epochs"):
+        for name in ("apply", "turn", "epochs", "durable"):
             setattr(made, name, types.MethodType(getattr(Node, name), made))
         self.node = made
 
