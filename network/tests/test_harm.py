@@ -50,7 +50,7 @@ class Turns(TurnCase):
         made.name, made.judges, made.turned = "node-0", types.SimpleNamespace(least=1), None
         made.scrub = types.SimpleNamespace(left=asyncio.Event(), node=made)
         made.scrub.expire = types.MethodType(Scrub.expire, made.scrub)
-        for name in ("apply", "turn", "epochs", "durable"):
+        for name in ("apply", "turn", "epochs"):
             setattr(made, name, types.MethodType(getattr(Node, name), made))
         return made
 
@@ -193,6 +193,14 @@ class Figures(TurnCase):
                 await told.count()
         self.assertEqual((told.held["blobs"], told.due > time.monotonic()), (2, True))
 
+    async def test_a_count_that_fails_is_made_again(self) -> None:
+        asked = mock.AsyncMock(side_effect=[sqlite3.DatabaseError("a page is torn"), {"blobs": 1}])
+        told = NodePort(mock.MagicMock(store=mock.Mock(asked=asked)), port.Bounds())
+        for held in ({}, {"blobs": 1}):
+            told.due = 0.0
+            await told.count()
+            self.assertEqual(told.held, held)
+
 
 class Halves(TurnCase):
     async def test_who_ends_in_the_midst_of_a_batch_hears_all_of_it_again(self) -> None:
@@ -239,6 +247,15 @@ class Places(unittest.IsolatedAsyncioTestCase):
         await asyncio.gather(*waiting, return_exceptions=True)
         self.assertEqual((order, places.waiting), ([*"xababb"], {}))
 
+    async def test_of_who_gives_up_nothing_is_kept_while_others_have_their_places(self) -> None:
+        places = fairness.Fair(1)
+        await places.acquire("x")
+        for _ in range(3):
+            with self.assertRaises(TimeoutError):
+                async with asyncio.timeout(0.01):
+                    await places.acquire("a")
+        self.assertEqual(places.waiting, {})
+
 
 class Ports(unittest.IsolatedAsyncioTestCase):
     """A port whose clients come from several addresses of this machine."""
@@ -268,6 +285,16 @@ class Ports(unittest.IsolatedAsyncioTestCase):
         async with asyncio.timeout(60):
             while not holds():
                 await asyncio.sleep(0.01)
+
+    async def test_of_who_has_many_addresses_of_a_network_a_line_a_minute_is_told(self) -> None:
+        said = list[str]()
+        self.made.say = said.append
+        for host in ("2001:db8:1:2::3", "2001:db8:1:2::4", "2001:db8:1:3::3", "192.0.2.1", "192.0.2.2"):
+            wire = mock.Mock()
+            wire.get_extra_info.return_value = (host, 1)
+            client_ = port.Connection(mock.Mock(), wire)
+            self.made.tell(f"client {client_} is cut off", "Fault", client_)
+        self.assertEqual(len(said), 4)
 
     async def test_nobody_waits_behind_all_that_one_address_asks(self) -> None:
         for number in range(6):

@@ -94,7 +94,7 @@ async def settle(node: "Node", epoch: int, owed: Iterable[bytes]) -> int:
             held = await node.store.settled(shard.holding, epoch, some[0], some[-1])
             work += [Lack(shard, it) for it in some if it not in held and not shard.settled(it)]
     if not work:
-        return 0
+        return 0 if await node.store.durable() else len(owed)
     later = {it.identifier for it in work if not node.ledger.certificate(it.identifier)}
     node.progress = progress = Progress(epoch, len(work))
 

@@ -9,6 +9,7 @@ from typing import Iterator, Union
 
 from .chunks import NAME, PIECE, File
 from .manifest import MARK, MOST_BYTES, Foreign, Manifest, Place, Wrong
+from .pieces import to_the_end, write
 from .problems import Problem
 from .reading import Reader
 from .turns import ASKING, Turns
@@ -67,14 +68,21 @@ class Shelf:
     async def load(self, name: bytes) -> Manifest:
         ASKING.set("folders")  # in its own task: others wait for this turn, and not behind all that one asks for
         async with self.turn:
-            data = await self.read(name)
             try:
-                pool = self.reader.network.walrus.pool
-                return await asyncio.get_running_loop().run_in_executor(pool, Manifest, data)
-            except Foreign:
-                raise Problem(404, NO_FOLDER, manifest=False) from None
-            except Wrong as fault:
-                raise Problem(410, f"the folder's manifest is malformed: {fault}", manifest=False) from None
+                return await self.made(name)
+            except Problem as fault:
+                told = Problem(fault.status, str(fault), fault.headers, **fault.more)
+        raise told  # which is kept, and not the calls that it came through: these have all that was read
+
+    async def made(self, name: bytes) -> Manifest:
+        data = await self.read(name)
+        try:
+            pool = self.reader.network.walrus.pool
+            return await asyncio.get_running_loop().run_in_executor(pool, Manifest, data)
+        except Foreign:
+            raise Problem(404, NO_FOLDER, manifest=False) from None
+        except Wrong as fault:
+            raise Problem(410, f"the folder's manifest is malformed: {fault}", manifest=False) from None
 
     async def read(self, name: bytes) -> Union[bytes, memoryview]:
         """The bytes of what may be a manifest, in a file without a name where they are many."""
@@ -91,9 +99,7 @@ class Shelf:
                         raise Problem(404, NO_FOLDER, manifest=False)
                     if file.length > MOST_BYTES:
                         raise Problem(410, f"the folder's manifest has more than {MOST_BYTES} bytes", manifest=False)
-                    view = memoryview(blob)
-                    while view:
-                        view = view[out.write(view) :]  # noqa: E203
+                    await to_the_end(write, out, memoryview(blob))
             return memoryview(mmap.mmap(out.fileno(), file.length, access=mmap.ACCESS_READ))
 
     async def file(self, place: Place) -> File:
