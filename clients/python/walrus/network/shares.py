@@ -72,6 +72,10 @@ class Charge:
         """What came before, and was taken then."""
         self.size, self.bytes, self.blobs = size, size, count_of(size)
 
+    def settle_at(self, pieces: int) -> None:
+        """Gives back what is more than so many pieces."""
+        self.set_to(pieces * PIECE, pieces)
+
     def settle(self, is_stored: bool, is_new: bool) -> None:
         """Gives back what was not stored: all of a file that was there, and of a broken one the piece that it broke."""
         whole = max(0, self.size - 1) // PIECE  # pieces that may be stored once something follows them

@@ -13,7 +13,7 @@ from aiohttp import web
 from .. import client
 
 from . import digests
-from .chunks import LONGEST, MARK, PIECE, File, Told
+from .chunks import LONGEST, MARK, File, Told
 from .entries import LAST_UNTIL
 from .guard import PASSED_ON
 from .problems import Problem, as_json
@@ -114,7 +114,7 @@ class Uploads:
         async with self.hold(request) as upload:
             self.kept.drop(upload)
             if not upload.told:
-                self.charge(request, upload).set_to(upload.count * PIECE, upload.count)
+                self.charge(request, upload).settle_at(upload.count)
         return web.Response(status=204)
 
     def charge(self, request: web.Request, upload: Upload) -> Charge:
