@@ -17,7 +17,7 @@ import aiohttp
 
 sys.path.insert(0, str(pathlib.Path(__file__).resolve().parents[2] / "clients" / "python"))
 
-from walrus.network import blobs, recording  # noqa: E402
+from walrus.network import recording  # noqa: E402
 from walrus.network.checkpoint import Mark, Row  # noqa: E402
 from walrus.network.entries import ACK, OPERATOR, REGISTER, Chain, Entry, entry_key  # noqa: E402
 from walrus.network.follower import Recorders  # noqa: E402
@@ -115,8 +115,7 @@ def live(made: State, count: int) -> None:
     def rows() -> Iterator[Row]:
         return ((name, number + 1, UNTIL, "publisher", votes, 0, None) for name, number in names)
 
-    made.base.executemany(blobs.INSERT, rows())
-    made.blobs.sizes = {"registered": count, "certified": count, "invalid": 0, "number": count}
+    made.blobs.take(rows())
     made.ledger.posted["publisher"], made.ledger.revision = count, 5 * count
     made.save(Chain(5 * count, bytes(32)))
 

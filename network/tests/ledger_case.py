@@ -142,8 +142,9 @@ class Plain(Blobs):
     def __len__(self) -> int:
         return len(self.kept)
 
-    def expire(self, epoch: int) -> None:
+    def expire(self, epoch: int) -> "collections.Counter[str]":
         self.kept = {identifier: blob for identifier, blob in self.kept.items() if blob.until > epoch}
+        return self.posters()
 
     def posters(self) -> "collections.Counter[str]":
         return collections.Counter(blob.poster for blob in self.values())

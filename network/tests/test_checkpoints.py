@@ -89,13 +89,13 @@ class Kept(KeptCase):
                 self.assertEqual(late.state.entries(), [])
                 await self.same(early, late)
             away = View(self.user("publisher"))  # who was away for long
-            away.state.identity, away.chain = early.state.identity, before
+            away.state.identity, away.state.chain = early.state.identity, before
             task = asyncio.create_task(away.follow())
             self.assertTrue(await away.until(lambda _: away.caught_up))
             await self.same(early, away)
             task.cancel()
             other = View(self.user("publisher"))
-            other.state.identity, other.chain = "ff" * 32, before
+            other.state.identity, other.state.chain = "ff" * 32, before
             with self.assertRaisesRegex(Parted, "are others than were heard before"):
                 await other.follow()
         place = (await self.recorders[0].etcd.mark()).place
@@ -189,8 +189,8 @@ class Steps(unittest.IsolatedAsyncioTestCase):
         await fresh.catch_up()
         for place, text in enumerate(memory.all, 1):
             whole.ledger.apply(recorder.Entry(place, text))
-        whole.identity = fresh.identity
-        whole.save(Chain(0, bytes.fromhex(fresh.identity)).behind(memory.all))
+        whole.identity = fresh.state.identity
+        whole.save(Chain(0, bytes.fromhex(fresh.state.identity)).behind(memory.all))
         self.assertLessEqual({text for epoch in range(1, 5) for text in turn(epoch)}, {*memory.all})
         self.assertEqual([*fresh.state.written()], [*whole.written()])
         self.assertGreater(min(memory.kept, default=99), 20)

@@ -70,7 +70,7 @@ class Places(unittest.TestCase):
                     with self.assertRaises(Failure):
                         root.must_keep_apart(pair)
                 root.must_keep_apart(["a/b", "a/c", "b"])
-            with unittest.mock.patch.object(root, "has", return_value=True):
+            with unittest.mock.patch.object(places.os, "access", return_value=True):
                 self.assertTrue(root.folds())
             self.assertEqual([*self.root.iterdir()], [])
 

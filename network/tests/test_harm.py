@@ -2,6 +2,7 @@
 import asyncio
 import contextlib
 import pathlib
+import sqlite3
 import tempfile
 import threading
 import time
@@ -13,12 +14,13 @@ from unittest import mock
 from ledger_case import FOUNDED, registration
 from walrus import client, fairness, port
 from walrus.frames import answer
-from walrus.network import figures, node, recovery
+from walrus.network import figures, recovery, scrub, state
 from walrus.network.entries import Chain, Entry
 from walrus.network.figures import NodePort
 from walrus.network.follower import News, Recorders, View
 from walrus.network.node import Node
 from walrus.network.peers import FIGURES
+from walrus.network.scrub import Scrub
 from walrus.network.settings import Settings
 from walrus.network.state import State
 from walrus.network.store import Store
@@ -38,57 +40,125 @@ class Turns(TurnCase):
 
     async def asyncSetUp(self) -> None:
         await super().asyncSetUp()
-        self.store, self.state = Store(self.folder / "a.db"), State()
+        self.store, self.state = Store(self.folder / "a.db"), State(str(self.folder / "a.ledger"), 2)
         self.addCleanup(self.store.close)
+        self.node = self.made()
+
+    def made(self) -> Any:
+        """A node over that disk and that ledger."""
         made: Any = types.SimpleNamespace(ledger=self.state.ledger, store=self.store, sides={}, shards=lambda epoch: {})
-        made.name, made.judges = "node-0", types.SimpleNamespace(least=1)
-        made.scrub = types.SimpleNamespace(left=asyncio.Event())
+        made.name, made.judges, made.turned = "node-0", types.SimpleNamespace(least=1), None
+        made.scrub = types.SimpleNamespace(left=asyncio.Event(), node=made)
+        made.scrub.expire = types.MethodType(Scrub.expire, made.scrub)
         for name in ("apply", "turn", "epochs"):
             setattr(made, name, types.MethodType(getattr(Node, name), made))
-        self.node = made
+        return made
 
-    async def enter(self, texts: list[str]) -> int:
-        """Enters what comes next; how often others had their turn meanwhile."""
-        turns, over = 0, False
+    def start(self, name: str) -> None:
+        """Has another node over that disk, and over a ledger by its name."""
+        self.state.close()
+        self.state = State(str(self.folder / name), 2)
+        self.addCleanup(self.state.close)
+        self.node = self.made()
 
-        async def others() -> None:
-            nonlocal turns
-            while not over:
-                await asyncio.sleep(0)
-                turns += 1
+    async def enter(self, texts: list[str]) -> None:
+        """Enters what comes next, and saves it."""
+        entries = (self.state.chain or Chain(0, bytes(32))).followed(texts)
+        await self.node.apply(entries)
+        self.state.save((self.state.chain or Chain(0, bytes(32))).behind(texts), entries)
 
-        other = asyncio.create_task(others())
-        await asyncio.sleep(0)
-        before, place = turns, self.state.ledger.revision
-        await self.node.apply([Entry(place + it, text) for it, text in enumerate(texts, 1)])
-        found, over = turns - before, True
-        await other
-        return found
+    def held(self, names: list[bytes]) -> list[bool]:
+        """Whether the disk has something of each of these blobs."""
+        return [bool(self.store.sizes(1, 1, name)) for name in names]
 
-    async def test_others_are_served_while_many_blobs_expire(self) -> None:
-        self.enterContext(mock.patch.object(node, "AT_ONCE", 50))
+    async def test_others_are_served_and_the_ledger_is_heard_while_many_blobs_expire(self) -> None:
+        self.enterContext(mock.patch.object(scrub, "AT_ONCE", 50))
         ends = [registration("x", it, 1) for it in range(1_000)]
         stays = [registration("x", it) for it in (7_000, 7_001)]
         await self.enter([FOUNDED, *ends, *stays])
         names = [bytes.fromhex(it.split("/")[2]) for it in (*ends[:3], ends[-1], *stays)]
         for name in names:
             self.store.put(1, 0, name, 0, b"metadata", None)
-        with mock.patch.object(self.state.blobs, "ending") as ending:
-            await self.enter([BEGUN])  # for which nothing ends
-        self.assertFalse(ending.called)
-        self.assertEqual(self.store.counts()["blobs"], 6)
-        found, usual = list[set[int]](), self.store.expire
+        await self.enter([BEGUN])  # for which nothing ends
+        self.assertEqual((self.store.counts()["blobs"], self.state.blobs.over(9)), (6, []))
+        await self.enter(OVER)
+        self.assertEqual((self.node.epochs(), {*self.node.sides}, len(self.state.blobs)), ([1], {1}, 2))
+        self.assertTrue(self.node.scrub.left.is_set())
+        found, usual = list[int](), self.store.expire
 
-        def expire(some: list[bytes]) -> None:
-            found.append({*self.node.sides})
-            usual(some)
+        def expire(some: list[bytes], before: int) -> None:
+            found.append(len(some))
+            usual(some, before)
 
         with mock.patch.object(self.store, "expire", expire):
-            self.assertGreaterEqual(await self.enter(OVER), 20)
-        self.assertEqual(found, [{1}] * 20)  # the committee of now serves, and the one before no more
-        held = [bool(self.store.sizes(1, 1, name)) for name in names]
-        self.assertEqual(held, [False] * 4 + [True] * 2)
-        self.assertEqual(self.state.ledger.epoch, 1)
+            expiring = asyncio.create_task(self.node.scrub.expire())
+            while len(found) < 3:
+                await asyncio.sleep(0)
+            await self.enter([registration("x", 8_000)])
+            self.assertEqual((expiring.done(), len(self.state.blobs)), (False, 3))
+            await expiring
+        self.assertEqual((found, self.state.blobs.over(9)), ([50] * 20, []))
+        self.assertEqual(self.held(names), [False] * 4 + [True] * 2)
+
+    async def test_what_is_over_goes_behind_a_start_too_and_anew_it_begins_without_parts(self) -> None:
+        ends = [registration("x", it, 1) for it in range(3)]
+        names = [bytes.fromhex(it.split("/")[2]) for it in ends]
+        await self.enter([FOUNDED, *ends])
+        for name in names:
+            self.store.put(1, 0, name, 0, b"metadata", None)
+        await self.enter([BEGUN, *OVER])
+        self.start("a.ledger")
+        await self.node.turn()
+        self.assertEqual((sorted(self.state.blobs.over(9)), self.held(names)), (names, [True] * 3))
+        killed = "killed.ledger", "killed-too.ledger"
+        for name in killed:
+            with contextlib.closing(sqlite3.connect(self.folder / name)) as copy:
+                self.state.base.execute("COMMIT")
+                self.state.base.backup(copy)
+                self.state.base.execute("BEGIN IMMEDIATE")
+        await self.enter([registration("x", 1)])
+        self.assertEqual((self.held(names), names[1] in self.state.blobs), ([True, False, True], True))
+        self.store.put(1, 1, names[1], 0, b"metadata", None)
+        await self.enter([registration("x", 1, 7)])
+        await self.node.scrub.expire()
+        self.assertEqual((self.held(names), self.state.blobs.over(9)), ([False, True, False], []))
+        for name in killed:  # which have not kept that it was registered anew
+            self.start(name)
+            await self.node.turn()
+            if name == killed[0]:
+                await self.node.scrub.expire()
+            await self.enter([registration("x", 1)])
+            self.assertEqual((self.held(names), names[1] in self.state.blobs), ([False, True, False], True))
+
+    async def test_a_turn_costs_a_ledger_the_same_however_many_blobs_end_with_it(self) -> None:
+        self.enterContext(mock.patch.object(state, "DROPPED", 10))
+        steps = dict[tuple[int, int], int]()
+        for tail in (0, 2):
+            for count in (50, 5_000):
+                kept, chain = State(tail=tail), Chain(0, bytes(32))
+
+                def enter(texts: list[str]) -> int:
+                    """Enters and saves what comes next; the hundreds of steps of SQLite that it took."""
+                    nonlocal chain
+                    took, entries = list[None](), chain.followed(texts)
+                    chain = chain.behind(texts)
+                    kept.base.set_progress_handler(lambda: took.append(None), 100)
+                    for entry in entries:
+                        self.assertIsNotNone(kept.ledger.apply(entry))
+                    kept.save(chain, entries)
+                    kept.base.set_progress_handler(None, 1)
+                    return len(took)
+
+                enter([FOUNDED, *(registration("x", it, 1) for it in range(count)), registration("y", count), BEGUN])
+                enter(OVER[:-1])
+                steps[tail, count] = enter(OVER[-1:])
+                self.assertEqual(([*kept.blobs], +kept.ledger.posted), ([count.to_bytes(32, "big")], {"y": 1}))
+                for _ in range(4):
+                    enter([])
+                self.assertEqual(len(kept.blobs.over(count)), count if tail else count - 50)
+                kept.close()
+        for tail in (0, 2):
+            self.assertLess(steps[tail, 5_000], 2 * steps[tail, 50] + 10, steps)
 
     async def test_of_what_is_held_a_handover_asks_the_ledger_nothing(self) -> None:
         owed, asked = [it.to_bytes(32, "big") for it in range(100)], mock.Mock()
@@ -122,6 +192,14 @@ class Figures(TurnCase):
             while told.counting:
                 await told.count()
         self.assertEqual((told.held["blobs"], told.due > time.monotonic()), (2, True))
+
+    async def test_a_count_that_fails_is_made_again(self) -> None:
+        asked = mock.AsyncMock(side_effect=[sqlite3.DatabaseError("a page is torn"), {"blobs": 1}])
+        told = NodePort(mock.MagicMock(store=mock.Mock(asked=asked)), port.Bounds())
+        for held in ({}, {"blobs": 1}):
+            told.due = 0.0
+            await told.count()
+            self.assertEqual(told.held, held)
 
 
 class Halves(TurnCase):
@@ -169,6 +247,15 @@ class Places(unittest.IsolatedAsyncioTestCase):
         await asyncio.gather(*waiting, return_exceptions=True)
         self.assertEqual((order, places.waiting), ([*"xababb"], {}))
 
+    async def test_of_who_gives_up_nothing_is_kept_while_others_have_their_places(self) -> None:
+        places = fairness.Fair(1)
+        await places.acquire("x")
+        for _ in range(3):
+            with self.assertRaises(TimeoutError):
+                async with asyncio.timeout(0.01):
+                    await places.acquire("a")
+        self.assertEqual(places.waiting, {})
+
 
 class Ports(unittest.IsolatedAsyncioTestCase):
     """A port whose clients come from several addresses of this machine."""
@@ -198,6 +285,16 @@ class Ports(unittest.IsolatedAsyncioTestCase):
         async with asyncio.timeout(60):
             while not holds():
                 await asyncio.sleep(0.01)
+
+    async def test_of_who_has_many_addresses_of_a_network_a_line_a_minute_is_told(self) -> None:
+        said = list[str]()
+        self.made.say = said.append
+        for host in ("2001:db8:1:2::3", "2001:db8:1:2::4", "2001:db8:1:3::3", "192.0.2.1", "192.0.2.2"):
+            wire = mock.Mock()
+            wire.get_extra_info.return_value = (host, 1)
+            client_ = port.Connection(mock.Mock(), wire)
+            self.made.tell(f"client {client_} is cut off", "Fault", client_)
+        self.assertEqual(len(said), 4)
 
     async def test_nobody_waits_behind_all_that_one_address_asks(self) -> None:
         for number in range(6):

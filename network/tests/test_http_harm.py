@@ -2,7 +2,9 @@
 import asyncio
 import collections
 import contextlib
+import gc
 import hashlib
+import mmap
 import os
 import socket
 import tarfile
@@ -10,6 +12,7 @@ import threading
 import time
 import tracemalloc
 import unittest
+import weakref
 from typing import Any, AsyncIterator, Coroutine
 from unittest import mock
 
@@ -25,7 +28,7 @@ from walrus.network import source, turns, unfinished, whole
 from walrus.network.client import Network
 from walrus.network.exposure import Options
 from walrus.network.local import free_port
-from walrus.network.manifest import Place
+from walrus.network.manifest import MARK, Place
 
 LATER = {"Upload-Complete": "?0"}
 
@@ -67,6 +70,20 @@ class Harm(GuardCase):
             self.assertEqual((await self.begin(**carol), await self.begin(**bob)), (201, 503))
             counts = collections.Counter(path.name[:16] for path in self.folder.glob("tokens.uploads/*"))
             self.assertEqual(sorted(counts.values()), [1, 1, 2, 2])  # the two who had three gave one each
+
+    async def test_addresses_that_send_nothing_leave_places_for_another_one(self) -> None:
+        """Else four of them keep all others from it for a day, with a request each now and then."""
+        kept, about = unfinished.Unfinished(self.folder / "many"), {"until": 9, "epoch": 0, "length": None}
+        with mock.patch.object(unfinished, "ALL", 8):
+            for owner in ("address 192.0.2.1", "address 192.0.2.2") * 2:
+                kept.create(owner, about)
+            with self.assertRaises(problems.Problem) as raised:
+                kept.create("address 192.0.2.3", about)
+            self.assertEqual(raised.exception.status, 503)
+            for path in self.folder.glob("many/*/about"):
+                os.utime(path, (time.time() - 700, time.time() - 700))
+            kept.create("address 192.0.2.3", about)
+            self.assertEqual(len(kept.sweep()), 4)
 
     async def test_what_one_finished_is_known_and_costs_the_next_little(self) -> None:
         await self.start()
@@ -126,7 +143,7 @@ class Harm(GuardCase):
             waiting.append(asyncio.create_task(self.have(places.take("b"))))
         async with asyncio.timeout(30):
             await asyncio.gather(*waiting)
-        self.assertEqual((len(places.waits), together.groups), (0, {}))
+        self.assertEqual((len(places.own), together.groups), (0, {}))
 
     @staticmethod
     async def have(place: contextlib.AbstractAsyncContextManager[None]) -> None:
@@ -208,6 +225,55 @@ class Harm(GuardCase):
             _, writer = await self.connect(asked + head + b"\r\n")
             self.assertTrue(await self.is_ended(writer, data, 400))
 
+    async def test_of_one_who_asks_and_goes_away_few_requests_are_answered(self) -> None:
+        """They go on without their clients, as long as what they wait for: of those who are connected there are few."""
+        alice = self.token("alice")
+        self.token("anyone", "read")
+        await self.start(connections=8)
+        goes_on, asked = asyncio.Event(), list[str]()
+        self.addCleanup(goes_on.set)
+
+        async def wait(request: web.Request, _: bytes) -> web.Response:
+            asked.append(turns.owner_of(request))
+            await goes_on.wait()
+            return web.Response()
+
+        self.enterContext(mock.patch.object(self.gateway.reader, "answer", wait))
+        path = f"/v1/blobs/{'0' * 64}"
+        for _ in range(24):
+            _, writer = await self.connect(f"GET {path} HTTP/1.1\r\nHost: 127.0.0.1:{self.port}\r\n\r\n".encode())
+            await asyncio.sleep(0.05)
+            writer.transport.abort()
+        async with asyncio.timeout(30):
+            status, headers, told = await self.ask("GET", path)
+        self.assertEqual((status, headers["retry-after"], len(asked)), (429, "5", 8), told)
+        task = asyncio.create_task(self.ask("GET", path, headers=alice))
+        async with asyncio.timeout(30):
+            while asked[-1] != "token alice":
+                await asyncio.sleep(0.01)
+        goes_on.set()
+        self.assertEqual((await task)[0], 200)
+        self.assertEqual(((await self.ask("GET", path))[0], self.gateway.guard.crowd.counts), (200, {}))
+
+    async def test_of_those_who_wait_for_an_upload_one_looks_whether_it_is_free(self) -> None:
+        await self.start()
+        path = (await self.ask("POST", "/v1/uploads?epochs=1", headers=LATER))[1]["location"]
+        kept, name = self.gateway.uploads.kept, path.rpartition("/")[2]
+        usual, looked = kept.lock, set["asyncio.Task[Any] | None"]()
+
+        def look(*words: str) -> Any:
+            looked.add(asyncio.current_task())
+            return usual(*words)
+
+        held = kept.lock("address 127.0.0.1", name)
+        assert held
+        with held, mock.patch.object(kept, "lock", look):
+            asked = [asyncio.create_task(self.ask("HEAD", path)) for _ in range(10)]
+            await asyncio.sleep(3)
+            self.assertEqual(len(looked), 1)
+        async with asyncio.timeout(30):
+            self.assertEqual([status for status, _, _ in await asyncio.gather(*asked)], [200] * 10)
+
     async def test_who_takes_no_reply_is_let_go(self) -> None:
         self.enterContext(mock.patch.multiple(connections, GRACE=0.5, LEAST=10**9))
         await self.start()
@@ -233,6 +299,41 @@ class Harm(GuardCase):
                 status, headers, _ = await self.ask("GET", f"/v1/blobs/{name}", headers=wanted)
                 self.assertEqual((status, "repr-digest" in headers), (206, True))
         self.assertEqual(computed.call_count, 1)
+
+    async def test_of_a_malformed_manifest_nothing_stays_but_why(self) -> None:
+        """Else each keeps as much of the disk as it had, and 128 are known."""
+        await self.start()
+        made = list["weakref.ref[mmap.mmap]"]()
+
+        class Map(mmap.mmap):
+            def __init__(self, *_: Any, **words: Any) -> None:
+                made.append(weakref.ref(self))
+
+        for front in (MARK, b"none"):
+            name = self.keep(front + bytes(70_000))
+            with mock.patch.object(shelf.mmap, "mmap", Map):
+                found = [(await self.ask("GET", f"/v1/folders/{name}/"))[0] for _ in range(2)]
+            self.assertEqual(found, [410 if front == MARK else 404] * 2)
+            self.assertIn(bytes.fromhex(name), self.gateway.shelf.kept)
+        gc.collect()
+        self.assertEqual([it() for it in made], [None])
+
+    async def test_a_disk_that_is_slow_with_a_manifest_holds_up_nobody(self) -> None:
+        await self.start()
+        name, wrote = self.keep(MARK + b"".join(b"%08d\ta/b\t0\t-\n" % it for it in range(9_000))), list[int]()
+        usual = shelf.tempfile.TemporaryFile
+
+        def opened(**words: Any) -> Any:
+            file, out = usual(**words), mock.MagicMock()
+            out.__enter__.return_value = out
+            out.tell, out.fileno = file.tell, file.fileno
+            out.write = lambda data: wrote.append(threading.get_ident()) or file.write(data)
+            return out
+
+        with mock.patch.object(shelf.tempfile, "TemporaryFile", opened):
+            status, _, told = await self.ask("GET", f"/v1/folders/{name}/", headers={"Accept": "application/json"})
+        self.assertEqual((status, len(told["entries"]), len(wrote)), (200, 9_000, 1), told)
+        self.assertNotIn(threading.main_thread().ident, wrote)
 
     async def test_long_lists_of_folders_are_made_beside_what_others_ask(self) -> None:
         await self.start()
@@ -338,13 +439,34 @@ class Readings(unittest.IsolatedAsyncioTestCase):
         await self.settle(open_folder("a", "folder of a"), open_folder("b", "folder of b"))
         self.assertEqual(self.read[8:], ["folder of a", "folder of b"])
 
+    async def test_who_asks_for_many_lengths_leaves_the_shards_to_others(self) -> None:
+        """Each exchange with a shard has one of a few lanes, which all have in the order in which they come."""
+        asked, known = list[bytes](), self.reader.lengths.known
+
+        async def ask(name: bytes) -> int:
+            asked.append(name)
+            await self.goes_on["length"].wait()
+            return 9
+
+        async def look(whom: str, number: int) -> Any:
+            turns.ASKING.set(whom)
+            return await self.reader.length_alone(mock.Mock(method="HEAD", headers={}), number.to_bytes(32, "big"))
+
+        self.enterContext(mock.patch.object(self.reader.lengths, "ask", ask))
+        begun = await self.settle(*(look("a", it) for it in range(20)), look("b", 20))
+        self.assertEqual((len(asked), asked[-1][-1]), (9, 20))
+        known[bytes(32)] = 7
+        self.assertEqual(await look("a", 0), 7)  # what is known needs no place
+        self.goes_on["length"].set()
+        self.assertEqual(await asyncio.gather(*begun), [9] * 21)
+
     async def test_what_is_read_ahead_leaves_a_place_for_what_is_wanted_now(self) -> None:
         await self.settle(*(self.have("a", str(it)) for it in range(5)))
         turns.ASKING.set("a")
         self.reader.read_ahead((f"piece {it}".encode(), 9, 0, 9) for it in range(4))
         await self.settle(self.have("a", "now"))
         self.assertEqual(self.read[5:], ["piece 0", "piece 1", "now"])
-        self.assertEqual(self.reader.readings.waits, {})
+        self.assertEqual([it.waiting for it in self.reader.readings.own.values()], [{}])  # but for places
 
 
 class Tars(unittest.IsolatedAsyncioTestCase):
@@ -382,7 +504,7 @@ class AtNodes(unittest.IsolatedAsyncioTestCase):
     async def test_a_blob_that_comes_again_costs_the_ledger_nothing(self) -> None:
         node, shard, came = mock.MagicMock(), mock.MagicMock(epoch=3), mock.MagicMock(identifier=bytes(32))
         node.name = "node-0"
-        shard.put_whole, node.durable = mock.AsyncMock(return_value=[answer(client.COUNTS[0])]), mock.AsyncMock()
+        shard.put_whole, node.store.durable = mock.AsyncMock(return_value=[answer(client.COUNTS[0])]), mock.AsyncMock()
         ledger_hears, posted = asyncio.Event(), list[str]()
 
         def leave(text: str) -> "asyncio.Future[int]":

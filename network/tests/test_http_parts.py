@@ -1,11 +1,15 @@
 """The parts of the gateway that need no network: ranges, lists of pieces, and the cache."""
 import asyncio
+import contextlib
+import gc
 import io
 import pathlib
 import random
 import sys
 import traceback
+import tracemalloc
 import unittest
+import weakref
 from unittest import mock
 
 import aiohttp
@@ -19,7 +23,7 @@ from walrus import client  # noqa: E402
 from walrus.codes import Code  # noqa: E402
 from walrus.executable import refusal  # noqa: E402
 from walrus.network import chunks, forms, groups, pieces, problems, ranges, transfers  # noqa: E402
-from walrus.network.cache import EXTRA, Cache  # noqa: E402
+from walrus.network.cache import EXTRA, TIMES, Cache  # noqa: E402
 from walrus.network.exposure import Options  # noqa: E402
 from walrus.network.reading import Pace, Reader  # noqa: E402
 from walrus.network.source import Source  # noqa: E402
@@ -211,6 +215,10 @@ class Forms(unittest.IsolatedAsyncioTestCase):
                 self.assertIn(problem.status, (400, 415))
 
 
+class Seen:
+    """What a call has, and should be gone once the call has ended."""
+
+
 class Caches(unittest.IsolatedAsyncioTestCase):
     """A cache with room for two blobs that are being read."""
 
@@ -263,6 +271,38 @@ class Caches(unittest.IsolatedAsyncioTestCase):
                 await self.want(b"never a bundle")
         self.assertEqual(self.reads, [b"never", b"never a bundle"])
         self.assertEqual(set(lengths[1:]), {lengths[1]})  # what was raised before is not kept with it
+
+    async def test_with_a_refusal_nothing_stays_of_what_was_read_nor_of_who_asked(self) -> None:
+        """Else who asks for the members of what is no bundle fills the memory, a column of it for each number."""
+        seen = list["weakref.ref[Seen]"]()
+
+        async def read(identifier: bytes, size: int) -> bytes:
+            column = Seen()
+            seen.append(weakref.ref(column))
+            raise refusal(3, b"in other words\n", {}, Code.BAD_INDEX)
+
+        async def ask() -> None:
+            request = Seen()
+            seen.append(weakref.ref(request))
+            with contextlib.suppress(client.NoBundle):  # and not assertRaises, which clears the frames itself
+                await self.want(b"never a bundle")
+
+        with mock.patch.object(self.cache, "read", read):
+            for _ in range(2):
+                await asyncio.create_task(ask())
+        gc.collect()
+        self.assertEqual([it() for it in seen], [None] * 3)
+
+    async def test_what_is_small_takes_the_room_of_its_memory(self) -> None:
+        async def read(identifier: bytes, size: int) -> bytes:
+            return b"little"
+
+        self.enterContext(mock.patch.object(self.cache, "read", read))
+        tracemalloc.start()
+        self.addCleanup(tracemalloc.stop)
+        for it in range(5_000):
+            await self.want(f"{it:08}".encode())
+        self.assertLess(tracemalloc.get_traced_memory()[0], 2 * self.cache.room / TIMES)
 
     async def test_its_size_stays_in_bounds_and_who_waits_is_served(self) -> None:
         names = [f"{it:08}".encode() for it in range(5_000)]

@@ -89,14 +89,22 @@ class Slow(GatewayCase):
         self.enterContext(mock.patch("walrus.shards.LEAST", 20.0))  # a busy machine is not taken for a late node
         self.enterContext(mock.patch("walrus.shards.MOST", 20.0))
         names = [(await self.network.store(DRAWN.randbytes(600_000), 5)).identifier for _ in range(5)]
-        before = self.network.peers.heard
+        heard, hear_one = 0, client.Shard.hear_one
+
+        async def counted(*words: Any) -> client.Reply:
+            nonlocal heard
+            reply = await hear_one(*words)
+            heard += sum(map(len, reply.kept.values()))
+            return reply
+
+        self.enterContext(mock.patch.object(client.Shard, "hear_one", counted))
         for name in names:
             self.assertEqual(len(await self.network.fetch(name)), 600_000)
         needed = (
             len(names) * 2 * (40 + 3 * 200_000 // 2)
         )  # f+1 primary slivers, of 2f+1 symbols, a sixth of a blob each
-        self.assertGreaterEqual(self.network.peers.heard - before, needed)
-        self.assertLessEqual(self.network.peers.heard - before, 1.1 * needed)
+        self.assertGreaterEqual(heard, needed)
+        self.assertLessEqual(heard, 1.1 * needed)
 
     async def moves_on(self, useless: str) -> None:
         """Files go in and out beside a node that is no use. Each store but the first one waits for the others alone,

@@ -385,6 +385,43 @@ class Refused(UploadCase):
             self.assertEqual((await self.go_on(path, 5, b"678", end=True))[0], 201)
         self.assertEqual(self.blobs, [b"12345678"])
 
+    async def test_an_upload_leaves_the_reserve_of_the_disk_free(self) -> None:
+        await self.start()
+        disk = mock.Mock(f_frsize=1, f_blocks=20_000, f_bavail=1_001)  # of which 1,000 bytes stay free
+        self.enterContext(mock.patch.object(pieces.os, "statvfs", lambda _: disk))
+        status, _, told = await self.begin(b"x")
+        self.assertEqual((status, list(self.folder.glob("tokens.uploads/*"))), (507, []))
+        self.assertIn("too little room on its disk", told["error"]["text"])
+        disk.f_bavail, data = 1_700, os.urandom(1_200)
+        path = (await self.begin(data[:600]))[1]["location"]
+        status, headers, told = await self.go_on(path, 600, data[600:], end=True)  # the first 400 bytes fit
+        self.assertEqual((status, headers["upload-offset"]), (201, "1200"), told)
+        path = (await self.begin(data[:600]))[1]["location"]
+        disk.f_bavail = 1_300
+        status, headers, told = await self.go_on(path, 600, data[600:], end=True)
+        self.assertEqual((status, headers["upload-offset"]), (507, "600"))
+        self.assertIn("what has come of an upload stays", told["error"]["text"])
+        disk.f_bavail = 2_000
+        status, _, told = await self.go_on(path, 600, data[600:], end=True)
+        self.assertEqual((status, told["blobId"]), (200, self.name_of(data)))
+
+    async def test_what_could_not_begin_has_no_place(self) -> None:
+        await self.start()
+        with mock.patch.object(unfinished, "write", mock.Mock(side_effect=OSError(28, "No space left on device"))):
+            self.assertEqual([(await self.begin())[0] for _ in range(unfinished.OF_ONE + 1)], [503] * 9)
+        self.assertEqual(list(self.folder.glob("tokens.uploads/*")), [])
+        self.assertEqual((await self.begin())[0], 201)
+
+    async def test_a_piece_of_which_nothing_came_is_no_part_of_the_file(self) -> None:
+        await self.start()
+        data = os.urandom(1_000)
+        path = (await self.begin(data))[1]["location"]
+        with mock.patch.object(unfinished, "write", mock.Mock(side_effect=OSError(28, "No space left on device"))):
+            status, headers, _ = await self.go_on(path, 1_000, b"more")
+        self.assertEqual((status, headers["upload-offset"]), (503, "1000"))
+        status, _, told = await self.go_on(path, 1_000, b"", end=True)
+        self.assertEqual((status, told["blobId"], told["pieces"]), (201, self.name_of(data), 1))
+
     async def test_a_slow_disk_holds_up_nobody_else(self) -> None:
         await self.start()
         path, entered, goes_on = (await self.begin())[1]["location"], threading.Event(), threading.Event()

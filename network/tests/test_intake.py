@@ -13,7 +13,7 @@ from test_shard import LARGE, ShardCase
 from walrus import client
 from walrus.envelopes import parts
 from walrus.frames import code_of
-from walrus.network import judge, shard
+from walrus.network import judge, recovery, shard
 from walrus.network.files import Files
 from walrus.network.intake import Intake
 from walrus.network.judge import Judges, Unjudged
@@ -80,7 +80,7 @@ class GivenUp(ShardCase):
             asked.wait()
             raise Unjudged("walrus serve ended")
 
-        self.enterContext(mock.patch.object(self.judges, "here", lambda size: False))
+        self.enterContext(mock.patch.object(judge, "SHORT", 0))
         with mock.patch.object(type(self.judges.engine), "run", run):
             await self.nothing_stays(self.shard.put_whole(whole), lambda _: asked.set(), Unjudged)
         self.assertEqual(code_of(await self.shard.put_whole(whole)), 13)
@@ -98,8 +98,7 @@ class Told(ShardCase):
         )
         self.node.port = types.SimpleNamespace(shape=client.Shape(1))
         self.node.recorders = types.SimpleNamespace(leave=self.leave)
-        for name in ("durable", "route"):
-            setattr(self.node, name, types.MethodType(getattr(Node, name), self.node))
+        self.node.route = types.MethodType(Node.route, self.node)
         self.node.intake = Intake(self.node)
         self.addAsyncCleanup(self.node.intake.close)
 
@@ -140,6 +139,36 @@ class Told(ShardCase):
         self.assertEqual((self.node.posted, self.shard.lacks(whole.identifier)), ([], [0, 1, 2]))
         again = await Node.reply(self.node, 0, self.request(whole))  # type: ignore[arg-type]
         self.assertEqual(again.parts, said.parts)
+
+    async def test_no_word_is_given_for_what_is_lost_while_it_is_judged(self) -> None:
+        """Else the ledger certifies a blob of which this node has nothing."""
+        assert self.store
+        whole, ask, lose = await self.whole(250), self.judges.ask, self.store.lose
+        self.assertEqual(code_of(await self.shard.put(bytes(whole.parts[0]))), client.DONE)  # so it is not new later
+
+        async def judged(size: int, step: Any, request: bytes, *words: Any) -> Any:
+            if request == whole.wish:
+                lose(OSError(errno.ENOSPC, "No space left on device"))
+            return await ask(size, step, request, *words)
+
+        with mock.patch.object(self.judges, "ask", judged):
+            said = await Node.reply(self.node, 0, self.request(whole))  # type: ignore[arg-type]
+        [(_, payload)] = client.split(b"".join(said.parts))
+        await turns()
+        self.assertEqual((payload[:2], self.node.posted), (bytes([0x30, shard.FULL]), []))
+        self.assertEqual(self.shard.lacks(whole.identifier), [0, 1, 2])
+
+    async def test_a_node_is_not_ready_by_what_is_not_on_the_disk_yet(self) -> None:
+        assert self.store
+        whole, flush = await self.whole(250), self.store.flush
+        self.enterContext(mock.patch.object(self.store, "flush"))
+        for ends, left in ((lambda: self.store.lose(OSError(errno.ENOSPC, "it is full")), 1), (flush, 0)):
+            await self.shard.put_whole(whole)
+            settling = asyncio.create_task(recovery.settle(self.node, 0, [whole.identifier]))
+            await turns()
+            self.assertFalse(settling.done())
+            ends()
+            self.assertEqual(await settling, left)
 
     async def test_what_is_refused_waits_for_no_disk(self) -> None:
         assert self.store

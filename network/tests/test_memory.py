@@ -424,19 +424,14 @@ class Cancelled(unittest.IsolatedAsyncioTestCase):
         async def accept(other: wire.Wire) -> None:
             accepted.put_nowait(other)
 
-        async def connect(host: str, number: int, **words: object) -> wire.Wire:
-            return await wire.connect(host, number)
-
         loop = asyncio.get_running_loop()
         server = await loop.create_server(lambda: wire.Wire(accept), "127.0.0.1", 0)
         self.addCleanup(server.close)
-        self.enterContext(mock.patch.object(peers, "connect", connect))
-        known = types.SimpleNamespace(seconds=60, context=None)
-        known.reach = lambda _, to: to(*server.sockets[0].getsockname())
+        known = types.SimpleNamespace(seconds=60, connect=lambda _: wire.connect(*server.sockets[0].getsockname()))
         seat = peers.Seat(known, "node-0", 0, 1)  # type: ignore[arg-type]
         sliver = Counted(8_000_000)
         seen = weakref.ref(sliver)
-        storing = asyncio.create_task(seat.ask([b"\x62", sliver]))  # type: ignore[list-item]
+        storing = asyncio.create_task(seat.exchange([[b"\x62", sliver]]))
         del sliver
         node = await accepted.get()
         self.addCleanup(node.transport.abort)

@@ -35,7 +35,7 @@ class Wire:
 class Storing(unittest.IsolatedAsyncioTestCase):
     async def asyncSetUp(self) -> None:
         self.wires = list[Wire]()
-        peers: Any = types.SimpleNamespace(seconds=30, heard=0)
+        peers: Any = types.SimpleNamespace(seconds=30)
         self.seat = Seat(peers, "node-2", 2, 1)
         self.enterContext(mock.patch.object(self.seat, "connection", self.connection))
 

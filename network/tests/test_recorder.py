@@ -657,7 +657,7 @@ class Heads(unittest.IsolatedAsyncioTestCase):
             for made in self.recorders:
                 self.tasks.append(asyncio.create_task(made.run()))
                 self.addCleanup(self.tasks[-1].cancel)
-                self.assertTrue(await made.news.until(lambda made=made: made.identity, 10))
+                self.assertTrue(await made.news.until(lambda made=made: made.state.identity, 10))
             self.assertEqual(await self.recorders[0].post([FOUNDED]), [1])
         for made in self.recorders:
             self.assertTrue(await made.news.until(lambda made=made: made.chain.place == 1, 10))
@@ -695,7 +695,7 @@ class Heads(unittest.IsolatedAsyncioTestCase):
                 found = [text for batch in batches for text in batch.entries]
                 self.assertEqual(found, texts[place:][: len(found)])
                 self.assertGreater(len(found), 0)
-                chain = Chain(0, bytes.fromhex(made.identity)).behind(texts[:place])
+                chain = Chain(0, bytes.fromhex(made.state.identity)).behind(texts[:place])
                 self.assertEqual(batches[0].before, chain)
                 told = [json.loads(batch.line) for batch in batches]
                 self.assertEqual([it["entries"] for it in told], [it.entries for it in batches])

@@ -76,6 +76,33 @@ class Challenges(unittest.IsolatedAsyncioTestCase):
         self.assertEqual([it.partition(":")[0] for it in lines], ["a challenge fails"] * count)
         self.assertEqual(lines[-1], "a challenge fails: ZeroDivisionError: unforeseen")
 
+    async def test_nodes_are_asked_while_a_blob_is_long_in_coming_and_whatever_it_comes_to(self) -> None:
+        learned, goes_on = list[object](), asyncio.Event()
+
+        async def learn(blobs: object) -> None:
+            learned.append(blobs)
+            await goes_on.wait()
+            raise RuntimeError("can't start new thread")
+
+        sorter: Any = types.SimpleNamespace(learn=learn, files=list)
+        watch = page.Watch(self.watch.network, pathlib.Path("authority"), 0.0001, 0, 60, sorter)
+        watch.peers = mock.AsyncMock()
+        self.addAsyncCleanup(watch.close)
+        await self.watch.close()
+        async with asyncio.timeout(30):
+            while not learned:
+                await asyncio.sleep(0.001)
+            before = self.asked
+            while self.asked < before + 100:
+                await asyncio.sleep(0.001)
+            self.assertEqual(len(learned), 1)
+            goes_on.set()
+            with contextlib.redirect_stderr(io.StringIO()) as said:
+                while len(learned) < 3:
+                    await asyncio.sleep(0.001)
+        self.assertIn("a blob's length is not known: can't start new thread", said.getvalue())
+        self.assertFalse(watch.task.done())
+
 
 class Storing(unittest.IsolatedAsyncioTestCase):
     """What a publisher stores at several nodes at once."""

@@ -9,28 +9,29 @@ from typing import AsyncIterator, TypeVar
 Waiter = TypeVar("Waiter")
 
 
-class Line(collections.OrderedDict[str, "collections.deque[Waiter]"]):
+class Line(collections.OrderedDict[str, "collections.OrderedDict[Waiter, None]"]):
     """Those who wait. One of each whom they are from comes first, then the second of each."""
 
     def add(self, whom: str, waiter: Waiter) -> None:
-        self.setdefault(whom, collections.deque()).append(waiter)
+        self.setdefault(whom, collections.OrderedDict())[waiter] = None
 
     def first(self) -> Waiter:
-        return next(iter(self.values()))[0]
+        return next(iter(next(iter(self.values()))))
 
     def take(self) -> Waiter:
         """Who is first, and waits no more; others of the same go behind all."""
         whom, waiters = self.popitem(last=False)
-        first = waiters.popleft()
+        first, _ = waiters.popitem(last=False)
         if waiters:
             self[whom] = waiters
         return first
 
     def drop(self, whom: str, waiter: Waiter) -> None:
-        """Has somebody wait no more, whose turn it is not yet."""
-        self[whom].remove(waiter)
-        if not self[whom]:
-            del self[whom]
+        """Has somebody wait no more, if he waits still."""
+        if waiters := self.get(whom):
+            waiters.pop(waiter, None)
+            if not waiters:
+                del self[whom]
 
 
 class Fair:
@@ -58,6 +59,7 @@ class Fair:
         except asyncio.CancelledError:
             if place.done() and not place.cancelled():  # it had just come
                 self.release()
+            self.waiting.drop(whom, place)  # or as many would be kept as give up while nobody gives a place back
             raise
 
     def release(self) -> None:
@@ -68,9 +70,8 @@ class Fair:
     def serve(self) -> None:
         """Gives the places that are free to those whose turn it is. Who waits no more costs nobody a turn."""
         while self.free and self.waiting:
-            whom, places = next(iter(self.waiting.items()))
-            if places[0].done():
-                self.waiting.drop(whom, places[0])
+            if (place := self.waiting.first()).done():
+                self.waiting.drop(next(iter(self.waiting)), place)
             else:
                 self.free -= 1
                 self.waiting.take().set_result(None)

@@ -82,8 +82,8 @@ class Port:
         self.server: Optional[asyncio.Server] = None
 
     def tell(self, text: str, kind: str, client: object = "") -> None:
-        """Says a line, and none of the same kind about the same host for a minute."""
-        now, key = time.monotonic(), (kind, str(client).rpartition(":")[0])
+        """Says a line, and none of the same kind about the same host, or network of one customer, for a minute."""
+        now, key = time.monotonic(), (kind, client.whom if isinstance(client, Connection) else "")
         if now - self.told.get(key, -QUIET) >= QUIET:
             self.told = {key: when for key, when in self.told.items() if now - when < QUIET} | {key: now}
             self.say(text)

@@ -8,8 +8,6 @@ from typing import Optional
 from aiohttp import web
 from aiohttp.abc import AbstractAccessLogger
 
-MONTHS = "Jan Feb Mar Apr May Jun Jul Aug Sep Oct Nov Dec".split()
-
 
 class CommonLog(AbstractAccessLogger):
     """Says ADDRESS - NAME [TIME] "REQUEST" STATUS BYTES of each request."""
@@ -25,7 +23,7 @@ class CommonLog(AbstractAccessLogger):
 
 def stamp() -> str:
     now = datetime.datetime.now(datetime.timezone.utc)
-    return f"[{now.day:02}/{MONTHS[now.month - 1]}/{now:%Y:%H:%M:%S} +0000]"
+    return f"[{now:%d/%b/%Y:%H:%M:%S} +0000]"
 
 
 def escaped(text: str) -> str:

@@ -5,21 +5,37 @@ import dataclasses
 import json
 import random
 import sqlite3
-from typing import Iterator, Mapping, Optional
+from typing import Iterable, Iterator, Mapping, Optional
 
 from .checkpoint import Row
 from .entries import ACK, ATTEST
 
 CACHED = 8_192  # blobs kept as read
-INDEXES = {"of_epoch": "until", "of_number": "number"}
-TABLES = """CREATE TABLE IF NOT EXISTS blobs (identifier BLOB PRIMARY KEY, number INTEGER, until INTEGER, poster TEXT,
-    votes TEXT, certified INTEGER, invalid INTEGER) WITHOUT ROWID;"""
-TABLES += "".join(f"CREATE INDEX IF NOT EXISTS {name} ON blobs ({column});" for name, column in INDEXES.items())
-ALL = "SELECT identifier, number, until, poster, votes, certified, invalid FROM blobs ORDER BY identifier"
-INSERT = "INSERT INTO blobs VALUES (?, ?, ?, ?, ?, ?, ?)"
-PUT = f"""{INSERT} ON CONFLICT (identifier) DO UPDATE SET until = excluded.until, poster = excluded.poster,
-    votes = excluded.votes, certified = excluded.certified, invalid = excluded.invalid"""
-ENDING = "SELECT identifier FROM blobs WHERE identifier > ? AND until <= ? ORDER BY identifier LIMIT ?"
+# SQLite counts how many blobs each poster has until each epoch: at a turn of the epoch none of them is read.
+COUNT = """INSERT INTO counts VALUES (new.until, new.poster, 1, new.certified NOTNULL, new.invalid NOTNULL)
+    ON CONFLICT DO UPDATE SET registered = registered + 1, certified = certified + excluded.certified,
+    invalid = invalid + excluded.invalid"""
+COUNT_ALL = """INSERT INTO counts SELECT until, poster, count(*), count(certified), count(invalid) FROM blobs
+    GROUP BY until, poster"""
+UNCOUNT = """UPDATE counts SET registered = registered - 1, certified = certified - (old.certified NOTNULL),
+    invalid = invalid - (old.invalid NOTNULL) WHERE until = old.until AND poster = old.poster"""
+TABLES = (
+    """CREATE TABLE IF NOT EXISTS blobs (identifier BLOB PRIMARY KEY, number INTEGER, until INTEGER, poster TEXT,
+    votes TEXT, certified INTEGER, invalid INTEGER) WITHOUT ROWID""",
+    """CREATE TABLE IF NOT EXISTS counts (until INTEGER, poster TEXT, registered INTEGER, certified INTEGER,
+    invalid INTEGER, PRIMARY KEY (until, poster)) WITHOUT ROWID""",
+    "CREATE INDEX IF NOT EXISTS of_epoch ON blobs (until)",
+    "CREATE INDEX IF NOT EXISTS of_number ON blobs (number, until)",
+    f"CREATE TRIGGER IF NOT EXISTS made AFTER INSERT ON blobs BEGIN {COUNT}; END",
+    f"CREATE TRIGGER IF NOT EXISTS changed AFTER UPDATE ON blobs BEGIN {UNCOUNT}; {COUNT}; END",
+)
+DERIVED = "INDEX of_epoch", "INDEX of_number", "TRIGGER made", "TRIGGER changed"  # made anew they cost less for many
+ALL = "SELECT * FROM blobs WHERE until > ? ORDER BY identifier"
+PUT = """INSERT INTO blobs VALUES (?, ?, ?, ?, ?, ?, ?) ON CONFLICT DO UPDATE SET
+    number = max(number, excluded.number), until = excluded.until, poster = excluded.poster, votes = excluded.votes,
+    certified = excluded.certified, invalid = excluded.invalid"""
+ENDING = """SELECT identifier FROM blobs WHERE identifier > ? AND until > ? AND until <= ?
+    ORDER BY identifier LIMIT ?"""
 Votes = Mapping[str, Mapping[int, frozenset[int]]]
 
 
@@ -59,42 +75,52 @@ def blob_of(until: int, poster: str, votes: str) -> Blob:
     return Blob(until, poster, {ACK: acks, ATTEST: attests})
 
 
-def ending_of(name: str, after: bytes, last: int, count: int) -> list[bytes]:
+def ending_of(name: str, *words: object) -> list[bytes]:
     """What `Blobs.ending` tells, of a database that another thread writes."""
     with contextlib.closing(sqlite3.connect(name)) as base:
-        return [it for it, in base.execute(ENDING, (after, last, count))]
+        return [it for it, in base.execute(ENDING, words)]
 
 
 class Blobs(Mapping[bytes, Blob]):
     """Blobs in a database, those last that were registered last, and some in memory too. What is set goes to the
-    database when something else is asked of it. `needed` are the shards of a quorum."""
+    database when something else is asked of it. `needed` are the shards of a quorum, `number` is that of the last blob.
+    What is kept until `epoch` at most is over: it is here no more, and its rows go by and by, so that a turn of the
+    epoch costs the same however many blobs end with it."""
 
-    needed = 1
+    needed, epoch, number = 1, 0, 0
 
     def __init__(self, base: Optional[sqlite3.Connection] = None):
         self.base = base or sqlite3.connect(":memory:", isolation_level=None)
-        self.base.executescript(TABLES)
-        self.kept, self.numbers = dict[bytes, Blob](), dict[bytes, int]()  # in memory; of those that were set since
-        self.absent = set[bytes]()  # some that are not there
-        self.sizes = {"registered": 0, "certified": 0, "invalid": 0, "number": 0}
+        self.make()
+        self.kept = dict[bytes, Optional[Blob]]()  # in memory; none if it is not there
+        self.numbers = dict[bytes, int]()  # of those that were set since, or 0 if they have one
+
+    def make(self) -> None:
+        for words in TABLES:
+            self.base.execute(words)
 
     def __getitem__(self, identifier: bytes) -> Blob:
         if identifier not in self.kept:
             words = "SELECT until, poster, votes FROM blobs WHERE identifier = ?"
-            row = None if identifier in self.absent else self.base.execute(words, (identifier,)).fetchone()
-            if row is None:
-                self.absent.add(identifier) if len(self.absent) < CACHED else self.absent.clear()
-                raise KeyError(identifier)
-            self.keep(identifier, blob_of(*row))
-        return self.kept[identifier]
+            row = self.base.execute(words, (identifier,)).fetchone()
+            self.keep(identifier, blob_of(*row) if row else None)
+        blob = self.kept[identifier]
+        if blob is None or blob.until <= self.epoch:
+            raise KeyError(identifier)
+        return blob
 
-    def keep(self, identifier: bytes, blob: Blob) -> None:
+    def keep(self, identifier: bytes, blob: Optional[Blob]) -> None:
         if len(self.kept) >= CACHED and identifier not in self.kept:
             self.flush()
             for some in [*self.kept][: CACHED // 4 + 1]:
                 del self.kept[some]
         self.kept[identifier] = blob
-        self.absent.discard(identifier)
+
+    def __setitem__(self, identifier: bytes, blob: Blob) -> None:
+        is_new = identifier not in self
+        self.number += is_new
+        self.keep(identifier, blob)
+        self.numbers.setdefault(identifier, self.number if is_new else 0)
 
     def flush(self) -> sqlite3.Connection:
         """The database once it has all that was set."""
@@ -104,96 +130,100 @@ class Blobs(Mapping[bytes, Blob]):
         return self.base
 
     def row(self, identifier: bytes, number: int) -> Row:
-        blob = self.kept[identifier]
+        blob = self[identifier]
         votes = json.dumps([coded(blob.votes[kind]) for kind in (ACK, ATTEST)], separators=(",", ":"))
         first = [(blob.quorum(kind, self.needed) or (None,))[0] for kind in (ACK, ATTEST)]
         return identifier, number, blob.until, blob.poster, votes, first[0], first[1]
 
-    def __setitem__(self, identifier: bytes, blob: Blob) -> None:
-        old = self.get(identifier)
-        for name, kind in (("certified", ACK), ("invalid", ATTEST)):
-            if not old or old.votes[kind] is not blob.votes[kind]:
-                was = bool(old and old.quorum(kind, self.needed))
-                self.sizes[name] += bool(blob.quorum(kind, self.needed)) - was
-        self.keep(identifier, blob)
-        if not old:
-            self.sizes["registered"] += 1
-            self.sizes["number"] += 1
-        self.numbers.setdefault(identifier, 0 if old else self.sizes["number"])
+    def names(self, words: str, *values: object) -> list[bytes]:
+        """The identifiers that are selected so."""
+        return [it for it, in self.flush().execute(f"SELECT identifier FROM blobs WHERE {words}", values)]
+
+    def ordered(self, by: str) -> Iterator[bytes]:
+        words = f"SELECT identifier FROM blobs WHERE until > ? ORDER BY {by}"
+        return (it for it, in self.flush().execute(words, (self.epoch,)))
 
     def __iter__(self) -> Iterator[bytes]:
-        return (it for it, in self.flush().execute("SELECT identifier FROM blobs ORDER BY number"))
+        return self.ordered("number")
 
     def __reversed__(self) -> Iterator[bytes]:
-        return (it for it, in self.flush().execute("SELECT identifier FROM blobs ORDER BY number DESC"))
+        return self.ordered("number DESC")
 
     def __len__(self) -> int:
-        return self.sizes["registered"]
+        return self.counts()["registered"]
 
     def page(self, after: bytes, count: int = 1_000) -> list[tuple[bytes, Blob]]:
         """Some blobs in the order of their identifiers, behind one of them."""
-        words = "SELECT identifier, until, poster, votes FROM blobs WHERE identifier > ? ORDER BY identifier LIMIT ?"
-        return [(row[0], blob_of(*row[1:])) for row in self.flush().execute(words, (after, count))]
+        words = "SELECT identifier, until, poster, votes FROM blobs WHERE identifier > ? AND until > ?"
+        rows = self.flush().execute(f"{words} ORDER BY identifier LIMIT ?", (after, self.epoch, count))
+        return [(row[0], blob_of(*row[1:])) for row in rows]
 
-    def expire(self, epoch: int) -> None:
-        """Drops what is kept until this epoch at most."""
-        words = "SELECT count(*), count(certified), count(invalid) FROM blobs WHERE until <= ?"
-        gone = self.flush().execute(words, (epoch,)).fetchone()
-        for name, count in zip(("registered", "certified", "invalid"), gone):
-            self.sizes[name] -= count
-        self.kept = {identifier: blob for identifier, blob in self.kept.items() if blob.until > epoch}
-        self.base.execute("DELETE FROM blobs WHERE until <= ?", (epoch,))
+    def expire(self, epoch: int) -> "collections.Counter[str]":
+        """From now on what is kept until this epoch at most is over; how many blobs each poster has then."""
+        self.flush().execute("DELETE FROM counts WHERE until <= ?", (epoch,))
+        self.epoch = epoch
+        return self.posters()
+
+    def over(self, count: int) -> list[bytes]:
+        """Some of what is over and still has its row."""
+        return self.names("until <= ? LIMIT ?", self.epoch, count)
+
+    def is_over(self, identifier: bytes) -> bool:
+        """Whether a blob is over and still has its row."""
+        words = "SELECT 1 FROM blobs WHERE identifier = ?"
+        return identifier not in self and bool(self.base.execute(words, (identifier,)).fetchone())
+
+    def drop(self, identifiers: Iterable[bytes]) -> None:
+        """Drops the rows of what is over."""
+        rows = ((identifier, self.epoch) for identifier in identifiers)
+        self.base.executemany("DELETE FROM blobs WHERE identifier = ? AND until <= ?", rows)
 
     def posters(self) -> "collections.Counter[str]":
         """How many blobs each poster has kept."""
-        words = "SELECT poster, count(*) FROM blobs GROUP BY poster"
-        return collections.Counter(dict(self.flush().execute(words)))
+        words = "SELECT poster, sum(registered) AS live FROM counts WHERE until > ? GROUP BY poster HAVING live"
+        return collections.Counter(dict(self.flush().execute(words, (self.epoch,))))
 
     def counts(self) -> dict[str, int]:
         """How many blobs there are, and how many of these are certified or declared invalid."""
-        return {name: self.sizes[name] for name in ("registered", "certified", "invalid")}
+        words = "SELECT total(registered), total(certified), total(invalid) FROM counts WHERE until > ?"
+        found = self.flush().execute(words, (self.epoch,)).fetchone()
+        return dict(zip(("registered", "certified", "invalid"), map(int, found)))
 
     def ending(self, after: bytes, last: int, count: int) -> list[bytes]:
         """Blobs in that order, behind one of them, that are kept until an epoch at most."""
-        return [it for it, in self.flush().execute(ENDING, (after, last, count))]
+        return [it for it, in self.flush().execute(ENDING, (after, self.epoch, last, count))]
 
     def owed(self, until: int, certified: int) -> list[bytes]:
         """Blobs in that order that are kept beyond an epoch, and were certified in another one or before."""
-        words = "SELECT identifier FROM blobs WHERE until > ? AND certified <= ? ORDER BY identifier"
-        return [it for it, in self.flush().execute(words, (until, certified))]
+        return self.names("until > ? AND certified <= ? ORDER BY identifier", until, certified)
 
     def draw(self, drawn: random.Random) -> Optional[bytes]:
         """Any blob."""
-        words = "SELECT identifier FROM blobs WHERE identifier >= ? ORDER BY identifier LIMIT 1"
-        for start in (drawn.randbytes(32), bytes(32)):
-            if found := self.flush().execute(words, (start,)).fetchone():
-                return bytes(found[0])
-        return None
+        words = "identifier >= ? AND until > ? ORDER BY identifier LIMIT 1"
+        found = self.names(words, drawn.randbytes(32), self.epoch) or self.names(words, bytes(32), self.epoch)
+        return found[0] if found else None
 
     def forget(self) -> None:
         """Forgets what was set and is not in the database."""
         self.kept.clear()
-        self.absent.clear()
         self.numbers.clear()
 
-    def take(self, rows: Iterator[Row]) -> list[bytes]:
-        """Has these blobs alone; those that were here and are no more."""
-        self.flush().execute("CREATE TEMP TABLE before AS SELECT identifier FROM blobs")
+    def take(self, rows: Iterator[Row]) -> None:
+        """Has these blobs alone; what was here and is no more is over."""
+        self.flush()
         self.forget()
-        self.base.execute("DELETE FROM blobs")
-        for name in INDEXES:  # made at once they cost less
-            self.base.execute(f"DROP INDEX {name}")
-        self.base.executemany(INSERT, rows)
-        for name, column in INDEXES.items():
-            self.base.execute(f"CREATE INDEX {name} ON blobs ({column})")
-        gone = self.base.execute("SELECT identifier FROM before WHERE identifier NOT IN (SELECT identifier FROM blobs)")
-        found = [it for it, in gone]
-        self.base.execute("DROP TABLE before")
-        return found
+        for name in DERIVED:
+            self.base.execute(f"DROP {name}")
+        self.base.execute("UPDATE blobs SET until = -1")
+        self.base.executemany(PUT, rows)
+        self.make()
+        self.base.execute("DELETE FROM counts")
+        self.base.execute(COUNT_ALL)
 
 
 class Over(Blobs):
-    """Blobs over others, which stay as they are; those of one identifier alone are asked for."""
+    """Blobs over others, which stay as they are; those of one identifier alone are asked for, up to a turn of the
+    epoch."""
 
     def __init__(self, below: Blobs):
         self.below, self.kept = below, {}
@@ -203,3 +233,6 @@ class Over(Blobs):
 
     def __setitem__(self, identifier: bytes, blob: Blob) -> None:
         self.kept[identifier] = blob
+
+    def expire(self, epoch: int) -> "collections.Counter[str]":
+        return collections.Counter()

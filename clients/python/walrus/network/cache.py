@@ -10,11 +10,12 @@ from .. import client
 
 from .pieces import is_away
 
-EXTRA = 1_024  # bytes that an entry costs beside its blob
 LEAST, TIMES = (
     8_388_608,
     64,
 )  # of the room: what a file takes at least; how much more a byte in memory takes than in one
+EXTRA = TIMES * 1_024  # of the room: what an entry takes beside its blob, as it is in memory
+LASTING = client.BadlyEncoded, client.NoBundle  # what is known of a blob once it was read
 
 
 @dataclasses.dataclass(eq=False)
@@ -45,7 +46,11 @@ class Cache:
             await self.freed.wait()
         entry.users += 1
         try:
-            yield await asyncio.shield(entry.task)
+            try:
+                blob = await asyncio.shield(entry.task)
+            except LASTING as fault:
+                raise afresh(fault) from None
+            yield blob
         finally:
             entry.users -= 1
             self.freed.set()
@@ -74,12 +79,16 @@ class Cache:
     async def load(self, identifier: bytes, size: int) -> bytes:
         async with self.turns:
             self.reads += 1
-            return await self.read(identifier, size)
+            try:
+                return await self.read(identifier, size)
+            except LASTING as fault:
+                told = afresh(fault)
+        raise told
 
     def loaded(self, identifier: bytes, task: "asyncio.Task[bytes]") -> None:
         entry, fault = self.entries[identifier], None if task.cancelled() else task.exception()
         self.size -= entry.size
-        if task.cancelled() or fault and not isinstance(fault, (client.BadlyEncoded, client.NoBundle)):
+        if task.cancelled() or fault and not isinstance(fault, LASTING):
             del self.entries[identifier]
         else:  # it is there, or no blob, which stays so
             entry.size = EXTRA + (0 if fault else cost_of(task.result()))
@@ -95,3 +104,9 @@ class Cache:
 def cost_of(blob: bytes) -> int:
     """The room that a blob takes."""
     return max(LEAST, len(blob)) if is_away(blob) else min(TIMES * len(blob), client.LARGEST_BLOB)
+
+
+def afresh(fault: client.Refused) -> client.Refused:
+    """The same fault without the calls that it came through: with one that is kept they would stay, and all that was
+    read."""
+    return type(fault)(fault.status, fault.text, fault.said, fault.code)

@@ -11,8 +11,6 @@ from .. import client
 from . import partial
 from .chunks import MARK, NAME, PIECE, File
 
-FORMATS = 1, 2
-
 
 class Naming:
     """Computes the identifier of a file that comes in parts, a piece at a time, in a format."""
@@ -55,15 +53,11 @@ async def is_named(file: IO[bytes], identifier: bytes, naming: Naming) -> bool:
     """Whether an identifier names a file, all of which `naming` was given; in another format the file is read again."""
     if identifier in await naming.identifiers():
         return True
-    for form in FORMATS:
-        if form != naming.form:
-            file.seek(0)
-            other = Naming(naming.walrus, naming.faults, form)
-            while part := file.read(PIECE):
-                await other.add(part)
-            if identifier in await other.identifiers():
-                return True
-    return False
+    file.seek(0)
+    other = Naming(naming.walrus, naming.faults, 3 - naming.form)  # there are formats 1 and 2
+    while part := file.read(PIECE):
+        await other.add(part)
+    return identifier in await other.identifiers()
 
 
 @contextlib.contextmanager

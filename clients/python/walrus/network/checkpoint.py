@@ -31,11 +31,6 @@ class Mark(NamedTuple):
         return Chain(self.place, bytes.fromhex(self.digest))
 
 
-def written(fields: dict[str, Any], rows: Iterable[Row]) -> Iterator[bytes]:
-    """The lines of a checkpoint, in pieces."""
-    return parted(lines_of(fields, rows), LONGEST)
-
-
 def parted(lines: Iterable[bytes], most: int) -> Iterator[bytes]:
     """Lines in parts of at most so many bytes, or of one line that is longer."""
     part, size = list[bytes](), 0
@@ -48,7 +43,8 @@ def parted(lines: Iterable[bytes], most: int) -> Iterator[bytes]:
     yield b"".join(part)
 
 
-def lines_of(fields: dict[str, Any], rows: Iterable[Row]) -> Iterator[bytes]:
+def written(fields: dict[str, Any], rows: Iterable[Row]) -> Iterator[bytes]:
+    """The lines of a checkpoint."""
     for name, value in fields.items():
         keyed = [[name, key, value[key]] for key in sorted(value)] if isinstance(value, dict) else [[name, value]]
         yield from map(line_of, keyed)

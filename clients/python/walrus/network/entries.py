@@ -2,6 +2,7 @@
 import dataclasses
 import functools
 import hashlib
+import itertools
 import re
 from typing import Any, Callable, Iterable, Optional
 
@@ -59,14 +60,12 @@ FIELDS: dict[str, tuple[Callable[[str], object], ...]] = {
 }
 
 
-@dataclasses.dataclass(order=True)
+@dataclasses.dataclass
 class Entry:
     """An entry: its place, and its text; poster, kind and fields, and what these say, unless it has not the form."""
 
     revision: int
     key: str
-    words: list[str] = dataclasses.field(init=False, repr=False, compare=False)
-    values: list[Any] = dataclasses.field(init=False, repr=False, compare=False)
 
     def __post_init__(self) -> None:
         self.words, self.values = read(self.key)
@@ -89,13 +88,9 @@ def entry_key(poster: str, kind: str, *fields: object) -> str:
 
 def fitting(texts: Iterable[str], most: int) -> list[str]:
     """The first of these texts that have at most so many characters together, one of them at least."""
-    found, size = list[str](), 0
-    for text in texts:
-        size += len(text)
-        if found and size > most:
-            break
-        found.append(text)
-    return found
+    found = [*texts]
+    count = sum(size <= most for size in itertools.accumulate(map(len, found)))
+    return found[: max(1, count)]
 
 
 @dataclasses.dataclass(frozen=True)

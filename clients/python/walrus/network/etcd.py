@@ -101,18 +101,19 @@ class Etcd:
 
     async def call(self, path: str, body: dict[str, Any], seconds: float = 10) -> dict[str, Any]:
         """One call, in a task of its own, as deadlines of aiohttp 3.8 disturb those of asyncio around them."""
+
+        async def ask() -> dict[str, Any]:
+            limit = aiohttp.ClientTimeout(total=seconds)
+            async with self.session.post(f"{self.url}/v3/{path}", json=body, timeout=limit) as said:
+                answer = await said.json(content_type=None)
+            if said.status != 200:
+                raise OSError(answer.get("error", answer))
+            return dict(answer)
+
         try:
-            return await asyncio.create_task(self._call(path, body, seconds))
+            return await asyncio.create_task(ask())
         except (aiohttp.ClientError, OSError, TimeoutError, ValueError) as fault:
             raise Failed(f"etcd at {self.url} does not answer: {fault or 'it is too slow'}") from fault
-
-    async def _call(self, path: str, body: dict[str, Any], seconds: float) -> dict[str, Any]:
-        limit = aiohttp.ClientTimeout(total=seconds)
-        async with self.session.post(f"{self.url}/v3/{path}", json=body, timeout=limit) as said:
-            answer = await said.json(content_type=None)
-        if said.status != 200:
-            raise OSError(answer.get("error", answer))
-        return dict(answer)
 
     async def range(self, first: str, last: str = "", **words: Any) -> list[dict[str, Any]]:
         """The pairs with the keys from one on, up to another one; where none is named, of that one alone."""

@@ -85,9 +85,11 @@ class NodePort(Port):
             await asyncio.wait([self.counting], timeout=MOMENT)
 
     async def count_anew(self) -> None:
-        with contextlib.suppress(sqlite3.OperationalError):  # such as a disk that is gone: the last figures stay
-            self.held = await self.node.store.asked(self.node.store.counts)
-        self.due, self.counting = time.monotonic() + FRESH, None
+        try:
+            with contextlib.suppress(sqlite3.OperationalError):  # such as a disk that is gone: the last figures stay
+                self.held = await self.node.store.asked(self.node.store.counts)
+        finally:  # whatever it was, such as a torn page: it is counted again
+            self.due, self.counting = time.monotonic() + FRESH, None
 
     def figures(self) -> dict[str, Any]:
         """What the node holds and how much of the disk is free, its judges, and how far it is with what it mends."""

@@ -10,7 +10,7 @@ from typing import Any, AsyncIterator, Iterable, Optional, Union
 from aiohttp import web
 
 from .chunks import LONGEST, File, Told
-from .gathering import AT_ONCE, Costs, store_folder, store_named
+from .gathering import AT_ONCE, Costs, Storing, Upload
 from .guard import SAFE
 from .manifest import Manifest, Place, Wrong, as_path, kind_told, label_of, shown
 from .problems import Problem
@@ -68,7 +68,7 @@ class Folders:
         costs = Costs(publisher.charge(request), 2)
 
         async def store(stream: AsyncIterator[bytes], epochs: int, stored: list[bytes]) -> Told:
-            told = await store_named(publisher.writer, path, kind, costs, stream, epochs, stored)
+            told = await Storing(publisher.writer, costs, epochs, stored).store_named(path, kind, stream)
             folder = told["named"]["folder"]
             where = {"path": f"{PATHS}{folder}/{urllib.parse.quote(path)}", **self.site_of(folder)}
             return {**told, "named": {**told["named"], **where}}
@@ -84,7 +84,8 @@ class Folders:
     ) -> Told:
         """Stores what comes as a folder of this media type; what is told of it, with its own host."""
         publisher = self.publisher
-        told = await store_folder(publisher.writer, kind, costs, publisher.options.reserve, stream, epochs, stored)
+        upload = Upload(publisher.writer, costs, epochs, publisher.options.reserve, stored)
+        told = await upload.store_folder(kind, stream)
         return {**told, "folder": {**told["folder"], **self.site_of(told["blobId"])}}
 
     def at_site(self, request: web.BaseRequest) -> Optional[bytes]:

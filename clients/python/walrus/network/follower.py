@@ -187,18 +187,22 @@ class View:
 
     def __init__(self, recorders: Recorders, state: Optional[State] = None):
         self.recorders, self.state, self.waiting = recorders, state or State(), Waiting()
-        self.ledger, self.chain = self.state.ledger, self.state.chain
-        recorders.tail = self.state.entries
+        self.ledger, recorders.tail = self.state.ledger, self.state.entries
         self.head, self.heard_at = -1, time.monotonic()  # where the ledger ended; when a recorder said something
         self.absence = 0.0, 0.0, ""  # the last one longer than `AWAY`: for how long it was, until when, and why
-        self.entering, self.lost = False, None  # type: bool, Optional[Exception]  # what has ended following for good
+        self.lost: Optional[Exception] = None  # what has ended following for good
+
+    @property
+    def chain(self) -> Optional[Chain]:
+        """How far the ledger was heard; not at all yet, if it is none."""
+        return self.state.chain
 
     async def follow(self) -> None:
         try:
             async for news in self.recorders.follow(self.chain, self.state.identity):
                 await self.enter(news)
         except Exception as fault:
-            self.lost, self.entering = fault, False
+            self.lost = fault
             self.waiting.tell()
             raise
 
@@ -219,24 +223,19 @@ class View:
         return f"the ledger was away for {seconds:.0f} s ({said})" if end > begun else ""
 
     async def enter(self, news: News) -> None:
-        """Enters new entries in their order, and lets go on who waited for that."""
+        """Enters new entries in their order, and lets go on who waited for that. Nothing is saved before all is
+        entered: who ends meanwhile hears all of it again."""
+        state = self.state
         if (seconds := self.silence()) > AWAY:
             self.absence = seconds, time.monotonic(), self.recorders.said
-        before, self.state.identity, self.entering = self.chain, news.ledger, True
-        self.state.chain = None  # nothing is saved before all is entered: who ends meanwhile hears all of it again
-        if news.pieces:
-            await self.take(news.pieces)
-            self.state.chain = None
+        state.identity, state.entering = news.ledger, True
+        if news.pieces:  # which stand for what was heard
+            state.take(news.pieces)
         await self.apply(news.entries)
-        self.chain, self.head, self.heard_at = news.chain, news.head, time.monotonic()
-        if self.chain != before or not self.state.whole:
-            self.state.save(self.chain, news.entries, soon=True)
-        self.entering = False
+        self.head, self.heard_at, state.entering = news.head, time.monotonic(), False
+        if self.chain != news.chain or not state.whole:
+            state.save(news.chain, news.entries, soon=True)
         self.waiting.tell()
-
-    async def take(self, pieces: list[bytes]) -> None:
-        """Has what a checkpoint says in place of what was heard."""
-        self.state.take(pieces)
 
     async def apply(self, entries: list[Entry]) -> None:
         for entry in entries:
@@ -244,7 +243,7 @@ class View:
 
     async def until(self, holds: Callable[[Ledger], object], seconds: Optional[float] = 30) -> bool:
         """Waits until something holds of the ledger; whether it did in time. Raises where following has ended."""
-        known = await self.waiting.until(lambda: self.lost or not self.entering and holds(self.ledger), seconds)
+        known = await self.waiting.until(lambda: self.lost or not self.state.entering and holds(self.ledger), seconds)
         if self.lost:
             raise Unreachable(f"the ledger is not followed any more: {self.lost}")
         return known

@@ -6,7 +6,7 @@ import copy
 import hashlib
 import os
 import sqlite3
-from typing import Any, AsyncIterator, Coroutine, Iterator, Sequence
+from typing import Any, AsyncIterator, Coroutine, Iterator
 
 from . import pieces
 from .archives import Coming, opened
@@ -40,26 +40,14 @@ class Costs(Charge):
         """Takes what a folder costs of which so many bytes came, and so much is stored."""
         self.set_to(max(size, stored), max(self.least, count))
 
-    def begin(self) -> None:
-        """Takes what a file costs of which nothing has come yet."""
-        self.count += count_of(0)
-        self.add(0)
+    def more(self, size: int, count: int) -> None:
+        """Takes what so many bytes and blobs more cost; raises as `add` does, and then they do not count."""
+        self.take(self.size, self.stored + size, self.count + count)
+        self.stored, self.count = self.stored + size, self.count + count
 
-    def more(self, size: int, before: int) -> None:
-        """Takes what so many bytes of a file cost, behind those before; raises as `add` does."""
-        stored, count = self.stored + size, self.count + count_of(before + size) - count_of(before)
-        self.take(self.size, stored, count)
-        self.stored, self.count = stored, count
-
-    def was_there(self, size: int) -> None:
-        """Gives back what a file costs that was stored before."""
-        self.stored, self.count = self.stored - size, self.count - count_of(size)
-
-    def broke(self, size: int) -> None:
-        """Gives back what is not stored of a file that broke off behind so many bytes: the piece that it broke."""
-        whole = max(0, size - 1) // PIECE
-        self.stored -= size - whole * PIECE
-        self.count -= count_of(size) - whole
+    def less(self, size: int, count: int) -> None:
+        """Has so many not count any more, which is given back with what is taken next."""
+        self.stored, self.count = self.stored - size, self.count - count
 
     def settle(self, is_stored: bool, is_new: bool) -> None:
         self.set_to(self.stored, self.count)
@@ -80,22 +68,32 @@ class Storing:
         async def counted() -> AsyncIterator[bytes]:
             nonlocal size
             async for part in stream:
-                self.costs.more(len(part), size)
+                self.costs.more(len(part), count_of(size + len(part)) - count_of(size))
                 size += len(part)
                 yield part
 
+        self.costs.more(0, count_of(0))
         try:
-            self.costs.begin()
             epochs = max(0, self.until - self.writer.network.ledger.writing_epoch)
             told = await self.writer.store(counted(), epochs, self.stored)
         except BaseException:  # such as that another file of the folder failed
-            self.costs.broke(size)
+            whole = max(0, size - 1) // PIECE
+            self.costs.less(size - whole * PIECE, count_of(size) - whole)
             raise
         if told["alreadyCertified"]:
-            self.costs.was_there(told["size"])
+            self.costs.less(size, count_of(size))
         else:
             self.is_new = True
         return told
+
+    async def store_named(self, path: str, kind: str, stream: AsyncIterator[bytes]) -> Told:
+        """Stores a file, and beside it the manifest of a folder that has it alone, under this name and media type."""
+        told = await self.store(stream)
+        size, file = told["size"], bytes.fromhex(told["blobId"])
+        offset = 0 if 0 < size <= SMALL else None  # a small file is a pack of its own
+        manifest = MARK + Place(path, kind, size, file if size else b"", offset).line()
+        folder = await self.store(once(manifest))
+        return {**told, "alreadyCertified": not self.is_new, "named": {"folder": folder["blobId"], "type": kind}}
 
 
 class Spool(pieces.Spool):
@@ -110,12 +108,13 @@ class Spool(pieces.Spool):
 
     async def read(self, *spans: tuple[int, int]) -> bytes:
         """What was written at some places, each with its length, one behind the other."""
-        return await pieces.in_thread(self.read_spans, spans)
 
-    def read_spans(self, spans: Sequence[tuple[int, int]]) -> bytes:
-        with self.turn:
-            assert self.file
-            return b"".join(os.pread(self.file.fileno(), length, at) for length, at in spans)
+        def read() -> bytes:
+            with self.turn:
+                assert self.file
+                return b"".join(os.pread(self.file.fileno(), length, at) for length, at in spans)
+
+        return await pieces.in_thread(read)
 
 
 class Upload(Storing):
@@ -126,9 +125,23 @@ class Upload(Storing):
         self.folder, self.spool = Folder(), Spool(reserve)
         self.writer.reserve = 0.0  # once all of it has come, nothing keeps it from being stored
 
-    def close(self) -> None:
-        self.folder.close()
-        self.spool.close()
+    async def store_folder(self, kind: str, stream: AsyncIterator[bytes]) -> Told:
+        """Stores what comes as a folder of this media type, once all of it has come, and the manifest last."""
+        try:
+            async with contextlib.aclosing(opened(kind)(Source(stream))) as files:
+                async for coming in files:
+                    await self.take(coming)
+            await self.spool.flush()
+            await several(self.parts(), AHEAD)
+            told = await self.store(spread(self.folder))
+            found = {"files": self.folder.count, "bytes": self.folder.bytes}
+            return {**told, "alreadyCertified": not self.is_new, "folder": found}
+        except sqlite3.Error as fault:
+            words = f"the gateway cannot keep what it knows of the folder: {fault}; try again later"
+            raise Problem(503, words) from None
+        finally:
+            self.folder.close()
+            self.spool.close()
 
     async def take(self, coming: Coming) -> None:
         """Keeps the next file until it is known which others come."""
@@ -169,50 +182,6 @@ class Upload(Storing):
             yield self.store_file(*file)
         for number, pack in enumerate(self.folder.packs()):
             yield self.store_pack(number, pack)
-
-    async def finish(self) -> Told:
-        """Stores what was kept, and once all of it is stored the manifest."""
-        await self.spool.flush()
-        await several(self.parts(), AHEAD)
-        told = await self.store(spread(self.folder))
-        found = {"files": self.folder.count, "bytes": self.folder.bytes}
-        return {**told, "alreadyCertified": not self.is_new, "folder": found}
-
-
-async def store_folder(
-    writer: Writer,
-    kind: str,
-    costs: Costs,
-    reserve: float,
-    stream: AsyncIterator[bytes],
-    epochs: int,
-    stored: list[bytes],
-) -> Told:
-    """Stores what comes as a folder of this media type."""
-    source = Source(stream)
-    upload = Upload(writer, costs, epochs, reserve, stored)
-    try:
-        async with contextlib.aclosing(opened(kind)(source)) as files:
-            async for coming in files:
-                await upload.take(coming)
-        return await upload.finish()
-    except sqlite3.Error as fault:
-        raise Problem(503, f"the gateway cannot keep what it knows of the folder: {fault}; try again later") from None
-    finally:
-        upload.close()
-
-
-async def store_named(
-    writer: Writer, path: str, kind: str, costs: Costs, stream: AsyncIterator[bytes], epochs: int, stored: list[bytes]
-) -> Told:
-    """Stores a file, and beside it the manifest of a folder that has it alone, under this name and media type."""
-    storing = Storing(writer, costs, epochs, stored)
-    told = await storing.store(stream)
-    size, file = told["size"], bytes.fromhex(told["blobId"])
-    offset = 0 if 0 < size <= SMALL else None  # a small file is a pack of its own
-    manifest = MARK + Place(path, kind, size, file if size else b"", offset).line()
-    folder = await storing.store(once(manifest))
-    return {**told, "alreadyCertified": not storing.is_new, "named": {"folder": folder["blobId"], "type": kind}}
 
 
 async def once(data: bytes) -> AsyncIterator[bytes]:

@@ -4,12 +4,14 @@ A browser sends what another page tells it to, and with no token of ours: so wha
 asked of the gateway by a name of its own, and by no page but its own. At an address that not everybody reaches, what
 reads and shows no token must be asked by such a name too, unless it is a file: other names may lead there, and the
 pages under them read it all."""
-from typing import Any, Awaitable, Callable, Optional
+import collections
+import contextlib
+from typing import Any, Awaitable, Callable, Iterator, Optional
 
 from aiohttp import hdrs, web
 
 from ..fairness import key_of
-from .exposure import Exposure
+from .exposure import Options
 from .limits import Flow, Limits, is_address, is_inner, is_loopback
 from .problems import Problem
 from .tokens import ANYONE, READ, STORE, Token, Tokens
@@ -27,11 +29,32 @@ INVALID = {"WWW-Authenticate": 'Bearer realm="walrus", error="invalid_token"'}
 NO_TOKEN = "only its own machine may store here, unless there are tokens (walrus-net token)"
 
 
+class Crowd:
+    """Requests that are being answered, by who asks: at most so many of one, as those go on whose clients are gone."""
+
+    def __init__(self, most: int):
+        self.most, self.counts = most, collections.Counter[str]()
+
+    @contextlib.contextmanager
+    def one(self, whom: str) -> Iterator[None]:
+        """Counts one while it is answered; raises where it is one too many."""
+        if self.counts[whom] >= self.most:
+            text = f"{self.most} requests of yours are not answered yet: come again once some are"
+            raise Problem(429, text, {"Retry-After": "5"})
+        self.counts[whom] += 1
+        try:
+            yield
+        finally:
+            self.counts[whom] -= 1
+            if not self.counts[whom]:
+                del self.counts[whom]
+
+
 class Guard:
     """The rules of a gateway."""
 
-    def __init__(self, exposure: Exposure, tokens: Tokens):
-        self.exposure, self.tokens = exposure, tokens
+    def __init__(self, exposure: Options, tokens: Tokens):
+        self.exposure, self.tokens, self.crowd = exposure, tokens, Crowd(exposure.connections)
         self.limits = Limits(exposure.requests, exposure.rate)
         self.names, self.proxies = {it.lower() for it in exposure.names}, {*exposure.proxies}
 
@@ -56,7 +79,8 @@ class Guard:
             return self.options(request)
         if "site" in request or request.match_info.http_exception is None and request.path not in FREE:
             self.must_be_allowed(request, token, READ if is_read(request) else STORE)
-        response: web.StreamResponse = await handler(request)
+        with self.crowd.one(keys[-1]):
+            response: web.StreamResponse = await handler(request)
         if isinstance(response, web.Response) and isinstance(response.body, bytes):
             await request["flow"].spend(len(response.body))  # a stream spends as it goes
         return response

@@ -1,5 +1,4 @@
 """How long a file is, from the metadata of its blob alone wherever that tells it."""
-import collections
 from typing import Optional
 
 from .. import client
@@ -16,7 +15,7 @@ class Lengths:
 
     def __init__(self, network: Network):
         self.network = network
-        self.known: "collections.OrderedDict[bytes, int]" = collections.OrderedDict()
+        self.known = dict[bytes, int]()
 
     async def of_blob(self, identifier: bytes) -> Optional[int]:
         """The length of a blob; None where no metadata is heard."""
@@ -24,7 +23,7 @@ class Lengths:
         if length is None and (length := await self.ask(identifier)) is not None:
             self.known[identifier] = length
             if len(self.known) > KNOWN:
-                self.known.popitem(last=False)
+                del self.known[next(iter(self.known))]
         return length
 
     async def of_file(self, identifier: bytes) -> Optional[int]:

@@ -6,7 +6,7 @@ from .. import client
 from ..frames import answer, code_of
 
 from .ledger import ACK, entry_key
-from .shard import DECLINED, Shard
+from .shard import DECLINED, FULL, Shard
 from .whole import Whole
 
 if TYPE_CHECKING:
@@ -39,11 +39,14 @@ class Intake:
         shard = node.sides.get(ledger.writing_epoch, {}).get(number)
         if not shard:
             return [answer(DECLINED)]
+        losses = node.store.losses
         if not (said := await shard.put_whole(whole)):
             for part in whole.parts:
                 if code_of(said := await shard.put(bytes(part))) not in (client.DONE, client.HELD):
                     return said
             said = await shard.answer(whole.wish)
+            if node.store.losses != losses:
+                return [answer(FULL)]  # the judge was told of parts that the disk has lost meanwhile
         if code_of(said) not in client.COUNTS:
             return said
         if not ledger.voted(ACK, identifier, node.name):
@@ -66,7 +69,7 @@ class Intake:
         node = self.node
         while self.words:
             words, self.words = self.words, []
-            durable = await node.durable()
+            durable = await node.store.durable()
             for losses, word in words:
                 if durable and node.store.losses == losses:
                     taken = node.recorders.leave(word)  # or refused

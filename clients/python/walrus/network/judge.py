@@ -21,6 +21,7 @@ from ..serving import status_in_words
 from .. import shapes, wire
 
 Result = TypeVar("Result")
+Found = tuple[list[list[bytes]], list[int]]  # what a judge replies to each request, and which parts are wrong
 PARTS = client.METADATA, client.SECOND_METADATA, client.SLIVER, client.PROOF
 NO_MEMORY, PATIENCE = 5, 20.0  # a status of the program; seconds until who finds no memory is told to come again
 BESIDE, TIMES = 13_631_488, 6  # memory of a judge: so much, and so many times the bytes that it is told and asked
@@ -158,10 +159,9 @@ class Judges:
     def keep(self, faults: int) -> None:
         """Keeps memory for one judge, by which one request after the other is answered whatever else wants memory: of
         the largest one, over a sliver and a proof of the largest blob."""
-        if not self.least:
-            self.least = need_of(2 * client.Shape(faults).longest)
-            self.room.grow(self.least)
-            self.kept = mmap.mmap(-1, self.least)
+        self.least = need_of(2 * client.Shape(faults).longest)
+        self.room.grow(self.least)
+        self.kept = mmap.mmap(-1, self.least)
 
     async def work(self, step: Callable[..., Result], *words: object, here: bool = False) -> Result:
         """What a step gives that must not hold up all others; it has a thread of its own, unless told otherwise."""
@@ -191,11 +191,7 @@ class Judges:
         async with self.room.take(need_of(size)):
             if size > LONG:
                 return await self.work(trimmed, step, *words)
-            return await self.work(step, *words, here=self.here(size))
-
-    def here(self, size: int) -> bool:
-        """Whether so many bytes are judged in place, as that is faster than another thread would begin to."""
-        return size < SHORT and isinstance(self.engine, Library)
+            return await self.work(step, *words, here=size < SHORT and isinstance(self.engine, Library))
 
     async def run(self, *words: object, data: Union[client.Data, list[client.Data]] = b"") -> tuple[int, client.Data]:
         """The status and the output of the program, as `client.Walrus` has them; a long one where it was written."""

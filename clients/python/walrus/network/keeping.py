@@ -57,7 +57,7 @@ class Keeper:
         ledger = self.recorder.ledger
         if time.time() > mark.time + self.patience:
             return []
-        return [it for it in dict.fromkeys(ledger.now + ledger.next) if ledger.past.get(it, 0) < mark.epoch]
+        return [it for it in ledger.nodes if ledger.past.get(it, 0) < mark.epoch]
 
     async def write(self, before: Optional[Mark]) -> None:
         """Writes a checkpoint of what the ledger is now; the mark last, so that nobody finds half of it, and only where

@@ -67,6 +67,11 @@ class Ledger:
         return self.next or self.now
 
     @property
+    def nodes(self) -> list[str]:
+        """The nodes of both committees."""
+        return [*dict.fromkeys(self.now + self.next)]
+
+    @property
     def quorum(self) -> int:
         return 2 * self.faults + 1
 
@@ -121,57 +126,16 @@ class Ledger:
     def apply(self, entry: Entry) -> Optional[str]:
         """Enters an entry; the words of its line in a report, or None where it is void or no entry."""
         try:
-            word = self.judge(entry)
+            word = self.enter(entry)
         except Void:
             return None
         self.revision = entry.revision
-        if refusal(word):
-            self.posted[entry.words[0]] += entry.words[1] in (REGISTER, ADDRESS)
-        else:
-            self.enter(entry)
         return word
 
-    def judge(self, entry: Entry) -> str:
-        """The words of an entry's line in a report if it came now; raises `Void` where it is void."""
-        poster, kind = entry.words[:2] or ("", "")
-        if not kind:
-            raise Void(FORMLESS)
-        if poster in self.expelled:
-            raise Void(f"{poster} is expelled")
-        if kind in (REGISTER, ADDRESS) and self.posted[poster] >= self.share(poster):
-            raise Void(f"{poster} has its share of {self.share(poster)} registrations in this epoch")
-        if kind in ORDERS and poster != OPERATOR:
-            raise Void(f"only {OPERATOR} says that")
-        if not self.now and kind not in (*ORDERS, ADDRESS):
-            raise Void("there is no committee yet")
-        if kind in (ACK, ATTEST, "ready", "finish"):
-            if entry.values[0] != self.writing_epoch:
-                raise Void(f"epoch {self.writing_epoch} is written")
-            if not owned(self.writing, poster):
-                raise Void(f"{poster} has no shard in the committee of epoch {self.writing_epoch}")
-        match kind, *entry.values:
-            case "register", identifier, until:
-                return self._registered(identifier, until)
-            case "ack" | "attest", epoch, identifier:
-                return self._voted(poster, kind, epoch, identifier)
-            case "begin", epoch, faults, owners:
-                return self._begun(epoch, faults, owners)
-            case "ready", _:
-                ready = self._ready(poster)
-                return "already" if ready == self.ready else f"counted {len(ready)}"
-            case "finish", _:
-                enough = len(self._ready("")) >= self.quorum
-                return f"epoch {self.epoch + 1}" if enough else f"waiting {len(self.ready)}"
-            case "past", epoch:
-                if epoch != self.epoch or poster not in (*self.now, *self.next):
-                    raise Void(f"epoch {self.epoch} is served, by others than {poster}, or it is another")
-                return "already" if self.past.get(poster) == epoch else "entered"
-        return "entered"
-
-    def refuses(self, entry: Entry) -> str:
-        """Why an entry would change nothing if it came now; nothing where it counts."""
+    def refused(self, entry: Entry) -> str:
+        """Enters an entry; why it changes nothing, or nothing where it counts."""
         try:
-            return refusal(self.judge(entry))
+            return refusal(self.enter(entry))
         except Void as void:
             return str(void)
 
@@ -188,21 +152,44 @@ class Ledger:
                 return self.calendar == tuple(plan)
         return True
 
-    def enter(self, entry: Entry) -> None:
-        """Does what an entry says that counts."""
-        poster, kind = entry.words[:2]
+    def enter(self, entry: Entry) -> str:
+        """Does what an entry says that counts; the words of its line in a report. Raises `Void` where it is void."""
+        poster, kind = entry.words[:2] or ("", "")
+        if not kind:
+            raise Void(FORMLESS)
+        if poster in self.expelled:
+            raise Void(f"{poster} is expelled")
+        if kind in (REGISTER, ADDRESS) and self.posted[poster] >= self.share(poster):
+            raise Void(f"{poster} has its share of {self.share(poster)} registrations in this epoch")
+        if kind in ORDERS and poster != OPERATOR:
+            raise Void(f"only {OPERATOR} says that")
+        if not self.now and kind not in (*ORDERS, ADDRESS):
+            raise Void("there is no committee yet")
+        if kind in (ACK, ATTEST, "ready", "finish"):
+            if entry.values[0] != self.writing_epoch:
+                raise Void(f"epoch {self.writing_epoch} is written")
+            if not owned(self.writing, poster):
+                raise Void(f"{poster} has no shard in the committee of epoch {self.writing_epoch}")
+        if kind in ("ready", "finish") and not self.moving:
+            raise Void("no epoch is to come")
         self.posted[poster] += kind in (REGISTER, ADDRESS)
         match kind, *entry.values:
             case "register", identifier, until:
-                self._register(poster, identifier, until)
+                return self._register(poster, identifier, until)
             case "ack" | "attest", epoch, identifier:
-                self._vote(poster, kind, epoch, identifier)
+                return self._vote(poster, kind, epoch, identifier)
             case "begin", epoch, faults, owners:
-                self._begin(faults, owners)
+                return self._begin(epoch, faults, owners)
             case "ready", _:
-                self.ready = self._ready(poster)
+                return self._ready(poster)
             case "finish", _:
-                self._finish()
+                return self._finish()
+            case "past", epoch:
+                if epoch != self.epoch or poster not in self.nodes:
+                    raise Void(f"epoch {self.epoch} is served, by others than {poster}, or it is another")
+                if self.past.get(poster) == epoch:
+                    return "already"
+                self.past[poster] = epoch
             case "address", host, port:
                 self.addresses[poster] = host, port
             case "share", name, count:
@@ -213,65 +200,64 @@ class Ledger:
                 self.expelled |= {name}
                 self.posted.pop(name, None)
                 self.shares.pop(name, None)
-            case "past", epoch:
-                self.past[poster] = epoch
             case "concentrated", epoch:
                 self.concentrated = epoch
+        return "entered"
 
-    def _registered(self, identifier: bytes, until: int) -> str:
+    def _register(self, poster: str, identifier: bytes, until: int) -> str:
         blob = self.blobs.get(identifier)
         if until <= self.writing_epoch:
             return "refused past"
-        return "refused moving" if self.moving and blob else f"until {max(until, blob.until if blob else 0)}"
+        if self.moving and blob:
+            return "refused moving"
+        if blob and until <= blob.until:
+            return f"until {blob.until}"
+        # It counts on the share of who had it kept for longest.
+        self.blobs[identifier] = dataclasses.replace(blob, until=until, poster=poster) if blob else Blob(until, poster)
+        return f"until {until}"
 
-    def _register(self, poster: str, identifier: bytes, until: int) -> None:
-        blob = self.blobs.get(identifier)
-        if blob is None or until > blob.until:
-            named = dataclasses.replace(blob, until=until, poster=poster) if blob else Blob(until, poster)
-            self.blobs[identifier] = named  # it counts on the share of who had it kept for longest
-
-    def _voted(self, poster: str, kind: str, epoch: int, identifier: bytes) -> str:
-        blob = self.blobs.get(identifier)
+    def _vote(self, poster: str, kind: str, epoch: int, identifier: bytes) -> str:
+        blob, own = self.blobs.get(identifier), owned(self.writing, poster)
         if blob is None:
             return "unregistered"
         if blob.until <= epoch:
             return "expires"
-        said, own = blob.votes[kind].get(epoch, frozenset()), owned(self.writing, poster)
-        if own <= said:
+        if own <= blob.votes[kind].get(epoch, frozenset()):
             return "already"
-        count = len(said | own)
+        self.blobs[identifier] = blob = blob.voted(kind, epoch, own)
+        count = len(blob.votes[kind][epoch])
         return f"{('certified' if kind == ACK else 'invalid') if count >= self.quorum else 'counted'} {count}"
 
-    def _vote(self, poster: str, kind: str, epoch: int, identifier: bytes) -> None:
-        self.blobs[identifier] = self.blobs[identifier].voted(kind, epoch, owned(self.writing, poster))
-
-    def _begun(self, epoch: int, faults: int, owners: tuple[str, ...]) -> str:
+    def _begin(self, epoch: int, faults: int, owners: tuple[str, ...]) -> str:
         if not faults or len(owners) != 3 * faults + 1 or self.now and faults != self.faults:
             raise Void(f"a committee has 3f+1 shards, with f = {self.faults or faults or 1}")
         if max(collections.Counter(owners).values()) > faults and self.concentrated != epoch:
             raise Void(f"a node has more than f = {faults} shards, which {OPERATOR} has not said may be")
         if not self.now:
+            self.faults, self.now = faults, owners
+            self.blobs.needed = self.quorum
             return "founded"
         if epoch != self.epoch + 1:
             raise Void(f"epoch {self.epoch + 1} comes next")
-        return "refused moving" if self.moving else "refused last-epoch" if epoch > LAST_EPOCH else f"epoch {epoch}"
-
-    def _begin(self, faults: int, owners: tuple[str, ...]) -> None:
-        if not self.now:
-            self.faults, self.now = faults, owners
-            self.blobs.needed = self.quorum
-            return
+        if self.moving:
+            return "refused moving"
+        if epoch > LAST_EPOCH:
+            return "refused last-epoch"
         self.next, self.ready = owners, frozenset()
+        return f"epoch {epoch}"
 
-    def _ready(self, poster: str) -> frozenset[int]:
-        """The shards of the next committee that are ready once a node says so too."""
-        if not self.moving:
-            raise Void("no epoch is to come")
-        return self.ready | owned(self.writing, poster)
+    def _ready(self, poster: str) -> str:
+        own = owned(self.next, poster)
+        if own <= self.ready:
+            return "already"
+        self.ready |= own
+        return f"counted {len(self.ready)}"
 
-    def _finish(self) -> None:
+    def _finish(self) -> str:
+        if len(self.ready) < self.quorum:
+            return f"waiting {len(self.ready)}"
         self.epoch, self.now, self.next = self.epoch + 1, self.next, ()
         self.past = {name: epoch for name, epoch in self.past.items() if name in self.now}
-        self.blobs.expire(self.epoch)
-        live = self.blobs.posters().items()
+        live = self.blobs.expire(self.epoch).items()
         self.posted = collections.Counter({name: count for name, count in live if name not in self.expelled})
+        return f"epoch {self.epoch}"

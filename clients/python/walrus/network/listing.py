@@ -58,7 +58,7 @@ class Lister:
             self.reader.must_stand(piece)
         short = [piece for piece in names if network.ledger.blobs[piece].until < until]
         if short:
-            charge.extend(size, len(short))
+            charge.set_to(size, len(short))  # the file costs its bytes again, and these blobs
         while short:
             await all_of(network.register(piece, until) for piece in short[:PAGE])
             del short[:PAGE]
@@ -70,4 +70,4 @@ async def ending(network: Network, after: bytes, last: int) -> list[bytes]:
     state, run = network.state, asyncio.get_running_loop().run_in_executor
     if not state.name or not (state.whole or state.settle()):
         return state.blobs.ending(after, last, PAGE + 1)
-    return await run(network.walrus.pool, ending_of, state.name, after, last, PAGE + 1)
+    return await run(network.walrus.pool, ending_of, state.name, after, state.ledger.epoch, last, PAGE + 1)

@@ -8,7 +8,7 @@ import sqlite3
 import ssl
 import sys
 from asyncio import sslproto
-from typing import Any, Coroutine, Optional, Sequence
+from typing import Any, Coroutine, Optional
 
 from .. import client, loop
 from ..envelopes import parts
@@ -22,7 +22,7 @@ from .groups import first_of
 from .intake import Intake
 from .judge import PARTS, Busy, Clash, Judges, Room
 from .entries import LAST_EPOCH
-from .ledger import ACK, ADDRESS, ATTEST, OPERATOR, PAST, Entry, entry_key
+from .ledger import ACK, ADDRESS, ATTEST, PAST, REGISTER, Entry, entry_key
 from .notify import ready
 from .peers import Peers
 from .recovery import Progress, passing, settle
@@ -39,7 +39,6 @@ sslproto.SSLProtocol.max_size = 65_536  # bytes that each connection has ready, 
 REQUEST, IDLE, HANDSHAKE, COUNTED = 30.0, 60.0, 5.0, 13  # seconds, and the code of an answer
 BARE = 50_331_648  # bytes of a node that does nothing
 PAGES = 8_192  # KiB of the ledger's database that are kept in memory
-AT_ONCE = 500  # blobs that expire in one step
 TAIL = 2  # epochs whose entries a node keeps, from which a ledger that was restored is made whole
 
 
@@ -48,7 +47,7 @@ class Node(View):
 
     def __init__(self, settings: Settings):
         self.settings, self.name, authority = settings, settings.name, pathlib.Path(settings.authority)
-        self.store = Store(pathlib.Path(settings.database), settings.recorded)
+        self.store = Store(pathlib.Path(settings.database), settings.recorded, self.fail)
         recorders = Recorders(settings.recorders, settings.authority, settings.certificate, settings.key)
         path = self.store.path.with_suffix(".ledger")
         super().__init__(recorders, State.open(str(path), LAST_EPOCH if settings.recorded else TAIL, PAGES))
@@ -60,11 +59,12 @@ class Node(View):
         self.scrub, self.intake, self.progress = Scrub(self), Intake(self), Progress()
         self.tasks: list["asyncio.Task[None]"] = []
         self.numbers: Any = None  # what tells Prometheus
+        self.turned: object = None  # the committees whose shards go on here
         self.wrong: "asyncio.Queue[bytes]" = asyncio.Queue()  # blobs of which something went wrong on the disk
 
     async def open(self) -> int:
         """Takes what the disk has, catches up with the ledger, and listens; the port."""
-        await self.turn([])
+        await self.turn()
         self.tasks.append(asyncio.create_task(self.watched(self.follow())))
         if not await self.until(lambda _: self.caught_up or self.failed.done(), 5):
             print(f"{self.name}: the ledger is away; this serves what is on the disk", file=sys.stderr, flush=True)
@@ -99,7 +99,7 @@ class Node(View):
         """Tells the ledger each epoch that is on the disk here, so that what was before may go."""
         name, ledger = self.name, self.ledger
         while True:
-            await self.until(lambda it: name in it.now + it.next and it.past.get(name, 0) < it.epoch, None)
+            await self.until(lambda it: name in it.nodes and it.past.get(name, 0) < it.epoch, None)
             try:
                 await self.recorders.post(entry_key(name, PAST, ledger.epoch), None)
             except Refused:
@@ -116,22 +116,19 @@ class Node(View):
                     await settle(self, epoch, wrong)
 
     async def apply(self, entries: list[Entry]) -> None:
-        """Enters entries in their order."""
+        """Enters entries in their order, perhaps behind a checkpoint."""
         ledger = self.ledger
+        await self.turn()
         for entry in entries:
-            epoch, ends = ledger.epoch, ledger.moving and entry.words[1:2] == ["finish"]
-            turns = ends or not ledger.moving and entry.words[:2] == [OPERATOR, "begin"]
-            ending = ledger.blobs.ending(b"", ledger.writing_epoch, len(ledger.blobs)) if ends else []
-            if ledger.apply(entry) and turns:
-                await self.turn(ending if ledger.epoch != epoch else [])
+            if entry.words[1:2] == [REGISTER] and ledger.blobs.is_over(entry.values[0]):  # it begins anew
+                await self.store.persist(functools.partial(self.store.expire, entry.values[:1], ledger.epoch))
+            ledger.apply(entry)
+            await self.turn()
 
-    async def take(self, pieces: list[bytes]) -> None:
-        """Takes a checkpoint of the ledger, where it is too far ahead to be heard entry by entry."""
-        await self.turn(self.state.take(pieces))
-
-    async def turn(self, expired: Sequence[bytes]) -> None:
-        """Has the shards of the committees that there are go on once that is on the disk: what stays is a row, and no
-        part is touched. Those before hold nothing more, and blobs that have expired go, while others are served."""
+    async def turn(self) -> None:
+        """Where there are other committees than before, has their shards go on once that is on the disk: what stays is
+        a row, and no part is touched. Those before hold nothing more, and blobs that are over go while others are
+        served."""
 
         def stage() -> None:
             for epoch in self.epochs():
@@ -140,6 +137,8 @@ class Node(View):
             self.store.turn(self.ledger.epoch)
 
         ledger = self.ledger
+        if self.turned == (turned := (ledger.epoch, ledger.now, ledger.next)):
+            return
         await self.store.persist(stage)
         if ledger.faults and not self.judges.least:
             self.port.shape = client.Shape(ledger.faults)
@@ -147,10 +146,7 @@ class Node(View):
             self.repairs.grow(self.judges.room.size // 2)
         self.sides = {epoch: self.sides.get(epoch) or self.shards(epoch) for epoch in self.epochs()}
         self.scrub.left.set()
-        for place in range(0, len(expired), AT_ONCE):
-            some = expired[place : place + AT_ONCE]  # noqa: E203
-            await self.store.persist(functools.partial(self.store.expire, some))
-            await asyncio.sleep(0)
+        self.turned = turned
 
     def epochs(self) -> list[int]:
         """The epochs whose committees there are."""
@@ -206,11 +202,6 @@ class Node(View):
             return [await it.forget(request) for it in both][-1]
         return [answer(DECLINED)]  # entries are posted to the ledger, and not to a node
 
-    async def durable(self) -> bool:
-        """Whether all that was staged comes to the disk."""
-        written = self.store.written()
-        return written is None or await asyncio.shield(written)
-
     async def vouch(self, kind: str, shard: Shard, request: bytes) -> list[bytes]:
         """Posts the node's word once its shard would give it, by the judge, and all others of it hold as much; says
         what the ledger made of it."""
@@ -220,7 +211,7 @@ class Node(View):
             return said
         if not all(it.vouches(kind, identifier) for it in self.sides.get(shard.epoch, {}).values()):
             return [answer(DECLINED)]  # one word counts for all shards of the node, and one of them cannot give it
-        if not await self.durable() or self.store.losses != losses:
+        if not await self.store.durable() or self.store.losses != losses:
             return [answer(FULL)]
         voted = functools.partial(ledger.voted, kind, identifier, self.name)
         if not self.port.give_way():

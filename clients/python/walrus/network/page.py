@@ -74,7 +74,7 @@ class Watch:
         self.held: "collections.Counter[str]" = collections.Counter()
         self.announced: Iterable[dict[str, Any]] = ()  # badly encoded blobs that were found, and what came of it
         self.told: tuple[float, bytes] = (-FRESH, b"")  # when the status was told last, and what it was
-        self.task = asyncio.create_task(all_of([self.probe(), self.challenge_some()]))
+        self.task = asyncio.create_task(all_of([self.probe(), self.learn(), self.challenge_some()]))
 
     async def close(self) -> None:
         self.task.cancel()
@@ -82,7 +82,7 @@ class Watch:
         await self.peers.close()
 
     def nodes(self) -> list[str]:
-        return sorted({*self.network.ledger.now, *self.network.ledger.next})
+        return sorted(self.network.ledger.nodes)
 
     def seat(self, name: str, epoch: int) -> Optional[Seat]:
         """One of the shards that a node has in the committee of an epoch."""
@@ -93,16 +93,17 @@ class Watch:
 
     async def probe(self) -> None:
         while True:
-            await all_of([*map(self.ask, self.nodes()), self.learn()])
+            await all_of(map(self.ask, self.nodes()))
             await asyncio.sleep(self.pause)
 
     async def learn(self) -> None:
-        """Finds out which of the last blobs are files."""
-        try:
-            if self.sorter:
+        """Finds out which of the last blobs are files, beside all else: one may be read for minutes."""
+        while self.sorter:
+            try:
                 await self.sorter.learn(self.last())
-        except (Problem, client.Failed, client.Refused, OSError) as fault:
-            print(f"a blob's length is not known: {fault}", file=sys.stderr, flush=True)
+            except Exception as fault:  # as with challenges
+                print(f"a blob's length is not known: {fault}", file=sys.stderr, flush=True)
+            await asyncio.sleep(self.pause)
 
     def last(self) -> list[bytes]:
         """The last blobs, without pieces of files."""

@@ -8,14 +8,13 @@ import pathlib
 import socket
 import ssl
 import time
-from typing import Any, Awaitable, Callable, Sequence, TypeVar
+from typing import Any, Sequence
 
 from .. import client
 from ..wire import Wire, connect
 from .ledger import Ledger
 from .limits import read_address
 
-Result = TypeVar("Result")
 LOOKUPS = 32  # names that are looked up at once, one of a node
 LANES, LARGE = 8, 4_194_304  # exchanges with a shard at once; bytes of a large one
 FIGURES, SCRUB = b"\x60", b"\x61"  # requests of an operator: a node's figures, and these once it begins a scrub
@@ -38,16 +37,7 @@ class Seat(client.Shard):
             if not wire.at_eof() and not wire.exception():
                 return wire
             wire.transport.abort()  # it ended between two requests
-        words = {"ssl": self.peers.context, "server_hostname": self.name}
-        try:
-            return await self.peers.reach(self.name, functools.partial(connect, **words))
-        except ssl.SSLCertVerificationError as fault:
-            raise ConnectionError(f"it has no certificate of {self.name}: {fault.verify_message}") from None
-
-    async def ask(self, *requests: client.Request) -> list[client.Reply]:
-        if any(isinstance(it, list) for it in requests):  # what is stored is let go at once where nobody waits for it
-            return await self.exchange(requests)
-        return await super().ask(*requests)
+        return await self.peers.connect(self.name)
 
     async def exchange(self, requests: Sequence[client.Request]) -> list[client.Reply]:
         async with self.turns:
@@ -86,11 +76,6 @@ class Seat(client.Shard):
         done = isinstance(reply.end, client.Answer) and reply.end.code == client.DONE
         return "" if done else f"store at shard {self.number}: {client.in_words(reply.end)}"
 
-    async def hear_one(self, reader: client.Source, request: client.Request) -> client.Reply:
-        reply = await super().hear_one(reader, request)
-        self.peers.heard += sum(map(len, reply.kept.values()))
-        return reply
-
     async def drop(self) -> str:
         for wire in self.idle:
             wire.transport.abort()
@@ -104,9 +89,8 @@ class Peers:
         self.ledger, self.seconds = ledger, seconds
         self.context = ssl.create_default_context(cafile=str(authority))
         self.kept = dict[tuple[str, int], Seat]()
-        self.heard = 0  # bytes of parts that nodes replied
         self.pool = concurrent.futures.ThreadPoolExecutor(LOOKUPS, "names")  # and not asyncio's own, which is for all
-        self.sought = dict[str, "asyncio.Future[list[str]]"]()  # what is looked up for each node
+        self.sought = dict[str, "asyncio.Future[list[Any]]"]()  # what is looked up for each node
 
     def address(self, name: str) -> tuple[str, int]:
         """Where the ledger says that a node is."""
@@ -114,13 +98,17 @@ class Peers:
             raise ConnectionError(f"{name} has told no address")
         return self.ledger.addresses[name]
 
-    async def reach(self, name: str, to: Callable[[str, int], Awaitable[Result]]) -> Result:
+    async def connect(self, name: str) -> Wire:
         """A connection to a node, at the first of its addresses that takes one."""
         port, hosts = self.address(name)[1], await self.find(name)
+        to = functools.partial(connect, port=port, ssl=self.context, server_hostname=name)
         for host in hosts[:-1]:
             with contextlib.suppress(OSError):
-                return await to(host, port)
-        return await to(hosts[-1], port)
+                return await to(host)
+        try:
+            return await to(hosts[-1])
+        except ssl.SSLCertVerificationError as fault:
+            raise ConnectionError(f"it has no certificate of {name}: {fault.verify_message}") from None
 
     async def find(self, name: str) -> list[str]:
         """The addresses of a node. Its name is looked up once at a time, in a thread of its own, as one may be told
@@ -130,27 +118,23 @@ class Peers:
             return [host]
         sought = self.sought.get(name)
         if not sought or sought.done():
-            look = asyncio.get_running_loop().run_in_executor
-            sought = self.sought[name] = look(self.pool, look_up, host, port)
+            look = functools.partial(socket.getaddrinfo, host, port, type=socket.SOCK_STREAM)
+            sought = self.sought[name] = asyncio.get_running_loop().run_in_executor(self.pool, look)
             sought.add_done_callback(lambda it: it.cancelled() or it.exception())  # also where nobody waits any more
-        return await asyncio.shield(sought)
+        return [str(it[4][0]) for it in await asyncio.shield(sought)]
 
     def seats(self, owners: Sequence[str], faults: int) -> list[Seat]:
         """The shards of a committee, where their nodes are now."""
-        for number, name in enumerate(owners):
-            if (name, number) not in self.kept:
-                self.kept[name, number] = Seat(self, name, number, faults)
-        return [self.kept[name, number] for number, name in enumerate(owners)]
+        places = [(name, number) for number, name in enumerate(owners)]
+        return [self.kept.get(it) or self.kept.setdefault(it, Seat(self, *it, faults)) for it in places]
 
     async def told(self, name: str, request: bytes) -> dict[str, Any]:
         """A node's figures as it tells them; raises `ConnectionError` where it does not."""
         try:
             async with asyncio.timeout(self.seconds):
-                words: dict[str, Any] = {"ssl": self.context, "server_hostname": name}
-                reader, writer = await self.reach(name, functools.partial(asyncio.open_connection, **words))
-                with contextlib.closing(writer):
-                    writer.write(client.envelope(request))
-                    _, payload = await client.take_envelope(reader, 65_536)
+                with contextlib.closing(await self.connect(name)) as wire:
+                    wire.write(client.envelope(request))
+                    _, payload = await client.take_envelope(wire, 65_535)
                     if not isinstance(told := json.loads(payload[1:]), dict):
                         raise ValueError("what it tells are no figures")
                     return told
@@ -160,8 +144,3 @@ class Peers:
     async def close(self) -> None:
         await asyncio.gather(*(seat.close() for seat in self.kept.values()))
         self.pool.shutdown(wait=False, cancel_futures=True)
-
-
-def look_up(host: str, port: int) -> list[str]:
-    """The addresses of a name."""
-    return [str(it[4][0]) for it in socket.getaddrinfo(host, port, type=socket.SOCK_STREAM)]

@@ -8,6 +8,7 @@ import contextlib
 import dataclasses
 import mmap
 import os
+import pathlib
 import tempfile
 import threading
 from typing import IO, Any, AsyncGenerator, AsyncIterator, Callable, Optional, TypeVar, Union
@@ -34,6 +35,13 @@ def write(file: IO[bytes], data: memoryview) -> None:
     """Writes all of this to a file, of which one call may take a part."""
     while data:
         data = data[file.write(data) :]  # noqa: E203
+
+
+def must_fit(place: Union[int, pathlib.Path], size: int, reserve: float, full: str) -> None:
+    """Raises where so much more in a file or folder would take the part of its disk that is left free."""
+    disk = os.statvfs(place)
+    if disk.f_bavail * disk.f_frsize - size < reserve * disk.f_blocks * disk.f_frsize:
+        raise Problem(507, full)
 
 
 async def in_thread(call: Callable[..., Result], *words: Any) -> Result:
@@ -88,19 +96,13 @@ class Spool:
     def write(self, place: int, *parts: Union[bytes, bytearray, memoryview]) -> IO[bytes]:
         with self.turn:
             self.file = self.file or tempfile.TemporaryFile(buffering=0)
-            self.must_fit(self.file, sum(map(len, parts)))
+            must_fit(self.file.fileno(), sum(map(len, parts)), self.reserve, self.full)
             for part in parts:
                 view = memoryview(part)
                 while view:
                     written = os.pwrite(self.file.fileno(), view, place)
                     view, place = view[written:], place + written
             return self.file
-
-    def must_fit(self, file: IO[bytes], size: int) -> None:
-        """Raises where so much more is not to be written."""
-        disk = os.fstatvfs(file.fileno())
-        if disk.f_bavail * disk.f_frsize - size < self.reserve * disk.f_blocks * disk.f_frsize:
-            raise Problem(507, self.full)
 
     async def whole(self) -> bytes:
         """All that came, once; its memory is that of the file."""

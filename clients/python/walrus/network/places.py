@@ -74,15 +74,9 @@ class Root(contextlib.AbstractContextManager["Root"]):
         os.close(os.open(name, os.O_WRONLY | os.O_CREAT | os.O_EXCL, 0o600, dir_fd=self.handle))
         try:
             others = name.upper(), unicodedata.normalize("NFD", name)
-            return any(map(self.has, others))
+            return any(os.access(it, os.F_OK, dir_fd=self.handle) for it in others)
         finally:
             os.unlink(name, dir_fd=self.handle)
-
-    def has(self, name: str) -> bool:
-        with contextlib.suppress(OSError):
-            os.stat(name, dir_fd=self.handle, follow_symlinks=False)
-            return True
-        return False
 
     def must_keep_apart(self, paths: list[str]) -> None:
         """Raises where the file system takes two of these paths, or two of their folders, for one."""

@@ -142,7 +142,9 @@ class Reader:
         """The length of a file that is not read for it; None where a request needs more, or its metadata tells less."""
         if request.method != "HEAD" or name[NAME:] or name in self.cache.entries or digests.wanted(request):
             return None
-        return await self.lengths.of_file(name)
+        turn = contextlib.nullcontext() if name in self.lengths.known else self.readings.take(ASKING.get())
+        async with turn:  # shards are asked for it, of which one who asks may have no more than for reading
+            return await self.lengths.of_file(name)
 
     async def send(
         self,

@@ -42,8 +42,7 @@ class Recorder:
 
     def __init__(self, etcd: Etcd, state: Optional[State] = None) -> None:
         self.etcd, self.state = etcd, state or State()
-        self.ledger, self.base, self.identity = self.state.ledger, self.state.base, self.state.identity
-        self.chain, self.state.apply = self.state.chain or Chain(0, b""), self.apply
+        self.ledger, self.base, self.state.apply = self.state.ledger, self.state.base, self.apply
         self.waiting = dict[Taken, str]()
         self.recent, self.size = collections.deque[Batch](), 0  # batches for followers, and their bytes
         self.seen, self.fault = float("-inf"), ""  # when etcd was asked last; what it did not do
@@ -51,6 +50,11 @@ class Recorder:
         self.bell, self.news, self.own = asyncio.Event(), Waiting(), 0  # the place up to which it appends just now
         self.turn = asyncio.Lock()  # of followers who need what is in etcd alone
         self.turns = collections.defaultdict[str, asyncio.Lock](asyncio.Lock)  # in which each name waits in one place
+
+    @property
+    def chain(self) -> Chain:
+        """How far the ledger was read."""
+        return self.state.chain or Chain(0, b"")
 
     @property
     def fresh(self) -> bool:
@@ -103,7 +107,7 @@ class Recorder:
 
     def head(self, chain: Chain) -> str:
         """What stands at the head in etcd where the ledger ends so."""
-        return json.dumps({"ledger": self.identity, "place": chain.place, "digest": chain.digest.hex()})
+        return json.dumps({"ledger": self.state.identity, "place": chain.place, "digest": chain.digest.hex()})
 
     async def catch_up(self) -> None:
         """Reads what others have appended, until there is nothing new."""
@@ -145,9 +149,8 @@ class Recorder:
             head, _ = await self.etcd.append("", json.dumps({"ledger": birth, "place": 0, "digest": birth}))
         told = json.loads(head)
         if not self.chain.place:
-            self.identity = self.state.identity = told["ledger"]
-            self.chain = Chain(0, bytes.fromhex(told["ledger"]))
-        if told["ledger"] != self.identity or told["place"] < self.chain.place:
+            self.state.identity, self.state.chain = told["ledger"], Chain(0, bytes.fromhex(told["ledger"]))
+        if told["ledger"] != self.state.identity or told["place"] < self.chain.place:
             raise Broken(f"etcd has another ledger than before, or an older one: {head}")
         if told["place"] == self.chain.place and told["digest"] != self.chain.digest.hex():
             raise Broken(f"the batches in etcd have not the digest of the head: {head}")
@@ -171,7 +174,7 @@ class Recorder:
                 raise Broken(f"the checkpoint of place {mark.place} in etcd is not what was written")
             self.state.take(pieces)
             self.recent.clear()
-            self.size, self.chain = 0, mark.chain
+            self.size = 0
             await self.forget(mark.place)
 
     def enter(self, batch: Batch, own: bool = False) -> None:
@@ -184,8 +187,8 @@ class Recorder:
             self.apply(entry)
         if self.ledger.epoch != epoch:
             self.turned = time.monotonic() + (0 if own else GRACE)
-        self.chain, self.appended = batch.after, time.monotonic()
-        self.state.save(self.chain, entries, soon=True)
+        self.appended = time.monotonic()
+        self.state.save(batch.after, entries, soon=True)
         self.recent.append(batch)
         self.size += batch.size
         while self.size > RECENT:
@@ -221,13 +224,12 @@ class Recorder:
             entry = Entry(self.chain.place + len(places) + 1, text)
             if place := places.get(text) or self.ledger.stands(entry) and self.place_of(text):
                 answers[taken] = place
-            elif reason := fork.refuses(entry):
+            elif reason := fork.refused(entry):
                 answers[taken] = Refused(reason)
             else:
                 answers[taken] = places[text] = entry.revision
-                if entry.words[1] in ("begin", "finish"):
+                if fork.epoch != self.ledger.epoch:
                     break  # what comes behind a turn of the epoch is tried on what it comes to
-                fork.enter(entry)
         return answers, Batch(self.chain, [*places]) if places else None
 
     async def behind(self, place: int, name: str = "") -> list[Batch]:

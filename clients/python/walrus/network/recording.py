@@ -132,7 +132,7 @@ class Service(Server):
         await recorder.refresh()
         if after > (end := recorder.chain.place):
             return wrong(409, f"the ledger ends at place {end}, but {after} entries were heard before: {PARTED}")
-        line: dict[str, Any] = {"ledger": recorder.identity, "head": end, "entries": []}
+        line: dict[str, Any] = {"ledger": recorder.state.identity, "head": end, "entries": []}
         mark = await recorder.etcd.mark()
         if mark and after < mark.place and (mark.dropped or not after):
             chain, batches = mark.chain, list[Batch]()

@@ -11,6 +11,7 @@ from typing import TYPE_CHECKING, NamedTuple, Optional
 from .. import client, frames
 from ..frames import METADATA, PRIMARY, SECONDARY, code_of
 
+from .groups import several
 from .judge import Busy, Clash, name_of
 from .ledger import ACK, ATTEST
 from .peers import Seat
@@ -69,22 +70,18 @@ async def passing(who: str, what: str, seconds: float = 0) -> AsyncIterator[None
 
 async def by_lanes(node: "Node", lacks: Iterable[Lack], step: Callable[[Lack], Awaitable[None]]) -> None:
     """Takes a step for each blob, several at once. What fails comes again."""
-    left = iter(lacks)
 
-    async def go_on() -> None:
-        for lack in left:
-            try:
-                async with passing(lack.shard.title, lack.identifier.hex()):
-                    await step(lack)
-            except (Clash, sqlite3.Error):
-                raise  # of digests, or of the disk: the node must not go on
-            except Exception as fault:  # whatever others reply, this node goes on
-                said = f"{lack.identifier.hex()}: {type(fault).__name__}: {fault}"
-                print(f"{lack.shard.title}: {said}", file=sys.stderr, flush=True)
+    async def take(lack: Lack) -> None:
+        try:
+            async with passing(lack.shard.title, lack.identifier.hex()):
+                await step(lack)
+        except (Clash, sqlite3.Error):
+            raise  # of digests, or of the disk: the node must not go on
+        except Exception as fault:  # whatever others reply, this node goes on
+            said = f"{lack.identifier.hex()}: {type(fault).__name__}: {fault}"
+            print(f"{lack.shard.title}: {said}", file=sys.stderr, flush=True)
 
-    async with asyncio.TaskGroup() as group:
-        for _ in range(max(1, min(LANES, SEATS // node.port.shape.shards))):
-            group.create_task(go_on())
+    await several(map(take, lacks), max(1, min(LANES, SEATS // node.port.shape.shards)))
 
 
 async def settle(node: "Node", epoch: int, owed: Iterable[bytes]) -> int:
@@ -97,7 +94,7 @@ async def settle(node: "Node", epoch: int, owed: Iterable[bytes]) -> int:
             held = await node.store.settled(shard.holding, epoch, some[0], some[-1])
             work += [Lack(shard, it) for it in some if it not in held and not shard.settled(it)]
     if not work:
-        return 0
+        return 0 if await node.store.durable() else len(owed)
     later = {it.identifier for it in work if not node.ledger.certificate(it.identifier)}
     node.progress = progress = Progress(epoch, len(work))
 
@@ -116,7 +113,7 @@ async def settle(node: "Node", epoch: int, owed: Iterable[bytes]) -> int:
     await by_lanes(node, sorted(work, key=lambda it: it.identifier in later), measure)
     await by_lanes(node, sorted(work, key=lambda it: (it.identifier in later, -sizes.get(it, 0))), recover)
     left = sum(not shard.settled(it) for shard, it in work)  # what the disk lost meanwhile, too
-    return left if await node.durable() else len(work)
+    return left if await node.store.durable() else len(work)
 
 
 def sides(node: "Node") -> list[Sequence[Seat]]:
@@ -154,16 +151,15 @@ async def fill(node: "Node", shard: Shard, identifier: bytes) -> None:
         return
     shape, own = node.port.shape, shard.number
     crossing = shape.shards - 1 - own if metadata[0] == client.SECOND_METADATA else own
-    columns = {PRIMARY: own, SECONDARY: crossing}
-    lacks = [part for part in shard.lacks(identifier) if part in columns]
-    targets = {part: client.Symbol(identifier, part - PRIMARY, columns[part]) for part in lacks}
-    counts = [shape.symbols[it.axis] for it in targets.values()]  # of symbols that come, and of which a sliver is made
-    size = (sum(counts) + max(counts, default=0)) * (node.port.shape.symbol_of(metadata) + 1_024)
+    targets = {PRIMARY: client.Symbol(identifier, 0, own), SECONDARY: client.Symbol(identifier, 1, crossing)}
+    lacks = {*targets} & {*shard.lacks(identifier)}
+    counts = [shape.symbols[it - PRIMARY] for it in lacks]  # of symbols that come, and of which a sliver is made
+    size = (sum(counts) + max(counts, default=0)) * (shape.symbol_of(metadata) + 1_024)
     async with node.repairs.take(size, None):
-        for side in sides(node) if targets else ():
-            wanted = {part: client.write_frame(it) for part, it in targets.items()}
+        for side in sides(node):
+            wanted = {part: client.write_frame(targets[part]) for part in lacks & {*shard.lacks(identifier)}}
             others = [Once(it, wanted.values()) for it in side if (it.name, it.number) != (node.name, own)]
-            for part in sorted(targets, reverse=True):  # the secondary sliver first, for which few symbols will do
+            for part in sorted(wanted, reverse=True):  # the secondary sliver first, for which few symbols will do
                 with contextlib.suppress(client.Refused):
                     if not shard.settled(identifier):
                         found = client.recover(others, targets[part], node.judges)  # type: ignore[arg-type]
@@ -173,8 +169,5 @@ async def fill(node: "Node", shard: Shard, identifier: bytes) -> None:
                     it.late = it.late or it.asked is None  # who was asked has said the rest already
             for it in others:
                 it.seat.late = it.late if it.asked else it.seat.late
-            targets = {part: it for part, it in targets.items() if part in shard.lacks(identifier)}
-            if not targets:
-                break
     if shard.vouches(ATTEST, identifier) and not shard.vouches(ACK, identifier):
         await node.vouch(ATTEST, shard, frames.write_frame(frames.Attest(identifier)))

@@ -51,14 +51,9 @@ class Restoring(Service):
         return web.json_response({})
 
     def hears(self, name: str, tail: list[str]) -> None:
-        if name in self.names():
+        if name in self.recorder.ledger.nodes:
             self.tails[name] = tail
             self.told.set()
-
-    def names(self) -> list[str]:
-        """The nodes of both committees."""
-        ledger = self.recorder.ledger
-        return list(dict.fromkeys(ledger.now + ledger.next))
 
     def enough(self, names: list[str]) -> bool:
         """Whether one of these nodes at least is correct."""
@@ -91,7 +86,7 @@ class Restoring(Service):
                 count, self.progress = count + len(entries), time.monotonic()
                 self.tails.clear()
                 print(f"{count} entries are there again, up to place {recorder.chain.place}", flush=True)
-            elif {*self.names()} <= {*self.tails}:
+            elif {*recorder.ledger.nodes} <= {*self.tails}:
                 break
             self.told.clear()
             await asyncio.wait([asyncio.create_task(self.told.wait())], timeout=1)
@@ -109,10 +104,10 @@ async def serve(settings: RecorderSettings, seconds: float) -> int:
         working = asyncio.create_task(service.restore(seconds))
         await asyncio.wait([working, asyncio.create_task(told.wait())], return_when=asyncio.FIRST_COMPLETED)
         count: Optional[int] = working.result() if working.done() else None
-        silent = [it for it in service.names() if it not in service.tails]
-        for name in silent:
-            first = service.short.get(name)
-            print(f"{name} {f'has kept nothing before place {first}' if first else 'was not heard at the end'}")
+        for name in recorder.ledger.nodes:
+            if name not in service.tails:
+                first = service.short.get(name)
+                print(f"{name} {f'has kept nothing before place {first}' if first else 'was not heard at the end'}")
         print(f"{count or 0} entries are back; the ledger ends at place {recorder.chain.place}")
         return 0 if count is not None else 1
     except (Broken, Failed, OSError) as fault:

@@ -6,14 +6,14 @@ import errno
 import shutil
 import sqlite3
 import sys
-from typing import Callable, Collection, Mapping, NamedTuple, Optional, Sequence
+from typing import AsyncIterator, Callable, Collection, Iterable, Mapping, NamedTuple, Optional, Sequence
 
 from .. import client, frames
 from ..client import Data
 from ..frames import METADATA, PRIMARY, PROOF, SECONDARY, answer, code_of, joined, part_of
 
 from . import judge
-from .judge import Judges
+from .judge import Found, Judges
 from .ledger import ACK, ATTEST, Ledger
 from .store import Part, Store
 from .whole import Whole
@@ -23,10 +23,11 @@ UNREGISTERED, DECLINED, FULL, NO_MEMORY = 1, 5, 6, 7
 ALL = METADATA, PRIMARY, SECONDARY, PROOF
 WANTING = errno.ENOSPC, errno.EDQUOT, errno.EIO, errno.EROFS  # how a disk does not take what came
 NAMES = "metadata", "primary sliver", "secondary sliver", "proof"
-Writing = asyncio.Task[list[str]]  # contents that are written to files; the names of these
+Parts = Mapping[int, Data]
+Writing = Optional[asyncio.Task[dict[int, str]]]  # long parts that come to files, and the names that nobody has taken
 
 
-def pages(parts: Sequence[Data]) -> int:
+def pages(parts: Iterable[Data]) -> int:
     """The pages of a disk that parts take, at most."""
     return sum(len(it) // 4096 + 1 for it in parts)
 
@@ -53,10 +54,10 @@ def entries_of(ledger: Ledger, epoch: int, identifier: bytes) -> list[bytes]:
         return []
     found = blob.quorum(ATTEST, ledger.quorum)
     invalid = min(found[0], epoch) if found else epoch  # declared so in an epoch before, or perhaps in this one
-    told = [client.write_frame(client.RegisterEntry(identifier, blob.until - epoch))]
-    told += [client.write_frame(client.AckEntry(it, identifier)) for it in sorted(blob.votes[ACK].get(epoch, ()))]
-    words = [frames.AttestEntry(it, identifier) for it in sorted(blob.votes[ATTEST].get(invalid, ()))]
-    return told + [frames.write_frame(it) for it in words]
+    said: list[frames.Frame] = [client.RegisterEntry(identifier, blob.until - epoch)]
+    said += [client.AckEntry(it, identifier) for it in sorted(blob.votes[ACK].get(epoch, ()))]
+    said += [frames.AttestEntry(it, identifier) for it in sorted(blob.votes[ATTEST].get(invalid, ()))]
+    return [client.write_frame(it) for it in said]
 
 
 @dataclasses.dataclass(eq=False)
@@ -97,26 +98,19 @@ class Shard:
     async def judged(self, identifier: bytes, request: bytes, wanted: Collection[int], wrong: bool = False) -> Judged:
         """What the judge says to a request over these parts, also those known to be wrong if told so. Who asks has the
         blob for himself."""
-        self.must_serve()
-        revision, losses = self.ledger.revision, self.store.losses
         told = entries_of(self.ledger, self.epoch, identifier)
         held = self.store.parts(self.holding, self.epoch, identifier, wanted, wrong) if told else []
-        size = sum(it.size for it in held) + len(request)
-        found = await self.judges.ask(size, self.over, request, told, held)
-        self.must_serve()
-        return Judged([request], *found, revision, losses, size)
+        return await self.ask([request], sum(it.size for it in held), self.over, request, told, held)
 
-    async def judged_whole(self, whole: Whole) -> Judged:
-        """What the judge gives over a blob of which nothing is held. Who asks has it for himself."""
+    async def ask(self, requests: Sequence[Data], held: int, step: Callable[..., Found], *words: object) -> Judged:
+        """What the judge gives by a step, to these requests over so many bytes."""
         self.must_serve()
-        ledger, revision, losses = self.ledger, self.ledger.revision, self.store.losses
-        told, requests = entries_of(ledger, self.epoch, whole.identifier), [*whole.parts, whole.wish]
-        size = sum(map(len, requests))
-        found = await self.judges.ask(size, whole.judge, self.judges.engine, ledger.faults, self.number, told)
+        revision, losses, size = self.ledger.revision, self.store.losses, held + sum(map(len, requests))
+        found = await self.judges.ask(size, step, *words)
         self.must_serve()
-        return Judged(requests, found, [], revision, losses, size)
+        return Judged(requests, *found, revision, losses, size)
 
-    def over(self, request: bytes, told: list[bytes], held: Sequence[Part]) -> tuple[list[list[bytes]], list[int]]:
+    def over(self, request: bytes, told: list[bytes], held: Sequence[Part]) -> Found:
         """The judge's reply to a request over these entries and parts, and which parts are not what they should be."""
         given, requests = [-1] * len(told), list[Data](told)
         for part in held:
@@ -168,98 +162,70 @@ class Shard:
                 return [answer(DECLINED)]
             judged = await self.sure(identifier, payload)
             parts = {part: payload} if code_of(judged.replies[0]) == client.DONE else {}
-            return await self.keep(identifier, judged, parts, mends or part == PROOF)
+            fits = mends or part == PROOF or pages(parts.values()) <= self.free_pages()
+            async with self.written(identifier, parts if fits else {}) as files:
+                return await self.keep(identifier, judged, parts if fits else None, files)
 
     async def put_whole(self, whole: Whole) -> list[bytes]:
-        """Stores all parts of a blob of which nothing is held; the judge's reply to the wish for a word, or to a part
-        that will not do. Empty, where something is held already."""
-        identifier = whole.identifier
+        """Stores all parts of a blob of which nothing is held, long ones beside the judge; its reply to the wish for a
+        word, or to a part that will not do. Empty, where something is held already."""
+        identifier, parts, requests = whole.identifier, dict(zip(ALL, whole.parts)), [*whole.parts, whole.wish]
         async with self.store.alone(self.holding, identifier):
             if self.epoch != self.ledger.writing_epoch:
                 return [answer(DECLINED)]  # the next committee has begun with what was held then
             if self.store.sizes(self.holding, self.epoch, identifier) or self.store.wrong(self.holding, identifier):
                 return []
-            parts = dict(zip((METADATA, PRIMARY, SECONDARY), whole.parts))
-            is_long, told = max(map(len, whole.parts)) > SMALL, entries_of(self.ledger, self.epoch, identifier)
-            fits = is_long and told and pages(whole.parts) < self.free_pages()  # what is not registered is judged alone
-            writing = self.write(identifier, parts) if fits else None
-            try:
-                judged = await self.judged_whole(whole)
-            except BaseException:
-                await self.let_go(writing)
-                raise
-            for reply in judged.replies[:3]:
-                if code_of(reply) != client.DONE:
-                    await self.let_go(writing)
-                    return reply
-            return await self.keep(identifier, judged, parts, writing=writing)
+            told, fits = entries_of(self.ledger, self.epoch, identifier), pages(requests) <= self.free_pages()
+            async with self.written(identifier, parts if told and fits else {}) as files:
+                words = self.judges.engine, self.ledger.faults, self.number, told
+                judged = await self.ask(requests, 0, whole.judge, *words)
+                for reply in judged.replies[:3]:
+                    if code_of(reply) != client.DONE:
+                        return reply
+                return await self.keep(identifier, judged, parts if fits else None, files)
 
-    def write(self, identifier: bytes, parts: Mapping[int, Data]) -> Writing:
-        """Has long parts written to files, beside what else is done; the names of these."""
-        long = [it for it in parts.values() if len(it) > SMALL]
-        return asyncio.create_task(self.judges.work(self.store.files.write, identifier, *long))
+    @contextlib.asynccontextmanager
+    async def written(self, identifier: bytes, parts: Parts) -> AsyncIterator[Writing]:
+        """Has long parts written to files, beside what else is done. In the end those go that nobody has taken, as soon
+        as all are written: what comes to them is in memory as long."""
+        long = {part: it for part, it in parts.items() if len(it) > SMALL}
 
-    async def let_go(self, writing: Optional[Writing]) -> None:
-        """Has files removed that nobody wants once they are written, and waits for that: what comes to them is in
-        memory as long."""
+        async def write() -> dict[int, str]:
+            return dict(zip(long, await self.judges.work(self.store.files.write, identifier, *long.values())))
 
-        def written(task: Writing) -> None:
-            if not task.cancelled() and not task.exception():
-                self.store.abandon(task.result())
-
-        if writing:
-            writing.add_done_callback(written)
-            await asyncio.wait([writing])
+        writing = asyncio.create_task(write()) if long else None
+        try:
+            yield writing
+        finally:
+            if writing:
+                await asyncio.wait([writing])
+                if not writing.cancelled() and not writing.exception():
+                    self.store.abandon(writing.result().values())
 
     def free_pages(self) -> int:
         """The pages of the disk that are free beside the reserve."""
         disk = shutil.disk_usage(self.store.path.parent)
         return min(max(0, int(disk.free - self.reserve * disk.total)) // 4096, 2**32 - 1)
 
-    async def keep(
-        self,
-        identifier: bytes,
-        judged: Judged,
-        parts: Mapping[int, Data],
-        mends: bool = False,
-        writing: Optional[Writing] = None,
-    ) -> list[bytes]:
-        """Stages parts that the judge takes, which are perhaps being written to files already; its last reply, or that
-        the disk does not take what that rests on."""
-        needed = pages(judged.requests)
-        fits = writing or mends or needed <= self.free_pages()
-        if not parts or fits and await self.stage(identifier, parts, judged.losses, writing):
-            reply = self.note(judged)
-            if self.store.losses == judged.losses:
-                return reply
-        return [answer(FULL, needed, self.free_pages())]
-
-    async def stage(
-        self, identifier: bytes, parts: Mapping[int, Data], losses: int, writing: Optional[Writing] = None
-    ) -> bool:
-        """Stages parts, long ones in files, unless something was lost meanwhile; whether the disk takes them so far.
-        Where it does not, or who asks is told to end, no file stays."""
-        long, names, kept = [part for part, it in parts.items() if len(it) > SMALL], list[str](), False
-        writing = writing or (self.write(identifier, parts) if long else None)
+    async def keep(self, identifier: bytes, judged: Judged, parts: Optional[Parts], files: Writing) -> list[bytes]:
+        """Stages parts that the judge takes, unless something was lost meanwhile; its last reply, or that the disk does
+        not take what that rests on, such as parts for which it has no room."""
         try:
-            if writing:
-                names = await asyncio.shield(writing)
-                self.must_serve()
-            if self.store.losses == losses:
-                files = dict(zip(long, names))
+            names = await asyncio.shield(files) if files else {}
+            self.must_serve()
+            if parts is not None and self.store.losses == judged.losses:
                 for part, payload in parts.items():
-                    self.store.put(self.holding, self.epoch, identifier, part, payload, files.get(part))
-                kept = True
+                    self.store.put(self.holding, self.epoch, identifier, part, payload, names.pop(part, None))
+                reply = self.note(judged)
+                if self.store.losses == judged.losses:
+                    return reply
         except sqlite3.Error:
             pass  # the store has told it
         except OSError as fault:
             if fault.errno not in WANTING:
                 raise
             self.store.tell(fault)
-        finally:
-            if not kept:
-                await self.let_go(writing)
-        return kept
+        return [answer(FULL, pages(judged.requests), self.free_pages())]
 
     async def forget(self, request: bytes) -> list[bytes]:
         """Lets the slivers of an invalid blob go."""
@@ -269,7 +235,7 @@ class Shard:
             with contextlib.suppress(sqlite3.Error):
                 if code_of(judged.replies[0]) == client.DONE:
                     self.store.forget(self.holding, self.epoch, identifier)
-            return await self.keep(identifier, judged, {})
+            return await self.keep(identifier, judged, {}, None)
 
     async def check(self, identifier: bytes) -> tuple[int, bool]:
         """Has all that is held of a blob judged; its bytes, and whether all is what it should be."""

@@ -37,17 +37,14 @@ class Shares:
 
     def take(self, token: Token, epoch: int, size: int, blobs: int) -> bool:
         """Counts so much more, or less, unless that is beyond the token's share."""
+        bounds = token.bounds if size > 0 or blobs > 0 else {}
+        most = [NO_BOUND if (bound := bounds.get(kind)) is None else bound for kind in ("bytes", "blobs")]
         try:
-            return self.take_row(token, epoch, size, blobs)
+            self.base.execute(BEGIN, (token.name, epoch))
+            self.base.execute("DELETE FROM used WHERE name = ? AND epoch < ?", (token.name, epoch - KEPT))
+            return self.base.execute(TAKE, (token.name, epoch, size, blobs, *most)).rowcount == 1
         except sqlite3.Error as fault:
             raise Problem(503, f"what tokens have used cannot be kept, and so nothing is stored: {fault}") from None
-
-    def take_row(self, token: Token, epoch: int, size: int, blobs: int) -> bool:
-        most = [NO_BOUND if it is None else it for it in (token.bounds["bytes"], token.bounds["blobs"])]
-        self.base.execute(BEGIN, (token.name, epoch))
-        self.base.execute("DELETE FROM used WHERE name = ? AND epoch < ?", (token.name, epoch - KEPT))
-        bounds = most if size > 0 or blobs > 0 else [NO_BOUND, NO_BOUND]
-        return self.base.execute(TAKE, (token.name, epoch, size, blobs, *bounds)).rowcount == 1
 
 
 class Charge:
@@ -59,11 +56,8 @@ class Charge:
 
     def announce(self, size: int) -> None:
         """Raises where a file of this length is beyond the share, before its bytes come."""
-        if self.shares and self.token:
-            if self.shares.take(self.token, self.epoch, size, count_of(size)):
-                self.shares.take(self.token, self.epoch, -size, -count_of(size))
-            else:
-                self.refuse()
+        self.set_to(size, count_of(size))
+        self.set_to(0, 0)
 
     def add(self, size: int) -> None:
         """Takes what more bytes of the file cost; raises where that is beyond the share, and then they do not count."""
@@ -82,10 +76,6 @@ class Charge:
         """Gives back what is more than so many pieces."""
         self.set_to(pieces * PIECE, pieces)
 
-    def extend(self, size: int, blobs: int) -> None:
-        """Takes what a file of this length costs again, of which so many blobs are kept for longer."""
-        self.set_to(size, blobs)
-
     def settle(self, is_stored: bool, is_new: bool) -> None:
         """Gives back what was not stored: all of a file that was there, and of a broken one the piece that it broke."""
         whole = max(0, self.size - 1) // PIECE  # pieces that may be stored once something follows them
@@ -95,6 +85,7 @@ class Charge:
             self.set_to(0, 0)
 
     def set_to(self, size: int, blobs: int) -> None:
+        """Takes what so many bytes and blobs cost, or gives back what was taken beyond that; raises as `add` does."""
         if self.shares and self.token and (size, blobs) != (self.bytes, self.blobs):
             if not self.shares.take(self.token, self.epoch, size - self.bytes, blobs - self.blobs):
                 self.refuse()

@@ -2,12 +2,14 @@
 import asyncio
 import collections
 import dataclasses
+import functools
 import mmap
 import tempfile
-from typing import Iterator, Optional, Union
+from typing import Iterator, Union
 
 from .chunks import NAME, PIECE, File
 from .manifest import MARK, MOST_BYTES, Foreign, Manifest, Place, Wrong
+from .pieces import to_the_end, write
 from .problems import Problem
 from .reading import Reader
 from .turns import ASKING, Turns
@@ -42,17 +44,13 @@ class Shelf:
         task = self.kept.get(name)
         if not task or not task.done():
             async with self.turns.take(ASKING.get()):
-                task = self.kept.get(name) or self.begin(name)
+                if not (task := self.kept.get(name)):
+                    task = self.kept[name] = asyncio.create_task(self.load(name))
+                    task.add_done_callback(functools.partial(self.loaded, name))
                 await asyncio.wait([task])
         if name in self.kept:
             self.kept.move_to_end(name)
         return await asyncio.shield(task)
-
-    def begin(self, name: bytes) -> "asyncio.Task[Manifest]":
-        """Has a manifest read."""
-        task = self.kept[name] = asyncio.create_task(self.load(name))
-        task.add_done_callback(lambda done: self.loaded(name, done))
-        return task
 
     def loaded(self, name: bytes, task: "asyncio.Task[Manifest]") -> None:
         fault = None if task.cancelled() else task.exception()
@@ -70,14 +68,21 @@ class Shelf:
     async def load(self, name: bytes) -> Manifest:
         ASKING.set("folders")  # in its own task: others wait for this turn, and not behind all that one asks for
         async with self.turn:
-            data = await self.read(name)
             try:
-                pool = self.reader.network.walrus.pool
-                return await asyncio.get_running_loop().run_in_executor(pool, Manifest, data)
-            except Foreign:
-                raise Problem(404, NO_FOLDER, manifest=False) from None
-            except Wrong as fault:
-                raise Problem(410, f"the folder's manifest is malformed: {fault}", manifest=False) from None
+                return await self.made(name)
+            except Problem as fault:
+                told = Problem(fault.status, str(fault), fault.headers, **fault.more)
+        raise told  # which is kept, and not the calls that it came through: these have all that was read
+
+    async def made(self, name: bytes) -> Manifest:
+        data = await self.read(name)
+        try:
+            pool = self.reader.network.walrus.pool
+            return await asyncio.get_running_loop().run_in_executor(pool, Manifest, data)
+        except Foreign:
+            raise Problem(404, NO_FOLDER, manifest=False) from None
+        except Wrong as fault:
+            raise Problem(410, f"the folder's manifest is malformed: {fault}", manifest=False) from None
 
     async def read(self, name: bytes) -> Union[bytes, memoryview]:
         """The bytes of what may be a manifest, in a file without a name where they are many."""
@@ -94,9 +99,7 @@ class Shelf:
                         raise Problem(404, NO_FOLDER, manifest=False)
                     if file.length > MOST_BYTES:
                         raise Problem(410, f"the folder's manifest has more than {MOST_BYTES} bytes", manifest=False)
-                    view = memoryview(blob)
-                    while view:
-                        view = view[out.write(view) :]  # noqa: E203
+                    await to_the_end(write, out, memoryview(blob))
             return memoryview(mmap.mmap(out.fileno(), file.length, access=mmap.ACCESS_READ))
 
     async def file(self, place: Place) -> File:
@@ -118,9 +121,14 @@ class Shelf:
         if file.names != name and file.length <= MOST_BYTES:
             async with self.reader.blob(next(file.pieces(0, 1))[0]) as blob:
                 front = bytes(blob[: len(MARK)])
-        manifest = await self.folder_at(name) if front == MARK else None
-        if manifest is None:
+        if front != MARK:
             return file.length, found
+        try:
+            manifest = await self.manifest(name)
+        except Problem as fault:
+            if "manifest" in fault.more:  # it begins as one and is none, and so is an ordinary file
+                return file.length, found
+            raise
         sizes = dict[bytes, int]()
         for number, place in enumerate(manifest):
             if place.length:
@@ -134,15 +142,6 @@ class Shelf:
                 async with self.reader.blob(other) as blob:
                     found |= blobs_of(File.of(other, blob))
         return file.length + sum(sizes.values()), found
-
-    async def folder_at(self, name: bytes) -> Optional[Manifest]:
-        """The manifest of what begins as one; nothing where it is none, and so an ordinary file."""
-        try:
-            return await self.manifest(name)
-        except Problem as fault:
-            if "manifest" in fault.more:
-                return None
-            raise
 
     async def close(self) -> None:
         for task in self.kept.values():

@@ -2,10 +2,12 @@
 import asyncio
 import concurrent.futures
 import contextlib
+import errno
 import functools
+import os
 import pathlib
 import sqlite3
-from typing import Callable, Iterable, Optional, TypeVar
+from typing import Any, Callable, Iterable, Optional, TypeVar
 
 from .database import Database
 from .files import Files
@@ -13,29 +15,41 @@ from .files import Files
 TORN = "the database is torn: move it away and start the node without it, and the others fill it (network/OPERATING.md)"
 THREADS = 4  # for what takes long on the disk
 Result = TypeVar("Result")
+Written = asyncio.Future[bool]  # whether what was staged together came to the disk
 SOON, LATER = 0.002, 0.5  # seconds until what waits is committed: what a reply waits for, and what nobody waits for
 
 
 class Staged(Database):
-    """A database. What is staged goes to the disk together, soon; where it cannot, all of it is lost."""
+    """A database. What is staged is committed together, soon, and is on the disk once a thread has synced SQLite's log:
+    so a slow disk holds up nobody else. What cannot be committed is lost. Behind a sync that failed nobody knows what
+    the disk has: nothing is said to be there any more, and `fail` is told, which ends the node."""
 
     seconds = 5.0  # in which others wait too
 
-    def __init__(self, path: pathlib.Path):
-        self.path, self.losses = path.resolve(), 0  # how often what was staged was lost
-        self.pending: Optional["asyncio.Future[bool]"] = None  # whether what is staged came to the disk
-        self.flushed: Optional[asyncio.TimerHandle] = None  # when that is tried
+    def __init__(self, path: pathlib.Path, fail: Callable[[Any], object]):
+        self.path, self.fail, self.losses = path.resolve(), fail, 0  # how often what was staged was lost
+        self.pending: Optional[Written] = None  # of what is staged
+        self.flushed: asyncio.TimerHandle  # when that is committed
         self.named, self.dropped = list[str](), list[str]()  # files that what is staged names, and no longer names
+        self.committed = list[tuple[Written, list[str]]]()  # what the next sync is for, and the files that go then
+        self.last: Optional[Written] = None  # of what was committed last
+        self.syncing: Optional["asyncio.Task[None]"] = None
+        self.failed: Optional[OSError] = None  # how a sync failed
         try:
             super().__init__(str(self.path))
         except BlockingIOError:
             words = "end that one first, or name another database"
             raise OSError(f"another process runs over {self.path}: {words}") from None
+        self.log = self.opened.enter_context(open(f"{self.path}-wal", "rb"))  # by which each fault is told once
         self.pool = concurrent.futures.ThreadPoolExecutor(THREADS, "disk")  # asyncio's own looks names up, perhaps long
 
     def open_tables(self) -> None:
         """Finds whole pages, and the folder of files or makes it; a fault in here closes the database again."""
-        self.base.execute("PRAGMA synchronous = FULL")
+        if self.base.execute("PRAGMA journal_mode").fetchone() != ("wal",):
+            raise OSError(
+                errno.EINVAL, f"SQLite keeps no log on the disk of {self.path}: have the database on another one"
+            )
+        self.base.execute("PRAGMA synchronous = NORMAL")
         self.base.text_factory = functools.partial(str, encoding="utf-8", errors="replace")
         if self.base.execute("PRAGMA quick_check(1)").fetchone() != ("ok",):
             raise sqlite3.DatabaseError("its pages do not fit together")
@@ -60,25 +74,24 @@ class Staged(Database):
         self.losses += 1
         if self.base.in_transaction:
             self.base.execute("ROLLBACK")
-        self.settle(False)
+        self.abandon(self.named)
+        if pending := self.settle():
+            pending.set_result(False)
 
-    def settle(self, written: bool) -> None:
-        pending, self.pending = self.pending, None
-        if self.flushed:
-            self.flushed.cancel()
-            self.flushed = None
-        self.abandon(self.dropped if written else self.named)
-        self.named, self.dropped = [], []
+    def settle(self) -> Optional[Written]:
+        """Has nothing staged any more; who waits for what was."""
+        pending, self.pending, self.named, self.dropped = self.pending, None, [], []
         if pending:
-            pending.set_result(written)
+            self.flushed.cancel()
+        return pending
 
     def abandon(self, files: Iterable[str]) -> None:
         """Has files removed that nothing names."""
         if found := [*files]:
             asyncio.get_running_loop().run_in_executor(self.pool, self.files.remove, found)
 
-    def flush(self) -> bool:
-        """Commits what is staged; whether it is on the disk."""
+    def commit(self) -> bool:
+        """Commits what is staged; whether the disk takes it so far."""
         try:
             if self.pending:
                 self.base.execute("COMMIT")
@@ -86,25 +99,54 @@ class Staged(Database):
         except sqlite3.Error as fault:
             self.lose(fault)
             return False
-        self.settle(True)
+        dropped = self.dropped
+        if pending := self.settle():
+            self.last = pending
+            self.committed.append((pending, dropped))
         return True
 
-    def written(self, seconds: float = SOON) -> Optional["asyncio.Future[bool]"]:
-        """Whether what is staged now comes to the disk, which is tried in so many seconds at the latest; nothing where
-        nothing is staged."""
+    def flush(self) -> bool:
+        """The same, and has it come to the disk."""
+        done = self.commit()
+        if not self.syncing or self.syncing.done():
+            self.syncing = asyncio.create_task(self.sync())
+        return done
+
+    async def sync(self) -> None:
+        """Has the disk keep what is committed, and says so; what is committed meanwhile comes next."""
+        while self.committed:
+            some, self.committed = self.committed, []
+            try:
+                if not self.failed:
+                    await asyncio.get_running_loop().run_in_executor(self.pool, os.fdatasync, self.log)
+            except OSError as fault:
+                words = f"the log of {self.path} is not synced: {fault.strerror}; look at the disk before another start"
+                self.failed = OSError(fault.errno, words)
+            for written, dropped in some:
+                written.set_result(not self.failed)
+                self.abandon(() if self.failed else dropped)
+        if self.failed:
+            self.fail(self.failed)
+
+    def written(self) -> Optional[Written]:
+        """Whether what was staged so far comes to the disk, which is tried soon; nothing where nothing was."""
         loop = asyncio.get_running_loop()
-        if self.pending and (not self.flushed or self.flushed.when() > loop.time() + seconds):
-            if self.flushed:
-                self.flushed.cancel()
-            self.flushed = loop.call_later(seconds, self.flush)
-        return self.pending
+        if self.pending and self.flushed.when() > loop.time() + SOON:
+            self.flushed.cancel()
+            self.flushed = loop.call_later(SOON, self.flush)
+        return self.pending or self.last
+
+    async def durable(self) -> bool:
+        """Whether all that was staged comes to the disk."""
+        written = self.written()
+        return written is None or await asyncio.shield(written)
 
     async def persist(self, stage: Callable[[], None]) -> None:
         """Puts on the disk what must be there before the node goes on, however long that takes."""
         while True:
             with contextlib.suppress(sqlite3.Error):
                 stage()
-                if self.flush():
+                if self.flush() and await self.durable():
                     return
             await asyncio.sleep(1)
 
@@ -122,6 +164,8 @@ class Staged(Database):
         return await asyncio.get_running_loop().run_in_executor(self.pool, read)
 
     def close(self) -> None:
-        self.flush()
+        self.commit()  # which SQLite syncs as it closes
+        if self.syncing:
+            self.syncing.cancel()
         self.pool.shutdown()
         super().close()

@@ -17,11 +17,13 @@ from .ledger import Ledger
 EACH, LATER = 0.5, 1.0  # seconds between two commits, and if the disk is full
 REST = 10  # times as long as it took to enter again what a full disk did not take, until it is tried again
 PAGES = 32_768  # KiB of the database that are kept in memory
+VERSION = 2  # of the tables
+DROPPED = 1_000  # rows of what is over that go with a commit
 TORN = sqlite3.SQLITE_CORRUPT, sqlite3.SQLITE_NOTADB, sqlite3.SQLITE_ERROR  # a database that is none, or another's
 TABLES = """
 PRAGMA synchronous = NORMAL;
 PRAGMA cache_spill = OFF;
-CREATE TABLE IF NOT EXISTS entries (place INTEGER PRIMARY KEY, text TEXT);
+CREATE TABLE IF NOT EXISTS entries (place INTEGER PRIMARY KEY, text TEXT, epoch INTEGER);
 CREATE TABLE IF NOT EXISTS told (one INTEGER PRIMARY KEY CHECK (one = 1), value TEXT);
 CREATE TABLE IF NOT EXISTS places (digest BLOB PRIMARY KEY, place INTEGER) WITHOUT ROWID; -- of entries, at a recorder
 """
@@ -33,31 +35,33 @@ FORMS |= {"addresses": lambda told: {name: (host, port) for name, (host, port) i
 
 
 class State(Database):
-    """A database of one process; what was entered since it was saved is not there at the next start. Where a tail of so
-    many epochs is to be kept, the one of now among them, it has their entries too."""
+    """A database of one process; what was entered since it was saved is not there at the next start, and nothing is
+    saved while `entering`. Where a tail of so many epochs is to be kept, the one of now among them, it has their
+    entries too, and who keeps it drops the rows of blobs that are over."""
 
     def __init__(self, path: str = "", tail: int = 0, pages: int = PAGES):
-        self.tail, self.pages, self.identity, self.turns = tail, pages, "", list[int]()
+        self.tail, self.pages, self.identity, self.entering = tail, pages, "", False
         self.chain: Optional[Chain] = None
         self.fresh = list[Entry]()  # entries that the disk does not have yet
         self.again = self.due = 0.0  # when a full disk is tried again, and when what is to be kept soon is saved
         super().__init__(path)
 
     def open_tables(self) -> None:
-        self.base.executescript(f"PRAGMA cache_size = -{self.pages};{TABLES}")
+        [(version,)] = self.base.execute("PRAGMA user_version")
+        if version != VERSION and self.base.execute("SELECT 1 FROM sqlite_master").fetchone():
+            raise ValueError("its tables are of another version")
+        self.base.executescript(f"PRAGMA cache_size = -{self.pages}; PRAGMA user_version = {VERSION};{TABLES}")
         self.blobs = Blobs(self.base)
         self.ledger, self.saved = Ledger(self.blobs), 0  # the epoch that was saved
         self.apply: Callable[[Entry], Optional[str]] = self.ledger.apply  # enters again what the disk did not take
-        self.born = json.dumps({**self.fields(), "turns": []})
+        self.born = json.dumps(self.fields())
         self.base.execute("BEGIN IMMEDIATE")
         self.load()
 
     def load(self) -> None:
         """Takes what was saved; where nothing was, what a ledger says before its first entry."""
         row = self.base.execute("SELECT value FROM told").fetchone()
-        told = json.loads(row[0]) if row else json.loads(self.born) | {"ledger": self.identity}
-        self.turns = told.pop("turns")
-        self.put(told)
+        self.put(json.loads(row[0]) if row else json.loads(self.born) | {"ledger": self.identity})
         self.saved = self.ledger.epoch
         if not row:
             self.chain = None
@@ -82,7 +86,7 @@ class State(Database):
         chain, said = self.chain or Chain(0, b""), {name: getattr(self.ledger, name) for name in FORMS}
         told = {"ledger": self.identity, "place": chain.place, "digest": chain.digest.hex()}
         told |= {name: sorted(it) if isinstance(it, frozenset) else copy.copy(it) for name, it in said.items()}
-        return told | {"sizes": dict(self.blobs.sizes)}
+        return told | {"sizes": self.blobs.counts() | {"number": self.blobs.number}}
 
     def put(self, told: dict[str, Any]) -> None:
         """Has the ledger say this beside its blobs."""
@@ -90,7 +94,8 @@ class State(Database):
         told = {"posted": {}, "shares": {}, "addresses": {}, "past": {}} | told  # a checkpoint leaves out what is empty
         for name, form in FORMS.items():
             setattr(self.ledger, name, form(told[name]))
-        self.blobs.sizes, self.blobs.needed = told["sizes"], self.ledger.quorum
+        blobs, number = self.blobs, told["sizes"]["number"]
+        blobs.number, blobs.epoch, blobs.needed = number, self.ledger.epoch, self.ledger.quorum
 
     def save(self, chain: Chain, entries: Iterable[Entry] = (), soon: bool = False) -> None:
         """Keeps what these entries came to, the last ones up to there; with the next ones, if the disk is full, or if
@@ -102,21 +107,17 @@ class State(Database):
 
     def settle(self) -> bool:
         """Saves what was noted; whether the disk has all that was entered."""
-        if time.monotonic() < self.again or not (chain := self.chain):
+        if time.monotonic() < self.again or self.entering or not (chain := self.chain):
             return self.whole
-        if self.tail:
-            rows = [(it.revision, it.key) for it in self.fresh]
-            self.base.executemany("INSERT OR REPLACE INTO entries VALUES (?, ?)", rows)
-            self.turns += [chain.place] * (self.ledger.epoch != self.saved)
-            while len(self.turns) >= self.tail:
-                self.base.execute("DELETE FROM entries WHERE place <= ?", (self.turns.pop(0),))
         try:
             self.commit()
             self.again, self.due, self.fault = 0.0, time.monotonic() + EACH, ""
             self.fresh.clear()
-        except sqlite3.OperationalError as fault:  # SQLite has rolled back what came since it last took something
+        except sqlite3.OperationalError as fault:  # what came since the disk last took something is rolled back
             self.tell(fault)
             begun = time.monotonic()
+            if self.base.in_transaction:  # SQLite has done so where COMMIT failed
+                self.base.execute("ROLLBACK")
             self.base.execute("BEGIN IMMEDIATE")
             self.blobs.forget()
             self.load()
@@ -127,37 +128,44 @@ class State(Database):
         return self.whole
 
     def commit(self) -> None:
-        told = json.dumps({**self.fields(), "turns": self.turns})
-        self.blobs.flush().execute("INSERT OR REPLACE INTO told VALUES (1, ?)", (told,))
+        """Has the disk take what was entered; some of what is over goes with it."""
+        if self.tail:
+            epoch = max(self.saved, self.ledger.epoch - 1)  # a turn is the last entry of an epoch
+            rows = [(it.revision, it.key, epoch) for it in self.fresh]
+            self.base.executemany("INSERT OR REPLACE INTO entries VALUES (?, ?, ?)", rows)
+            words = "DELETE FROM entries WHERE place < (SELECT min(place) FROM entries) + ? AND epoch <= ?"
+            self.base.execute(words, (DROPPED, self.ledger.epoch - self.tail))
+        else:
+            self.blobs.drop(self.blobs.over(DROPPED))
+        self.base.execute("INSERT OR REPLACE INTO told VALUES (1, ?)", (json.dumps(self.fields()),))
         self.base.execute("COMMIT")
         self.base.execute("BEGIN IMMEDIATE")
         self.saved = self.ledger.epoch
 
-    def take(self, pieces: Iterable[bytes]) -> list[bytes]:
-        """Has what a checkpoint says in place of all before; the blobs that are no more."""
+    def take(self, pieces: Iterable[bytes]) -> None:
+        """Has what a checkpoint says in place of all before."""
         told: dict[str, Any] = {}
         self.base.execute("PRAGMA cache_spill = ON")
-        gone = self.blobs.take(checkpoint.read(pieces, told))
+        self.blobs.take(checkpoint.read(pieces, told))
         self.put(told)
         self.base.execute("DELETE FROM entries")
-        self.fresh, self.turns = [], []
+        self.fresh.clear()
         self.commit()
         self.base.execute("PRAGMA cache_spill = OFF")
-        return gone
 
     def written(self) -> Iterator[bytes]:
         """A checkpoint of what was entered, piece by piece, whatever is saved meanwhile."""
         self.settle()
         base = sqlite3.connect(self.name, check_same_thread=False) if self.name else self.base
-        rows = base.execute(ALL)
-        return checkpoint.written(self.fields(), rows if self.name else rows.fetchall())
+        rows = base.execute(ALL, (self.ledger.epoch,))
+        lines = checkpoint.written(self.fields(), rows if self.name else rows.fetchall())
+        return checkpoint.parted(lines, checkpoint.LONGEST)
 
     def entries(self, after: int = -1, count: int = -1) -> list[Entry]:
         """The tail behind a place, or so many entries of it."""
         self.settle()
-        words = "SELECT place, text FROM entries WHERE place > ? ORDER BY place LIMIT ?"
-        rows = self.base.execute(words, (after, count))
-        return [Entry(*row) for row in rows]
+        words = "SELECT place, text FROM entries WHERE place > ? AND epoch > ? ORDER BY place LIMIT ?"
+        return [Entry(*row) for row in self.base.execute(words, (after, self.ledger.epoch - self.tail, count))]
 
     @property
     def whole(self) -> bool:

@@ -8,8 +8,9 @@ import contextlib
 import errno
 import pathlib
 import sqlite3
+import sys
 import weakref
-from typing import Iterable, NamedTuple, Optional, Sequence
+from typing import Any, Callable, Iterable, NamedTuple, Optional, Sequence
 
 from ..client import Data
 from ..frames import METADATA, PRIMARY, PROOF, SECONDARY
@@ -53,11 +54,10 @@ COMMIT;
 
 
 class Part(NamedTuple):
-    """A part of a blob: its content or the file that has it, and whether it was found to be wrong."""
+    """A part of a blob: its content, or the file that has it."""
 
     part: int
     size: int
-    wrong: int
     payload: bytes
     file: Optional[str]
 
@@ -65,8 +65,8 @@ class Part(NamedTuple):
 class Store(Staged):
     """The parts of a node."""
 
-    def __init__(self, path: pathlib.Path, recorded: bool = False):
-        super().__init__(path)
+    def __init__(self, path: pathlib.Path, recorded: bool = False, fail: Callable[[Any], object] = sys.exit):
+        super().__init__(path, fail)
         self.recorded = recorded
         self.locks: "weakref.WeakValueDictionary[tuple[object, ...], asyncio.Lock]" = weakref.WeakValueDictionary()
 
@@ -81,10 +81,9 @@ class Store(Staged):
         self.base.executescript(f"{OLDER if older else TABLES}; PRAGMA user_version = {VERSION}")
 
     def note(self, revision: int, epoch: int, shard: int, request: bytes, reply: bytes) -> None:
-        """Stages what was answered, where the run is recorded."""
-        if self.recorded:
-            with contextlib.suppress(sqlite3.Error):
-                self.stage("INSERT INTO history VALUES (NULL, ?, ?, ?, ?, ?)", revision, epoch, shard, request, reply)
+        """Stages what was answered."""
+        with contextlib.suppress(sqlite3.Error):
+            self.stage("INSERT INTO history VALUES (NULL, ?, ?, ?, ?, ?)", revision, epoch, shard, request, reply)
 
     def alone(self, holding: int, identifier: bytes, to: str = "ask") -> asyncio.Lock:
         """Who holds this asks of a blob alone, or does what else is named."""
@@ -107,7 +106,7 @@ class Store(Staged):
 
     def parts(self, holding: int, epoch: int, identifier: bytes, wanted: Iterable[int], wrong: int = 0) -> list[Part]:
         """What a shard of an epoch holds of these parts of a blob; of nothing, where its metadata is lacking."""
-        words = f"SELECT part, size, wrong, payload, file FROM held JOIN contents USING (content) WHERE {SEEN}"
+        words = f"SELECT part, size, payload, file FROM held JOIN contents USING (content) WHERE {SEEN}"
         words += " AND holding = ? AND identifier = ? AND wrong <= ? ORDER BY part"
         rows = [Part(*row) for row in self.base.execute(words, (epoch, epoch, holding, identifier, wrong))]
         return [it for it in rows if it.part in wanted] if rows and rows[0].part == METADATA else []
@@ -163,11 +162,10 @@ class Store(Staged):
         self.stage("DELETE FROM sides WHERE epoch < ?", epoch)
         self.drop("gone <= ?", epoch)
 
-    def expire(self, expired: Sequence[bytes]) -> None:
-        """Stages that nothing is held any more of some blobs."""
-        for (holding,) in self.stage("SELECT DISTINCT holding FROM sides").fetchall():
-            for identifier in expired:
-                self.drop("holding = ? AND identifier = ?", holding, identifier)
+    def expire(self, expired: Sequence[bytes], before: float = float("inf")) -> None:
+        """Stages that nothing is held any more of some blobs that was held before an epoch."""
+        for identifier in expired:
+            self.drop("holding IN (SELECT holding FROM sides) AND identifier = ? AND epoch < ?", identifier, before)
 
     def sweep(self) -> bool:
         """Stages that some parts go whose shard is no longer here; whether there are such."""

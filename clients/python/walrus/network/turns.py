@@ -1,6 +1,5 @@
 """Places for what takes long: so many at once, of which one who asks has a part, so that nobody has them all."""
 import asyncio
-import collections
 import contextlib
 import contextvars
 import dataclasses
@@ -23,30 +22,18 @@ class Turns:
     def __init__(self, most: int, each: int = 0):
         self.all, self.each = Fair(most), each or max(1, most // PARTS)
         self.own: "weakref.WeakValueDictionary[str, Fair]" = weakref.WeakValueDictionary()
-        self.waits = collections.Counter[str]()  # who waits, and how often
 
     @contextlib.asynccontextmanager
     async def take(self, owner: str) -> AsyncIterator[None]:
         """Has a place while it runs; raises `TimeoutError` where none becomes free for long, or too many wait."""
         own = self.own.setdefault(owner, Fair(self.each))  # stays while somebody has it
+        if len(own.waiting.get(owner, ())) >= MOST:
+            raise TimeoutError
         async with contextlib.AsyncExitStack() as stack:
-            async with asyncio.timeout(WAITING), self.waiting(owner):
+            async with asyncio.timeout(WAITING):
                 await stack.enter_async_context(own.place(owner))
                 await stack.enter_async_context(self.all.place(owner))
             yield
-
-    @contextlib.asynccontextmanager
-    async def waiting(self, owner: str) -> AsyncIterator[None]:
-        """Counts one who waits; raises `TimeoutError` for one too many."""
-        if self.waits[owner] >= MOST:
-            raise TimeoutError
-        self.waits[owner] += 1
-        try:
-            yield
-        finally:
-            self.waits[owner] -= 1
-            if not self.waits[owner]:
-                del self.waits[owner]
 
     def left(self, owner: str) -> int:
         """How many further places one may have, as soon as there are any."""

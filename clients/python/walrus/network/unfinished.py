@@ -18,7 +18,7 @@ import time
 from typing import IO, Any, Optional
 
 from .chunks import MARK, NAME, PIECE
-from .pieces import Mapped, to_the_end, write
+from .pieces import Mapped, must_fit, to_the_end, write
 from .problems import Problem
 
 ALL, OF_ONE = 64, 8  # uploads that are not finished, and of one who sends
@@ -27,13 +27,15 @@ LULL = 600  # seconds without a byte after which one of many uploads gives its p
 IDLE, KNOWN = 86_400, 3_600  # seconds without a byte until an upload is dropped; for which a finished one is known
 RECORD = NAME + 1
 STRANGER, HOLDER = "a", "b"  # what the names begin with of uploads of an address, and of a token
+FULL = "the gateway has too little room on its disk for what comes: try again later, what has come of an upload stays"
 GONE = "there is no such upload, or it was dropped: begin it again, and what is certified is not stored again"
 
 
 class Upload:
-    """An upload, as its folder has it."""
+    """An upload, as its folder has it. `reserve` is the part of the disk that is left free."""
 
-    def __init__(self, folder: pathlib.Path):
+    def __init__(self, folder: pathlib.Path, reserve: float = 0.0):
+        self.reserve = reserve
         try:
             self.folder, self.about = folder, json.loads((folder / "about").read_text())
             self.told: Optional[dict[str, Any]] = None
@@ -82,7 +84,7 @@ class Upload:
             self.sizes.append(0)
         number = self.count + len(self.sizes) - 1
         try:
-            await to_the_end(written_at, self.path(number), self.sizes[-1], data)
+            await to_the_end(written_at, self.path(number), self.sizes[-1], data, self.reserve)
         finally:
             with contextlib.suppress(FileNotFoundError):
                 self.sizes[-1] = self.path(number).stat().st_size  # also where the disk took a part
@@ -132,8 +134,9 @@ class Upload:
         os.utime(self.folder / "about")
 
 
-def written_at(path: pathlib.Path, place: int, data: memoryview) -> None:
+def written_at(path: pathlib.Path, place: int, data: memoryview, reserve: float) -> None:
     """Writes bytes behind those that a file has."""
+    must_fit(path.parent, len(data), reserve, FULL)
     with open(path, "r+b" if place else "wb", buffering=0) as file:
         file.seek(place)
         write(file, data)
@@ -142,8 +145,8 @@ def written_at(path: pathlib.Path, place: int, data: memoryview) -> None:
 class Unfinished:
     """The uploads in a folder, which gateways over one folder may share."""
 
-    def __init__(self, folder: pathlib.Path):
-        self.folder = folder
+    def __init__(self, folder: pathlib.Path, reserve: float = 0.0):
+        self.folder, self.reserve = folder, reserve
         self.sweep()
 
     def sweep(self) -> dict[str, float]:
@@ -170,17 +173,21 @@ class Unfinished:
         if sum(name.startswith(mine) for name in known) >= OF_ONE:
             text = f"{OF_ONE} uploads are not finished: go on with one of them, or end one with DELETE"
             raise Problem(429, text, {"Retry-After": "60"})
-        strangers = sum(name.startswith(STRANGER) for name in known)
-        is_full = len(known) >= ALL and not self.make_place(mine, known)
-        if is_full or mine.startswith(STRANGER) and strangers >= ALL // 2:
-            count = len(known) if is_full else strangers
-            text = f"{count} uploads of others are not finished: send a file of up to 16 MiB by PUT, or later"
+        strangers = {name: touched for name, touched in known.items() if name.startswith(STRANGER)}
+        is_half = mine.startswith(STRANGER) and len(strangers) >= ALL // 2
+        others = strangers if is_half else known if len(known) >= ALL else {}
+        if others and not self.make_place(mine, others):
+            text = f"{len(others)} uploads of others are not finished: send a file of up to 16 MiB by PUT, or later"
             raise Problem(503, text)
         made = self.folder / (mine + secrets.token_hex(16))
         made.mkdir(parents=True, mode=0o700)
-        (made / "names").touch()
-        (made / "about").write_text(json.dumps(about))
-        return Upload(made)
+        try:
+            (made / "names").touch()
+            written_at(made / "about", 0, memoryview(json.dumps(about).encode()), self.reserve)
+        except BaseException:
+            shutil.rmtree(made, ignore_errors=True)  # or it would have a place, and nobody know of it
+            raise
+        return self.find(made.name)
 
     def make_place(self, mine: str, known: dict[str, float]) -> bool:
         """Drops an upload of who has most of them, if nothing came to it for a while and who comes has fewer."""
@@ -210,7 +217,7 @@ class Unfinished:
         return lock
 
     def find(self, name: str) -> Upload:
-        return Upload(self.folder / name)
+        return Upload(self.folder / name, self.reserve)
 
     def drop(self, upload: Upload) -> None:
         shutil.rmtree(upload.folder, ignore_errors=True)

@@ -19,7 +19,7 @@ from .guard import PASSED_ON
 from .problems import Problem, as_json
 from .publishing import LISTED, Publisher, as_known, failed_with, must_be_plain
 from .shares import Charge
-from .turns import WAITING, owner_of
+from .turns import WAITING, Turns, owner_of
 from .unfinished import IDLE, Unfinished, Upload, is_of
 
 VERSION, KIND = "6", "application/partial-upload"
@@ -34,12 +34,14 @@ class Uploads:
 
     def __init__(self, publisher: Publisher):
         self.publisher, self.active = publisher, dict[str, web.Request]()
+        self.turns = Turns(publisher.options.connections, 1)  # to be at an upload
         self.known: Optional[Unfinished] = None
 
     @property
     def kept(self) -> Unfinished:
         if self.known is None:
-            self.known = Unfinished(pathlib.Path(self.publisher.used).with_suffix(".uploads"))
+            folder = pathlib.Path(self.publisher.used).with_suffix(".uploads")
+            self.known = Unfinished(folder, self.publisher.options.reserve)
         return self.known
 
     @property
@@ -129,16 +131,17 @@ class Uploads:
         name, owner = name or request.match_info["upload"], owner_of(request)
         if is_of(owner, name) and (earlier := self.active.get(name)) and earlier.transport:
             earlier.transport.abort()
-        async with asyncio.timeout(WAITING):
-            while (lock := self.kept.lock(owner, name)) is None:
-                await asyncio.sleep(0.1)
-        with lock:
-            self.active[name] = request
-            try:
-                yield self.kept.find(name)
-            finally:
-                if self.active.get(name) is request:
-                    del self.active[name]
+        async with self.turns.take(f"{owner} {name}"):
+            async with asyncio.timeout(WAITING):
+                while (lock := self.kept.lock(owner, name)) is None:  # another gateway is at it
+                    await asyncio.sleep(0.1)
+            with lock:
+                self.active[name] = request
+                try:
+                    yield self.kept.find(name)
+                finally:
+                    if self.active.get(name) is request:
+                        del self.active[name]
 
     async def append(
         self, request: web.Request, upload: Upload, is_last: bool, headers: dict[str, str]
@@ -205,7 +208,7 @@ class Uploads:
         """Stores the last piece and the list of all; what is told of the file."""
         store, until, names = self.publisher.writer.store_blob, upload.about["until"], upload.names
         size, marked, was_there = upload.offset, upload.is_marked, upload.was_there
-        if upload.sizes or not names:
+        if any(upload.sizes) or not names:
             last = upload.piece(upload.count)
             marked = marked or not names and bytes(last[: len(MARK)]) == MARK
             name, before = await store(last, until)

@@ -66,8 +66,9 @@ class Whole:
         memory, start = memoryview(request.obj), front(shape)
         return cls(memory, start, start + len(request), name, came)
 
-    def judge(self, engine: Engine, faults: int, shard: int, told: Sequence[bytes]) -> list[list[bytes]]:
-        """What a shard that holds nothing replies to the parts and to the wish, after what it is told."""
+    def judge(self, engine: Engine, faults: int, shard: int, told: Sequence[bytes]) -> judge.Found:
+        """What a shard that holds nothing replies to the parts and to the wish, after what it is told; and no part of
+        what it holds is wrong."""
         words = b"".join(map(client.envelope, told))
         begin = self.start + 1 - len(words)  # where the kind stood, the first part begins
         self.memory[begin : self.start + 1] = words  # noqa: E203
@@ -75,7 +76,7 @@ class Whole:
         pages = sum(pages_of(part) for part in self.parts)
         data, count = self.memory[begin:][: len(words) + self.end - self.start - 1 + WISH], len(told) + 4
         try:
-            return judge.serve(engine, faults, shard, pages, data, count, 512 * count)[len(told) :]  # noqa: E203
+            return judge.serve(engine, faults, shard, pages, data, count, 512 * count)[len(told) :], []  # noqa: E203
         finally:
             self.memory[self.start] = WHOLE  # the request is as it came: who replies looks at its kind
 
