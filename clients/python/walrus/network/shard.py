@@ -198,9 +198,13 @@ class Shard:
             yield writing
         finally:
             if writing:
+                writing.add_done_callback(self.let_go)  # also if who waits here is told to end a second time
                 await asyncio.wait([writing])
-                if not writing.cancelled() and not writing.exception():
-                    self.store.abandon(writing.result().values())
+
+    def let_go(self, writing: "asyncio.Task[dict[int, str]]") -> None:
+        """Has files removed that nobody has taken."""
+        if not writing.cancelled() and not writing.exception():
+            self.store.abandon(writing.result().values())
 
     def free_pages(self) -> int:
         """The pages of the disk that are free beside the reserve."""
