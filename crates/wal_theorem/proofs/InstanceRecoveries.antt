@@ -21,9 +21,10 @@ use Rattle.wal_shape.specs.Part.{sliver_part}
 use Rattle.wal_shard.specs.Holding.{HoldsMetadata}
 use Rattle.wal_shard.specs.Keeping.{kept, kept_sliver, kept_proof}
 use Rattle.wal_shard.specs.State.{AreSound}
+use Rattle.wal_shard.proofs.KeepLaws.{kept_held, kept_metadata_sound, kept_sliver_sound, kept_proof_sound}
 use Rattle.wal_protocol.specs.inside.Laws.{AreAbove}
 use Rattle.wal_theorem.specs.Instance.{Knows, IsKnown, OwnOpeningsComeTo, HoldsCommitted, CommitsSliver, RecoversTo}
-use Rattle.wal_theorem.proofs.InstanceHoldings.{all_kept, above_kept, above_both, kept_is_old, kept_is_new, held_commits, parts_put_same, sound_metadata, sound_sliver, sound_proof}
+use Rattle.wal_theorem.proofs.InstanceHoldings.{above_kept, above_both, held_commits}
 
 -- a bad proof for a metadata has a spelling
 pub bad_proof_fits : (digest : List ℕ → List ℕ) (m : BlobMetadata) (p : EncodingProof) → IsMetadata m → IsBadProof digest m p → IsProof p
@@ -68,22 +69,11 @@ module _ (digest : List ℕ → List ℕ) (f : ℕ) (id : BlobId) (shard : ℕ) 
     mid = kept old id parts.Metadata (metadata_text m)
 
     mid_sound : AreSound digest f shard mid
-    mid_sound =
-        all_kept digest f shard old id parts.Metadata (metadata_text m) was
-        (λ none. sound_metadata digest f id.0 shard (parts_at old id) (was id) m none commits known.faults)
+    mid_sound = kept_metadata_sound digest f shard old id m commits known.faults was
 
     -- the metadata that is known is held then
     mid_holds : HoldsMetadata (parts_at mid id) m
-    mid_holds = by (parts_at old id).metadata refl
-      where
-        by : (o : Option (List ℕ)) → (parts_at old id).metadata ≡ o → HoldsMetadata (parts_at mid id) m
-        by (Some x) is =
-            let s = (was id).metadata x is in
-            subst (λ (c : Contents). HoldsMetadata (parts_at c id) m) (sym (kept_is_old old id parts.Metadata (metadata_text m) x is))
-            (subst (HoldsMetadata (parts_at old id)) (known.only s.0 (inr s.1)) s.1)
-        by None is =
-            subst (λ (c : Contents). HoldsMetadata (parts_at c id) m) (sym (kept_is_new old id parts.Metadata (metadata_text m) is))
-            (subst (λ (p : Parts). HoldsMetadata p m) (sym (parts_put_same old id parts.Metadata (metadata_text m))) (record { fit = commits.fit; spelled = refl }))
+    mid_holds = kept_held old id m commits.fit (λ other at. let s = (was id).metadata other at in cc (s.1.spelled, at, known.only s.0 (inr s.1)))
 
     -- one more part leaves it held
     held_then : (part : Part) (bytes : List ℕ) → HoldsCommitted digest id (parts_at (kept mid id part bytes) id) m
@@ -97,13 +87,11 @@ module _ (digest : List ℕ → List ℕ) (f : ℕ) (id : BlobId) (shard : ℕ) 
     pub sliver_sound : (axis : Axis) (bytes : List ℕ) → HoldsSliver digest m axis (held_index m.format m.f axis shard) bytes
         → AreSound digest f shard (kept_sliver old id m axis bytes)
     sliver_sound axis bytes sliver =
-        all_kept digest f shard mid id (sliver_part axis) bytes mid_sound
-        (λ none. sound_sliver digest f id.0 shard (parts_at mid id) (mid_sound id) m mid_holds axis bytes sliver)
+        kept_sliver_sound digest f shard mid id m axis bytes mid_holds sliver mid_sound
 
     pub proof_sound : (p : EncodingProof) → IsBadProof digest m p → AreSound digest f shard (kept_proof old id m p)
     proof_sound p bad =
-        all_kept digest f shard mid id parts.Proof (proof_text p) mid_sound
-        (λ none. sound_proof digest f id.0 shard (parts_at mid id) (mid_sound id) m mid_holds p (bad_proof_fits digest m p commits.fit bad) bad)
+        kept_proof_sound digest f shard mid id m p mid_holds bad (bad_proof_fits digest m p commits.fit bad) mid_sound
 
     -- a sliver that the openings give is committed
     pub given_sliver : (axis : Axis) (bytes : List ℕ) → OwnOpeningsComeTo digest id shard axis payloads m (recovered.Sliver bytes)
