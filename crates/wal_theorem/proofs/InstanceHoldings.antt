@@ -44,18 +44,13 @@ more_above p Secondary bytes none Secondary x at = absurd (none_some p.secondary
 more_above p Proof bytes none Proof x at = absurd (none_some p.proof x none at)
 more_above p part bytes none other x at = at
 
--- what is held with these bytes for a part
-pub parts_put : (m : Contents) (id : BlobId) (part : Part) (bytes : List ℕ) (q : BlobId)
-    → parts_at (with_bytes m id part bytes) q ≡ cond (eq_by_cmp id_cmp q id) (with_part (parts_at m id) part (Some bytes)) (parts_at m q)
-parts_put m id part bytes q = parts_inserted m id (with_part (parts_at m id) part (Some bytes)) q
-
 -- what holds under each identifier, and of the part with what was there, holds then
 pub each_put : (P : BlobId → Parts → Type 0) (m : Contents) (id : BlobId) (part : Part) (bytes : List ℕ) → ((q : BlobId) → P q (parts_at m q))
     → P id (with_part (parts_at m id) part (Some bytes)) → (q : BlobId) → P q (parts_at (with_bytes m id part bytes) q)
-each_put P m id part bytes was here q = subst (P q) (sym (parts_put m id part bytes q)) (by (eq_by_cmp id_cmp q id) refl)
+each_put P m id part bytes was here q = rw (parts_inserted m id (with_part (parts_at m id) part (Some bytes)) q) (by (eq_by_cmp id_cmp q id) refl)
   where
     by : (b : Bool) → eq_by_cmp id_cmp q id ≡ b → P q (cond b (with_part (parts_at m id) part (Some bytes)) (parts_at m q))
-    by true e = subst (λ (x : BlobId). P x (with_part (parts_at m id) part (Some bytes))) (sym (same_id q id e)) here
+    by true e = rw (same_id q id e) here
     by false e = was q
 
 pub above_put : (m : Contents) (id : BlobId) (part : Part) (bytes : List ℕ) → part_at m id part ≡ None → AreAbove m (with_bytes m id part bytes)
@@ -63,14 +58,13 @@ above_put m id part bytes none =
     each_put (λ q p. IsAbove (parts_at m q) p) m id part bytes (λ q p x at. at) (more_above (parts_at m id) part bytes none)
 
 -- what is kept where the part isn't held
-kept_by : (P : Contents → Type 0) (m : Contents) (id : BlobId) (part : Part) (bytes : List ℕ) (o : Option (List ℕ)) → (is_some o ≡ true → P m)
-    → (o ≡ None → P (with_bytes m id part bytes)) → P (cond (is_some o) m (with_bytes m id part bytes))
-kept_by P m id part bytes (Some x) stays more = stays refl
-kept_by P m id part bytes None stays more = more refl
-
 pub kept_holds : (P : Contents → Type 0) (m : Contents) (id : BlobId) (part : Part) (bytes : List ℕ) → P m
     → (part_at m id part ≡ None → P (with_bytes m id part bytes)) → P (kept m id part bytes)
-kept_holds P m id part bytes stays more = kept_by P m id part bytes (part_at m id part) (λ e. stays) more
+kept_holds P m id part bytes stays more = by (part_at m id part) more
+  where
+    by : (o : Option (List ℕ)) → (o ≡ None → P (with_bytes m id part bytes)) → P (cond (is_some o) m (with_bytes m id part bytes))
+    by (Some x) more = stays
+    by None more = more refl
 
 pub above_kept : (m : Contents) (id : BlobId) (part : Part) (bytes : List ℕ) → AreAbove m (kept m id part bytes)
 above_kept m id part bytes = kept_holds (AreAbove m) m id part bytes (λ q p x at. at) (above_put m id part bytes)

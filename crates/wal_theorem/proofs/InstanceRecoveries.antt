@@ -33,23 +33,18 @@ bad_proof_fits digest m p fit bad =
 
 -- ---- what is added
 
-sliver_above : (old : Contents) (id : BlobId) (m : BlobMetadata) (axis : Axis) (bytes : List ℕ) → AreAbove old (kept_sliver old id m axis bytes)
-sliver_above old id m axis bytes =
+both_above : (old : Contents) (id : BlobId) (m : BlobMetadata) (part : Part) (bytes : List ℕ) → AreAbove old (kept (kept old id parts.Metadata (metadata_text m)) id part bytes)
+both_above old id m part bytes =
     let mid = kept old id parts.Metadata (metadata_text m) in
-    above_both old mid (kept mid id (sliver_part axis) bytes) (above_kept old id parts.Metadata (metadata_text m)) (above_kept mid id (sliver_part axis) bytes)
-
-proof_above : (old : Contents) (id : BlobId) (m : BlobMetadata) (p : EncodingProof) → AreAbove old (kept_proof old id m p)
-proof_above old id m p =
-    let mid = kept old id parts.Metadata (metadata_text m) in
-    above_both old mid (kept mid id parts.Proof (proof_text p)) (above_kept old id parts.Metadata (metadata_text m)) (above_kept mid id parts.Proof (proof_text p))
+    above_both old mid (kept mid id part bytes) (above_kept old id parts.Metadata (metadata_text m)) (above_kept mid id part bytes)
 
 pub recover_adds : (digest : List ℕ → List ℕ) (f : ℕ) (id : BlobId) (shard : ℕ) (axis : Axis) (old new : Contents) (payloads : List (List ℕ)) (word : RecoverWord)
     → RecoversTo digest f id shard axis old payloads word new → AreAbove old new
-recover_adds digest f id shard axis old new payloads NoMetadata r = subst (AreAbove old) (sym r.1) (λ q part bytes at. at)
-recover_adds digest f id shard axis old new payloads (Sliver bytes) r = subst (AreAbove old) (sym r.3) (sliver_above old id r.0 axis bytes)
-recover_adds digest f id shard axis old new payloads Inconsistent r = subst (AreAbove old) (sym r.4) (proof_above old id r.0 r.2)
-recover_adds digest f id shard axis old new payloads Proof r = subst (AreAbove old) (sym r.6) (proof_above old id r.0 r.4)
-recover_adds digest f id shard axis old new payloads (Short have need) r = subst (AreAbove old) (sym r.5) (λ q part bytes at. at)
+recover_adds digest f id shard axis old new payloads NoMetadata r = rw r.1 (λ q part bytes at. at)
+recover_adds digest f id shard axis old new payloads (Sliver bytes) r = rw r.3 (both_above old id r.0 (sliver_part axis) bytes)
+recover_adds digest f id shard axis old new payloads Inconsistent r = rw r.4 (both_above old id r.0 parts.Proof (proof_text r.2))
+recover_adds digest f id shard axis old new payloads Proof r = rw r.6 (both_above old id r.0 parts.Proof (proof_text r.4))
+recover_adds digest f id shard axis old new payloads (Short have need) r = rw r.5 (λ q part bytes at. at)
 recover_adds digest f id shard axis old new payloads _ r = absurd r
 
 -- ---- what is sound
@@ -97,8 +92,7 @@ module _ (digest : List ℕ → List ℕ) (f : ℕ) (id : BlobId) (shard : ℕ) 
     pub given_sliver : (axis : Axis) (bytes : List ℕ) → OwnOpeningsComeTo digest id shard axis payloads m (recovered.Sliver bytes)
         → HoldsSliver digest m axis (held_index m.format m.f axis shard) bytes
     given_sliver axis bytes r =
-        let index = held_index m.format m.f axis shard in
-        committed digest m axis index r.taken (recovered.Sliver bytes) r.comes
+        committed digest m axis (held_index m.format m.f axis shard) r.taken (recovered.Sliver bytes) r.comes
 
     pub commits_given : (axis : Axis) (bytes : List ℕ) → OwnOpeningsComeTo digest id shard axis payloads m (recovered.Sliver bytes)
         → CommitsSliver digest id shard axis bytes (parts_at (kept_sliver old id m axis bytes) id)
@@ -106,15 +100,15 @@ module _ (digest : List ℕ → List ℕ) (f : ℕ) (id : BlobId) (shard : ℕ) 
 
   pub recover_sound : (axis : Axis) (new : Contents) (payloads : List (List ℕ)) (word : RecoverWord) → RecoversTo digest f id shard axis old payloads word new
       → AreSound digest f shard new
-  recover_sound axis new payloads NoMetadata r = subst (AreSound digest f shard) (sym r.1) was
+  recover_sound axis new payloads NoMetadata r = rw r.1 was
   recover_sound axis new payloads (Sliver bytes) r =
-      subst (AreSound digest f shard) (sym r.3) (sliver_sound payloads r.0 r.1 axis bytes (given_sliver payloads r.0 r.1 axis bytes r.2))
-  recover_sound axis new payloads Inconsistent r = subst (AreSound digest f shard) (sym r.4) (proof_sound payloads r.0 r.1 r.2 r.3.comes.1)
-  recover_sound axis new payloads Proof r = subst (AreSound digest f shard) (sym r.6) (proof_sound payloads r.0 r.1 r.4 r.5.4.1)
-  recover_sound axis new payloads (Short have need) r = subst (AreSound digest f shard) (sym r.5) was
+      rw r.3 (sliver_sound payloads r.0 r.1 axis bytes (given_sliver payloads r.0 r.1 axis bytes r.2))
+  recover_sound axis new payloads Inconsistent r = rw r.4 (proof_sound payloads r.0 r.1 r.2 r.3.comes.1)
+  recover_sound axis new payloads Proof r = rw r.6 (proof_sound payloads r.0 r.1 r.4 r.5.4.1)
+  recover_sound axis new payloads (Short have need) r = rw r.5 was
   recover_sound axis new payloads _ r = absurd r
 
   pub recover_commits : (axis : Axis) (new : Contents) (payloads : List (List ℕ)) (bytes : List ℕ)
       → RecoversTo digest f id shard axis old payloads (Sliver bytes) new → CommitsSliver digest id shard axis bytes (parts_at new id)
   recover_commits axis new payloads bytes r =
-      subst (λ (c : Contents). CommitsSliver digest id shard axis bytes (parts_at c id)) (sym r.3) (commits_given payloads r.0 r.1 axis bytes r.2)
+      rw r.3 (commits_given payloads r.0 r.1 axis bytes r.2)

@@ -32,17 +32,21 @@ only_one y x (suc k) l e = absurd (omega arith)
 pub any_of : {X : Type 0} (P : X → Type 0) (xs : List X) (x : X) → Contains xs x → P x → Any P xs
 any_of P xs x c p = (c.0, x, c.1, c.2, p)
 
+-- a number is itself
+pub same_number : (n : ℕ) → nat_eq n n ≡ true
+same_number n = equal n n refl
+  where
+    equal : (a b : ℕ) → a ≡ b → nat_eq a b ≡ true
+    equal a b e = grind (arith, nat_tests)
+
 -- a list has as many places as shards that it names
 pub count_named : (n : ℕ) (heard : ℕ → Bool) (xs : List ℕ) → ((s : ℕ) → s < n → heard s ≡ true → Contains xs s) → count_below n heard ≤ length xs
 count_named n heard xs named =
     let mono = count_below-mono n heard (λ s. list_any (λ t. nat_eq t s) xs) (λ s l h. among s (named s l h)) in
     omega (arith, mono, count_below-among n xs)
   where
-    same : (a b : ℕ) → a ≡ b → nat_eq a b ≡ true
-    same a b e = grind (arith, nat_tests)
-
     among : (s : ℕ) → Contains xs s → list_any (λ t. nat_eq t s) xs ≡ true
-    among s c = list_any-from_Any (λ t. nat_eq t s) xs (c.0, s, c.1, c.2, same s s refl)
+    among s c = list_any-from_Any (λ t. nat_eq t s) xs (c.0, s, c.1, c.2, same_number s)
 
 -- ---- sizes
 
@@ -58,9 +62,7 @@ told id p middle = metadata_reply p ++ (middle ++ proof_reply id p)
 
 pub shows_metadata : (id : List ℕ) (p : Parts) (middle : List (List ℕ)) (m : BlobMetadata) → HoldsMetadata p m → Contains (told id p middle) (frame_text (Metadata m))
 shows_metadata id p middle m holds =
-    let rest = middle ++ proof_reply id p in
-    let P : Option (List ℕ) → Type 0 = λ o. Contains (payload_if o (λ bytes. metadata_frame (spelled_metadata bytes)) ++ rest) (metadata_frame m) in
-    subst P (sym holds.spelled) (contains_first (metadata_frame m) (metadata_frame (spelled_metadata (metadata_text m))) rest (ap metadata_frame (spelled_metadata-text m holds.fit)))
+    rw holds.spelled (contains_first _ _ (middle ++ proof_reply id p) (ap metadata_frame (spelled_metadata-text m holds.fit)))
 
 pub shows_middle : (id : List ℕ) (p : Parts) (middle : List (List ℕ)) (x : List ℕ) → Contains middle x → Contains (told id p middle) x
 shows_middle id p middle x c =
@@ -69,10 +71,8 @@ shows_middle id p middle x c =
 pub shows_proof : (id : List ℕ) (p : Parts) (middle : List (List ℕ)) (q : EncodingProof) → p.proof ≡ Some (proof_text q)
     → Contains (told id p middle) (frame_text (Proof id q))
 shows_proof id p middle q is =
-    let P : Option (List ℕ) → Type 0 = λ o. Contains (payload_if o (λ bytes. 0x13 ∷ (id ++ bytes))) (frame_text (Proof id q)) in
     Contains-append_right (metadata_reply p) (middle ++ proof_reply id p) (frame_text (Proof id q))
-    (Contains-append_right middle (proof_reply id p) (frame_text (Proof id q))
-    (subst P (sym is) (contains_first (frame_text (Proof id q)) (0x13 ∷ (id ++ proof_text q)) [] refl)))
+    (Contains-append_right middle (proof_reply id p) (frame_text (Proof id q)) (rw is (contains_first _ _ [] refl)))
 
 -- ---- settled holdings
 
@@ -82,8 +82,7 @@ settled_has p h = by (is_some p.metadata) (is_some p.primary) (is_some p.seconda
   where
     by : (a b c d : Bool) → ((a && (b && c)) || (a && d)) ≡ true → (a ≡ true) × (((a && d) ≡ true) ⊎ ((b ≡ true) × (c ≡ true)))
     by true true true d e = (refl, inr (refl, refl))
-    by true true false d e = (refl, inl e)
-    by true false c d e = (refl, inl e)
+    by true b c d e = (refl, inl e)
     by false b c d e = absurd cc
 
 -- what is there has bytes
