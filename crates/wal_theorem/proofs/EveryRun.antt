@@ -103,7 +103,8 @@ module _ (digest : List ℕ → List ℕ) (is : IsDigest digest) (f : ℕ) where
   plain_puts : (log : Log) (c : Committee) (puts : List (ℕ × Frame)) (clashed : Bool) (new : Committee) → PutsEach b log c puts clashed new → PutsEach r log c puts clashed new
   plain_puts log c [] clashed new is = is
   plain_puts log c (p ∷ more) clashed new (answer, contents, puts, rest) =
-      (answer, contents, puts.0, unless_clash _ _ _ (is_clash answer) rest (plain_puts log (with_contents c p.0 contents) more clashed new))
+      let later = plain_puts log (with_contents c p.0 contents) more clashed new in
+      (answer, contents, puts.0, unless_clash _ _ _ (is_clash answer) rest later)
 
   plain_send : (old : World) (side : Side) (shard : ℕ) (bytes : List ℕ) (word : SendWord) (new : World) → SendStep b old side shard bytes word new → SendStep r old side shard bytes word new
   plain_send old side shard bytes sending.Absent new step = step
@@ -211,7 +212,8 @@ module _ (digest : List ℕ → List ℕ) (is : IsDigest digest) (f : ℕ) where
   plain_run : (old : World) (events : List Event) (states : List World) (lines : List Line) → Runs b old events states lines → Runs r old events states lines
   plain_run old [] [] [] run = tt
   plain_run old (event ∷ events) (new ∷ states) (said ∷ lines) (step, rest) =
-      (plain_step old event said new step, unless_clash _ _ _ (is_collision said) rest (plain_run new events states lines))
+      let later = plain_run new events states lines in
+      (plain_step old event said new step, unless_clash _ _ _ (is_collision said) rest later)
   plain_run old events states lines none = absurd none
 
   -- ---- every event, and every schedule

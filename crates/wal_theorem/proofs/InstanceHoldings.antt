@@ -1,30 +1,21 @@
 -- What a shard holds stays sound and only grows when a part is added.
-use Rattle.std.proofs.Common.{◌≡◌, ℕ, List, Bool, true, false, cond, ◌&&◌, is_some, Option, Some, None, unwrap_or, refl, sym, ap, subst, ◌∙◌}
+use Rattle.std.proofs.Common.{◌≡◌, ℕ, List, Bool, true, false, cond, ◌&&◌, is_some, Option, Some, None, unwrap_or, refl, ap, ◌∙◌}
 use Rattle.std.specs.Ordering.{eq_by_cmp}
-use Rattle.std.proofs.lemmas.Cmp.{eq_by_cmp_equiv}
 use Rattle.wal_shape.specs.declared.metadata.BlobId.{BlobId}
-use Rattle.wal_shape.specs.declared.axis.Axis.{Axis}
-use Rattle.wal_shape.specs.declared.axis.Axis.TheVariants as axes
 use Rattle.wal_shape.specs.Identifiers.{id_cmp}
-use Rattle.wal_shape.specs.Metadata.{BlobMetadata, held_index}
-use Rattle.wal_shape.specs.Spelling.{metadata_text, proof_text}
-use Rattle.wal_shape.specs.EncodingProof.{EncodingProof, IsProof}
+use Rattle.wal_shape.specs.Metadata.{BlobMetadata}
+use Rattle.wal_shape.specs.Spelling.{metadata_text}
 use Rattle.wal_commit.specs.Identifier.{Commits}
-use Rattle.wal_commit.specs.Held.{HoldsSliver}
-use Rattle.wal_evidence.specs.BadProof.{IsBadProof}
 use Rattle.wal_shape.specs.declared.part.Part.{Part}
 use Rattle.wal_shape.specs.declared.part.Part.TheVariants.{Metadata, Primary, Secondary, Proof}
-use Rattle.wal_store.specs.Parts.{Parts, no_parts, part_of, with_part}
+use Rattle.wal_store.specs.Parts.{Parts, part_of, with_part}
 use Rattle.wal_store.specs.Contents.{Contents, parts_at, part_at, with_bytes}
-use Rattle.wal_store.proofs.IdentifierLaws.{ids_total}
-use Rattle.wal_shape.specs.Part.{sliver_part}
 use Rattle.wal_shard.specs.Holding.{HoldsMetadata, IsSound, has_proof}
 use Rattle.wal_shard.specs.Keeping.{kept}
-use Rattle.wal_shard.specs.State.{AreSound}
 use Rattle.wal_shard.proofs.Soundness.{one_metadata}
-use Rattle.wal_protocol.specs.inside.Laws.{IsAbove, AreAbove, forgotten}
+use Rattle.wal_protocol.specs.inside.Laws.{IsAbove, AreAbove}
 use Rattle.wal_theorem.specs.Instance.{HoldsBadProof}
-use Rattle.wal_protocol.proofs.Lookups.{same_id, parts_inserted}
+use Rattle.wal_shard.proofs.Changes.{insert_changes, same_id}
 
 -- ---- one value
 
@@ -47,7 +38,8 @@ more_above p part bytes none other x at = at
 -- what holds under each identifier, and of the part with what was there, holds then
 pub each_put : (P : BlobId → Parts → Type 0) (m : Contents) (id : BlobId) (part : Part) (bytes : List ℕ) → ((q : BlobId) → P q (parts_at m q))
     → P id (with_part (parts_at m id) part (Some bytes)) → (q : BlobId) → P q (parts_at (with_bytes m id part bytes) q)
-each_put P m id part bytes was here q = rw (parts_inserted m id (with_part (parts_at m id) part (Some bytes)) q) (by (eq_by_cmp id_cmp q id) refl)
+each_put P m id part bytes was here q =
+    rw ((insert_changes m id (with_part (parts_at m id) part (Some bytes))).at q) (by (eq_by_cmp id_cmp q id) refl)
   where
     by : (b : Bool) → eq_by_cmp id_cmp q id ≡ b → P q (cond b (with_part (parts_at m id) part (Some bytes)) (parts_at m q))
     by true e = rw (same_id q id e) here
@@ -62,7 +54,8 @@ pub kept_holds : (P : Contents → Type 0) (m : Contents) (id : BlobId) (part : 
     → (part_at m id part ≡ None → P (with_bytes m id part bytes)) → P (kept m id part bytes)
 kept_holds P m id part bytes stays more = by (part_at m id part) more
   where
-    by : (o : Option (List ℕ)) → (o ≡ None → P (with_bytes m id part bytes)) → P (cond (is_some o) m (with_bytes m id part bytes))
+    by : (o : Option (List ℕ)) → (o ≡ None → P (with_bytes m id part bytes))
+        → P (cond (is_some o) m (with_bytes m id part bytes))
     by (Some x) more = stays
     by None more = more refl
 
@@ -75,7 +68,8 @@ above_both a b c first second id part bytes at = second id part bytes (first id 
 -- ---- soundness
 
 -- the metadata that is held is committed
-pub held_commits : (digest : List ℕ → List ℕ) (f : ℕ) (id : List ℕ) (shard : ℕ) (p : Parts) → IsSound digest f id shard p
+pub held_commits : (digest : List ℕ → List ℕ) (f : ℕ) (id : List ℕ) (shard : ℕ) (p : Parts)
+    → IsSound digest f id shard p
     → (m : BlobMetadata) → HoldsMetadata p m → Commits digest id m × (m.f ≡ f)
 held_commits digest f id shard p was m holds =
     let s = was.metadata (metadata_text m) holds.spelled in rw (← one_metadata p s.0 m s.1 holds) (s.2, s.3)

@@ -20,7 +20,8 @@ laws_of digest size f few = record {
   put_sound = λ log shard old new frame answer. put_sound digest f log shard old new frame answer;
   recover_sound = λ id shard axis old new payloads word r one was. recover_sound digest f id shard old was axis new payloads word r;
   forget_sound = λ id shard p was.
-      without_sliver_sound digest f shard id.0 Secondary (with_part p parts.Primary None) (without_sliver_sound digest f shard id.0 Primary p was);
+      without_sliver_sound digest f shard id.0 Secondary (with_part p parts.Primary None)
+      (without_sliver_sound digest f shard id.0 Primary p was);
   put_adds = λ log shard old new frame answer. put_adds digest f log shard old new frame answer;
   recover_adds = λ id shard axis old new payloads word. recover_adds digest f id shard axis old new payloads word;
   recover_commits = λ id shard axis old new payloads bytes r one was. recover_commits digest f id shard old was axis new payloads bytes r;

@@ -3,8 +3,6 @@ use Rattle.std.proofs.Common.{◌≡◌, ℕ, List, None, refl, sym, subst}
 use Rattle.wal_shape.specs.declared.metadata.BlobId.{BlobId}
 use Rattle.wal_shape.specs.Spelling.{metadata_text, proof_text}
 use Rattle.wal_shape.specs.Part.{sliver_part}
-use Rattle.wal_commit.specs.Held.{HoldsSliver}
-use Rattle.wal_commit.specs.Identifier.{Commits}
 use Rattle.wal_frame.specs.Frame.{Frame, Metadata, Sliver, Proof, IsFrame}
 use Rattle.wal_shape.specs.declared.part.Part.TheVariants as parts
 use Rattle.wal_store.specs.Contents.{Contents, parts_at, part_at, with_bytes}
@@ -42,7 +40,8 @@ stored_sound : (digest : List ℕ → List ℕ) (f : ℕ) (log : Log) (shard : �
 stored_sound digest f log shard old (Metadata m) fit was accepted none =
     let id = put_id digest (Metadata m) in
     contents_sound digest f shard old id parts.Metadata (metadata_text m) was
-    (metadata_sound digest f shard id.0 (parts_at old id) m (record { fit = fit; identifier = refl }) accepted.verified none (was id))
+    (metadata_sound digest f shard id.0 (parts_at old id) m (record { fit = fit; identifier = refl })
+    accepted.verified none (was id))
 stored_sound digest f log shard old (Sliver id axis index bytes) fit was accepted none =
     let at : BlobId = record { 0 = id } in
     let v = accepted.verified in
@@ -51,7 +50,8 @@ stored_sound digest f log shard old (Sliver id axis index bytes) fit was accepte
 stored_sound digest f log shard old (Proof id p) fit was accepted none =
     let at : BlobId = record { 0 = id } in
     let v = accepted.verified in
-    contents_sound digest f shard old at parts.Proof (proof_text p) was (proof_sound digest f shard id (parts_at old at) v.0 p v.1 v.2 fit.1 (was at))
+    contents_sound digest f shard old at parts.Proof (proof_text p) was
+    (proof_sound digest f shard id (parts_at old at) v.0 p v.1 v.2 fit.1 (was at))
 stored_sound digest f log shard old _ fit was accepted none = absurd accepted.verified
 
 pub put_sound : (digest : List ℕ → List ℕ) (f : ℕ) (log : Log) (shard : ℕ) (old new : Contents) (frame : Frame) (answer : PutAnswer)

@@ -1,5 +1,5 @@
 -- What completed reads and honest writes rest on, and that a read completes that has enough replies.
-use Rattle.std.proofs.Common.{◌≡◌, ⊎_elim, ℕ, ◌+◌, ◌<◌, ◌≤◌, List, [], length, Bool, true, Option, Some, unwrap_or, Contains, refl, sym, ap, subst, ◌∙◌, arith}
+use Rattle.std.proofs.Common.{◌≡◌, ⊎_elim, ℕ, ◌+◌, ◌<◌, ◌≤◌, List, [], length, Bool, true, Option, Some, Contains, refl, arith}
 use Rattle.wal_shape.specs.declared.metadata.BlobId.{BlobId}
 use Rattle.wal_shape.specs.declared.axis.Axis.TheVariants as axes
 use Rattle.wal_shape.specs.declared.shape.Format.{Format}
@@ -7,9 +7,7 @@ use Rattle.wal_shape.specs.Shape.{row_count}
 use Rattle.wal_shape.specs.Metadata.{BlobMetadata}
 use Rattle.wal_shape.proofs.MetadataLaws.{held_index-primary}
 use Rattle.wal_commit.specs.Identifier.{Commits}
-use Rattle.wal_commit.specs.Held.{HoldsSliver}
 use Rattle.wal_commit.proofs.Commitments.{honest_metadata}
-use Rattle.wal_evidence.specs.BadProof.{IsBadProof}
 use Rattle.wal_evidence.specs.Evidence.{IsEvidence, IsJudgedBy}
 use Rattle.wal_evidence.specs.declared.evidence.Evidence.{Evidence}
 use Rattle.wal_evidence.specs.declared.evidence.Verdict.{Verdict}
@@ -24,7 +22,7 @@ use Rattle.wal_reader.proofs.Collections.{collects_all}
 use Rattle.wal_store.specs.Parts.{Parts}
 use Rattle.wal_ledger.specs.Shards.{count_below, committee_size}
 use Rattle.wal_ledger.proofs.Quorums.{count_below-some}
-use Rattle.wal_shard.specs.Holding.{HoldsMetadata, IsSound, has_proof, primary_reply, payload_if}
+use Rattle.wal_shard.specs.Holding.{HoldsMetadata, IsSound, has_proof, primary_reply}
 use Rattle.wal_shard.proofs.Soundness.{one_metadata}
 use Rattle.wal_protocol.specs.declared.first.First.TheVariants.{Judged, Written}
 use Rattle.wal_protocol.specs.Step.{told_by}
@@ -120,7 +118,8 @@ module _ (digest : List ℕ → List ℕ) (size : (text : List ℕ) → length (
       (h.0, h.1, h.2, h.3, tells_metadata parts (primary_reply id.0 s parts) h.0 r.replied h.1 h.2)
 
   -- some shard replied, and told its metadata
-  someone : (heard : ℕ → Bool) → f + 1 ≤ count_below (committee_size f) heard → Heard heard → (m : BlobMetadata) × (m.f ≡ f) × HasMetadata digest id.0 payloads m
+  someone : (heard : ℕ → Bool) → f + 1 ≤ count_below (committee_size f) heard → Heard heard
+      → (m : BlobMetadata) × (m.f ≡ f) × HasMetadata digest id.0 payloads m
   someone heard enough replied =
       let one = count_below-some (committee_size f) heard (omega (arith, enough)) in
       let by = replied one.0 one.1 one.2 in
@@ -156,5 +155,6 @@ module _ (digest : List ℕ → List ℕ) (size : (text : List ℕ) → length (
       let o = r.0 in
       let has = o.2 in
       let short : length has.0 < row_count o.0.f = omega (arith, has.3, has.4) in
-      let named = count_named (committee_size f) heard has.0 (counted heard replied o.0 has.0 has.1 o.1.1 has.2 short o.4) in
+      let named =
+      count_named (committee_size f) heard has.0 (counted heard replied o.0 has.0 has.1 o.1.1 has.2 short o.4) in
       absurd (omega (arith, enough, named, short, rw (o.1.1 own.0 own.2) at own.1))

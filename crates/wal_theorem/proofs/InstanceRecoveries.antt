@@ -1,5 +1,5 @@
 -- What a recovery keeps is sound, is committed, and only adds to what a shard holds.
-use Rattle.std.proofs.Common.{◌≡◌, inl, inr, ℕ, List, Option, Some, None, refl, sym, subst}
+use Rattle.std.proofs.Common.{inl, inr, ℕ, List}
 use Rattle.wal_shape.specs.declared.metadata.BlobId.{BlobId}
 use Rattle.wal_shape.specs.declared.axis.Axis.{Axis}
 use Rattle.wal_shape.specs.Metadata.{BlobMetadata, IsMetadata, held_index}
@@ -15,7 +15,6 @@ use Rattle.wal_event.specs.declared.line.RecoverWord.{RecoverWord}
 use Rattle.wal_event.specs.declared.line.RecoverWord.TheVariants.{NoMetadata, Sliver, Inconsistent, Proof, Short}
 use Rattle.wal_shape.specs.declared.part.Part.{Part}
 use Rattle.wal_shape.specs.declared.part.Part.TheVariants as parts
-use Rattle.wal_store.specs.Parts.{Parts}
 use Rattle.wal_store.specs.Contents.{Contents, parts_at}
 use Rattle.wal_shape.specs.Part.{sliver_part}
 use Rattle.wal_shard.specs.Holding.{HoldsMetadata}
@@ -33,17 +32,22 @@ bad_proof_fits digest m p fit bad =
 
 -- ---- what is added
 
-both_above : (old : Contents) (id : BlobId) (m : BlobMetadata) (part : Part) (bytes : List ℕ) → AreAbove old (kept (kept old id parts.Metadata (metadata_text m)) id part bytes)
+both_above : (old : Contents) (id : BlobId) (m : BlobMetadata) (part : Part) (bytes : List ℕ)
+    → AreAbove old (kept (kept old id parts.Metadata (metadata_text m)) id part bytes)
 both_above old id m part bytes =
     let mid = kept old id parts.Metadata (metadata_text m) in
-    above_both old mid (kept mid id part bytes) (above_kept old id parts.Metadata (metadata_text m)) (above_kept mid id part bytes)
+    above_both old mid (kept mid id part bytes) (above_kept old id parts.Metadata (metadata_text m))
+    (above_kept mid id part bytes)
 
 pub recover_adds : (digest : List ℕ → List ℕ) (f : ℕ) (id : BlobId) (shard : ℕ) (axis : Axis) (old new : Contents) (payloads : List (List ℕ)) (word : RecoverWord)
     → RecoversTo digest f id shard axis old payloads word new → AreAbove old new
 recover_adds digest f id shard axis old new payloads NoMetadata r = rw r.1 (λ q part bytes at. at)
-recover_adds digest f id shard axis old new payloads (Sliver bytes) r = rw r.3 (both_above old id r.0 (sliver_part axis) bytes)
-recover_adds digest f id shard axis old new payloads Inconsistent r = rw r.4 (both_above old id r.0 parts.Proof (proof_text r.2))
-recover_adds digest f id shard axis old new payloads Proof r = rw r.6 (both_above old id r.0 parts.Proof (proof_text r.4))
+recover_adds digest f id shard axis old new payloads (Sliver bytes) r =
+    rw r.3 (both_above old id r.0 (sliver_part axis) bytes)
+recover_adds digest f id shard axis old new payloads Inconsistent r =
+    rw r.4 (both_above old id r.0 parts.Proof (proof_text r.2))
+recover_adds digest f id shard axis old new payloads Proof r =
+    rw r.6 (both_above old id r.0 parts.Proof (proof_text r.4))
 recover_adds digest f id shard axis old new payloads (Short have need) r = rw r.5 (λ q part bytes at. at)
 recover_adds digest f id shard axis old new payloads _ r = absurd r
 
@@ -68,7 +72,9 @@ module _ (digest : List ℕ → List ℕ) (f : ℕ) (id : BlobId) (shard : ℕ) 
 
     -- the metadata that is known is held then
     mid_holds : HoldsMetadata (parts_at mid id) m
-    mid_holds = kept_held old id m commits.fit (λ other at. let s = (was id).metadata other at in cc (s.1.spelled, at, known.only s.0 (inr s.1)))
+    mid_holds =
+        kept_held old id m commits.fit
+        (λ other at. let s = (was id).metadata other at in cc (s.1.spelled, at, known.only s.0 (inr s.1)))
 
     -- one more part leaves it held
     held_then : (part : Part) (bytes : List ℕ) → HoldsCommitted digest id (parts_at (kept mid id part bytes) id) m

@@ -1,5 +1,5 @@
 -- What replies of sound holdings show, and how many shards a list names.
-use Rattle.std.proofs.Common.{◌≡◌, ℕ, zero, suc, ◌<◌, ◌≤◌, List, [], ◌∷◌, ◌++◌, length, get_or, Bool, true, false, ◌&&◌, ◌||◌, is_some, nat_eq, Option, Some, None, Any, Contains, ◌⊎◌, inl, inr, refl, sym, ap, subst, ◌∙◌, arith}
+use Rattle.std.proofs.Common.{◌≡◌, ℕ, zero, suc, ◌<◌, ◌≤◌, List, [], ◌∷◌, ◌++◌, length, get_or, Bool, true, false, ◌&&◌, ◌||◌, is_some, nat_eq, Option, Some, None, Any, Contains, ◌⊎◌, inl, inr, refl, ap, ◌∙◌, arith}
 use Rattle.std.specs.List.{list_any}
 use Rattle.std.proofs.lemmas.Bool.Decides.{nat_tests}
 use Rattle.std.proofs.lemmas.List.Elements.{Contains-append_left, Contains-append_right}
@@ -7,7 +7,7 @@ use Rattle.std.proofs.lemmas.List.Folds.{list_any-from_Any}
 use Rattle.wal_shape.specs.Metadata.{BlobMetadata}
 use Rattle.wal_shape.specs.MetadataReading.{spelled_metadata}
 use Rattle.wal_shape.specs.EncodingProof.{EncodingProof}
-use Rattle.wal_shape.specs.Spelling.{metadata_text, proof_text}
+use Rattle.wal_shape.specs.Spelling.{proof_text}
 use Rattle.wal_shape.proofs.MetadataLaws.{spelled_metadata-text}
 use Rattle.wal_commit.specs.Identifier.{Commits}
 use Rattle.wal_commit.proofs.Clashes.{identifier_is}
@@ -15,7 +15,7 @@ use Rattle.wal_frame.specs.Frame.{Metadata, Proof, frame_text, metadata_frame}
 use Rattle.wal_ledger.specs.Shards.{count_below}
 use Rattle.wal_ledger.proofs.Quorums.{count_below-mono, count_below-among}
 use Rattle.wal_store.specs.Parts.{Parts}
-use Rattle.wal_shard.specs.Holding.{HoldsMetadata, payload_if, metadata_reply, proof_reply, settled, has_proof}
+use Rattle.wal_shard.specs.Holding.{HoldsMetadata, metadata_reply, proof_reply, settled, has_proof}
 
 -- ---- lists
 
@@ -62,7 +62,8 @@ told id p middle = metadata_reply p ++ (middle ++ proof_reply id p)
 
 pub shows_metadata : (id : List ℕ) (p : Parts) (middle : List (List ℕ)) (m : BlobMetadata) → HoldsMetadata p m → Contains (told id p middle) (frame_text (Metadata m))
 shows_metadata id p middle m holds =
-    rw holds.spelled (contains_first _ _ (middle ++ proof_reply id p) (ap metadata_frame (spelled_metadata-text m holds.fit)))
+    rw holds.spelled
+    (contains_first _ _ (middle ++ proof_reply id p) (ap metadata_frame (spelled_metadata-text m holds.fit)))
 
 pub shows_middle : (id : List ℕ) (p : Parts) (middle : List (List ℕ)) (x : List ℕ) → Contains middle x → Contains (told id p middle) x
 shows_middle id p middle x c =

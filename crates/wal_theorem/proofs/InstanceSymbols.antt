@@ -1,7 +1,6 @@
 -- A recovery that has the replies of enough shards gives the sliver, or finds the blob badly encoded.
-use Rattle.std.proofs.Common.{◌≡◌, inl, ⊎_elim, ℕ, ◌+◌, ◌<◌, ◌≤◌, List, [], ◌∷◌, length, map, Bool, true, ◌&&◌, is_some, nat_eq, Option, Some, None, Result, Ok, Contains, refl, sym, ap, subst, ◌∙◌, arith, if◌then◌else◌}
+use Rattle.std.proofs.Common.{◌≡◌, inl, ⊎_elim, ℕ, ◌+◌, ◌<◌, ◌≤◌, List, [], ◌∷◌, length, map, Bool, true, is_some, Ok, Contains, refl, sym, ap, ◌∙◌, arith}
 use Rattle.std.specs.List.{flat_map}
-use Rattle.std.specs.Cmp.Lexicographic.{pointwise}
 use Rattle.std.proofs.lemmas.Bool.{false≢true}
 use Rattle.std.proofs.lemmas.List.{get_or-map, length-map}
 use Rattle.std.proofs.lemmas.Slice.Eq.{bytes_eq-Decides}
@@ -11,7 +10,7 @@ use Rattle.wal_shape.specs.declared.metadata.BlobId.{BlobId}
 use Rattle.wal_shape.specs.declared.axis.Axis.{Axis}
 use Rattle.wal_shape.specs.declared.axis.Axis.TheVariants.{Primary, Secondary}
 use Rattle.wal_shape.specs.declared.opening.Opening.{Opening}
-use Rattle.wal_shape.specs.Shape.{shard_count, sliver_symbols, crossing}
+use Rattle.wal_shape.specs.Shape.{sliver_symbols, crossing}
 use Rattle.wal_shape.specs.Metadata.{BlobMetadata, held_index}
 use Rattle.wal_shape.proofs.MetadataLaws.{held_index-within, held_index-twice}
 use Rattle.wal_commit.specs.Identifier.{Commits}
@@ -23,9 +22,8 @@ use Rattle.wal_evidence.proofs.FirstOfEach.{takes_all}
 use Rattle.wal_recover.specs.Recovery.{GivesOpening, Takes}
 use Rattle.wal_recover.specs.declared.outcome.Recovered.TheVariants as recovered
 use Rattle.wal_frame.specs.Frame as frame
-use Rattle.wal_frame.specs.Frame.{Frame, frame_text}
+use Rattle.wal_frame.specs.Frame.{frame_text}
 use Rattle.wal_frame.specs.Reading.{read_of}
-use Rattle.wal_frame.specs.declared.frame.FrameError.{FrameError}
 use Rattle.wal_event.specs.declared.line.RecoverWord.{RecoverWord}
 use Rattle.wal_event.specs.declared.line.RecoverWord.TheVariants.{NoMetadata, Proof, Short}
 use Rattle.wal_frame.proofs.FrameLaws.{read_again}
@@ -99,7 +97,8 @@ module _ (digest : List ℕ → List ℕ) (size : (text : List ℕ) → length (
   pub helped_told : (axis : Axis) (helper : ℕ) (parts : Parts) → is_some parts.metadata ≡ true → Helped (rules_of digest f) id axis shard payloads helper parts → Told axis helper parts
   helped_told axis helper parts there h = by h.reply h.symbols h.replied
     where
-      by : (reply : List (List ℕ)) → SymbolReply digest id helper parts axis shard reply → AreAmong reply payloads → Told axis helper parts
+      by : (reply : List (List ℕ)) → SymbolReply digest id helper parts axis shard reply → AreAmong reply payloads
+          → Told axis helper parts
       by _ (silent none) among = absurd (false≢true (rw none at there))
       by all (replies m _ holds symbols) among =
           let commits = held_commits digest f id.0 helper parts h.sound m holds in
@@ -129,10 +128,12 @@ module _ (digest : List ℕ → List ℕ) (size : (text : List ℕ) → length (
       let same = one_metadata parts x m held holds in
       let turned = rw same at cross in
       let index_of = held_index m.format m.f axis shard in
-      let own : HoldsSliver digest m (crossing axis) o.cross sliver = rw turned (sound.slivers (crossing axis) m sliver holds at) in (
+      let own : HoldsSliver digest m (crossing axis) o.cross sliver =
+      rw turned (sound.slivers (crossing axis) m sliver holds at) in (
         o,
         contains_first _ _ [] refl,
-        honest_opening digest size m axis index_of sliver o (omega (arith, few, faults)) (rw same at index) own (rw same at is),
+        honest_opening digest size m axis index_of sliver o (omega (arith, few, faults)) (rw same at index) own
+            (rw same at is),
         turned,
       )
   opens axis helper parts m _ sound holds faults (not_held none) there = absurd (false≢true (rw none at there))
@@ -164,12 +165,14 @@ module _ (digest : List ℕ → List ℕ) (size : (text : List ℕ) → length (
         let t = helped_told axis helper parts there h in
         let same = known.only t.metadata (inl t.has) in
         let commits = rw same at t.commits in
-        let o = opens axis helper parts m t.opening h.sound (rw same at t.holds) known.faults (rw same at t.reply) sliver in
+        let o =
+        opens axis helper parts m t.opening h.sound (rw same at t.holds) known.faults (rw same at t.reply) sliver in
         let index = held_index m.format m.f axis shard in
         let turn = held_index m.format m.f (crossing axis) in
         let among = opened axis m parts t.opening o.0 commits known.faults t.tells o.1 o.2 in
         let cross = takes_held digest m axis index (sliver_symbols axis m.f) (openings_in id.0 axis index payloads) taken takes short o.0 among o.2 in
-        let back : turn o.0.cross ≡ helper = rw o.3 (held_index-twice m.format m.f (crossing axis) helper (omega (arith, inside, known.faults))) in
+        let back : turn o.0.cross ≡ helper =
+        rw o.3 (held_index-twice m.format m.f (crossing axis) helper (omega (arith, inside, known.faults))) in
         rw (← back) (contains_map turn (crosses_of taken) o.0.cross cross)
 
     -- openings are not too few where enough shards told theirs
@@ -183,7 +186,8 @@ module _ (digest : List ℕ → List ℕ) (size : (text : List ℕ) → length (
         let short : length taken < sliver_symbols axis m.f = omega (arith, r.comes.0, r.comes.1) in
         let named = count_named (committee_size f) heard (map turn (crosses_of taken))
         (λ s inside hears. let h = helped s inside hears in counted s h.0 taken inside h.1 h.2 h.3 r.takes short) in
-        omega (arith, enough, named, length-map (crosses_of taken) turn, length-map taken (λ (o : Opening). o.cross), short)
+        omega
+        (arith, enough, named, length-map (crosses_of taken) turn, length-map taken (λ (o : Opening). o.cross), short)
 
   -- a metadata that some shard told is known
   unknown : (old : Contents) (axis : Axis) (helper : ℕ) (parts : Parts) → is_some parts.metadata ≡ true → Helped (rules_of digest f) id axis shard payloads helper parts
@@ -195,7 +199,8 @@ module _ (digest : List ℕ → List ℕ) (size : (text : List ℕ) → length (
       → ((other : BlobMetadata) → HasMetadata digest id.0 payloads other → other ≡ m) → NoBadProof digest id.0 m payloads → has_proof parts ≡ true → ⊥
   proof_told helper axis parts m there h only none has =
       let t = helped_told axis helper parts there h in
-      tells_proof digest size f few id payloads helper parts t.opening m t.tells h.sound (rw (only t.metadata t.has) at t.holds) none has
+      tells_proof digest size f few id payloads helper parts t.opening m t.tells h.sound
+      (rw (only t.metadata t.has) at t.holds) none has
 
   abbrev HeardSettled : (ℕ → Bool) → Type 0
   HeardSettled heard =

@@ -1,34 +1,29 @@
 -- Where no two texts collide, an identifier has one blob, and all completed answers for it have one verdict.
-use Rattle.std.proofs.Common.{◌≡◌, ℕ, ◌+◌, ◌-◌, ◌*◌, ◌/◌, ◌%◌, ◌<◌, ◌≤◌, List, length, take, get_or, replicate, slice_index, refl, sym, ap, subst, ◌∙◌, arith, ⊎_elim}
-use Rattle.std.proofs.Math.Nat.{mul-le-mul_right}
+use Rattle.std.proofs.Common.{◌≡◌, ℕ, ◌-◌, ◌*◌, List, length, take, replicate, slice_index, refl, sym, ap, subst, ◌∙◌, arith}
 use Rattle.std.proofs.Math.Seq.{take-append_seam}
-use Rattle.std.proofs.lemmas.Bool.{cases_lt}
-use Rattle.std.proofs.lemmas.List.{get_or_default, get_or_past}
-use Rattle.std.proofs.lemmas.Nat.{div_below, mod_below, div-add-mod'}
 use Rattle.std.proofs.lemmas.Option.{get_or_from_slice_get, slice_get_within}
 use Rattle.wal_kernel.specs.Region.{region}
-use Rattle.wal_kernel.proofs.Regions.{region-byte}
 use Rattle.wal_shape.specs.declared.metadata.BlobId.{BlobId}
 use Rattle.wal_shape.specs.declared.axis.Axis.TheVariants.{Primary}
 use Rattle.wal_shape.specs.declared.opening.Opening.{Opening}
 use Rattle.wal_shape.specs.declared.shape.Format.{Format}
-use Rattle.wal_shape.specs.Shape.{shard_count, row_count, column_count, symbol_size, crossing}
+use Rattle.wal_shape.specs.Shape.{row_count, column_count, symbol_size, crossing}
 use Rattle.wal_shape.specs.Metadata.{BlobMetadata, IsMetadata}
 use Rattle.wal_shape.specs.EncodingProof.{EncodingProof}
 use Rattle.wal_shape.specs.Spelling.{metadata_text, proof_text}
 use Rattle.wal_shape.proofs.ShapeLaws.{symbol_size-least}
 use Rattle.wal_tree.specs.Path.{path_over}
-use Rattle.wal_matrix.specs.Matrix.{IsExtended, padded, line_of, primary_of}
+use Rattle.wal_matrix.specs.Matrix.{padded, line_of, primary_of}
 use Rattle.wal_matrix.specs.Through.{source_of}
 use Rattle.wal_matrix.proofs.Codewords.{AreBytes, bytes_of_part}
-use Rattle.wal_matrix.proofs.Decoded.{AreSlivers, source_of_extended, through_unique}
+use Rattle.wal_matrix.proofs.Decoded.{source_of_extended}
 use Rattle.wal_matrix.proofs.MatrixLaws.{bytes_within}
 use Rattle.wal_matrix.proofs.ThroughLaws.{source-row, source_by_rows, source_long}
 use Rattle.wal_matrix.proofs.Words.{line_is_word}
-use Rattle.wal_commit.specs.Identifier.{Commits, IsIdentifierOf, IsMetadataOf, identifier_of, metadata_over}
+use Rattle.wal_commit.specs.Identifier.{Commits, IsIdentifierOf, IsMetadataOf, metadata_over}
 use Rattle.wal_commit.proofs.HonestOpenings.{committed_matrix, committed_opening}
 use Rattle.wal_evidence.specs.BadProof.{IsBadProof}
-use Rattle.wal_evidence.specs.Evidence.{AreHeld, CommitsMatrix, IsEvidence, IsJudgedBy, IsVerdictOn, Judges, sliver_bytes}
+use Rattle.wal_evidence.specs.Evidence.{AreHeld, CommitsMatrix, IsEvidence, IsJudgedBy, Judges, sliver_bytes}
 use Rattle.wal_evidence.specs.declared.evidence.Basis.{Basis}
 use Rattle.wal_evidence.specs.declared.evidence.Evidence.{Evidence}
 use Rattle.wal_evidence.specs.declared.evidence.Basis.TheVariants.{Slivers, Proof}
@@ -36,7 +31,7 @@ use Rattle.wal_evidence.specs.declared.evidence.Verdict.{Verdict}
 use Rattle.wal_evidence.specs.declared.evidence.Verdict.TheVariants.{Bytes, Reject}
 use Rattle.wal_evidence.proofs.FalseOpenings.{false_opening}
 use Rattle.wal_evidence.proofs.FalseSlivers.{matrix_holds}
-use Rattle.wal_evidence.proofs.Verdicts.{one_verdict, true_verdict}
+use Rattle.wal_evidence.proofs.Verdicts.{true_verdict}
 use Rattle.wal_protocol.specs.declared.first.First.{First}
 use Rattle.wal_protocol.specs.declared.first.First.TheVariants.{Judged, Written}
 use Rattle.wal_protocol.specs.State.{verdict_of}
@@ -64,7 +59,8 @@ blob_of digest m blob e is =
     let length_is : m.length ≡ length blob = ap (λ (x : BlobMetadata). x.length) is.1 in
     rw length_is
     (ap (take (length blob)) (source_of_extended m.f blob e is.0)
-    ∙ take-append_seam blob (replicate (row_count m.f * column_count m.f * symbol_size m.f (length blob) - length blob) 0))
+    ∙ take-append_seam blob
+    (replicate (row_count m.f * column_count m.f * symbol_size m.f (length blob) - length blob) 0))
 
 module _ (digest : List ℕ → List ℕ) (one : IsOneToOne digest) where
   -- a metadata is that of one blob
@@ -73,7 +69,8 @@ module _ (digest : List ℕ → List ℕ) (one : IsOneToOne digest) where
       let s = symbol_size m.f m.length in
       let long_e = (committed_matrix digest m y e is_y.0 is_y.1).size in
       let sources : source_of m.f s e ≡ source_of m.f s d =
-      source_by_rows m.f s d (source_of m.f s e) (omega (arith, (symbol_size-least m.f m.length).positive)) (committed_matrix digest m x d is_x.0 is_x.1).size (source_long m.f s e long_e)
+      source_by_rows m.f s d (source_of m.f s e) (omega (arith, (symbol_size-least m.f m.length).positive))
+      (committed_matrix digest m x d is_x.0 is_x.1).size (source_long m.f s e long_e)
       (λ r hr. source-row m.f s e r long_e hr
       ∙ one_sliver digest one m Primary r (primary_of m.f s e r) (primary_of m.f s d r) (matrix_holds digest m y e r is_y (omega arith)) (matrix_holds digest m x d r is_x (omega arith))) in
       sym (blob_of digest m x d is_x) ∙ ap (take m.length) (sym sources) ∙ blob_of digest m y e is_y
@@ -107,7 +104,9 @@ module _ (digest : List ℕ → List ℕ) (one : IsOneToOne digest) where
 
     slivers_accept : (indices joined : List ℕ) → AreHeld digest m indices joined → Judges digest m indices joined Reject → ⊥
     slivers_accept indices joined held judged =
-        let same = one_judgement digest m indices joined fit held (Bytes blob) Reject (slivers_judged indices joined held) judged in
+        let same =
+        one_judgement digest m indices joined fit held (Bytes blob) Reject
+        (slivers_judged indices joined held) judged in
         absurd cc
 
     proof_accepts : (p : EncodingProof) → AreBytes (proof_text p) → IsBadProof digest m p → ⊥

@@ -1,25 +1,19 @@
 -- Payloads have one outcome, but for the two texts of a collision, and one evidence for it.
-use Rattle.std.proofs.Common.{◌≡◌, ℕ, ◌+◌, ◌*◌, ◌/◌, ◌%◌, ◌<◌, ◌≤◌, List, [], ◌∷◌, length, take, All, Option, Some, refl, sym, ap, ap₂, subst, ◌∙◌, arith, ⊎_elim}
+use Rattle.std.proofs.Common.{◌≡◌, ℕ, ◌+◌, ◌*◌, ◌/◌, ◌%◌, ◌<◌, ◌≤◌, List, length, take, Option, Some, refl, sym, ap, ap₂, ◌∙◌, arith, ⊎_elim}
 use Rattle.std.proofs.Math.Nat.{mul-le-mul_right}
 use Rattle.std.proofs.lemmas.Bool.{cases_lt}
 use Rattle.std.proofs.lemmas.List.{get_or_default, get_or_past}
 use Rattle.std.proofs.lemmas.Nat.{div_below, mod_below, div-add-mod'}
 use Rattle.wal_kernel.specs.Region.{region}
 use Rattle.wal_kernel.proofs.Regions.{region-byte}
-use Rattle.std.proofs.lemmas.List.Concat.{flat_map-cons}
-use Rattle.std.proofs.lemmas.List.Elements.{All-head, All-tail}
-use Rattle.std.specs.List.{flat_map}
-use Rattle.wal_shape.specs.declared.axis.Axis.TheVariants.{Primary}
-use Rattle.wal_shape.specs.Shape.{shard_count, row_count, column_count, symbol_size}
+use Rattle.wal_shape.specs.Shape.{row_count, column_count, symbol_size}
 use Rattle.wal_shape.specs.Metadata.{BlobMetadata, IsMetadata}
 use Rattle.wal_shape.specs.EncodingProof.{EncodingProof}
 use Rattle.wal_shape.proofs.ShapeLaws.{symbol_size-least}
 use Rattle.wal_matrix.specs.Through.{source_of}
 use Rattle.wal_matrix.proofs.Codewords.{AreBytes, bytes_of_part}
 use Rattle.wal_matrix.proofs.MatrixLaws.{bytes_within}
-use Rattle.wal_matrix.proofs.Words.{bytes_joined}
 use Rattle.wal_matrix.proofs.Decoded.{AreSlivers, through_unique}
-use Rattle.wal_commit.specs.Held.{HoldsSliver}
 use Rattle.wal_frame.specs.Reading.{read_of}
 use Rattle.wal_evidence.specs.declared.evidence.Basis.{Basis}
 use Rattle.wal_evidence.specs.declared.evidence.Basis.TheVariants.{Slivers, Proof}
@@ -27,12 +21,11 @@ use Rattle.wal_evidence.specs.declared.evidence.Evidence.{Evidence}
 use Rattle.wal_evidence.specs.declared.evidence.Verdict.{Verdict}
 use Rattle.wal_evidence.specs.declared.evidence.Verdict.TheVariants as told
 use Rattle.wal_evidence.specs.Evidence.{AreHeld, IsHeldBy, Judges, sliver_bytes}
-use Rattle.wal_evidence.proofs.FirstOfEach.{first_taken}
 use Rattle.wal_evidence.proofs.Verdicts.{one_verdict}
 use Rattle.wal_reader.specs.declared.outcome.Outcome.{Outcome}
 use Rattle.wal_reader.specs.declared.outcome.Outcome.TheVariants.{Bytes, Reject, Short, NoMetadata, Collision}
 use Rattle.wal_reader.specs.Carried.{CarriesBadProof, IsFirstBadProof}
-use Rattle.wal_reader.specs.Outcome.{Collects, Decides, GivesSliver, HasEvidence, HasMetadata, HoldsFew, IndexedSliver, IsDrawnFrom, IsEvidenceFor, IsMetadataIn, IsOnlyOutcome, IsOutcome}
+use Rattle.wal_reader.specs.Outcome.{Collects, Decides, HasEvidence, HasMetadata, HoldsFew, IsDrawnFrom, IsEvidenceFor, IsMetadataIn, IsOnlyOutcome, IsOutcome}
 use Rattle.wal_reader.proofs.Collections.{enough_are_held, one_collection}
 use Rattle.wal_reader.proofs.FirstOnes.{first_two, one_first, one_proof}
 use Rattle.wal_reader.proofs.OneOutcome.{HasFew, HasVerdict, only_verdict, only_refuted, only_short, only_none, only_collision}
@@ -40,7 +33,8 @@ use Rattle.wal_reader.proofs.OneOutcome.{HasFew, HasVerdict, only_verdict, only_
 -- ---- slivers that hold
 
 -- joined regions of bytes are bytes
-bytes_by_regions : (count s : ℕ) (d : List ℕ) → 0 < s → length d ≡ count * s → ((k : ℕ) → k < count → AreBytes (region s d k)) → AreBytes d
+bytes_by_regions : (count s : ℕ) (d : List ℕ) → 0 < s → length d ≡ count * s
+    → ((k : ℕ) → k < count → AreBytes (region s d k)) → AreBytes d
 bytes_by_regions count s d some long each i =
     ⊎_elim
     (λ inside.
@@ -50,7 +44,8 @@ bytes_by_regions count s d some long each i =
     (λ past. omega (arith, get_or_past d i 0 past))
     (cases_lt i (length d))
 
-module _ (digest : List ℕ → List ℕ) (m : BlobMetadata) (is js : List ℕ) (fit : IsMetadata m) (held : AreHeld digest m is js) where
+module _ (digest : List ℕ → List ℕ) (m : BlobMetadata) (is js : List ℕ) (fit : IsMetadata m)
+    (held : AreHeld digest m is js) where
   -- they are the slivers of a matrix
   pub held_slivers : AreSlivers m.f (symbol_size m.f m.length) is js
   held_slivers =
@@ -67,7 +62,8 @@ module _ (digest : List ℕ → List ℕ) (m : BlobMetadata) (is js : List ℕ) 
         size = held.size;
         bytes = bytes_by_regions (row_count m.f) (sliver_bytes m) js (row_some m.f s (omega arith)) held.size
             (λ k l. let sliver = held.held k (omega (arith, l, held.count)) in
-            rw sliver.is_word.begins at (bytes_of_part (column_count m.f * s) 0 sliver.word (bytes_within sliver.word sliver.is_word.coded.fits)));
+            rw sliver.is_word.begins at
+            (bytes_of_part (column_count m.f * s) 0 sliver.word (bytes_within sliver.word sliver.is_word.coded.fits)));
       }
     where
       one_column : (f : ℕ) → 1 ≤ column_count f
@@ -117,7 +113,8 @@ module _ (digest : List ℕ → List ℕ) (id : List ℕ) (payloads : List (List
         one = found.1;
         collects = found.4;
         count = found.5;
-        only = λ other judged. one_judgement digest found.0 found.2 found.3 (metadata_fits found.0 found.1.0) held other verdict judged found.6;
+        only = λ other judged.
+            one_judgement digest found.0 found.2 found.3 (metadata_fits found.0 found.1.0) held other verdict judged found.6;
       }
 
   has_few : (m : BlobMetadata) (have : ℕ) → IsMetadataIn digest id payloads m → (few : HoldsFew digest id m payloads have) → HasFew digest id payloads m few.0 few.1
@@ -160,7 +157,8 @@ module _ (digest : List ℕ → List ℕ) (id : List ℕ) (payloads : List (List
       let same : is_a.0.metadata ≡ is_b.0.metadata = is_b.4.1 is_a.0.metadata is_a.4.0 in
       let count = count_of digest is_a.0.metadata is_a.0.basis is_a.2.held in
       let other = count_of digest is_b.0.metadata is_b.0.basis is_b.2.held in
-      let basis = one_basis is_b.0.metadata is_a.0.basis is_b.0.basis (rw same at is_a.5) is_b.5 (rw same at count) other in
+      let basis =
+      one_basis is_b.0.metadata is_a.0.basis is_b.0.basis (rw same at is_a.5) is_b.5 (rw same at count) other in
       is_a.1 ∙ ap₂ (λ (m : BlobMetadata) (x : Basis). evidence_of m x) same basis ∙ sym is_b.1
 
   -- so an outcome has one

@@ -1,22 +1,18 @@
 -- The rules of the world leave no choice but the texts of a collision: so its steps and runs leave none.
-use Rattle.std.proofs.Common.{◌≡◌, ◌≢◌, ◌⊎◌, ℕ, ◌<◌, List, [], ◌∷◌, ◌++◌, length, Result, Ok, Option, None, refl, sym, ap, subst, ◌∙◌, arith, ⊎_elim, inl, inr, true≢false}
+use Rattle.std.proofs.Common.{◌≡◌, ◌≢◌, ◌⊎◌, ℕ, List, [], ◌∷◌, ◌++◌, length, Option, None, refl, sym, ap, ◌∙◌, arith, ⊎_elim, inl, inr, true≢false}
 use Rattle.wal_shape.specs.declared.metadata.BlobId.{BlobId}
 use Rattle.wal_shape.specs.declared.axis.Axis.{Axis}
 use Rattle.wal_shape.specs.declared.shape.Format.{Format}
 use Rattle.wal_shape.specs.declared.text.MetaClash.{MetaClash}
-use Rattle.wal_shape.specs.Shape.{IsShape, shard_count, sliver_symbols, crossing}
+use Rattle.wal_shape.specs.Shape.{IsShape, sliver_symbols}
 use Rattle.wal_shape.specs.Metadata.{BlobMetadata, held_index}
 use Rattle.wal_shape.specs.EncodingProof.{EncodingProof}
-use Rattle.wal_shape.specs.Spelling.{metadata_text}
 use Rattle.wal_matrix.proofs.MatrixLaws.{extended_unique}
-use Rattle.wal_commit.specs.Held.{IsOpeningOf}
-use Rattle.wal_commit.specs.Identifier.{identifier_of, metadata_over}
+use Rattle.wal_commit.specs.Identifier.{metadata_over}
 use Rattle.wal_commit.proofs.HonestOpenings.{one_opening}
 use Rattle.wal_recover.specs.declared.outcome.Recovered.{Recovered}
 use Rattle.wal_recover.specs.declared.outcome.Recovered.TheVariants as recovered
 use Rattle.wal_recover.proofs.OneRecovery.{one_recovery}
-use Rattle.wal_frame.specs.declared.frame.FrameError.{FrameError}
-use Rattle.wal_frame.specs.Reading.{read_of}
 use Rattle.wal_frame.specs.Frame.{Frame, frame_text}
 use Rattle.wal_frame.specs.Frame as frames
 use Rattle.wal_event.specs.declared.line.ReadWord.{ReadWord}
@@ -25,7 +21,7 @@ use Rattle.wal_event.specs.declared.line.RecoverWord.{RecoverWord}
 use Rattle.wal_event.specs.declared.line.RecoverWord.TheVariants as recovering
 use Rattle.wal_evidence.specs.declared.evidence.Evidence.{Evidence}
 use Rattle.wal_reader.specs.Carried.{openings_in, IsFirstBadProof, NoBadProof}
-use Rattle.wal_reader.specs.Outcome.{HasEvidence, SameOutcome}
+use Rattle.wal_reader.specs.Outcome.{SameOutcome}
 use Rattle.wal_reader.specs.Settled.{HasTwo}
 use Rattle.wal_reader.specs.declared.outcome.Outcome.{Outcome}
 use Rattle.wal_reader.specs.declared.outcome.Outcome.TheVariants as outcome
@@ -42,7 +38,7 @@ use Rattle.wal_shard.specs.Putting.{Puts}
 use Rattle.wal_shard.specs.State.{desk_of}
 use Rattle.wal_shard.proofs.OnePut.{puts_once}
 use Rattle.wal_shard.proofs.Soundness.{one_metadata}
-use Rattle.wal_writer.specs.Message.{IsMessageOf, message_to}
+use Rattle.wal_writer.specs.Message.{IsMessageOf}
 use Rattle.wal_theorem.specs.Instance.{SymbolReply, silent, replies, outcome_told, ReadsTo, Knows, IsKnown, OwnOpeningsComeTo, RecoversTo, rules_of}
 use Rattle.wal_theorem.proofs.OneReading.{metadata_fits, one_bad_proof, only_outcome, outcome_evidence}
 use Rattle.wal_protocol.proofs.OneWord.{Only, SamePut}
@@ -83,7 +79,8 @@ module _ (digest : List ℕ → List ℕ) (id : List ℕ) (helper : ℕ) (p : Pa
       let bytes : sliver ≡ other = cc in
       let one = one_opening digest n axis index other o q has_n.fit.shape.1 (rw (same, bytes) at is) is_n in
       let crosses : o.cross ≡ q.cross = rw same at cross ∙ sym cross_n in
-      let same_payload : opening_payload index o.cross o.symbol o.path ≡ opening_payload index q.cross q.symbol q.path = rw (crosses, one.0, one.1) in
+      let payload = opening_payload index in
+      let same_payload : payload o.cross o.symbol o.path ≡ payload q.cross q.symbol q.path = rw (crosses, one.0, one.1) in
       same_payload
   one_opening_reply index a b (given m sliver o has at within cross is) (not_held none) = absurd cc
   one_opening_reply index a b (given m sliver o has at within cross is) (no_shard n has_n outside) =
@@ -101,9 +98,11 @@ one_symbol_reply : (digest : List ℕ → List ℕ) (id : BlobId) (helper : ℕ)
     → SymbolReply digest id helper p axis shard b → a ≡ b
 one_symbol_reply digest id helper p axis shard a b (silent none) (silent nothing) = refl
 one_symbol_reply digest id helper p axis shard a b (silent none) (replies n y has t) = absurd (cc (none, has.spelled))
-one_symbol_reply digest id helper p axis shard a b (replies m x has s) (silent nothing) = absurd (cc (nothing, has.spelled))
+one_symbol_reply digest id helper p axis shard a b (replies m x has s) (silent nothing) =
+    absurd (cc (nothing, has.spelled))
 one_symbol_reply digest id helper p axis shard a b (replies m x has s) (replies n y has_n t) =
-    one_symbols digest id.0 helper p axis (held_index n.format n.f axis shard) a b (rw (one_metadata p m n has has_n) at s) t
+    one_symbols digest id.0 helper p axis (held_index n.format n.f axis shard) a b
+    (rw (one_metadata p m n has has_n) at s) t
 
 -- ---- reads
 
@@ -121,7 +120,8 @@ no_collision w clash same = grind arith
 one_reading : (digest : List ℕ → List ℕ) (id : BlobId) (payloads : List (List ℕ)) (w v : ReadWord) (a b : Option Evidence) → ReadsTo digest id payloads w a → ReadsTo digest id payloads v b
     → (w ≡ v) × (a ≡ b)
 one_reading digest id payloads w v a b p q =
-    let same = outcome_same w (outcome_told v) (only_outcome digest id.0 payloads (outcome_told v) q.0 (outcome_told w) p.0) in
+    let same =
+    outcome_same w (outcome_told v) (only_outcome digest id.0 payloads (outcome_told v) q.0 (outcome_told w) p.0) in
     (told_once w v same, outcome_evidence digest id.0 payloads (outcome_told v) a b (rw same at p.1) q.1)
 
 reading_one : (digest : List ℕ → List ℕ) (id : BlobId) (payloads : List (List ℕ)) (w : ReadWord) (a : Option Evidence) → ReadsTo digest id payloads w a → HasTwo digest id.0 payloads → ⊥
@@ -174,7 +174,9 @@ module _ (digest : List ℕ → List ℕ) (f : ℕ) (id : BlobId) (shard : ℕ) 
   one_coming w v x y (inr (m, known, found, opens, rests)) (inr (n, known_n, other, opens_n, rests_n)) =
       let index = held_index n.format n.f axis shard in
       let same_m = known_n.only m known.known in
-      let same = one_recovery digest n axis index (openings_in id.0 axis index payloads) (known_shape n known_n.known) found other (rw same_m at opens) opens_n in
+      let same =
+      one_recovery digest n axis index (openings_in id.0 axis index payloads)
+      (known_shape n known_n.known) found other (rw same_m at opens) opens_n in
       one_rest n other w v x y (rw (same_m, same) at rests) rests_n
 
 -- THE RULES leave no choice but the texts of a collision
