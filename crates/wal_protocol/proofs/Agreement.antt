@@ -22,7 +22,7 @@ use Rattle.wal_protocol.specs.Rules.{Rules}
 use Rattle.wal_protocol.specs.Step.{AgreesWithFirst, Steps}
 use Rattle.wal_protocol.specs.Run.{is_collision, Runs}
 use Rattle.wal_protocol.specs.Safe.{Shows, Agree}
-use Rattle.wal_protocol.proofs.Lookups.{same_id}
+use Rattle.wal_shard.proofs.Changes.{same_id}
 
 -- a first completed answer for an identifier that gives this verdict
 pub record Tells (answers : finmap.FinMap id_cmp First) (id : BlobId) (told : Verdict) : Type 0 where

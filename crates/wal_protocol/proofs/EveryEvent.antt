@@ -80,13 +80,11 @@ module _ (r : Rules) (laws : Laws r) (total : Total r) where
       by : (answer : PutAnswer) (new : Contents) → r.Puts log p.0 (contents_of c p.0) p.1 answer new → (b : Bool) → is_clash answer ≡ b
           → ((mid : Committee) → AreSound r mid → Possible (Came r log mid more)) → Possible (Came r log c (p ∷ more))
       by answer new puts true clash more_puts =
-          let Rest : Bool → Type 0 = λ b. cond b ((true ≡ true) × (c ≡ c)) (PutsEach r log (with_contents c p.0 new) more true c) in
-          surely (true, c, (answer, new, puts, subst Rest (sym clash) (refl, refl)), λ is. total.put_collides log p.0 (contents_of c p.0) new p.1 answer puts clash)
+          surely (true, c, (answer, new, puts, rw clash (refl, refl)), λ is. total.put_collides log p.0 (contents_of c p.0) new p.1 answer puts clash)
       by answer new puts false clash more_puts =
           then (more_puts (with_contents c p.0 new) (grown_put r laws log c p.0 p.1 answer new sound puts).sound)
           (λ rest.
-          let Rest : Bool → Type 0 = λ b. cond b ((rest.0 ≡ true) × (rest.1 ≡ c)) (PutsEach r log (with_contents c p.0 new) more rest.0 rest.1) in
-          surely (rest.0, rest.1, (answer, new, puts, subst Rest (sym clash) rest.2), rest.3))
+          surely (rest.0, rest.1, (answer, new, puts, rw clash rest.2), rest.3))
 
   -- ---- first answers
 
@@ -320,14 +318,10 @@ module _ (r : Rules) (laws : Laws r) (total : Total r) where
           → ((next : World) → Facts r next → Possible ((states : List World) × (lines : List Line) × Runs r next events states lines))
           → Possible ((states : List World) × (lines : List Line) × Runs r old (event ∷ events) states lines)
       goes said new step true clash more =
-          let none : List World = [] in
-          let silent : List Line = [] in
-          let Rest : Bool → Type 0 = λ b. cond b ((none ≡ none) × (silent ≡ silent)) (Runs r new events none silent) in
-          surely (new ∷ [], said ∷ [], (step, subst Rest (sym clash) (refl, refl)))
+          surely (new ∷ [], said ∷ [], (step, rw clash (refl, refl)))
       goes said new step false on more =
           then (more new (facts_step r laws old event said new facts within step)) (λ run.
-          let Rest : Bool → Type 0 = λ b. cond b ((run.0 ≡ []) × (run.1 ≡ [])) (Runs r new events run.0 run.1) in
-          surely (new ∷ run.0, said ∷ run.1, (step, subst Rest (sym on) run.2)))
+          surely (new ∷ run.0, said ∷ run.1, (step, rw on run.2)))
 
   pub every_run : (s : Schedule) → IsSchedule s → s.f ≡ r.f → All HasBytes s.events → Possible (HasRun r s)
   every_run s fit same are =

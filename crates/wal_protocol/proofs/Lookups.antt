@@ -17,6 +17,7 @@ use Rattle.wal_shape.specs.declared.part.Part.TheVariants.{Primary, Secondary}
 use Rattle.wal_store.specs.Parts.{Parts, no_parts, with_part, is_absent, is_empty}
 use Rattle.wal_store.specs.Contents.{Contents, parts_at, with_parts, without_part}
 use Rattle.wal_shard.specs.Vouching.{without_slivers, without_dead}
+use Rattle.wal_shard.proofs.Changes.{same_id, changed_there, with_parts_changes, retained}
 use Rattle.wal_protocol.specs.inside.Laws.{forgotten}
 use Rattle.wal_ledger.specs.Ledger.{Log, is_live}
 use Rattle.wal_ledger.specs.Shards.{committee_size}
@@ -30,41 +31,6 @@ use Rattle.wal_protocol.specs.Run.{empty_committee}
 nothing_at : (id : BlobId) → parts_at finmap.empty id ≡ no_parts
 nothing_at id = ap (λ (o : Option Parts). unwrap_or o no_parts) (get-empty id_cmp id)
 
-pub same_id : (q id : BlobId) → eq_by_cmp id_cmp q id ≡ true → q ≡ id
-same_id q id h = exact_ids q id (by (id_cmp q id) h)
-  where
-    by : (r : Ordering) → is_eq r ≡ true → r ≡ Equal
-    by Equal e = refl
-    by r e = cc
-
--- the parts that a lookup in a changed map gives
-looked_up : (b : Bool) (x y : Option Parts) → unwrap_or (cond b x y) no_parts ≡ cond b (unwrap_or x no_parts) (unwrap_or y no_parts)
-looked_up true x y = refl
-looked_up false x y = refl
-
-pub parts_inserted : (m : Contents) (id : BlobId) (parts : Parts) (q : BlobId) → parts_at (finmap.insert m id parts) q ≡ cond (eq_by_cmp id_cmp q id) parts (parts_at m q)
-parts_inserted m id parts q =
-    ap (λ (o : Option Parts). unwrap_or o no_parts) (get-insert ids_total m id parts q) ∙ looked_up (eq_by_cmp id_cmp q id) (Some parts) (finmap.get m q)
-
-parts_removed : (m : Contents) (id : BlobId) (q : BlobId) → parts_at (finmap.remove m id) q ≡ cond (eq_by_cmp id_cmp q id) no_parts (parts_at m q)
-parts_removed m id q = ap (λ (o : Option Parts). unwrap_or o no_parts) (get-remove ids_total m id q) ∙ looked_up (eq_by_cmp id_cmp q id) None (finmap.get m q)
-
--- no part is there, so it is no holding
-empty_parts : (p : Parts) → is_empty p ≡ true → p ≡ no_parts
-empty_parts p h = by p.metadata p.primary p.secondary p.proof h
-  where
-    by : (a b c d : Option (List ℕ)) → (is_absent a && is_absent b && is_absent c && is_absent d) ≡ true → ◌≡◌ {A = Parts} (record { metadata = a; primary = b; secondary = c; proof = d }) no_parts
-    by None None None None e = refl
-    by a b c d e = cc
-
--- what is held once these are the parts of an identifier
-pub parts_with : (m : Contents) (id : BlobId) (p : Parts) (q : BlobId) → parts_at (with_parts m id p) q ≡ cond (eq_by_cmp id_cmp q id) p (parts_at m q)
-parts_with m id p q = by (is_empty p) refl
-  where
-    by : (b : Bool) → is_empty p ≡ b → parts_at (cond b (finmap.remove m id) (finmap.insert m id p)) q ≡ cond (eq_by_cmp id_cmp q id) p (parts_at m q)
-    by true e = parts_removed m id q ∙ ap (λ (n : Parts). cond (eq_by_cmp id_cmp q id) n (parts_at m q)) (sym (empty_parts p e))
-    by false e = parts_inserted m id p q
-
 -- what is held without the slivers of an identifier
 pub parts_forgotten : (m : Contents) (id q : BlobId) → (parts_at (without_slivers m id) q ≡ parts_at m q) ⊎ ((q ≡ id) × (parts_at (without_slivers m id) q ≡ forgotten (parts_at m q)))
 parts_forgotten m id q = by (eq_by_cmp id_cmp q id) refl
@@ -73,13 +39,13 @@ parts_forgotten m id q = by (eq_by_cmp id_cmp q id) refl
     one = without_part m id Primary
 
     itself : parts_at one id ≡ with_part (parts_at m id) Primary None
-    itself = parts_with m id (with_part (parts_at m id) Primary None) id ∙ ap (λ b. cond b (with_part (parts_at m id) Primary None) (parts_at m id)) ((eq_by_cmp_equiv ids_total).refl id)
+    itself = changed_there m one id (with_part (parts_at m id) Primary None) (with_parts_changes m id (with_part (parts_at m id) Primary None))
 
     whole : parts_at (without_slivers m id) q ≡ cond (eq_by_cmp id_cmp q id) (with_part (parts_at one id) Secondary None) (parts_at one q)
-    whole = parts_with one id (with_part (parts_at one id) Secondary None) q
+    whole = (with_parts_changes one id (with_part (parts_at one id) Secondary None)).at q
 
     first : parts_at one q ≡ cond (eq_by_cmp id_cmp q id) (with_part (parts_at m id) Primary None) (parts_at m q)
-    first = parts_with m id (with_part (parts_at m id) Primary None) q
+    first = (with_parts_changes m id (with_part (parts_at m id) Primary None)).at q
 
     by : (b : Bool) → eq_by_cmp id_cmp q id ≡ b → (parts_at (without_slivers m id) q ≡ parts_at m q) ⊎ ((q ≡ id) × (parts_at (without_slivers m id) q ≡ forgotten (parts_at m q)))
     by true h = inr (
@@ -117,11 +83,6 @@ unfolding held
 held_is c s q = refl
 
 -- what is no longer live is gone, and the rest stays
-retained : (m : Contents) (log : Log) (id : BlobId) → parts_at (without_dead log m) id ≡ cond (is_live log id) (parts_at m id) no_parts
-retained m log id =
-    ap (λ (o : Option Parts). unwrap_or o no_parts) (get-retain_keys m (is_live log) id (λ x tied. ap (is_live log) (sym (exact_ids id x tied))))
-    ∙ looked_up (is_live log id) (finmap.get m id) None
-
 pub held_without : (log : Log) (c : Committee) (s : ℕ) (id : BlobId) → held (after_dropping log c) s id ≡ cond (is_live log id) (held c s id) no_parts
 unfolding held
 held_without log c s id = at c.shards s
@@ -132,7 +93,7 @@ held_without log c s id = at c.shards s
 
     at : (xs : List Contents) (k : ℕ) → parts_at (get_or (map (without_dead log) xs) k finmap.empty) id ≡ cond (is_live log id) (parts_at (get_or xs k finmap.empty) id) no_parts
     at [] k = none (is_live log id)
-    at (m ∷ xs) zero = retained m log id
+    at (m ∷ xs) zero = retained m (is_live log) id
     at (m ∷ xs) (suc k) = at xs k
 
 abbrev CarriedAs : World → ℕ → BlobId → Contents → Type 0

@@ -52,7 +52,8 @@ use Rattle.wal_protocol.specs.Rules.{Rules}
 use Rattle.wal_protocol.specs.Step.{WriteStep, WriteCollides, ClaimStep, ReadCompletes, told_by, Gains, ForgetStep, Steps}
 use Rattle.wal_protocol.specs.Facts.{Facts, backed}
 use Rattle.wal_protocol.specs.inside.Laws.{Laws, forgotten}
-use Rattle.wal_protocol.proofs.Lookups.{same_id, held_is, parts_forgotten}
+use Rattle.wal_shard.proofs.Changes.{same_id}
+use Rattle.wal_protocol.proofs.Lookups.{held_is, parts_forgotten}
 use Rattle.wal_protocol.proofs.Grown.{Firmer, GrownFrom, AreSound, grown_same, grown_put, grown_each, grown_changed, sound_contents, firmer_same, firmer_contents, firmer_forgotten, facts_grown}
 use Rattle.wal_protocol.proofs.Entered.{writing_present, facts_entered}
 use Rattle.wal_protocol.proofs.Turned.{IsClosedBy, facts_begun, facts_finished}

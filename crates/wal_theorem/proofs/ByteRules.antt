@@ -1,11 +1,10 @@
 -- The rules of the world where all texts are of bytes: they have the same laws, and each of their steps is one of the world.
-use Rattle.std.proofs.Common.{◌≡◌, ℕ, ◌≤◌, List, length, All, Option, Some, None, sym, subst, inl, inr}
+use Rattle.std.proofs.Common.{◌≡◌, ℕ, ◌≤◌, List, length, All, Option, Some, None, subst, inl, inr}
 use Rattle.wal_shape.specs.declared.metadata.BlobId.{BlobId}
 use Rattle.wal_shape.specs.declared.axis.Axis.{Axis}
 use Rattle.wal_shape.specs.declared.part.Part.{Part}
 use Rattle.wal_shape.specs.declared.part.Part.TheVariants as parts
 use Rattle.wal_shape.specs.Metadata.{BlobMetadata, held_index}
-use Rattle.wal_shape.specs.EncodingProof.{EncodingProof}
 use Rattle.wal_shape.specs.Spelling.{metadata_text, proof_text}
 use Rattle.wal_shape.specs.Part.{sliver_part}
 use Rattle.wal_matrix.proofs.Codewords.{bytes_of_part}
@@ -91,32 +90,32 @@ module _ (digest : List ℕ → List ℕ) (f : ℕ) (id : BlobId) (shard : ℕ) 
   known_bytes m (inl found) = metadata_carried digest id.0 payloads m are found
   known_bytes m (inr holds) = held_bytes id parts.Metadata (metadata_text m) holds.spelled
 
+  -- what is kept beside it
+  both_kept : (m : BlobMetadata) → Knows digest id (parts_at old id) payloads m → (part : Part) (bytes : List ℕ)
+      → AreBytes bytes
+      → AllOfBytes (kept (kept old id parts.Metadata (metadata_text m)) id part bytes)
+  both_kept m known part bytes =
+      keep_bytes (kept old id parts.Metadata (metadata_text m)) id part bytes
+      (keep_bytes old id parts.Metadata (metadata_text m) held_bytes (known_bytes m known))
+
   recovered_bytes : (axis : Axis) (new : Contents) (word : RecoverWord) → RecoversTo digest f id shard axis old payloads word new → AllOfBytes new
-  recovered_bytes axis new recovering.NoMetadata r = subst AllOfBytes (sym r.1) held_bytes
-  recovered_bytes axis new (recovering.Short have need) r = subst AllOfBytes (sym r.5) held_bytes
+  recovered_bytes axis new recovering.NoMetadata r = rw r.1 held_bytes
+  recovered_bytes axis new (recovering.Short have need) r = rw r.5 held_bytes
   recovered_bytes axis new (recovering.Sliver bytes) r =
-      let m = r.0 in
-      let sliver = given_sliver digest f id shard old (λ q. (was q).0) payloads m r.1 axis bytes r.2 in
+      let sliver = given_sliver digest f id shard old (λ q. (was q).0) payloads r.0 r.1 axis bytes r.2 in
       let text = subst AreBytes sliver.is_word.begins (bytes_of_part _ 0 sliver.word (bytes_within sliver.word sliver.is_word.coded.fits)) in
-      subst AllOfBytes (sym r.3)
-      (keep_bytes (kept old id parts.Metadata (metadata_text m)) id (sliver_part axis) bytes
-      (keep_bytes old id parts.Metadata (metadata_text m) held_bytes (known_bytes m r.1.known)) text)
+      rw r.3 (both_kept r.0 r.1.known (sliver_part axis) bytes text)
   recovered_bytes axis new recovering.Inconsistent r =
-      let m = r.0 in
-      let p = r.2 in
-      let index = held_index m.format m.f axis shard in
+      let index = held_index r.0.format r.0.f axis shard in
       let openings = openings_in id.0 axis index payloads in
-      let taken = taken_bytes digest m axis index (sliver_symbols axis m.f) openings r.3.taken (openings_carried id.0 axis index payloads are) r.3.takes in
-      let text : AreBytes (proof_text p) =
-      subst (λ (q : EncodingProof). AreBytes (proof_text q)) (sym r.3.comes.0) (proof_bytes (record { axis = axis; index = index; openings = r.3.taken }) taken) in
-      subst AllOfBytes (sym r.4)
-      (keep_bytes (kept old id parts.Metadata (metadata_text m)) id parts.Proof (proof_text p)
-      (keep_bytes old id parts.Metadata (metadata_text m) held_bytes (known_bytes m r.1.known)) text)
+      let taken =
+      taken_bytes digest r.0 axis index (sliver_symbols axis r.0.f) openings r.3.taken
+      (openings_carried id.0 axis index payloads are) r.3.takes in
+      let text : AreBytes (proof_text r.2) =
+      rw r.3.comes.0 (proof_bytes (record { axis = axis; index = index; openings = r.3.taken }) taken) in
+      rw r.4 (both_kept r.0 r.1.known parts.Proof (proof_text r.2) text)
   recovered_bytes axis new recovering.Proof r =
-      let m = r.0 in
-      subst AllOfBytes (sym r.6)
-      (keep_bytes (kept old id parts.Metadata (metadata_text m)) id parts.Proof (proof_text r.4)
-      (keep_bytes old id parts.Metadata (metadata_text m) held_bytes (known_bytes m r.1.known)) (proof_carried digest id.0 m payloads r.4 are r.5))
+      rw r.6 (both_kept r.0 r.1.known parts.Proof (proof_text r.4) (proof_carried digest id.0 r.0 payloads r.4 are r.5))
   recovered_bytes axis new _ r = absurd r
 
 -- ---- reads
@@ -128,9 +127,9 @@ drawn_bytes digest id payloads m (Proof p) are drawn = proof_carried digest id m
 evidence_bytes : (digest : List ℕ → List ℕ) (id : List ℕ) (payloads : List (List ℕ)) (verdict shown : Verdict) (e : Evidence) → All AreBytes payloads
     → IsEvidenceFor digest id payloads verdict (Some e) → FirstOfBytes (Judged e shown)
 evidence_bytes digest id payloads verdict shown e are (x, same, is, judged, one, drawn) =
-    let there : FirstOfBytes (Judged x shown) = (metadata_carried digest id payloads x.metadata are one.0, drawn_bytes digest id payloads x.metadata x.basis are drawn) in
     let e_is : e ≡ x = cc in
-    subst (λ (y : Evidence). FirstOfBytes (Judged y shown)) (sym e_is) there
+    rw e_is
+    (metadata_carried digest id payloads x.metadata are one.0, drawn_bytes digest id payloads x.metadata x.basis are drawn)
 
 read_bytes : (digest : List ℕ → List ℕ) (id : BlobId) (payloads : List (List ℕ)) (word : ReadWord) (e : Evidence) (shown : Verdict) → All AreBytes payloads
     → ReadsTo digest id payloads word (Some e) → FirstOfBytes (Judged e shown)

@@ -44,17 +44,14 @@ module _ (digest : List ℕ → List ℕ) (is : IsDigest digest) (f : ℕ) where
         by (Some text) at = held text at
         by None none = surely (Stored, with_bytes old (put_id digest frame) (put_part frame) (stored_bytes frame), ((fit, (accepted, none, tt, refl)), are))
 
-    is_some : (o : Option (List ℕ)) (text : List ℕ) → o ≡ Some text → IsSome o
-    is_some o text at = subst IsSome (sym at) refl
-
     accepted_answer : (frame : Frame) → IsFrame frame → CanBePut frame → AreBytes (stored_bytes frame) → IsAccepted digest (desk_of f shard None log) old frame
         → Possible (Answer log shard old frame)
     accepted_answer (Sliver id axis index bytes) fit can are accepted =
         part_answer (Sliver id axis index bytes) fit are accepted (λ text at.
-        surely (Held, old, ((fit, (accepted, is_some (part_at old (put_id digest (Sliver id axis index bytes)) (put_part (Sliver id axis index bytes))) text at, refl)), are)))
+        surely (Held, old, ((fit, (accepted, rw at refl, refl)), are)))
     accepted_answer (Proof id p) fit can are accepted =
         part_answer (Proof id p) fit are accepted (λ text at.
-        surely (Held, old, ((fit, (accepted, is_some (part_at old (put_id digest (Proof id p)) (put_part (Proof id p))) text at, refl)), are)))
+        surely (Held, old, ((fit, (accepted, rw at refl, refl)), are)))
     accepted_answer (Metadata m) fit can are accepted =
         part_answer (Metadata m) fit are accepted (λ text at. ⊎_elim
         (λ same. surely (Held, old, ((fit, (accepted, at ∙ ap Some same, refl)), are)))
@@ -68,7 +65,7 @@ module _ (digest : List ℕ → List ℕ) (is : IsDigest digest) (f : ℕ) where
         other_metadata one text at differ =
             let id = put_id digest (Metadata m) in
             let sound = (was id).0.metadata text at in
-            let text_is : text ≡ metadata_text sound.0 = (let e : Some text ≡ Some (metadata_text sound.0) = sym at ∙ sound.1.spelled in cc) in
+            let text_is : text ≡ metadata_text sound.0 = cc (at, sound.1.spelled) in
             let bytes = subst AreBytes text_is ((was id).1 parts.Metadata text at) in
             let same = one_metadata digest one sound.0 m sound.2.fit fit bytes are (sym sound.2.identifier) in
             differ (text_is ∙ ap metadata_text same)

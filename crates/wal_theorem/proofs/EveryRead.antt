@@ -29,7 +29,7 @@ use Rattle.wal_protocol.specs.Total.{Possible, AreBytes}
 use Rattle.wal_protocol.specs.inside.Total.{IsReadAs}
 use Rattle.wal_protocol.proofs.EveryWord.{surely, then, by_cases}
 use Rattle.wal_theorem.proofs.ByteRules.{byte_rules}
-use Rattle.wal_theorem.proofs.OneReading.{metadata_fits, slivers_collected}
+use Rattle.wal_theorem.proofs.OneReading.{metadata_fits, held_slivers}
 
 -- metadata that do not differ are the same
 pub same_metadata : (a b : BlobMetadata) → IsMetadata a → IsMetadata b → (a ≢ b → ⊥) → a ≡ b
@@ -84,11 +84,12 @@ module _ (digest : List ℕ → List ℕ) (f : ℕ) (id : BlobId) (payloads : Li
     judged : HasEnough digest id.0 m payloads → Possible Read
     judged (is, js, collects, count) =
         let s = symbol_size m.f m.length in
-        let found = through_some m.f s is js (slivers_collected digest id.0 m payloads is js fit collects count) in
+        let held = enough_are_held digest id.0 m payloads is js collects count in
+        let found = through_some m.f s is js (held_slivers digest m is js fit held) in
         let blob = take m.length (source_of m.f s found.0) in
         let e : Evidence = record { metadata = m; basis = Slivers is js } in
         let evident : (verdict : Verdict) → Judges digest m is js verdict → IsEvidenceFor digest id.0 payloads verdict (Some e) =
-        λ verdict judges. (e, refl, record { committed = one.0.4.1; held = enough_are_held digest id.0 m payloads is js collects count }, judges, one, collects) in
+        λ verdict judges. (e, refl, record { committed = one.0.4.1; held = held }, judges, one, collects) in
         let decides : (verdict : Verdict) → Judges digest m is js verdict → Decides digest id.0 payloads verdict =
         λ verdict judges. (m, one, is, js, collects, count, judges) in
         by_cases (IsIdentifierOf digest m.format m.f blob (identifier_of digest m))

@@ -9,7 +9,6 @@ use Rattle.wal_shape.specs.declared.axis.Axis.{Axis}
 use Rattle.wal_shape.specs.declared.axis.Axis.TheVariants as axes
 use Rattle.wal_shape.specs.declared.opening.Opening.{Opening}
 use Rattle.wal_shape.specs.declared.shape.Format.{Format}
-use Rattle.wal_shape.specs.declared.shape.Format.TheVariants.{One, Two}
 use Rattle.wal_shape.specs.declared.part.Part.TheVariants as parts
 use Rattle.wal_shape.specs.Shape.{shard_count, symbol_size, crossing}
 use Rattle.wal_shape.specs.Metadata.{BlobMetadata, held_index}
@@ -36,15 +35,10 @@ use Rattle.wal_theorem.proofs.TextBytes.{OpeningBytes, body_bytes}
 -- ---- texts
 
 axis_small : (axis : Axis) → axis_number axis < 256
-axis_small axes.Primary = omega arith
-axis_small axes.Secondary = omega arith
+axis_small axis = grind arith
 
-kind_small : (m : BlobMetadata) → metadata_kind m.format < 256
-kind_small m = by m.format
-  where
-    by : (format : Format) → metadata_kind format < 256
-    by One = omega arith
-    by Two = omega arith
+kind_small : (format : Format) → metadata_kind format < 256
+kind_small format = grind arith
 
 target_bytes : (id : List ℕ) (axis : Axis) (index : ℕ) → AreBytes id → AreBytes (target_text id axis index)
 target_bytes id axis index are =
@@ -75,10 +69,10 @@ module _ (digest : List ℕ → List ℕ) (is : IsDigest digest) where
     metadata_bytes = each_if p.metadata (λ text. metadata_frame (spelled_metadata text)) (λ text at.
         let held = sound.metadata text at in
         let m = held.0 in
-        let e : text ≡ metadata_text m = (let both : Some text ≡ Some (metadata_text m) = sym at ∙ held.1.spelled in cc) in
+        let e : text ≡ metadata_text m = cc (at, held.1.spelled) in
         let again : spelled_metadata text ≡ m = ap spelled_metadata e ∙ spelled_metadata-text m held.1.fit in
         subst (λ (x : BlobMetadata). AreBytes (metadata_frame x)) (sym again)
-        (byte_first (metadata_kind m.format) (metadata_text m) (kind_small m) (bytes parts.Metadata (metadata_text m) held.1.spelled)))
+        (byte_first (metadata_kind m.format) (metadata_text m) (kind_small m.format) (bytes parts.Metadata (metadata_text m) held.1.spelled)))
 
     -- where it holds more, it holds a metadata
     named : (text : List ℕ) (o : Option (List ℕ)) → o ≡ Some text → (p.metadata ≡ None → o ≡ None) → AreBytes id.0

@@ -1,5 +1,5 @@
 -- Every event of bytes has a step in a world of bytes, and every schedule of bytes has a run.
-use Rattle.std.proofs.Common.{◌≡◌, ℕ, ◌≤◌, List, [], ◌∷◌, ◌++◌, Bool, true, false, cond, All, Option, Some, None, refl, sym, ap₂, subst, ◌∙◌, inl, inr}
+use Rattle.std.proofs.Common.{◌≡◌, ℕ, ◌≤◌, List, [], ◌∷◌, ◌++◌, Bool, true, false, cond, All, Option, Some, None, refl, sym, ap₂, subst, arith, ◌∙◌, inl, inr}
 use Rattle.std.proofs.lemmas.List.Concat.{flat_map-cons}
 use Rattle.std.specs.FinMap as finmap
 use Rattle.wal_shape.specs.declared.metadata.BlobId.{BlobId}
@@ -55,6 +55,11 @@ use Rattle.wal_theorem.proofs.OneAnswer.{one_answer}
 use Rattle.wal_commit.proofs.OneDigest.{IsDigest, IsOneToOne, one_metadata}
 use Rattle.wal_reader.proofs.PayloadBytes.{metadata_carried}
 
+-- what follows where nothing ends
+unless_clash : (A B C : Type 0) (k : Bool) → cond k A B → (B → C) → cond k A C
+unless_clash A B C true rest go = rest
+unless_clash A B C false rest go = go rest
+
 -- ---- what the rules of bytes are total in
 
 module _ (digest : List ℕ → List ℕ) (is : IsDigest digest) (f : ℕ) where
@@ -98,13 +103,8 @@ module _ (digest : List ℕ → List ℕ) (is : IsDigest digest) (f : ℕ) where
   plain_puts : (log : Log) (c : Committee) (puts : List (ℕ × Frame)) (clashed : Bool) (new : Committee) → PutsEach b log c puts clashed new → PutsEach r log c puts clashed new
   plain_puts log c [] clashed new is = is
   plain_puts log c (p ∷ more) clashed new (answer, contents, puts, rest) =
-      (answer, contents, puts.0, by (is_clash answer) rest (λ d. plain_puts log d more clashed new))
-    where
-      by : (k : Bool) → cond k ((clashed ≡ true) × (new ≡ c)) (PutsEach b log (with_contents c p.0 contents) more clashed new)
-          → ((d : Committee) → PutsEach b log d more clashed new → PutsEach r log d more clashed new)
-          → cond k ((clashed ≡ true) × (new ≡ c)) (PutsEach r log (with_contents c p.0 contents) more clashed new)
-      by true rest go = rest
-      by false rest go = go (with_contents c p.0 contents) rest
+      let later = plain_puts log (with_contents c p.0 contents) more clashed new in
+      (answer, contents, puts.0, unless_clash _ _ _ (is_clash answer) rest later)
 
   plain_send : (old : World) (side : Side) (shard : ℕ) (bytes : List ℕ) (word : SendWord) (new : World) → SendStep b old side shard bytes word new → SendStep r old side shard bytes word new
   plain_send old side shard bytes sending.Absent new step = step
@@ -113,8 +113,7 @@ module _ (digest : List ℕ → List ℕ) (is : IsDigest digest) (f : ℕ) where
   plain_send old side shard bytes word new step = (step.0, step.1, (step.2.0, step.2.1, step.2.2.0), step.3)
 
   plain_reply : (old : World) (id : BlobId) (one : Reply) → reply_payloads b old id one ≡ reply_payloads r old id one
-  plain_reply old id (reply.True side shard) = refl
-  plain_reply old id (reply.Bytes bytes) = refl
+  plain_reply old id one = grind arith
 
   plain_payloads : (old : World) (id : BlobId) (replies : List Reply) → read_payloads b old id replies ≡ read_payloads r old id replies
   plain_payloads old id [] = refl
@@ -123,7 +122,7 @@ module _ (digest : List ℕ → List ℕ) (is : IsDigest digest) (f : ℕ) where
 
   plain_reads : (old : World) (id : BlobId) (replies : List Reply) (word : ReadWord) (evidence : Option Evidence) → b.Reads id (read_payloads b old id replies) word evidence
       → r.Reads id (read_payloads r old id replies) word evidence
-  plain_reads old id replies word evidence reads = subst (λ (ps : List (List ℕ)). r.Reads id ps word evidence) (plain_payloads old id replies) reads.0
+  plain_reads old id replies word evidence reads = rw (plain_payloads old id replies) at reads.0
 
   plain_completes : (old : World) (id : BlobId) (replies : List Reply) (word : ReadWord) (told : Verdict) (new : World) → ReadCompletes b old id replies word told new
       → ReadCompletes r old id replies word told new
@@ -164,7 +163,7 @@ module _ (digest : List ℕ → List ℕ) (is : IsDigest digest) (f : ℕ) where
   plain_recover old side shard axis id replies word new step = (step.0, plain_runs old side shard axis id replies word step.0 step.1, step.2)
 
   plain_read_collides : (old : World) (id : BlobId) (replies : List Reply) → ReadCollides b old id replies → ReadCollides r old id replies
-  plain_read_collides old id replies (two_metadata two) = two_metadata (subst (λ (ps : List (List ℕ)). r.HasTwoMetadata id ps) (plain_payloads old id replies) two)
+  plain_read_collides old id replies (two_metadata two) = two_metadata (rw (plain_payloads old id replies) at two)
   plain_read_collides old id replies (other_answer word told evidence reads tells differs) = other_answer word told evidence (plain_reads old id replies word (Some evidence) reads) tells differs
 
   plain_write : (old : World) (blob to : List ℕ) (id : BlobId) (clashed : Bool) → IsWrite b old blob to id clashed → IsWrite r old blob to id clashed
@@ -213,12 +212,8 @@ module _ (digest : List ℕ → List ℕ) (is : IsDigest digest) (f : ℕ) where
   plain_run : (old : World) (events : List Event) (states : List World) (lines : List Line) → Runs b old events states lines → Runs r old events states lines
   plain_run old [] [] [] run = tt
   plain_run old (event ∷ events) (new ∷ states) (said ∷ lines) (step, rest) =
-      (plain_step old event said new step, by (is_collision said) rest (plain_run new events states lines))
-    where
-      by : (k : Bool) → cond k ((states ≡ []) × (lines ≡ [])) (Runs b new events states lines) → (Runs b new events states lines → Runs r new events states lines)
-          → cond k ((states ≡ []) × (lines ≡ [])) (Runs r new events states lines)
-      by true rest go = rest
-      by false rest go = go rest
+      let later = plain_run new events states lines in
+      (plain_step old event said new step, unless_clash _ _ _ (is_collision said) rest later)
   plain_run old events states lines none = absurd none
 
   -- ---- every event, and every schedule

@@ -2,7 +2,12 @@
 use Rattle.std.proofs.Common.{◌≡◌, ℕ, ◌≤◌, List, length}
 use Rattle.wal_protocol.specs.inside.Laws.{Laws}
 use Rattle.wal_theorem.specs.Instance.{rules_of}
-use Rattle.wal_theorem.proofs.InstanceHoldings.{sound_nothing, sound_forgotten, refuted}
+use Rattle.wal_theorem.proofs.InstanceHoldings.{refuted}
+use Rattle.wal_shard.proofs.Soundness.{none_sound, without_sliver_sound}
+use Rattle.wal_shape.specs.declared.axis.Axis.TheVariants.{Primary, Secondary}
+use Rattle.wal_shape.specs.declared.part.Part.TheVariants as parts
+use Rattle.wal_store.specs.Parts.{with_part}
+use Rattle.std.proofs.Common.{None}
 use Rattle.wal_theorem.proofs.InstancePuts.{put_sound, put_adds}
 use Rattle.wal_theorem.proofs.InstanceRecoveries.{recover_sound, recover_adds, recover_commits}
 use Rattle.wal_theorem.proofs.InstanceReads.{read_backed, write_backed, read_completes}
@@ -11,10 +16,12 @@ use Rattle.wal_theorem.proofs.InstanceSymbols.{secondary_recovers, primary_recov
 -- for a digest of 32 bytes, and the number of faults of a committee
 pub laws_of : (digest : List ℕ → List ℕ) → ((text : List ℕ) → length (digest text) ≡ 32) → (f : ℕ) → f ≤ 333 → Laws (rules_of digest f)
 laws_of digest size f few = record {
-  nothing_sound = λ id shard. sound_nothing digest f id.0 shard;
+  nothing_sound = λ id shard. none_sound digest f shard id.0;
   put_sound = λ log shard old new frame answer. put_sound digest f log shard old new frame answer;
   recover_sound = λ id shard axis old new payloads word r one was. recover_sound digest f id shard old was axis new payloads word r;
-  forget_sound = λ id shard parts was. sound_forgotten digest f id.0 shard parts was;
+  forget_sound = λ id shard p was.
+      without_sliver_sound digest f shard id.0 Secondary (with_part p parts.Primary None)
+      (without_sliver_sound digest f shard id.0 Primary p was);
   put_adds = λ log shard old new frame answer. put_adds digest f log shard old new frame answer;
   recover_adds = λ id shard axis old new payloads word. recover_adds digest f id shard axis old new payloads word;
   recover_commits = λ id shard axis old new payloads bytes r one was. recover_commits digest f id shard old was axis new payloads bytes r;

@@ -1,9 +1,8 @@
 -- A put leaves what a shard holds sound, and only adds to it.
 use Rattle.std.proofs.Common.{◌≡◌, ℕ, List, None, refl, sym, subst}
 use Rattle.wal_shape.specs.declared.metadata.BlobId.{BlobId}
-use Rattle.wal_shape.specs.Spelling.{proof_text}
-use Rattle.wal_commit.specs.Held.{HoldsSliver}
-use Rattle.wal_commit.specs.Identifier.{Commits}
+use Rattle.wal_shape.specs.Spelling.{metadata_text, proof_text}
+use Rattle.wal_shape.specs.Part.{sliver_part}
 use Rattle.wal_frame.specs.Frame.{Frame, Metadata, Sliver, Proof, IsFrame}
 use Rattle.wal_shape.specs.declared.part.Part.TheVariants as parts
 use Rattle.wal_store.specs.Contents.{Contents, parts_at, part_at, with_bytes}
@@ -15,7 +14,8 @@ use Rattle.wal_shard.specs.Putting.{Puts, IsAccepted, put_id, put_part}
 use Rattle.wal_shard.specs.State.{AreSound, desk_of}
 use Rattle.wal_protocol.specs.inside.Laws.{AreAbove}
 use Rattle.wal_theorem.specs.Instance.{PutsFrame}
-use Rattle.wal_theorem.proofs.InstanceHoldings.{sound_metadata, sound_sliver, sound_proof, all_put, above_put}
+use Rattle.wal_theorem.proofs.InstanceHoldings.{above_put}
+use Rattle.wal_shard.proofs.Soundness.{metadata_sound, sliver_sound, proof_sound, put_sound as contents_sound}
 
 -- what follows from a put: it left everything, or it stored a part that was not held
 pub by_put : (P : Contents → Type 0) (digest : List ℕ → List ℕ) (f : ℕ) (log : Log) (shard : ℕ) (old new : Contents) (frame : Frame) (answer : PutAnswer)
@@ -39,17 +39,19 @@ stored_sound : (digest : List ℕ → List ℕ) (f : ℕ) (log : Log) (shard : �
     → AreSound digest f shard (with_bytes old (put_id digest frame) (put_part frame) (stored_bytes frame))
 stored_sound digest f log shard old (Metadata m) fit was accepted none =
     let id = put_id digest (Metadata m) in
-    let commits : Commits digest id.0 m = record { fit = fit; identifier = refl } in
-    all_put digest f shard old id parts.Metadata (stored_bytes (Metadata m)) was (sound_metadata digest f id.0 shard (parts_at old id) (was id) m none commits accepted.verified)
+    contents_sound digest f shard old id parts.Metadata (metadata_text m) was
+    (metadata_sound digest f shard id.0 (parts_at old id) m (record { fit = fit; identifier = refl })
+    accepted.verified none (was id))
 stored_sound digest f log shard old (Sliver id axis index bytes) fit was accepted none =
     let at : BlobId = record { 0 = id } in
     let v = accepted.verified in
-    let sliver = subst (λ (i : ℕ). HoldsSliver digest v.0 axis i bytes) v.2 v.3 in
-    all_put digest f shard old at (put_part (Sliver id axis index bytes)) bytes was (sound_sliver digest f id shard (parts_at old at) (was at) v.0 v.1 axis bytes sliver)
+    contents_sound digest f shard old at (sliver_part axis) bytes was
+    (sliver_sound digest f shard id axis (parts_at old at) v.0 bytes v.1 (rw v.2 at v.3) (was at))
 stored_sound digest f log shard old (Proof id p) fit was accepted none =
     let at : BlobId = record { 0 = id } in
     let v = accepted.verified in
-    all_put digest f shard old at parts.Proof (proof_text p) was (sound_proof digest f id shard (parts_at old at) (was at) v.0 v.1 p fit.1 v.2)
+    contents_sound digest f shard old at parts.Proof (proof_text p) was
+    (proof_sound digest f shard id (parts_at old at) v.0 p v.1 v.2 fit.1 (was at))
 stored_sound digest f log shard old _ fit was accepted none = absurd accepted.verified
 
 pub put_sound : (digest : List ℕ → List ℕ) (f : ℕ) (log : Log) (shard : ℕ) (old new : Contents) (frame : Frame) (answer : PutAnswer)

@@ -1,5 +1,5 @@
 -- What completed reads and honest writes rest on, and that a read completes that has enough replies.
-use Rattle.std.proofs.Common.{◌≡◌, ⊎_elim, ℕ, ◌+◌, ◌<◌, ◌≤◌, List, [], length, Bool, true, Option, Some, unwrap_or, Contains, refl, sym, ap, subst, ◌∙◌, arith}
+use Rattle.std.proofs.Common.{◌≡◌, ⊎_elim, ℕ, ◌+◌, ◌<◌, ◌≤◌, List, [], length, Bool, true, Option, Some, Contains, refl, arith}
 use Rattle.wal_shape.specs.declared.metadata.BlobId.{BlobId}
 use Rattle.wal_shape.specs.declared.axis.Axis.TheVariants as axes
 use Rattle.wal_shape.specs.declared.shape.Format.{Format}
@@ -7,9 +7,7 @@ use Rattle.wal_shape.specs.Shape.{row_count}
 use Rattle.wal_shape.specs.Metadata.{BlobMetadata}
 use Rattle.wal_shape.proofs.MetadataLaws.{held_index-primary}
 use Rattle.wal_commit.specs.Identifier.{Commits}
-use Rattle.wal_commit.specs.Held.{HoldsSliver}
 use Rattle.wal_commit.proofs.Commitments.{honest_metadata}
-use Rattle.wal_evidence.specs.BadProof.{IsBadProof}
 use Rattle.wal_evidence.specs.Evidence.{IsEvidence, IsJudgedBy}
 use Rattle.wal_evidence.specs.declared.evidence.Evidence.{Evidence}
 use Rattle.wal_evidence.specs.declared.evidence.Verdict.{Verdict}
@@ -24,7 +22,7 @@ use Rattle.wal_reader.proofs.Collections.{collects_all}
 use Rattle.wal_store.specs.Parts.{Parts}
 use Rattle.wal_ledger.specs.Shards.{count_below, committee_size}
 use Rattle.wal_ledger.proofs.Quorums.{count_below-some}
-use Rattle.wal_shard.specs.Holding.{HoldsMetadata, IsSound, has_proof, primary_reply, payload_if}
+use Rattle.wal_shard.specs.Holding.{HoldsMetadata, IsSound, has_proof, primary_reply}
 use Rattle.wal_shard.proofs.Soundness.{one_metadata}
 use Rattle.wal_protocol.specs.declared.first.First.TheVariants.{Judged, Written}
 use Rattle.wal_protocol.specs.Step.{told_by}
@@ -38,14 +36,12 @@ use Rattle.wal_theorem.proofs.InstanceReplies.{contains_first, any_of, count_nam
 
 -- ---- what answers rest on
 
-some_same : {A : Type 0} (a b : A) → Some a ≡ Some b → a ≡ b
-some_same a b e = ap (λ o. unwrap_or o a) e
-
 backed : (digest : List ℕ → List ℕ) (f : ℕ) (id : BlobId) (e evidence : Evidence) (v shown : Verdict) → Some evidence ≡ Some e → Some v ≡ Some shown → IsEvidence digest id.0 e
     → IsJudgedBy digest e.metadata e.basis v → IsBackedBy digest f id (Judged evidence shown)
 backed digest f id e evidence v shown same same_v is judged =
-    let P : Evidence → Verdict → Type 0 = λ x y. IsBackedBy digest f id (Judged x y) in
-    subst (λ (x : Evidence). P x shown) (sym (some_same evidence e same)) (subst (λ (y : Verdict). P e y) (some_same v shown same_v) (is, judged))
+    let e_is : e ≡ evidence = cc in
+    let v_is : v ≡ shown = cc in
+    rw (← e_is, ← v_is) (is, judged)
 
 pub read_backed : (digest : List ℕ → List ℕ) (f : ℕ) (id : BlobId) (payloads : List (List ℕ)) (word : ReadWord) (evidence : Evidence) (shown : Verdict)
     → ReadsTo digest id payloads word (Some evidence) → told_by word ≡ Some shown → IsBackedBy digest f id (Judged evidence shown)
@@ -70,7 +66,7 @@ collects_each digest id m payloads indices joined collects short x index bytes c
 pub none_at : {X : Type 0} (Carries : List ℕ → X → Type 0) (payloads : List (List ℕ)) → NoneIn Carries payloads → (payload : List ℕ) (x : X) → Contains payloads payload
     → Carries payload x → ⊥
 none_at Carries payloads none payload x c carries =
-    none c.0 payload c.1 x (subst (λ (p : List ℕ). Carries p x) (sym c.2) carries)
+    none c.0 payload c.1 x (rw c.2 carries)
 
 -- ---- replies of settled shards
 
@@ -95,7 +91,7 @@ module _ (digest : List ℕ → List ℕ) (size : (text : List ℕ) → length (
       let same = one_metadata p r.0 m r.1.held holds in
       let reads = read_again (Proof id.0 q) (id_long digest size id.0 r.0 r.1.committed, bad_proof_fits digest r.0 q r.1.committed.fit r.4) in
       none_at (CarriesBadProof digest id.0 m) payloads none x q (tells x (shows_proof id.0 p middle q r.3))
-      (reads, subst (λ (z : BlobMetadata). IsBadProof digest z q) same r.4)
+      (reads, rw same at r.4)
 
   -- a primary sliver that a shard replies is among the payloads
   tells_sliver : (shard : ℕ) (p : Parts) (m : BlobMetadata) (bytes : List ℕ) → shard < committee_size f → m.f ≡ f → Tells p (primary_reply id.0 shard p) → IsSound digest f id.0 shard p
@@ -103,9 +99,8 @@ module _ (digest : List ℕ → List ℕ) (size : (text : List ℕ) → length (
       → Contains payloads (sliver_frame id.0 axes.Primary shard bytes) × CarriesSliver digest id.0 m (sliver_frame id.0 axes.Primary shard bytes) shard bytes
   tells_sliver shard p m bytes within faults tells sound holds commits at =
       let x = sliver_frame id.0 axes.Primary shard bytes in
-      let P : Option (List ℕ) → Type 0 = λ o. Contains (payload_if o (λ b. sliver_frame id.0 axes.Primary shard b)) x in
-      let there = shows_middle id.0 p (primary_reply id.0 shard p) x (subst P (sym at) (contains_first x x [] refl)) in
-      let sliver = subst (λ (i : ℕ). HoldsSliver digest m axes.Primary i bytes) (held_index-primary m.format m.f shard) (sound.slivers axes.Primary m bytes holds at) in
+      let there = shows_middle id.0 p (primary_reply id.0 shard p) x (rw at (contains_first x x [] refl)) in
+      let sliver = rw (held_index-primary m.format m.f shard) at (sound.slivers axes.Primary m bytes holds at) in
       let short = sliver_short axes.Primary m.f m.length (length bytes) commits.fit.shape sliver.size in
       let most : shard ≤ 999 = omega (arith, within, few) in
       let fits : IsSliver id.0 shard bytes = record { id_size = id_long digest size id.0 m commits; index_most = most; size_most = short } in
@@ -122,9 +117,13 @@ module _ (digest : List ℕ → List ℕ) (size : (text : List ℕ) → length (
       let h = r.sound.metadata b.0 b.1 in
       (h.0, h.1, h.2, h.3, tells_metadata parts (primary_reply id.0 s parts) h.0 r.replied h.1 h.2)
 
-  -- some shard replied
-  pub someone : (heard : ℕ → Bool) → f + 1 ≤ count_below (committee_size f) heard → (s : ℕ) × (s < committee_size f) × (heard s ≡ true)
-  someone heard enough = count_below-some (committee_size f) heard (omega (arith, enough))
+  -- some shard replied, and told its metadata
+  someone : (heard : ℕ → Bool) → f + 1 ≤ count_below (committee_size f) heard → Heard heard
+      → (m : BlobMetadata) × (m.f ≡ f) × HasMetadata digest id.0 payloads m
+  someone heard enough replied =
+      let one = count_below-some (committee_size f) heard (omega (arith, enough)) in
+      let by = replied one.0 one.1 one.2 in
+      let own = replier one.0 by.0 by.1 in (own.0, own.3, own.4)
 
   -- each shard that replied is counted
   counted : (heard : ℕ → Bool) → Heard heard → (m : BlobMetadata) (indices joined : List ℕ) → ((other : BlobMetadata) → HasMetadata digest id.0 payloads other → other ≡ m)
@@ -134,9 +133,9 @@ module _ (digest : List ℕ → List ℕ) (size : (text : List ℕ) → length (
       let r = (replied s within hears).1 in
       let own = replier s parts r in
       let same = only own.0 own.4 in
-      let holds : HoldsMetadata parts m = subst (HoldsMetadata parts) same own.1 in
-      let commits : Commits digest id.0 m = subst (Commits digest id.0) same own.2 in
-      let faults : m.f ≡ f = ap (λ (z : BlobMetadata). z.f) (sym same) ∙ own.3 in
+      let holds = rw same at own.1 in
+      let commits = rw same at own.2 in
+      let faults = rw same at own.3 in
       ⊎_elim
       (λ proof. absurd (tells_proof s parts (primary_reply id.0 s parts) m r.replied r.sound holds none proof))
       (λ slivers.
@@ -150,18 +149,12 @@ module _ (digest : List ℕ → List ℕ) (size : (text : List ℕ) → length (
   read_completes (Bytes bytes) evidence heard enough replied r = (verdict.Bytes bytes, refl)
   read_completes Reject evidence heard enough replied r = (verdict.Reject, refl)
   read_completes NoMetadata evidence heard enough replied r =
-      let one = someone heard enough in
-      let by = replied one.0 one.1 one.2 in
-      let own = replier one.0 by.0 by.1 in
-      absurd (r.0 own.0 own.4)
+      let own = someone heard enough replied in absurd (r.0 own.0 own.2)
   read_completes (Short have need) evidence heard enough replied r =
-      let one = someone heard enough in
-      let by = replied one.0 one.1 one.2 in
-      let own = replier one.0 by.0 by.1 in
+      let own = someone heard enough replied in
       let o = r.0 in
       let has = o.2 in
-      let faults : o.0.f ≡ f = ap (λ (z : BlobMetadata). z.f) (sym (o.1.1 own.0 own.4)) ∙ own.3 in
-      let length_is = has.3 in
-      let less = has.4 in
-      let named = count_named (committee_size f) heard has.0 (counted heard replied o.0 has.0 has.1 o.1.1 has.2 (omega (arith, length_is, less)) o.4) in
-      absurd (omega (arith, enough, named, length_is, less, faults))
+      let short : length has.0 < row_count o.0.f = omega (arith, has.3, has.4) in
+      let named =
+      count_named (committee_size f) heard has.0 (counted heard replied o.0 has.0 has.1 o.1.1 has.2 short o.4) in
+      absurd (omega (arith, enough, named, short, rw (o.1.1 own.0 own.2) at own.1))

@@ -1,5 +1,5 @@
 -- What a recovery keeps is sound, is committed, and only adds to what a shard holds.
-use Rattle.std.proofs.Common.{◌≡◌, inl, inr, ℕ, List, Option, Some, None, refl, sym, subst}
+use Rattle.std.proofs.Common.{inl, inr, ℕ, List}
 use Rattle.wal_shape.specs.declared.metadata.BlobId.{BlobId}
 use Rattle.wal_shape.specs.declared.axis.Axis.{Axis}
 use Rattle.wal_shape.specs.Metadata.{BlobMetadata, IsMetadata, held_index}
@@ -15,15 +15,15 @@ use Rattle.wal_event.specs.declared.line.RecoverWord.{RecoverWord}
 use Rattle.wal_event.specs.declared.line.RecoverWord.TheVariants.{NoMetadata, Sliver, Inconsistent, Proof, Short}
 use Rattle.wal_shape.specs.declared.part.Part.{Part}
 use Rattle.wal_shape.specs.declared.part.Part.TheVariants as parts
-use Rattle.wal_store.specs.Parts.{Parts}
 use Rattle.wal_store.specs.Contents.{Contents, parts_at}
 use Rattle.wal_shape.specs.Part.{sliver_part}
 use Rattle.wal_shard.specs.Holding.{HoldsMetadata}
 use Rattle.wal_shard.specs.Keeping.{kept, kept_sliver, kept_proof}
 use Rattle.wal_shard.specs.State.{AreSound}
+use Rattle.wal_shard.proofs.KeepLaws.{kept_held, kept_metadata_sound, kept_sliver_sound, kept_proof_sound}
 use Rattle.wal_protocol.specs.inside.Laws.{AreAbove}
 use Rattle.wal_theorem.specs.Instance.{Knows, IsKnown, OwnOpeningsComeTo, HoldsCommitted, CommitsSliver, RecoversTo}
-use Rattle.wal_theorem.proofs.InstanceHoldings.{all_kept, above_kept, above_both, kept_is_old, kept_is_new, held_commits, parts_put_same, sound_metadata, sound_sliver, sound_proof}
+use Rattle.wal_theorem.proofs.InstanceHoldings.{above_kept, above_both, held_commits}
 
 -- a bad proof for a metadata has a spelling
 pub bad_proof_fits : (digest : List ℕ → List ℕ) (m : BlobMetadata) (p : EncodingProof) → IsMetadata m → IsBadProof digest m p → IsProof p
@@ -32,23 +32,23 @@ bad_proof_fits digest m p fit bad =
 
 -- ---- what is added
 
-sliver_above : (old : Contents) (id : BlobId) (m : BlobMetadata) (axis : Axis) (bytes : List ℕ) → AreAbove old (kept_sliver old id m axis bytes)
-sliver_above old id m axis bytes =
+both_above : (old : Contents) (id : BlobId) (m : BlobMetadata) (part : Part) (bytes : List ℕ)
+    → AreAbove old (kept (kept old id parts.Metadata (metadata_text m)) id part bytes)
+both_above old id m part bytes =
     let mid = kept old id parts.Metadata (metadata_text m) in
-    above_both old mid (kept mid id (sliver_part axis) bytes) (above_kept old id parts.Metadata (metadata_text m)) (above_kept mid id (sliver_part axis) bytes)
-
-proof_above : (old : Contents) (id : BlobId) (m : BlobMetadata) (p : EncodingProof) → AreAbove old (kept_proof old id m p)
-proof_above old id m p =
-    let mid = kept old id parts.Metadata (metadata_text m) in
-    above_both old mid (kept mid id parts.Proof (proof_text p)) (above_kept old id parts.Metadata (metadata_text m)) (above_kept mid id parts.Proof (proof_text p))
+    above_both old mid (kept mid id part bytes) (above_kept old id parts.Metadata (metadata_text m))
+    (above_kept mid id part bytes)
 
 pub recover_adds : (digest : List ℕ → List ℕ) (f : ℕ) (id : BlobId) (shard : ℕ) (axis : Axis) (old new : Contents) (payloads : List (List ℕ)) (word : RecoverWord)
     → RecoversTo digest f id shard axis old payloads word new → AreAbove old new
-recover_adds digest f id shard axis old new payloads NoMetadata r = subst (AreAbove old) (sym r.1) (λ q part bytes at. at)
-recover_adds digest f id shard axis old new payloads (Sliver bytes) r = subst (AreAbove old) (sym r.3) (sliver_above old id r.0 axis bytes)
-recover_adds digest f id shard axis old new payloads Inconsistent r = subst (AreAbove old) (sym r.4) (proof_above old id r.0 r.2)
-recover_adds digest f id shard axis old new payloads Proof r = subst (AreAbove old) (sym r.6) (proof_above old id r.0 r.4)
-recover_adds digest f id shard axis old new payloads (Short have need) r = subst (AreAbove old) (sym r.5) (λ q part bytes at. at)
+recover_adds digest f id shard axis old new payloads NoMetadata r = rw r.1 (λ q part bytes at. at)
+recover_adds digest f id shard axis old new payloads (Sliver bytes) r =
+    rw r.3 (both_above old id r.0 (sliver_part axis) bytes)
+recover_adds digest f id shard axis old new payloads Inconsistent r =
+    rw r.4 (both_above old id r.0 parts.Proof (proof_text r.2))
+recover_adds digest f id shard axis old new payloads Proof r =
+    rw r.6 (both_above old id r.0 parts.Proof (proof_text r.4))
+recover_adds digest f id shard axis old new payloads (Short have need) r = rw r.5 (λ q part bytes at. at)
 recover_adds digest f id shard axis old new payloads _ r = absurd r
 
 -- ---- what is sound
@@ -68,22 +68,13 @@ module _ (digest : List ℕ → List ℕ) (f : ℕ) (id : BlobId) (shard : ℕ) 
     mid = kept old id parts.Metadata (metadata_text m)
 
     mid_sound : AreSound digest f shard mid
-    mid_sound =
-        all_kept digest f shard old id parts.Metadata (metadata_text m) was
-        (λ none. sound_metadata digest f id.0 shard (parts_at old id) (was id) m none commits known.faults)
+    mid_sound = kept_metadata_sound digest f shard old id m commits known.faults was
 
     -- the metadata that is known is held then
     mid_holds : HoldsMetadata (parts_at mid id) m
-    mid_holds = by (parts_at old id).metadata refl
-      where
-        by : (o : Option (List ℕ)) → (parts_at old id).metadata ≡ o → HoldsMetadata (parts_at mid id) m
-        by (Some x) is =
-            let s = (was id).metadata x is in
-            subst (λ (c : Contents). HoldsMetadata (parts_at c id) m) (sym (kept_is_old old id parts.Metadata (metadata_text m) x is))
-            (subst (HoldsMetadata (parts_at old id)) (known.only s.0 (inr s.1)) s.1)
-        by None is =
-            subst (λ (c : Contents). HoldsMetadata (parts_at c id) m) (sym (kept_is_new old id parts.Metadata (metadata_text m) is))
-            (subst (λ (p : Parts). HoldsMetadata p m) (sym (parts_put_same old id parts.Metadata (metadata_text m))) (record { fit = commits.fit; spelled = refl }))
+    mid_holds =
+        kept_held old id m commits.fit
+        (λ other at. let s = (was id).metadata other at in cc (s.1.spelled, at, known.only s.0 (inr s.1)))
 
     -- one more part leaves it held
     held_then : (part : Part) (bytes : List ℕ) → HoldsCommitted digest id (parts_at (kept mid id part bytes) id) m
@@ -97,20 +88,17 @@ module _ (digest : List ℕ → List ℕ) (f : ℕ) (id : BlobId) (shard : ℕ) 
     pub sliver_sound : (axis : Axis) (bytes : List ℕ) → HoldsSliver digest m axis (held_index m.format m.f axis shard) bytes
         → AreSound digest f shard (kept_sliver old id m axis bytes)
     sliver_sound axis bytes sliver =
-        all_kept digest f shard mid id (sliver_part axis) bytes mid_sound
-        (λ none. sound_sliver digest f id.0 shard (parts_at mid id) (mid_sound id) m mid_holds axis bytes sliver)
+        kept_sliver_sound digest f shard mid id m axis bytes mid_holds sliver mid_sound
 
     pub proof_sound : (p : EncodingProof) → IsBadProof digest m p → AreSound digest f shard (kept_proof old id m p)
     proof_sound p bad =
-        all_kept digest f shard mid id parts.Proof (proof_text p) mid_sound
-        (λ none. sound_proof digest f id.0 shard (parts_at mid id) (mid_sound id) m mid_holds p (bad_proof_fits digest m p commits.fit bad) bad)
+        kept_proof_sound digest f shard mid id m p mid_holds bad (bad_proof_fits digest m p commits.fit bad) mid_sound
 
     -- a sliver that the openings give is committed
     pub given_sliver : (axis : Axis) (bytes : List ℕ) → OwnOpeningsComeTo digest id shard axis payloads m (recovered.Sliver bytes)
         → HoldsSliver digest m axis (held_index m.format m.f axis shard) bytes
     given_sliver axis bytes r =
-        let index = held_index m.format m.f axis shard in
-        committed digest m axis index r.taken (recovered.Sliver bytes) r.comes
+        committed digest m axis (held_index m.format m.f axis shard) r.taken (recovered.Sliver bytes) r.comes
 
     pub commits_given : (axis : Axis) (bytes : List ℕ) → OwnOpeningsComeTo digest id shard axis payloads m (recovered.Sliver bytes)
         → CommitsSliver digest id shard axis bytes (parts_at (kept_sliver old id m axis bytes) id)
@@ -118,15 +106,15 @@ module _ (digest : List ℕ → List ℕ) (f : ℕ) (id : BlobId) (shard : ℕ) 
 
   pub recover_sound : (axis : Axis) (new : Contents) (payloads : List (List ℕ)) (word : RecoverWord) → RecoversTo digest f id shard axis old payloads word new
       → AreSound digest f shard new
-  recover_sound axis new payloads NoMetadata r = subst (AreSound digest f shard) (sym r.1) was
+  recover_sound axis new payloads NoMetadata r = rw r.1 was
   recover_sound axis new payloads (Sliver bytes) r =
-      subst (AreSound digest f shard) (sym r.3) (sliver_sound payloads r.0 r.1 axis bytes (given_sliver payloads r.0 r.1 axis bytes r.2))
-  recover_sound axis new payloads Inconsistent r = subst (AreSound digest f shard) (sym r.4) (proof_sound payloads r.0 r.1 r.2 r.3.comes.1)
-  recover_sound axis new payloads Proof r = subst (AreSound digest f shard) (sym r.6) (proof_sound payloads r.0 r.1 r.4 r.5.4.1)
-  recover_sound axis new payloads (Short have need) r = subst (AreSound digest f shard) (sym r.5) was
+      rw r.3 (sliver_sound payloads r.0 r.1 axis bytes (given_sliver payloads r.0 r.1 axis bytes r.2))
+  recover_sound axis new payloads Inconsistent r = rw r.4 (proof_sound payloads r.0 r.1 r.2 r.3.comes.1)
+  recover_sound axis new payloads Proof r = rw r.6 (proof_sound payloads r.0 r.1 r.4 r.5.4.1)
+  recover_sound axis new payloads (Short have need) r = rw r.5 was
   recover_sound axis new payloads _ r = absurd r
 
   pub recover_commits : (axis : Axis) (new : Contents) (payloads : List (List ℕ)) (bytes : List ℕ)
       → RecoversTo digest f id shard axis old payloads (Sliver bytes) new → CommitsSliver digest id shard axis bytes (parts_at new id)
   recover_commits axis new payloads bytes r =
-      subst (λ (c : Contents). CommitsSliver digest id shard axis bytes (parts_at c id)) (sym r.3) (commits_given payloads r.0 r.1 axis bytes r.2)
+      rw r.3 (commits_given payloads r.0 r.1 axis bytes r.2)

@@ -1,5 +1,5 @@
 -- What replies of sound holdings show, and how many shards a list names.
-use Rattle.std.proofs.Common.{◌≡◌, ℕ, zero, suc, ◌<◌, ◌≤◌, List, [], ◌∷◌, ◌++◌, length, get_or, Bool, true, false, ◌&&◌, ◌||◌, is_some, nat_eq, Option, Some, None, Any, Contains, ◌⊎◌, inl, inr, refl, sym, ap, subst, ◌∙◌, arith}
+use Rattle.std.proofs.Common.{◌≡◌, ℕ, zero, suc, ◌<◌, ◌≤◌, List, [], ◌∷◌, ◌++◌, length, get_or, Bool, true, false, ◌&&◌, ◌||◌, is_some, nat_eq, Option, Some, None, Any, Contains, ◌⊎◌, inl, inr, refl, ap, ◌∙◌, arith}
 use Rattle.std.specs.List.{list_any}
 use Rattle.std.proofs.lemmas.Bool.Decides.{nat_tests}
 use Rattle.std.proofs.lemmas.List.Elements.{Contains-append_left, Contains-append_right}
@@ -7,7 +7,7 @@ use Rattle.std.proofs.lemmas.List.Folds.{list_any-from_Any}
 use Rattle.wal_shape.specs.Metadata.{BlobMetadata}
 use Rattle.wal_shape.specs.MetadataReading.{spelled_metadata}
 use Rattle.wal_shape.specs.EncodingProof.{EncodingProof}
-use Rattle.wal_shape.specs.Spelling.{metadata_text, proof_text}
+use Rattle.wal_shape.specs.Spelling.{proof_text}
 use Rattle.wal_shape.proofs.MetadataLaws.{spelled_metadata-text}
 use Rattle.wal_commit.specs.Identifier.{Commits}
 use Rattle.wal_commit.proofs.Clashes.{identifier_is}
@@ -15,7 +15,7 @@ use Rattle.wal_frame.specs.Frame.{Metadata, Proof, frame_text, metadata_frame}
 use Rattle.wal_ledger.specs.Shards.{count_below}
 use Rattle.wal_ledger.proofs.Quorums.{count_below-mono, count_below-among}
 use Rattle.wal_store.specs.Parts.{Parts}
-use Rattle.wal_shard.specs.Holding.{HoldsMetadata, payload_if, metadata_reply, proof_reply, settled, has_proof}
+use Rattle.wal_shard.specs.Holding.{HoldsMetadata, metadata_reply, proof_reply, settled, has_proof}
 
 -- ---- lists
 
@@ -32,17 +32,21 @@ only_one y x (suc k) l e = absurd (omega arith)
 pub any_of : {X : Type 0} (P : X → Type 0) (xs : List X) (x : X) → Contains xs x → P x → Any P xs
 any_of P xs x c p = (c.0, x, c.1, c.2, p)
 
+-- a number is itself
+pub same_number : (n : ℕ) → nat_eq n n ≡ true
+same_number n = equal n n refl
+  where
+    equal : (a b : ℕ) → a ≡ b → nat_eq a b ≡ true
+    equal a b e = grind (arith, nat_tests)
+
 -- a list has as many places as shards that it names
 pub count_named : (n : ℕ) (heard : ℕ → Bool) (xs : List ℕ) → ((s : ℕ) → s < n → heard s ≡ true → Contains xs s) → count_below n heard ≤ length xs
 count_named n heard xs named =
     let mono = count_below-mono n heard (λ s. list_any (λ t. nat_eq t s) xs) (λ s l h. among s (named s l h)) in
     omega (arith, mono, count_below-among n xs)
   where
-    same : (a b : ℕ) → a ≡ b → nat_eq a b ≡ true
-    same a b e = grind (arith, nat_tests)
-
     among : (s : ℕ) → Contains xs s → list_any (λ t. nat_eq t s) xs ≡ true
-    among s c = list_any-from_Any (λ t. nat_eq t s) xs (c.0, s, c.1, c.2, same s s refl)
+    among s c = list_any-from_Any (λ t. nat_eq t s) xs (c.0, s, c.1, c.2, same_number s)
 
 -- ---- sizes
 
@@ -58,9 +62,8 @@ told id p middle = metadata_reply p ++ (middle ++ proof_reply id p)
 
 pub shows_metadata : (id : List ℕ) (p : Parts) (middle : List (List ℕ)) (m : BlobMetadata) → HoldsMetadata p m → Contains (told id p middle) (frame_text (Metadata m))
 shows_metadata id p middle m holds =
-    let rest = middle ++ proof_reply id p in
-    let P : Option (List ℕ) → Type 0 = λ o. Contains (payload_if o (λ bytes. metadata_frame (spelled_metadata bytes)) ++ rest) (metadata_frame m) in
-    subst P (sym holds.spelled) (contains_first (metadata_frame m) (metadata_frame (spelled_metadata (metadata_text m))) rest (ap metadata_frame (spelled_metadata-text m holds.fit)))
+    rw holds.spelled
+    (contains_first _ _ (middle ++ proof_reply id p) (ap metadata_frame (spelled_metadata-text m holds.fit)))
 
 pub shows_middle : (id : List ℕ) (p : Parts) (middle : List (List ℕ)) (x : List ℕ) → Contains middle x → Contains (told id p middle) x
 shows_middle id p middle x c =
@@ -69,10 +72,8 @@ shows_middle id p middle x c =
 pub shows_proof : (id : List ℕ) (p : Parts) (middle : List (List ℕ)) (q : EncodingProof) → p.proof ≡ Some (proof_text q)
     → Contains (told id p middle) (frame_text (Proof id q))
 shows_proof id p middle q is =
-    let P : Option (List ℕ) → Type 0 = λ o. Contains (payload_if o (λ bytes. 0x13 ∷ (id ++ bytes))) (frame_text (Proof id q)) in
     Contains-append_right (metadata_reply p) (middle ++ proof_reply id p) (frame_text (Proof id q))
-    (Contains-append_right middle (proof_reply id p) (frame_text (Proof id q))
-    (subst P (sym is) (contains_first (frame_text (Proof id q)) (0x13 ∷ (id ++ proof_text q)) [] refl)))
+    (Contains-append_right middle (proof_reply id p) (frame_text (Proof id q)) (rw is (contains_first _ _ [] refl)))
 
 -- ---- settled holdings
 
@@ -82,8 +83,7 @@ settled_has p h = by (is_some p.metadata) (is_some p.primary) (is_some p.seconda
   where
     by : (a b c d : Bool) → ((a && (b && c)) || (a && d)) ≡ true → (a ≡ true) × (((a && d) ≡ true) ⊎ ((b ≡ true) × (c ≡ true)))
     by true true true d e = (refl, inr (refl, refl))
-    by true true false d e = (refl, inl e)
-    by true false c d e = (refl, inl e)
+    by true b c d e = (refl, inl e)
     by false b c d e = absurd cc
 
 -- what is there has bytes

@@ -1,8 +1,7 @@
 -- A recovery that has the replies of enough shards gives the sliver, or finds the blob badly encoded.
-use Rattle.std.proofs.Common.{◌≡◌, inl, ⊎_elim, ℕ, ◌+◌, ◌<◌, ◌≤◌, List, [], ◌∷◌, length, map, Bool, true, ◌&&◌, is_some, nat_eq, Option, Some, None, Result, Ok, Contains, refl, sym, ap, subst, ◌∙◌, arith, if◌then◌else◌}
+use Rattle.std.proofs.Common.{◌≡◌, inl, ⊎_elim, ℕ, ◌+◌, ◌<◌, ◌≤◌, List, [], ◌∷◌, length, map, Bool, true, is_some, Ok, Contains, refl, sym, ap, ◌∙◌, arith}
 use Rattle.std.specs.List.{flat_map}
-use Rattle.std.specs.Cmp.Lexicographic.{pointwise}
-use Rattle.std.proofs.lemmas.Bool.Decides.{nat_tests}
+use Rattle.std.proofs.lemmas.Bool.{false≢true}
 use Rattle.std.proofs.lemmas.List.{get_or-map, length-map}
 use Rattle.std.proofs.lemmas.Slice.Eq.{bytes_eq-Decides}
 use Rattle.std.proofs.lemmas.List.Concat.{flat_map-cons}
@@ -11,7 +10,7 @@ use Rattle.wal_shape.specs.declared.metadata.BlobId.{BlobId}
 use Rattle.wal_shape.specs.declared.axis.Axis.{Axis}
 use Rattle.wal_shape.specs.declared.axis.Axis.TheVariants.{Primary, Secondary}
 use Rattle.wal_shape.specs.declared.opening.Opening.{Opening}
-use Rattle.wal_shape.specs.Shape.{shard_count, sliver_symbols, crossing}
+use Rattle.wal_shape.specs.Shape.{sliver_symbols, crossing}
 use Rattle.wal_shape.specs.Metadata.{BlobMetadata, held_index}
 use Rattle.wal_shape.proofs.MetadataLaws.{held_index-within, held_index-twice}
 use Rattle.wal_commit.specs.Identifier.{Commits}
@@ -23,9 +22,8 @@ use Rattle.wal_evidence.proofs.FirstOfEach.{takes_all}
 use Rattle.wal_recover.specs.Recovery.{GivesOpening, Takes}
 use Rattle.wal_recover.specs.declared.outcome.Recovered.TheVariants as recovered
 use Rattle.wal_frame.specs.Frame as frame
-use Rattle.wal_frame.specs.Frame.{Frame, frame_text}
+use Rattle.wal_frame.specs.Frame.{frame_text}
 use Rattle.wal_frame.specs.Reading.{read_of}
-use Rattle.wal_frame.specs.declared.frame.FrameError.{FrameError}
 use Rattle.wal_event.specs.declared.line.RecoverWord.{RecoverWord}
 use Rattle.wal_event.specs.declared.line.RecoverWord.TheVariants.{NoMetadata, Proof, Short}
 use Rattle.wal_frame.proofs.FrameLaws.{read_again}
@@ -38,10 +36,11 @@ use Rattle.wal_ledger.proofs.Quorums.{count_below-some}
 use Rattle.wal_shape.specs.Part.{sliver_part}
 use Rattle.wal_shard.specs.Holding.{HoldsMetadata, IsSound, OpeningReply, given, not_held, no_shard, has_proof, settled}
 use Rattle.wal_shard.proofs.Soundness.{one_metadata}
+use Rattle.wal_shard.proofs.HeldLaws.{beside as metadata_beside}
 use Rattle.wal_protocol.specs.inside.Laws.{AreAmong, Helped, IsDecidedBy, IsSettledBy}
 use Rattle.wal_theorem.specs.Instance.{Knows, IsKnown, SymbolReply, silent, replies, OwnOpeningsComeTo, RecoversTo, rules_of}
-use Rattle.wal_theorem.proofs.InstanceHoldings.{none_some, held_commits}
-use Rattle.wal_theorem.proofs.InstanceReplies.{contains_first, only_one, count_named, id_long, told, shows_middle, settled_has, some_bytes}
+use Rattle.wal_theorem.proofs.InstanceHoldings.{held_commits}
+use Rattle.wal_theorem.proofs.InstanceReplies.{contains_first, only_one, count_named, id_long, told, shows_middle, settled_has, same_number}
 use Rattle.wal_theorem.proofs.InstanceReads.{tells_metadata, tells_proof}
 
 -- ---- lists
@@ -54,38 +53,23 @@ contains_map h xs x c =
 contains_flat : {A B : Type 0} (g : A → List B) (xs : List A) (x : A) (y : B) → Contains xs x → Contains (g x) y → Contains (flat_map g xs) y
 contains_flat g [] x y c d = let l = c.1 in absurd (omega arith)
 contains_flat g (a ∷ xs) x y c d =
-    subst (λ l. Contains l y) (sym (flat_map-cons g a xs))
+    rw (flat_map-cons g a xs)
     (⊎_elim
-    (λ first. Contains-append_left (g a) (flat_map g xs) y (subst (λ z. Contains (g z) y) (sym (only_one a x first.0 first.1 first.2)) d))
+    (λ first. Contains-append_left (g a) (flat_map g xs) y (rw (only_one a x first.0 first.1 first.2) d))
     (λ later. Contains-append_right (g a) (flat_map g xs) y (contains_flat g xs x y later d))
     (Contains-append_cases (a ∷ []) xs x c))
 
 -- ---- openings in payloads
 
-same_number : (n : ℕ) → nat_eq n n ≡ true
-same_number n = equal n n refl
-  where
-    equal : (a b : ℕ) → a ≡ b → nat_eq a b ≡ true
-    equal a b e = grind (arith, nat_tests)
-
 same_axes : (axis : Axis) → same_axis axis axis ≡ true
-same_axes Primary = refl
-same_axes Secondary = refl
-
-same_bytes : (xs : List ℕ) → pointwise nat_eq xs xs ≡ true
-same_bytes xs = (bytes_eq-Decides xs xs).1 refl
-
-shown_by : (a b c : Bool) (o : Opening) → a ≡ true → b ≡ true → c ≡ true → Contains (if a && (b && c) then o ∷ [] else []) o
-shown_by true true true o ea eb ec = contains_first o o [] refl
-shown_by a b c o ea eb ec = absurd cc
+same_axes axis = grind arith
 
 -- an opening of the sliver that a payload carries is one of the openings of the sliver
 carried : (id : List ℕ) (axis : Axis) (index : ℕ) (payloads : List (List ℕ)) (x : List ℕ) (o : Opening) → Contains payloads x
     → read_of x ≡ Ok (frame.Opening id axis index o) → Contains (openings_in id axis index payloads) o
 carried id axis index payloads x o there is =
     contains_flat (λ payload. opening_for id axis index (read_of payload)) payloads x o there
-    (subst (λ (r : Result Frame FrameError). Contains (opening_for id axis index r) o) (sym is)
-    (shown_by (pointwise nat_eq id id) (same_axis axis axis) (nat_eq index index) o (same_bytes id) (same_axes axis) (same_number index)))
+    (rw (is, (bytes_eq-Decides id id).1 refl, same_axes axis, same_number index) (contains_first o o [] refl))
 
 -- ---- openings that are taken
 
@@ -110,26 +94,25 @@ module _ (digest : List ℕ → List ℕ) (size : (text : List ℕ) → length (
     pub tells : AreAmong (told id.0 parts opening) payloads
     pub has : HasMetadata digest id.0 payloads metadata
 
-  told_of : (axis : Axis) (helper : ℕ) (parts : Parts) → is_some parts.metadata ≡ true → (reply : List (List ℕ)) → SymbolReply digest id helper parts axis shard reply
-      → IsSound digest f id.0 helper parts → AreAmong reply payloads → Told axis helper parts
-  told_of axis helper parts there _ (silent none) sound among =
-      let b = some_bytes parts.metadata there in absurd (none_some parts.metadata b.0 none b.1)
-  told_of axis helper parts there _ (replies m reply holds symbols) sound among =
-      let commits = held_commits digest f id.0 helper parts sound m holds in
-      let tells : AreAmong (told id.0 parts symbols.0) payloads = λ x c. among x (subst (λ (l : List (List ℕ)). Contains l x) (sym symbols.2) c) in
-      record {
-        metadata = m;
-        holds = holds;
-        commits = commits.0;
-        faults = commits.1;
-        opening = symbols.0;
-        reply = symbols.1;
-        tells = tells;
-        has = tells_metadata digest size f few id payloads parts symbols.0 m tells holds commits.0;
-      }
-
   pub helped_told : (axis : Axis) (helper : ℕ) (parts : Parts) → is_some parts.metadata ≡ true → Helped (rules_of digest f) id axis shard payloads helper parts → Told axis helper parts
-  helped_told axis helper parts there h = told_of axis helper parts there h.reply h.symbols h.sound h.replied
+  helped_told axis helper parts there h = by h.reply h.symbols h.replied
+    where
+      by : (reply : List (List ℕ)) → SymbolReply digest id helper parts axis shard reply → AreAmong reply payloads
+          → Told axis helper parts
+      by _ (silent none) among = absurd (false≢true (rw none at there))
+      by all (replies m _ holds symbols) among =
+          let commits = held_commits digest f id.0 helper parts h.sound m holds in
+          let tells : AreAmong (told id.0 parts symbols.0) payloads = λ x there. among x (rw symbols.2 there) in
+          record {
+            metadata = m;
+            holds = holds;
+            commits = commits.0;
+            faults = commits.1;
+            opening = symbols.0;
+            reply = symbols.1;
+            tells = tells;
+            has = tells_metadata digest size f few id payloads parts symbols.0 m tells holds commits.0;
+          }
 
   -- an opening that a held sliver gives is told, and holds
   abbrev Opens : Axis → ℕ → List (List ℕ) → BlobMetadata → Type 0
@@ -143,23 +126,20 @@ module _ (digest : List ℕ → List ℕ) (size : (text : List ℕ) → length (
       → Opens axis helper opening m
   opens axis helper parts m _ sound holds faults (given x sliver o held at index cross is) there =
       let same = one_metadata parts x m held holds in
+      let turned = rw same at cross in
       let index_of = held_index m.format m.f axis shard in
-      let P : BlobMetadata → Type 0 = λ z. HoldsOpening digest z axis index_of o × (o.cross ≡ held_index z.format z.f (crossing axis) helper) in
-      let own : HoldsSliver digest x (crossing axis) o.cross sliver =
-      subst (λ (i : ℕ). HoldsSliver digest x (crossing axis) i sliver) (sym cross) (sound.slivers (crossing axis) x sliver held at) in
-      let small : x.f ≤ 333 = omega (arith, few, faults, ap (λ (z : BlobMetadata). z.f) same) in
-      let both = subst P same (honest_opening digest size x axis index_of sliver o small index own is, cross) in
-      let text = frame_text (frame.Opening id.0 axis index_of o) in
-      (o, contains_first text text [] refl, both.0, both.1)
-  opens axis helper parts m _ sound holds faults (not_held none) there =
-      let b = some_bytes (part_of parts (sliver_part (crossing axis))) there in
-      absurd (none_some (part_of parts (sliver_part (crossing axis))) b.0 none b.1)
+      let own : HoldsSliver digest m (crossing axis) o.cross sliver =
+      rw turned (sound.slivers (crossing axis) m sliver holds at) in (
+        o,
+        contains_first _ _ [] refl,
+        honest_opening digest size m axis index_of sliver o (omega (arith, few, faults)) (rw same at index) own
+            (rw same at is),
+        turned,
+      )
+  opens axis helper parts m _ sound holds faults (not_held none) there = absurd (false≢true (rw none at there))
   opens axis helper parts m _ sound holds faults (no_shard x held none) there =
-      let same = one_metadata parts x m held holds in
-      let here : shard < shard_count m.f = omega (arith, within, faults) in
-      let fits : held_index m.format m.f axis shard < shard_count x.f =
-      omega (arith, held_index-within m.format m.f axis shard here, ap (λ (z : BlobMetadata). z.f) same) in
-      absurd (none fits)
+      absurd (none (rw (one_metadata parts x m held holds)
+      (omega (arith, faults, held_index-within m.format m.f axis shard (omega (arith, within, faults))))))
 
   -- it is one of the openings of the sliver
   opened : (axis : Axis) (m : BlobMetadata) (parts : Parts) (opening : List (List ℕ)) (o : Opening) → Commits digest id.0 m → m.f ≡ f
@@ -169,11 +149,10 @@ module _ (digest : List ℕ → List ℕ) (size : (text : List ℕ) → length (
   opened axis m parts opening o commits faults tells there holds =
       let index = held_index m.format m.f axis shard in
       let text = frame_text (frame.Opening id.0 axis index o) in
-      let low = holds.within in
-      let most : index ≤ 999 = omega (arith, low, faults, few) in
-      let body = body_of digest m axis index o commits.fit.shape holds in
-      let reads = read_again (frame.Opening id.0 axis index o) (record { id_size = id_long digest size id.0 m commits; index_most = most }, body) in
-      carried id.0 axis index payloads text o (tells text (shows_middle id.0 parts opening text there)) reads
+      let most : index ≤ 999 = omega (arith, holds.within, faults, few) in
+      carried id.0 axis index payloads text o (tells text (shows_middle id.0 parts opening text there))
+      (read_again (frame.Opening id.0 axis index o)
+      (record { id_size = id_long digest size id.0 m commits; index_most = most }, body_of digest m axis index o commits.fit.shape holds))
 
   module _ (axis : Axis) (old : Parts) (m : BlobMetadata) (known : IsKnown digest f id old payloads m) where
     -- the shard that told is counted among the crosses that were taken
@@ -185,16 +164,16 @@ module _ (digest : List ℕ → List ℕ) (size : (text : List ℕ) → length (
     counted helper parts taken inside there sliver h takes short =
         let t = helped_told axis helper parts there h in
         let same = known.only t.metadata (inl t.has) in
-        let P : BlobMetadata → Type 0 = λ z. HoldsMetadata parts z × Commits digest id.0 z × OpeningReply digest id.0 helper parts axis (held_index z.format z.f axis shard) t.opening in
-        let own = subst P same (t.holds, t.commits, t.reply) in
-        let o = opens axis helper parts m t.opening h.sound own.0 known.faults own.2 sliver in
+        let commits = rw same at t.commits in
+        let o =
+        opens axis helper parts m t.opening h.sound (rw same at t.holds) known.faults (rw same at t.reply) sliver in
         let index = held_index m.format m.f axis shard in
-        let among = opened axis m parts t.opening o.0 own.1 known.faults t.tells o.1 o.2 in
+        let turn = held_index m.format m.f (crossing axis) in
+        let among = opened axis m parts t.opening o.0 commits known.faults t.tells o.1 o.2 in
         let cross = takes_held digest m axis index (sliver_symbols axis m.f) (openings_in id.0 axis index payloads) taken takes short o.0 among o.2 in
-        let turned = contains_map (held_index m.format m.f (crossing axis)) (crosses_of taken) o.0.cross cross in
-        let back : held_index m.format m.f (crossing axis) o.0.cross ≡ helper =
-        ap (held_index m.format m.f (crossing axis)) o.3 ∙ held_index-twice m.format m.f (crossing axis) helper (omega (arith, inside, known.faults)) in
-        subst (Contains (map (held_index m.format m.f (crossing axis)) (crosses_of taken))) back turned
+        let back : turn o.0.cross ≡ helper =
+        rw o.3 (held_index-twice m.format m.f (crossing axis) helper (omega (arith, inside, known.faults))) in
+        rw (← back) (contains_map turn (crosses_of taken) o.0.cross cross)
 
     -- openings are not too few where enough shards told theirs
     pub not_short : (heard : ℕ → Bool) (have : ℕ) → sliver_symbols axis m.f ≤ count_below (committee_size f) heard
@@ -204,13 +183,11 @@ module _ (digest : List ℕ → List ℕ) (size : (text : List ℕ) → length (
     not_short heard have enough helped r =
         let taken = r.taken in
         let turn = held_index m.format m.f (crossing axis) in
-        let have_is = r.comes.0 in
-        let less = r.comes.1 in
-        let short : length taken < sliver_symbols axis m.f = omega (arith, have_is, less) in
+        let short : length taken < sliver_symbols axis m.f = omega (arith, r.comes.0, r.comes.1) in
         let named = count_named (committee_size f) heard (map turn (crosses_of taken))
         (λ s inside hears. let h = helped s inside hears in counted s h.0 taken inside h.1 h.2 h.3 r.takes short) in
-        let long : length (map turn (crosses_of taken)) ≡ length taken = length-map (crosses_of taken) turn ∙ length-map taken (λ (o : Opening). o.cross) in
-        omega (arith, enough, named, long, short)
+        omega
+        (arith, enough, named, length-map (crosses_of taken) turn, length-map taken (λ (o : Opening). o.cross), short)
 
   -- a metadata that some shard told is known
   unknown : (old : Contents) (axis : Axis) (helper : ℕ) (parts : Parts) → is_some parts.metadata ≡ true → Helped (rules_of digest f) id axis shard payloads helper parts
@@ -222,8 +199,8 @@ module _ (digest : List ℕ → List ℕ) (size : (text : List ℕ) → length (
       → ((other : BlobMetadata) → HasMetadata digest id.0 payloads other → other ≡ m) → NoBadProof digest id.0 m payloads → has_proof parts ≡ true → ⊥
   proof_told helper axis parts m there h only none has =
       let t = helped_told axis helper parts there h in
-      let holds : HoldsMetadata parts m = subst (HoldsMetadata parts) (only t.metadata t.has) t.holds in
-      tells_proof digest size f few id payloads helper parts t.opening m t.tells h.sound holds none has
+      tells_proof digest size f few id payloads helper parts t.opening m t.tells h.sound
+      (rw (only t.metadata t.has) at t.holds) none has
 
   abbrev HeardSettled : (ℕ → Bool) → Type 0
   HeardSettled heard =
@@ -235,11 +212,7 @@ module _ (digest : List ℕ → List ℕ) (size : (text : List ℕ) → length (
 
   -- a shard that is sound holds metadata beside a secondary sliver
   beside : (helper : ℕ) (parts : Parts) → IsSound digest f id.0 helper parts → is_some parts.secondary ≡ true → is_some parts.metadata ≡ true
-  beside helper parts sound there = by parts.metadata refl
-    where
-      by : (o : Option (List ℕ)) → parts.metadata ≡ o → is_some parts.metadata ≡ true
-      by (Some x) e = ap is_some e
-      by None e = let b = some_bytes parts.secondary there in absurd (none_some parts.secondary b.0 (sound.alone e).1 b.1)
+  beside helper parts sound there = metadata_beside digest f helper id.0 parts Secondary sound there
 
   pub secondary_recovers : (old new : Contents) (word : RecoverWord) (heard : ℕ → Bool) → f + 1 ≤ count_below (committee_size f) heard → HeardSettled heard
       → RecoversTo digest f id shard Secondary old payloads word new → IsSettledBy word
@@ -263,8 +236,7 @@ module _ (digest : List ℕ → List ℕ) (size : (text : List ℕ) → length (
   few_openings : (old : Contents) (m : BlobMetadata) (have : ℕ) (heard : ℕ → Bool) → quorum_size f ≤ count_below (committee_size f) heard → HeardSecondary heard
       → IsKnown digest f id (parts_at old id) payloads m → OwnOpeningsComeTo digest id shard Primary payloads m (recovered.Short have) → ⊥
   few_openings old m have heard enough helped known r =
-      let faults = known.faults in
-      not_short Primary (parts_at old id) m known heard have (omega (arith, enough, faults))
+      not_short Primary (parts_at old id) m known heard have (omega (arith, enough, known.faults))
       (λ s inside hears. let h = helped s inside hears in (h.0, beside s h.0 h.2.sound h.1, h.1, h.2)) r
 
   pub primary_recovers : (old new : Contents) (word : RecoverWord) (heard : ℕ → Bool) → quorum_size f ≤ count_below (committee_size f) heard → HeardSecondary heard

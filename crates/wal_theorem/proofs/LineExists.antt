@@ -69,7 +69,5 @@ line_exists digest m axis index openings shape are each =
     let is : AreKnown n s known loaded =
     known_symbols n s known loaded (omega arith) even (omega arith) are.distinct (crosses_within digest m axis index openings are) size (symbols_bytes openings each) in
     let half : 2 * (s / 2) ≡ s = omega arith in
-    let P : ℕ → Type 0 = λ t. AreKnown n t known loaded → (word : List ℕ) × PassesCodeword (length known) n t known loaded word in
-    let found = subst P half (λ k. known_exists n (s / 2) known loaded k (omega arith)) is in
-    let Q : ℕ → Type 0 = λ k. PassesCodeword k n s known loaded found.0 in
-    (found.0, subst Q (sym (count_known digest m axis index openings are)) found.1)
+    let found = rw half at (known_exists n (s / 2) known loaded (rw half is) (omega arith)) in
+    (found.0, rw (count_known digest m axis index openings are) found.1)

@@ -1,34 +1,29 @@
 -- Where no two texts collide, an identifier has one blob, and all completed answers for it have one verdict.
-use Rattle.std.proofs.Common.{◌≡◌, ℕ, ◌+◌, ◌-◌, ◌*◌, ◌/◌, ◌%◌, ◌<◌, ◌≤◌, List, length, take, get_or, replicate, slice_index, refl, sym, ap, subst, ◌∙◌, arith, ⊎_elim}
-use Rattle.std.proofs.Math.Nat.{mul-le-mul_right}
+use Rattle.std.proofs.Common.{◌≡◌, ℕ, ◌-◌, ◌*◌, List, length, take, replicate, slice_index, refl, sym, ap, subst, ◌∙◌, arith}
 use Rattle.std.proofs.Math.Seq.{take-append_seam}
-use Rattle.std.proofs.lemmas.Bool.{cases_lt}
-use Rattle.std.proofs.lemmas.List.{get_or_default, get_or_past}
-use Rattle.std.proofs.lemmas.Nat.{div_below, mod_below, div-add-mod'}
 use Rattle.std.proofs.lemmas.Option.{get_or_from_slice_get, slice_get_within}
 use Rattle.wal_kernel.specs.Region.{region}
-use Rattle.wal_kernel.proofs.Regions.{region-byte}
 use Rattle.wal_shape.specs.declared.metadata.BlobId.{BlobId}
 use Rattle.wal_shape.specs.declared.axis.Axis.TheVariants.{Primary}
 use Rattle.wal_shape.specs.declared.opening.Opening.{Opening}
 use Rattle.wal_shape.specs.declared.shape.Format.{Format}
-use Rattle.wal_shape.specs.Shape.{shard_count, row_count, column_count, symbol_size, crossing}
+use Rattle.wal_shape.specs.Shape.{row_count, column_count, symbol_size, crossing}
 use Rattle.wal_shape.specs.Metadata.{BlobMetadata, IsMetadata}
 use Rattle.wal_shape.specs.EncodingProof.{EncodingProof}
 use Rattle.wal_shape.specs.Spelling.{metadata_text, proof_text}
 use Rattle.wal_shape.proofs.ShapeLaws.{symbol_size-least}
 use Rattle.wal_tree.specs.Path.{path_over}
-use Rattle.wal_matrix.specs.Matrix.{IsExtended, padded, line_of, primary_of}
+use Rattle.wal_matrix.specs.Matrix.{padded, line_of, primary_of}
 use Rattle.wal_matrix.specs.Through.{source_of}
 use Rattle.wal_matrix.proofs.Codewords.{AreBytes, bytes_of_part}
-use Rattle.wal_matrix.proofs.Decoded.{AreSlivers, source_of_extended, through_unique}
+use Rattle.wal_matrix.proofs.Decoded.{source_of_extended}
 use Rattle.wal_matrix.proofs.MatrixLaws.{bytes_within}
 use Rattle.wal_matrix.proofs.ThroughLaws.{source-row, source_by_rows, source_long}
 use Rattle.wal_matrix.proofs.Words.{line_is_word}
-use Rattle.wal_commit.specs.Identifier.{Commits, IsIdentifierOf, IsMetadataOf, identifier_of, metadata_over}
+use Rattle.wal_commit.specs.Identifier.{Commits, IsIdentifierOf, IsMetadataOf, metadata_over}
 use Rattle.wal_commit.proofs.HonestOpenings.{committed_matrix, committed_opening}
 use Rattle.wal_evidence.specs.BadProof.{IsBadProof}
-use Rattle.wal_evidence.specs.Evidence.{AreHeld, CommitsMatrix, IsEvidence, IsJudgedBy, IsVerdictOn, Judges, sliver_bytes}
+use Rattle.wal_evidence.specs.Evidence.{AreHeld, CommitsMatrix, IsEvidence, IsJudgedBy, Judges, sliver_bytes}
 use Rattle.wal_evidence.specs.declared.evidence.Basis.{Basis}
 use Rattle.wal_evidence.specs.declared.evidence.Evidence.{Evidence}
 use Rattle.wal_evidence.specs.declared.evidence.Basis.TheVariants.{Slivers, Proof}
@@ -36,7 +31,7 @@ use Rattle.wal_evidence.specs.declared.evidence.Verdict.{Verdict}
 use Rattle.wal_evidence.specs.declared.evidence.Verdict.TheVariants.{Bytes, Reject}
 use Rattle.wal_evidence.proofs.FalseOpenings.{false_opening}
 use Rattle.wal_evidence.proofs.FalseSlivers.{matrix_holds}
-use Rattle.wal_evidence.proofs.Verdicts.{one_verdict, true_verdict}
+use Rattle.wal_evidence.proofs.Verdicts.{true_verdict}
 use Rattle.wal_protocol.specs.declared.first.First.{First}
 use Rattle.wal_protocol.specs.declared.first.First.TheVariants.{Judged, Written}
 use Rattle.wal_protocol.specs.State.{verdict_of}
@@ -44,6 +39,7 @@ use Rattle.wal_theorem.specs.Instance.{IsBackedBy}
 use Rattle.wal_theorem.specs.OfBytes.{BasisOfBytes, FirstOfBytes}
 use Rattle.wal_commit.proofs.MetadataBytes.{honest_bytes}
 use Rattle.wal_commit.proofs.OneDigest.{IsOneToOne, one_metadata, one_sliver, one_symbol, path_bytes}
+use Rattle.wal_theorem.proofs.OneReading.{one_judgement}
 use Rattle.wal_theorem.proofs.TextBytes.{OpeningBytes, proof_openings}
 
 -- ---- matrices
@@ -54,46 +50,30 @@ unfolding metadata_over
 as_matrix digest format f blob m (e, extended, over, shape) =
     let f_is : f ≡ m.f = sym (ap (λ (x : BlobMetadata). x.f) over) in
     let format_is : format ≡ m.format = sym (ap (λ (x : BlobMetadata). x.format) over) in
-    let P : Format → ℕ → Type 0 = λ g k. IsExtended k blob e × (m ≡ metadata_over digest (record { format = g; f = k; length = length blob }) e) in
-    (e, subst (λ (k : ℕ). P m.format k) f_is (subst (λ (g : Format). P g f) format_is (extended, over)))
+    (e, (rw f_is at extended, rw (f_is, format_is) at over))
 
 -- the blob is the first bytes of the source block
 blob_of : (digest : List ℕ → List ℕ) (m : BlobMetadata) (blob e : List ℕ) → CommitsMatrix digest m blob e → take m.length (source_of m.f (symbol_size m.f m.length) e) ≡ blob
 unfolding metadata_over padded
 blob_of digest m blob e is =
     let length_is : m.length ≡ length blob = ap (λ (x : BlobMetadata). x.length) is.1 in
-    let Cut : ℕ → Type 0 = λ n. take n (source_of m.f (symbol_size m.f n) e) ≡ blob in
-    let cut : Cut (length blob) = ap (λ (b : List ℕ). take (length blob) b) (source_of_extended m.f blob e is.0)
-    ∙ take-append_seam blob (replicate (row_count m.f * column_count m.f * symbol_size m.f (length blob) - length blob) 0) in
-    subst Cut (sym length_is) cut
-
--- joined regions of bytes are bytes
-bytes_by_regions : (count s : ℕ) (d : List ℕ) → 0 < s → length d ≡ count * s → ((k : ℕ) → k < count → AreBytes (region s d k)) → AreBytes d
-bytes_by_regions count s d some long each i =
-    ⊎_elim
-    (λ inside.
-    let k = i / s in
-    let w = i % s in
-    let below : k < count = div_below i s count some (omega (arith, inside, long)) in
-    let place : s * k + w ≡ i = omega (arith, div-add-mod' i s) in
-    subst (λ (a : ℕ). get_or d a 0 < 256) place (subst (λ (b : ℕ). b < 256) (region-byte s d k w (mod_below i s some)) (each k below w)))
-    (λ past. let none = get_or_past d i 0 past in omega arith)
-    (cases_lt i (length d))
+    rw length_is
+    (ap (take (length blob)) (source_of_extended m.f blob e is.0)
+    ∙ take-append_seam blob
+    (replicate (row_count m.f * column_count m.f * symbol_size m.f (length blob) - length blob) 0))
 
 module _ (digest : List ℕ → List ℕ) (one : IsOneToOne digest) where
   -- a metadata is that of one blob
   one_blob_of : (m : BlobMetadata) (x y d e : List ℕ) → CommitsMatrix digest m x d → CommitsMatrix digest m y e → x ≡ y
   one_blob_of m x y d e is_x is_y =
       let s = symbol_size m.f m.length in
-      let least = symbol_size-least m.f m.length in
-      let positive = least.positive in
-      let long_d = (committed_matrix digest m x d is_x.0 is_x.1).size in
       let long_e = (committed_matrix digest m y e is_y.0 is_y.1).size in
       let sources : source_of m.f s e ≡ source_of m.f s d =
-      source_by_rows m.f s d (source_of m.f s e) (omega arith) long_d (source_long m.f s e long_e)
+      source_by_rows m.f s d (source_of m.f s e) (omega (arith, (symbol_size-least m.f m.length).positive))
+      (committed_matrix digest m x d is_x.0 is_x.1).size (source_long m.f s e long_e)
       (λ r hr. source-row m.f s e r long_e hr
       ∙ one_sliver digest one m Primary r (primary_of m.f s e r) (primary_of m.f s d r) (matrix_holds digest m y e r is_y (omega arith)) (matrix_holds digest m x d r is_x (omega arith))) in
-      sym (blob_of digest m x d is_x) ∙ ap (λ (b : List ℕ). take m.length b) (sym sources) ∙ blob_of digest m y e is_y
+      sym (blob_of digest m x d is_x) ∙ ap (take m.length) (sym sources) ∙ blob_of digest m y e is_y
 
   -- an identifier has one metadata of a blob
   same_metadata : (format : Format) (n : ℕ) (blob id : List ℕ) (other : BlobMetadata) → (is : IsIdentifierOf digest format n blob id) → Commits digest id other → AreBytes (metadata_text other)
@@ -124,33 +104,10 @@ module _ (digest : List ℕ → List ℕ) (one : IsOneToOne digest) where
 
     slivers_accept : (indices joined : List ℕ) → AreHeld digest m indices joined → Judges digest m indices joined Reject → ⊥
     slivers_accept indices joined held judged =
-        let s = symbol_size m.f m.length in
-        let least = symbol_size-least m.f m.length in
-        let positive = least.positive in
-        let given = slivers_judged indices joined held in
-        let some : 0 < sliver_bytes m = row_some m.f s (omega arith) in
-        let are : AreSlivers m.f s indices joined = record {
-          few = fit.shape.1;
-          even = least.even;
-          some = omega arith;
-          count = held.count;
-          distinct = held.distinct;
-          below = λ k d l. subst (λ (i : ℕ). i < shard_count m.f) (sym (get_or_default indices k d 0 l)) (held.held k l).within;
-          size = held.size;
-          bytes = bytes_by_regions (row_count m.f) (sliver_bytes m) joined some held.size
-              (λ k l. let sliver = held.held k (omega (arith, l, held.count)) in
-              subst AreBytes sliver.is_word.begins (bytes_of_part (column_count m.f * s) 0 sliver.word (bytes_within sliver.word sliver.is_word.coded.fits)));
-        } in
-        let same = through_unique m.f s indices joined given.0 judged.0 are given.1 judged.1 in
-        let told = one_verdict digest m (take m.length (source_of m.f s judged.0)) (Bytes blob) Reject
-        (subst (λ (d : List ℕ). IsVerdictOn digest m (take m.length (source_of m.f s d)) (Bytes blob)) same given.2) judged.2 in
+        let same =
+        one_judgement digest m indices joined fit held (Bytes blob) Reject
+        (slivers_judged indices joined held) judged in
         absurd cc
-      where
-        one_column : (f : ℕ) → 1 ≤ column_count f
-        one_column f = omega arith
-
-        row_some : (f s : ℕ) → 0 < s → 0 < column_count f * s
-        row_some f s some = omega (arith, mul-le-mul_right s (one_column f))
 
     proof_accepts : (p : EncodingProof) → AreBytes (proof_text p) → IsBadProof digest m p → ⊥
     proof_accepts p bytes bad =
@@ -194,16 +151,15 @@ module _ (digest : List ℕ → List ℕ) (one : IsOneToOne digest) where
 
   judged_bytes : (id blob : List ℕ) (m : BlobMetadata) (basis : Basis) → IsEvidence digest id (record { metadata = m; basis = basis }) → IsJudgedBy digest m basis (Bytes blob) → HasIdentifier blob id
   judged_bytes id blob m (Slivers indices joined) evidence (e, through, verdict) =
-      let P : List ℕ → List ℕ → Type 0 = λ b i. IsIdentifierOf digest m.format m.f b i in
-      (m.format, m.f, subst (λ (i : List ℕ). P blob i) (sym evidence.committed.identifier) (subst (λ (b : List ℕ). P b (identifier_of digest m)) (sym verdict.0) verdict.1))
+      (m.format, m.f, rw (evidence.committed.identifier, verdict.0) verdict.1)
   judged_bytes id blob m (Proof p) evidence judged = absurd cc
 
   answered_bytes : (f : ℕ) (id : BlobId) (a : First) (blob : List ℕ) → IsBackedBy digest f id a → verdict_of a ≡ Bytes blob → HasIdentifier blob id.0
   answered_bytes f id (Written bytes) blob backed same =
       let bytes_is : bytes ≡ blob = cc in
-      (backed.0, f, subst (λ (b : List ℕ). IsIdentifierOf digest backed.0 f b id.0) bytes_is backed.1)
+      (backed.0, f, rw bytes_is at backed.1)
   answered_bytes f id (Judged evidence verdict) blob backed same =
-      judged_bytes id.0 blob evidence.metadata evidence.basis backed.0 (subst (λ (v : Verdict). IsJudgedBy digest evidence.metadata evidence.basis v) same backed.1)
+      judged_bytes id.0 blob evidence.metadata evidence.basis backed.0 (rw same at backed.1)
 
   -- and are not rejected
   not_rejected : (f : ℕ) (id : BlobId) (blob : List ℕ) (a : First) → HasIdentifier blob id.0 → IsBackedBy digest f id a → FirstOfBytes a → verdict_of a ≡ Reject → ⊥
@@ -213,7 +169,7 @@ module _ (digest : List ℕ → List ℕ) (one : IsOneToOne digest) where
       let matrix = as_matrix digest format n blob m is in
       let here = subst (λ (x : BlobMetadata). CommitsMatrix digest x blob matrix.0) one_is matrix.1 in
       accepts evidence.metadata backed.0.committed.fit blob matrix.0 here evidence.basis bytes_a.1 id.0 backed.0
-      (subst (λ (v : Verdict). IsJudgedBy digest evidence.metadata evidence.basis v) same backed.1)
+      (rw same at backed.1)
 
   -- so two answers have one verdict
   pub one_answer : (f : ℕ) (id : BlobId) (a b : First) → IsBackedBy digest f id a → FirstOfBytes a → IsBackedBy digest f id b → FirstOfBytes b → verdict_of a ≡ verdict_of b
@@ -223,7 +179,7 @@ module _ (digest : List ℕ → List ℕ) (one : IsOneToOne digest) where
       by (Bytes x) (Bytes y) is_a is_b =
           let first = answered_bytes f id a x backed_a is_a in
           let other = answered_bytes f id b y backed_b is_b in
-          is_a ∙ ap Bytes (one_blob first.0 other.0 first.1 other.1 x y id.0 first.2 other.2) ∙ sym is_b
+          cc (is_a, one_blob first.0 other.0 first.1 other.1 x y id.0 first.2 other.2, is_b)
       by (Bytes x) Reject is_a is_b = absurd (not_rejected f id x b (answered_bytes f id a x backed_a is_a) backed_b bytes_b is_b)
       by Reject (Bytes y) is_a is_b = absurd (not_rejected f id y a (answered_bytes f id b y backed_b is_b) backed_a bytes_a is_a)
       by Reject Reject is_a is_b = is_a ∙ sym is_b

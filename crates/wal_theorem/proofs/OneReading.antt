@@ -1,65 +1,54 @@
 -- Payloads have one outcome, but for the two texts of a collision, and one evidence for it.
-use Rattle.std.proofs.Common.{◌≡◌, ℕ, ◌*◌, ◌<◌, List, [], ◌∷◌, length, take, All, Option, Some, refl, sym, ap, subst, ◌∙◌, arith, ⊎_elim}
-use Rattle.std.proofs.lemmas.List.{get_or_default}
-use Rattle.std.proofs.lemmas.List.Concat.{flat_map-cons}
-use Rattle.std.proofs.lemmas.List.Elements.{All-head, All-tail}
-use Rattle.std.specs.List.{flat_map}
-use Rattle.wal_shape.specs.declared.axis.Axis.TheVariants.{Primary}
-use Rattle.wal_shape.specs.Shape.{shard_count, row_count, column_count, symbol_size}
+use Rattle.std.proofs.Common.{◌≡◌, ℕ, ◌+◌, ◌*◌, ◌/◌, ◌%◌, ◌<◌, ◌≤◌, List, length, take, Option, Some, refl, sym, ap, ap₂, ◌∙◌, arith, ⊎_elim}
+use Rattle.std.proofs.Math.Nat.{mul-le-mul_right}
+use Rattle.std.proofs.lemmas.Bool.{cases_lt}
+use Rattle.std.proofs.lemmas.List.{get_or_default, get_or_past}
+use Rattle.std.proofs.lemmas.Nat.{div_below, mod_below, div-add-mod'}
+use Rattle.wal_kernel.specs.Region.{region}
+use Rattle.wal_kernel.proofs.Regions.{region-byte}
+use Rattle.wal_shape.specs.Shape.{row_count, column_count, symbol_size}
 use Rattle.wal_shape.specs.Metadata.{BlobMetadata, IsMetadata}
 use Rattle.wal_shape.specs.EncodingProof.{EncodingProof}
 use Rattle.wal_shape.proofs.ShapeLaws.{symbol_size-least}
 use Rattle.wal_matrix.specs.Through.{source_of}
 use Rattle.wal_matrix.proofs.Codewords.{AreBytes, bytes_of_part}
 use Rattle.wal_matrix.proofs.MatrixLaws.{bytes_within}
-use Rattle.wal_matrix.proofs.Words.{bytes_joined}
 use Rattle.wal_matrix.proofs.Decoded.{AreSlivers, through_unique}
-use Rattle.wal_commit.specs.Held.{HoldsSliver}
 use Rattle.wal_frame.specs.Reading.{read_of}
 use Rattle.wal_evidence.specs.declared.evidence.Basis.{Basis}
 use Rattle.wal_evidence.specs.declared.evidence.Basis.TheVariants.{Slivers, Proof}
 use Rattle.wal_evidence.specs.declared.evidence.Evidence.{Evidence}
 use Rattle.wal_evidence.specs.declared.evidence.Verdict.{Verdict}
 use Rattle.wal_evidence.specs.declared.evidence.Verdict.TheVariants as told
-use Rattle.wal_evidence.specs.Evidence.{IsHeldBy, IsVerdictOn, Judges}
-use Rattle.wal_evidence.proofs.FirstOfEach.{first_taken}
+use Rattle.wal_evidence.specs.Evidence.{AreHeld, IsHeldBy, Judges, sliver_bytes}
 use Rattle.wal_evidence.proofs.Verdicts.{one_verdict}
 use Rattle.wal_reader.specs.declared.outcome.Outcome.{Outcome}
 use Rattle.wal_reader.specs.declared.outcome.Outcome.TheVariants.{Bytes, Reject, Short, NoMetadata, Collision}
 use Rattle.wal_reader.specs.Carried.{CarriesBadProof, IsFirstBadProof}
-use Rattle.wal_reader.specs.Outcome.{Collects, Decides, GivesSliver, HasEvidence, HasMetadata, HoldsFew, IndexedSliver, IsDrawnFrom, IsEvidenceFor, IsMetadataIn, IsOnlyOutcome, IsOutcome}
+use Rattle.wal_reader.specs.Outcome.{Collects, Decides, HasEvidence, HasMetadata, HoldsFew, IsDrawnFrom, IsEvidenceFor, IsMetadataIn, IsOnlyOutcome, IsOutcome}
 use Rattle.wal_reader.proofs.Collections.{enough_are_held, one_collection}
 use Rattle.wal_reader.proofs.FirstOnes.{first_two, one_first, one_proof}
 use Rattle.wal_reader.proofs.OneOutcome.{HasFew, HasVerdict, only_verdict, only_refuted, only_short, only_none, only_collision}
 
--- ---- the slivers of payloads
+-- ---- slivers that hold
 
-module _ (digest : List ℕ → List ℕ) (id : List ℕ) (m : BlobMetadata) where
-  -- a sliver that holds is bytes
-  sliver_of_bytes : (index : ℕ) (bytes : List ℕ) → HoldsSliver digest m Primary index bytes → AreBytes bytes
-  sliver_of_bytes index bytes h =
-      subst AreBytes h.is_word.begins (bytes_of_part (column_count m.f * symbol_size m.f m.length) 0 h.word (bytes_within h.word h.is_word.coded.fits))
+-- joined regions of bytes are bytes
+bytes_by_regions : (count s : ℕ) (d : List ℕ) → 0 < s → length d ≡ count * s
+    → ((k : ℕ) → k < count → AreBytes (region s d k)) → AreBytes d
+bytes_by_regions count s d some long each i =
+    ⊎_elim
+    (λ inside.
+    let below : i / s < count = div_below i s count some (omega (arith, inside, long)) in
+    let place : s * (i / s) + i % s ≡ i = omega (arith, div-add-mod' i s) in
+    rw (region-byte s d (i / s) (i % s) (mod_below i s some), place) at (each (i / s) below (i % s)))
+    (λ past. omega (arith, get_or_past d i 0 past))
+    (cases_lt i (length d))
 
-  -- and so are all that are collected
-  flat_bytes : (slivers : List IndexedSliver) → All (λ s. AreBytes s.bytes) slivers → AreBytes (flat_map (λ (s : IndexedSliver). s.bytes) slivers)
-  flat_bytes [] each = λ i. omega arith
-  flat_bytes (s ∷ slivers) each =
-      subst AreBytes (sym (flat_map-cons (λ (x : IndexedSliver). x.bytes) s slivers))
-      (bytes_joined s.bytes (flat_map (λ (x : IndexedSliver). x.bytes) slivers) (All-head (λ (x : IndexedSliver). AreBytes x.bytes) s slivers each)
-      (flat_bytes slivers (All-tail (λ (x : IndexedSliver). AreBytes x.bytes) s slivers each)))
-
-  pub collection_bytes : (payloads : List (List ℕ)) (is js : List ℕ) → Collects digest id m payloads is js → AreBytes js
-  collection_bytes payloads is js was =
-      subst AreBytes (sym was.3)
-      (flat_bytes was.0
-      (first_taken (GivesSliver digest id m) (λ (s : IndexedSliver). s.index) (row_count m.f) (λ (s : IndexedSliver). AreBytes s.bytes) payloads was.0
-      (λ p s there carries. sliver_of_bytes s.index s.bytes carries.1) was.1).each)
-
-  -- so they are the slivers of a matrix
-  pub slivers_collected : (payloads : List (List ℕ)) (is js : List ℕ) → IsMetadata m → Collects digest id m payloads is js → length is ≡ row_count m.f
-      → AreSlivers m.f (symbol_size m.f m.length) is js
-  slivers_collected payloads is js fit collects count =
-      let g = enough_are_held digest id m payloads is js collects count in
+module _ (digest : List ℕ → List ℕ) (m : BlobMetadata) (is js : List ℕ) (fit : IsMetadata m)
+    (held : AreHeld digest m is js) where
+  -- they are the slivers of a matrix
+  pub held_slivers : AreSlivers m.f (symbol_size m.f m.length) is js
+  held_slivers =
       let s = symbol_size m.f m.length in
       let least = symbol_size-least m.f m.length in
       let positive = least.positive in
@@ -67,21 +56,28 @@ module _ (digest : List ℕ → List ℕ) (id : List ℕ) (m : BlobMetadata) whe
         few = fit.shape.1;
         even = least.even;
         some = omega arith;
-        count = count;
-        distinct = g.distinct;
-        below = λ k d l. subst (λ (i : ℕ). i < shard_count m.f) (sym (get_or_default is k d 0 l)) (g.held k l).within;
-        size = g.size;
-        bytes = collection_bytes payloads is js collects;
+        count = held.count;
+        distinct = held.distinct;
+        below = λ k d l. rw (get_or_default is k d 0 l) (held.held k l).within;
+        size = held.size;
+        bytes = bytes_by_regions (row_count m.f) (sliver_bytes m) js (row_some m.f s (omega arith)) held.size
+            (λ k l. let sliver = held.held k (omega (arith, l, held.count)) in
+            rw sliver.is_word.begins at
+            (bytes_of_part (column_count m.f * s) 0 sliver.word (bytes_within sliver.word sliver.is_word.coded.fits)));
       }
+    where
+      one_column : (f : ℕ) → 1 ≤ column_count f
+      one_column f = omega arith
+
+      row_some : (f s : ℕ) → 0 < s → 0 < column_count f * s
+      row_some f s some = omega (arith, mul-le-mul_right s (one_column f))
 
   -- and there is one verdict on them
-  pub one_judgement : (payloads : List (List ℕ)) (is js : List ℕ) → IsMetadata m → Collects digest id m payloads is js → length is ≡ row_count m.f → (a b : Verdict)
-      → Judges digest m is js a → Judges digest m is js b → a ≡ b
-  one_judgement payloads is js fit collects count a b judged other =
+  pub one_judgement : (a b : Verdict) → Judges digest m is js a → Judges digest m is js b → a ≡ b
+  one_judgement a b judged other =
       let s = symbol_size m.f m.length in
-      let same = through_unique m.f s is js judged.0 other.0 (slivers_collected payloads is js fit collects count) judged.1 other.1 in
-      one_verdict digest m (take m.length (source_of m.f s other.0)) a b
-      (subst (λ (e : List ℕ). IsVerdictOn digest m (take m.length (source_of m.f s e)) a) same judged.2) other.2
+      let same = through_unique m.f s is js judged.0 other.0 held_slivers judged.1 other.1 in
+      one_verdict digest m (take m.length (source_of m.f s other.0)) a b (rw same at judged.2) other.2
 
 -- ---- the first payload that carries something
 
@@ -112,15 +108,17 @@ module _ (digest : List ℕ → List ℕ) (id : List ℕ) (payloads : List (List
 
   has_verdict : (verdict : Verdict) → (found : Decides digest id payloads verdict) → HasVerdict digest id payloads found.0 found.2 found.3 verdict
   has_verdict verdict found =
+      let held = enough_are_held digest id found.0 payloads found.2 found.3 found.4 found.5 in
       record {
         one = found.1;
         collects = found.4;
         count = found.5;
-        only = λ other judged. one_judgement digest id found.0 payloads found.2 found.3 (metadata_fits found.0 found.1.0) found.4 found.5 other verdict judged found.6;
+        only = λ other judged.
+            one_judgement digest found.0 found.2 found.3 (metadata_fits found.0 found.1.0) held other verdict judged found.6;
       }
 
   has_few : (m : BlobMetadata) (have : ℕ) → IsMetadataIn digest id payloads m → (few : HoldsFew digest id m payloads have) → HasFew digest id payloads m few.0 few.1
-  has_few m have one few = record { one = one; collects = few.2; few = subst (λ (k : ℕ). k < row_count m.f) few.3 few.4 }
+  has_few m have one few = record { one = one; collects = few.2; few = rw few.3 at few.4 }
 
   -- the outcome of payloads is the only one
   pub only_outcome : (o : Outcome) → IsOutcome digest id payloads o → IsOnlyOutcome digest id payloads o
@@ -132,10 +130,7 @@ module _ (digest : List ℕ → List ℕ) (id : List ℕ) (payloads : List (List
       (λ refutes. only_refuted digest id payloads refutes.0 refutes.3.0 refutes.3.1 refutes.4 (has_few refutes.0 refutes.2 refutes.1 refutes.3) refutes.5)
       is
   only_outcome (Short have need) is =
-      let Only : ℕ → ℕ → Type 0 = λ a b. IsOnlyOutcome digest id payloads (Short a b) in
-      subst (λ (a : ℕ). Only a need) (sym is.2.3)
-      (subst (λ (b : ℕ). Only (length is.2.0) b) (sym is.3)
-      (only_short digest id payloads is.0 is.2.0 is.2.1 (has_few is.0 have is.1 is.2) is.4))
+      rw (is.2.3, is.3) (only_short digest id payloads is.0 is.2.0 is.2.1 (has_few is.0 have is.1 is.2) is.4)
   only_outcome NoMetadata is = only_none digest id payloads is
   only_outcome (Collision clash) is =
       let two = first_two digest id payloads is.0 is.1 is.2 in
@@ -147,15 +142,11 @@ module _ (digest : List ℕ → List ℕ) (id : List ℕ) (payloads : List (List
   not_both : (m : BlobMetadata) (is js : List ℕ) (have : ℕ) → Collects digest id m payloads is js → length is ≡ row_count m.f → HoldsFew digest id m payloads have → ⊥
   not_both m is js have collects count few =
       let same = one_collection digest id m payloads is js few.0 few.1 collects few.2 in
-      let long : length is ≡ length few.0 = ap length same.0 in
-      let is_have = few.3 in
-      let less = few.4 in
-      absurd (omega (arith, long, count, is_have, less))
+      omega (arith, ap length same.0, count, few.3, few.4)
 
   one_basis : (m : BlobMetadata) (a b : Basis) → IsDrawnFrom digest id payloads m a → IsDrawnFrom digest id payloads m b → HasCount m a → HasCount m b → a ≡ b
   one_basis m (Slivers is js) (Slivers ks ls) drawn other count also =
-      let same = one_collection digest id m payloads is js ks ls drawn other in
-      ap (λ (x : List ℕ). Slivers x js) same.0 ∙ ap (λ (y : List ℕ). Slivers ks y) same.1
+      let same = one_collection digest id m payloads is js ks ls drawn other in cc (same.0, same.1)
   one_basis m (Slivers is js) (Proof q) drawn other count also = absurd (not_both m is js other.0 drawn count other.1)
   one_basis m (Proof p) (Slivers ks ls) drawn other count also = absurd (not_both m ks ls drawn.0 other also drawn.1)
   one_basis m (Proof p) (Proof q) drawn other count also = ap Proof (one_bad_proof digest id m payloads p q drawn.2 other.2)
@@ -164,13 +155,11 @@ module _ (digest : List ℕ → List ℕ) (id : List ℕ) (payloads : List (List
   pub one_evidence : (u v : Verdict) (a b : Option Evidence) → IsEvidenceFor digest id payloads u a → IsEvidenceFor digest id payloads v b → a ≡ b
   one_evidence u v a b is_a is_b =
       let same : is_a.0.metadata ≡ is_b.0.metadata = is_b.4.1 is_a.0.metadata is_a.4.0 in
-      let T : BlobMetadata → Type 0 = λ m. IsDrawnFrom digest id payloads m is_a.0.basis × HasCount m is_a.0.basis in
-      let here : T is_b.0.metadata = subst T same (is_a.5, count_of digest is_a.0.metadata is_a.0.basis is_a.2.held) in
-      let basis = one_basis is_b.0.metadata is_a.0.basis is_b.0.basis here.0 is_b.5 here.1 (count_of digest is_b.0.metadata is_b.0.basis is_b.2.held) in
-      is_a.1
-      ∙ ap (λ (m : BlobMetadata). evidence_of m is_a.0.basis) same
-      ∙ ap (λ (x : Basis). evidence_of is_b.0.metadata x) basis
-      ∙ sym is_b.1
+      let count = count_of digest is_a.0.metadata is_a.0.basis is_a.2.held in
+      let other = count_of digest is_b.0.metadata is_b.0.basis is_b.2.held in
+      let basis =
+      one_basis is_b.0.metadata is_a.0.basis is_b.0.basis (rw same at is_a.5) is_b.5 (rw same at count) other in
+      is_a.1 ∙ ap₂ (λ (m : BlobMetadata) (x : Basis). evidence_of m x) same basis ∙ sym is_b.1
 
   -- so an outcome has one
   pub outcome_evidence : (o : Outcome) (a b : Option Evidence) → HasEvidence digest id payloads o a → HasEvidence digest id payloads o b → a ≡ b

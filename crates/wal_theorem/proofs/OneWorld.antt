@@ -1,22 +1,18 @@
 -- The rules of the world leave no choice but the texts of a collision: so its steps and runs leave none.
-use Rattle.std.proofs.Common.{◌≡◌, ◌≢◌, ◌⊎◌, ℕ, ◌<◌, List, [], ◌∷◌, ◌++◌, length, Result, Ok, Option, None, refl, sym, ap, subst, ◌∙◌, arith, ⊎_elim, inl, inr, true≢false}
+use Rattle.std.proofs.Common.{◌≡◌, ◌≢◌, ◌⊎◌, ℕ, List, [], ◌∷◌, ◌++◌, length, Option, None, refl, sym, ap, ◌∙◌, arith, ⊎_elim, inl, inr, true≢false}
 use Rattle.wal_shape.specs.declared.metadata.BlobId.{BlobId}
 use Rattle.wal_shape.specs.declared.axis.Axis.{Axis}
 use Rattle.wal_shape.specs.declared.shape.Format.{Format}
 use Rattle.wal_shape.specs.declared.text.MetaClash.{MetaClash}
-use Rattle.wal_shape.specs.Shape.{IsShape, shard_count, sliver_symbols, crossing}
+use Rattle.wal_shape.specs.Shape.{IsShape, sliver_symbols}
 use Rattle.wal_shape.specs.Metadata.{BlobMetadata, held_index}
 use Rattle.wal_shape.specs.EncodingProof.{EncodingProof}
-use Rattle.wal_shape.specs.Spelling.{metadata_text}
 use Rattle.wal_matrix.proofs.MatrixLaws.{extended_unique}
-use Rattle.wal_commit.specs.Held.{IsOpeningOf}
-use Rattle.wal_commit.specs.Identifier.{identifier_of, metadata_over}
+use Rattle.wal_commit.specs.Identifier.{metadata_over}
 use Rattle.wal_commit.proofs.HonestOpenings.{one_opening}
 use Rattle.wal_recover.specs.declared.outcome.Recovered.{Recovered}
 use Rattle.wal_recover.specs.declared.outcome.Recovered.TheVariants as recovered
 use Rattle.wal_recover.proofs.OneRecovery.{one_recovery}
-use Rattle.wal_frame.specs.declared.frame.FrameError.{FrameError}
-use Rattle.wal_frame.specs.Reading.{read_of}
 use Rattle.wal_frame.specs.Frame.{Frame, frame_text}
 use Rattle.wal_frame.specs.Frame as frames
 use Rattle.wal_event.specs.declared.line.ReadWord.{ReadWord}
@@ -25,7 +21,7 @@ use Rattle.wal_event.specs.declared.line.RecoverWord.{RecoverWord}
 use Rattle.wal_event.specs.declared.line.RecoverWord.TheVariants as recovering
 use Rattle.wal_evidence.specs.declared.evidence.Evidence.{Evidence}
 use Rattle.wal_reader.specs.Carried.{openings_in, IsFirstBadProof, NoBadProof}
-use Rattle.wal_reader.specs.Outcome.{HasEvidence, SameOutcome}
+use Rattle.wal_reader.specs.Outcome.{SameOutcome}
 use Rattle.wal_reader.specs.Settled.{HasTwo}
 use Rattle.wal_reader.specs.declared.outcome.Outcome.{Outcome}
 use Rattle.wal_reader.specs.declared.outcome.Outcome.TheVariants as outcome
@@ -42,17 +38,12 @@ use Rattle.wal_shard.specs.Putting.{Puts}
 use Rattle.wal_shard.specs.State.{desk_of}
 use Rattle.wal_shard.proofs.OnePut.{puts_once}
 use Rattle.wal_shard.proofs.Soundness.{one_metadata}
-use Rattle.wal_writer.specs.Message.{IsMessageOf, message_to}
+use Rattle.wal_writer.specs.Message.{IsMessageOf}
 use Rattle.wal_theorem.specs.Instance.{SymbolReply, silent, replies, outcome_told, ReadsTo, Knows, IsKnown, OwnOpeningsComeTo, RecoversTo, rules_of}
-use Rattle.wal_theorem.proofs.InstanceHoldings.{none_some, some_is}
 use Rattle.wal_theorem.proofs.OneReading.{metadata_fits, one_bad_proof, only_outcome, outcome_evidence}
 use Rattle.wal_protocol.proofs.OneWord.{Only, SamePut}
 
 -- ---- puts
-
--- bytes are read as one frame
-one_read : (read : Result Frame FrameError) (a b : Frame) → read ≡ Ok a → read ≡ Ok b → a ≡ b
-one_read read a b is also = cc
 
 -- a put has one answer
 one_put : (digest : List ℕ → List ℕ) (f shard : ℕ) (log : Log) (old : Contents) (frame : Frame) (a b : PutAnswer) (x y : Contents)
@@ -73,14 +64,8 @@ one_message digest f format blob i j a b p q =
     let matrix = extended_unique f blob d.0 e.0 d.3.1 d.1 e.1 in
     let same : p.metadata ≡ q.metadata =
     d.2 ∙ ap (λ (x : List ℕ). metadata_over digest (record { format = format; f = f; length = length blob }) x) matrix ∙ sym e.2 in
-    let ids : i.0 ≡ j.0 = p.identifier ∙ ap (identifier_of digest) same ∙ sym q.identifier in (
-      ap id_of ids,
-      p.frames
-          ∙ ap (λ (m : BlobMetadata). message_to m i.0 d.0) same
-          ∙ ap (λ (x : List ℕ). message_to q.metadata x d.0) ids
-          ∙ ap (λ (x : List ℕ). message_to q.metadata j.0 x) matrix
-          ∙ sym q.frames,
-    )
+    let ids : i.0 ≡ j.0 = cc (p.identifier, same, q.identifier) in
+    (ap id_of ids, cc (p.frames, same, ids, matrix, q.frames))
 
 -- ---- replies to a shard that recovers
 
@@ -91,20 +76,18 @@ module _ (digest : List ℕ → List ℕ) (id : List ℕ) (helper : ℕ) (p : Pa
   one_opening_reply : (index : ℕ) (a b : List (List ℕ)) → OpeningReply digest id helper p axis index a → OpeningReply digest id helper p axis index b → a ≡ b
   one_opening_reply index a b (given m sliver o has at within cross is) (given n other q has_n at_n within_n cross_n is_n) =
       let same = one_metadata p m n has has_n in
-      let bytes = some_is sliver other (sym at ∙ at_n) in
-      let Opens : BlobMetadata → List ℕ → Type 0 = λ x y. IsOpeningOf digest x axis index y o in
-      let here : Opens n other = subst (λ (y : List ℕ). Opens n y) bytes (subst (λ (x : BlobMetadata). Opens x sliver) same is) in
-      let one = one_opening digest n axis index other o q has_n.fit.shape.1 here is_n in
-      let crosses : o.cross ≡ q.cross = cross ∙ ap (λ (x : BlobMetadata). held_index x.format x.f (crossing axis) helper) same ∙ sym cross_n in
-      ap (λ (x : ℕ). opening_payload index x o.symbol o.path) crosses
-      ∙ ap (λ (x : List ℕ). opening_payload index q.cross x o.path) one.0
-      ∙ ap (λ (x : List ℕ). opening_payload index q.cross q.symbol x) one.1
-  one_opening_reply index a b (given m sliver o has at within cross is) (not_held none) = absurd (none_some _ sliver none at)
+      let bytes : sliver ≡ other = cc in
+      let one = one_opening digest n axis index other o q has_n.fit.shape.1 (rw (same, bytes) at is) is_n in
+      let crosses : o.cross ≡ q.cross = rw same at cross ∙ sym cross_n in
+      let payload = opening_payload index in
+      let same_payload : payload o.cross o.symbol o.path ≡ payload q.cross q.symbol q.path = rw (crosses, one.0, one.1) in
+      same_payload
+  one_opening_reply index a b (given m sliver o has at within cross is) (not_held none) = absurd cc
   one_opening_reply index a b (given m sliver o has at within cross is) (no_shard n has_n outside) =
-      absurd (outside (subst (λ (x : BlobMetadata). index < shard_count x.f) (one_metadata p m n has has_n) within))
-  one_opening_reply index a b (not_held none) (given n other q has_n at_n within_n cross_n is_n) = absurd (none_some _ other none at_n)
+      absurd (outside (rw (one_metadata p n m has_n has) within))
+  one_opening_reply index a b (not_held none) (given n other q has_n at_n within_n cross_n is_n) = absurd cc
   one_opening_reply index a b (no_shard m has outside) (given n other q has_n at_n within_n cross_n is_n) =
-      absurd (outside (subst (λ (x : BlobMetadata). index < shard_count x.f) (one_metadata p n m has_n has) within_n))
+      absurd (outside (rw (one_metadata p m n has has_n) within_n))
   one_opening_reply index a b s t = refl
 
   one_symbols : (index : ℕ) (a b : List (List ℕ)) → SymbolReplies digest id helper p axis index a → SymbolReplies digest id helper p axis index b → a ≡ b
@@ -114,41 +97,32 @@ module _ (digest : List ℕ → List ℕ) (id : List ℕ) (helper : ℕ) (p : Pa
 one_symbol_reply : (digest : List ℕ → List ℕ) (id : BlobId) (helper : ℕ) (p : Parts) (axis : Axis) (shard : ℕ) (a b : List (List ℕ)) → SymbolReply digest id helper p axis shard a
     → SymbolReply digest id helper p axis shard b → a ≡ b
 one_symbol_reply digest id helper p axis shard a b (silent none) (silent nothing) = refl
-one_symbol_reply digest id helper p axis shard a b (silent none) (replies n y has t) = absurd (none_some p.metadata (metadata_text n) none has.spelled)
-one_symbol_reply digest id helper p axis shard a b (replies m x has s) (silent nothing) = absurd (none_some p.metadata (metadata_text m) nothing has.spelled)
+one_symbol_reply digest id helper p axis shard a b (silent none) (replies n y has t) = absurd (cc (none, has.spelled))
+one_symbol_reply digest id helper p axis shard a b (replies m x has s) (silent nothing) =
+    absurd (cc (nothing, has.spelled))
 one_symbol_reply digest id helper p axis shard a b (replies m x has s) (replies n y has_n t) =
-    let T : BlobMetadata → Type 0 = λ z. SymbolReplies digest id.0 helper p axis (held_index z.format z.f axis shard) a in
-    one_symbols digest id.0 helper p axis (held_index n.format n.f axis shard) a b (subst T (one_metadata p m n has has_n) s) t
+    one_symbols digest id.0 helper p axis (held_index n.format n.f axis shard) a b
+    (rw (one_metadata p m n has has_n) at s) t
 
 -- ---- reads
 
 -- a word is that of its outcome
-abbrev word_of : Outcome → ReadWord
-word_of (outcome.Bytes bytes) = reading.Bytes bytes
-word_of outcome.Reject = reading.Reject
-word_of (outcome.Short have need) = reading.Short have need
-word_of outcome.NoMetadata = reading.NoMetadata
-word_of (outcome.Collision clash) = reading.NoMetadata
-
-word_is : (w : ReadWord) → word_of (outcome_told w) ≡ w
-word_is (reading.Bytes bytes) = refl
-word_is w = refl
+told_once : (w v : ReadWord) → outcome_told w ≡ outcome_told v → w ≡ v
+told_once w v same = grind arith
 
 outcome_same : (w : ReadWord) (o : Outcome) → SameOutcome (outcome_told w) o → outcome_told w ≡ o
 outcome_same (reading.Bytes bytes) o same = same
 outcome_same w o same = same
 
 no_collision : (w : ReadWord) (clash : MetaClash) → outcome_told w ≡ outcome.Collision clash → ⊥
-no_collision (reading.Bytes bytes) clash same = absurd cc
-no_collision w clash same = absurd cc
+no_collision w clash same = grind arith
 
 one_reading : (digest : List ℕ → List ℕ) (id : BlobId) (payloads : List (List ℕ)) (w v : ReadWord) (a b : Option Evidence) → ReadsTo digest id payloads w a → ReadsTo digest id payloads v b
     → (w ≡ v) × (a ≡ b)
 one_reading digest id payloads w v a b p q =
-    let same = outcome_same w (outcome_told v) (only_outcome digest id.0 payloads (outcome_told v) q.0 (outcome_told w) p.0) in (
-      sym (word_is w) ∙ ap word_of same ∙ word_is v,
-      outcome_evidence digest id.0 payloads (outcome_told v) a b (subst (λ (o : Outcome). HasEvidence digest id.0 payloads o a) same p.1) q.1,
-    )
+    let same =
+    outcome_same w (outcome_told v) (only_outcome digest id.0 payloads (outcome_told v) q.0 (outcome_told w) p.0) in
+    (told_once w v same, outcome_evidence digest id.0 payloads (outcome_told v) a b (rw same at p.1) q.1)
 
 reading_one : (digest : List ℕ → List ℕ) (id : BlobId) (payloads : List (List ℕ)) (w : ReadWord) (a : Option Evidence) → ReadsTo digest id payloads w a → HasTwo digest id.0 payloads → ⊥
 reading_one digest id payloads w a p two =
@@ -183,12 +157,11 @@ module _ (digest : List ℕ → List ℕ) (f : ℕ) (id : BlobId) (shard : ℕ) 
   comes w new r = absurd r
 
   one_rest : (m : BlobMetadata) (found : Recovered) (w v : RecoverWord) (x y : Contents) → Rests m found w x → Rests m found v y → (w ≡ v) × (x ≡ y)
-  one_rest m (recovered.Sliver bytes) w v x y p q = (p.0 ∙ sym q.0, p.1 ∙ sym q.1)
-  one_rest m (recovered.Inconsistent proof) w v x y p q = (p.0 ∙ sym q.0, p.1 ∙ sym q.1)
   one_rest m (recovered.Short have) w v x y (inl (a, is, w_is, x_is)) (inl (b, also, v_is, y_is)) = let same = one_bad_proof digest id.0 m payloads a b is also in grind arith
   one_rest m (recovered.Short have) w v x y (inl (a, is, w_is, x_is)) (inr (none, v_is, y_is)) = absurd (first_not_none (CarriesBadProof digest id.0 m) payloads a is none)
   one_rest m (recovered.Short have) w v x y (inr (none, w_is, x_is)) (inl (b, also, v_is, y_is)) = absurd (first_not_none (CarriesBadProof digest id.0 m) payloads b also none)
   one_rest m (recovered.Short have) w v x y (inr (none, w_is, x_is)) (inr (nothing, v_is, y_is)) = grind arith
+  one_rest m found w v x y p q = (p.0 ∙ sym q.0, p.1 ∙ sym q.1)
 
   -- a metadata that is known is one
   known_shape : (m : BlobMetadata) → Knows digest id (parts_at old id) payloads m → IsShape m.f m.length
@@ -200,15 +173,16 @@ module _ (digest : List ℕ → List ℕ) (f : ℕ) (id : BlobId) (shard : ℕ) 
   one_coming w v x y (inr (m, known, found, opens, rests)) (inl (none, v_is, y_is)) = absurd (none m known.known known.faults)
   one_coming w v x y (inr (m, known, found, opens, rests)) (inr (n, known_n, other, opens_n, rests_n)) =
       let index = held_index n.format n.f axis shard in
-      let C : BlobMetadata → Type 0 = λ z. OwnOpeningsComeTo digest id shard axis payloads z found × Rests z found w x in
-      let here : C n = subst C (known_n.only m known.known) (opens, rests) in
-      let same = one_recovery digest n axis index (openings_in id.0 axis index payloads) (known_shape n known_n.known) found other here.0 opens_n in
-      one_rest n other w v x y (subst (λ (z : Recovered). Rests n z w x) same here.1) rests_n
+      let same_m = known_n.only m known.known in
+      let same =
+      one_recovery digest n axis index (openings_in id.0 axis index payloads)
+      (known_shape n known_n.known) found other (rw same_m at opens) opens_n in
+      one_rest n other w v x y (rw (same_m, same) at rests) rests_n
 
 -- THE RULES leave no choice but the texts of a collision
 pub only_rules : (digest : List ℕ → List ℕ) (f : ℕ) → Only (rules_of digest f)
 only_rules digest f = record {
-  put_frame = λ bytes a b p q. one_read (read_of bytes) a b p.0 q.0;
+  put_frame = λ bytes a b p q. cc (p.0, q.0);
   puts = λ log shard old frame a b x y p q. one_put digest f shard log old frame a b x y p.1 q.1;
   message = λ format blob i j a b. one_message digest f format blob i j a b;
   symbol_reply = λ id helper parts axis shard a b. one_symbol_reply digest id helper parts axis shard a b;
