@@ -62,12 +62,12 @@ module _ (digest : List ℕ → List ℕ) (old : ServedState) (frames : List (Li
 -- ---- the law
 
 -- less needs less room
+pub fits_less : (limit : Option ℕ) (size less : ℕ) → IfSome limit (λ most. size ≤ most) → less ≤ size → IfSome limit (λ most. less ≤ most)
+fits_less None size less fit small = tt
+fits_less (Some most) size less fit small = omega arith
+
 pub less_room : (id : BlobId) (s : ServedState) (pages entries fewer less : ℕ) → RoomFor id s pages entries → fewer ≤ pages → less ≤ entries → RoomFor id s fewer less
-less_room id s pages entries fewer less room p e = record { pages_fit = by s.shard.limit room.pages_fit; entries_fit = omega (arith, room.entries_fit, e) }
-  where
-    by : (limit : Option ℕ) → IfSome limit (λ most. cost_with s.shard.contents id + pages ≤ most) → IfSome limit (λ most. cost_with s.shard.contents id + fewer ≤ most)
-    by None fit = tt
-    by (Some most) fit = omega (arith, fit, p)
+less_room id s pages entries fewer less room p e = record { pages_fit = fits_less s.shard.limit _ _ room.pages_fit (omega arith); entries_fit = omega (arith, room.entries_fit) }
 
 -- where there is room
 pub answers_with_room : (digest : List ℕ → List ℕ) → AnswersWithRoom digest

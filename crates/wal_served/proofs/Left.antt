@@ -24,7 +24,7 @@ use Rattle.wal_served.specs.Steps.{TellsWant}
 use Rattle.wal_served.specs.Local.{about_read, pages_in, entries_in, regarding, AlikeAt, RoomFor, part_pages, asked_entries, cost_with, Turn, turns, bytes_of, frames_of, clash_of, Chooses, left_of, tells, tells_entry, stored_pages, made_entries, ServesWhatIsLeft}
 use Rattle.wal_served.proofs.Costs.{stored_cost, forgotten_cost}
 use Rattle.wal_served.proofs.Alike.{joined, charged_pages, charged_entries, Carried, carries, wants, read_carried, the_one}
-use Rattle.wal_served.proofs.AlikeLaws.{read_still, less_room}
+use Rattle.wal_served.proofs.AlikeLaws.{read_still, fits_less, less_room}
 use Rattle.wal_served.proofs.Apart.{alike_one, leaves_alike}
 use Rattle.wal_served.proofs.Changes.{Change, no_change, part_stored, slivers_went, entry_made, changes}
 
@@ -99,13 +99,9 @@ sum_push f xs y = let e = sum_by-append f xs (y ∷ []) in omega (arith, e)
 room_on : (id : BlobId) (other then : ServedState) (taken_pages pages taken_entries entries : ℕ) → RoomFor id other (taken_pages + pages) (taken_entries + entries) → Spends id taken_pages taken_entries other then
     → RoomFor id then pages entries
 room_on id other then taken_pages pages taken_entries entries has spent = record {
-  pages_fit = subst (λ (l : Option ℕ). IfSome l (λ most. cost_with then.shard.contents id + pages ≤ most)) (sym spent.limit) (by other.shard.limit has.pages_fit);
+  pages_fit = rw spent.limit (fits_less other.shard.limit _ _ has.pages_fit (omega (arith, spent.pages_most)));
   entries_fit = omega (arith, has.entries_fit, spent.entries_most);
 }
-  where
-    by : (limit : Option ℕ) → IfSome limit (λ most. cost_with other.shard.contents id + (taken_pages + pages) ≤ most) → IfSome limit (λ most. cost_with then.shard.contents id + pages ≤ most)
-    by None fit = tt
-    by (Some most) fit = omega (arith, fit, spent.pages_most)
 
 -- ---- the law
 
