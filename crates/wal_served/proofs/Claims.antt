@@ -44,10 +44,10 @@ claim_does digest s kind shard id r new frames clash may claimed told = by kind 
   where
     says : (e : Event) (q : Reply) → r ≡ q → (said : Line) → is_collision said ≡ false → frame_of said ≡ Some (Answer q.code q.a q.b)
         → ((w : World) → Steps (rules_of digest s.shard.f) (world_of w s) e said (world_of w (with_ledger s new))) → Does digest s (an_event e) frames clash (with_ledger s new)
-    says e q is said goes frame steps = takes digest s (with_ledger s new) e frames clash q (subst (λ (x : Reply). IsReplyOutcome (Ok x) frames clash) is told) said goes frame steps
+    says e q is said goes frame steps = takes digest s (with_ledger s new) e frames clash q (rw is at told) said goes frame steps
 
     full : (e : Event) → r ≡ refused 10 → new ≡ s.ledger → Does digest s (an_event e) frames clash (with_ledger s new)
-    full e is same = lacks digest s (with_ledger s new) e frames clash (refused 10) (subst (λ (x : Reply). IsReplyOutcome (Ok x) frames clash) is told) (inr (inr refl)) (ledger_same s new same)
+    full e is same = lacks digest s (with_ledger s new) e frames clash (refused 10) (rw is at told) (inr (inr refl)) (ledger_same s new same)
 
     same : new ≡ s.ledger → (w : World) → world_of w (with_ledger s new) ≡ world_of w s
     same e w = world_same w (with_ledger s new) s (ledger_same s new e)

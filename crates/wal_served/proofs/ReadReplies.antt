@@ -20,12 +20,11 @@ use Rattle.wal_served.proofs.Worlds.{here, parts_here}
 
 pub read_true : (digest : List ℕ → List ℕ) (s : ServedState) → IsDesk s → (id : List ℕ) (frames : List (List ℕ)) (clash : Option MetaClash)
     → IsReplied (read_reply_of id s.shard.index (parts_at s.shard.contents (named id))) frames clash → RepliesTruly digest s (Ok (Read id)) frames clash
-read_true digest s d id frames clash replied w = subst (λ (l : List (List ℕ)). IsReplied l frames clash) (sym same) replied
+read_true digest s d id frames clash replied w = rw same replied
   where
     same : reply_payloads (rules_of digest s.shard.f) (world_of w s) (named id) (said_by.True Now s.shard.index) ≡ read_reply_of id s.shard.index (parts_at s.shard.contents (named id))
     same =
-        ap (λ (b : Bool). cond b (read_reply_of id s.shard.index (held (side_of Now (world_of w s)) s.shard.index (named id))) []) (here s d w)
-        ∙ ap (read_reply_of id s.shard.index) (parts_here s d w (named id))
+        rw (here s d w, parts_here s d w (named id)) refl
 
 -- of a blob of which nothing is held there is nothing to say
 no_opening : (digest : List ℕ → List ℕ) (id : List ℕ) (shard : ℕ) (p : Parts) (axis : Axis) (index : ℕ) (payloads : List (List ℕ)) → p.metadata ≡ None → OpeningReply digest id shard p axis index payloads → payloads ≡ []
@@ -51,7 +50,7 @@ pub symbol_true : (digest : List ℕ → List ℕ) (s : ServedState) → IsDesk 
 symbol_true digest s d id axis index payloads frames clash is replied = (payloads, replied, told)
   where
     to : (shard : ℕ) → AsksFor (parts_at s.shard.contents (named id)) axis index shard → SymbolReply digest (named id) s.shard.index (parts_at s.shard.contents (named id)) axis shard payloads
-    to shard (by_metadata m holds same) = replies m payloads holds (subst (λ (k : ℕ). SymbolReplies digest id s.shard.index (parts_at s.shard.contents (named id)) axis k payloads) same is)
+    to shard (by_metadata m holds same) = replies m payloads holds (rw same at is)
     to shard (of_nothing none bare) =
         subst (SymbolReply digest (named id) s.shard.index (parts_at s.shard.contents (named id)) axis shard) (sym (says_nothing digest id s.shard.index (parts_at s.shard.contents (named id)) axis index payloads none bare is)) (silent none)
 
