@@ -97,20 +97,14 @@ entered_does digest s d kind shard id r new frames clash entered told = by (nat_
     other : (q : Reply) (l : LedgerState) → shard ≢ s.shard.index → Entered kind s.ledger shard id q l → IsReplyOutcome (Ok q) frames clash
         → Does digest s (cond (nat_lt shard (committee_size s.shard.f)) (an_event (claim_event kind shard id)) no_event) frames clash (with_ledger s l)
     other _ _ ne (of_committee q l lt claimed) says =
-        let less : shard < committee_size s.shard.f = subst (λ (f : ℕ). shard < committee_size f) d.faults lt in
-        subst (λ (b : Bool). Does digest s (cond b (an_event (claim_event kind shard id)) no_event) frames clash (with_ledger s l)) (sym (lt-ltb _ _ less))
-        (claim_does digest s kind shard id q l frames clash (λ w. may_say s d w kind shard id less ne) claimed says)
+        let less = rw d.faults at lt in
+        rw (lt-ltb _ _ less) (claim_does digest s kind shard id q l frames clash (λ w. may_say s d w kind shard id less ne) claimed says)
     other _ _ ne (of_none none) says =
-        let more : nat_lt shard (committee_size s.shard.f) ≡ false = beyond (cases_lt shard (committee_size s.shard.f)) none in
-        subst (λ (b : Bool). Does digest s (cond b (an_event (claim_event kind shard id)) no_event) frames clash (with_ledger s s.ledger)) (sym more) (refl, says.1)
-      where
-        beyond : (shard < committee_size s.shard.f) ⊎ (committee_size s.shard.f ≤ shard) → (shard < committee_size s.ledger.log.f → ⊥) → nat_lt shard (committee_size s.shard.f) ≡ false
-        beyond (inl lt) not = absurd (not (subst (λ (f : ℕ). shard < committee_size f) (sym d.faults) lt))
-        beyond (inr le) not = le-ltb shard (committee_size s.shard.f) le
+        elim (cases_lt shard (committee_size s.shard.f)) [
+          | inl lt ↦ absurd (none (rw d.faults lt))
+          | inr le ↦ rw (le-ltb _ _ le) (refl, says.1)
+        ]
 
     by : (b : Bool) → nat_eq shard s.shard.index ≡ b → Does digest s (entry_of s.shard.f s.shard.index shard (claim_event kind shard id)) frames clash (with_ledger s new)
-    by true e =
-        subst (λ (b : Bool). Does digest s (cond b own_entry (cond (nat_lt shard (committee_size s.shard.f)) (an_event (claim_event kind shard id)) no_event)) frames clash (with_ledger s new)) (sym e) (refl, told.1)
-    by false e =
-        subst (λ (b : Bool). Does digest s (cond b own_entry (cond (nat_lt shard (committee_size s.shard.f)) (an_event (claim_event kind shard id)) no_event)) frames clash (with_ledger s new)) (sym e)
-        (other r new (eqb-false _ _ e) entered told)
+    by true e = rw e (refl, told.1)
+    by false e = rw e (other r new (eqb-false _ _ e) entered told)

@@ -28,21 +28,13 @@ read_true digest s d id frames clash replied w = rw same replied
 
 -- of a blob of which nothing is held there is nothing to say
 no_opening : (digest : List ℕ → List ℕ) (id : List ℕ) (shard : ℕ) (p : Parts) (axis : Axis) (index : ℕ) (payloads : List (List ℕ)) → p.metadata ≡ None → OpeningReply digest id shard p axis index payloads → payloads ≡ []
-no_opening digest id shard p axis index _ none (given m sliver o holds got lt cross is) = absurd (let e : ◌≡◌ {A = Option (List ℕ)} None (Some (metadata_text m)) = sym none ∙ holds.spelled in cc)
+no_opening digest id shard p axis index _ none (given m sliver o holds got lt cross is) = cc
 no_opening digest id shard p axis index _ none (not_held absent) = refl
 no_opening digest id shard p axis index _ none (no_shard m holds beyond) = refl
 
 says_nothing : (digest : List ℕ → List ℕ) (id : List ℕ) (shard : ℕ) (p : Parts) (axis : Axis) (index : ℕ) (payloads : List (List ℕ)) → p.metadata ≡ None → p.proof ≡ None
     → SymbolReplies digest id shard p axis index payloads → payloads ≡ []
-says_nothing digest id shard p axis index payloads none bare (opening, is, whole) =
-    whole
-    ∙ ap (λ (o : List (List ℕ)). metadata_reply p ++ (o ++ proof_reply id p)) (no_opening digest id shard p axis index opening none is)
-    ∙ by p.metadata p.proof none bare (λ bytes. metadata_frame (spelled_metadata bytes)) (λ bytes. 0x13 ∷ (id ++ bytes))
-  where
-    by : (m q : Option (List ℕ)) → m ≡ None → q ≡ None → (f : List ℕ → List ℕ) → (g : List ℕ → List ℕ) → payload_if m f ++ ([] ++ payload_if q g) ≡ []
-    by None None a b f g = refl
-    by (Some x) q a b f g = cc
-    by None (Some x) a b f g = cc
+says_nothing digest id shard p axis index payloads none bare (opening, is, whole) = rw (no_opening digest id shard p axis index opening none is, none, bare) at whole
 
 pub symbol_true : (digest : List ℕ → List ℕ) (s : ServedState) → IsDesk s → (id : List ℕ) (axis : Axis) (index : ℕ) (payloads frames : List (List ℕ)) (clash : Option MetaClash)
     → SymbolReplies digest id s.shard.index (parts_at s.shard.contents (named id)) axis index payloads → IsReplied payloads frames clash
@@ -57,5 +49,4 @@ symbol_true digest s d id axis index payloads frames clash is replied = (payload
     told : (w : World) (shard : ℕ) → AsksFor (parts_at s.shard.contents (named id)) axis index shard
         → IsReplyOf (rules_of digest s.shard.f) (world_of w s) (named id) axis shard (said_by.True Now s.shard.index) payloads
     told w shard asks =
-        let P : Bool → Type 0 = λ b. cond b (SymbolReply digest (named id) s.shard.index (held (side_of Now (world_of w s)) s.shard.index (named id)) axis shard payloads) (payloads ≡ []) in
-        subst P (sym (here s d w)) (subst (λ (p : Parts). SymbolReply digest (named id) s.shard.index p axis shard payloads) (sym (parts_here s d w (named id))) (to shard asks))
+        rw (here s d w, parts_here s d w (named id)) (to shard asks)

@@ -79,13 +79,11 @@ module _ (digest : List ℕ → List ℕ) (may_want : Bool) (fresh : ServedState
     same_place fresh.shard mid.shard n.shard place stepped.place,
     λ no w.
         let m = meaning fresh.shard.f fresh.shard.index payload in
-        let own : meaning mid.shard.f mid.shard.index payload ≡ meaning fresh.shard.f fresh.shard.index payload
-        = ap (λ (k : ℕ). meaning k mid.shard.index payload) place.f ∙ ap (λ (k : ℕ). meaning fresh.shard.f k payload) place.index in
+        let own : meaning mid.shard.f mid.shard.index payload ≡ m = rw (place.f, place.index) refl in
         let does = subst (λ (x : Meaning). Does digest mid x s c n) own stepped.does in
         let before = run (λ p among. no p (Contains-append_left all ((payload, s) ∷ []) p among)) w in
-        let events = one_more all payload s (event_if m s) (ap (λ (b : Bool). cond b [] (event_if m s)) (le-ltb room (length payload) within)) in
-        subst (λ (l : List (Event × List (List ℕ))). IsRunTo digest w fresh l c n) (sym events)
-        (goes_on digest w fresh (events_in all) mid place before m s c n (no (payload, s) (Contains-push all (payload, s)) within) does),
+        let events = one_more all payload s (event_if m s) (rw (le-ltb room (length payload) within) refl) in
+        rw events (goes_on digest w fresh (events_in all) mid place before m s c n (no (payload, s) (Contains-push all (payload, s)) within) does),
   )
   one_reply all mid payload _ _ _ place run (read_past long) =
       let s : List (List ℕ) = reply_text overlong ∷ [] in (
@@ -93,10 +91,9 @@ module _ (digest : List ℕ → List ℕ) (may_want : Bool) (fresh : ServedState
         λ no w.
             let m = meaning fresh.shard.f fresh.shard.index payload in
             let before = run (λ p among. no p (Contains-append_left all ((payload, s) ∷ []) p among)) w in
-            let events = one_more all payload s [] (ap (λ (b : Bool). cond b [] (event_if m s)) (lt-ltb room (length payload) long)) in
+            let events = one_more all payload s [] (rw (lt-ltb room (length payload) long) refl) in
             let last : Does digest mid no_event s None mid = (refl, refl) in
-            subst (λ (l : List (Event × List (List ℕ))). IsRunTo digest w fresh l None mid) (sym events)
-            (goes_on digest w fresh (events_in all) mid place before no_event s None mid (λ is. absurd cc) last),
+            rw events (goes_on digest w fresh (events_in all) mid place before no_event s None mid (λ is. absurd cc) last),
       )
 
   -- WHAT SERVING DOES is a run
