@@ -1,5 +1,5 @@
 -- States that are alike at an identifier answer a request of it alike, and are alike then.
-use Rattle.std.proofs.Common.{◌≡◌, ℕ, ◌+◌, ◌-◌, ◌<◌, ◌≤◌, Bool, true, false, cond, List, [], ◌∷◌, length, Option, Some, None, IsSome, Result, Ok, Err, inl, inr, refl, sym, ap, subst, ◌∙◌, arith}
+use Rattle.std.proofs.Common.{◌≡◌, ℕ, ◌-◌, ◌<◌, Bool, true, false, cond, List, [], ◌∷◌, length, Option, Some, None, Result, Ok, Err, inl, inr, refl, sym, ap, subst, ◌∙◌, arith}
 use Rattle.std.specs.Prelude.{IfSome}
 use Rattle.std.proofs.lemmas.Bool.{cases_lt}
 use Rattle.wal_shape.specs.declared.metadata.BlobId.{BlobId}
@@ -13,22 +13,22 @@ use Rattle.wal_ledger.specs.declared.entry.Kind.{Kind}
 use Rattle.wal_ledger.specs.declared.entry.Kind.TheVariants.{Holds, Denies}
 use Rattle.wal_ledger.specs.Ledger.{LedgerState, is_live}
 use Rattle.wal_store.specs.Answer.{HasRoom}
-use Rattle.wal_store.specs.Parts.{Parts, part_of, with_part, pages_for}
+use Rattle.wal_store.specs.Parts.{Parts, pages_for}
 use Rattle.wal_store.specs.Contents.{Contents, parts_at, part_at, with_bytes, cost, free_of, needed_for}
 use Rattle.wal_shard.specs.declared.answers.AckRefusal.{AckRefusal}
 use Rattle.wal_shard.specs.declared.answers.AckRefusal.TheVariants as refusing
 use Rattle.wal_shard.specs.declared.answers.PutAnswer.{PutAnswer}
 use Rattle.wal_shard.specs.declared.answers.PutAnswer.TheVariants as putting
-use Rattle.wal_shard.specs.Holding.{SymbolReplies, read_reply_of, HoldsMetadata, has_proof}
+use Rattle.wal_shard.specs.Holding.{SymbolReplies, read_reply_of, has_proof}
 use Rattle.wal_shard.specs.Putting.{IsAccepted, IsHeldIn, PutsOrWants, ShowsTexts, Verifies, put_id, put_part}
 use Rattle.wal_shard.specs.State.{desk}
 use Rattle.wal_shard.specs.Vouching.{Vouches, backs, MayForget, without_slivers}
 use Rattle.wal_serve.specs.State.{ServedState, holding, with_ledger, named}
-use Rattle.wal_serve.specs.Reply.{refused, done, put_reply, reply_text}
+use Rattle.wal_serve.specs.Reply.{refused, done, put_reply}
 use Rattle.wal_serve.specs.Requests.{ClaimEntered, Entered, Forgets, Registered, Vouched, unbacked, asked, forgotten, kept}
 use Rattle.wal_serve.specs.Answers.{AnswersRead, AnswersFrame, AnswersPut, AnswersEntry, AnswersForget, IsReplyOutcome, IsReplied}
 use Rattle.wal_served.specs.Steps.{TellsWant, answer_text}
-use Rattle.wal_served.specs.Local.{about, about_read, AlikeAt, RoomFor, pages_in, entries_in, asks_entry, cost_with, tells, tells_entry}
+use Rattle.wal_served.specs.Local.{about, about_read, AlikeAt, RoomFor, pages_in, entries_in, asks_entry, tells, tells_entry}
 use Rattle.wal_served.proofs.Replies.{Reply}
 use Rattle.wal_served.proofs.Apart.{alike_one, stored_there, slivers_gone}
 use Rattle.wal_served.proofs.AlikeLedgers.{Follows, so_too, short, joined_ledgers, same_live, same_until, same_writing, open_too, invalid_too, claim_entered, registered_too, entered_too, rewritten}

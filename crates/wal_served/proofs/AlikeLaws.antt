@@ -1,5 +1,5 @@
 -- THE FIRST LAW: states that are alike at an identifier answer alike what regards it.
-use Rattle.std.proofs.Common.{◌≡◌, ℕ, ◌+◌, ◌≤◌, Bool, arith, true, false, ◌||◌, List, [], ◌∷◌, Option, Some, None, Result, Ok, Err, ◌⊎◌, inl, inr, refl, sym, ap, subst, ◌∙◌}
+use Rattle.std.proofs.Common.{◌≡◌, ℕ, ◌≤◌, Bool, arith, true, false, List, ◌∷◌, Option, Some, None, Result, Ok, Err, ◌⊎◌, inl, inr, refl, sym, ap, ◌∙◌}
 use Rattle.std.specs.Prelude.{is_some, IfSome}
 use Rattle.std.proofs.lemmas.Bool.{false≢true}
 use Rattle.wal_shape.specs.declared.metadata.BlobId.{BlobId}
@@ -8,20 +8,20 @@ use Rattle.wal_frame.specs.declared.frame.FrameError.{FrameError}
 use Rattle.wal_frame.specs.Frame.{Frame, Metadata, Sliver, Proof}
 use Rattle.wal_frame.specs.Reading.{read_of}
 use Rattle.wal_frame.specs.Stored.{stored_bytes}
-use Rattle.wal_store.specs.Contents.{Contents, with_bytes, needed_for}
+use Rattle.wal_store.specs.Contents.{Contents, needed_for}
 use Rattle.wal_shard.specs.declared.answers.PutAnswer.{PutAnswer}
 use Rattle.wal_shard.specs.declared.answers.PutAnswer.TheVariants as putting
-use Rattle.wal_shard.specs.Putting.{PutDesk, PutsOrWants, ShowsTexts, put_id, put_part}
+use Rattle.wal_shard.specs.Putting.{PutDesk, PutsOrWants, ShowsTexts, put_id}
 use Rattle.wal_shard.specs.State.{desk}
-use Rattle.wal_serve.specs.State.{ServedState, holding}
-use Rattle.wal_serve.specs.Reply.{done, put_reply, reply_text}
-use Rattle.wal_serve.specs.Answers.{AnswersRequest, AnswersRead, AnswersFrame, AnswersPut, IsReplyOutcome}
+use Rattle.wal_serve.specs.State.{ServedState}
+use Rattle.wal_serve.specs.Reply.{put_reply}
+use Rattle.wal_serve.specs.Answers.{AnswersRequest, AnswersRead, AnswersFrame, AnswersPut}
 use Rattle.wal_serve.specs.Determined.{SameButLast, SameFrames}
 use Rattle.wal_serve.specs.inside.Serving.{StopsWith}
 use Rattle.wal_serve.proofs.AnswerLaws.{read_stops}
 use Rattle.wal_serve.proofs.OneTable.{one_table}
-use Rattle.wal_served.specs.Steps.{TellsWant, answer_text}
-use Rattle.wal_served.specs.Local.{AlikeAt, AnswersAlike, AnswersWithRoom, RoomFor, WantsForMore, cost_with, tells, tells_entry}
+use Rattle.wal_served.specs.Steps.{TellsWant}
+use Rattle.wal_served.specs.Local.{AlikeAt, AnswersAlike, AnswersWithRoom, RoomFor, WantsForMore, tells, tells_entry}
 use Rattle.wal_served.proofs.Alike.{Carried, carries, wants, Fits, fits, full, fits_or_not, read_carried}
 
 -- ---- whether the keep may want memory
@@ -95,8 +95,7 @@ answers_alike digest id one other payload may_want also frames others clash seco
 
     by : Carried digest id other (read_of payload) frames clash new → Result_of
     by (carries there is alike) =
-        let same = one_table digest other payload frames others clash second there then is calm in
-        (
+        let same = one_table digest other payload frames others clash second there then is calm in (
           read_still digest other frames clash then also (read_of payload) (rw same.state at is),
           frames_by clash frames others same.frames same.last,
           rw same.state at alike,

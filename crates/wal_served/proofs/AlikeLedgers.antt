@@ -1,5 +1,5 @@
 -- Ledgers that are alike at an identifier answer a request of it alike, and are alike then.
-use Rattle.std.proofs.Common.{◌≡◌, ℕ, ◌+◌, ◌<◌, Bool, true, false, cond, ◌&&◌, nat_lt, List, [], ◌∷◌, inl, inr, refl, sym, ap, subst, ◌∙◌, arith}
+use Rattle.std.proofs.Common.{◌≡◌, ℕ, ◌<◌, Bool, true, false, List, [], ◌∷◌, inl, inr, refl, sym, ap, ◌∙◌, arith}
 use Rattle.std.proofs.lemmas.Bool.{cases_lt}
 use Rattle.std.proofs.lemmas.List.Sums.{fold_push}
 use Rattle.wal_shape.specs.declared.metadata.BlobId.{BlobId}
@@ -12,8 +12,8 @@ use Rattle.wal_ledger.specs.declared.entry.Body.TheVariants.{Register}
 use Rattle.wal_ledger.specs.declared.entry.Entry.{Entry}
 use Rattle.wal_ledger.specs.declared.entry.Kind.{Kind}
 use Rattle.wal_ledger.specs.declared.entry.Kind.TheVariants.{Denies}
-use Rattle.wal_ledger.specs.Shards.{committee_size, count_below, quorum_size}
-use Rattle.wal_ledger.specs.Ledger.{Log, History, LedgerState, reading, writing, is_moving, owners_at, names, history_after, own_entries, until_of, until_among, is_live, is_signer_among, signers, signer_count, entered, takes_in, IsInvalid}
+use Rattle.wal_ledger.specs.Shards.{quorum_size}
+use Rattle.wal_ledger.specs.Ledger.{Log, History, LedgerState, reading, writing, names, history_after, own_entries, until_of, is_live, signers, signer_count, entered, takes_in, IsInvalid}
 use Rattle.wal_ledger.specs.Answers.{IsOpen, MayClaim, MayRegister, Claims, Claimed, acked, claim_of}
 use Rattle.wal_ledger.proofs.Handover.{history_of-epoch}
 use Rattle.wal_ledger.proofs.RowsPlace.{id_same}

@@ -1,5 +1,5 @@
 -- Acknowledgements and attestations that a shard serves, as steps of the world.
-use Rattle.std.proofs.Common.{◌≡◌, ◌≢◌, ℕ, ◌<◌, ◌≤◌, Bool, true, false, cond, nat_eq, nat_lt, List, Option, Some, Ok, Err, ◌⊎◌, inl, inr, refl, sym, ap, subst}
+use Rattle.std.proofs.Common.{◌≡◌, ◌≢◌, ℕ, Bool, true, false, cond, nat_eq, nat_lt, List, Option, Some, Ok, Err, inl, inr, refl, ap}
 use Rattle.std.proofs.lemmas.Bool.{eqb-false, lt-ltb, le-ltb, cases_lt}
 use Rattle.wal_shape.specs.declared.metadata.BlobId.{BlobId}
 use Rattle.wal_shape.specs.declared.text.MetaClash.{MetaClash}
@@ -28,7 +28,7 @@ use Rattle.wal_serve.specs.State.{ServedState, with_ledger}
 use Rattle.wal_serve.specs.Reply.{reply, refused, refusal_reply}
 use Rattle.wal_serve.specs.Requests.{ClaimEntered, Vouched, unbacked, asked, Entered, of_committee, of_none}
 use Rattle.wal_serve.specs.Answers.{IsReplyOutcome}
-use Rattle.wal_served.specs.Steps.{world_of, IsDesk, an_event, own_entry, no_event, entry_of, frame_of, Does}
+use Rattle.wal_served.specs.Steps.{world_of, IsDesk, an_event, no_event, entry_of, frame_of, Does}
 use Rattle.wal_served.proofs.Worlds.{may_post, declines, may_say, ledger_same, world_same}
 use Rattle.wal_served.proofs.Replies.{Reply, takes, lacks}
 

@@ -1,5 +1,5 @@
 -- What is put to a shard that serves, and what it lets go, as steps of the world.
-use Rattle.std.proofs.Common.{◌≡◌, ℕ, Bool, List, Option, Some, None, Result, Ok, inl, inr, refl, sym, ap, subst, ◌∙◌}
+use Rattle.std.proofs.Common.{◌≡◌, ℕ, Bool, List, Option, Some, None, Result, Ok, inl, inr, refl}
 use Rattle.wal_shape.specs.declared.metadata.BlobId.{BlobId}
 use Rattle.wal_shape.specs.declared.text.MetaClash.{MetaClash}
 use Rattle.wal_shape.specs.declared.axis.Side.TheVariants.{Now}
@@ -17,15 +17,15 @@ use Rattle.wal_shard.specs.declared.answers.PutAnswer.{PutAnswer}
 use Rattle.wal_shard.specs.declared.answers.PutAnswer.TheVariants as putting
 use Rattle.wal_shard.specs.Putting.{CanBePut, IsAccepted, Puts, PutsOrWants}
 use Rattle.wal_shard.specs.State.{desk, desk_of}
-use Rattle.wal_shard.specs.Vouching.{MayForget, without_slivers}
-use Rattle.wal_protocol.specs.State.{World, keeps}
+use Rattle.wal_shard.specs.Vouching.{without_slivers}
+use Rattle.wal_protocol.specs.State.{World}
 use Rattle.wal_protocol.specs.Step as step
 use Rattle.wal_theorem.specs.Instance.{rules_of}
 use Rattle.wal_serve.specs.State.{ServedState, holding}
 use Rattle.wal_serve.specs.Reply.{reply, done, refused, put_reply}
 use Rattle.wal_serve.specs.Requests.{IsPutRequest, Forgets, forgotten, kept}
 use Rattle.wal_serve.specs.Answers.{IsReplyOutcome}
-use Rattle.wal_served.specs.Steps.{world_of, IsDesk, an_event, send_frame, TellsClash, Does}
+use Rattle.wal_served.specs.Steps.{world_of, IsDesk, an_event, send_frame, Does}
 use Rattle.wal_served.proofs.Worlds.{here, contents_here, keeps_then, holding_same, world_same}
 use Rattle.wal_served.proofs.Replies.{Reply, takes, lacks}
 

@@ -1,16 +1,14 @@
 -- What a shard that serves replies of what it holds is the world's true reply.
-use Rattle.std.proofs.Common.{◌≡◌, ℕ, Bool, cond, List, [], ◌∷◌, ◌++◌, Option, Some, None, Ok, refl, sym, ap, subst, ◌∙◌}
+use Rattle.std.proofs.Common.{◌≡◌, ℕ, List, [], Option, None, Ok, refl, sym, subst}
 use Rattle.wal_shape.specs.declared.axis.Axis.{Axis}
 use Rattle.wal_shape.specs.declared.axis.Side.TheVariants.{Now}
 use Rattle.wal_shape.specs.declared.text.MetaClash.{MetaClash}
-use Rattle.wal_shape.specs.MetadataReading.{spelled_metadata}
-use Rattle.wal_shape.specs.Spelling.{metadata_text}
 use Rattle.wal_event.specs.declared.event.Reply.TheVariants as said_by
-use Rattle.wal_frame.specs.Frame.{Read, Symbol, metadata_frame}
+use Rattle.wal_frame.specs.Frame.{Read, Symbol}
 use Rattle.wal_store.specs.Parts.{Parts}
 use Rattle.wal_store.specs.Contents.{parts_at}
-use Rattle.wal_shard.specs.Holding.{SymbolReplies, OpeningReply, given, not_held, no_shard, read_reply_of, metadata_reply, proof_reply, payload_if}
-use Rattle.wal_protocol.specs.State.{World, side_of, held}
+use Rattle.wal_shard.specs.Holding.{SymbolReplies, OpeningReply, given, not_held, no_shard, read_reply_of}
+use Rattle.wal_protocol.specs.State.{World, held}
 use Rattle.wal_protocol.specs.Step.{reply_payloads, IsReplyOf}
 use Rattle.wal_theorem.specs.Instance.{SymbolReply, silent, replies, rules_of}
 use Rattle.wal_serve.specs.State.{ServedState, named}

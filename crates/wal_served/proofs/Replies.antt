@@ -20,7 +20,7 @@ use Rattle.wal_serve.specs.State.{ServedState}
 use Rattle.wal_serve.specs.Reply.{reply_text}
 use Rattle.wal_serve.specs.Answers.{IsReplyOutcome}
 use Rattle.wal_served.specs.Local.{tells_entry}
-use Rattle.wal_served.specs.Steps.{world_of, an_event, frame_of, IsTold, TellsClash, Does, answer_text, IsWant, IsRefused, TellsWant}
+use Rattle.wal_served.specs.Steps.{world_of, an_event, frame_of, IsTold, Does, answer_text, IsWant, IsRefused, TellsWant}
 
 -- the type of what is replied, whose name is the serving crate's own
 abbrev domain_of : {A B : Type 0} → (A → B) → Type 0

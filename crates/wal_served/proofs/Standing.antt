@@ -1,5 +1,5 @@
 -- What a shard comes to that began with nothing of an identifier: what it holds is sound and live, and its entries may be fed alone.
-use Rattle.std.proofs.Common.{◌≡◌, ℕ, ◌+◌, ◌<◌, ◌≤◌, ◌^◌, Bool, true, false, max, List, [], ◌∷◌, ◌++◌, length, Option, Some, None, Result, ◌⊎◌, inl, inr, refl, sym, ap, subst, ◌∙◌, arith}
+use Rattle.std.proofs.Common.{◌≡◌, ℕ, ◌+◌, ◌<◌, ◌≤◌, ◌^◌, Bool, true, false, max, List, [], ◌∷◌, ◌++◌, length, Option, Some, None, ◌⊎◌, inl, inr, refl, sym, ap, ◌∙◌, arith}
 use Rattle.std.specs.List.{flat_map}
 use Rattle.std.proofs.lemmas.Bool.{cases_lt, ltb-true, false≢true}
 use Rattle.std.proofs.lemmas.List.{length-append}
@@ -8,7 +8,6 @@ use Rattle.wal_shape.specs.declared.metadata.BlobId.{BlobId}
 use Rattle.wal_shape.specs.declared.part.Part.TheVariants as parts
 use Rattle.wal_shape.specs.declared.text.MetaClash.{MetaClash}
 use Rattle.wal_shape.specs.Identifiers.{id_eq}
-use Rattle.wal_frame.specs.declared.frame.FrameError.{FrameError}
 use Rattle.wal_frame.specs.Frame.{Frame, Metadata, Sliver, Proof, RegisterEntry, AckEntry, AttestEntry, IsFrame, IsId, frame_text, envelope}
 use Rattle.wal_frame.specs.Reading.{read_of}
 use Rattle.wal_frame.specs.Stored.{stored_bytes}
@@ -18,11 +17,10 @@ use Rattle.wal_ledger.specs.declared.answers.AckAnswer.TheVariants as acking
 use Rattle.wal_ledger.specs.declared.answers.RegisterAnswer.TheVariants as registering
 use Rattle.wal_ledger.specs.declared.entry.Entry.{Entry}
 use Rattle.wal_ledger.specs.declared.entry.Body.{Body}
-use Rattle.wal_ledger.specs.declared.entry.Body.TheVariants.{Register}
 use Rattle.wal_ledger.specs.declared.entry.Kind.{Kind}
 use Rattle.wal_ledger.specs.declared.entry.Kind.TheVariants.{Holds, Denies}
 use Rattle.wal_ledger.specs.Shards.{committee_size, quorum_size}
-use Rattle.wal_ledger.specs.Ledger.{Log, LedgerState, reading, writing, is_moving, own_entries, until_of, until_among, until_in, is_live, signer_count, entered, takes_in}
+use Rattle.wal_ledger.specs.Ledger.{Log, LedgerState, reading, writing, is_moving, own_entries, until_of, until_among, until_in, signer_count, entered, takes_in}
 use Rattle.wal_ledger.specs.Answers.{Claims, acked, claim_of}
 use Rattle.wal_ledger.proofs.RowsPlace.{id_itself, id_same}
 use Rattle.wal_ledger.proofs.Handover.{until_push}
@@ -36,9 +34,9 @@ use Rattle.wal_shard.specs.Vouching.{without_slivers}
 use Rattle.wal_shard.proofs.HeldLaws.{sliver_then, proof_then}
 use Rattle.wal_shard.proofs.Soundness.{none_sound, metadata_sound, without_sliver_sound}
 use Rattle.wal_serve.specs.State.{ServedState, holding, with_ledger}
-use Rattle.wal_serve.specs.Reply.{reply_text, done, ack_reply}
+use Rattle.wal_serve.specs.Reply.{done, ack_reply}
 use Rattle.wal_serve.specs.Requests.{Entered, of_committee}
-use Rattle.wal_serve.specs.Answers.{AnswersRequest, AnswersRead, AnswersFrame}
+use Rattle.wal_serve.specs.Answers.{AnswersRequest, AnswersFrame}
 use Rattle.wal_serve.specs.Room.{AsksOnly}
 use Rattle.wal_serve.specs.Serving as serving
 use Rattle.wal_serve.specs.Serving.{Replies, looked_at, read_past, Served, more}

@@ -1,5 +1,5 @@
 -- What serving does are steps of the world.
-use Rattle.std.proofs.Common.{◌≡◌, ℕ, Bool, true, ◌||◌, List, [], ◌∷◌, Option, None, Result, Ok, Err, inr, refl, sym, ap, subst, ◌∙◌}
+use Rattle.std.proofs.Common.{◌≡◌, ℕ, Bool, true, List, [], ◌∷◌, Option, None, Result, Ok, Err, inr, refl, ap}
 use Rattle.wal_shape.specs.declared.metadata.BlobId.{BlobId}
 use Rattle.wal_shape.specs.declared.text.MetaClash.{MetaClash}
 use Rattle.wal_shape.specs.declared.axis.Side.TheVariants.{Now}
@@ -20,7 +20,7 @@ use Rattle.wal_serve.specs.Requests.{Registered, Vouched, Entered}
 use Rattle.wal_serve.specs.Answers.{IsReplyOutcome, AnswersRequest, AnswersRead, AnswersPut, AnswersEntry}
 use Rattle.wal_serve.specs.Serving.{Replies, looked_at, read_past, Served, none, more}
 use Rattle.wal_served.specs.Steps.{world_of, IsDesk, Meaning, an_event, read_meaning, IsRefused, answer_text, Does, RepliesTruly, Stepped, AreSteps}
-use Rattle.wal_served.specs.Local.{tells, tells_entry}
+use Rattle.wal_served.specs.Local.{tells_entry}
 use Rattle.wal_served.proofs.Worlds.{ledger_same, world_same, desk_entered, desk_holding}
 use Rattle.wal_served.proofs.Replies.{Reply, made_stays, takes, lacks}
 use Rattle.wal_served.proofs.Changes.{Change, no_change, part_stored, slivers_went, entry_made, enter_plain, changes}

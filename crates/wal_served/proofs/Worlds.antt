@@ -1,5 +1,5 @@
 -- The world of a shard that serves: its committee, and what an answer leaves of it.
-use Rattle.std.proofs.Common.{◌≡◌, ◌≢◌, ℕ, ◌<◌, Bool, true, false, cond, not, nat_eq, List, refl, sym, ap, subst, ◌∙◌, eq-eqb, arith}
+use Rattle.std.proofs.Common.{◌≡◌, ◌≢◌, ℕ, ◌<◌, Bool, true, false, cond, not, nat_eq, List, refl, sym, ap, ◌∙◌, eq-eqb, arith}
 use Rattle.std.specs.FinMap as finmap
 use Rattle.std.specs.List.{range_with_len}
 use Rattle.std.proofs.lemmas.Bool.{eqb-true}
@@ -20,7 +20,7 @@ use Rattle.wal_ledger.proofs.HandoverEntries.{is_plain, plain_stays}
 use Rattle.wal_shard.specs.Vouching.{backs}
 use Rattle.wal_protocol.specs.State.{Committee, World, side_of, writing_side, is_correct, contents_of, held, with_contents, keeps}
 use Rattle.wal_protocol.specs.Run.{empty_committee}
-use Rattle.wal_protocol.specs.Step.{NodeAll, MayPost, Declines}
+use Rattle.wal_protocol.specs.Step.{MayPost, Declines}
 use Rattle.wal_protocol.proofs.Lookups.{held_is}
 use Rattle.wal_serve.specs.State.{ServedState, holding, with_ledger}
 use Rattle.wal_served.specs.Steps.{others, alone, world_of, IsDesk}
