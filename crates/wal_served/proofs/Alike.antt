@@ -1,5 +1,5 @@
 -- States that are alike at an identifier answer a request of it alike, and are alike then.
-use Rattle.std.proofs.Common.{◌≡◌, ℕ, ◌+◌, ◌-◌, ◌<◌, ◌≤◌, Bool, true, false, cond, List, [], ◌∷◌, length, Option, Some, None, IsSome, Result, Ok, Err, inl, inr, refl, sym, ap, subst, ◌∙◌, arith}
+use Rattle.std.proofs.Common.{◌≡◌, ℕ, ◌-◌, ◌<◌, Bool, true, false, cond, List, [], ◌∷◌, length, Option, Some, None, Result, Ok, Err, inl, inr, refl, sym, ap, subst, ◌∙◌, arith}
 use Rattle.std.specs.Prelude.{IfSome}
 use Rattle.std.proofs.lemmas.Bool.{cases_lt}
 use Rattle.wal_shape.specs.declared.metadata.BlobId.{BlobId}
@@ -13,22 +13,22 @@ use Rattle.wal_ledger.specs.declared.entry.Kind.{Kind}
 use Rattle.wal_ledger.specs.declared.entry.Kind.TheVariants.{Holds, Denies}
 use Rattle.wal_ledger.specs.Ledger.{LedgerState, is_live}
 use Rattle.wal_store.specs.Answer.{HasRoom}
-use Rattle.wal_store.specs.Parts.{Parts, part_of, with_part, pages_for}
+use Rattle.wal_store.specs.Parts.{Parts, pages_for}
 use Rattle.wal_store.specs.Contents.{Contents, parts_at, part_at, with_bytes, cost, free_of, needed_for}
 use Rattle.wal_shard.specs.declared.answers.AckRefusal.{AckRefusal}
 use Rattle.wal_shard.specs.declared.answers.AckRefusal.TheVariants as refusing
 use Rattle.wal_shard.specs.declared.answers.PutAnswer.{PutAnswer}
 use Rattle.wal_shard.specs.declared.answers.PutAnswer.TheVariants as putting
-use Rattle.wal_shard.specs.Holding.{SymbolReplies, read_reply_of, HoldsMetadata, has_proof}
+use Rattle.wal_shard.specs.Holding.{SymbolReplies, read_reply_of, has_proof}
 use Rattle.wal_shard.specs.Putting.{IsAccepted, IsHeldIn, PutsOrWants, ShowsTexts, Verifies, put_id, put_part}
 use Rattle.wal_shard.specs.State.{desk}
 use Rattle.wal_shard.specs.Vouching.{Vouches, backs, MayForget, without_slivers}
 use Rattle.wal_serve.specs.State.{ServedState, holding, with_ledger, named}
-use Rattle.wal_serve.specs.Reply.{refused, done, put_reply, reply_text}
+use Rattle.wal_serve.specs.Reply.{refused, done, put_reply}
 use Rattle.wal_serve.specs.Requests.{ClaimEntered, Entered, Forgets, Registered, Vouched, unbacked, asked, forgotten, kept}
 use Rattle.wal_serve.specs.Answers.{AnswersRead, AnswersFrame, AnswersPut, AnswersEntry, AnswersForget, IsReplyOutcome, IsReplied}
 use Rattle.wal_served.specs.Steps.{TellsWant, answer_text}
-use Rattle.wal_served.specs.Local.{about, about_read, AlikeAt, RoomFor, pages_in, entries_in, asks_entry, cost_with, tells, tells_entry}
+use Rattle.wal_served.specs.Local.{about, about_read, AlikeAt, RoomFor, pages_in, entries_in, asks_entry, tells, tells_entry}
 use Rattle.wal_served.proofs.Replies.{Reply}
 use Rattle.wal_served.proofs.Apart.{alike_one, stored_there, slivers_gone}
 use Rattle.wal_served.proofs.AlikeLedgers.{Follows, so_too, short, joined_ledgers, same_live, same_until, same_writing, open_too, invalid_too, claim_entered, registered_too, entered_too, rewritten}
@@ -60,9 +60,7 @@ pub data Carried (digest : List ℕ → List ℕ) (id : BlobId) (other : ServedS
 -- what holds of f, of the shard's number and of what is held in the one state holds of those in the other
 along : (id : BlobId) (one other : ServedState) → AlikeAt id one other → (P : ℕ → ℕ → Parts → Type 0) → P one.shard.f one.shard.index (parts_at one.shard.contents id)
     → P other.shard.f other.shard.index (parts_at other.shard.contents id)
-along id one other a P h =
-    subst (P other.shard.f other.shard.index) (sym a.parts)
-    (subst (λ (k : ℕ). P other.shard.f k (parts_at one.shard.contents id)) (sym a.index) (subst (λ (f : ℕ). P f one.shard.index (parts_at one.shard.contents id)) (sym a.faults) h))
+along id one other a P h = rw (a.parts, a.index, a.faults) h
 
 module _ (id : BlobId) (one other : ServedState) (a : AlikeAt id one other) where
   -- what is held came to be alike
@@ -84,9 +82,8 @@ module _ (id : BlobId) (one other : ServedState) (a : AlikeAt id one other) wher
   vouched_too : (kind : Kind) (r : Reply) (new : LedgerState) → Vouched kind one id r new → (r ≡ refused 10 → ⊥) → Follows id other.ledger new (Vouched kind other id) r
   vouched_too kind _ _ (unbacked why v) some = so_too other.ledger (unbacked why (vouches_too kind (Err why) v)) a.ledgers
   vouched_too kind _ _ (asked r new v claim) some =
-      let here : ClaimEntered kind one.ledger other.shard.index id r new = subst (λ (k : ℕ). ClaimEntered kind one.ledger k id r new) (sym a.index) claim in
       rewritten id other.ledger new (ClaimEntered kind other.ledger other.shard.index id) (Vouched kind other id) r (λ q l c. asked q l (vouches_too kind (Ok tt) v) c)
-      (claim_entered id one.ledger other.ledger a.ledgers other.shard.index new kind r here some)
+      (claim_entered id one.ledger other.ledger a.ledgers other.shard.index new kind r (rw a.index claim) some)
 
   module _ (digest : List ℕ → List ℕ) (frame : Frame) (frames : List (List ℕ)) (clash : Option MetaClash) (new : ServedState) where
     entry_carried : asks_entry frame ≡ true → (Makes Others : Reply → LedgerState → Type 0)
@@ -96,15 +93,15 @@ module _ (id : BlobId) (one other : ServedState) (a : AlikeAt id one other) wher
     entry_carried asks Makes Others answers follows some (r, ledger, makes, told, is) = by (follows r ledger makes not_want)
       where
         not_want : r ≡ refused 10 → ⊥
-        not_want e = some (10, 0, 0, inr (inr refl), told.0 ∙ ap (λ (x : Reply). reply_text x ∷ []) e)
+        not_want e = some (10, 0, 0, inr (inr refl), rw e at told.0)
 
         by : Follows id other.ledger ledger Others r → Carried digest id other (Ok frame) frames clash new
         by (so_too then says alike) =
             carries (with_ledger other then) (answers frames clash (with_ledger other then) (r, then, says, told, refl))
-            (subst (λ (x : ServedState). AlikeAt id x (with_ledger other then)) (sym is) (record { faults = a.faults; index = a.index; parts = a.parts; ledgers = alike }))
+            (rw is (record { faults = a.faults; index = a.index; parts = a.parts; ledgers = alike }))
         by (short none lacks tells_it) =
-            let made : tells_entry frames ≡ true = ap tells_entry told.0 ∙ tells_it in
-            let least : charged_entries (Ok frame) frames ≡ 1 = ap (λ (b : Bool). cond b (cond (asks_entry frame) 1 0) 0) made ∙ ap (λ (b : Bool). cond b 1 0) asks in
+            let made : tells_entry frames ≡ true = rw told.0 tells_it in
+            let least : charged_entries (Ok frame) frames ≡ 1 = rw (made, asks) refl in
             wants (answer_text 10 0 0 ∷ []) (10, 0, 0, inr (inr refl), refl) (answers (answer_text 10 0 0 ∷ []) None other (refused 10, other.ledger, lacks, (refl, refl), refl)) made
             (λ room. omega (arith, room.entries_fit, least, none))
 
@@ -119,18 +116,11 @@ pub data Fits (id : BlobId) (s : ServedState) (bytes : List ℕ) : Type 0 where
 pub fits_or_not : (id : BlobId) (s : ServedState) (bytes : List ℕ) → Fits id s bytes
 fits_or_not id s bytes = by s.shard.limit refl
   where
-    needs : ℕ
-    needs = needed_for s.shard.contents id bytes
-
-    Room : Option ℕ → Type 0
-    Room limit = HasRoom (free_of limit s.shard.contents) needs
-
     by : (limit : Option ℕ) → s.shard.limit ≡ limit → Fits id s bytes
-    by None is = fits (subst Room (sym is) tt)
-    by (Some most) is = elim (cases_lt (most - cost s.shard.contents) needs) [
-      | inl less ↦ full (most - cost s.shard.contents) (ap (λ (l : Option ℕ). free_of l s.shard.contents) is) less
-          (λ entries room. let fit = subst (λ (l : Option ℕ). IfSome l (λ m. cost_with s.shard.contents id + pages_for (length bytes) ≤ m)) is room.pages_fit in omega (arith, fit, less))
-      | inr enough ↦ fits (subst Room (sym is) enough)
+    by None is = fits (rw is tt)
+    by (Some most) is = elim (cases_lt (most - cost s.shard.contents) (needed_for s.shard.contents id bytes)) [
+      | inl less ↦ full (most - cost s.shard.contents) (rw is refl) less (λ entries room. omega (arith, rw is at room.pages_fit, less))
+      | inr enough ↦ fits (rw is enough)
     ]
 
 module _ (digest : List ℕ → List ℕ) (frame : Frame) (one other : ServedState) (a : AlikeAt (put_id digest frame) one other) where
@@ -138,34 +128,34 @@ module _ (digest : List ℕ → List ℕ) (frame : Frame) (one other : ServedSta
   q = put_id digest frame
 
   same_part : (part : Part) → part_at other.shard.contents q part ≡ part_at one.shard.contents q part
-  same_part part = ap (λ (p : Parts). part_of p part) a.parts
+  same_part part = rw a.parts refl
 
   accepted_too : IsAccepted digest (desk one.shard one.ledger.log) one.shard.contents frame → IsAccepted digest (desk other.shard other.ledger.log) other.shard.contents frame
   accepted_too is = record { live = live_too q one other a ∙ is.live; verified = along q one other a (λ f k p. Verifies digest f k p frame) is.verified }
 
   held_too : (x : Frame) → IsHeldIn one.shard.contents q x → IsHeldIn other.shard.contents q x
   held_too (Metadata m) is = same_part parts.Metadata ∙ is
-  held_too x is = subst (λ (o : Option (List ℕ)). IsSome o) (sym (same_part (put_part x))) is
+  held_too x is = rw (same_part (put_part x)) is
 
   texts_too : (answer : PutAnswer) → ShowsTexts digest one.shard.contents frame answer → ShowsTexts digest other.shard.contents frame answer
-  texts_too (putting.OtherMetadata clash) (m, held, is, holds, digested) = (m, held, is, subst (λ (p : Parts). HoldsMetadata p held) (sym a.parts) holds, digested)
+  texts_too (putting.OtherMetadata clash) (m, held, is, holds, digested) = (m, held, is, rw a.parts holds, digested)
   texts_too answer t = tt
 
   -- what is held once the part is stored
   stored_alike : (part : Part) (bytes : List ℕ) → parts_at (with_bytes other.shard.contents q part bytes) q ≡ parts_at (with_bytes one.shard.contents q part bytes) q
-  stored_alike part bytes = stored_there other.shard.contents q part bytes ∙ ap (λ (p : Parts). with_part p part (Some bytes)) a.parts ∙ sym (stored_there one.shard.contents q part bytes)
+  stored_alike part bytes = rw (stored_there other.shard.contents q part bytes, stored_there one.shard.contents q part bytes, a.parts) refl
 
   module _ (frames : List (List ℕ)) (clash : Option MetaClash) (new : ServedState) (some : TellsWant frames → ⊥) where
     put_carried : (may_want : Bool) → ((others : List (List ℕ)) (c : Option MetaClash) (then : ServedState) → AnswersPut digest false frame other others c then → AnswersFrame digest false frame other others c then)
         → AnswersPut digest may_want frame one frames clash new → Carried digest q other (Ok frame) frames clash new
-    put_carried may_want answers (outcome, contents, (answer, puts, same, shows), told, is) = by answer puts shows (subst (λ (o : _). IsReplyOutcome o frames clash) same told)
+    put_carried may_want answers (outcome, contents, (answer, puts, same, shows), told, is) = by answer puts shows (rw same at told)
       where
         -- an answer that leaves what is held
         same_answer : (x : PutAnswer) → PutsOrWants digest false (desk other.shard other.ledger.log) other.shard.contents frame x other.shard.contents
             → ShowsTexts digest one.shard.contents frame x → IsReplyOutcome (put_reply x) frames clash → contents ≡ one.shard.contents → Carried digest q other (Ok frame) frames clash new
         same_answer x p s t e =
             carries other (answers frames clash other (put_reply x, other.shard.contents, (x, p, refl, texts_too x s), t, refl))
-            (subst (λ (y : ServedState). AlikeAt q y other) (sym (is ∙ ap {B = ServedState} (holding one) e)) a)
+            (rw (is, e) a)
 
         stored : PutsOrWants digest may_want (desk one.shard one.ledger.log) one.shard.contents frame putting.Stored contents → IsReplyOutcome (put_reply putting.Stored) frames clash
             → Fits q other (stored_bytes frame) → Carried digest q other (Ok frame) frames clash new
@@ -173,11 +163,11 @@ module _ (digest : List ℕ → List ℕ) (frame : Frame) (one other : ServedSta
             let next = with_bytes other.shard.contents q (put_part frame) (stored_bytes frame) in
             carries (holding other next)
             (answers frames clash (holding other next) (put_reply putting.Stored, next, (putting.Stored, (accepted_too p.0, same_part (put_part frame) ∙ p.1, room, refl), refl, tt), t, refl))
-            (subst (λ (y : ServedState). AlikeAt q y (holding other next)) (sym (is ∙ ap {B = ServedState} (holding one) p.3))
+            (rw (is, p.3)
             (with_parts q one other a (with_bytes one.shard.contents q (put_part frame) (stored_bytes frame)) next (stored_alike (put_part frame) (stored_bytes frame))))
         stored p t (full free is_free less not) =
             let needs = needed_for other.shard.contents q (stored_bytes frame) in
-            let pages : charged_pages (Ok frame) frames ≡ pages_for (length (stored_bytes frame)) = ap (λ (b : Bool). cond b (pages_for (length (stored_bytes frame))) 0) (ap (tells 0) t.0) in
+            let pages : charged_pages (Ok frame) frames ≡ pages_for (length (stored_bytes frame)) = rw t.0 refl in
             wants (answer_text 6 needs free ∷ []) (6, needs, free, inl refl, refl)
             (answers (answer_text 6 needs free ∷ []) None other (
               put_reply (putting.Full needs free),
@@ -186,7 +176,7 @@ module _ (digest : List ℕ → List ℕ) (frame : Frame) (one other : ServedSta
               (refl, refl),
               refl,
             ))
-            (ap tells_entry t.0) (λ charged. not (charged_entries (Ok frame) frames) (subst (λ (n : ℕ). RoomFor q other n (charged_entries (Ok frame) frames)) pages charged))
+            (ap tells_entry t.0) (λ charged. not (charged_entries (Ok frame) frames) (rw pages at charged))
 
         by : (x : PutAnswer) → PutsOrWants digest may_want (desk one.shard one.ledger.log) one.shard.contents frame x contents → ShowsTexts digest one.shard.contents frame x
             → IsReplyOutcome (put_reply x) frames clash → Carried digest q other (Ok frame) frames clash new
@@ -195,7 +185,7 @@ module _ (digest : List ℕ → List ℕ) (frame : Frame) (one other : ServedSta
         by putting.Unverified p s t =
             let back = joined q one other one a (alike_one q one) in
             same_answer putting.Unverified
-            (live_too q one other a ∙ p.0, (λ rests. subst (λ (o : Option (List ℕ)). IsSome o) (sym (same_part parts.Metadata)) (p.1 rests)), (λ v. p.2 (along q other one back (λ f k x. Verifies digest f k x frame) v)), refl) s t p.3
+            (live_too q one other a ∙ p.0, (λ rests. rw (same_part parts.Metadata) (p.1 rests)), (λ v. p.2 (along q other one back (λ f k x. Verifies digest f k x frame) v)), refl) s t p.3
         by (putting.OtherMetadata texts) p s t =
             same_answer (putting.OtherMetadata texts) (accepted_too p.0, p.1, p.2, p.3, same_part parts.Metadata ∙ p.4, p.5, p.6, refl) s t p.7
         by putting.Held p s t = same_answer putting.Held (accepted_too p.0, held_too frame p.1, refl) s t p.2
@@ -218,12 +208,11 @@ forget_carried digest name one other a frames clash new (r, contents, forgets, t
     carried : (s : Reply) (c d : Contents) → Forgets other.ledger.log other.shard.contents id s d → parts_at d id ≡ parts_at c id → IsReplyOutcome (Ok s) frames clash → new ≡ holding one c
         → Carried digest id other (Ok (Forget name)) frames clash new
     carried s c d there parts t is =
-        carries (holding other d) (s, d, there, t, refl) (subst (λ (x : ServedState). AlikeAt id x (holding other d)) (sym is) (with_parts id one other a c d parts))
+        carries (holding other d) (s, d, there, t, refl) (rw is (with_parts id one other a c d parts))
 
     by : (s : Reply) (c : Contents) → Forgets one.ledger.log one.shard.contents id s c → IsReplyOutcome (Ok s) frames clash → new ≡ holding one c → Carried digest id other (Ok (Forget name)) frames clash new
     by s c (forgotten may) t is =
-        let gone = slivers_gone other.shard.contents id ∙ ap (λ (p : Parts). with_part (with_part p parts.Primary None) parts.Secondary None) a.parts ∙ sym (slivers_gone one.shard.contents id) in
-        carried s c (without_slivers other.shard.contents id) (forgotten (may_too id one other a may)) gone t is
+        carried s c (without_slivers other.shard.contents id) (forgotten (may_too id one other a may)) (rw (slivers_gone other.shard.contents id, slivers_gone one.shard.contents id, a.parts) refl) t is
     by s c (kept not) t is = carried s c other.shard.contents (kept (λ may. not (may_too id other one (joined id one other one a (alike_one id one)) may))) a.parts t is
 
 -- ---- each row
@@ -238,7 +227,7 @@ if_some None P p id e = absurd cc
 module _ (digest : List ℕ → List ℕ) (may_want : Bool) (one other : ServedState) (frames : List (List ℕ)) (clash : Option MetaClash) (new : ServedState) (some : TellsWant frames → ⊥) where
   -- nothing changes, and the same is answered
   nothing_changes : (id : BlobId) → AlikeAt id one other → (read : Result Frame FrameError) → AnswersRead digest false read other frames clash other → new ≡ one → Carried digest id other read frames clash new
-  nothing_changes id a read answers same = carries other answers (subst (λ (x : ServedState). AlikeAt id x other) (sym same) a)
+  nothing_changes id a read answers same = carries other answers (rw same a)
 
   at_frame : (frame : Frame) → AnswersFrame digest may_want frame one frames clash new → IfSome (about digest frame) (λ id. AlikeAt id one other → Carried digest id other (Ok frame) frames clash new)
   at_frame (Metadata m) h = λ a. put_carried digest (Metadata m) one other a frames clash new some may_want (λ x c y z. z) h

@@ -1,5 +1,5 @@
 -- THE FIRST LAW: states that are alike at an identifier answer alike what regards it.
-use Rattle.std.proofs.Common.{◌≡◌, ℕ, ◌+◌, ◌≤◌, Bool, arith, true, false, ◌||◌, List, [], ◌∷◌, Option, Some, None, Result, Ok, Err, ◌⊎◌, inl, inr, refl, sym, ap, subst, ◌∙◌}
+use Rattle.std.proofs.Common.{◌≡◌, ℕ, ◌≤◌, Bool, arith, true, false, List, ◌∷◌, Option, Some, None, Result, Ok, Err, ◌⊎◌, inl, inr, refl, sym, ap, ◌∙◌}
 use Rattle.std.specs.Prelude.{is_some, IfSome}
 use Rattle.std.proofs.lemmas.Bool.{false≢true}
 use Rattle.wal_shape.specs.declared.metadata.BlobId.{BlobId}
@@ -8,20 +8,20 @@ use Rattle.wal_frame.specs.declared.frame.FrameError.{FrameError}
 use Rattle.wal_frame.specs.Frame.{Frame, Metadata, Sliver, Proof}
 use Rattle.wal_frame.specs.Reading.{read_of}
 use Rattle.wal_frame.specs.Stored.{stored_bytes}
-use Rattle.wal_store.specs.Contents.{Contents, with_bytes, needed_for}
+use Rattle.wal_store.specs.Contents.{Contents, needed_for}
 use Rattle.wal_shard.specs.declared.answers.PutAnswer.{PutAnswer}
 use Rattle.wal_shard.specs.declared.answers.PutAnswer.TheVariants as putting
-use Rattle.wal_shard.specs.Putting.{PutDesk, PutsOrWants, ShowsTexts, put_id, put_part}
+use Rattle.wal_shard.specs.Putting.{PutDesk, PutsOrWants, ShowsTexts, put_id}
 use Rattle.wal_shard.specs.State.{desk}
-use Rattle.wal_serve.specs.State.{ServedState, holding}
-use Rattle.wal_serve.specs.Reply.{done, put_reply, reply_text}
-use Rattle.wal_serve.specs.Answers.{AnswersRequest, AnswersRead, AnswersFrame, AnswersPut, IsReplyOutcome}
+use Rattle.wal_serve.specs.State.{ServedState}
+use Rattle.wal_serve.specs.Reply.{put_reply}
+use Rattle.wal_serve.specs.Answers.{AnswersRequest, AnswersRead, AnswersFrame, AnswersPut}
 use Rattle.wal_serve.specs.Determined.{SameButLast, SameFrames}
 use Rattle.wal_serve.specs.inside.Serving.{StopsWith}
 use Rattle.wal_serve.proofs.AnswerLaws.{read_stops}
 use Rattle.wal_serve.proofs.OneTable.{one_table}
-use Rattle.wal_served.specs.Steps.{TellsWant, answer_text}
-use Rattle.wal_served.specs.Local.{AlikeAt, AnswersAlike, AnswersWithRoom, RoomFor, WantsForMore, cost_with, tells, tells_entry}
+use Rattle.wal_served.specs.Steps.{TellsWant}
+use Rattle.wal_served.specs.Local.{AlikeAt, AnswersAlike, AnswersWithRoom, RoomFor, WantsForMore, tells, tells_entry}
 use Rattle.wal_served.proofs.Alike.{Carried, carries, wants, Fits, fits, full, fits_or_not, read_carried}
 
 -- ---- whether the keep may want memory
@@ -56,18 +56,18 @@ module _ (digest : List ℕ → List ℕ) (old : ServedState) (frames : List (Li
         where
           by : (x : PutAnswer) → PutsOrWants digest may_want (desk old.shard old.ledger.log) old.shard.contents frame x contents → outcome ≡ put_reply x → ShowsTexts digest old.shard.contents frame x
               → AnswersPut digest false frame old frames clash new
-          by putting.Memory p same t = absurd (some (7, 0, 0, inr (inl refl), (subst (λ (o : _). IsReplyOutcome o frames clash) same told).0))
+          by putting.Memory p same t = absurd (some (7, 0, 0, inr (inl refl), (rw same at told).0))
           by x p same t = (outcome, contents, (x, p, same, t), told, then)
 
 -- ---- the law
 
 -- less needs less room
+pub fits_less : (limit : Option ℕ) (size less : ℕ) → IfSome limit (λ most. size ≤ most) → less ≤ size → IfSome limit (λ most. less ≤ most)
+fits_less None size less fit small = tt
+fits_less (Some most) size less fit small = omega arith
+
 pub less_room : (id : BlobId) (s : ServedState) (pages entries fewer less : ℕ) → RoomFor id s pages entries → fewer ≤ pages → less ≤ entries → RoomFor id s fewer less
-less_room id s pages entries fewer less room p e = record { pages_fit = by s.shard.limit room.pages_fit; entries_fit = omega (arith, room.entries_fit, e) }
-  where
-    by : (limit : Option ℕ) → IfSome limit (λ most. cost_with s.shard.contents id + pages ≤ most) → IfSome limit (λ most. cost_with s.shard.contents id + fewer ≤ most)
-    by None fit = tt
-    by (Some most) fit = omega (arith, fit, p)
+less_room id s pages entries fewer less room p e = record { pages_fit = fits_less s.shard.limit _ _ room.pages_fit (omega arith); entries_fit = omega (arith, room.entries_fit) }
 
 -- where there is room
 pub answers_with_room : (digest : List ℕ → List ℕ) → AnswersWithRoom digest
@@ -95,15 +95,13 @@ answers_alike digest id one other payload may_want also frames others clash seco
 
     by : Carried digest id other (read_of payload) frames clash new → Result_of
     by (carries there is alike) =
-        let same = one_table digest other payload frames others clash second there then is calm in
-        let reached = subst (λ (s : ServedState). AnswersRequest digest false other payload frames clash s) same.state is in (
-          read_still digest other frames clash then also (read_of payload) reached,
+        let same = one_table digest other payload frames others clash second there then is calm in (
+          read_still digest other frames clash then also (read_of payload) (rw same.state at is),
           frames_by clash frames others same.frames same.last,
-          subst (AlikeAt id new) same.state alike,
+          rw same.state at alike,
         )
     by (wants wanted want is more not) =
-        let same = one_table digest other payload wanted others None second other then is calm in
-        absurd (also_some (subst TellsWant (same.frames refl) want))
+        absurd (also_some (rw ((one_table digest other payload wanted others None second other then is calm).frames refl) at want))
 
 -- ---- want of room
 
@@ -114,9 +112,7 @@ first_byte _ = 0
 -- what tells of want of room ends no serving
 want_goes : (clash : Option MetaClash) (frames : List (List ℕ)) → StopsWith clash frames → TellsWant frames → clash ≡ None
 want_goes None frames stops want = refl
-want_goes (Some texts) frames stops (code, a, b, is, told) =
-    let kinds : 0x30 ≡ 0x31 = ap first_byte (sym told ∙ stops) in
-    absurd (omega (arith, kinds))
+want_goes (Some texts) frames stops (code, a, b, is, told) = absurd (omega (arith, ap first_byte (sym told ∙ stops)))
 
 -- an answer of a keep that never wants memory, which tells of want of room or that a part was stored
 data Beside (digest : List ℕ → List ℕ) (read : Result Frame FrameError) (s : ServedState) : Type 0 where
@@ -127,26 +123,15 @@ module _ (digest : List ℕ → List ℕ) (s : ServedState) (also : Bool) (frame
       → AnswersPut digest also frame s frames None new → Beside digest (Ok frame) s
   put_beside frame answers (outcome, contents, (answer, puts, is, shows), told, then) = by answer puts is shows
     where
-      q : BlobId
-      q = put_id digest frame
-
-      needs : ℕ
-      needs = needed_for s.shard.contents q (stored_bytes frame)
-
       -- there is room or there is none
-      accepted : PutsOrWants digest also (desk s.shard s.ledger.log) s.shard.contents frame putting.Memory contents → Fits q s (stored_bytes frame) → Beside digest (Ok frame) s
-      accepted p (fits room) =
-          let next = with_bytes s.shard.contents q (put_part frame) (stored_bytes frame) in
-          beside (reply_text (done 0) ∷ []) (holding s next)
-          (answers (reply_text (done 0) ∷ []) (holding s next) (put_reply putting.Stored, next, (putting.Stored, (p.1, p.2, room, refl), refl, tt), (refl, refl), refl)) (inr refl)
+      accepted : PutsOrWants digest also (desk s.shard s.ledger.log) s.shard.contents frame putting.Memory contents → Fits (put_id digest frame) s (stored_bytes frame) → Beside digest (Ok frame) s
+      accepted p (fits room) = beside _ _ (answers _ _ (put_reply putting.Stored, _, (putting.Stored, (p.1, p.2, room, refl), refl, tt), (refl, refl), refl)) (inr refl)
       accepted p (full free is_free less not) =
-          beside (answer_text 6 needs free ∷ []) s
-          (answers (answer_text 6 needs free ∷ []) s
-          (put_reply (putting.Full needs free), s.shard.contents, (putting.Full needs free, (p.1, p.2, is_free, refl, less, refl), refl, tt), (refl, refl), refl))
-          (inl (6, needs, free, inl refl, refl))
+          let refusal = putting.Full (needed_for s.shard.contents (put_id digest frame) (stored_bytes frame)) free in
+          beside _ _ (answers _ _ (put_reply refusal, s.shard.contents, (refusal, (p.1, p.2, is_free, refl, less, refl), refl, tt), (refl, refl), refl)) (inl (6, _, free, inl refl, refl))
 
       by : (x : PutAnswer) → PutsOrWants digest also (desk s.shard s.ledger.log) s.shard.contents frame x contents → outcome ≡ put_reply x → ShowsTexts digest s.shard.contents frame x → Beside digest (Ok frame) s
-      by putting.Memory p same t = accepted p (fits_or_not q s (stored_bytes frame))
+      by putting.Memory p same t = accepted p (fits_or_not (put_id digest frame) s (stored_bytes frame))
       by x p same t = beside frames new (answers frames new (outcome, contents, (x, p, same, t), told, then)) (inl want)
 
   read_beside : (read : Result Frame FrameError) → AnswersRead digest also read s frames None new → Beside digest read s
@@ -163,8 +148,7 @@ wants_for_more digest id one other payload may_want also frames others clash sec
   where
     goes_on : AnswersRead digest also (read_of payload) other others None then
     goes_on =
-        let goes = want_goes second others (read_stops digest also (read_of payload) other then others second answers_too) want in
-        subst (λ (c : Option MetaClash). AnswersRead digest also (read_of payload) other others c then) goes answers_too
+        rw (want_goes second others (read_stops digest also (read_of payload) other then others second answers_too) want) at answers_too
 
     by : Carried digest id other (read_of payload) frames clash new → Beside digest (read_of payload) other → tells_entry frames ≡ true
     by (wants wanted told is more not) there = more
@@ -174,5 +158,5 @@ wants_for_more digest id one other payload may_want also frames others clash sec
         same = (one_table digest other payload xs frames None clash n reached there is).frames refl
 
         so : TellsWant xs ⊎ (tells 0 xs ≡ true) → tells_entry frames ≡ true
-        so (inl wanted) = absurd (some (subst TellsWant same wanted))
-        so (inr stored) = ap (λ (b : Bool). b || (tells 13 frames || tells 14 frames)) (ap (tells 0) (sym same) ∙ stored)
+        so (inl wanted) = absurd (some (rw same at wanted))
+        so (inr stored) = rw (rw same at stored) refl

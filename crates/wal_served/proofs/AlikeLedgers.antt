@@ -1,5 +1,5 @@
 -- Ledgers that are alike at an identifier answer a request of it alike, and are alike then.
-use Rattle.std.proofs.Common.{◌≡◌, ℕ, ◌+◌, ◌<◌, Bool, true, false, cond, ◌&&◌, nat_lt, List, [], ◌∷◌, inl, inr, refl, sym, ap, subst, ◌∙◌, arith}
+use Rattle.std.proofs.Common.{◌≡◌, ℕ, ◌<◌, Bool, true, false, List, [], ◌∷◌, inl, inr, refl, sym, ap, ◌∙◌, arith}
 use Rattle.std.proofs.lemmas.Bool.{cases_lt}
 use Rattle.std.proofs.lemmas.List.Sums.{fold_push}
 use Rattle.wal_shape.specs.declared.metadata.BlobId.{BlobId}
@@ -12,8 +12,8 @@ use Rattle.wal_ledger.specs.declared.entry.Body.TheVariants.{Register}
 use Rattle.wal_ledger.specs.declared.entry.Entry.{Entry}
 use Rattle.wal_ledger.specs.declared.entry.Kind.{Kind}
 use Rattle.wal_ledger.specs.declared.entry.Kind.TheVariants.{Denies}
-use Rattle.wal_ledger.specs.Shards.{committee_size, count_below, quorum_size}
-use Rattle.wal_ledger.specs.Ledger.{Log, History, LedgerState, reading, writing, is_moving, owners_at, names, history_after, own_entries, until_of, until_among, is_live, is_signer_among, signers, signer_count, entered, takes_in, IsInvalid}
+use Rattle.wal_ledger.specs.Shards.{quorum_size}
+use Rattle.wal_ledger.specs.Ledger.{Log, History, LedgerState, reading, writing, names, history_after, own_entries, until_of, is_live, signers, signer_count, entered, takes_in, IsInvalid}
 use Rattle.wal_ledger.specs.Answers.{IsOpen, MayClaim, MayRegister, Claims, Claimed, acked, claim_of}
 use Rattle.wal_ledger.proofs.Handover.{history_of-epoch}
 use Rattle.wal_ledger.proofs.RowsPlace.{id_same}
@@ -56,8 +56,8 @@ other_entered id log b plain other =
   where
     by : (own : List Entry) → Owned log b id own → own ≡ own_entries log id
     by own (stays is n) = is
-    by own (grows is n live) = let e : true ≡ false = sym n ∙ other in cc
-    by own (anew is n registers le) = let e : true ≡ false = sym n ∙ other in cc
+    by own (grows is n live) = cc
+    by own (anew is n registers le) = cc
 
 -- what an entry makes of own entries, by the epochs alone
 abbrev own_after : BlobId → ℕ → ℕ → Body → List Entry → List Entry
@@ -70,28 +70,22 @@ own_entered id log b =
 
 module _ (id : BlobId) (one other : Log) (a : AlikeLedgers id one other) where
   pub same_writing : writing other ≡ writing one
-  same_writing = ap (λ (e : ℕ). e + cond (is_moving other) 1 0) a.epoch ∙ ap (λ (m : Bool). reading one + cond m 1 0) a.moving
+  same_writing = rw (a.epoch, a.moving) refl
 
   pub same_until : until_of other id ≡ until_of one id
-  same_until = ap until_among a.own
+  same_until = rw a.own refl
 
   pub same_live : is_live other id ≡ is_live one id
-  same_live = ap (λ (e : ℕ). nat_lt e (until_of other id)) a.epoch ∙ ap (nat_lt (reading one)) same_until
+  same_live = rw (a.epoch, a.own) refl
 
   same_signers : (kind : Kind) (epoch : ℕ) → signers other id kind epoch ≡ signers one id kind epoch
-  same_signers kind epoch =
-      ap (λ (o : List ℕ). is_signer_among o (own_entries other id) kind epoch) (a.owners epoch)
-      ∙ ap (λ (own : List Entry). is_signer_among (owners_at one epoch) own kind epoch) a.own
+  same_signers kind epoch = rw (a.owners epoch, a.own) refl
 
   same_count : (kind : Kind) (epoch : ℕ) → signer_count other id kind epoch ≡ signer_count one id kind epoch
-  same_count kind epoch =
-      ap (λ (f : ℕ). count_below (committee_size f) (signers other id kind epoch)) a.faults
-      ∙ ap (count_below (committee_size one.f)) (same_signers kind epoch)
+  same_count kind epoch = rw (a.faults, a.owners epoch, a.own) refl
 
   signed_now : (kind : Kind) (shard : ℕ) → signers other id kind (writing other) shard ≡ signers one id kind (writing one) shard
-  signed_now kind shard =
-      ap (λ (e : ℕ). signers other id kind e shard) same_writing
-      ∙ ap (λ (p : ℕ → Bool). p shard) (same_signers kind (writing one))
+  signed_now kind shard = rw (same_writing, a.owners (writing one), a.own) refl
 
   -- the same entry in both
   pub both_entered : (b : Body) → is_plain b ≡ true → AlikeLedgers id (entered one b) (entered other b)
@@ -103,11 +97,7 @@ module _ (id : BlobId) (one other : Log) (a : AlikeLedgers id one other) where
         epoch = there.reading ∙ a.epoch ∙ sym here.reading;
         moving = there.moving ∙ a.moving ∙ sym here.moving;
         owners = λ e. there.owners e ∙ a.owners e ∙ sym (here.owners e);
-        own = own_entered id other b
-            ∙ ap (λ (e : ℕ). own_after id e (writing other) b (own_entries other id)) a.epoch
-            ∙ ap (λ (e : ℕ). own_after id (reading one) e b (own_entries other id)) same_writing
-            ∙ ap (own_after id (reading one) (writing one) b) a.own
-            ∙ sym (own_entered id one b);
+        own = rw (own_entered id other b, own_entered id one b, same_writing, a.epoch, a.own) refl;
       }
 
   pub open_too : IsOpen one id → IsOpen other id
@@ -141,13 +131,13 @@ rewritten id other new P Q r f (short none lacks made) = short none (f (refused 
 module _ (id : BlobId) (one other : LedgerState) (a : AlikeLedgers id one.log other.log) (new : LedgerState) (Makes : Reply → LedgerState → Type 0) (r : Reply) where
   -- it says so, and leaves the ledger as it is
   both_same : new ≡ one → Makes r other → Follows id other new Makes r
-  both_same same says = so_too other says (subst (λ (l : LedgerState). AlikeLedgers id l.log other.log) (sym same) a)
+  both_same same says = so_too other says (rw same a)
 
   -- the same entry is made where there is room
   grown : (b : Body) → is_plain b ≡ true → new ≡ takes_in one b → IsMade r → (0 < other.spare → Makes r (takes_in other b)) → (other.spare ≡ 0 → Makes (refused 10) other) → Follows id other new Makes r
   grown b plain is made says lacks = elim (cases_lt 0 other.spare) [
-    | inl some ↦ so_too (takes_in other b) (says some) (subst (λ (l : LedgerState). AlikeLedgers id l.log (entered other.log b)) (sym is) (both_entered id one.log other.log a b plain))
-    | inr few ↦ let none : other.spare ≡ 0 = omega (arith, few) in short none (lacks none) made
+    | inl some ↦ so_too (takes_in other b) (says some) (rw is (both_entered id one.log other.log a b plain))
+    | inr few ↦ short (omega (arith, few)) (lacks (omega (arith, few))) made
   ]
 
 module _ (id : BlobId) (one other : LedgerState) (a : AlikeLedgers id one.log other.log) where
@@ -162,19 +152,16 @@ module _ (id : BlobId) (one other : LedgerState) (a : AlikeLedgers id one.log ot
       says answer e then h = of_claim kind other shard id r then (answer, h, e)
 
       quorum_same : quorum_size other.log.f ≡ quorum_size one.log.f
-      quorum_same = ap quorum_size a.faults
+      quorum_same = rw a.faults refl
 
       counted : (count : ℕ) → Claimed kind one shard id count new → IsMade r → ((then : LedgerState) → Claimed kind other shard id count then → Makes r then) → Follows id other new Makes r
       counted count is made said =
           let b = claim_of kind shard id in
           let may = claim_too id one.log other.log a kind shard is.0 in
           let two = both_entered id one.log other.log a b (claim_plain kind shard id) in
-          let here : signer_count new.log id kind (writing new.log) ≡ signer_count (entered one.log b) id kind (writing (entered one.log b))
-          = ap (λ (l : LedgerState). signer_count l.log id kind (writing l.log)) is.2 in
-          let there : signer_count (entered other.log b) id kind (writing (entered other.log b)) ≡ signer_count (entered one.log b) id kind (writing (entered one.log b))
-          = ap (signer_count (entered other.log b) id kind) (same_writing id (entered one.log b) (entered other.log b) two)
-          ∙ same_count id (entered one.log b) (entered other.log b) two kind (writing (entered one.log b)) in
-          grown id one other a new Makes r b (claim_plain kind shard id) is.2 made (λ room. said (takes_in other b) (may, room, refl, is.3 ∙ here ∙ sym there))
+          let same : signer_count (entered other.log b) id kind (writing (entered other.log b)) ≡ signer_count (entered one.log b) id kind (writing (entered one.log b))
+          = rw (same_writing id (entered one.log b) (entered other.log b) two) (same_count id (entered one.log b) (entered other.log b) two kind (writing (entered one.log b))) in
+          grown id one other a new Makes r b (claim_plain kind shard id) is.2 made (λ room. said (takes_in other b) (may, room, refl, rw is.2 at is.3 ∙ sym same))
           (λ none. of_claim kind other shard id (refused 10) other (acking.NoRoom, (may, none, refl), refl))
 
       by : (answer : AckAnswer) → Claims kind one shard id (acked answer) new → r ≡ ack_reply answer → Follows id other new Makes r
@@ -185,21 +172,20 @@ module _ (id : BlobId) (one other : LedgerState) (a : AlikeLedgers id one.log ot
       by acking.Already h e =
           both_same id one other a new Makes r h.2 (says acking.Already e other (open_too id one.log other.log a h.0, signed_now id one.log other.log a kind shard ∙ h.1, refl))
       by acking.NoRoom h e = absurd (some e)
-      by (acking.Counted count) h e = counted count h.0 (ap (λ (x : Reply). tells_entry (reply_text x ∷ [])) e) (λ then c. says (acking.Counted count) e then (c, omega (arith, quorum_same, h.1)))
-      by (acking.Certified count) h e = counted count h.0 (ap (λ (x : Reply). tells_entry (reply_text x ∷ [])) e) (λ then c. says (acking.Certified count) e then (c, omega (arith, quorum_same, h.1)))
+      by (acking.Counted count) h e = counted count h.0 (rw e refl) (λ then c. says (acking.Counted count) e then (c, omega (arith, quorum_same, h.1)))
+      by (acking.Certified count) h e = counted count h.0 (rw e refl) (λ then c. says (acking.Certified count) e then (c, omega (arith, quorum_same, h.1)))
 
   -- an entry of a shard that is answered
   pub entered_too : (kind : Kind) (shard : ℕ) (r : Reply) (new : LedgerState) → Entered kind one shard id r new → (r ≡ refused 10 → ⊥) → Follows id other new (Entered kind other shard id) r
   entered_too kind shard _ _ (of_committee r new less claim) some =
-      let here : shard < committee_size other.log.f = subst (λ (f : ℕ). shard < committee_size f) (sym a.faults) less in
-      rewritten id other new (ClaimEntered kind other shard id) (Entered kind other shard id) r (λ q l x. of_committee q l here x) (claim_entered shard new kind r claim some)
+      rewritten id other new (ClaimEntered kind other shard id) (Entered kind other shard id) r (λ q l x. of_committee q l (rw a.faults less) x) (claim_entered shard new kind r claim some)
   entered_too kind shard _ _ (of_none outside) some =
-      so_too other (of_none (λ less. outside (subst (λ (f : ℕ). shard < committee_size f) a.faults less))) a
+      so_too other (of_none (λ less. outside (rw a.faults at less))) a
 
   pub register_too : (until : ℕ) → MayRegister one.log id until → MayRegister other.log id until
   register_too until may = record {
     beyond = omega (arith, same_writing id one.log other.log a, may.beyond);
-    allowed = ap (λ (m : Bool). m && is_live other.log id) a.moving ∙ ap (λ (l : Bool). is_moving one.log && l) (same_live id one.log other.log a) ∙ may.allowed;
+    allowed = rw (a.moving, same_live id one.log other.log a) may.allowed;
   }
 
   -- a registration that is answered
@@ -212,7 +198,6 @@ module _ (id : BlobId) (one other : LedgerState) (a : AlikeLedgers id one.log ot
       let b = Register id until in
       let may = register_too until h.0 in
       let two = both_entered id one.log other.log a b refl in
-      let here : until_of new.log id ≡ until_of (entered one.log b) id = ap (λ (l : LedgerState). until_of l.log id) h.2 in
-      grown id one other a new (Registered other id until) r b refl h.2 (ap (λ (x : Reply). tells_entry (reply_text x ∷ [])) told)
-      (λ room. (registering.Registered most, (may, room, refl, h.3 ∙ here ∙ sym (same_until id (entered one.log b) (entered other.log b) two)), told))
+      grown id one other a new (Registered other id until) r b refl h.2 (rw told refl)
+      (λ room. (registering.Registered most, (may, room, refl, rw h.2 at h.3 ∙ sym (same_until id (entered one.log b) (entered other.log b) two)), told))
       (λ none. (registering.NoRoom, (may, none, refl), refl))

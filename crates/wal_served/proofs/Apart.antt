@@ -1,29 +1,27 @@
 -- What regards another identifier, or none, leaves a state alike; and what replies to readers rest on.
-use Rattle.std.proofs.Common.{◌≡◌, ℕ, Bool, true, false, cond, List, ◌∷◌, ◌++◌, Option, Some, None, Result, refl, sym, ap, subst, ◌∙◌}
+use Rattle.std.proofs.Common.{◌≡◌, ℕ, Bool, true, false, cond, List, Some, None, Result, refl, sym, ap, ◌∙◌}
 use Rattle.std.specs.FinMap as map_of
 use Rattle.std.specs.Ordering.{eq_by_cmp}
 use Rattle.wal_shape.specs.declared.axis.Axis.{Axis}
-use Rattle.wal_shape.specs.declared.axis.Axis.TheVariants as axes
 use Rattle.wal_shape.specs.declared.metadata.BlobId.{BlobId}
 use Rattle.wal_shape.specs.declared.part.Part.{Part}
 use Rattle.wal_shape.specs.declared.part.Part.TheVariants as parts
 use Rattle.wal_shape.specs.Identifiers.{id_cmp}
 use Rattle.wal_shape.specs.Shape.{crossing}
-use Rattle.wal_shape.specs.MetadataReading.{spelled_metadata}
 use Rattle.wal_shape.specs.Part.{sliver_part}
 use Rattle.wal_frame.specs.declared.frame.FrameError.{FrameError}
-use Rattle.wal_frame.specs.Frame.{metadata_frame, sliver_frame, Frame, Read, Symbol}
+use Rattle.wal_frame.specs.Frame.{Frame, Read, Symbol}
 use Rattle.wal_frame.specs.Reading.{read_of}
 use Rattle.wal_frame.specs.Stored.{stored_bytes}
 use Rattle.wal_store.specs.Parts.{Parts, with_part, part_of}
 use Rattle.wal_store.specs.Contents.{Contents, parts_at, with_bytes, without_part}
-use Rattle.wal_shard.specs.Holding.{OpeningReply, SymbolReplies, given, not_held, no_shard, HoldsMetadata, metadata_reply, proof_reply, payload_if, primary_reply, read_reply_of}
+use Rattle.wal_shard.specs.Holding.{OpeningReply, SymbolReplies, given, not_held, no_shard, HoldsMetadata, read_reply_of}
 use Rattle.wal_shard.specs.Putting.{put_id, put_part}
 use Rattle.wal_shard.specs.Vouching.{without_slivers}
 use Rattle.wal_shard.proofs.Changes.{ChangesAt, insert_changes, with_parts_changes, changed_there, same_id}
 use Rattle.wal_serve.specs.State.{ServedState, holding, named}
-use Rattle.wal_serve.specs.Answers.{AnswersRead, AnswersFrame, IsReplied}
-use Rattle.wal_served.specs.Local.{about_read, AlikeAt, LeavesAlike, SameParts, RestsOn, ReadsRestOn}
+use Rattle.wal_serve.specs.Answers.{AnswersFrame}
+use Rattle.wal_served.specs.Local.{about_read, AlikeAt, LeavesAlike, RestsOn, ReadsRestOn}
 use Rattle.wal_served.proofs.AlikeLedgers.{alike_itself, apart, other_entered}
 use Rattle.wal_served.proofs.Changes.{Change, no_change, part_stored, slivers_went, entry_made, enter_plain, enter_names, changes}
 
@@ -67,19 +65,18 @@ pub changed_elsewhere : (digest : List ℕ → List ℕ) (id : BlobId) (old : Se
 changed_elsewhere digest id old read frames new not change = by change
   where
     other : (q : BlobId) → about_read digest read ≡ Some q → q ≡ id → ⊥
-    other q about same = not (about ∙ ap (λ (x : BlobId). Some x) same)
+    other q about same = not (rw same at about)
 
     now_holding : (contents : Contents) → new ≡ holding old contents → parts_at contents id ≡ parts_at old.shard.contents id → AlikeAt id old new
-    now_holding contents is same = subst (AlikeAt id old) (sym is) (record { faults = refl; index = refl; parts = same; ledgers = alike_itself id old.ledger.log })
+    now_holding contents is same = rw is (record { faults = refl; index = refl; parts = same; ledgers = alike_itself id old.ledger.log })
 
     by : Change digest old read frames new → AlikeAt id old new
-    by (no_change same) = subst (AlikeAt id old) (sym same) (alike_one id old)
+    by (no_change same) = rw same (alike_one id old)
     by (part_stored frame reads part about told accepted none is) =
         now_holding _ is (stored_apart old.shard.contents id (put_id digest frame) (put_part frame) (stored_bytes frame) (other (put_id digest frame) about))
     by (slivers_went q about told is) = now_holding _ is (gone_apart old.shard.contents id q (other q about))
     by (entry_made q b about asks told may is) =
-        let log = other_entered id old.ledger.log b (enter_plain old q b may) (enter_names old q id b may ∙ apart q id (other q about)) in
-        subst (AlikeAt id old) (sym is) (record { faults = refl; index = refl; parts = refl; ledgers = log })
+        rw is (record { faults = refl; index = refl; parts = refl; ledgers = other_entered id old.ledger.log b (enter_plain old q b may) (enter_names old q id b may ∙ apart q id (other q about)) })
 
 -- THE SECOND LAW
 pub leaves_alike : (digest : List ℕ → List ℕ) → LeavesAlike digest
@@ -89,28 +86,15 @@ leaves_alike digest id old payload may_want frames clash new not answers =
 -- ---- what replies rest on
 
 module _ (digest : List ℕ → List ℕ) (name : List ℕ) (shard : ℕ) (p r : Parts) (metadata : r.metadata ≡ p.metadata) (proof : r.proof ≡ p.proof) where
-  same_metadata : metadata_reply r ≡ metadata_reply p
-  same_metadata = ap (λ (o : Option (List ℕ)). payload_if o (λ bytes. metadata_frame (spelled_metadata bytes))) metadata
-
-  same_proof : proof_reply name r ≡ proof_reply name p
-  same_proof = ap (λ (o : Option (List ℕ)). payload_if o (λ bytes. 0x13 ∷ (name ++ bytes))) proof
-
   held_too : (m : _) → HoldsMetadata p m → HoldsMetadata r m
   held_too m h = record { fit = h.fit; spelled = metadata ∙ h.spelled }
 
   pub read_rests : r.primary ≡ p.primary → read_reply_of name shard r ≡ read_reply_of name shard p
-  read_rests primary =
-      ap (λ (x : List (List ℕ)). x ++ (primary_reply name shard r ++ proof_reply name r)) same_metadata
-      ∙ ap (λ (o : Option (List ℕ)). metadata_reply p ++ (payload_if o (λ bytes. sliver_frame name axes.Primary shard bytes) ++ proof_reply name r)) primary
-      ∙ ap (λ (x : List (List ℕ)). metadata_reply p ++ (primary_reply name shard p ++ x)) same_proof
+  read_rests primary = rw (metadata, proof, primary) refl
 
   pub symbols_rest : (axis : Axis) (index : ℕ) (payloads : List (List ℕ)) → part_of r (sliver_part (crossing axis)) ≡ part_of p (sliver_part (crossing axis))
       → SymbolReplies digest name shard p axis index payloads → SymbolReplies digest name shard r axis index payloads
-  symbols_rest axis index payloads sliver (opening, replies, is) = (
-    opening,
-    by opening replies,
-    is ∙ ap (λ (x : List (List ℕ)). x ++ (opening ++ proof_reply name p)) (sym same_metadata) ∙ ap (λ (x : List (List ℕ)). metadata_reply r ++ (opening ++ x)) (sym same_proof),
-  )
+  symbols_rest axis index payloads sliver (opening, replies, is) = (opening, by opening replies, rw (metadata, proof) is)
     where
       by : (o : List (List ℕ)) → OpeningReply digest name shard p axis index o → OpeningReply digest name shard r axis index o
       by _ (given m bytes o holds held less cross opens) = given m bytes o (held_too m holds) (sliver ∙ held) less cross opens
@@ -119,28 +103,17 @@ module _ (digest : List ℕ → List ℕ) (name : List ℕ) (shard : ℕ) (p r :
 
 -- THE FOURTH LAW
 pub reads_rest_on : (digest : List ℕ → List ℕ) → ReadsRestOn digest
-reads_rest_on digest id sliver one other payload frame may_want also frames clash new reads rests same answers =
-    subst (λ (r : Result Frame FrameError). AnswersRead digest also r other frames clash other) (sym reads)
-    (by frame rests (subst (λ (r : Result Frame FrameError). AnswersRead digest may_want r one frames clash new) reads answers))
+reads_rest_on digest id sliver one other payload frame may_want also frames clash new reads rests same answers = rw reads (by frame rests (rw reads at answers))
   where
     by : (x : Frame) → RestsOn x id sliver → AnswersFrame digest may_want x one frames clash new → AnswersFrame digest also x other frames clash other
-    by (Read name) (is, primary) h = (there, refl)
-      where
-        s : SameParts (named name) axes.Primary one other
-        s = subst (λ (x : BlobId). SameParts x axes.Primary one other) is (subst (λ (a : Axis). SameParts id a one other) primary same)
-
-        there : IsReplied (read_reply_of name other.shard.index (parts_at other.shard.contents (named name))) frames clash
-        there =
-            subst (λ (k : ℕ). IsReplied (read_reply_of name k (parts_at other.shard.contents (named name))) frames clash) (sym s.index)
-            (subst (λ (f : List (List ℕ)). IsReplied f frames clash)
-            (sym (read_rests digest name one.shard.index (parts_at one.shard.contents (named name)) (parts_at other.shard.contents (named name)) s.metadata s.proof s.sliver_is)) h.0)
-    by (Symbol name axis index) (is, crosses) (payloads, replies, told, unchanged) = (payloads, there, told, refl)
-      where
-        s : SameParts (named name) (crossing axis) one other
-        s = subst (λ (x : BlobId). SameParts x (crossing axis) one other) is (subst (λ (a : Axis). SameParts id a one other) crosses same)
-
-        there : SymbolReplies digest name other.shard.index (parts_at other.shard.contents (named name)) axis index payloads
-        there =
-            subst (λ (k : ℕ). SymbolReplies digest name k (parts_at other.shard.contents (named name)) axis index payloads) (sym s.index)
-            (symbols_rest digest name one.shard.index (parts_at one.shard.contents (named name)) (parts_at other.shard.contents (named name)) s.metadata s.proof axis index payloads s.sliver_is replies)
+    by (Read name) (is, primary) h =
+        let s = rw (is, primary) at same in
+        (rw (s.index, read_rests digest name one.shard.index (parts_at one.shard.contents (named name)) (parts_at other.shard.contents (named name)) s.metadata s.proof s.sliver_is) h.0, refl)
+    by (Symbol name axis index) (is, crosses) (payloads, replies, told, unchanged) =
+        let s = rw (is, crosses) at same in (
+          payloads,
+          rw s.index (symbols_rest digest name one.shard.index (parts_at one.shard.contents (named name)) (parts_at other.shard.contents (named name)) s.metadata s.proof axis index payloads s.sliver_is replies),
+          told,
+          refl,
+        )
     by x rests h = absurd rests

@@ -1,5 +1,5 @@
 -- What a payload may change of a state: nothing, a part that is stored, slivers that go, or an entry that is made.
-use Rattle.std.proofs.Common.{◌≡◌, ℕ, ◌<◌, ◌≤◌, Bool, true, List, [], ◌∷◌, Option, Some, None, Result, Ok, Err, ◌⊎◌, inl, inr, refl, ap, subst, ◌∙◌}
+use Rattle.std.proofs.Common.{◌≡◌, ℕ, ◌<◌, ◌≤◌, Bool, true, List, [], ◌∷◌, Option, Some, None, Result, Ok, Err, ◌⊎◌, inl, inr, refl, ap}
 use Rattle.wal_shape.specs.declared.metadata.BlobId.{BlobId}
 use Rattle.wal_shape.specs.declared.text.MetaClash.{MetaClash}
 use Rattle.wal_shape.specs.Identifiers.{id_eq}
@@ -61,20 +61,18 @@ module _ (digest : List ℕ → List ℕ) (may_want : Bool) (old : ServedState) 
   Changes read = Change digest old read frames new
 
   by_put : (frame : Frame) → CanBePut frame → about_read digest (Ok frame) ≡ Some (put_id digest frame) → AnswersPut digest may_want frame old frames clash new → Changes (Ok frame)
-  by_put frame part about (outcome, contents, (answer, puts, same, shows), told, is) = by answer puts (subst (λ (o : _). IsReplyOutcome o frames clash) same told)
+  by_put frame part about (outcome, contents, (answer, puts, same, shows), told, is) = by answer puts (rw same at told)
     where
       same_held : contents ≡ old.shard.contents → Changes (Ok frame)
-      same_held e = no_change (is ∙ ap {B = ServedState} (holding old) e)
+      same_held e = no_change (rw e at is)
 
       by : (a : PutAnswer) → PutsOrWants digest may_want (desk old.shard old.ledger.log) old.shard.contents frame a contents → IsReplyOutcome (put_reply a) frames clash → Changes (Ok frame)
-      by putting.Stored p t = part_stored frame refl part about (ap (tells 0) t.0) p.0 p.1 (is ∙ ap {B = ServedState} (holding old) p.3)
+      by putting.Stored p t = part_stored frame refl part about (rw t.0 refl) p.0 p.1 (rw p.3 at is)
       by putting.Held p t = same_held p.2
       by putting.Unregistered p t = same_held p.1
-      by putting.NoMetadata p t = same_held p.3
-      by putting.Unverified p t = same_held p.3
       by (putting.OtherMetadata texts) p t = same_held p.7
       by (putting.Full needed free) p t = same_held p.5
-      by putting.Memory p t = same_held p.3
+      by _ p t = same_held p.3
 
   by_forget : (name : List ℕ) → AnswersForget (named name) old frames clash new → Changes (Ok (Forget name))
   by_forget name (r, contents, forgets, told, is) = by r contents forgets told.0 is
@@ -87,27 +85,25 @@ module _ (digest : List ℕ → List ℕ) (may_want : Bool) (old : ServedState) 
   module _ (read : Result Frame FrameError) (q : BlobId) (about : about_read digest read ≡ Some q) (asks : entries_in read ≡ 1) where
     module _ (r : Reply) (ledger : LedgerState) (told : IsReplyOutcome (Ok r) frames clash) (is : new ≡ with_ledger old ledger) where
       stays_so : ledger ≡ old.ledger → Changes read
-      stays_so e = no_change (is ∙ ap {B = ServedState} (with_ledger old) e)
+      stays_so e = no_change (rw e at is)
 
       made : (b : Body) → Enterable old q b → tells_entry (reply_text r ∷ []) ≡ true → ledger ≡ takes_in old.ledger b → Changes read
-      made b may tells_it e = entry_made q b about asks (ap tells_entry told.0 ∙ tells_it) may (is ∙ ap {B = ServedState} (with_ledger old) e)
+      made b may tells_it e = entry_made q b about asks (rw told.0 tells_it) may (rw e at is)
 
       by_claim : (kind : Kind) (shard : ℕ) → (shard < committee_size old.ledger.log.f) ⊎ (shard ≡ old.shard.index) → IsClaimed kind old.ledger shard q r ledger → Changes read
-      by_claim kind shard place (answer, claims, same) = by answer claims (ap (λ (x : Reply). tells_entry (reply_text x ∷ [])) same)
+      by_claim kind shard place (answer, claims, same) = by answer claims (rw same refl)
         where
           by : (a : AckAnswer) → Claims kind old.ledger shard q (acked a) ledger → tells_entry (reply_text r ∷ []) ≡ tells_entry (reply_text (ack_reply a) ∷ []) → Changes read
           by acking.Unregistered h t = stays_so h.1
-          by acking.Expires h t = stays_so h.2
-          by acking.NoRoom h t = stays_so h.2
-          by acking.Already h t = stays_so h.2
-          by (acking.Counted count) h t = made (claim_of kind shard q) (to_claim kind shard h.0.0 place) t h.0.2
-          by (acking.Certified count) h t = made (claim_of kind shard q) (to_claim kind shard h.0.0 place) t h.0.2
+          by (acking.Counted count) h t = made _ (to_claim kind shard h.0.0 place) t h.0.2
+          by (acking.Certified count) h t = made _ (to_claim kind shard h.0.0 place) t h.0.2
+          by _ h t = stays_so h.2
 
       by_register : (until : ℕ) → until ≤ 65536 → Registered old.ledger q until r ledger → Changes read
       by_register until low (registering.Past, h, t) = stays_so h.1
       by_register until low (registering.MovingExtension, h, t) = absurd t
       by_register until low (registering.NoRoom, h, t) = stays_so h.2
-      by_register until low (registering.Registered most, h, t) = made (Register q until) (to_register until h.0 low) (ap (λ (x : Reply). tells_entry (reply_text x ∷ [])) t) h.2
+      by_register until low (registering.Registered most, h, t) = made (Register q until) (to_register until h.0 low) (rw t refl) h.2
 
     by_vouched : (kind : Kind) → AnswersEntry (Vouched kind old q) old frames clash new → Changes read
     by_vouched kind (r, ledger, vouched, told, is) = by r ledger vouched told is

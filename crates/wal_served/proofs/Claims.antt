@@ -1,5 +1,5 @@
 -- Acknowledgements and attestations that a shard serves, as steps of the world.
-use Rattle.std.proofs.Common.{◌≡◌, ◌≢◌, ℕ, ◌<◌, ◌≤◌, Bool, true, false, cond, nat_eq, nat_lt, List, Option, Some, Ok, Err, ◌⊎◌, inl, inr, refl, sym, ap, subst}
+use Rattle.std.proofs.Common.{◌≡◌, ◌≢◌, ℕ, Bool, true, false, cond, nat_eq, nat_lt, List, Option, Some, Ok, Err, inl, inr, refl, ap}
 use Rattle.std.proofs.lemmas.Bool.{eqb-false, lt-ltb, le-ltb, cases_lt}
 use Rattle.wal_shape.specs.declared.metadata.BlobId.{BlobId}
 use Rattle.wal_shape.specs.declared.text.MetaClash.{MetaClash}
@@ -28,7 +28,7 @@ use Rattle.wal_serve.specs.State.{ServedState, with_ledger}
 use Rattle.wal_serve.specs.Reply.{reply, refused, refusal_reply}
 use Rattle.wal_serve.specs.Requests.{ClaimEntered, Vouched, unbacked, asked, Entered, of_committee, of_none}
 use Rattle.wal_serve.specs.Answers.{IsReplyOutcome}
-use Rattle.wal_served.specs.Steps.{world_of, IsDesk, an_event, own_entry, no_event, entry_of, frame_of, Does}
+use Rattle.wal_served.specs.Steps.{world_of, IsDesk, an_event, no_event, entry_of, frame_of, Does}
 use Rattle.wal_served.proofs.Worlds.{may_post, declines, may_say, ledger_same, world_same}
 use Rattle.wal_served.proofs.Replies.{Reply, takes, lacks}
 
@@ -44,10 +44,10 @@ claim_does digest s kind shard id r new frames clash may claimed told = by kind 
   where
     says : (e : Event) (q : Reply) → r ≡ q → (said : Line) → is_collision said ≡ false → frame_of said ≡ Some (Answer q.code q.a q.b)
         → ((w : World) → Steps (rules_of digest s.shard.f) (world_of w s) e said (world_of w (with_ledger s new))) → Does digest s (an_event e) frames clash (with_ledger s new)
-    says e q is said goes frame steps = takes digest s (with_ledger s new) e frames clash q (subst (λ (x : Reply). IsReplyOutcome (Ok x) frames clash) is told) said goes frame steps
+    says e q is said goes frame steps = takes digest s (with_ledger s new) e frames clash q (rw is at told) said goes frame steps
 
     full : (e : Event) → r ≡ refused 10 → new ≡ s.ledger → Does digest s (an_event e) frames clash (with_ledger s new)
-    full e is same = lacks digest s (with_ledger s new) e frames clash (refused 10) (subst (λ (x : Reply). IsReplyOutcome (Ok x) frames clash) is told) (inr (inr refl)) (ledger_same s new same)
+    full e is same = lacks digest s (with_ledger s new) e frames clash (refused 10) (rw is at told) (inr (inr refl)) (ledger_same s new same)
 
     same : new ≡ s.ledger → (w : World) → world_of w (with_ledger s new) ≡ world_of w s
     same e w = world_same w (with_ledger s new) s (ledger_same s new e)
@@ -97,20 +97,14 @@ entered_does digest s d kind shard id r new frames clash entered told = by (nat_
     other : (q : Reply) (l : LedgerState) → shard ≢ s.shard.index → Entered kind s.ledger shard id q l → IsReplyOutcome (Ok q) frames clash
         → Does digest s (cond (nat_lt shard (committee_size s.shard.f)) (an_event (claim_event kind shard id)) no_event) frames clash (with_ledger s l)
     other _ _ ne (of_committee q l lt claimed) says =
-        let less : shard < committee_size s.shard.f = subst (λ (f : ℕ). shard < committee_size f) d.faults lt in
-        subst (λ (b : Bool). Does digest s (cond b (an_event (claim_event kind shard id)) no_event) frames clash (with_ledger s l)) (sym (lt-ltb _ _ less))
-        (claim_does digest s kind shard id q l frames clash (λ w. may_say s d w kind shard id less ne) claimed says)
+        let less = rw d.faults at lt in
+        rw (lt-ltb _ _ less) (claim_does digest s kind shard id q l frames clash (λ w. may_say s d w kind shard id less ne) claimed says)
     other _ _ ne (of_none none) says =
-        let more : nat_lt shard (committee_size s.shard.f) ≡ false = beyond (cases_lt shard (committee_size s.shard.f)) none in
-        subst (λ (b : Bool). Does digest s (cond b (an_event (claim_event kind shard id)) no_event) frames clash (with_ledger s s.ledger)) (sym more) (refl, says.1)
-      where
-        beyond : (shard < committee_size s.shard.f) ⊎ (committee_size s.shard.f ≤ shard) → (shard < committee_size s.ledger.log.f → ⊥) → nat_lt shard (committee_size s.shard.f) ≡ false
-        beyond (inl lt) not = absurd (not (subst (λ (f : ℕ). shard < committee_size f) (sym d.faults) lt))
-        beyond (inr le) not = le-ltb shard (committee_size s.shard.f) le
+        elim (cases_lt shard (committee_size s.shard.f)) [
+          | inl lt ↦ absurd (none (rw d.faults lt))
+          | inr le ↦ rw (le-ltb _ _ le) (refl, says.1)
+        ]
 
     by : (b : Bool) → nat_eq shard s.shard.index ≡ b → Does digest s (entry_of s.shard.f s.shard.index shard (claim_event kind shard id)) frames clash (with_ledger s new)
-    by true e =
-        subst (λ (b : Bool). Does digest s (cond b own_entry (cond (nat_lt shard (committee_size s.shard.f)) (an_event (claim_event kind shard id)) no_event)) frames clash (with_ledger s new)) (sym e) (refl, told.1)
-    by false e =
-        subst (λ (b : Bool). Does digest s (cond b own_entry (cond (nat_lt shard (committee_size s.shard.f)) (an_event (claim_event kind shard id)) no_event)) frames clash (with_ledger s new)) (sym e)
-        (other r new (eqb-false _ _ e) entered told)
+    by true e = rw e (refl, told.1)
+    by false e = rw e (other r new (eqb-false _ _ e) entered told)

@@ -1,5 +1,5 @@
 -- What a part more, and slivers less, of one identifier do to the pages of all holdings.
-use Rattle.std.proofs.Common.{◌≡◌, ℕ, ◌+◌, ◌≤◌, Bool, true, false, cond, T, ◌&&◌, List, [], ◌∷◌, length, map, Option, Some, None, unwrap_or, refl, sym, ap, ◌∙◌, arith}
+use Rattle.std.proofs.Common.{◌≡◌, ℕ, ◌+◌, ◌≤◌, Bool, true, false, cond, T, ◌&&◌, List, [], ◌∷◌, length, map, Option, Some, None, unwrap_or, refl, ap, ◌∙◌, arith}
 use Rattle.std.specs.Prelude.{is_some, sum_by}
 use Rattle.std.specs.Option.{option_map}
 use Rattle.std.specs.declared.cmp.Ordering.{Ordering}
@@ -88,10 +88,7 @@ twice false p o = refl
 
 put_again : (c : Contents) (id : BlobId) (p : Parts) → fin.insert (fin.remove c id) id p ≡ fin.insert c id p
 put_again c id p = fin.same_map ids_total exact_ids _ _ (λ q.
-    fin.get-insert ids_total (fin.remove c id) id p q
-    ∙ ap (λ (o : Option Parts). cond (eq_by_cmp id_cmp q id) (Some p) o) (fin.get-remove ids_total c id q)
-    ∙ twice (eq_by_cmp id_cmp q id) p (fin.get c q)
-    ∙ sym (fin.get-insert ids_total c id p q))
+    rw (fin.get-insert ids_total (fin.remove c id) id p q, fin.get-remove ids_total c id q, fin.get-insert ids_total c id p q) (twice (eq_by_cmp id_cmp q id) p (fin.get c q)))
 
 remove_cost : (c : Contents) (id : BlobId) → cost (fin.remove c id) + found_cost (fin.get c id) ≡ cost c
 remove_cost c id =

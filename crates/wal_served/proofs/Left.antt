@@ -1,6 +1,6 @@
 -- THE THIRD LAW: what is left of what was served, without what regards others, is answered exactly as before.
-use Rattle.std.proofs.Common.{◌≡◌, ℕ, ◌+◌, ◌-◌, ◌≤◌, Bool, true, false, cond, List, [], ◌∷◌, ◌++◌, length, Option, Some, None, Result, Ok, Err, All, refl, sym, ap, subst, ◌∙◌, append-nil, arith}
-use Rattle.std.specs.Prelude.{IfSome, sum_by}
+use Rattle.std.proofs.Common.{◌≡◌, ℕ, ◌+◌, ◌-◌, ◌≤◌, Bool, true, false, cond, List, [], ◌∷◌, ◌++◌, length, Option, Some, None, Result, Ok, Err, All, refl, sym, ◌∙◌, append-nil, arith}
+use Rattle.std.specs.Prelude.{sum_by}
 use Rattle.std.specs.List.{flat_map}
 use Rattle.std.proofs.lemmas.Bool.{false≢true}
 use Rattle.std.proofs.lemmas.Grind.{flat_map-append}
@@ -14,17 +14,16 @@ use Rattle.wal_frame.specs.Reading.{read_of}
 use Rattle.wal_frame.specs.Stream.{IsPayload}
 use Rattle.wal_frame.specs.Stored.{stored_bytes}
 use Rattle.wal_store.specs.Parts.{pages_for}
-use Rattle.wal_store.specs.Contents.{Contents, with_bytes}
+use Rattle.wal_store.specs.Contents.{Contents}
 use Rattle.wal_shard.specs.Putting.{put_id, put_part}
-use Rattle.wal_shard.specs.Vouching.{without_slivers}
 use Rattle.wal_serve.specs.State.{ServedState, holding}
 use Rattle.wal_serve.specs.Answers.{AnswersRequest, AnswersRead}
 use Rattle.wal_serve.specs.Serving.{Replies, looked_at, read_past, Served, none, more}
 use Rattle.wal_served.specs.Steps.{TellsWant}
-use Rattle.wal_served.specs.Local.{about_read, pages_in, entries_in, regarding, AlikeAt, RoomFor, part_pages, asked_entries, cost_with, Turn, turns, bytes_of, frames_of, clash_of, Chooses, left_of, tells, tells_entry, stored_pages, made_entries, ServesWhatIsLeft}
+use Rattle.wal_served.specs.Local.{about_read, regarding, AlikeAt, RoomFor, part_pages, asked_entries, cost_with, Turn, turns, bytes_of, frames_of, clash_of, Chooses, left_of, tells, tells_entry, stored_pages, made_entries, ServesWhatIsLeft}
 use Rattle.wal_served.proofs.Costs.{stored_cost, forgotten_cost}
-use Rattle.wal_served.proofs.Alike.{joined, charged_pages, charged_entries, Carried, carries, wants, read_carried, the_one}
-use Rattle.wal_served.proofs.AlikeLaws.{read_still, less_room}
+use Rattle.wal_served.proofs.Alike.{joined, charged_pages, charged_entries, Carried, carries, wants, read_carried}
+use Rattle.wal_served.proofs.AlikeLaws.{read_still, fits_less, less_room}
 use Rattle.wal_served.proofs.Apart.{alike_one, leaves_alike}
 use Rattle.wal_served.proofs.Changes.{Change, no_change, part_stored, slivers_went, entry_made, changes}
 
@@ -36,7 +35,7 @@ pub record Spends (id : BlobId) (pages entries : ℕ) (old new : ServedState) : 
   pub entries_most : old.ledger.spare ≤ new.ledger.spare + entries
 
 pub spends_none : (id : BlobId) (pages entries : ℕ) (old new : ServedState) → new ≡ old → Spends id pages entries old new
-spends_none id pages entries old new same = subst (Spends id pages entries old) (sym same) (record { limit = refl; pages_most = omega arith; entries_most = omega arith })
+spends_none id pages entries old new same = rw same (record { limit = refl; pages_most = omega arith; entries_most = omega arith })
 
 pub change_spends : (digest : List ℕ → List ℕ) (id : BlobId) (old : ServedState) (read : Result Frame FrameError) (frames : List (List ℕ)) (new : ServedState) → about_read digest read ≡ Some id
     → Change digest old read frames new → Spends id (charged_pages read frames) (charged_entries read frames) old new
@@ -48,28 +47,22 @@ change_spends digest id old read frames new named_so change = by change
     entries : ℕ
     entries = charged_entries read frames
 
-    here : (q : BlobId) → about_read digest read ≡ Some q → q ≡ id
-    here q about = the_one q id (sym about ∙ named_so)
+    here : {q : BlobId} → about_read digest read ≡ Some q → q ≡ id
+    here about = cc
 
     now_holding : (contents : Contents) → new ≡ holding old contents → cost_with contents id ≤ cost_with old.shard.contents id + pages → Spends id pages entries old new
-    now_holding contents is most = subst (Spends id pages entries old) (sym is) (record { limit = refl; pages_most = most; entries_most = omega arith })
+    now_holding contents is most = rw is (record { limit = refl; pages_most = most; entries_most = omega arith })
 
     by : Change digest old read frames new → Spends id pages entries old new
     by (no_change same) = spends_none id pages entries old new same
     by (part_stored frame reads part about told accepted absent is) =
-        let c = old.shard.contents in
-        let q = put_id digest frame in
-        let size = pages_for (length (stored_bytes frame)) in
-        let whole = subst (λ (x : BlobId). cost_with (with_bytes c q (put_part frame) (stored_bytes frame)) x ≡ cost_with c x + size) (here q about)
-        (stored_cost c q (put_part frame) (stored_bytes frame) absent) in
-        let charged : pages ≡ size = ap (λ (b : Bool). cond b (pages_in read) 0) told ∙ ap pages_in reads in
-        now_holding _ is (omega (arith, whole, charged))
-    by (slivers_went q about told is) =
-        let less = subst (λ (x : BlobId). cost_with (without_slivers old.shard.contents q) x ≤ cost_with old.shard.contents x) (here q about) (forgotten_cost old.shard.contents q) in
-        now_holding _ is (omega (arith, less))
+        let whole = rw (here about) at (stored_cost old.shard.contents (put_id digest frame) (put_part frame) (stored_bytes frame) absent) in
+        let charged : pages ≡ pages_for (length (stored_bytes frame)) = rw (told, reads) refl in
+        now_holding _ (rw (here about) at is) (omega (arith, whole, charged))
+    by (slivers_went q about told is) = now_holding _ (rw (here about) at is) (omega (arith, rw (here about) at (forgotten_cost old.shard.contents q)))
     by (entry_made q b about asks told may is) =
-        let charged : entries ≡ 1 = ap (λ (x : Bool). cond x (entries_in read) 0) told ∙ asks in
-        subst (Spends id pages entries old) (sym is) (record { limit = refl; pages_most = omega arith; entries_most = omega (arith, charged) })
+        let charged : entries ≡ 1 = rw told asks in
+        rw is (record { limit = refl; pages_most = omega arith; entries_most = omega (arith, charged) })
 
 -- what regards no identifier is answered so by any state, and changes nothing
 none_same : (digest : List ℕ → List ℕ) (may_want also : Bool) (one other : ServedState) (frames : List (List ℕ)) (clash : Option MetaClash) (new : ServedState) (read : Result Frame FrameError)
@@ -90,22 +83,18 @@ last_all P [] y all = All-head P y [] all
 last_all P (x ∷ xs) y all = last_all P xs y (All-tail P x (xs ++ y ∷ []) all)
 
 pub flat_push : {X A : Type 0} (f : X → List A) (xs : List X) (y : X) → flat_map f (xs ++ y ∷ []) ≡ flat_map f xs ++ f y
-flat_push f xs y = flat_map-append f xs (y ∷ []) ∙ ap (λ (l : List _). flat_map f xs ++ l) (append-nil (f y))
+flat_push f xs y = rw (flat_map-append f xs (y ∷ []), append-nil (f y)) refl
 
 sum_push : {X : Type 0} (f : X → ℕ) (xs : List X) (y : X) → sum_by f (xs ++ y ∷ []) ≡ sum_by f xs + f y
-sum_push f xs y = let e = sum_by-append f xs (y ∷ []) in omega (arith, e)
+sum_push f xs y = omega (arith, sum_by-append f xs (y ∷ []))
 
 -- what room is there once some of it was taken
 room_on : (id : BlobId) (other then : ServedState) (taken_pages pages taken_entries entries : ℕ) → RoomFor id other (taken_pages + pages) (taken_entries + entries) → Spends id taken_pages taken_entries other then
     → RoomFor id then pages entries
 room_on id other then taken_pages pages taken_entries entries has spent = record {
-  pages_fit = subst (λ (l : Option ℕ). IfSome l (λ most. cost_with then.shard.contents id + pages ≤ most)) (sym spent.limit) (by other.shard.limit has.pages_fit);
+  pages_fit = rw spent.limit (fits_less other.shard.limit _ _ has.pages_fit (omega (arith, spent.pages_most)));
   entries_fit = omega (arith, has.entries_fit, spent.entries_most);
 }
-  where
-    by : (limit : Option ℕ) → IfSome limit (λ most. cost_with other.shard.contents id + (taken_pages + pages) ≤ most) → IfSome limit (λ most. cost_with then.shard.contents id + pages ≤ most)
-    by None fit = tt
-    by (Some most) fit = omega (arith, fit, spent.pages_most)
 
 -- ---- the law
 
@@ -126,11 +115,11 @@ module _ (digest : List ℕ → List ℕ) (id : BlobId) (keeps : List ℕ → Bo
       by : (r : Option BlobId) → regarding digest payload ≡ r → Answered there payload s c n
       by None e =
           let h = none_same digest may_want also mid there s c n (read_of payload) e answers in
-          record { then = there; replies = looked_at s c there few h.0; alike = subst (λ (x : ServedState). AlikeAt id x there) (sym h.1) a; spends = spends_none id _ _ there there refl }
+          record { then = there; replies = looked_at s c there few h.0; alike = rw h.1 a; spends = spends_none id _ _ there there refl }
       by (Some q) e = carried (read_carried digest may_want mid there s c n calm (read_of payload) id named_so a answers)
         where
           named_so : about_read digest (read_of payload) ≡ Some id
-          named_so = e ∙ ap (λ (x : BlobId). Some x) (chooses.no_other payload q keep e)
+          named_so = rw (e, chooses.no_other payload q keep e) refl
 
           carried : Carried digest id there (read_of payload) s c n → Answered there payload s c n
           carried (carries then is alike) = record {
@@ -156,17 +145,13 @@ module _ (digest : List ℕ → List ℕ) (id : BlobId) (keeps : List ℕ → Bo
     one_more left mid f t new fits keep replies calm has =
         let pages = sum_push (λ (x : Turn). cond (tells 0 x.answered) (part_pages x.payload) 0) left t in
         let entries = sum_push (λ (x : Turn). cond (tells_entry x.answered) (asked_entries x.payload) 0) left t in
-        let has_sum = subst (λ (n : ℕ). RoomFor id other n (made_entries left + charged_entries (read_of t.payload) t.answered)) pages
-        (subst (λ (n : ℕ). RoomFor id other (stored_pages (left ++ t ∷ [])) n) entries has) in
-        let a = one_reply mid f.then t.payload t.answered t.clash new f.alike keep replies calm (room_on id other f.then _ _ _ _ has_sum f.spent) in
-        let before = subst (λ (c : Option MetaClash). Served (AnswersRequest digest also) room other (bytes_of left) (frames_of left) c f.then) (f.goes_on refl) f.served in
-        let whole = more (bytes_of left) (frames_of left) f.then before t.sender t.payload t.answered t.clash a.then fits a.replies in
+        let a = one_reply mid f.then t.payload t.answered t.clash new f.alike keep replies calm (room_on id other f.then _ _ _ _ (rw (pages, entries) at has) f.spent) in
+        let before = rw (f.goes_on refl) at f.served in
         let ended : clash_of (left ++ t ∷ []) ≡ t.clash = fold_push (λ (c : Option MetaClash) (x : Turn). x.clash) None left t in
         record {
           then = a.then;
-          served = subst (λ (c : Option MetaClash). Served (AnswersRequest digest also) room other (bytes_of (left ++ t ∷ [])) (frames_of (left ++ t ∷ [])) c a.then) (sym ended)
-              (subst (λ (l : List (List ℕ)). Served (AnswersRequest digest also) room other (bytes_of (left ++ t ∷ [])) l t.clash a.then) (sym (flat_push (λ (x : Turn). x.answered) left t))
-              (subst (λ (l : List ℕ). Served (AnswersRequest digest also) room other l (frames_of left ++ t.answered) t.clash a.then) (sym (flat_push (λ (x : Turn). envelope x.sender x.payload) left t)) whole));
+          served = rw (ended, flat_push (λ (x : Turn). x.answered) left t, flat_push (λ (x : Turn). envelope x.sender x.payload) left t)
+              (more (bytes_of left) (frames_of left) f.then before t.sender t.payload t.answered t.clash a.then fits a.replies);
           goes_on = λ calm_so. ended ∙ calm_so;
           alike = a.alike;
           spent = record {
@@ -180,7 +165,7 @@ module _ (digest : List ℕ → List ℕ) (id : BlobId) (keeps : List ℕ → Bo
     room_before left t has =
         let pages = sum_push (λ (x : Turn). cond (tells 0 x.answered) (part_pages x.payload) 0) left t in
         let entries = sum_push (λ (x : Turn). cond (tells_entry x.answered) (asked_entries x.payload) 0) left t in
-        less_room id other (stored_pages (left ++ t ∷ [])) (made_entries (left ++ t ∷ [])) (stored_pages left) (made_entries left) has (omega (arith, pages)) (omega (arith, entries))
+        less_room id other _ _ _ _ has (omega (arith, pages)) (omega (arith, entries))
 
     served_left : (taken : List ℕ) (frames : List (List ℕ)) (clash : Option MetaClash) (state : ServedState) (served : Served (AnswersRequest digest may_want) room one taken frames clash state)
         → let left = left_of keeps (turns (AnswersRequest digest may_want) room one taken frames clash state served) in
@@ -197,32 +182,23 @@ module _ (digest : List ℕ → List ℕ) (id : BlobId) (keeps : List ℕ → Bo
         L : List Turn
         L = left_of keeps all
 
-        CalmIn : List Turn → Type 0
-        CalmIn l = All (λ (x : Turn). TellsWant x.answered → ⊥) l
-
-        RoomIn : List Turn → Type 0
-        RoomIn l = RoomFor id other (stored_pages l) (made_entries l)
-
         split : (b : Bool) → keeps payload ≡ b → left_of keeps (all ++ t ∷ []) ≡ L ++ cond b (t ∷ []) []
-        split b e = filter-append (λ (x : Turn). keeps x.payload) all (t ∷ []) ∙ ap (λ (x : Bool). L ++ cond x (t ∷ []) []) e
+        split b e = rw (filter-append (λ (x : Turn). keeps x.payload) all (t ∷ []), e) refl
 
         left_out : keeps payload ≡ false → (s : List (List ℕ)) (c : Option MetaClash) (n : ServedState) → Replies (AnswersRequest digest may_want) room mid payload s c n → AlikeAt id mid n
         left_out e _ _ _ (read_past long) = alike_one id mid
         left_out e _ _ _ (looked_at s c n few answers) = leaves_alike digest id mid payload may_want s c n (λ same. false≢true (sym e ∙ chooses.own payload same)) answers
 
-        by : (CalmIn L → RoomIn L → Follows L None mid) → (b : Bool) → keeps payload ≡ b → Follows (left_of keeps (all ++ t ∷ [])) clash new
+        by : (All (λ (x : Turn). TellsWant x.answered → ⊥) L → RoomFor id other (stored_pages L) (made_entries L) → Follows L None mid) → (b : Bool) → keeps payload ≡ b → Follows (left_of keeps (all ++ t ∷ [])) clash new
         by before_so false e =
             let same : left_of keeps (all ++ t ∷ []) ≡ L = split false e ∙ append-nil L in
-            let f = before_so (subst CalmIn same calm) (subst RoomIn same has) in
-            subst (λ (l : List Turn). Follows l clash new) (sym same)
-            (record { then = f.then; served = f.served; goes_on = λ e. f.goes_on refl; alike = joined id mid new f.then (left_out e some clash new replies) f.alike; spent = f.spent })
+            let f = before_so (rw same at calm) (rw same at has) in
+            rw same (record { then = f.then; served = f.served; goes_on = λ e. f.goes_on refl; alike = joined id mid new f.then (left_out e some clash new replies) f.alike; spent = f.spent })
         by before_so true e =
-            let same = split true e in
-            let calm_too = subst CalmIn same calm in
-            let has_too = subst RoomIn same has in
+            let calm_too = rw (split true e) at calm in
+            let has_too = rw (split true e) at has in
             let f = before_so (front_all (λ (x : Turn). TellsWant x.answered → ⊥) L t calm_too) (room_before L t has_too) in
-            subst (λ (l : List Turn). Follows l clash new) (sym same)
-            (one_more L mid f t new fits e replies (last_all (λ (x : Turn). TellsWant x.answered → ⊥) L t calm_too) has_too)
+            rw (split true e) (one_more L mid f t new fits e replies (last_all (λ (x : Turn). TellsWant x.answered → ⊥) L t calm_too) has_too)
 
 pub serves_what_is_left : (digest : List ℕ → List ℕ) → ServesWhatIsLeft digest
 serves_what_is_left digest id keeps room may_want also one other taken frames clash state served chooses alike calm has =

@@ -1,5 +1,5 @@
 -- What is put to a shard that serves, and what it lets go, as steps of the world.
-use Rattle.std.proofs.Common.{◌≡◌, ℕ, Bool, List, Option, Some, None, Result, Ok, inl, inr, refl, sym, ap, subst, ◌∙◌}
+use Rattle.std.proofs.Common.{◌≡◌, ℕ, Bool, List, Option, Some, None, Result, Ok, inl, inr, refl}
 use Rattle.wal_shape.specs.declared.metadata.BlobId.{BlobId}
 use Rattle.wal_shape.specs.declared.text.MetaClash.{MetaClash}
 use Rattle.wal_shape.specs.declared.axis.Side.TheVariants.{Now}
@@ -17,15 +17,15 @@ use Rattle.wal_shard.specs.declared.answers.PutAnswer.{PutAnswer}
 use Rattle.wal_shard.specs.declared.answers.PutAnswer.TheVariants as putting
 use Rattle.wal_shard.specs.Putting.{CanBePut, IsAccepted, Puts, PutsOrWants}
 use Rattle.wal_shard.specs.State.{desk, desk_of}
-use Rattle.wal_shard.specs.Vouching.{MayForget, without_slivers}
-use Rattle.wal_protocol.specs.State.{World, keeps}
+use Rattle.wal_shard.specs.Vouching.{without_slivers}
+use Rattle.wal_protocol.specs.State.{World}
 use Rattle.wal_protocol.specs.Step as step
 use Rattle.wal_theorem.specs.Instance.{rules_of}
 use Rattle.wal_serve.specs.State.{ServedState, holding}
 use Rattle.wal_serve.specs.Reply.{reply, done, refused, put_reply}
 use Rattle.wal_serve.specs.Requests.{IsPutRequest, Forgets, forgotten, kept}
 use Rattle.wal_serve.specs.Answers.{IsReplyOutcome}
-use Rattle.wal_served.specs.Steps.{world_of, IsDesk, an_event, send_frame, TellsClash, Does}
+use Rattle.wal_served.specs.Steps.{world_of, IsDesk, an_event, send_frame, Does}
 use Rattle.wal_served.proofs.Worlds.{here, contents_here, keeps_then, holding_same, world_same}
 use Rattle.wal_served.proofs.Replies.{Reply, takes, lacks}
 
@@ -40,20 +40,13 @@ module _ (digest : List ℕ → List ℕ) (s : ServedState) (d : IsDesk s) (payl
   -- what is put to the shard is put in the world
   put_there : (w : World) (answer : PutAnswer) (new : Contents) → Puts digest (desk_of s.shard.f s.shard.index None s.ledger.log) s.shard.contents frame answer new
       → step.IsPut (rules_of digest s.shard.f) (world_of w s) Now s.shard.index payload answer frame new
-  put_there w answer new puts = (
-    here s d w,
-    (reads, part),
-    (
-      (frame_is payload frame reads).fits,
-      subst (λ (m : Contents). Puts digest (desk_of s.shard.f s.shard.index None s.ledger.log) m frame answer new) (sym (contents_here s d w)) puts,
-    ),
-  )
+  put_there w answer new puts = (here s d w, (reads, part), ((frame_is payload frame reads).fits, rw (contents_here s d w) puts))
 
   -- a put is a step, where there is room
   pub put_does : (may_want : Bool) (outcome : Result Reply MetaClash) (new : Contents) (frames : List (List ℕ)) (clash : Option MetaClash)
       → IsPutRequest digest may_want s.shard s.ledger.log frame outcome new → IsReplyOutcome outcome frames clash
       → Does digest s (an_event (event.Send Now s.shard.index payload)) frames clash (holding s new)
-  put_does may_want outcome new frames clash (answer, puts, is, shows) told = by answer puts (subst (λ (o : Result Reply MetaClash). IsReplyOutcome o frames clash) is told)
+  put_does may_want outcome new frames clash (answer, puts, is, shows) told = by answer puts (rw is at told)
     where
       e : Event
       e = event.Send Now s.shard.index payload
@@ -89,7 +82,7 @@ module _ (digest : List ℕ → List ℕ) (s : ServedState) (d : IsDesk s) (payl
           ),
         );
         told = (Clash texts.left texts.right, refl, t.0);
-        ends = subst (λ (c : Option MetaClash). TellsClash c (line.Collision texts.left texts.right)) (sym t.1) refl;
+        ends = rw t.1 refl;
       })
       by (putting.Full needed free) h t = lacks digest s (holding s new) e frames clash (reply 6 needed free) t (inl refl) (holding_same s new h.5)
       by putting.Memory h t = lacks digest s (holding s new) e frames clash (refused 7) t (inr (inl refl)) (holding_same s new h.3)
@@ -106,11 +99,10 @@ forget_does digest s d id _ _ frames clash (forgotten may) told =
       refl,
       (
         here s d w,
-        subst (λ (m : Contents). MayForget s.ledger.log m id) (sym (contents_here s d w)) may,
-        keeps_then s d w (without_slivers s.shard.contents id)
-            ∙ ap (λ (m : Contents). keeps (world_of w s) Now s.shard.index (without_slivers m id)) (sym (contents_here s d w)),
+        rw (contents_here s d w) may,
+        rw (contents_here s d w) (keeps_then s d w (without_slivers s.shard.contents id)),
       ),
     ))
 forget_does digest s d id _ _ frames clash (kept not) told =
     takes digest s s (event.Forget Now s.shard.index id) frames clash (refused 5) told (line.Forget s.shard.index id forgetting.Declined) refl refl
-    (λ w. (refl, refl, (here s d w, (λ may. not (subst (λ (m : Contents). MayForget s.ledger.log m id) (contents_here s d w) may)), refl)))
+    (λ w. (refl, refl, (here s d w, (λ may. not (rw (contents_here s d w) at may)), refl)))

@@ -36,8 +36,7 @@ desk_at_start s first lt is = record {
     own : (t : ℕ) → t < committee_size s.shard.f → node_of (get_or (range_with_len 0 (committee_size s.shard.f) ∷ []) ((first + 0) - first) []) t ≡ t
     own t less =
         let zero : (first + 0) - first ≡ 0 = omega arith in
-        ap (λ (k : ℕ). node_of (get_or (range_with_len 0 (committee_size s.shard.f) ∷ []) k []) t) zero
-        ∙ get_or-range_with_len 0 (committee_size s.shard.f) t 0 less ∙ omega arith
+        rw zero (get_or-range_with_len 0 (committee_size s.shard.f) t 0 less ∙ omega arith)
 
 -- ---- no whole envelope stands there
 

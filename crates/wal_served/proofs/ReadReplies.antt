@@ -1,16 +1,14 @@
 -- What a shard that serves replies of what it holds is the world's true reply.
-use Rattle.std.proofs.Common.{◌≡◌, ℕ, Bool, cond, List, [], ◌∷◌, ◌++◌, Option, Some, None, Ok, refl, sym, ap, subst, ◌∙◌}
+use Rattle.std.proofs.Common.{◌≡◌, ℕ, List, [], Option, None, Ok, refl, sym, subst}
 use Rattle.wal_shape.specs.declared.axis.Axis.{Axis}
 use Rattle.wal_shape.specs.declared.axis.Side.TheVariants.{Now}
 use Rattle.wal_shape.specs.declared.text.MetaClash.{MetaClash}
-use Rattle.wal_shape.specs.MetadataReading.{spelled_metadata}
-use Rattle.wal_shape.specs.Spelling.{metadata_text}
 use Rattle.wal_event.specs.declared.event.Reply.TheVariants as said_by
-use Rattle.wal_frame.specs.Frame.{Read, Symbol, metadata_frame}
+use Rattle.wal_frame.specs.Frame.{Read, Symbol}
 use Rattle.wal_store.specs.Parts.{Parts}
 use Rattle.wal_store.specs.Contents.{parts_at}
-use Rattle.wal_shard.specs.Holding.{SymbolReplies, OpeningReply, given, not_held, no_shard, read_reply_of, metadata_reply, proof_reply, payload_if}
-use Rattle.wal_protocol.specs.State.{World, side_of, held}
+use Rattle.wal_shard.specs.Holding.{SymbolReplies, OpeningReply, given, not_held, no_shard, read_reply_of}
+use Rattle.wal_protocol.specs.State.{World, held}
 use Rattle.wal_protocol.specs.Step.{reply_payloads, IsReplyOf}
 use Rattle.wal_theorem.specs.Instance.{SymbolReply, silent, replies, rules_of}
 use Rattle.wal_serve.specs.State.{ServedState, named}
@@ -20,30 +18,21 @@ use Rattle.wal_served.proofs.Worlds.{here, parts_here}
 
 pub read_true : (digest : List ℕ → List ℕ) (s : ServedState) → IsDesk s → (id : List ℕ) (frames : List (List ℕ)) (clash : Option MetaClash)
     → IsReplied (read_reply_of id s.shard.index (parts_at s.shard.contents (named id))) frames clash → RepliesTruly digest s (Ok (Read id)) frames clash
-read_true digest s d id frames clash replied w = subst (λ (l : List (List ℕ)). IsReplied l frames clash) (sym same) replied
+read_true digest s d id frames clash replied w = rw same replied
   where
     same : reply_payloads (rules_of digest s.shard.f) (world_of w s) (named id) (said_by.True Now s.shard.index) ≡ read_reply_of id s.shard.index (parts_at s.shard.contents (named id))
     same =
-        ap (λ (b : Bool). cond b (read_reply_of id s.shard.index (held (side_of Now (world_of w s)) s.shard.index (named id))) []) (here s d w)
-        ∙ ap (read_reply_of id s.shard.index) (parts_here s d w (named id))
+        rw (here s d w, parts_here s d w (named id)) refl
 
 -- of a blob of which nothing is held there is nothing to say
 no_opening : (digest : List ℕ → List ℕ) (id : List ℕ) (shard : ℕ) (p : Parts) (axis : Axis) (index : ℕ) (payloads : List (List ℕ)) → p.metadata ≡ None → OpeningReply digest id shard p axis index payloads → payloads ≡ []
-no_opening digest id shard p axis index _ none (given m sliver o holds got lt cross is) = absurd (let e : ◌≡◌ {A = Option (List ℕ)} None (Some (metadata_text m)) = sym none ∙ holds.spelled in cc)
+no_opening digest id shard p axis index _ none (given m sliver o holds got lt cross is) = cc
 no_opening digest id shard p axis index _ none (not_held absent) = refl
 no_opening digest id shard p axis index _ none (no_shard m holds beyond) = refl
 
 says_nothing : (digest : List ℕ → List ℕ) (id : List ℕ) (shard : ℕ) (p : Parts) (axis : Axis) (index : ℕ) (payloads : List (List ℕ)) → p.metadata ≡ None → p.proof ≡ None
     → SymbolReplies digest id shard p axis index payloads → payloads ≡ []
-says_nothing digest id shard p axis index payloads none bare (opening, is, whole) =
-    whole
-    ∙ ap (λ (o : List (List ℕ)). metadata_reply p ++ (o ++ proof_reply id p)) (no_opening digest id shard p axis index opening none is)
-    ∙ by p.metadata p.proof none bare (λ bytes. metadata_frame (spelled_metadata bytes)) (λ bytes. 0x13 ∷ (id ++ bytes))
-  where
-    by : (m q : Option (List ℕ)) → m ≡ None → q ≡ None → (f : List ℕ → List ℕ) → (g : List ℕ → List ℕ) → payload_if m f ++ ([] ++ payload_if q g) ≡ []
-    by None None a b f g = refl
-    by (Some x) q a b f g = cc
-    by None (Some x) a b f g = cc
+says_nothing digest id shard p axis index payloads none bare (opening, is, whole) = rw (no_opening digest id shard p axis index opening none is, none, bare) at whole
 
 pub symbol_true : (digest : List ℕ → List ℕ) (s : ServedState) → IsDesk s → (id : List ℕ) (axis : Axis) (index : ℕ) (payloads frames : List (List ℕ)) (clash : Option MetaClash)
     → SymbolReplies digest id s.shard.index (parts_at s.shard.contents (named id)) axis index payloads → IsReplied payloads frames clash
@@ -51,12 +40,11 @@ pub symbol_true : (digest : List ℕ → List ℕ) (s : ServedState) → IsDesk 
 symbol_true digest s d id axis index payloads frames clash is replied = (payloads, replied, told)
   where
     to : (shard : ℕ) → AsksFor (parts_at s.shard.contents (named id)) axis index shard → SymbolReply digest (named id) s.shard.index (parts_at s.shard.contents (named id)) axis shard payloads
-    to shard (by_metadata m holds same) = replies m payloads holds (subst (λ (k : ℕ). SymbolReplies digest id s.shard.index (parts_at s.shard.contents (named id)) axis k payloads) same is)
+    to shard (by_metadata m holds same) = replies m payloads holds (rw same at is)
     to shard (of_nothing none bare) =
         subst (SymbolReply digest (named id) s.shard.index (parts_at s.shard.contents (named id)) axis shard) (sym (says_nothing digest id s.shard.index (parts_at s.shard.contents (named id)) axis index payloads none bare is)) (silent none)
 
     told : (w : World) (shard : ℕ) → AsksFor (parts_at s.shard.contents (named id)) axis index shard
         → IsReplyOf (rules_of digest s.shard.f) (world_of w s) (named id) axis shard (said_by.True Now s.shard.index) payloads
     told w shard asks =
-        let P : Bool → Type 0 = λ b. cond b (SymbolReply digest (named id) s.shard.index (held (side_of Now (world_of w s)) s.shard.index (named id)) axis shard payloads) (payloads ≡ []) in
-        subst P (sym (here s d w)) (subst (λ (p : Parts). SymbolReply digest (named id) s.shard.index p axis shard payloads) (sym (parts_here s d w (named id))) (to shard asks))
+        rw (here s d w, parts_here s d w (named id)) (to shard asks)

@@ -20,7 +20,7 @@ use Rattle.wal_serve.specs.State.{ServedState}
 use Rattle.wal_serve.specs.Reply.{reply_text}
 use Rattle.wal_serve.specs.Answers.{IsReplyOutcome}
 use Rattle.wal_served.specs.Local.{tells_entry}
-use Rattle.wal_served.specs.Steps.{world_of, an_event, frame_of, IsTold, TellsClash, Does, answer_text, IsWant, IsRefused, TellsWant}
+use Rattle.wal_served.specs.Steps.{world_of, an_event, frame_of, IsTold, Does, answer_text, IsWant, IsRefused, TellsWant}
 
 -- the type of what is replied, whose name is the serving crate's own
 abbrev domain_of : {A B : Type 0} → (A → B) → Type 0
@@ -31,16 +31,10 @@ Reply = domain_of reply_text
 
 -- what tells of something that was done is no refusal after which nothing has changed
 pub made_stays : (code a b : ℕ) → tells_entry (answer_text code a b ∷ []) ≡ true → IsRefused code → ⊥
-made_stays code a b made refused = by refused
-  where
-    none : (other : ℕ) → tells_entry (answer_text other a b ∷ []) ≡ false → code ≡ other → ⊥
-    none other not e = false≢true (sym not ∙ subst (λ (k : ℕ). tells_entry (answer_text k a b ∷ []) ≡ true) e made)
-
-    by : IsRefused code → ⊥
-    by (inl e) = none 9 refl e
-    by (inr (inl e)) = none 6 refl e
-    by (inr (inr (inl e))) = none 7 refl e
-    by (inr (inr (inr e))) = none 10 refl e
+made_stays code a b made (inl e) = false≢true (rw e at made)
+made_stays code a b made (inr (inl e)) = false≢true (rw e at made)
+made_stays code a b made (inr (inr (inl e))) = false≢true (rw e at made)
+made_stays code a b made (inr (inr (inr e))) = false≢true (rw e at made)
 
 -- ---- what belongs to a line
 
@@ -100,7 +94,7 @@ module _ (digest : List ℕ → List ℕ) (s new : ServedState) (e : Event) (fra
     line = said;
     steps = steps;
     told = (Answer r.code r.a r.b, frame, told.0);
-    ends = subst (λ (c : Option MetaClash). TellsClash c said) (sym told.1) goes;
+    ends = rw told.1 goes;
   })
 
   -- or no room for one

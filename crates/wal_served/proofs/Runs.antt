@@ -1,5 +1,5 @@
 -- What serving does is a run of the world.
-use Rattle.std.proofs.Common.{◌≡◌, ◌≢◌, ℕ, Bool, cond, nat_lt, List, [], ◌∷◌, ◌++◌, length, Option, Some, None, inl, inr, refl, sym, ap, subst, ◌∙◌, append-nil}
+use Rattle.std.proofs.Common.{◌≡◌, ◌≢◌, ℕ, Bool, cond, nat_lt, List, [], ◌∷◌, ◌++◌, length, Option, Some, None, inl, inr, refl, ap, subst, ◌∙◌, append-nil}
 use Rattle.std.proofs.lemmas.Bool.{lt-ltb, le-ltb}
 use Rattle.std.proofs.lemmas.List.Elements.{Contains-push, Contains-append_left}
 use Rattle.wal_shape.specs.declared.text.MetaClash.{MetaClash}
@@ -38,25 +38,24 @@ module _ (digest : List ℕ → List ℕ) (w : World) (fresh : ServedState) (all
     lines = r.lines;
     answered = answered;
     run = r.run;
-    ends = r.ends ∙ sym (ap (world_of w) same);
-    stops = subst (λ (c : Option MetaClash). StopsBy c r.lines) (sym goes) r.stops;
+    ends = rw same r.ends;
+    stops = rw goes r.stops;
   }
 
   goes_on : (m : Meaning) (some : List (List ℕ)) (clash : Option MetaClash) (new : ServedState) → m ≢ own_entry → Does digest mid m some clash new
       → IsRunTo digest w fresh (all ++ event_if m some) clash new
   goes_on own_entry some clash new not does = absurd (not refl)
-  goes_on no_event some clash new not does = stays clash new [] (subst (AreOf r.events r.lines) (sym (append-nil all)) r.answered) does.0 does.1
+  goes_on no_event some clash new not does = stays clash new [] (rw (append-nil all) r.answered) does.0 does.1
   goes_on (an_event e) some clash new not (inr lacks) =
       stays clash new ((e, some) ∷ []) (without_next r.events r.lines all e some r.answered (lacks.code, lacks.a, lacks.b, lacks.wants, lacks.told)) lacks.same lacks.goes_on
   goes_on (an_event e) some clash new not (inl step) =
-      let here = subst (λ (f : ℕ). Steps (rules_of digest f) (world_of w mid) e step.line (world_of w new)) place.f (step.steps w) in
-      let there = subst (λ (x : World). Steps (rules_of digest fresh.shard.f) x e step.line (world_of w new)) (sym r.ends) here in
+      let here : Steps (rules_of digest fresh.shard.f) (world_of w mid) e step.line (world_of w new) = subst (λ (f : ℕ). Steps (rules_of digest f) (world_of w mid) e step.line (world_of w new)) place.f (step.steps w) in
       record {
         events = r.events ++ e ∷ [];
         states = r.states ++ world_of w new ∷ [];
         lines = r.lines ++ step.line ∷ [];
         answered = with_next r.events r.lines all e step.line some r.answered step.told (told_room step.line some step.told);
-        run = runs_push (rules_of digest fresh.shard.f) (world_of w fresh) r.events r.states r.lines e step.line (world_of w new) r.run r.stops there;
+        run = runs_push (rules_of digest fresh.shard.f) (world_of w fresh) r.events r.states r.lines e step.line (world_of w new) r.run r.stops (rw r.ends here);
         ends = last_push (world_of w fresh) r.states (world_of w new);
         stops = stops_by clash r.lines step.line r.stops step.ends;
       }
@@ -70,8 +69,7 @@ module _ (digest : List ℕ → List ℕ) (may_want : Bool) (fresh : ServedState
       → cond (nat_lt room (length payload)) [] (event_if (meaning fresh.shard.f fresh.shard.index payload) frames) ≡ events
       → events_in (all ++ (payload, frames) ∷ []) ≡ events_in all ++ events
   one_more all payload frames events is =
-      flat_push (λ (a : Exchange). cond (nat_lt room (length a.0)) [] (event_if (meaning fresh.shard.f fresh.shard.index a.0) a.1)) all (payload, frames)
-      ∙ ap (λ (l : List (Event × List (List ℕ))). events_in all ++ l) is
+      rw (flat_push (λ (a : Exchange). cond (nat_lt room (length a.0)) [] (event_if (meaning fresh.shard.f fresh.shard.index a.0) a.1)) all (payload, frames), is) refl
 
   -- one more payload
   one_reply : (all : List Exchange) (mid : ServedState) (payload : List ℕ) (s : List (List ℕ)) (c : Option MetaClash) (n : ServedState) → SamePlace fresh.shard mid.shard
@@ -81,13 +79,11 @@ module _ (digest : List ℕ → List ℕ) (may_want : Bool) (fresh : ServedState
     same_place fresh.shard mid.shard n.shard place stepped.place,
     λ no w.
         let m = meaning fresh.shard.f fresh.shard.index payload in
-        let own : meaning mid.shard.f mid.shard.index payload ≡ meaning fresh.shard.f fresh.shard.index payload
-        = ap (λ (k : ℕ). meaning k mid.shard.index payload) place.f ∙ ap (λ (k : ℕ). meaning fresh.shard.f k payload) place.index in
+        let own : meaning mid.shard.f mid.shard.index payload ≡ m = rw (place.f, place.index) refl in
         let does = subst (λ (x : Meaning). Does digest mid x s c n) own stepped.does in
         let before = run (λ p among. no p (Contains-append_left all ((payload, s) ∷ []) p among)) w in
-        let events = one_more all payload s (event_if m s) (ap (λ (b : Bool). cond b [] (event_if m s)) (le-ltb room (length payload) within)) in
-        subst (λ (l : List (Event × List (List ℕ))). IsRunTo digest w fresh l c n) (sym events)
-        (goes_on digest w fresh (events_in all) mid place before m s c n (no (payload, s) (Contains-push all (payload, s)) within) does),
+        let events = one_more all payload s (event_if m s) (rw (le-ltb room (length payload) within) refl) in
+        rw events (goes_on digest w fresh (events_in all) mid place before m s c n (no (payload, s) (Contains-push all (payload, s)) within) does),
   )
   one_reply all mid payload _ _ _ place run (read_past long) =
       let s : List (List ℕ) = reply_text overlong ∷ [] in (
@@ -95,10 +91,9 @@ module _ (digest : List ℕ → List ℕ) (may_want : Bool) (fresh : ServedState
         λ no w.
             let m = meaning fresh.shard.f fresh.shard.index payload in
             let before = run (λ p among. no p (Contains-append_left all ((payload, s) ∷ []) p among)) w in
-            let events = one_more all payload s [] (ap (λ (b : Bool). cond b [] (event_if m s)) (lt-ltb room (length payload) long)) in
+            let events = one_more all payload s [] (rw (lt-ltb room (length payload) long) refl) in
             let last : Does digest mid no_event s None mid = (refl, refl) in
-            subst (λ (l : List (Event × List (List ℕ))). IsRunTo digest w fresh l None mid) (sym events)
-            (goes_on digest w fresh (events_in all) mid place before no_event s None mid (λ is. absurd cc) last),
+            rw events (goes_on digest w fresh (events_in all) mid place before no_event s None mid (λ is. absurd cc) last),
       )
 
   -- WHAT SERVING DOES is a run

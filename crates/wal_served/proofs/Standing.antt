@@ -1,5 +1,5 @@
 -- What a shard comes to that began with nothing of an identifier: what it holds is sound and live, and its entries may be fed alone.
-use Rattle.std.proofs.Common.{◌≡◌, ℕ, ◌+◌, ◌<◌, ◌≤◌, ◌^◌, Bool, true, false, max, List, [], ◌∷◌, ◌++◌, length, Option, Some, None, Result, ◌⊎◌, inl, inr, refl, sym, ap, subst, ◌∙◌, arith}
+use Rattle.std.proofs.Common.{◌≡◌, ℕ, ◌+◌, ◌<◌, ◌≤◌, ◌^◌, Bool, true, false, max, List, [], ◌∷◌, ◌++◌, length, Option, Some, None, ◌⊎◌, inl, inr, refl, sym, ap, ◌∙◌, arith}
 use Rattle.std.specs.List.{flat_map}
 use Rattle.std.proofs.lemmas.Bool.{cases_lt, ltb-true, false≢true}
 use Rattle.std.proofs.lemmas.List.{length-append}
@@ -8,7 +8,6 @@ use Rattle.wal_shape.specs.declared.metadata.BlobId.{BlobId}
 use Rattle.wal_shape.specs.declared.part.Part.TheVariants as parts
 use Rattle.wal_shape.specs.declared.text.MetaClash.{MetaClash}
 use Rattle.wal_shape.specs.Identifiers.{id_eq}
-use Rattle.wal_frame.specs.declared.frame.FrameError.{FrameError}
 use Rattle.wal_frame.specs.Frame.{Frame, Metadata, Sliver, Proof, RegisterEntry, AckEntry, AttestEntry, IsFrame, IsId, frame_text, envelope}
 use Rattle.wal_frame.specs.Reading.{read_of}
 use Rattle.wal_frame.specs.Stored.{stored_bytes}
@@ -18,11 +17,10 @@ use Rattle.wal_ledger.specs.declared.answers.AckAnswer.TheVariants as acking
 use Rattle.wal_ledger.specs.declared.answers.RegisterAnswer.TheVariants as registering
 use Rattle.wal_ledger.specs.declared.entry.Entry.{Entry}
 use Rattle.wal_ledger.specs.declared.entry.Body.{Body}
-use Rattle.wal_ledger.specs.declared.entry.Body.TheVariants.{Register}
 use Rattle.wal_ledger.specs.declared.entry.Kind.{Kind}
 use Rattle.wal_ledger.specs.declared.entry.Kind.TheVariants.{Holds, Denies}
 use Rattle.wal_ledger.specs.Shards.{committee_size, quorum_size}
-use Rattle.wal_ledger.specs.Ledger.{Log, reading, writing, is_moving, own_entries, until_of, until_among, until_in, is_live, signer_count, entered, takes_in}
+use Rattle.wal_ledger.specs.Ledger.{Log, LedgerState, reading, writing, is_moving, own_entries, until_of, until_among, until_in, signer_count, entered, takes_in}
 use Rattle.wal_ledger.specs.Answers.{Claims, acked, claim_of}
 use Rattle.wal_ledger.proofs.RowsPlace.{id_itself, id_same}
 use Rattle.wal_ledger.proofs.Handover.{until_push}
@@ -36,9 +34,9 @@ use Rattle.wal_shard.specs.Vouching.{without_slivers}
 use Rattle.wal_shard.proofs.HeldLaws.{sliver_then, proof_then}
 use Rattle.wal_shard.proofs.Soundness.{none_sound, metadata_sound, without_sliver_sound}
 use Rattle.wal_serve.specs.State.{ServedState, holding, with_ledger}
-use Rattle.wal_serve.specs.Reply.{reply_text, done, ack_reply}
+use Rattle.wal_serve.specs.Reply.{done, ack_reply}
 use Rattle.wal_serve.specs.Requests.{Entered, of_committee}
-use Rattle.wal_serve.specs.Answers.{AnswersRequest, AnswersRead, AnswersFrame}
+use Rattle.wal_serve.specs.Answers.{AnswersRequest, AnswersFrame}
 use Rattle.wal_serve.specs.Room.{AsksOnly}
 use Rattle.wal_serve.specs.Serving as serving
 use Rattle.wal_serve.specs.Serving.{Replies, looked_at, read_past, Served, more}
@@ -54,67 +52,45 @@ use Rattle.wal_served.proofs.Left.{flat_push}
 
 -- ---- an entry that may be made, at another ledger
 
--- the request that makes it has a spelling
-abbrev IsSpelled : Option Frame → Type 0
-IsSpelled (Some frame) = IsFrame frame
-IsSpelled None = ⊥
-
-enter_spelled : (s : ServedState) (q : BlobId) (b : Body) → IsId q.0 → s.ledger.log.f ≤ 333 → s.shard.index < committee_size s.ledger.log.f → Enterable s q b → IsSpelled (entry_frame b)
-enter_spelled s q _ size few place (to_register until may low) = (size, low)
-enter_spelled s q _ size few place (to_claim kind shard may where_it_is) = by kind
-  where
-    less : (shard < committee_size s.ledger.log.f) ⊎ (shard ≡ s.shard.index) → shard ≤ 999
-    less (inl is) = omega (arith, is, few)
-    less (inr same) = omega (arith, same, place, few)
-
-    by : (k : Kind) → IsSpelled (entry_frame (claim_of k shard q))
-    by Holds = record { id_size = size; index_most = less where_it_is }
-    by Denies = record { id_size = size; index_most = less where_it_is }
-
 -- the request that makes it, and what is answered
 record Enters (digest : List ℕ → List ℕ) (also : Bool) (t : ServedState) (b : Body) : Type 0 where
   frame : Frame
   is : entry_frame b ≡ Some frame
+  fits : IsFrame frame
   only : AsksOnly frame
   answered : List (List ℕ)
   answers : AnswersFrame digest also frame t answered None (with_ledger t (takes_in t.ledger b))
 
-enters : (digest : List ℕ → List ℕ) (also : Bool) (id : BlobId) (s t : ServedState) (b : Body) → AlikeLedgers id s.ledger.log t.ledger.log → s.shard.index < committee_size s.ledger.log.f → 0 < t.ledger.spare
-    → Enterable s id b → Enters digest also t b
-enters digest also id s t _ a place some (to_register until may low) =
-    let b = Register id until in
-    let most = until_of (entered t.ledger.log b) id in
-    record {
-      frame = RegisterEntry id.0 until;
-      is = refl;
-      only = tt;
-      answered = reply_text (done most) ∷ [];
-      answers = (done most, takes_in t.ledger b, (registering.Registered most, (register_too id s.ledger t.ledger a until may, some, refl, refl), refl), (refl, refl), refl);
-    }
-enters digest also id s t _ a place some (to_claim kind shard may where_it_is) =
+enters : (digest : List ℕ → List ℕ) (also : Bool) (id : BlobId) (s t : ServedState) (b : Body) → AlikeLedgers id s.ledger.log t.ledger.log → IsId id.0 → s.ledger.log.f ≤ 333
+    → s.shard.index < committee_size s.ledger.log.f → 0 < t.ledger.spare → Enterable s id b → Enters digest also t b
+enters digest also id s t _ a size few place some (to_register until may low) = record {
+  frame = RegisterEntry id.0 until;
+  is = refl;
+  fits = (size, low);
+  only = tt;
+  answered = _;
+  answers = (done _, _, (registering.Registered _, (register_too id s.ledger t.ledger a until may, some, refl, refl), refl), (refl, refl), refl);
+}
+enters digest also id s t _ a size few place some (to_claim kind shard may where_it_is) =
     let now = claim_too id s.ledger.log t.ledger.log a kind shard may in
-    let new = takes_in t.ledger (claim_of kind shard id) in
-    let count = signer_count new.log id kind (writing new.log) in
-    elim (cases_lt count (quorum_size t.ledger.log.f)) [
-      | inl few ↦ claimed (acking.Counted count) ((now, some, refl, refl), few)
-      | inr many ↦ claimed (acking.Certified count) ((now, some, refl, refl), many)
+    elim (cases_lt (signer_count new.log id kind (writing new.log)) (quorum_size t.ledger.log.f)) [
+      | inl less ↦ claimed (acking.Counted _) ((now, some, refl, refl), less)
+      | inr many ↦ claimed (acking.Certified _) ((now, some, refl, refl), many)
     ]
   where
-    less : shard < committee_size t.ledger.log.f
-    less = subst (λ (f : ℕ). shard < committee_size f) (sym a.faults) (within where_it_is)
-      where
-        within : (shard < committee_size s.ledger.log.f) ⊎ (shard ≡ s.shard.index) → shard < committee_size s.ledger.log.f
-        within (inl is) = is
-        within (inr same) = subst (λ (k : ℕ). k < committee_size s.ledger.log.f) (sym same) place
+    new : LedgerState
+    new = takes_in t.ledger (claim_of kind shard id)
+
+    within : (shard < committee_size s.ledger.log.f) ⊎ (shard ≡ s.shard.index) → shard < committee_size s.ledger.log.f
+    within (inl is) = is
+    within (inr same) = rw same place
 
     by : (k : Kind) (r : Reply) → Entered k t.ledger shard id r (takes_in t.ledger (claim_of k shard id)) → Enters digest also t (claim_of k shard id)
-    by Holds r h = record { frame = AckEntry shard id.0; is = refl; only = tt; answered = reply_text r ∷ []; answers = (r, takes_in t.ledger (claim_of Holds shard id), h, (refl, refl), refl) }
-    by Denies r h = record { frame = AttestEntry shard id.0; is = refl; only = tt; answered = reply_text r ∷ []; answers = (r, takes_in t.ledger (claim_of Denies shard id), h, (refl, refl), refl) }
+    by Holds r h = record { frame = AckEntry shard id.0; is = refl; fits = record { id_size = size; index_most = omega (arith, within where_it_is, few) }; only = tt; answered = _; answers = (r, _, h, (refl, refl), refl) }
+    by Denies r h = record { frame = AttestEntry shard id.0; is = refl; fits = record { id_size = size; index_most = omega (arith, within where_it_is, few) }; only = tt; answered = _; answers = (r, _, h, (refl, refl), refl) }
 
-    claimed : (answer : AckAnswer) → Claims kind t.ledger shard id (acked answer) (takes_in t.ledger (claim_of kind shard id)) → Enters digest also t (claim_of kind shard id)
-    claimed answer h =
-        let new = takes_in t.ledger (claim_of kind shard id) in
-        by kind (ack_reply answer) (of_committee (ack_reply answer) new less (of_claim kind t.ledger shard id (ack_reply answer) new (answer, h, refl)))
+    claimed : (answer : AckAnswer) → Claims kind t.ledger shard id (acked answer) new → Enters digest also t (claim_of kind shard id)
+    claimed answer h = by kind (ack_reply answer) (of_committee _ _ (rw a.faults (within where_it_is)) (of_claim kind t.ledger shard id _ new (answer, h, refl)))
 
 about_or_not : (o : Option BlobId) (id : BlobId) → (o ≡ Some id) ⊎ (o ≡ Some id → ⊥)
 about_or_not None id = inr (λ e. cc)
@@ -122,7 +98,7 @@ about_or_not (Some q) id = by (id_eq q id) refl
   where
     by : (b : Bool) → id_eq q id ≡ b → (◌≡◌ {A = Option BlobId} (Some q) (Some id)) ⊎ (◌≡◌ {A = Option BlobId} (Some q) (Some id) → ⊥)
     by true e = inl (ap (λ (x : BlobId). Some x) (id_same q id e))
-    by false e = inr (λ same. false≢true (sym e ∙ ap (λ (x : BlobId). id_eq x id) (the_one q id same) ∙ id_itself id))
+    by false e = inr (λ same. false≢true (sym e ∙ rw (the_one q id same) (id_itself id)))
 
 -- a part that verifies beside sound ones
 sound_then : (digest : List ℕ → List ℕ) (f shard : ℕ) (p : Parts) (frame : Frame) → IsFrame frame → CanBePut frame → Verifies digest f shard p frame → part_of p (put_part frame) ≡ None
@@ -144,8 +120,7 @@ module _ (digest : List ℕ → List ℕ) (room sender : ℕ) (also : Bool) (oth
       → AnswersRequest digest also t payload answered None new → Fed (sofar ++ payload ∷ []) new
   fed_one sofar payload t new answered short_room fed within answers = record {
     answered = fed.answered ++ answered;
-    served = subst (λ (l : List ℕ). Served (AnswersRequest digest also) room other l (fed.answered ++ answered) None new) (sym (flat_push (envelope sender) sofar payload))
-        (more _ fed.answered t fed.served sender payload answered None new (omega (arith, within, short_room)) (looked_at answered None new within answers));
+    served = rw (flat_push (envelope sender) sofar payload) (more _ fed.answered t fed.served sender payload answered None new (omega arith) (looked_at answered None new within answers));
   }
 
 module _ (digest : List ℕ → List ℕ) (id : BlobId) (room sender : ℕ) (also : Bool) (one other : ServedState) (placed : IsPlaced id room one) (nothing : HasNothing id one) (first : AlikeAt id one other) where
@@ -178,14 +153,14 @@ module _ (digest : List ℕ → List ℕ) (id : BlobId) (room sender : ℕ) (als
     index = refl;
     faults = refl;
     moving = placed.serves;
-    sound = subst SoundParts (sym nothing.parts) (none_sound digest one.shard.f one.shard.index id.0);
+    sound = rw nothing.parts (none_sound digest one.shard.f one.shard.index id.0);
     live = inl (nothing.entries, nothing.parts);
     fed = λ few. record {
       then = other;
-      fed = subst (λ (own : List Entry). Fed digest room sender also other (entry_payloads own) other) (sym nothing.entries) (record { answered = []; served = serving.none });
+      fed = rw nothing.entries (record { answered = []; served = serving.none });
       ledgers = first.ledgers;
       shard = refl;
-      spare = let none_own = ap length nothing.entries in omega (arith, none_own);
+      spare = omega (arith, ap length nothing.entries);
     };
   }
 
@@ -196,22 +171,22 @@ module _ (digest : List ℕ → List ℕ) (id : BlobId) (room sender : ℕ) (als
     index = a.index ∙ st.index;
     faults = a.ledgers.faults ∙ st.faults;
     moving = a.ledgers.moving ∙ st.moving;
-    sound = subst SoundParts (sym a.parts) st.sound;
+    sound = rw a.parts st.sound;
     live = by st.live;
-    fed = λ few. fed_on (st.fed (subst (λ (own : List Entry). length own ≤ other.ledger.spare) a.ledgers.own few));
+    fed = λ few. fed_on (st.fed (rw a.ledgers.own at few));
   }
     where
       by : Live s.ledger.log (parts_at s.shard.contents id) → Live n.ledger.log (parts_at n.shard.contents id)
       by (inl none) = inl (a.ledgers.own ∙ none.0, a.parts ∙ none.1)
-      by (inr now) = let same = ap until_among a.ledgers.own in inr (omega (arith, now, a.ledgers.epoch, same))
+      by (inr now) = inr (omega (arith, now, a.ledgers.epoch, ap until_among a.ledgers.own))
 
       fed_on : FedWith s.ledger.log → FedWith n.ledger.log
       fed_on had = record {
         then = had.then;
-        fed = subst (λ (own : List Entry). Fed digest room sender also other (entry_payloads own) had.then) (sym a.ledgers.own) had.fed;
+        fed = rw a.ledgers.own had.fed;
         ledgers = joined_ledgers id s.ledger.log n.ledger.log had.then.ledger.log a.ledgers had.ledgers;
         shard = had.shard;
-        spare = subst (λ (own : List Entry). had.then.ledger.spare + length own ≡ other.ledger.spare) (sym a.ledgers.own) had.spare;
+        spare = rw a.ledgers.own had.spare;
       }
 
   module _ (s : ServedState) (st : Standing s) where
@@ -225,23 +200,22 @@ module _ (digest : List ℕ → List ℕ) (id : BlobId) (room sender : ℕ) (als
     stored_here frame fit part under accepted none =
         let q = put_id digest frame in
         let p = parts_at s.shard.contents q in
-        let c = with_bytes s.shard.contents q (put_part frame) (stored_bytes frame) in
-        let v = subst (λ (k : ℕ). Verifies digest one.shard.f k p frame) st.index (subst (λ (f : ℕ). Verifies digest f s.shard.index p frame) st.f accepted.verified) in
-        let before = subst (λ (x : BlobId). IsSound digest one.shard.f x.0 one.shard.index (parts_at s.shard.contents x)) (sym under) st.sound in
-        let then = subst (IsSound digest one.shard.f q.0 one.shard.index) (sym (stored_there s.shard.contents q (put_part frame) (stored_bytes frame)))
-        (sound_then digest one.shard.f one.shard.index p frame fit part v none before) in
-        held_changes c (subst (λ (x : BlobId). IsSound digest one.shard.f x.0 one.shard.index (parts_at c x)) under then)
-        (inr (ltb-true (reading s.ledger.log) (until_of s.ledger.log id) (subst (λ (x : BlobId). is_live s.ledger.log x ≡ true) under accepted.live)))
+        let v : Verifies digest one.shard.f one.shard.index p frame = simp (st.f, st.index) at accepted.verified in
+        let before : IsSound digest one.shard.f q.0 one.shard.index p = rw under st.sound in
+        let then : IsSound digest one.shard.f q.0 one.shard.index (parts_at (with_bytes s.shard.contents q (put_part frame) (stored_bytes frame)) q) =
+        rw (stored_there s.shard.contents q (put_part frame) (stored_bytes frame)) (sound_then digest one.shard.f one.shard.index p frame fit part v none before) in
+        held_changes _ (rw (← under) then) (inr (ltb-true _ _ (rw under at accepted.live)))
 
     went_here : Standing (holding s (without_slivers s.shard.contents id))
     went_here =
         let c = s.shard.contents in
-        let sound = without_sliver_sound digest one.shard.f one.shard.index id.0 axes.Secondary (with_part (parts_at c id) parts.Primary None)
-        (without_sliver_sound digest one.shard.f one.shard.index id.0 axes.Primary (parts_at c id) st.sound) in
-        held_changes (without_slivers c id) (subst SoundParts (sym (slivers_gone c id)) sound) (by st.live)
+        held_changes (without_slivers c id)
+        (rw (slivers_gone c id) (without_sliver_sound digest one.shard.f one.shard.index id.0 axes.Secondary (with_part (parts_at c id) parts.Primary None)
+        (without_sliver_sound digest one.shard.f one.shard.index id.0 axes.Primary (parts_at c id) st.sound)))
+        (by st.live)
       where
         by : Live s.ledger.log (parts_at s.shard.contents id) → Live s.ledger.log (parts_at (without_slivers s.shard.contents id) id)
-        by (inl none) = inl (none.0, slivers_gone s.shard.contents id ∙ ap (λ (p : Parts). with_part (with_part p parts.Primary None) parts.Secondary None) none.1)
+        by (inl none) = inl (none.0, rw (slivers_gone s.shard.contents id, none.1))
         by (inr now) = inr now
 
     -- ---- entries
@@ -259,45 +233,39 @@ module _ (digest : List ℕ → List ℕ) (id : BlobId) (room sender : ℕ) (als
           by : (l : List Entry) → Owned s.ledger.log b id l → Live s.ledger.log (parts_at s.shard.contents id) → l ≡ own ++ last ∷ []
           by l (stays is n) live = absurd (false≢true (sym n ∙ enter_names s id id b may ∙ id_itself id))
           by l (grows is n still) live = is
-          by l (anew is n registers le) (inl nothing_yet) = is ∙ ap (λ (o : List Entry). o ++ last ∷ []) (sym nothing_yet.0)
-          by l (anew is n registers le) (inr now) = absurd (omega (arith, le, now))
+          by l (anew is n registers le) (inl nothing_yet) = rw nothing_yet.0 is
+          by l (anew is n registers le) (inr now) = absurd (omega arith)
 
       -- it is live then
       alive : reading (entered s.ledger.log b) < until_of (entered s.ledger.log b) id
-      alive =
-          let same = (plain_stays s.ledger.log b (enter_plain s id b may)).reading in
-          let until = ap until_among one_more_own ∙ until_push own last in
-          omega (arith, same, until, least b may)
+      alive = omega (arith, (plain_stays s.ledger.log b (enter_plain s id b may)).reading, ap until_among one_more_own, until_push own last, least b may)
         where
           least : (x : Body) → Enterable s id x → reading s.ledger.log < max (until_of s.ledger.log id) (until_in x)
           least _ (to_register until m low) = omega (arith, m.beyond)
-          least _ (to_claim kind shard m place) =
-              let now = ltb-true (reading s.ledger.log) (until_of s.ledger.log id) m.open_to_claims.live in
-              omega (arith, now)
+          least _ (to_claim kind shard m place) = omega (arith, ltb-true (reading s.ledger.log) (until_of s.ledger.log id) m.open_to_claims.live)
 
       fed_more : length (own_entries (entered s.ledger.log b) id) ≤ other.ledger.spare → FedWith (entered s.ledger.log b)
-      fed_more few =
-          let few_all = subst (λ (o : List Entry). length o ≤ other.ledger.spare) one_more_own few in
-          let sizes = length-append own (last ∷ []) in
-          let had = st.fed (omega (arith, few_all, sizes)) in
-          let t = had.then in
-          let place = subst (λ (k : ℕ). k < committee_size s.ledger.log.f) (sym st.index) (subst (λ (f : ℕ). one.shard.index < committee_size f) (sym (st.faults ∙ placed.one)) placed.place) in
-          let e = enters digest also id s t b had.ledgers place (omega (arith, had.spare, few_all, sizes)) may in
-          let fits : IsFrame e.frame = subst IsSpelled e.is (enter_spelled s id b placed.named_by (omega (arith, st.faults, placed.one, placed.few)) place may) in
-          let new = with_ledger t (takes_in t.ledger b) in
-          let answers = subst (λ (r : Result Frame FrameError). AnswersRead digest also r t e.answered None new) (sym (read_again e.frame fits)) e.answers in
-          let short = asks one.shard.f e.frame placed.some placed.few fits e.only in
-          let payload = frame_text e.frame in
-          let whole = fed_one digest room sender also other (entry_payloads own) payload t new e.answered placed.fits had.fed (omega (arith, short, placed.enough)) answers in
-          let listed : entry_payloads (own_entries (entered s.ledger.log b) id) ≡ entry_payloads own ++ payload ∷ [] =
-          ap entry_payloads one_more_own ∙ flat_push (λ (x : Entry). frame_payload (entry_frame x.body)) own last ∙ ap (λ (o : Option Frame). entry_payloads own ++ frame_payload o) e.is in
-          record {
-            then = new;
-            fed = subst (λ (l : List (List ℕ)). Fed digest room sender also other l new) (sym listed) whole;
-            ledgers = both_entered id s.ledger.log t.ledger.log had.ledgers b (enter_plain s id b may);
-            shard = had.shard;
-            spare = let grown = ap length one_more_own in omega (arith, had.spare, few_all, sizes, grown);
-          }
+      fed_more few = by (st.fed (omega (arith, few, sizes))) (omega (arith, few, sizes))
+        where
+          sizes : length (own_entries (entered s.ledger.log b) id) ≡ length own + 1
+          sizes = rw one_more_own (length-append own (last ∷ []))
+
+          by : FedWith s.ledger.log → length own < other.ledger.spare → FedWith (entered s.ledger.log b)
+          by had few_own =
+              let t = had.then in
+              let place : s.shard.index < committee_size s.ledger.log.f = rw (st.index, st.faults, placed.one) placed.place in
+              let e = enters digest also id s t b had.ledgers placed.named_by (omega (arith, st.faults, placed.one, placed.few)) place (omega (arith, had.spare, few_own)) may in
+              let new = with_ledger t (takes_in t.ledger b) in
+              let answers : AnswersRequest digest also t (frame_text e.frame) e.answered None new = rw (read_again e.frame e.fits) e.answers in
+              let short = asks one.shard.f e.frame placed.some placed.few e.fits e.only in
+              let whole = fed_one digest room sender also other (entry_payloads own) (frame_text e.frame) t new e.answered placed.fits had.fed (omega (arith, short, placed.enough)) answers in
+              record {
+                then = new;
+                fed = rw (one_more_own, flat_push (λ (x : Entry). frame_payload (entry_frame x.body)) own last, e.is) whole;
+                ledgers = both_entered id s.ledger.log t.ledger.log had.ledgers b (enter_plain s id b may);
+                shard = had.shard;
+                spare = omega (arith, had.spare, few_own, sizes);
+              }
 
       entry_here : Standing (with_ledger s (takes_in s.ledger b))
       entry_here = record {
@@ -316,23 +284,20 @@ module _ (digest : List ℕ → List ℕ) (id : BlobId) (room sender : ℕ) (als
     changed payload frames new change = by (about_or_not (about_read digest (read_of payload)) id)
       where
         here : about_read digest (read_of payload) ≡ Some id → Change digest s (read_of payload) frames new → Standing new
-        here about (no_change same) = subst Standing (sym same) st
-        here about (part_stored frame reads part so told accepted absent is) =
-            subst Standing (sym is) (stored_here frame (frame_is payload frame reads).fits part (the_one (put_id digest frame) id (sym so ∙ about)) accepted absent)
-        here about (slivers_went q so told is) =
-            subst Standing (sym is) (subst (λ (x : BlobId). Standing (holding s (without_slivers s.shard.contents x))) (sym (the_one q id (sym so ∙ about))) went_here)
-        here about (entry_made q b so asks_one told may is) = subst Standing (sym is) (entry_here b (subst (λ (x : BlobId). Enterable s x b) (the_one q id (sym so ∙ about)) may))
+        here about (no_change same) = rw same st
+        here about (part_stored frame reads part so told accepted absent is) = rw is (stored_here frame (frame_is payload frame reads).fits part (the_one _ id (sym so ∙ about)) accepted absent)
+        here about (slivers_went q so told is) = rw (is, the_one q id (sym so ∙ about)) went_here
+        here about (entry_made q b so asks_one told may is) = rw is (entry_here b (rw (the_one q id (sym so ∙ about)) at may))
 
         by : (about_read digest (read_of payload) ≡ Some id) ⊎ (about_read digest (read_of payload) ≡ Some id → ⊥) → Standing new
         by (inl about) = here about change
         by (inr not) = alike_stands s new (changed_elsewhere digest id s (read_of payload) frames new not change) st
 
-  replied : (may_want : Bool) (mid : ServedState) (payload : List ℕ) (s : List (List ℕ)) (c : Option MetaClash) (n : ServedState) → Standing mid
-      → Replies (AnswersRequest digest may_want) room mid payload s c n → Standing n
-  replied may_want mid payload _ _ _ st (read_past long) = st
-  replied may_want mid payload _ _ _ st (looked_at s c n few answers) = changed mid st payload s n (changes digest may_want mid s c n payload answers)
-
   -- whatever was served
   pub standing : (may_want : Bool) (taken : List ℕ) (frames : List (List ℕ)) (clash : Option MetaClash) (state : ServedState) → Served (AnswersRequest digest may_want) room one taken frames clash state → Standing state
   standing may_want _ _ _ _ serving.none = at_start
-  standing may_want _ _ _ _ (more front frames mid before sent payload some clash new fits replies) = replied may_want mid payload some clash new (standing may_want front frames None mid before) replies
+  standing may_want _ _ _ _ (more front frames mid before sent payload some clash new fits replies) = by (standing may_want front frames None mid before) replies
+    where
+      by : {s : List (List ℕ)} {c : Option MetaClash} {n : ServedState} → Standing mid → Replies (AnswersRequest digest may_want) room mid payload s c n → Standing n
+      by st (read_past long) = st
+      by st (looked_at s c n few answers) = changed mid st payload s n (changes digest may_want mid s c n payload answers)

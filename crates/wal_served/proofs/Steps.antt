@@ -1,5 +1,5 @@
 -- What serving does are steps of the world.
-use Rattle.std.proofs.Common.{◌≡◌, ℕ, Bool, true, ◌||◌, List, [], ◌∷◌, Option, None, Result, Ok, Err, inr, refl, sym, ap, subst, ◌∙◌}
+use Rattle.std.proofs.Common.{◌≡◌, ℕ, Bool, true, List, [], ◌∷◌, Option, None, Result, Ok, Err, inr, refl, ap}
 use Rattle.wal_shape.specs.declared.metadata.BlobId.{BlobId}
 use Rattle.wal_shape.specs.declared.text.MetaClash.{MetaClash}
 use Rattle.wal_shape.specs.declared.axis.Side.TheVariants.{Now}
@@ -20,7 +20,7 @@ use Rattle.wal_serve.specs.Requests.{Registered, Vouched, Entered}
 use Rattle.wal_serve.specs.Answers.{IsReplyOutcome, AnswersRequest, AnswersRead, AnswersPut, AnswersEntry}
 use Rattle.wal_serve.specs.Serving.{Replies, looked_at, read_past, Served, none, more}
 use Rattle.wal_served.specs.Steps.{world_of, IsDesk, Meaning, an_event, read_meaning, IsRefused, answer_text, Does, RepliesTruly, Stepped, AreSteps}
-use Rattle.wal_served.specs.Local.{tells, tells_entry}
+use Rattle.wal_served.specs.Local.{tells_entry}
 use Rattle.wal_served.proofs.Worlds.{ledger_same, world_same, desk_entered, desk_holding}
 use Rattle.wal_served.proofs.Replies.{Reply, made_stays, takes, lacks}
 use Rattle.wal_served.proofs.Changes.{Change, no_change, part_stored, slivers_went, entry_made, enter_plain, changes}
@@ -38,7 +38,7 @@ register_does digest s id until r new frames clash registered told = by register
     e = event.Register id until
 
     outcome : (q : Reply) → r ≡ q → IsReplyOutcome (Ok q) frames clash
-    outcome q is = subst (λ (x : Reply). IsReplyOutcome (Ok x) frames clash) is told
+    outcome q is = rw is at told
 
     by : Registered s.ledger id until r new → Does digest s (an_event e) frames clash (with_ledger s new)
     by (registering.Past, h, is) =
@@ -56,11 +56,11 @@ module _ (digest : List ℕ → List ℕ) (may_want : Bool) (s : ServedState) (d
   put_done : (payload : List ℕ) (frame : Frame) → read_of payload ≡ Ok frame → CanBePut frame → AnswersPut digest may_want frame s frames clash new
       → Does digest s (an_event (event.Send Now s.shard.index payload)) frames clash new
   put_done payload frame reads part (outcome, contents, put, told, is) =
-      subst (Does digest s (an_event (event.Send Now s.shard.index payload)) frames clash) (sym is) (put_does digest s d payload frame reads part may_want outcome contents frames clash put told)
+      rw is (put_does digest s d payload frame reads part may_want outcome contents frames clash put told)
 
   entry_done : (m : Meaning) (Makes : Reply → LedgerState → Type 0) → ((r : Reply) (l : LedgerState) → Makes r l → IsReplyOutcome (Ok r) frames clash → Does digest s m frames clash (with_ledger s l))
       → AnswersEntry Makes s frames clash new → Does digest s m frames clash new
-  entry_done m Makes does (r, ledger, makes, told, is) = subst (Does digest s m frames clash) (sym is) (does r ledger makes told)
+  entry_done m Makes does (r, ledger, makes, told, is) = rw is (does r ledger makes told)
 
   read_done : (payload : List ℕ) (read : Result Frame FrameError) → read_of payload ≡ read → AnswersRead digest may_want read s frames clash new
       → Does digest s (read_meaning s.shard.f s.shard.index payload read) frames clash new
@@ -72,7 +72,7 @@ module _ (digest : List ℕ → List ℕ) (may_want : Bool) (s : ServedState) (d
   read_done payload (Ok (Ack id)) reads h = entry_done (an_event (event.Ack s.shard.index (named id))) (Vouched Holds s (named id)) (λ r l. vouched_does digest s d Holds (named id) r l frames clash) h
   read_done payload (Ok (Attest id)) reads h = entry_done (an_event (event.Attest s.shard.index (named id))) (Vouched Denies s (named id)) (λ r l. vouched_does digest s d Denies (named id) r l frames clash) h
   read_done payload (Ok (Forget id)) reads (r, contents, forgets, told, is) =
-      subst (Does digest s (an_event (event.Forget Now s.shard.index (named id))) frames clash) (sym is) (forget_does digest s d (named id) r contents frames clash forgets told)
+      rw is (forget_does digest s d (named id) r contents frames clash forgets told)
   read_done payload (Ok (RegisterEntry id until)) reads h = entry_done (an_event (event.Register (named id) until)) (Registered s.ledger (named id) until) (λ r l. register_does digest s (named id) until r l frames clash) h
   read_done payload (Ok (AckEntry shard id)) reads h = entry_done _ (Entered Holds s.ledger shard (named id)) (λ r l. entered_does digest s d Holds shard (named id) r l frames clash) h
   read_done payload (Ok (AttestEntry shard id)) reads h = entry_done _ (Entered Denies s.ledger shard (named id)) (λ r l. entered_does digest s d Denies shard (named id) r l frames clash) h
@@ -90,26 +90,20 @@ module _ (digest : List ℕ → List ℕ) (may_want : Bool) (s : ServedState) (d
   refused_same read change code a b only refused = by change
     where
       none_made : tells_entry frames ≡ true → ⊥
-      none_made told = made_stays code a b (sym (ap tells_entry only) ∙ told) refused
+      none_made told = made_stays code a b (rw only at told) refused
 
       by : Change digest s read frames new → new ≡ s
       by (no_change same) = same
-      by (part_stored frame reads part about told accepted absent is) = absurd (none_made (ap (λ (b : Bool). b || (tells 13 frames || tells 14 frames)) told))
-      by (slivers_went q about told is) = absurd (none_made (ap (λ (b : Bool). b || (tells 13 frames || tells 14 frames)) told))
+      by (part_stored frame reads part about told accepted absent is) = absurd (none_made (rw told refl))
+      by (slivers_went q about told is) = absurd (none_made (rw told refl))
       by (entry_made q b about asks told may is) = absurd (none_made told)
 
   -- the shard goes on to serve, at its place
   goes_on : (read : Result Frame FrameError) → Change digest s read frames new → IsDesk new × SamePlace s.shard new.shard
-  goes_on read change = by change
-    where
-      there : (next : ServedState) → new ≡ next → IsDesk next → SamePlace s.shard next.shard → IsDesk new × SamePlace s.shard new.shard
-      there next is desk place = subst (λ (x : ServedState). IsDesk x × SamePlace s.shard x.shard) (sym is) (desk, place)
-
-      by : Change digest s read frames new → IsDesk new × SamePlace s.shard new.shard
-      by (no_change is) = there s is d (record { f = refl; index = refl; limit = refl })
-      by (part_stored frame reads part about told accepted absent is) = there _ is (desk_holding s _ d) (record { f = refl; index = refl; limit = refl })
-      by (slivers_went q about told is) = there _ is (desk_holding s _ d) (record { f = refl; index = refl; limit = refl })
-      by (entry_made q b about asks told may is) = there _ is (desk_entered s b d (enter_plain s q b may)) (record { f = refl; index = refl; limit = refl })
+  goes_on read (no_change is) = rw is (d, record { f = refl; index = refl; limit = refl })
+  goes_on read (part_stored frame reads part about told accepted absent is) = rw is (desk_holding s _ d, record { f = refl; index = refl; limit = refl })
+  goes_on read (slivers_went q about told is) = rw is (desk_holding s _ d, record { f = refl; index = refl; limit = refl })
+  goes_on read (entry_made q b about asks told may is) = rw is (desk_entered s b d (enter_plain s q b may), record { f = refl; index = refl; limit = refl })
 
 -- ---- the laws
 

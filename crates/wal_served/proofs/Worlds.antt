@@ -1,5 +1,5 @@
 -- The world of a shard that serves: its committee, and what an answer leaves of it.
-use Rattle.std.proofs.Common.{◌≡◌, ◌≢◌, ℕ, ◌<◌, Bool, true, false, cond, not, nat_eq, List, refl, sym, ap, subst, ◌∙◌, eq-eqb, arith}
+use Rattle.std.proofs.Common.{◌≡◌, ◌≢◌, ℕ, ◌<◌, Bool, true, false, cond, not, nat_eq, List, refl, sym, ap, ◌∙◌, eq-eqb, arith}
 use Rattle.std.specs.FinMap as finmap
 use Rattle.std.specs.List.{range_with_len}
 use Rattle.std.proofs.lemmas.Bool.{eqb-true}
@@ -20,7 +20,7 @@ use Rattle.wal_ledger.proofs.HandoverEntries.{is_plain, plain_stays}
 use Rattle.wal_shard.specs.Vouching.{backs}
 use Rattle.wal_protocol.specs.State.{Committee, World, side_of, writing_side, is_correct, contents_of, held, with_contents, keeps}
 use Rattle.wal_protocol.specs.Run.{empty_committee}
-use Rattle.wal_protocol.specs.Step.{NodeAll, MayPost, Declines}
+use Rattle.wal_protocol.specs.Step.{MayPost, Declines}
 use Rattle.wal_protocol.proofs.Lookups.{held_is}
 use Rattle.wal_serve.specs.State.{ServedState, holding, with_ledger}
 use Rattle.wal_served.specs.Steps.{others, alone, world_of, IsDesk}
@@ -93,46 +93,20 @@ module _ (s : ServedState) (d : IsDesk s) where
   -- a shard of this one's node is this one
   pub of_node : (t : ℕ) → t < committee_size s.ledger.log.f → same_node (owners_of Next s.ledger.log) s.shard.index t ≡ true → t ≡ s.shard.index
   of_node t lt same =
-      let less : t < committee_size s.shard.f = subst (λ (f : ℕ). t < committee_size f) d.faults lt in
-      let nodes : node_of (owners_of Now s.ledger.log) s.shard.index ≡ node_of (owners_of Now s.ledger.log) t
-      = subst (λ (o : List ℕ). node_of o s.shard.index ≡ node_of o t) owners_now (eqb-true _ _ same) in
-      sym (d.owners t less) ∙ sym nodes ∙ d.owners s.shard.index d.place
+      let nodes = rw owners_now at (eqb-true _ _ same) in
+      sym (d.owners t (rw d.faults at lt)) ∙ sym nodes ∙ d.owners s.shard.index d.place
 
   -- what it holds backs what it says
   pub may_post : (w : World) (kind : Kind) (id : BlobId) → backs kind (parts_at s.shard.contents id) ≡ true → MayPost (world_of w s) kind s.shard.index id
-  may_post w kind id backed =
-      let Q : Side → Type 0 = λ side.
-      is_correct side (world_of w s) s.shard.index ≡ true
-      → NodeAll (world_of w s) (owners_of Next s.ledger.log) s.shard.index (λ t. backs kind (held (side_of side (world_of w s)) t id) ≡ true)
-      in
-      subst Q (sym (writes_now w)) (λ correct t lt same.
-      subst (λ (k : ℕ). backs kind (held (side_of Now (world_of w s)) k id) ≡ true) (sym (of_node t lt same)) (ap (backs kind) (parts_here w id) ∙ backed))
+  may_post w kind id backed = rw (writes_now w) (λ correct t lt same. rw (of_node t lt same, parts_here w id) backed)
 
   -- or does not
   pub declines : (w : World) (kind : Kind) (id : BlobId) → backs kind (parts_at s.shard.contents id) ≡ false → Declines (world_of w s) kind s.shard.index id
-  declines w kind id bare =
-      let Q : Side → Type 0 = λ side.
-      (is_correct side (world_of w s) s.shard.index ≡ true)
-      × (t : ℕ) × (t < committee_size s.ledger.log.f) × (same_node (owners_of Next s.ledger.log) s.shard.index t ≡ true)
-      × (backs kind (held (side_of side (world_of w s)) t id) ≡ false)
-      in
-      let none : Q Now = (
-        here w,
-        s.shard.index,
-        subst (λ (f : ℕ). s.shard.index < committee_size f) (sym d.faults) d.place,
-        eq-eqb _ _ refl,
-        ap (backs kind) (parts_here w id) ∙ bare,
-      ) in
-      subst Q (sym (writes_now w)) none
+  declines w kind id bare = rw (writes_now w) (here w, s.shard.index, rw d.faults d.place, eq-eqb _ _ refl, rw (parts_here w id) bare)
 
   -- a faulty shard says what it likes
   pub may_say : (w : World) (kind : Kind) (t : ℕ) (id : BlobId) → t < committee_size s.shard.f → t ≢ s.shard.index → MayPost (world_of w s) kind t id
-  may_say w kind t id lt ne =
-      let Q : Side → Type 0 = λ side.
-      is_correct side (world_of w s) t ≡ true
-      → NodeAll (world_of w s) (owners_of Next s.ledger.log) t (λ u. backs kind (held (side_of side (world_of w s)) u id) ≡ true)
-      in
-      subst Q (sym (writes_now w)) (λ correct. absurd (let e : true ≡ false = sym correct ∙ there w t lt ne in cc))
+  may_say w kind t id lt ne = rw (writes_now w) (λ correct. absurd (let e : true ≡ false = sym correct ∙ there w t lt ne in cc))
 
   -- the shard keeps something
   pub keeps_then : (w : World) (new : Contents) → world_of w (holding s new) ≡ keeps (world_of w s) Now s.shard.index new
