@@ -1,6 +1,7 @@
 """etcd ends, in order or not, hangs, comes back, and says strange things meanwhile: who follows the ledger goes on."""
 import asyncio
 import contextlib
+import dataclasses
 import json
 import re
 import shutil
@@ -98,6 +99,7 @@ class Stops(GatewayCase):
         await self.local.start_etcd()
 
     async def test_nodes_and_gateway_go_on_when_etcd_is_stopped(self) -> None:
+        self.options = dataclasses.replace(self.options, stale=60)  # a recorder's start takes long on a busy machine
         await self.start()
         async with self.load():
             for kill in (False, False, False, True):
