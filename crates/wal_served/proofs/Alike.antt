@@ -119,7 +119,8 @@ fits_or_not id s bytes = by s.shard.limit refl
     by : (limit : Option ℕ) → s.shard.limit ≡ limit → Fits id s bytes
     by None is = fits (rw is tt)
     by (Some most) is = elim (cases_lt (most - cost s.shard.contents) (needed_for s.shard.contents id bytes)) [
-      | inl less ↦ full (most - cost s.shard.contents) (rw is refl) less (λ entries room. omega (arith, rw is at room.pages_fit, less))
+      | inl less ↦ full (most - cost s.shard.contents) (rw is refl) less
+          (λ entries room. omega (arith, rw is at room.pages_fit, less))
       | inr enough ↦ fits (rw is enough)
     ]
 

@@ -125,10 +125,12 @@ module _ (digest : List ℕ → List ℕ) (s : ServedState) (also : Bool) (frame
     where
       -- there is room or there is none
       accepted : PutsOrWants digest also (desk s.shard s.ledger.log) s.shard.contents frame putting.Memory contents → Fits (put_id digest frame) s (stored_bytes frame) → Beside digest (Ok frame) s
-      accepted p (fits room) = beside _ _ (answers _ _ (put_reply putting.Stored, _, (putting.Stored, (p.1, p.2, room, refl), refl, tt), (refl, refl), refl)) (inr refl)
+      accepted p (fits room) =
+          beside _ _ (answers _ _ (put_reply putting.Stored, _, (putting.Stored, (p.1, p.2, room, refl), refl, tt), (refl, refl), refl)) (inr refl)
       accepted p (full free is_free less not) =
           let refusal = putting.Full (needed_for s.shard.contents (put_id digest frame) (stored_bytes frame)) free in
-          beside _ _ (answers _ _ (put_reply refusal, s.shard.contents, (refusal, (p.1, p.2, is_free, refl, less, refl), refl, tt), (refl, refl), refl)) (inl (6, _, free, inl refl, refl))
+          beside _ _ (answers _ _ (put_reply refusal, s.shard.contents, (refusal, (p.1, p.2, is_free, refl, less, refl), refl, tt), (refl, refl), refl))
+          (inl (6, _, free, inl refl, refl))
 
       by : (x : PutAnswer) → PutsOrWants digest also (desk s.shard s.ledger.log) s.shard.contents frame x contents → outcome ≡ put_reply x → ShowsTexts digest s.shard.contents frame x → Beside digest (Ok frame) s
       by putting.Memory p same t = accepted p (fits_or_not (put_id digest frame) s (stored_bytes frame))

@@ -78,9 +78,6 @@ module _ (id : BlobId) (one other : Log) (a : AlikeLedgers id one other) where
   pub same_live : is_live other id ≡ is_live one id
   same_live = rw (a.epoch, a.own) refl
 
-  same_signers : (kind : Kind) (epoch : ℕ) → signers other id kind epoch ≡ signers one id kind epoch
-  same_signers kind epoch = rw (a.owners epoch, a.own) refl
-
   same_count : (kind : Kind) (epoch : ℕ) → signer_count other id kind epoch ≡ signer_count one id kind epoch
   same_count kind epoch = rw (a.faults, a.owners epoch, a.own) refl
 

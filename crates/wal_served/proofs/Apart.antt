@@ -76,7 +76,8 @@ changed_elsewhere digest id old read frames new not change = by change
         now_holding _ is (stored_apart old.shard.contents id (put_id digest frame) (put_part frame) (stored_bytes frame) (other (put_id digest frame) about))
     by (slivers_went q about told is) = now_holding _ is (gone_apart old.shard.contents id q (other q about))
     by (entry_made q b about asks told may is) =
-        rw is (record { faults = refl; index = refl; parts = refl; ledgers = other_entered id old.ledger.log b (enter_plain old q b may) (enter_names old q id b may ∙ apart q id (other q about)) })
+        let log = other_entered id old.ledger.log b (enter_plain old q b may) (enter_names old q id b may ∙ apart q id (other q about)) in
+        rw is (record { faults = refl; index = refl; parts = refl; ledgers = log })
 
 -- THE SECOND LAW
 pub leaves_alike : (digest : List ℕ → List ℕ) → LeavesAlike digest

@@ -88,7 +88,8 @@ twice false p o = refl
 
 put_again : (c : Contents) (id : BlobId) (p : Parts) → fin.insert (fin.remove c id) id p ≡ fin.insert c id p
 put_again c id p = fin.same_map ids_total exact_ids _ _ (λ q.
-    rw (fin.get-insert ids_total (fin.remove c id) id p q, fin.get-remove ids_total c id q, fin.get-insert ids_total c id p q) (twice (eq_by_cmp id_cmp q id) p (fin.get c q)))
+    rw (fin.get-insert ids_total (fin.remove c id) id p q, fin.get-remove ids_total c id q, fin.get-insert ids_total c id p q)
+    (twice (eq_by_cmp id_cmp q id) p (fin.get c q)))
 
 remove_cost : (c : Contents) (id : BlobId) → cost (fin.remove c id) + found_cost (fin.get c id) ≡ cost c
 remove_cost c id =

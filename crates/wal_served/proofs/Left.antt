@@ -145,7 +145,8 @@ module _ (digest : List ℕ → List ℕ) (id : BlobId) (keeps : List ℕ → Bo
     one_more left mid f t new fits keep replies calm has =
         let pages = sum_push (λ (x : Turn). cond (tells 0 x.answered) (part_pages x.payload) 0) left t in
         let entries = sum_push (λ (x : Turn). cond (tells_entry x.answered) (asked_entries x.payload) 0) left t in
-        let a = one_reply mid f.then t.payload t.answered t.clash new f.alike keep replies calm (room_on id other f.then _ _ _ _ (rw (pages, entries) at has) f.spent) in
+        let a = one_reply mid f.then t.payload t.answered t.clash new f.alike keep replies calm
+        (room_on id other f.then _ _ _ _ (rw (pages, entries) at has) f.spent) in
         let before = rw (f.goes_on refl) at f.served in
         let ended : clash_of (left ++ t ∷ []) ≡ t.clash = fold_push (λ (c : Option MetaClash) (x : Turn). x.clash) None left t in
         record {
@@ -189,7 +190,8 @@ module _ (digest : List ℕ → List ℕ) (id : BlobId) (keeps : List ℕ → Bo
         left_out e _ _ _ (read_past long) = alike_one id mid
         left_out e _ _ _ (looked_at s c n few answers) = leaves_alike digest id mid payload may_want s c n (λ same. false≢true (sym e ∙ chooses.own payload same)) answers
 
-        by : (All (λ (x : Turn). TellsWant x.answered → ⊥) L → RoomFor id other (stored_pages L) (made_entries L) → Follows L None mid) → (b : Bool) → keeps payload ≡ b → Follows (left_of keeps (all ++ t ∷ [])) clash new
+        by : (All (λ (x : Turn). TellsWant x.answered → ⊥) L → RoomFor id other (stored_pages L) (made_entries L) → Follows L None mid)
+            → (b : Bool) → keeps payload ≡ b → Follows (left_of keeps (all ++ t ∷ [])) clash new
         by before_so false e =
             let same : left_of keeps (all ++ t ∷ []) ≡ L = split false e ∙ append-nil L in
             let f = before_so (rw same at calm) (rw same at has) in

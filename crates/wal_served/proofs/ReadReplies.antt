@@ -32,7 +32,8 @@ no_opening digest id shard p axis index _ none (no_shard m holds beyond) = refl
 
 says_nothing : (digest : List ℕ → List ℕ) (id : List ℕ) (shard : ℕ) (p : Parts) (axis : Axis) (index : ℕ) (payloads : List (List ℕ)) → p.metadata ≡ None → p.proof ≡ None
     → SymbolReplies digest id shard p axis index payloads → payloads ≡ []
-says_nothing digest id shard p axis index payloads none bare (opening, is, whole) = rw (no_opening digest id shard p axis index opening none is, none, bare) at whole
+says_nothing digest id shard p axis index payloads none bare (opening, is, whole) =
+    rw (no_opening digest id shard p axis index opening none is, none, bare) at whole
 
 pub symbol_true : (digest : List ℕ → List ℕ) (s : ServedState) → IsDesk s → (id : List ℕ) (axis : Axis) (index : ℕ) (payloads frames : List (List ℕ)) (clash : Option MetaClash)
     → SymbolReplies digest id s.shard.index (parts_at s.shard.contents (named id)) axis index payloads → IsReplied payloads frames clash

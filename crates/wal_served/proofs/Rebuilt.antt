@@ -64,7 +64,8 @@ module _ (digest : List ℕ → List ℕ) (room sender : ℕ) (also : Bool) (oth
       → Built i (with_part q part (Some bytes)) (sofar ++ payload ∷ []) (pages + pages_for (length bytes))
 
   -- it grows by a frame that may be fed
-  feed : (q : Parts) (frame : Frame) → IsFrame frame → CanBePut frame → Verifies digest base.shard.f base.shard.index q frame → length (frame_text frame) ≤ room
+  feed : (q : Parts) (frame : Frame) → IsFrame frame → CanBePut frame → Verifies digest base.shard.f base.shard.index q frame
+      → length (frame_text frame) ≤ room
       → is_live base.ledger.log (put_id digest frame) ≡ true → Grows q (put_id digest frame) (put_part frame) (stored_bytes frame) (frame_text frame)
   feed q frame is puts verifies within lives sofar pages b absent fit = record {
     then = new;
@@ -124,14 +125,16 @@ module _ (digest : List ℕ → List ℕ) (room sender : ℕ) (also : Bool) (oth
         (own.0, own.1.held, own.1.faults, simp own.1.held.spelled (spelled_metadata-text own.0 own.1.held.fit))
 
     metadata_feeds : (bytes : List ℕ) → p.metadata ≡ Some bytes → Grows no_parts id parts.Metadata bytes (metadata_frame (spelled_metadata bytes))
-    metadata_feeds bytes e = let had = sound.metadata bytes e in by had.0 had.1.fit had.2.identifier had.3 (some_is p.metadata bytes (metadata_text had.0) e had.1.spelled)
+    metadata_feeds bytes e =
+        let had = sound.metadata bytes e in by had.0 had.1.fit had.2.identifier had.3 (some_is p.metadata bytes (metadata_text had.0) e had.1.spelled)
       where
         by : (m : BlobMetadata) → IsFrame (Metadata m) → id.0 ≡ (put_id digest (Metadata m)).0 → m.f ≡ base.shard.f → bytes ≡ metadata_text m
             → Grows no_parts id parts.Metadata bytes (metadata_frame (spelled_metadata bytes))
         by m fit under faults text =
             let named : id ≡ put_id digest (Metadata m) = ap (λ (l : List ℕ). record { 0 = l }) under in
             rw (text, spelled_metadata-text m fit, named)
-            (feed no_parts (Metadata m) fit tt faults (omega (arith, enough digest base.shard.f (Metadata m) some few fit tt, wide)) (rw (← named) (live bytes parts.Metadata e)))
+            (feed no_parts (Metadata m) fit tt faults (omega (arith, enough digest base.shard.f (Metadata m) some few fit tt, wide))
+            (rw (← named) (live bytes parts.Metadata e)))
 
     sliver_feeds : (axis : Axis) (q : Parts) → q.metadata ≡ p.metadata → (bytes : List ℕ) → part_of p (sliver_part axis) ≡ Some bytes
         → let m = spelled_metadata (unwrap_or p.metadata []) in Grows q id (sliver_part axis) bytes (sliver_frame id.0 axis (held_index m.format m.f axis base.shard.index) bytes)
@@ -147,7 +150,8 @@ module _ (digest : List ℕ → List ℕ) (room sender : ℕ) (also : Bool) (oth
           index_most = omega (arith, holds.within, own.2, few);
           size_most = verified_short digest base.shard.f base.shard.index id.0 q axis index bytes v;
         } in
-        rw own.3 (feed q frame fit tt v (omega (arith, enough digest base.shard.f frame some few fit (m, own.1.fit, own.2, holds), wide)) (live bytes (sliver_part axis) e))
+        rw own.3 (feed q frame fit tt v
+        (omega (arith, enough digest base.shard.f frame some few fit (m, own.1.fit, own.2, holds), wide)) (live bytes (sliver_part axis) e))
 
     proof_feeds : (q : Parts) → q.metadata ≡ p.metadata → (bytes : List ℕ) → p.proof ≡ Some bytes → Grows q id parts.Proof bytes (0x13 ∷ (id.0 ++ bytes))
     proof_feeds q same bytes e =
@@ -176,7 +180,8 @@ module _ (digest : List ℕ → List ℕ) (room sender : ℕ) (also : Bool) (oth
 -- THE FIFTH LAW
 pub rebuilds : (digest : List ℕ → List ℕ) → Rebuilds digest
 rebuilds digest id room sender may_want also one other taken frames clash state placed nothing first served has =
-    let b = all_parts digest room sender also other base placed.fits id p (rw (f_is, index_is) st.sound) placed.named_by (rw f_is placed.some) (rw f_is placed.few) (rw f_is placed.enough) live (entry_payloads own)
+    let b = all_parts digest room sender also other base placed.fits id p (rw (f_is, index_is) st.sound) placed.named_by
+    (rw f_is placed.some) (rw f_is placed.few) (rw f_is placed.enough) live (entry_payloads own)
     (record {
       then = base;
       fed = had.fed;

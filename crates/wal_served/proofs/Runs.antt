@@ -69,7 +69,10 @@ module _ (digest : List ℕ → List ℕ) (may_want : Bool) (fresh : ServedState
       → cond (nat_lt room (length payload)) [] (event_if (meaning fresh.shard.f fresh.shard.index payload) frames) ≡ events
       → events_in (all ++ (payload, frames) ∷ []) ≡ events_in all ++ events
   one_more all payload frames events is =
-      rw (flat_push (λ (a : Exchange). cond (nat_lt room (length a.0)) [] (event_if (meaning fresh.shard.f fresh.shard.index a.0) a.1)) all (payload, frames), is) refl
+      rw (
+        flat_push (λ (a : Exchange). cond (nat_lt room (length a.0)) [] (event_if (meaning fresh.shard.f fresh.shard.index a.0) a.1)) all (payload, frames),
+        is,
+      ) refl
 
   -- one more payload
   one_reply : (all : List Exchange) (mid : ServedState) (payload : List ℕ) (s : List (List ℕ)) (c : Option MetaClash) (n : ServedState) → SamePlace fresh.shard mid.shard

@@ -86,11 +86,18 @@ enters digest also id s t _ a size few place some (to_claim kind shard may where
     within (inr same) = rw same place
 
     by : (k : Kind) (r : Reply) → Entered k t.ledger shard id r (takes_in t.ledger (claim_of k shard id)) → Enters digest also t (claim_of k shard id)
-    by Holds r h = record { frame = AckEntry shard id.0; is = refl; fits = record { id_size = size; index_most = omega (arith, within where_it_is, few) }; only = tt; answered = _; answers = (r, _, h, (refl, refl), refl) }
-    by Denies r h = record { frame = AttestEntry shard id.0; is = refl; fits = record { id_size = size; index_most = omega (arith, within where_it_is, few) }; only = tt; answered = _; answers = (r, _, h, (refl, refl), refl) }
+    by Holds r h = record { frame = AckEntry shard id.0; is = refl; fits = fit; only = tt; answered = _; answers = (r, _, h, (refl, refl), refl) }
+      where
+        fit : IsFrame (AckEntry shard id.0)
+        fit = record { id_size = size; index_most = omega (arith, within where_it_is, few) }
+    by Denies r h = record { frame = AttestEntry shard id.0; is = refl; fits = fit; only = tt; answered = _; answers = (r, _, h, (refl, refl), refl) }
+      where
+        fit : IsFrame (AttestEntry shard id.0)
+        fit = record { id_size = size; index_most = omega (arith, within where_it_is, few) }
 
     claimed : (answer : AckAnswer) → Claims kind t.ledger shard id (acked answer) new → Enters digest also t (claim_of kind shard id)
-    claimed answer h = by kind (ack_reply answer) (of_committee _ _ (rw a.faults (within where_it_is)) (of_claim kind t.ledger shard id _ new (answer, h, refl)))
+    claimed answer h =
+        by kind (ack_reply answer) (of_committee _ _ (rw a.faults (within where_it_is)) (of_claim kind t.ledger shard id _ new (answer, h, refl)))
 
 about_or_not : (o : Option BlobId) (id : BlobId) → (o ≡ Some id) ⊎ (o ≡ Some id → ⊥)
 about_or_not None id = inr (λ e. cc)
@@ -120,7 +127,8 @@ module _ (digest : List ℕ → List ℕ) (room sender : ℕ) (also : Bool) (oth
       → AnswersRequest digest also t payload answered None new → Fed (sofar ++ payload ∷ []) new
   fed_one sofar payload t new answered short_room fed within answers = record {
     answered = fed.answered ++ answered;
-    served = rw (flat_push (envelope sender) sofar payload) (more _ fed.answered t fed.served sender payload answered None new (omega arith) (looked_at answered None new within answers));
+    served = rw (flat_push (envelope sender) sofar payload)
+        (more _ fed.answered t fed.served sender payload answered None new (omega arith) (looked_at answered None new within answers));
   }
 
 module _ (digest : List ℕ → List ℕ) (id : BlobId) (room sender : ℕ) (also : Bool) (one other : ServedState) (placed : IsPlaced id room one) (nothing : HasNothing id one) (first : AlikeAt id one other) where
@@ -238,7 +246,13 @@ module _ (digest : List ℕ → List ℕ) (id : BlobId) (room sender : ℕ) (als
 
       -- it is live then
       alive : reading (entered s.ledger.log b) < until_of (entered s.ledger.log b) id
-      alive = omega (arith, (plain_stays s.ledger.log b (enter_plain s id b may)).reading, ap until_among one_more_own, until_push own last, least b may)
+      alive = omega (
+        arith,
+        (plain_stays s.ledger.log b (enter_plain s id b may)).reading,
+        ap until_among one_more_own,
+        until_push own last,
+        least b may,
+      )
         where
           least : (x : Body) → Enterable s id x → reading s.ledger.log < max (until_of s.ledger.log id) (until_in x)
           least _ (to_register until m low) = omega (arith, m.beyond)
@@ -285,7 +299,8 @@ module _ (digest : List ℕ → List ℕ) (id : BlobId) (room sender : ℕ) (als
       where
         here : about_read digest (read_of payload) ≡ Some id → Change digest s (read_of payload) frames new → Standing new
         here about (no_change same) = rw same st
-        here about (part_stored frame reads part so told accepted absent is) = rw is (stored_here frame (frame_is payload frame reads).fits part (the_one _ id (sym so ∙ about)) accepted absent)
+        here about (part_stored frame reads part so told accepted absent is) =
+            rw is (stored_here frame (frame_is payload frame reads).fits part (the_one _ id (sym so ∙ about)) accepted absent)
         here about (slivers_went q so told is) = rw (is, the_one q id (sym so ∙ about)) went_here
         here about (entry_made q b so asks_one told may is) = rw is (entry_here b (rw (the_one q id (sym so ∙ about)) at may))
 
