@@ -85,15 +85,12 @@ enters digest also id s t _ a size few place some (to_claim kind shard may where
     within (inl is) = is
     within (inr same) = rw same place
 
+    most : shard ≤ 999
+    most = omega (arith, within where_it_is, few)
+
     by : (k : Kind) (r : Reply) → Entered k t.ledger shard id r (takes_in t.ledger (claim_of k shard id)) → Enters digest also t (claim_of k shard id)
-    by Holds r h = record { frame = AckEntry shard id.0; is = refl; fits = fit; only = tt; answered = _; answers = (r, _, h, (refl, refl), refl) }
-      where
-        fit : IsFrame (AckEntry shard id.0)
-        fit = record { id_size = size; index_most = omega (arith, within where_it_is, few) }
-    by Denies r h = record { frame = AttestEntry shard id.0; is = refl; fits = fit; only = tt; answered = _; answers = (r, _, h, (refl, refl), refl) }
-      where
-        fit : IsFrame (AttestEntry shard id.0)
-        fit = record { id_size = size; index_most = omega (arith, within where_it_is, few) }
+    by Holds r h = record { frame = AckEntry shard id.0; is = refl; fits = record { id_size = size; index_most = most }; only = tt; answered = _; answers = (r, _, h, (refl, refl), refl) }
+    by Denies r h = record { frame = AttestEntry shard id.0; is = refl; fits = record { id_size = size; index_most = most }; only = tt; answered = _; answers = (r, _, h, (refl, refl), refl) }
 
     claimed : (answer : AckAnswer) → Claims kind t.ledger shard id (acked answer) new → Enters digest also t (claim_of kind shard id)
     claimed answer h =
