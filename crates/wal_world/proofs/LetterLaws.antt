@@ -1,5 +1,5 @@
 -- Puts of frames, one after the other, come to what the puts of all of them do.
-use Rattle.std.proofs.Common.{◌≡◌, ℕ, Bool, true, false, cond, List, [], ◌∷◌, ◌++◌, Option, Some, None, is_some, refl, sym, ap, ◌∙◌, subst, arith}
+use Rattle.std.proofs.Common.{◌≡◌, ℕ, Bool, true, false, cond, List, [], ◌∷◌, ◌++◌, Option, Some, None, is_some, refl, ap, ◌∙◌, subst, arith}
 use Rattle.wal_shape.specs.declared.axis.Side.{Side}
 use Rattle.wal_shape.specs.declared.text.Collision.{Collision}
 use Rattle.wal_frame.specs.Frame.{Frame, IsFrame, frame_text}
@@ -7,7 +7,6 @@ use Rattle.wal_frame.proofs.FrameLaws.{read_again}
 use Rattle.wal_ledger.specs.Ledger.{Log}
 use Rattle.wal_store.specs.Contents.{Contents}
 use Rattle.wal_shape.specs.declared.text.MetaClash.{MetaClash}
-use Rattle.wal_tree.specs.Collision.{IsCollision}
 use Rattle.wal_shard.specs.declared.answers.PutAnswer.{PutAnswer}
 use Rattle.wal_shard.specs.declared.answers.PutAnswer.TheVariants as putting
 use Rattle.wal_protocol.specs.State.{World, Committee, side_of, with_side, with_contents, contents_of, keeps}
@@ -33,38 +32,35 @@ pub each_stops : (r : Rules) (log : Log) (c new : Committee) (a b : List (ℕ ×
 each_stops r log c new [] b h = absurd (let e : true ≡ false = h.0 in cc)
 each_stops r log c new (p ∷ more) b h = (h.0, h.1, h.2, either (is_clash h.0) h.3 (λ g. g) (λ g. each_stops r log (with_contents c p.0 h.1) new more b g))
 
-side_same : (side : Side) (w : World) → with_side side w (side_of side w) ≡ w
-side_same side w = grind arith
-
-side_back : (side : Side) (w : World) (c : Committee) → side_of side (with_side side w c) ≡ c
-side_back side w c = grind arith
-
 pub side_log : (side : Side) (w : World) (c : Committee) → (with_side side w c).log ≡ w.log
 side_log side w c = grind arith
 
-side_twice : (side : Side) (w : World) (c d : Committee) → with_side side (with_side side w c) d ≡ with_side side w d
-side_twice side w c d = grind arith
+side_same : (side : Side) (w : World) → w ≡ with_side side w (side_of side w)
+side_same side w = grind arith
 
 module _ (digest : List ℕ → List ℕ) where
   -- no puts
   pub puts_none : (w : World) (side : Side) → PutsTo digest w side [] None w
-  puts_none w side = record { mid = side_of side w; puts = (refl, refl); state = sym (side_same side w); collides = tt }
+  puts_none w side = record { mid = side_of side w; puts = (refl, refl); state = side_same side w; collides = tt }
 
   -- puts without a clash, and more of them
   pub puts_append : (old here new : World) (side : Side) (a b : List (ℕ × Frame)) (clash : Option Collision)
       → PutsTo digest old side a None here → PutsTo digest here side b clash new → PutsTo digest old side (a ++ b) clash new
   puts_append old here new side a b clash h k =
-      let log : here.log ≡ old.log = ap (λ (w : World). w.log) h.state ∙ side_log side old h.mid in
-      let at : side_of side here ≡ h.mid = ap (λ (w : World). side_of side w) h.state ∙ side_back side old h.mid in
-      let P : Log → Committee → Type 0 = λ l c. PutsEach (rules_of digest l.f) l c b (is_some clash) k.mid in
-      let more : PutsEach (rules_of digest old.log.f) old.log h.mid b (is_some clash) k.mid
-      = subst (λ (c : Committee). P old.log c) at (subst (λ (l : Log). P l (side_of side here)) log k.puts) in
+      let log : here.log ≡ old.log = rw h.state (side_log side old h.mid) in
+      let there : side_of side here ≡ h.mid = rw h.state (back old h.mid) in
       record {
         mid = k.mid;
-        puts = each_append (rules_of digest old.log.f) old.log (side_of side old) h.mid k.mid a b (is_some clash) h.puts more;
-        state = k.state ∙ ap (λ (w : World). with_side side w k.mid) h.state ∙ side_twice side old h.mid k.mid;
+        puts = each_append (rules_of digest old.log.f) old.log (side_of side old) h.mid k.mid a b (is_some clash) h.puts (rw (there, log) at k.puts);
+        state = rw h.state at k.state ∙ twice old h.mid k.mid;
         collides = k.collides;
       }
+    where
+      back : (w : World) (c : Committee) → side_of side (with_side side w c) ≡ c
+      back w c = grind arith
+
+      twice : (w : World) (c d : Committee) → with_side side (with_side side w c) d ≡ with_side side w d
+      twice w c d = grind arith
 
   -- puts up to a clash
   pub puts_stop : (old new : World) (side : Side) (a b : List (ℕ × Frame)) (c : Collision)
@@ -75,22 +71,6 @@ module _ (digest : List ℕ → List ℕ) where
     state = h.state;
     collides = h.collides;
   }
-
-  -- one step of a loop over what is sent
-  pub continues_more : (old here next : World) (side : Side) (all first rest letters : List (ℕ × Frame)) → Continues digest old all side here letters
-      → letters ≡ first ++ rest → PutsTo digest here side first None next → Continues digest old all side next rest
-  continues_more old here next side all first rest letters go same step clash new k =
-      go clash new (subst (λ (l : List (ℕ × Frame)). PutsTo digest here side l clash new) (sym same) (puts_append here next new side first rest clash step k))
-
-  pub continues_stop : (old here new : World) (side : Side) (all first rest letters : List (ℕ × Frame)) (c : Collision) → Continues digest old all side here letters
-      → letters ≡ first ++ rest → PutsTo digest here side first (Some c) new → PutsTo digest old side all (Some c) new
-  continues_stop old here new side all first rest letters c go same step =
-      go (Some c) new (subst (λ (l : List (ℕ × Frame)). PutsTo digest here side l (Some c) new) (sym same) (puts_stop here new side first rest c step))
-
-  pub continues_done : (old here : World) (side : Side) (all letters : List (ℕ × Frame)) → Continues digest old all side here letters → letters ≡ []
-      → PutsTo digest old side all None here
-  continues_done old here side all letters go none =
-      go None here (subst (λ (l : List (ℕ × Frame)). PutsTo digest here side l None here) (sym none) (puts_none here side))
 
   -- one put that finds no other metadata
   pub put_stays : (w new : World) (side : Side) (shard : ℕ) (frame : Frame) (contents : Contents) (answer : PutAnswer) → is_clash answer ≡ false
@@ -107,9 +87,22 @@ module _ (digest : List ℕ → List ℕ) where
   put_clashes w new side shard frame contents clash c p same left right = record {
     mid = side_of side w;
     puts = (putting.OtherMetadata clash, contents, p, (refl, refl));
-    state = same ∙ ap (λ (m : Contents). keeps w side shard m) p.1.7 ∙ keeps_same side w shard ∙ sym (side_same side w);
-    collides = subst (λ (x : List ℕ). IsCollision digest x c.right) (sym left) (subst (λ (x : List ℕ). IsCollision digest clash.left x) (sym right) p.1.6);
+    state = rw p.1.7 at same ∙ keeps_same side w shard ∙ side_same side w;
+    collides = rw (left, right) p.1.6;
   }
+
+-- one step of a loop over what is sent
+pub continues_more : {digest : List ℕ → List ℕ} {old here next : World} {side : Side} {all first rest letters : List (ℕ × Frame)} → Continues digest old all side here letters
+    → letters ≡ first ++ rest → PutsTo digest here side first None next → Continues digest old all side next rest
+continues_more go same step clash new k = go clash new (rw same (puts_append _ _ _ _ _ _ _ _ step k))
+
+pub continues_stop : {digest : List ℕ → List ℕ} {old here new : World} {side : Side} {all first letters : List (ℕ × Frame)} {c : Collision} (rest : List (ℕ × Frame))
+    → Continues digest old all side here letters → letters ≡ first ++ rest → PutsTo digest here side first (Some c) new → PutsTo digest old side all (Some c) new
+continues_stop rest go same step = go _ _ (rw same (puts_stop _ _ _ _ _ rest _ step))
+
+pub continues_done : {digest : List ℕ → List ℕ} {old here : World} {side : Side} {all letters : List (ℕ × Frame)} → Continues digest old all side here letters → letters ≡ []
+    → PutsTo digest old side all None here
+continues_done go none = go None _ (rw none (puts_none _ _ _))
 
 -- the spelling of a frame is read as it
 pub frame_again : (x : Frame) → IsFrame x → frame_in (frame_text x) ≡ x

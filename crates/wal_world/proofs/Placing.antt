@@ -17,7 +17,6 @@ use Rattle.wal_shard.specs.Vouching.{MayForget, without_slivers}
 use Rattle.wal_world.specs.declared.books.Books.{Books}
 use Rattle.wal_world.specs.declared.books.Books.TheVariants.{Serving, Moving}
 use Rattle.wal_world.specs.declared.members.Members.{Members}
-use Rattle.wal_world.specs.declared.members.Sides.{Sides}
 use Rattle.wal_world.specs.declared.network.Network.{Network}
 use Rattle.wal_protocol.specs.State.{World, side_of, is_present, is_correct, contents_of, with_contents, keeps}
 use Rattle.wal_world.specs.inside.Books.{ledger_of, AreBooks}
@@ -100,91 +99,68 @@ unfolding with_contents
 keeps_same Now w shard = ap (λ (l : List Contents). record w { now = record w.now { shards = l } }) (set-get_or w.now.shards shard finmap.empty)
 keeps_same Next w shard = ap (λ (l : List Contents). record w { next = record w.next { shards = l } }) (set-get_or w.next.shards shard finmap.empty)
 
--- a shard of the list
-pub shard_at : (f : ℕ) (list : List ShardState) (place k : ℕ) (old : ShardState) → AreShards f list → place < length list → k ≡ place → old ≡ slice_index_or list k old
-    → IsShardAt f place old
-shard_at f list place k old are less same at =
-    let here : old ≡ slice_index_or list place old = subst (λ (j : ℕ). old ≡ slice_index_or list j old) same at in
-    subst (λ (s : ShardState). IsShardAt f place s) (sym here) (are.each place old (subst (λ (n : ℕ). place < n) are.count less))
+-- a shard of the list, and what it holds
+pub shard_at : {f : ℕ} {list : List ShardState} {place k : ℕ} {old : ShardState} → AreShards f list → place < length list → k ≡ place → old ≡ slice_index_or list k old
+    → IsShardAt f place old × (contents_at list place ≡ old.contents)
+shard_at {f} {list} {place} {k} {old} are less same is =
+    let here : old ≡ slice_index_or list place old = rw same at is in
+    (rw here (are.each place old (rw are.count at less)), sym (shards.contents_at list place old less here))
 
 -- a shard of the list that changed what it holds is put where it was
-pub placed_by : (f : ℕ) (list : List ShardState) (place k : ℕ) (old new : ShardState) → AreShards f list → place < length list → k ≡ place → old ≡ slice_index_or list k old
+pub placed_by : {f : ℕ} {list : List ShardState} {place k : ℕ} {old new : ShardState} → AreShards f list → place < length list → k ≡ place → old ≡ slice_index_or list k old
     → new ≡ shard_state.with_contents old new.contents → slice_set list k new ≡ placed f list place new.contents
-placed_by f list place k old new are less same at is =
-    let own : IsShardAt f place old = shard_at f list place k old are less same at in
-    let whole : new ≡ record { f = f; index = place; contents = new.contents; limit = None }
-    = is ∙ (let a : old.f ≡ f = own.f_is in let b : old.index ≡ place = own.index_is in let d : old.limit ≡ None = own.limit_is in cc) in
-    ap (λ (j : ℕ). slice_set list j new) same ∙ ap (λ (s : ShardState). slice_set list place s) whole
-
--- what it held
-pub held_by : (list : List ShardState) (place k : ℕ) (old : ShardState) → place < length list → k ≡ place → old ≡ slice_index_or list k old → contents_at list place ≡ old.contents
-held_by list place k old less same at =
-    sym (shards.contents_at list place old less (subst (λ (j : ℕ). old ≡ slice_index_or list j old) same at))
+placed_by {f} {list} {place} {k} {old} {new} are less same is kept =
+    let own = (shard_at are less same is).0 in
+    let whole : new ≡ record { f = f; index = place; contents = new.contents; limit = None } = cc (kept, own.f_is, own.index_is, own.limit_is) in
+    rw (same, whole)
 
 -- a change of the shards of a side as a change of the network
-pub placed_at : {H : Type 0} (at : Side) (old new : Network H) (was m : Members H) (shard : ℕ) (ledger : LedgerState) (P : Log → Contents → Contents → Type 0)
-    → was ≡ members_of at old.sides → ledger ≡ ledger_of old.books
-    → new.format ≡ old.format → new.books ≡ old.books → new.few ≡ old.few → new.answers ≡ old.answers → new.buffer ≡ old.buffer → new.work.f ≡ old.work.f
-    → new.sides ≡ with_members at old.sides m
+pub placed_at : {H : Type 0} (at : Side) (old new : Network H) {was : Members H} (m : Members H) (shard : ℕ) {ledger : LedgerState} (P : Log → Contents → Contents → Type 0)
+    → was ≡ members_of at old.sides → ledger ≡ ledger_of old.books → new ≡ record old { sides = with_members at old.sides m; work = new.work } → new.work.f ≡ old.work.f
     → (x : Contents) × P ledger.log (contents_at was.shards.items shard) x × (m.shards.items ≡ placed ledger.log.f was.shards.items shard x)
     → (x : Contents) × P (world_of old).log (contents_of (side_of at (world_of old)) shard) x × Places at old shard x new
-placed_at {H} at old new was m shard ledger P lent same format books few answers buffer work sides did = (
-  h.0,
-  subst (λ (c : Contents). P (world_of old).log c h.0) (holds at) h.1,
-  record {
-    format = format;
-    books = books;
-    few = few;
-    answers = answers;
-    buffer = buffer;
-    work = work;
-    shards = ap (λ (s : Sides H). (members_of at s).shards.items) sides ∙ own at ∙ h.2;
-    others = ap (λ (s : Sides H). (members_of (opposite at) s).shards.items) sides ∙ other at;
-  },
-)
+placed_at at old new m shard P lent same made work did =
+    let h = rw (same, lent) at did in (
+      h.0,
+      rw (holds at) at h.1,
+      record {
+        format = rw made;
+        books = rw made;
+        few = rw made;
+        answers = rw made;
+        buffer = rw made;
+        work = work;
+        shards = rw made (own at ∙ h.2);
+        others = rw made (other at);
+      },
+    )
   where
-    h : (x : Contents) × P (ledger_of old.books).log (contents_at (shards_of at old) shard) x × (m.shards.items ≡ placed (ledger_of old.books).log.f (shards_of at old) shard x)
-    h =
-        subst (λ (l : LedgerState). (x : Contents) × P l.log (contents_at (shards_of at old) shard) x × (m.shards.items ≡ placed l.log.f (shards_of at old) shard x)) same
-        (subst (λ (w : Members H). (x : Contents) × P ledger.log (contents_at w.shards.items shard) x × (m.shards.items ≡ placed ledger.log.f w.shards.items shard x)) lent did)
-
     holds : (s : Side) → contents_at (shards_of s old) shard ≡ contents_of (side_of s (world_of old)) shard
-    holds Now = refl
-    holds Next = refl
+    holds s = grind arith
 
     own : (s : Side) → (members_of s (with_members s old.sides m)).shards.items ≡ m.shards.items
-    own Now = refl
-    own Next = refl
+    own s = grind arith
 
     other : (s : Side) → (members_of (opposite s) (with_members s old.sides m)).shards.items ≡ shards_of (opposite s) old
-    other Now = refl
-    other Next = refl
+    other s = grind arith
 
 -- the shards of a side that is there are those of a committee
-pub members_are : {H : Type 0} (at : Side) (n : Network H) (m : Members H) (f : ℕ) → m ≡ members_of at n.sides → f ≡ (ledger_of n.books).log.f → IsNetwork n → is_present at (world_of n) ≡ true
+pub members_are : {H : Type 0} (at : Side) {n : Network H} {m : Members H} {f : ℕ} → m ≡ members_of at n.sides → f ≡ (ledger_of n.books).log.f → IsNetwork n → is_present at (world_of n) ≡ true
     → AreShards f m.shards.items
-members_are {H} at n m f lent same is there =
-    subst (λ (k : ℕ). AreShards k m.shards.items) (sym same) (subst (λ (x : Members H). AreShards (ledger_of n.books).log.f x.shards.items) (sym lent) (side_shards at n is there))
+members_are at lent same is there = rw (same, lent) (side_shards at _ is there)
 
-pub members_reach : {H : Type 0} (at : Side) (n : Network H) (m : Members H) (shard : ℕ) → m ≡ members_of at n.sides → IsNetwork n → is_present at (world_of n) ≡ true
+pub members_reach : {H : Type 0} (at : Side) {n : Network H} {m : Members H} {shard : ℕ} → m ≡ members_of at n.sides → IsNetwork n → is_present at (world_of n) ≡ true
     → shard < committee_size (world_of n).log.f → shard < length m.shards.items
-members_reach at n m shard lent is there less =
-    subst (λ (k : ℕ). shard < k) (sym (members_are at n m (ledger_of n.books).log.f lent refl is there).count) less
+members_reach at lent is there less = rw (members_are at lent refl is there).count less
 
 -- a shard that is there and not faulty is correct
 pub correct_is : (side : Side) (w : World) (shard : ℕ) → is_present side w ≡ true → among (side_of side w).faulty shard ≡ false → is_correct side w shard ≡ true
 correct_is side w shard there fine = grind arith
 
 -- what a shard's answer to forgetting says of what it holds
-pub lets_go : (log : Log) (old new : ShardState) (m : Contents) (id : BlobId) (result : Result (Unit {0}) Declined) → m ≡ old.contents
+pub lets_go : (log : Log) {old new : ShardState} {m : Contents} (id : BlobId) (result : Result (Unit {0}) Declined) → m ≡ old.contents
     → OnOk result (MayForget log old.contents id) → OnOk result (new ≡ shard_state.with_contents old (without_slivers old.contents id))
     → OnErr result (MayForget log old.contents id → ⊥) → OnErr result (new ≡ old)
     → LetsGo log m id result new.contents × (new ≡ shard_state.with_contents old new.contents)
-lets_go log old new m id (Ok done) same may gone declined stays = (
-  (subst (λ (x : Contents). MayForget log x id) (sym same) may, ap (λ (s : ShardState). s.contents) gone ∙ ap (λ (x : Contents). without_slivers x id) (sym same)),
-  gone ∙ ap (λ (x : Contents). shard_state.with_contents old x) (sym (ap (λ (s : ShardState). s.contents) gone)),
-)
-lets_go log old new m id (Err e) same may gone declined stays = (
-  (λ h. declined (subst (λ (x : Contents). MayForget log x id) same h), ap (λ (s : ShardState). s.contents) stays ∙ sym same),
-  stays ∙ ap (λ (x : Contents). shard_state.with_contents old x) (sym (ap (λ (s : ShardState). s.contents) stays)),
-)
+lets_go log id (Ok done) same may gone declined stays = ((rw same may, rw (same, gone)), rw gone)
+lets_go log id (Err e) same may gone declined stays = (((λ h. declined (rw same at h)), rw (same, stays)), rw stays)

@@ -9,7 +9,7 @@ use Rattle.wal_ledger.specs.Ledger.{Log}
 use Rattle.wal_store.specs.Contents.{Contents}
 use Rattle.wal_shard.specs.declared.answers.PutAnswer.{PutAnswer}
 use Rattle.wal_shard.specs.declared.answers.PutAnswer.TheVariants as putting
-use Rattle.wal_shard.specs.Putting.{PutDesk, PutsOrWants}
+use Rattle.wal_shard.specs.Putting.{PutsOrWants}
 use Rattle.wal_shard.specs.State.{ShardState, desk_of}
 use Rattle.wal_shard.specs.State as shard_state
 use Rattle.wal_protocol.specs.State.{World, side_of, is_correct, contents_of, keeps}
@@ -18,9 +18,9 @@ use Rattle.wal_theorem.specs.Instance.{IsPutFrame, PutsFrame, rules_of}
 use Rattle.wal_world.specs.inside.Taken.{IsAnswered, IsTaken, Tells}
 use Rattle.wal_world.specs.declared.taken.Taken.{Taken}
 use Rattle.wal_world.specs.declared.taken.Taken.TheVariants as taken
-use Rattle.wal_world.specs.inside.Network.{AreShards, IsShardAt}
+use Rattle.wal_world.specs.inside.Network.{AreShards}
 use Rattle.wal_world.specs.inside.Placed.{contents_at}
-use Rattle.wal_world.proofs.Placing.{keeps_same, held_by, shard_at}
+use Rattle.wal_world.proofs.Placing.{keeps_same, shard_at}
 
 pub on_ok : {A E P : Type 0} (r : Result A E) → P → OnOk r P
 on_ok (Ok x) p = p
@@ -71,13 +71,11 @@ send_step digest f old new side shard bytes frame contents answer said correct p
     by _ _ p t = absurd t
 
 -- what one of the shards of a committee makes of a frame, by its place
-pub put_by : (digest : List ℕ → List ℕ) (f : ℕ) (log : Log) (list : List ShardState) (place k : ℕ) (old : ShardState) (frame : Frame) (answer : PutAnswer) (new : Contents)
+pub put_by : (digest : List ℕ → List ℕ) {f : ℕ} (log : Log) {list : List ShardState} {place k : ℕ} {old : ShardState} (frame : Frame) (answer : PutAnswer) (new : Contents)
     → AreShards f list → place < length list → k ≡ place → old ≡ slice_index_or list k old
     → PutsOrWants digest true (shard_state.desk old log) old.contents frame answer new
     → PutsOrWants digest true (desk_of f place None log) (contents_at list place) frame answer new
-put_by digest f log list place k old frame answer new are less same at puts =
-    let own : IsShardAt f place old = shard_at f list place k old are less same at in
-    let desk : shard_state.desk old log ≡ desk_of f place None log
-    = (let a : old.f ≡ f = own.f_is in let b : old.index ≡ place = own.index_is in let d : old.limit ≡ None = own.limit_is in cc) in
-    subst (λ (m : Contents). PutsOrWants digest true (desk_of f place None log) m frame answer new) (sym (held_by list place k old less same at))
-    (subst (λ (d : PutDesk). PutsOrWants digest true d old.contents frame answer new) desk puts)
+put_by digest {f} log {list} {place} {k} {old} frame answer new are less same is puts =
+    let own = shard_at are less same is in
+    let desk : shard_state.desk old log ≡ desk_of f place None log = cc (own.0.f_is, own.0.index_is, own.0.limit_is) in
+    rw (own.1, ← desk) puts

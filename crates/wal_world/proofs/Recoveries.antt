@@ -1,5 +1,5 @@
 -- What is known of a blob's metadata, and what a recovery comes to.
-use Rattle.std.proofs.Common.{◌≡◌, ◌≢◌, inl, inr, ℕ, true, List, Option, Some, None, Result, Ok, Err, IfOk, OnOk, IfSome, IfNone, refl, sym, ap, ◌∙◌, subst}
+use Rattle.std.proofs.Common.{◌≡◌, ◌≢◌, inl, inr, ℕ, true, List, Option, Some, None, Result, Ok, Err, IfOk, OnOk, IfSome, IfNone, refl, sym, ap, ◌∙◌}
 use Rattle.std.specs.declared.alloc.AllocError.{AllocError}
 use Rattle.wal_shape.specs.declared.metadata.BlobId.{BlobId}
 use Rattle.wal_shape.specs.declared.axis.Axis.{Axis}
@@ -49,53 +49,37 @@ own_is digest f id p None a b = b
 same_text : (parts : Parts) (own : BlobMetadata) → HoldsMetadata parts own → (bytes : List ℕ) → parts.metadata ≡ Some bytes → bytes ≡ metadata_text own
 same_text parts own holds bytes at = let e : ◌≡◌ {A = Option (List ℕ)} (Some bytes) (Some (metadata_text own)) = sym at ∙ holds.spelled in cc
 
--- what a shard holds is the one that is known
-pub same_held : (digest : List ℕ → List ℕ) (old mid : World) (side : Side) (shard : ℕ) (id : BlobId) (payloads : List (List ℕ)) (m : BlobMetadata) → mid ≡ old
-    → IsOnly digest id (held (side_of side old) shard id) payloads m → (other : List ℕ) → (parts_at (contents_of (side_of side mid) shard) id).metadata ≡ Some other → other ≡ metadata_text m
-unfolding held
-same_held digest old mid side shard id payloads m same only other at =
-    only.same other (subst (λ (w : World). (parts_at (contents_of (side_of side w) shard) id).metadata ≡ Some other) same at)
-
 -- ---- what is known
 
 module _ (digest : List ℕ → List ℕ) (f : ℕ) (id : BlobId) (parts : Parts) (payloads : List (List ℕ)) where
-  -- of an option that is this one
-  is_held : (o p : Option BlobMetadata) → o ≡ p → IsHeldMetadata digest f id.0 parts o → IsHeldMetadata digest f id.0 parts p
-  is_held o p is h = subst (λ (x : Option BlobMetadata). IsHeldMetadata digest f id.0 parts x) is h
-
   pub only_held : (own : BlobMetadata) (o : Option BlobMetadata) → ((m : BlobMetadata) → HasMetadata digest id.0 payloads m → ⊥) → o ≡ Some own → IsHeldMetadata digest f id.0 parts o
       → IsOnly digest id parts payloads own
-  only_held own o none is at =
-      let h = is_held o (Some own) is at in
+  only_held own o none is held =
+      let h = rw is at held in
       record { known = inr h.held; only = held_alone digest id parts payloads own none h.held; commits = h.commits; same = same_text parts own h.held }
 
   pub none_both : (o : Option BlobMetadata) → ((m : BlobMetadata) → HasMetadata digest id.0 payloads m → ⊥) → o ≡ None → IsHeldMetadata digest f id.0 parts o
       → (m : BlobMetadata) → Knows digest id parts payloads m → ⊥
-  none_both o none is h = none_known digest id parts payloads none (is_held o None is h)
+  none_both o none is h = none_known digest id parts payloads none (rw is at h)
 
   pub only_beside : (m own : BlobMetadata) (o : Option BlobMetadata) → IsMetadataIn digest id.0 payloads m → own ≡ m → o ≡ Some own → IsHeldMetadata digest f id.0 parts o
       → IsOnly digest id parts payloads own
-  only_beside m own o one same is at =
-      let h = is_held o (Some own) is at in
+  only_beside m own o one same is held =
+      let h = rw is at held in
       record {
         known = inr h.held;
-        only = λ other knows. known_beside digest id parts payloads m one (subst (λ (x : BlobMetadata). HoldsMetadata parts x) same h.held) other knows ∙ sym same;
+        only = λ other knows. known_beside digest id parts payloads m one (rw same at h.held) other knows ∙ sym same;
         commits = h.commits;
         same = same_text parts own h.held;
       }
 
   pub only_first : (m copy : BlobMetadata) (o : Option BlobMetadata) → IsMetadataIn digest id.0 payloads m → Commits digest id.0 m → copy ≡ m → o ≡ None
       → IsHeldMetadata digest f id.0 parts o → IsOnly digest id parts payloads copy
-  only_first m copy o one commits same is at =
-      let h = is_held o None is at in
-      subst (λ (x : BlobMetadata). IsOnly digest id parts payloads x) (sym same)
-      (record { known = inl one.0; only = known_alone digest id parts payloads m one h; commits = commits; same = λ bytes e. absurd (none_some parts.metadata bytes h e) })
+  only_first m copy o one commits same is held =
+      let h = rw is at held in
+      rw same (record { known = inl one.0; only = known_alone digest id parts payloads m one h; commits = commits; same = λ bytes e. absurd (none_some parts.metadata bytes h e) })
 
 -- ---- what a shard keeps
-
--- by what it held, where that is stated otherwise
-pub kept_by : (r : Result (Unit {0}) AllocError) (Keeps : Contents → Contents) (old new at : Contents) → at ≡ old → OnOk r (new ≡ Keeps old) → OnOk r (new ≡ Keeps at)
-kept_by r Keeps old new at same h = subst (λ (x : Contents). OnOk r (new ≡ Keeps x)) (sym same) h
 
 pub kept_world : (r : Result (Unit {0}) AllocError) (old new : World) (side : Side) (shard : ℕ) (contents want : Contents) → new ≡ keeps old side shard contents → OnOk r (contents ≡ want)
     → OnOk r (new ≡ keeps old side shard want)
@@ -108,9 +92,7 @@ pub kept_at : {H : Type 0} (side : Side) (old new : Network H) (was m : Members 
     → (x : Contents) × OnOk r (x ≡ kept (contents_at was.shards.items shard)) × (m.shards.items ≡ placed f was.shards.items shard x)
     → IsNetwork new × OnOk r (world_of new ≡ keeps (world_of old) side shard (kept (contents_of (side_of side (world_of old)) shard)))
 kept_at {H} side old new was m shard f r kept lent same is there made h =
-    let p = placed_at side old new was m shard (ledger_of old.books) (λ log c x. OnOk r (x ≡ kept c)) lent refl (ap (λ (n : Network H). n.format) made) (ap (λ (n : Network H). n.books) made)
-    (ap (λ (n : Network H). n.few) made) (ap (λ (n : Network H). n.answers) made) (ap (λ (n : Network H). n.buffer) made) (ap (λ (n : Network H). n.work.f) made)
-    (ap (λ (n : Network H). n.sides) made) (h.0, h.1, subst (λ (k : ℕ). m.shards.items ≡ placed k was.shards.items shard h.0) same h.2) in (
+    let p = placed_at side old new m shard {ledger = ledger_of old.books} (λ log c x. OnOk r (x ≡ kept c)) lent refl (rw made) (rw made) (h.0, h.1, rw same at h.2) in (
       places_network side old new shard p.0 p.2 is there,
       kept_world r (world_of old) (world_of new) side shard p.0 (kept (contents_of (side_of side (world_of old)) shard)) (places_world side old new shard p.0 p.2) p.1,
     )
@@ -171,7 +153,7 @@ module _ (digest : List ℕ → List ℕ) (old new : World) (side : Side) (shard
   runs word on one = record { correct = correct; live = live; payloads = payloads; replied = replied; one_metadata = one; recovers = on.1 }
 
   stays : (contents : Contents) → contents ≡ contents_of (side_of side old) shard → new ≡ keeps old side shard contents → new ≡ old
-  stays contents e is = is ∙ ap (λ (m : Contents). keeps old side shard m) e ∙ keeps_same side old shard
+  stays contents e is = rw e at is ∙ keeps_same side old shard
 
   word_step : (word : RecoverWord) → RecoversInWorld digest old side shard axis id payloads word new → (Two → ⊥) → RecoverStep (rules_of digest old.log.f) old side shard axis id replies word new
   word_step recovering.NoMetadata on one = (on.0, runs recovering.NoMetadata on one, stays on.0 on.1.1 on.2)
@@ -198,7 +180,4 @@ pub recover_step : (digest : List ℕ → List ℕ) (old mid new : World) (side 
     → IfOk r (IsTaken digest (λ word. RecoverStep (rules_of digest old.log.f) old side shard axis id replies word new)
     (RecoverCollides (rules_of digest old.log.f) old side shard axis id replies × (new ≡ old)))
 recover_step digest old mid new side shard axis id replies payloads r correct live replied same h =
-    let P : World → Type 0
-    = λ w. IfOk r (IsTaken digest (λ word. RecoversInWorld digest w side shard axis id payloads word new × (KnowsTwo digest id (held (side_of side w) shard id) payloads → ⊥))
-    (KnowsTwo digest id (held (side_of side w) shard id) payloads × (new ≡ w))) in
-    taken_step digest old new side shard axis id replies payloads correct live replied r (subst P same h)
+    taken_step digest old new side shard axis id replies payloads correct live replied r (rw same at h)

@@ -1,5 +1,5 @@
 -- Replies in a network's buffer.
-use Rattle.std.proofs.Common.{◌≡◌, ℕ, ◌+◌, ◌<◌, ◌^◌, List, [], ◌∷◌, ◌++◌, length, true, Result, Ok, Err, refl, sym, ap, ◌∙◌, subst, arith, length-append, append-nil, slice_index_or}
+use Rattle.std.proofs.Common.{◌≡◌, ℕ, ◌+◌, ◌<◌, ◌^◌, List, [], ◌∷◌, ◌++◌, length, true, Result, Ok, Err, ap, ◌∙◌, arith, length-append, append-nil, slice_index_or}
 use Rattle.std.specs.List.{flat_map, AllByRecursion}
 use Rattle.std.proofs.lemmas.Grind.{flat_map-append}
 use Rattle.wal_shape.specs.declared.metadata.BlobId.{BlobId}
@@ -13,7 +13,7 @@ use Rattle.wal_frame.specs.declared.stream.SplitError.TheVariants.{Malformed}
 use Rattle.wal_frame.specs.Stream.{IsPayload, IsStream, Splits}
 use Rattle.wal_frame.proofs.StreamLaws.{joined}
 use Rattle.wal_store.specs.Parts.{Parts}
-use Rattle.wal_store.specs.Contents.{Contents, parts_at}
+use Rattle.wal_store.specs.Contents.{parts_at}
 use Rattle.wal_shard.specs.State.{ShardState}
 use Rattle.wal_shard.specs.Replying.{WritesReply}
 use Rattle.wal_protocol.specs.State.{World, side_of, is_present, contents_of, held}
@@ -34,25 +34,19 @@ payloads_fit sender (p ∷ ps) h =
 
 pub is_stream : (sender : ℕ) (payloads : List (List ℕ)) (bytes : List ℕ) → bytes ≡ flat_map (envelope sender) payloads → length bytes < 2 ^ 32 → IsStream payloads bytes
 is_stream sender payloads bytes e h =
-    subst (λ (t : List ℕ). IsStream payloads t) (sym e) (joined sender payloads (payloads_fit sender payloads (subst (λ (t : List ℕ). length t < 2 ^ 32) e h)))
+    rw e (joined sender payloads (payloads_fit sender payloads (rw e at h)))
 
 -- a stream is not malformed
 pub not_malformed : (r : Result (List (List ℕ)) SplitError) (e : SplitError) (place : ℕ) (payloads : List (List ℕ)) → r ≡ Err e → e ≡ Malformed place → Splits r (Ok payloads) → ⊥
 not_malformed r e place payloads is malformed h =
-    let at : Splits (Err (Malformed place)) (Ok payloads)
-    = subst (λ (x : SplitError). Splits (Err x) (Ok payloads)) malformed (subst (λ (x : Result (List (List ℕ)) SplitError). Splits x (Ok payloads)) is h) in
-    let apart : ◌≡◌ {A = Result (List (List ℕ)) ℕ} (Ok payloads) (Err place) = at in cc
+    let apart : ◌≡◌ {A = Result (List (List ℕ)) ℕ} (Ok payloads) (Err place) = rw (is, malformed) at h in cc
 
 -- the world is the same
-pub like_world : {H : Type 0} (old new : Network H) → IsLike old new → world_of new ≡ world_of old
-like_world old new l =
-    let format = l.format in let books = l.books in let few = l.few in let sides = l.sides in let answers = l.answers in cc
+pub like_world : {H : Type 0} {old new : Network H} → IsLike old new → world_of new ≡ world_of old
+like_world l = cc (l.format, l.books, l.few, l.sides, l.answers)
 
-pub like_same : {H : Type 0} (a : Network H) → IsLike a a
-like_same a = record { format = refl; books = refl; few = refl; sides = refl; answers = refl; work = refl }
-
-pub like_trans : {H : Type 0} (a b c : Network H) → IsLike a b → IsLike b c → IsLike a c
-like_trans a b c l m = record {
+pub like_trans : {H : Type 0} {a b c : Network H} → IsLike a b → IsLike b c → IsLike a c
+like_trans l m = record {
   format = m.format ∙ l.format;
   books = m.books ∙ l.books;
   few = m.few ∙ l.few;
@@ -76,7 +70,4 @@ written_by side n list shard k s id reply old new count is there same place less
     let of_side = shard_is side n list shard k s is there same place less at in
     let index : s.index ≡ shard = of_side.index in
     let contents : s.contents ≡ contents_of (side_of side (world_of n)) shard = of_side.contents in
-    ap (λ (b : Buffer). b.bytes) w.written
-    ∙ ap (λ (t : List ℕ). t ++ flat_map (envelope s.index) (reply s.index (parts_at s.contents id))) empty
-    ∙ ap (λ (i : ℕ). flat_map (envelope i) (reply i (parts_at s.contents id))) index
-    ∙ ap (λ (m : Contents). flat_map (envelope shard) (reply shard (parts_at m id))) contents
+    rw (w.written, empty, index, contents)

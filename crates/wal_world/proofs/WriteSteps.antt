@@ -1,10 +1,9 @@
 -- What is sent to shards, one after the other, and what one of them holds of it.
-use Rattle.std.proofs.Common.{nat_lt, nat_le, ◌≡◌, ℕ, ◌+◌, ◌<◌, ◌≤◌, Bool, true, false, cond, ◌&&◌, not, nat_eq, List, [], ◌∷◌, ◌++◌, length, map, drop, get_or, Option, Some, None, is_some, IsTrue, ◌↔◌, refl, sym, ap, ◌∙◌, subst, arith}
+use Rattle.std.proofs.Common.{nat_lt, nat_le, ◌≡◌, ℕ, ◌+◌, ◌<◌, ◌≤◌, Bool, true, false, cond, ◌&&◌, not, nat_eq, List, [], ◌∷◌, ◌++◌, length, map, drop, get_or, Option, Some, None, is_some, IsTrue, ◌↔◌, refl, sym, ap, arith}
 use Rattle.std.specs.List.{AllByRecursion}
 use Rattle.std.specs.Cmp.Lexicographic.{pointwise}
 use Rattle.std.proofs.Math.ListN.{drop_of_length-le}
-use Rattle.std.proofs.lemmas.Bool.{and_parts, ltb-true}
-use Rattle.std.proofs.lemmas.Bool.Decides.{nat_tests}
+use Rattle.std.proofs.lemmas.Bool.{and_parts, leb-true, ltb-true}
 use Rattle.std.proofs.lemmas.List.{drop_more}
 use Rattle.std.proofs.lemmas.Slice.Eq.{bytes_eq-Decides}
 use Rattle.wal_shape.specs.declared.metadata.BlobId.{BlobId}
@@ -47,7 +46,7 @@ module _ (digest : List ℕ → List ℕ) where
       → PutsFrame digest w.log.f w.log shard (contents_of (side_of side w) shard) frame answer contents → new ≡ keeps w side shard contents → TellsClash answer clash
       → PutsTo digest w side ((shard, read) ∷ []) clash new
   text_put w new side shard frame read contents answer clash same p is told =
-      subst (λ (x : Frame). PutsTo digest w side ((shard, x) ∷ []) clash new) same (by answer clash p told)
+      rw (← same) (by answer clash p told)
     where
       by : (a : PutAnswer) (o : Option Collision) → PutsFrame digest w.log.f w.log shard (contents_of (side_of side w) shard) frame a contents → TellsClash a o
           → PutsTo digest w side ((shard, frame) ∷ []) o new
@@ -61,26 +60,21 @@ module _ (digest : List ℕ → List ℕ) where
   -- a faulty shard is sent nothing
   pub message_none : (w : World) (side : Side) (shard : ℕ) (l : List (ℕ × Frame)) → is_correct side w shard ≡ false
       → PutsTo digest w side (cond (is_correct side w shard) l []) None w
-  message_none w side shard l faulty =
-      subst (λ (b : Bool). PutsTo digest w side (cond b l []) None w) (sym faulty) (puts_none digest w side)
+  message_none w side shard l faulty = rw faulty (puts_none digest w side)
 
   pub message_some : (w new : World) (side : Side) (shard : ℕ) (texts : List (List ℕ)) (frames : List Frame) (clash : Option Collision) → is_correct side w shard ≡ true
       → texts ≡ map frame_text frames → AllByRecursion IsFrame frames → PutsTo digest w side (letters_in shard texts) clash new
       → PutsTo digest w side (cond (is_correct side w shard) (addressed shard frames) []) clash new
   message_some w new side shard texts frames clash correct spelled fit h =
-      let P : List (ℕ × Frame) → Type 0 = λ l. PutsTo digest w side l clash new in
-      let there : P (letters_in shard (map frame_text frames)) = subst (λ (t : List (List ℕ)). P (letters_in shard t)) spelled h in
-      subst (λ (b : Bool). P (cond b (addressed shard frames) [])) (sym correct) (subst P (again frames fit) there)
+      rw (correct, ← again frames fit, ← spelled) h
     where
       again : (l : List Frame) → AllByRecursion IsFrame l → letters_in shard (map frame_text l) ≡ addressed shard l
       again [] h = refl
-      again (x ∷ xs) h =
-          ap (λ (y : Frame). (shard, y) ∷ letters_in shard (map frame_text xs)) (frame_again x h.0) ∙ ap (λ (l : List (ℕ × Frame)). (shard, x) ∷ l) (again xs h.1)
+      again (x ∷ xs) h = rw (frame_again x h.0, again xs h.1)
 
 -- the texts of what is sent are spellings of frames that may be put
 pub spell_each : (w : Written) (shard : ℕ) (texts : List (List ℕ)) → texts ≡ map frame_text (messages_of w shard) → AreParts w shard → AllByRecursion SpellsPart texts
-spell_each w shard texts spelled h =
-    subst (λ (l : List (List ℕ)). AllByRecursion SpellsPart l) (sym spelled) (each (messages_of w shard) (tt, (tt, (tt, tt))) h)
+spell_each w shard texts spelled h = rw spelled (each (messages_of w shard) (tt, (tt, (tt, tt))) h)
   where
     each : (l : List Frame) → AllByRecursion CanBePut l → AllByRecursion IsFrame l → AllByRecursion SpellsPart (map frame_text l)
     each [] p h = tt
@@ -90,17 +84,13 @@ spell_each w shard texts spelled h =
 
 pub letter_next : (shard : ℕ) (texts : List (List ℕ)) (i : ℕ) (text : List ℕ) → i < length texts → text ≡ get_or texts i text
     → letters_in shard (drop i texts) ≡ ((shard, frame_in text) ∷ []) ++ letters_in shard (drop (i + 1) texts)
-letter_next shard texts i text less at =
-    ap (letters_in shard) (drop_more texts i text less) ∙ ap (λ (t : List ℕ). (shard, frame_in t) ∷ letters_in shard (drop (i + 1) texts)) (sym at)
+letter_next shard texts i text less at = rw (drop_more texts i text less, ← at)
 
 pub letters_next : (old here : World) (side : Side) (message : ℕ → List Frame) (to : List ℕ) (i d : ℕ) → i < length to
     → is_correct side here (get_or to i d) ≡ is_correct side old (get_or to i d)
     → letters old side message (drop i to)
     ≡ cond (is_correct side here (get_or to i d)) (addressed (get_or to i d) (message (get_or to i d))) [] ++ letters old side message (drop (i + 1) to)
-letters_next old here side message to i d less same =
-    let s : ℕ = get_or to i d in
-    ap (letters old side message) (drop_more to i d less)
-    ∙ ap (λ (b : Bool). cond b (addressed s (message s)) [] ++ letters old side message (drop (i + 1) to)) (sym same)
+letters_next old here side message to i d less same = rw (drop_more to i d less, same)
 
 -- at its end
 pub letter_end : (shard : ℕ) (texts : List (List ℕ)) (i : ℕ) → length texts ≤ i → letters_in shard (drop i texts) ≡ []
@@ -128,9 +118,7 @@ all_three a b c = refl
 has_sent : (p : Parts) (x : Written) (shard : ℕ) (a slivers : Bool) → (IsTrue a ↔ (p.metadata ≡ Some (metadata_text x.metadata)))
     → slivers ≡ (is_some p.primary && is_some p.secondary) → (a && slivers) ≡ has_frames (messages_of x shard) p
 has_sent p x shard a slivers metadata is =
-    ap (λ (k : Bool). a && k) is
-    ∙ all_three a (is_some p.primary) (is_some p.secondary)
-    ∙ ap (λ (k : Bool). k && (is_some p.primary && (is_some p.secondary && true))) (same_text p.metadata (metadata_text x.metadata) a metadata)
+    rw (is, same_text p.metadata (metadata_text x.metadata) a metadata) (all_three (is_bytes p.metadata (metadata_text x.metadata)) (is_some p.primary) (is_some p.secondary))
 
 pub stores_is : (w : World) (side : Side) (shard : ℕ) (s : Contents) (id : BlobId) (m : BlobMetadata) (x : Written) (a slivers result : Bool) → is_correct side w shard ≡ true
     → s ≡ contents_of (side_of side w) shard → id ≡ x.id → m ≡ x.metadata
@@ -139,11 +127,7 @@ pub stores_is : (w : World) (side : Side) (shard : ℕ) (s : Contents) (id : Blo
     → result ≡ (is_correct side w shard && has_frames (messages_of x shard) (held (side_of side w) shard x.id))
 unfolding held
 stores_is w side shard s id m x a slivers result correct there named metadata iff is e =
-    e
-    ∙ has_sent (parts_at s id) x shard a slivers (subst (λ (k : BlobMetadata). IsTrue a ↔ ((parts_at s id).metadata ≡ Some (metadata_text k))) metadata iff) is
-    ∙ ap (λ (k : BlobId). has_frames (messages_of x shard) (parts_at s k)) named
-    ∙ ap (λ (k : Contents). has_frames (messages_of x shard) (parts_at k x.id)) there
-    ∙ ap (λ (b : Bool). b && has_frames (messages_of x shard) (parts_at (contents_of (side_of side w) shard) x.id)) (sym correct)
+    rw (e, correct, ← named, ← there) (has_sent (parts_at s id) x shard a slivers (rw metadata at iff) is)
 
 -- ---- shards in ascending order
 
@@ -159,8 +143,5 @@ ascending_few low n [] h most = omega (arith, most)
 ascending_few low n (x ∷ xs) h most =
     let parts = and_parts (nat_le low x) (nat_lt x n && ascends_from (x + 1) n xs) h in
     let rest = and_parts (nat_lt x n) (ascends_from (x + 1) n xs) parts.1 in
-    let least : nat_le low x ≡ true = parts.0 in
-    let from : low ≤ x = grind (arith, nat_tests) in
     let below : x < n = ltb-true x n rest.0 in
-    let more : length xs + (x + 1) ≤ n = ascending_few (x + 1) n xs rest.1 (omega (arith, below)) in
-    omega (arith, from, more)
+    omega (arith, leb-true low x parts.0, ascending_few (x + 1) n xs rest.1 (omega arith))

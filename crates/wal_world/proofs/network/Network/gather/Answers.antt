@@ -19,10 +19,10 @@ loop-reply-preserved g c =
     let item = c.reply-item.is in
     let here : reply ≡ get_or all i reply = cc in
     let grown : take i all ++ reply ∷ [] ≡ take (i + 1) all = ap (λ (x : Reply). take i all ++ x ∷ []) here ∙ sym (take_more all i reply c.loop-reply-test.true) in
-    let own = ap (λ (v : World). reply_payloads (rules_of g.H.Hash32.digest v.log.f) v id reply) (like_world c.args.self.now c.loop-reply.self c.loop-reply.invariant.like) in
+    let own = ap (λ (v : World). reply_payloads (rules_of g.H.Hash32.digest v.log.f) v id reply) (like_world c.loop-reply.invariant.like) in
     record {
       network = c.in_ok-add_reply.ensures.network;
-      like = like_trans c.args.self.now c.loop-reply.self c.add_reply.new.self c.loop-reply.invariant.like c.in_ok-add_reply.ensures.like;
+      like = like_trans c.loop-reply.invariant.like c.in_ok-add_reply.ensures.like;
       items = c.in_ok-add_reply.ensures.payloads ∙ ap (λ (p : List (List ℕ)). c.loop-reply.payloads.items ++ p) own
           ∙ ap (λ (p : List (List ℕ)). p ++ reply_payloads r w id reply) c.loop-reply.invariant.items ∙ sym (payloads_more r w id (take i all) reply) ∙ ap (λ (l : List Reply). read_payloads r w id l) grown;
     }

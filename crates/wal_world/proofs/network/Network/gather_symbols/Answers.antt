@@ -21,12 +21,12 @@ loop-reply-preserved g c =
     = ap (λ (x : Reply). take i all ++ x ∷ []) here ∙ sym (take_more all i c.reply-item.result c.loop-reply-test.true) in
     let own : IsReplyOf r w c.args.id.now c.args.axis c.args.shard c.reply-item.result c.in_ok-more.more
     = subst (λ (v : World). IsReplyOf (rules_of g.H.Hash32.digest v.log.f) v c.args.id.now c.args.axis c.args.shard c.reply-item.result c.in_ok-more.more)
-    (like_world c.args.self.now c.loop-reply.self c.loop-reply.invariant.like) c.in_ok-more.ensures.payloads in
+    (like_world c.loop-reply.invariant.like) c.in_ok-more.ensures.payloads in
     let more : AreReplies r w c.args.id.now c.args.axis c.args.shard (take i all ++ c.reply-item.result ∷ []) (c.loop-reply.payloads.items ++ c.in_ok-more.more)
     = replies_more r w c.args.id.now c.args.axis c.args.shard (take i all) c.reply-item.result c.loop-reply.payloads.items c.in_ok-more.more c.loop-reply.invariant.replied own in
     record {
       network = c.in_ok-more.ensures.network;
-      like = like_trans c.args.self.now c.loop-reply.self c.symbols_in.new.self c.loop-reply.invariant.like c.in_ok-more.ensures.like;
+      like = like_trans c.loop-reply.invariant.like c.in_ok-more.ensures.like;
       replied = subst (λ (l : List Reply). AreReplies r w c.args.id.now c.args.axis c.args.shard l c.add_payloads.new.payloads.items) grown
           (subst (λ (p : List (List ℕ)). AreReplies r w c.args.id.now c.args.axis c.args.shard (take i all ++ c.reply-item.result ∷ []) p) (sym c.in_ok-add_payloads.ensures) more);
     }

@@ -8,11 +8,10 @@ use Rattle.wal_world.proofs.Recoveries.{kept_at}
 use Rattle.wal_world.proofs.network.Network.keep_proof.Goals as goal
 
 pub keep_proof-requires-clause-shards : goal.keep_proof-requires-clause-shards
-keep_proof-requires-clause-shards g c =
-    members_are c.args.side c.args.self.now c.of_mut.result.now (metadata_shown c.args.m).f c.of_mut.ensures.value c.requires.f c.requires.network c.requires.present
+keep_proof-requires-clause-shards g c = members_are c.args.side c.of_mut.ensures.value c.requires.f c.requires.network c.requires.present
 
 pub keep_proof-requires-clause-shard : goal.keep_proof-requires-clause-shard
-keep_proof-requires-clause-shard g c = members_reach c.args.side c.args.self.now c.of_mut.result.now c.args.shard c.of_mut.ensures.value c.requires.network c.requires.present c.requires.shard
+keep_proof-requires-clause-shard g c = members_reach c.args.side c.of_mut.ensures.value c.requires.network c.requires.present c.requires.shard
 
 pub returns-clause-network : goal.returns-clause-network
 returns-clause-network g c =

@@ -1,6 +1,5 @@
-use Rattle.std.proofs.Common.{None, true, ap, refl}
+use Rattle.std.proofs.Common.{None, true, refl}
 use Rattle.wal_frame.specs.Shown.{frame_shown}
-use Rattle.wal_ledger.specs.Ledger.{LedgerState}
 use Rattle.wal_shard.specs.Putting.{PutsOrWants}
 use Rattle.wal_shard.specs.State.{desk_of}
 use Rattle.wal_protocol.specs.State.{side_of, contents_of}
@@ -11,21 +10,22 @@ use Rattle.wal_world.proofs.Puts.{answered_is, put_is}
 use Rattle.wal_world.proofs.network.Network.put_at.Goals as goal
 
 pub put-requires-clause-shards : goal.put-requires-clause-shards
-put-requires-clause-shards g c =
-    members_are c.args.at c.args.self.now c.of_mut.result.now c.ledger_in-ledger.result.now.log.f c.of_mut.ensures.value (ap (λ (l : LedgerState). l.log.f) c.ledger_in-ledger.ensures) c.requires.network
-    c.requires.present
+put-requires-clause-shards g c = members_are c.args.at c.of_mut.ensures.value (rw c.ledger_in-ledger.ensures) c.requires.network c.requires.present
 
 pub put-requires-clause-shard : goal.put-requires-clause-shard
-put-requires-clause-shard g c = members_reach c.args.at c.args.self.now c.of_mut.result.now c.args.shard c.of_mut.ensures.value c.requires.network c.requires.present c.requires.shard
+put-requires-clause-shard g c = members_reach c.args.at c.of_mut.ensures.value c.requires.network c.requires.present c.requires.shard
 
 pub returns-in_default : goal.returns-in_default
 returns-in_default g c =
-    let w = world_of c.args.self.now in
-    let h = placed_at c.args.at c.args.self.now (record c.args.self.now { sides = with_members c.args.at c.args.self.now.sides c.put.new.self; work = c.put.new.work }) c.of_mut.result.now c.put.new.self c.args.shard
-    c.ledger_in-ledger.result.now (λ log m x. PutsOrWants g.H.Hash32.digest true (desk_of log.f c.args.shard None log) m (frame_shown c.args.frame.now) c.put.result x) c.of_mut.ensures.value
-    c.ledger_in-ledger.ensures refl refl refl refl refl c.put.ensures.f refl c.put.ensures.puts in
-    let answered = answered_is g.H.Hash32.digest w.log.f c.args.shard w.log (contents_of (side_of c.args.at w) c.args.shard) h.0 (frame_shown c.args.frame.now) c.put.result h.1 c.in_default.not-Memory in
+    let old = c.args.self.now in
+    let h = placed_at c.args.at old (record old { sides = with_members c.args.at old.sides c.put.new.self; work = c.put.new.work }) c.put.new.self c.args.shard
+    (λ log m x. PutsOrWants g.H.Hash32.digest true (desk_of log.f c.args.shard None log) m (frame_shown c.args.frame.now) c.put.result x)
+    c.of_mut.ensures.value c.ledger_in-ledger.ensures refl c.put.ensures.f c.put.ensures.puts in
+    let log = (world_of old).log in
+    let held = contents_of (side_of c.args.at (world_of old)) c.args.shard in
+    let frame = frame_shown c.args.frame.now in
+    let answered = answered_is g.H.Hash32.digest log.f c.args.shard log held h.0 frame c.put.result h.1 c.in_default.not-Memory in
     record {
-      puts = (h.0, put_is g.H.Hash32.digest w.log.f c.args.shard w.log (contents_of (side_of c.args.at w) c.args.shard) h.0 (frame_shown c.args.frame.now) c.put.result c.requires.frame h.1 answered, h.2);
+      puts = (h.0, put_is g.H.Hash32.digest log.f c.args.shard log held h.0 frame c.put.result c.requires.frame h.1 answered, h.2);
       answered = answered;
     }

@@ -12,4 +12,4 @@ returns-clause-step g c =
     let live : is_live w.log c.args.id.now ≡ true = search rules in
     recover_step g.H.Hash32.digest w (world_of c.gather_symbols.new.self) (world_of c.recover_from.new.self) c.args.side c.args.shard c.args.axis c.args.id.now c.args.replies.now
     c.in_ok-payloads.payloads c.recover_from.result (correct_is c.args.side w c.args.shard (search rules) (search rules)) live c.in_ok-payloads.ensures.payloads
-    (like_world c.args.self.now c.gather_symbols.new.self c.in_ok-payloads.ensures.like) c.recover_from.ensures.word
+    (like_world c.in_ok-payloads.ensures.like) c.recover_from.ensures.word

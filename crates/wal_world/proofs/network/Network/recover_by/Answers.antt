@@ -17,4 +17,4 @@ returns-clause-word g c =
     subst
     (λ (w : World). IfOk c.recover_found.result
     (λ word. RecoversInWorld g.H.Hash32.digest w c.args.side c.args.shard c.args.axis c.args.id.now c.args.payloads.now word (world_of c.recover_found.new.self)))
-    (like_world c.args.self.now c.come_to.new.self c.in_ok-found.ensures.like) c.recover_found.ensures.word
+    (like_world c.in_ok-found.ensures.like) c.recover_found.ensures.word
