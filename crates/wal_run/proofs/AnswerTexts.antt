@@ -1,9 +1,8 @@
 -- The envelopes of an answer, one after the other.
-use Rattle.std.proofs.Common.{◌≡◌, ℕ, suc, ◌+◌, ◌≤◌, List, [], ◌∷◌, ◌++◌, length, take, drop, sym, ap, ◌∙◌, arith, append-nil}
+use Rattle.std.proofs.Common.{◌≡◌, ℕ, suc, ◌+◌, add-zero, ◌≤◌, List, [], ◌∷◌, ◌++◌, length, take, drop, refl, sym, ap, ◌∙◌, arith, append-nil}
 use Rattle.std.proofs.lemmas.Grind.{flat_map-append}
 use Rattle.std.proofs.lemmas.List.{length-take-le, take-append-drop}
 use Rattle.std.specs.List.{flat_map}
-use Rattle.wal_shape.specs.declared.claim.Claim.{Claim}
 use Rattle.wal_shape.specs.declared.opening.Opening.{Opening}
 use Rattle.wal_shape.specs.Metadata.{BlobMetadata, IsMetadata}
 use Rattle.wal_shape.specs.Shape.{crossing, symbol_size}
@@ -17,13 +16,10 @@ use Rattle.wal_run.specs.Challenging.{answer_text, claim_envelope}
 -- the claims of two lists of openings, the second behind the first
 claims_append : (digest : List ℕ → List ℕ) (m : BlobMetadata) (beacon : List ℕ) (shard d : ℕ) (xs ys : List Opening)
     → claims_from digest m beacon shard d (xs ++ ys) ≡ claims_from digest m beacon shard d xs ++ claims_from digest m beacon shard (d + length xs) ys
-claims_append digest m beacon shard d [] ys =
-    let here : d ≡ d + 0 = omega arith in ap (λ n. claims_from digest m beacon shard n ys) here
+claims_append digest m beacon shard d [] ys = rw add-zero refl
 claims_append digest m beacon shard d (x ∷ xs) ys =
     let here : d + 1 + length xs ≡ d + suc (length xs) = omega arith in
-    ap (λ (cs : List Claim). claim_of digest m beacon shard d x ∷ cs)
-    (claims_append digest m beacon shard (d + 1) xs ys
-    ∙ ap (λ n. claims_from digest m beacon shard (d + 1) xs ++ claims_from digest m beacon shard n ys) here)
+    rw (claims_append digest m beacon shard (d + 1) xs ys, here) refl
 
 module _ (digest : List ℕ → List ℕ) (a : Audit) (m : BlobMetadata) where
   abbrev pub texts_from : ℕ → List Opening → List ℕ
@@ -35,14 +31,12 @@ module _ (digest : List ℕ → List ℕ) (a : Audit) (m : BlobMetadata) where
   texts_append : (xs ys : List Opening) (d : ℕ) → length xs ≡ d → answer_text digest a m (xs ++ ys) ≡ answer_text digest a m xs ++ texts_from d ys
   texts_append xs ys d long =
       let here : 0 + length xs ≡ d = omega (arith, long) in
-      ap (flat_map (claim_envelope a)) (claims_append digest m a.beacon a.shard 0 xs ys)
-      ∙ flat_map-append (claim_envelope a) (claims_from digest m a.beacon a.shard 0 xs) (claims_from digest m a.beacon a.shard (0 + length xs) ys)
-      ∙ ap (λ n. answer_text digest a m xs ++ texts_from n ys) here
+      rw (claims_append digest m a.beacon a.shard 0 xs ys, here)
+      (flat_map-append (claim_envelope a) (claims_from digest m a.beacon a.shard 0 xs) _)
 
   -- one envelope more
   pub answer_more : (openings : List Opening) (d : ℕ) (o : Opening) → length openings ≡ d → answer_text digest a m (openings ++ o ∷ []) ≡ answer_text digest a m openings ++ piece d o
-  answer_more openings d o long =
-      texts_append openings (o ∷ []) d long ∙ ap (λ (t : List ℕ). answer_text digest a m openings ++ t) (append-nil (piece d o))
+  answer_more openings d o long = rw (texts_append openings (o ∷ []) d long, append-nil) refl
 
   -- the first envelopes, and those behind them
   pub answer_split : (openings : List Opening) (d : ℕ) → d ≤ length openings

@@ -1,5 +1,5 @@
 -- The identifier and the envelopes of a blob: a blob has one of each, and they are what the code writes.
-use Rattle.std.proofs.Common.{◌≡◌, ℕ, ◌*◌, ◌≤◌, List, [], ◌∷◌, ◌++◌, length, refl, subst, sym, ◌∙◌, ap}
+use Rattle.std.proofs.Common.{◌≡◌, ℕ, ◌*◌, ◌≤◌, List, [], ◌∷◌, ◌++◌, length, refl, sym, ◌∙◌, ap}
 use Rattle.hex.specs.Hex.{encode_lower}
 use Rattle.wal_shape.specs.declared.shape.Format.{Format}
 use Rattle.wal_shape.specs.Shape.{BlobShape, shard_count, symbol_size}
@@ -17,12 +17,8 @@ use Rattle.wal_run.proofs.CommandLaws.{Determined, same, told_success}
 
 pub one_identifier : (digest : List ℕ → List ℕ) (format : Format) (f : ℕ) (blob i j : List ℕ) → IsIdentifierOf digest format f blob i → IsIdentifierOf digest format f blob j → i ≡ j
 one_identifier digest format f blob i j a b =
-    let d = a.1 in
-    let e = b.1 in
-    let matrix = extended_unique f blob d.0 e.0 d.3.1 d.1 e.1 in
-    let over : List ℕ → BlobMetadata = λ x. metadata_over digest (record { format = format; f = f; length = length blob }) x in
-    let metadata : a.0 ≡ b.0 = d.2 ∙ ap over matrix ∙ sym e.2 in
-    a.2.identifier ∙ ap (identifier_of digest) metadata ∙ sym b.2.identifier
+    let matrix = extended_unique f blob a.1.0 b.1.0 a.1.3.1 a.1.1 b.1.1 in
+    rw (a.2.identifier, b.2.identifier, a.1.2, b.1.2, matrix) refl
 
 pub identified : (digest : List ℕ → List ℕ) (f : ℕ) (format : Format) → Determined digest (identifying digest f format)
 identified digest f format input blob spells s x t y a b =
@@ -59,17 +55,10 @@ pub encoded_is : (digest : List ℕ → List ℕ) (f : ℕ) (format : Format) (b
     → shape ≡ record { format = format; f = f; length = length blob } → held ≡ shape → IsExtended shape.f blob e
     → m ≡ metadata_over digest shape e → id ≡ identifier_of digest m → IsResult digest (encoding digest f format) blob 0 (all_envelopes id m held e)
 encoded_is digest f format blob shape held e m id shape_is held_is extended m_is id_is =
-    let Extends : BlobShape → Type 0 = λ s. IsExtended s.f blob e in
-    let text =
-    ap (λ (i : List ℕ). all_envelopes i m held e) id_is
-    ∙ ap (λ (n : BlobMetadata). all_envelopes (identifier_of digest n) n held e) m_is
-    ∙ ap (λ (s : BlobShape). all_envelopes (identifier_of digest (metadata_over digest shape e)) (metadata_over digest shape e) s e) held_is
-    ∙ ap (λ (s : BlobShape). encoded_text digest s e) shape_is in
-    success _ (blob, refl, (e, subst Extends shape_is extended, text))
+    success _ (blob, refl, (e, rw shape_is at extended, rw (id_is, m_is, held_is, shape_is) refl))
 
 -- and their matrix has all its symbols
 pub matrix_long : (blob : List ℕ) (shape held : BlobShape) (e : List ℕ) → length blob ≡ shape.length → held ≡ shape → IsExtended shape.f blob e
     → length e ≡ shard_count held.f * shard_count held.f * symbol_size held.f held.length
 matrix_long blob shape held e long is matrix =
-    let Whole : BlobShape → Type 0 = λ s. length e ≡ shard_count s.f * shard_count s.f * symbol_size s.f s.length in
-    subst Whole (sym is) (matrix.coded.size ∙ ap (λ (k : ℕ). shard_count shape.f * shard_count shape.f * symbol_size shape.f k) long)
+    rw (is, ← long) matrix.coded.size

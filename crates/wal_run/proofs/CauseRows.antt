@@ -1,5 +1,5 @@
 -- How a run ends is a row of the table of causes.
-use Rattle.std.proofs.Common.{◌≡◌, ◌⊎◌, inl, inr, ℕ, List, Some, false, refl, sym, subst}
+use Rattle.std.proofs.Common.{◌≡◌, ◌⊎◌, inl, inr, ℕ, List, Some, false, refl}
 use Rattle.std.specs.Io.KnownBytes.{Appends, IsAtEnd, Keeps}
 use Rattle.wal_words.specs.declared.task.Task.{Task}
 use Rattle.wal_words.specs.declared.task.Task.TheVariants.{Serve}
@@ -51,7 +51,7 @@ module _ (digest : List ℕ → List ℕ) (words : List (List ℕ)) (a : Around)
 
   serving_ends : (service : Service) → IsTask words (Serve service) → (status : ℕ)
       → EndsServing digest service a.left a.after a.SourceRose a.old a.new a.SinkRose status → Causes digest words a status
-  serving_ends service asked status ends = subst (Causes digest words a) (sym ends.4) (serving_row service asked ends.1 ends.0 ends.2 ends.3)
+  serving_ends service asked status ends = rw ends.4 (serving_row service asked ends.1 ends.0 ends.2 ends.3)
 
   -- a command whose input was taken
   result_row : (asked : Task) → IsTask words asked → (input : List ℕ) → IsTaken (command_of digest asked) a.left a.after input → (s : ℕ) (x : List ℕ)
@@ -101,7 +101,7 @@ module _ (digest : List ℕ → List ℕ) (words : List (List ℕ)) (a : Around)
       ]
     where
       first : Ends digest words a 5 → (service : Service) → IsTask words (Serve service) → TakesAtMost a.left a.after 0 × Keeps a.old a.new
-      first e service asked = memory_first digest words a 5 e refl service asked
+      first e service asked = memory_first digest words a 5 service asked e refl
 
   -- words that ask for nothing have the status of usage, but for want of memory and a sink that failed
   pub nothing_asked : (status : ℕ) → Ends digest words a status → IsUsage words a status

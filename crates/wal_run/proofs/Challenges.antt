@@ -1,10 +1,9 @@
 -- What a shard answers to a challenge is one result of the command that challenges.
-use Rattle.std.proofs.Common.{◌≡◌, inl, inr, ⊎_elim, ℕ, ◌+◌, ◌<◌, ◌≤◌, List, [], ◌∷◌, ◌++◌, length, take, drop, get_or, slice_get, codes, Option, Some, Result, Ok, Err, refl, sym, ap, subst, ◌∙◌, arith}
+use Rattle.std.proofs.Common.{◌≡◌, ◌⊎◌, inl, inr, ⊎_elim, ℕ, ◌+◌, ◌<◌, ◌≤◌, List, [], ◌∷◌, ◌++◌, length, take, drop, slice_get, codes, Option, Some, Result, Ok, Err, refl, sym, ap, ◌∙◌, arith}
 use Rattle.std.proofs.KnownBytes.{Appends-kept, Appends-nil, Appends-trans}
 use Rattle.std.proofs.lemmas.List.{get_or-take, length-take, length-take-le}
 use Rattle.std.proofs.lemmas.Option.{get_or_from_slice_get, slice_get-get_or, slice_get_within}
 use Rattle.std.specs.Io.KnownBytes.{Appends}
-use Rattle.wal_port.specs.Appending.{AppendsPart}
 use Rattle.wal_shape.specs.declared.axis.Axis.{Axis}
 use Rattle.wal_shape.specs.declared.axis.Axis.TheVariants.{Primary, Secondary}
 use Rattle.wal_shape.specs.declared.opening.Opening.{Opening}
@@ -13,7 +12,7 @@ use Rattle.wal_shape.specs.Shape.{shard_count}
 use Rattle.wal_frame.specs.Frame.{Frame, Sliver}
 use Rattle.wal_frame.specs.Reading.{read_of}
 use Rattle.wal_frame.specs.declared.frame.FrameError.{FrameError}
-use Rattle.wal_reader.specs.Carried.{CarriesHeldSliver, IsFirstHeldSliver, NoHeldSliver}
+use Rattle.wal_reader.specs.Carried.{CarriesHeldSliver}
 use Rattle.wal_reader.proofs.FirstOnes.{first_not_none, one_first}
 use Rattle.wal_theorem.proofs.OneReading.{metadata_fits}
 use Rattle.wal_challenge.specs.Answer.{AreAnswers, HoldsBoth, ShowsDrawn, draw_of}
@@ -50,22 +49,23 @@ module _ (digest : List ℕ → List ℕ) (a : Audit) (r : Recorded) where
 
   -- ---- what is told, by the first thing that is lacking
 
-  data Case : ℕ → List ℕ → Type 0 where
-    no_shard : (text : List ℕ) → LacksShard a r text → Case 4 text
-    no_primary : (text : List ℕ) → HasShard a r → HasNoSliver digest a r Primary → text ≡ codes "no primary\n" → Case 4 text
-    no_secondary : (text primary : List ℕ) → HasShard a r → IsOwnSliver digest a r Primary primary → HasNoSliver digest a r Secondary
-        → text ≡ codes "no secondary\n" → Case 4 text
-    answers : (text primary secondary : List ℕ) → HasShard a r → IsOwnSliver digest a r Primary primary → IsOwnSliver digest a r Secondary secondary
-        → IsAnswerText digest a r.metadata primary secondary a.count text → Case 0 text
+  abbrev Case : ℕ → List ℕ → Type 0
+  Case s x =
+      ((s ≡ 4) × LacksShard a r x)
+      ⊎ (HasShard a r × (((s ≡ 4) × HasNoSliver digest a r Primary × (x ≡ codes "no primary\n"))
+      ⊎ ((p : List ℕ) × IsOwnSliver digest a r Primary p × (((s ≡ 4) × HasNoSliver digest a r Secondary
+      × (x ≡ codes "no secondary\n"))
+      ⊎ ((q : List ℕ) × IsOwnSliver digest a r Secondary q × (s ≡ 0)
+      × IsAnswerText digest a r.metadata p q a.count x)))))
 
   case_of : (s : ℕ) (x : List ℕ) → Told digest (challenging digest a) r s x → Case s x
   case_of s x told =
       elim told as (λ t y _. Case t y) [
-        | succeeds text is ↦ answers text is.1 is.3 is.0 is.2 is.4 is.5
+        | succeeds text is ↦ inr (is.0, inr (is.1, is.2, inr (is.3, is.4, refl, is.5)))
         | rejects text is ↦ absurd is
         | lacks text is ↦
-            ⊎_elim (λ shard. no_shard text shard)
-            (⊎_elim (λ none. no_primary text none.0 none.1 none.2) (λ none. no_secondary text none.1.0 none.0 none.1.1 none.2 none.3)) is
+            ⊎_elim (λ shard. inl (refl, shard)) (⊎_elim (λ none. inr (none.0, inl (refl, none.1, none.2)))
+            (λ none. inr (none.0, inr (none.1.0, none.1.1, inl (refl, none.2, none.3))))) is
         | misreads text is ↦ absurd is
         | collides left right text clash is ↦ absurd is
       ]
@@ -73,30 +73,29 @@ module _ (digest : List ℕ → List ℕ) (a : Audit) (r : Recorded) where
   both_not : (text : List ℕ) → LacksShard a r text → HasShard a r → ⊥
   both_not text lacking has = omega (arith, lacking.0, has)
 
-  one_text : r.metadata.f ≤ 333 → (p q u v x y : List ℕ) → p ≡ q → u ≡ v → IsAnswerText digest a r.metadata p u a.count x → IsAnswerText digest a r.metadata q v a.count y → x ≡ y
-  one_text few p q u v x y first second of_x of_y =
-      let Answers : List ℕ → List ℕ → List Opening → Type 0 = λ one other os. AreAnswers digest r.metadata a.beacon a.shard a.count one other os in
-      let moved : Answers q v of_x.0 = subst (λ other. Answers q other of_x.0) second (subst (λ one. Answers one u of_x.0) first of_x.1) in
-      of_x.2 ∙ ap (answer_text digest a r.metadata) (one_answer digest r.metadata a.beacon a.shard a.count q v of_x.0 of_y.0 few moved of_y.1) ∙ sym of_y.2
+  one_text : r.metadata.f ≤ 333 → (p q u v x y : List ℕ) → IsOwnSliver digest a r Primary p
+      → IsOwnSliver digest a r Primary q → IsOwnSliver digest a r Secondary u → IsOwnSliver digest a r Secondary v
+      → IsAnswerText digest a r.metadata p u a.count x → IsAnswerText digest a r.metadata q v a.count y → x ≡ y
+  one_text few p q u v x y first also second too of_x of_y =
+      let here = rw (one_own Primary p q first also, one_own Secondary u v second too) at of_x.1 in
+      rw (of_x.2, of_y.2) (ap (answer_text digest a r.metadata)
+      (one_answer digest r.metadata a.beacon a.shard a.count q v of_x.0 of_y.0 few here of_y.1))
 
   one_case : r.metadata.f ≤ 333 → (s : ℕ) (x : List ℕ) (t : ℕ) (y : List ℕ) → Case s x → Case t y → Same s x t y
-  one_case few s x t y (no_shard u l) (no_shard v k) = same _ _ _ _ refl (l.1 ∙ sym k.1)
-  one_case few s x t y (no_shard u l) (no_primary v has none is) = absurd (both_not u l has)
-  one_case few s x t y (no_shard u l) (no_secondary v p has own none is) = absurd (both_not u l has)
-  one_case few s x t y (no_shard u l) (answers v p q has own other is) = absurd (both_not u l has)
-  one_case few s x t y (no_primary u has none is) (no_shard v l) = absurd (both_not v l has)
-  one_case few s x t y (no_primary u has none is) (no_primary v too missing line) = same _ _ _ _ refl (is ∙ sym line)
-  one_case few s x t y (no_primary u has none is) (no_secondary v p too own missing line) = absurd (none_own Primary p own none)
-  one_case few s x t y (no_primary u has none is) (answers v p q too own other line) = absurd (none_own Primary p own none)
-  one_case few s x t y (no_secondary u p has own none is) (no_shard v l) = absurd (both_not v l has)
-  one_case few s x t y (no_secondary u p has own none is) (no_primary v too missing line) = absurd (none_own Primary p own missing)
-  one_case few s x t y (no_secondary u p has own none is) (no_secondary v q too one missing line) = same _ _ _ _ refl (is ∙ sym line)
-  one_case few s x t y (no_secondary u p has own none is) (answers v q w too one other line) = absurd (none_own Secondary w other none)
-  one_case few s x t y (answers u p q has own other is) (no_shard v l) = absurd (both_not v l has)
-  one_case few s x t y (answers u p q has own other is) (no_primary v too missing line) = absurd (none_own Primary p own missing)
-  one_case few s x t y (answers u p q has own other is) (no_secondary v w too one missing line) = absurd (none_own Secondary q other missing)
-  one_case few s x t y (answers u p q has own other is) (answers v w z too one second line) =
-      same _ _ _ _ refl (one_text few p w q z u v (one_own Primary p w own one) (one_own Secondary q z other second) is line)
+  one_case few s x t y (inl l) (inl k) = same s t x y (l.0 ∙ sym k.0) (l.1.1 ∙ sym k.1.1)
+  one_case few s x t y (inl l) (inr k) = absurd (both_not x l.1 k.0)
+  one_case few s x t y (inr l) (inl k) = absurd (both_not y k.1 l.0)
+  one_case few s x t y (inr (h, inl l)) (inr (i, inl k)) = same s t x y (l.0 ∙ sym k.0) (l.2 ∙ sym k.2)
+  one_case few s x t y (inr (h, inl l)) (inr (i, inr k)) = absurd (none_own Primary k.0 k.1 l.1)
+  one_case few s x t y (inr (h, inr l)) (inr (i, inl k)) = absurd (none_own Primary l.0 l.1 k.1)
+  one_case few s x t y (inr (h, inr (p, own, inl l))) (inr (i, inr (q, one, inl k))) =
+      same s t x y (l.0 ∙ sym k.0) (l.2 ∙ sym k.2)
+  one_case few s x t y (inr (h, inr (p, own, inl l))) (inr (i, inr (q, one, inr k))) =
+      absurd (none_own Secondary k.0 k.1 l.1)
+  one_case few s x t y (inr (h, inr (p, own, inr l))) (inr (i, inr (q, one, inl k))) =
+      absurd (none_own Secondary l.0 l.1 k.1)
+  one_case few s x t y (inr (h, inr (p, own, inr l))) (inr (i, inr (q, one, inr k))) =
+      same s t x y (l.2 ∙ sym k.2) (one_text few p q l.0 k.0 x y own one l.1 k.1 l.3 k.3)
 
   -- ---- the answers to the first draws are a front of all
 
@@ -104,34 +103,32 @@ module _ (digest : List ℕ → List ℕ) (a : Audit) (r : Recorded) where
   each_taken : (P : ℕ → Opening → Type 0) (k : ℕ) (xs : List Opening) → ((d : ℕ) (x : Opening) → slice_get xs d ≡ Some x → P d x)
       → (d : ℕ) (x : Opening) → slice_get (take k xs) d ≡ Some x → P d x
   each_taken P k xs each d x there =
-      let inside : d < length (take k xs) = slice_get_within (take k xs) d x there in
-      let value : get_or (take k xs) d x ≡ x = get_or_from_slice_get (take k xs) d x x there in
-      let same : get_or xs d x ≡ x = sym (get_or-take k xs d x (omega (arith, inside, length-take k xs))) ∙ value in
-      each d x (slice_get-get_or xs d x (omega (arith, inside, length-take k xs)) ∙ ap (λ (y : Opening). Some y) same)
+      let inside = slice_get_within (take k xs) d x there in
+      let before : d < k = omega (arith, inside, length-take k xs) in
+      let within : d < length xs = omega (arith, inside, length-take k xs) in
+      each d x (slice_get-get_or xs d x within ∙ ap Some
+      (rw (← get_or-take k xs d x before) (get_or_from_slice_get (take k xs) d x x there)))
 
-  first_text : r.metadata.f ≤ 333 → (count : ℕ) → count ≤ a.count → (p q u v x y : List ℕ) → p ≡ q → u ≡ v → IsAnswerText digest a r.metadata p u count x
-      → IsAnswerText digest a r.metadata q v a.count y → IsFrontOf x y
-  first_text few count some p q u v x y first second of_x of_y =
-      let Answers : List ℕ → List ℕ → List Opening → Type 0 = λ one other os. AreAnswers digest r.metadata a.beacon a.shard count one other os in
-      let moved : Answers q v of_x.0 = subst (λ other. Answers q other of_x.0) second (subst (λ one. Answers one u of_x.0) first of_x.1) in
+  first_text : r.metadata.f ≤ 333 → (count : ℕ) → count ≤ a.count → (p u x y : List ℕ)
+      → IsAnswerText digest a r.metadata p u count x → IsAnswerText digest a r.metadata p u a.count y → IsFrontOf x y
+  first_text few count some p u x y of_x of_y =
       let within : count ≤ length of_y.0 = omega (arith, some, of_y.1.many) in
-      let taken : Answers q v (take count of_y.0) = record {
+      let one = one_answer digest r.metadata a.beacon a.shard count p u (take count of_y.0) of_x.0 few (record {
         many = length-take-le count of_y.0 within;
-        each = each_taken (λ d o. ShowsDrawn digest r.metadata a.shard q v (draw_of digest r.metadata a.beacon a.shard d) o) count of_y.0 of_y.1.each;
-      } in
-      let one = one_answer digest r.metadata a.beacon a.shard count q v (take count of_y.0) of_x.0 few taken moved in
-      let rest = texts_from digest a r.metadata count (drop count of_y.0) in (
-        rest,
-        of_y.2 ∙ answer_split digest a r.metadata of_y.0 count within
-            ∙ ap (λ (os : List Opening). answer_text digest a r.metadata os ++ rest) one ∙ ap (λ (t : List ℕ). t ++ rest) (sym of_x.2),
+        each = each_taken (λ d o. ShowsDrawn digest r.metadata a.shard p u
+            (draw_of digest r.metadata a.beacon a.shard d) o) count of_y.0 of_y.1.each;
+      }) of_x.1 in (
+        texts_from digest a r.metadata count (drop count of_y.0),
+        rw (of_x.2, of_y.2, ← one) (answer_split digest a r.metadata of_y.0 count within),
       )
 
   first_case : r.metadata.f ≤ 333 → (count : ℕ) → count ≤ a.count → (x : List ℕ) → AnswersDraws digest a r count x → (s : ℕ) (y : List ℕ) → Case s y → IsFrontOf x y
-  first_case few count some x is s y (no_shard v l) = absurd (both_not v l is.0)
-  first_case few count some x is s y (no_primary v too missing line) = absurd (none_own Primary is.1 is.2 missing)
-  first_case few count some x is s y (no_secondary v w too one missing line) = absurd (none_own Secondary is.3 is.4 missing)
-  first_case few count some x is s y (answers v w z too one second line) =
-      first_text few count some is.1 w is.3 z x v (one_own Primary is.1 w is.2 one) (one_own Secondary is.3 z is.4 second) is.5 line
+  first_case few count some x is s y (inl k) = absurd (both_not y k.1 is.0)
+  first_case few count some x is s y (inr (h, inl k)) = absurd (none_own Primary is.1 is.2 k.1)
+  first_case few count some x is s y (inr (h, inr (w, one, inl k))) = absurd (none_own Secondary is.3 is.4 k.1)
+  first_case few count some x is s y (inr (h, inr (w, one, inr (z, second, zero, line)))) =
+      first_text few count some w z x y
+      (rw (one_own Primary is.1 w is.2 one, one_own Secondary is.3 z is.4 second) at is.5) line
 
   pub first_front : r.metadata.f ≤ 333 → (count : ℕ) → count ≤ a.count → (x : List ℕ) → AnswersDraws digest a r count x → (s : ℕ) (y : List ℕ)
       → Told digest (challenging digest a) r s y → IsFrontOf x y
@@ -142,15 +139,6 @@ challenged_once digest a input r spells s x t y one other =
     one_case digest a r (metadata_fits digest a.id.0 r.payloads r.metadata spells.1.0).shape.1 s x t y (case_of digest a r s x one) (case_of digest a r t y other)
 
 module _ (digest : List ℕ → List ℕ) (a : Audit) (r : Recorded) where
-  -- the first sliver of an index that is the shard's own
-  pub own_at : (axis : Axis) (index : ℕ) (bytes : List ℕ) → index ≡ held_index r.metadata.format r.metadata.f axis a.shard
-      → IsFirstHeldSliver digest a.id.0 r.metadata axis index r.payloads bytes → IsOwnSliver digest a r axis bytes
-  own_at axis index bytes same first = subst (λ i. IsFirstHeldSliver digest a.id.0 r.metadata axis i r.payloads bytes) same first
-
-  pub none_at : (axis : Axis) (index : ℕ) → index ≡ held_index r.metadata.format r.metadata.f axis a.shard
-      → NoHeldSliver digest a.id.0 r.metadata axis index r.payloads → HasNoSliver digest a r axis
-  none_at axis index same none = subst (λ i. NoHeldSliver digest a.id.0 r.metadata axis i r.payloads) same none
-
   -- both are held
   pub own_held : (primary secondary : List ℕ) → IsOwnSliver digest a r Primary primary → IsOwnSliver digest a r Secondary secondary
       → HoldsBoth digest r.metadata a.shard primary secondary
@@ -162,7 +150,7 @@ module _ (digest : List ℕ → List ℕ) (a : Audit) (r : Recorded) where
       → DoesTold digest (challenging digest a) r old new SinkRose s
   answered_as primary secondary old new SinkRose s has first second d =
       does_as d
-      (λ t text p. subst (λ u. Told digest (challenging digest a) r u text) (sym p.0) (succeeds text (has, primary, first, secondary, second, p.1)))
+      (λ t text p. rw p.0 (succeeds text (has, primary, first, secondary, second, p.1)))
       (λ text left. (left.0, left.1, (has, primary, first, secondary, second, left.2)))
       (λ text owed. (owed.0, owed.1, (has, primary, first, secondary, second, owed.2)))
 
@@ -205,14 +193,12 @@ module _ (digest : List ℕ → List ℕ) (a : Audit) (m : BlobMetadata) (primar
 
     -- one more
     pub answered_more : (new : Option (List ℕ)) (piece : List ℕ) → IsAnswer digest a m primary secondary d piece → Appends mid new piece → Answered (d + 1) new
-    answered_more new piece is put =
-        let text = answer_more digest a m so.openings d is.0 so.answers.many in
-        record {
-          openings = so.openings ++ is.0 ∷ [];
-          answers = more is.0 is.1;
-          put = subst (Appends old new) (sym text)
-              (Appends-trans old mid new (answer_text digest a m so.openings) _ so.put (subst (Appends mid new) is.2 put));
-        }
+    answered_more new piece is put = record {
+      openings = so.openings ++ is.0 ∷ [];
+      answers = more is.0 is.1;
+      put = rw (answer_more digest a m so.openings d is.0 so.answers.many)
+          (Appends-trans old mid new (answer_text digest a m so.openings) _ so.put (rw is.2 at put));
+    }
 
     -- one was not written whole
     pub ends_piece : d < a.count → (new : Option (List ℕ)) (PieceRose SinkRose : Type 0) → (PieceRose → SinkRose) → (error : PutError)
@@ -222,13 +208,12 @@ module _ (digest : List ℕ → List ℕ) (a : Audit) (m : BlobMetadata) (primar
         (Appends-kept old mid new (answer_text digest a m so.openings) so.put kept)
     ends_piece before new PieceRose SinkRose since WriteFault p =
         let is = p.1 in
-        let text = answer_more digest a m so.openings d is.0 so.answers.many in
-        let part = part_after old mid new (answer_text digest a m so.openings) _ so.put (subst (AppendsPart mid new) is.2 p.3) in
-        lost_sink (answer_text digest a m (so.openings ++ is.0 ∷ [])) (d + 1, omega (arith, before), (so.openings ++ is.0 ∷ [], more is.0 is.1, refl)) (since p.2)
-        (subst (AppendsPart old new) (sym text) part)
+        let part = part_after old mid new (answer_text digest a m so.openings) _ so.put (rw is.2 at p.3) in
+        lost_sink _ (d + 1, omega (arith, before), (so.openings ++ is.0 ∷ [], more is.0 is.1, refl)) (since p.2)
+        (rw (answer_more digest a m so.openings d is.0 so.answers.many) part)
 
     -- all were
     pub answered_all : d ≡ a.count → (SinkRose : Type 0) → DoesAnswer digest a m primary secondary old mid SinkRose 0
     answered_all all SinkRose =
-        let answers = subst (λ k. AreAnswers digest m a.beacon a.shard k primary secondary so.openings) all so.answers in
-        performed 0 (finished 0 0 (written (answer_text digest a m so.openings) (refl, (so.openings, answers, refl)) so.put))
+        performed 0 (finished 0 0 (written (answer_text digest a m so.openings)
+        (refl, (so.openings, rw all at so.answers, refl)) so.put))

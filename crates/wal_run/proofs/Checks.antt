@@ -1,5 +1,5 @@
 -- What the first proof shows is one result of the command that checks.
-use Rattle.std.proofs.Common.{◌≡◌, ◌≢◌, ◌⊎◌, inl, inr, ⊎_elim, ℕ, List, codes, refl, sym, ap, subst, ◌∙◌, arith}
+use Rattle.std.proofs.Common.{◌≡◌, ◌≢◌, ◌⊎◌, inl, inr, ⊎_elim, ℕ, List, codes, refl, sym, ap, subst, ◌∙◌}
 use Rattle.wal_shape.specs.declared.metadata.BlobId.{BlobId}
 use Rattle.wal_shape.specs.Shape.{IsShape}
 use Rattle.wal_shape.specs.EncodingProof.{EncodingProof}
@@ -19,17 +19,10 @@ use Rattle.wal_run.proofs.CommandLaws.{Determined, Same, same}
 
 module _ (digest : List ℕ → List ℕ) (id : BlobId) (r : Recorded) where
   -- a verdict is the result
-  apart : (v : ProofVerdict) → verdict_status v ≡ 4 → v ≢ Inconsistent
-  apart v four is = let three : verdict_status v ≡ 3 = ap verdict_status is in omega (arith, four, three)
-
-  shows_nothing : (p : EncodingProof) (v : ProofVerdict) → IsFirstProof id.0 r.payloads p → evidence.Checks digest r.metadata p v → verdict_status v ≡ 4
-      → Told digest (checking digest id) r 4 (verdict_text v)
-  shows_nothing p v first is four = lacks (verdict_text v) (inr (p, first, v, is, apart v four, refl))
-
   pub judged_is : (p : EncodingProof) → IsFirstProof id.0 r.payloads p → (v : ProofVerdict) → evidence.Checks digest r.metadata p v
       → Told digest (checking digest id) r (verdict_status v) (verdict_text v)
   judged_is p first Inconsistent is = rejects (codes "inconsistent\n") (p, first, is, refl)
-  judged_is p first v is = shows_nothing p v first is refl
+  judged_is p first v is = lacks (verdict_text v) (inr (p, first, v, is, (λ three. cc), refl))
 
   pub unproved_is : NoProof id.0 r.payloads → Told digest (checking digest id) r 4 (codes "no proof\n")
   unproved_is none = lacks (codes "no proof\n") (inl (none, refl))

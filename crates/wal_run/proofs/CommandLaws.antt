@@ -1,16 +1,14 @@
 -- A command has one result for an input, but for the texts of a collision, where all that is spelled has.
-use Rattle.std.proofs.Common.{◌≡◌, ℕ, List, [], ◌++◌, refl, sym, ap, ap₂, subst, ◌∙◌, ⊎_elim, inl, inr, arith}
+use Rattle.std.proofs.Common.{◌≡◌, ℕ, List, [], ◌++◌, refl, sym, ap, ap₂, ◌∙◌, ⊎_elim, inl, inr, arith}
 use Rattle.wal_shape.specs.declared.metadata.BlobId.{BlobId}
-use Rattle.wal_shape.specs.Metadata.{BlobMetadata}
 use Rattle.wal_shape.specs.declared.text.MetaClash.{MetaClash}
-use Rattle.wal_tree.specs.Collision.{IsCollision}
-use Rattle.wal_reader.specs.Outcome.{AreFirstTwo, HasMetadata, IsMetadataIn}
+use Rattle.wal_reader.specs.Outcome.{IsMetadataIn}
 use Rattle.wal_reader.proofs.FirstOnes.{first_two}
 use Rattle.wal_reader.proofs.OneOutcome.{not_two}
 use Rattle.wal_run.specs.Command.{BreaksAt, Command, Content, Grammar, HasNone, HasTwoMetadata, IsResult, Misspells, Recorded, Spells, bytes, collision, envelopes, envelopes_of, lacking, nothing, rejection, schedule, success, unreadable}
 use Rattle.wal_run.specs.inside.Command.{Told, collides, lacks, misreads, recorded, rejects, succeeds}
 use Rattle.wal_run.specs.Lines.{collision_text, malformed_text}
-use Rattle.wal_run.specs.SameText.{Place, SameFront, SameText, line}
+use Rattle.wal_run.specs.SameText.{Place, SameText, line}
 use Rattle.wal_run.proofs.OneStream.{not_malformed, one_place, one_stream}
 use Rattle.wal_run.proofs.Schedules.{fault_is, fault_text, one_error, one_schedule, schedule_not_fault}
 
@@ -31,11 +29,7 @@ both_collide s t x y front one other is also ends ends_too =
     (is ∙ sym also, inr (is, record { front = front; clash = one; other = other; ends = ends; ends_too = ends_too }))
 
 pub same_as : (place : Place) (s u t v : ℕ) (x z y w : List ℕ) → s ≡ u → x ≡ z → t ≡ v → y ≡ w → SameAt place u z v w → SameAt place s x t y
-same_as place s u t v x z y w status text other also one =
-    (status ∙ one.0 ∙ sym other, ⊎_elim (λ equal. inl (text ∙ equal ∙ sym also)) (λ apart. inr (status ∙ apart.0, moved apart.1)) one.1)
-  where
-    moved : SameFront place z w → SameFront place x y
-    moved f = record { front = f.front; clash = f.clash; other = f.other; ends = text ∙ f.ends; ends_too = also ∙ f.ends_too }
+same_as place s u t v x z y w status text other also one = rw (status, text, other, also) one
 
 -- THE LAW OF A COMMAND: what is spelled has one status, and one text, but for two texts that collide at its end
 abbrev pub Determined : (List ℕ → List ℕ) → Command → Type 0
@@ -67,9 +61,7 @@ of_told digest c input content spells s x told =
 one_recorded : (digest : List ℕ → List ℕ) (id : BlobId) (a b : Recorded) → a.payloads ≡ b.payloads → IsMetadataIn digest id.0 a.payloads a.metadata
     → IsMetadataIn digest id.0 b.payloads b.metadata → a ≡ b
 one_recorded digest id a b payloads p q =
-    let Has : List (List ℕ) → Type 0 = λ ps. HasMetadata digest id.0 ps a.metadata in
-    let metadata : a.metadata ≡ b.metadata = q.1 a.metadata (subst Has payloads p.0) in
-    ap₂ (λ (ps : List (List ℕ)) (m : BlobMetadata). recorded ps m) payloads metadata
+    ap₂ recorded payloads (q.1 a.metadata (rw payloads at p.0))
 
 one_content : (digest : List ℕ → List ℕ) (g : Grammar) (input : List ℕ) (a b : Content g) → Spells digest g input a → Spells digest g input b → a ≡ b
 one_content digest bytes input a b p q = p ∙ sym q
@@ -106,26 +98,20 @@ one_none : (digest : List ℕ → List ℕ) (g : Grammar) (input x y : List ℕ)
 one_none digest (envelopes_of id) input x y a b = a.3 ∙ sym b.3
 one_none digest g input x y a b = absurd a
 
-module _ (digest : List ℕ → List ℕ) (id : BlobId) (input : List ℕ) (ps qs : List (List ℕ)) (m : BlobMetadata) where
-  moved : ps ≡ qs → HasMetadata digest id.0 ps m → HasMetadata digest id.0 qs m
-  moved payloads has = subst (λ (zs : List (List ℕ)). HasMetadata digest id.0 zs m) payloads has
-
 none_not_one : (digest : List ℕ → List ℕ) (g : Grammar) (input x : List ℕ) (content : Content g) → HasNone digest g input x → Spells digest g input content → ⊥
 none_not_one digest (envelopes_of id) input x content none is =
-    none.2 content.metadata (moved digest id input content.payloads none.0 content.metadata (one_stream content.payloads none.0 input is.0 none.1) is.1.0)
+    none.2 content.metadata (rw (one_stream content.payloads none.0 input is.0 none.1) at is.1.0)
 none_not_one digest g input x content none is = none
 
 none_not_two : (digest : List ℕ → List ℕ) (g : Grammar) (input x left right : List ℕ) → HasNone digest g input x → HasTwoMetadata digest g input left right → ⊥
 none_not_two digest (envelopes_of id) input x left right none two =
-    none.2 two.2 (moved digest id input two.0 none.0 two.2 (one_stream two.0 none.0 input two.1 none.1)
-    (first_two digest id.0 two.0 two.2 two.3 two.4).0)
+    none.2 two.2 (rw (one_stream two.0 none.0 input two.1 none.1) at (first_two digest id.0 two.0 two.2 two.3 two.4).0)
 none_not_two digest g input x left right none two = none
 
 two_not_one : (digest : List ℕ → List ℕ) (g : Grammar) (input : List ℕ) (content : Content g) (left right : List ℕ) → HasTwoMetadata digest g input left right → Spells digest g input content → ⊥
 two_not_one digest (envelopes_of id) input content left right two is =
-    let payloads = one_stream two.0 content.payloads input two.1 is.0 in
     not_two digest id.0 content.payloads content.metadata two.2 two.3 is.1
-    (subst (λ (ps : List (List ℕ)). AreFirstTwo digest id.0 ps two.2 two.3) payloads two.4)
+    (rw (one_stream two.0 content.payloads input two.1 is.0) at two.4)
 two_not_one digest g input content left right two is = two
 
 -- ---- a result, by whether the input spells something
@@ -147,12 +133,10 @@ view_of digest c input s x result =
       | rejection text is ↦ spelled is.0 is.1 3 text (rejects text is.2)
       | lacking text is ↦ ⊎_elim (λ none. without text none) (λ some. spelled some.0 some.1 4 text (lacks text some.2)) is
       | unreadable text is ↦ ⊎_elim (λ bad. misspelled text bad) (λ some. spelled some.0 some.1 8 text (misreads text some.2)) is
-      | collision l r text clash is ↦ ⊎_elim (λ two. double text (clash_of l r) two.0 (is.whole ∙ ap (λ (f : List ℕ). f ++ collision_text l r) two.1)) (λ some. spelled some.0 some.1 10 text (clash_told some.0 l r text is.front clash some.2 is.whole)) is.clashes
+      | collision l r text clash is ↦ ⊎_elim
+          (λ two. double text (clash_of l r) two.0 (is.whole ∙ ap (λ (f : List ℕ). f ++ collision_text l r) two.1))
+          (λ some. spelled some.0 some.1 10 text (rw is.whole (collides l r is.front clash some.2))) is.clashes
     ]
-  where
-    clash_told : (content : Content c.grammar) (l r text front : List ℕ) → IsCollision digest l r → c.Collides content l r front → text ≡ front ++ collision_text l r
-        → Told digest c content 10 text
-    clash_told content l r text front clash is whole = subst (Told digest c content 10) (sym whole) (collides l r front clash is)
 
 one_view : (digest : List ℕ → List ℕ) (c : Command) → Determined digest c → (input : List ℕ) (s : ℕ) (x : List ℕ) (t : ℕ) (y : List ℕ)
     → View digest c input s x → View digest c input t y → Same s x t y
@@ -172,7 +156,7 @@ one_view digest c law input s x t y (spelled a p i u says) (misspelled v q) = ab
 one_view digest c law input s x t y (spelled a p i u says) (without v q) = absurd (none_not_one digest c.grammar input v a q p)
 one_view digest c law input s x t y (spelled a p i u says) (double v n q on) = absurd (two_not_one digest c.grammar input a n.left n.right q p)
 one_view digest c law input s x t y (spelled a p i u says) (spelled b q j v told) =
-    law input b q i u j v (subst (λ (k : Content c.grammar). Told digest c k i u) (one_content digest c.grammar input a b p q) says) told
+    law input b q i u j v (rw (one_content digest c.grammar input a b p q) at says) told
 
 -- the result of an input is what comes of what it spells
 pub told_of : (digest : List ℕ → List ℕ) (c : Command) (input : List ℕ) (content : Content c.grammar) → Spells digest c.grammar input content
@@ -183,7 +167,7 @@ told_of digest c input content spells s x result = of_view s x (view_of digest c
     of_view t y (misspelled u bad) = absurd (not_misspelled digest c.grammar input u content spells bad)
     of_view t y (without u none) = absurd (none_not_one digest c.grammar input u content none spells)
     of_view t y (double u m two at) = absurd (two_not_one digest c.grammar input content m.left m.right two spells)
-    of_view t y (spelled a is i u told) = subst (λ (k : Content c.grammar). Told digest c k i u) (one_content digest c.grammar input a content is spells) told
+    of_view t y (spelled a is i u told) = rw (one_content digest c.grammar input a content is spells) at told
 
 -- A COMMAND has one result for an input
 pub one_result : (digest : List ℕ → List ℕ) (c : Command) → Determined digest c → (input : List ℕ) (s : ℕ) (x : List ℕ) (t : ℕ) (y : List ℕ)

@@ -1,9 +1,9 @@
 -- Where no fault came, a run has its whole answer, or memory ran out.
-use Rattle.std.proofs.Common.{◌≡◌, ℕ, ◌⊎◌, inl, inr, List, refl}
+use Rattle.std.proofs.Common.{◌≡◌, ℕ, ◌⊎◌, ⊎_elim, inl, inr, List, refl}
 use Rattle.wal_run.specs.Around.{Around}
 use Rattle.wal_run.specs.Answers.{Ends, IsAnswered, answered, broke_off, cut_off, no_memory, no_memory_for_words, serving_ended, sink_failed, source_failed, whole}
 use Rattle.wal_run.specs.Causes.{IsComplete}
-use Rattle.wal_run.proofs.ServiceEnds.{serving_answered}
+use Rattle.wal_run.proofs.OneService.{answer_or_fault}
 
 pub answered_unless_memory : (digest : List ℕ → List ℕ) (words : List (List ℕ)) (a : Around) (status : ℕ) → Ends digest words a status
     → IsComplete digest words a status
@@ -16,5 +16,7 @@ answered_unless_memory digest words a status ends no_source no_sink =
       | source_failed task asked has taken rose kept ↦ absurd (no_source rose)
       | sink_failed s text answer rose part ↦ absurd (no_sink rose)
       | cut_off task asked input taken text owed rose part ↦ absurd (no_sink rose)
-      | serving_ended service asked s serves ↦ inr (serving_answered digest words a service s asked serves no_source no_sink)
+      | serving_ended service asked s serves ↦
+          inr (⊎_elim (λ given. given) (⊎_elim (λ read. absurd (no_source read.1)) (λ write. absurd (no_sink write.1)))
+          (answer_or_fault digest words service a s asked serves))
     ]

@@ -1,5 +1,5 @@
 -- How the endings of a part become those of the whole run.
-use Rattle.std.proofs.Common.{◌≡◌, ℕ, ◌+◌, ◌<◌, ◌⊎◌, inl, inr, List, [], length, Option, Some, None, IfSome, Result, Ok, Err, IsErrAnd, IsErrOf, refl, sym, subst, arith}
+use Rattle.std.proofs.Common.{◌≡◌, ℕ, ◌+◌, ◌<◌, ◌⊎◌, List, [], length, Option, Some, None, IfSome, Result, Ok, Err, IsErrAnd, IsErrOf, refl, sym, arith}
 use Rattle.std.specs.Io.KnownBytes.{Keeps}
 use Rattle.wal_port.specs.Appending.{AppendsPart}
 use Rattle.wal_port.specs.declared.transfers.TakeError.{TakeError}
@@ -35,7 +35,7 @@ taken_by nothing limit left after input takes is = absurd takes
 taken_by g limit left after input takes is = is
 
 -- where nothing was taken, that is within any limit
-kept_few : (left after : Option (List ℕ)) (limit : ℕ) → Keeps left after → TakesAtMost left after limit
+pub kept_few : (left after : Option (List ℕ)) (limit : ℕ) → Keeps left after → TakesAtMost left after limit
 kept_few None after limit kept = ([], tt, omega arith)
 kept_few (Some given) None limit kept = absurd kept
 kept_few (Some given) (Some rest) limit kept = ([], sym kept, omega arith)
@@ -89,8 +89,7 @@ ends_done digest words a task status input asked taken d =
 
 -- the other faults of taking an input are not that it is too long
 pub not_too_long : {T : Type 0} (e : TakeError) → (e ≡ ReadFault) ⊎ (e ≡ Memory) → IsErrOf {T = T} (Err e) TooLong → ⊥
-not_too_long e (inl is) long = cc
-not_too_long e (inr is) long = cc
+not_too_long e is long = grind arith
 
 -- what is one result is another
 pub performs_as : {A B : ℕ → List ℕ → Type 0} {old new : Option (List ℕ)} {SinkRose : Type 0} {status : ℕ}
@@ -131,5 +130,4 @@ pub piece_cut : (IsPiece : List ℕ → Type 0) (old new : Option (List ℕ)) (S
     → IsErrAnd result (λ e. e ≡ WriteFault) → IsPiece piece → SinkRose → AppendsPart old new piece → PutsPiece IsPiece old new SinkRose result
 piece_cut IsPiece old new SinkRose (Ok put) piece cause is rose part = absurd cause
 piece_cut IsPiece old new SinkRose (Err e) piece cause is rose part =
-    let Of : PutError → Type 0 = λ x. PutsPiece IsPiece old new SinkRose (Err x) in
-    subst Of (sym cause) (piece, is, rose, part)
+    rw cause (piece, is, rose, part)

@@ -1,5 +1,5 @@
 -- Whole envelopes at the front of bytes.
-use Rattle.std.proofs.Common.{◌≡◌, ℕ, ◌+◌, ◌-◌, List, [], ◌∷◌, ◌++◌, length, Option, None, Some, refl, sym, ap, subst, ◌∙◌, append-nil, append_assoc, arith, length-append}
+use Rattle.std.proofs.Common.{◌≡◌, ℕ, ◌+◌, ◌-◌, List, [], ◌∷◌, ◌++◌, length, None, refl, sym, ap, subst, ◌∙◌, append-nil, append_assoc, arith, length-append}
 use Rattle.wal_frame.specs.Frame.{envelope}
 use Rattle.wal_frame.specs.Stream.{IsMalformed, IsPayload, IsStream, envelope_at}
 use Rattle.wal_frame.proofs.StreamLaws.{envelope_read, stream_grows}
@@ -13,12 +13,6 @@ pub record Walks (stream before rest : List ℕ) : Type 0 where
 pub walks_none : (stream : List ℕ) → Walks stream [] stream
 walks_none stream = record { parts = refl; front = []; sent = refl }
 
-abbrev the_envelope : List ℕ × List ℕ → Option (List ℕ × List ℕ)
-the_envelope e = Some e
-
-no_envelope : (e : List ℕ × List ℕ) → the_envelope e ≡ None → ⊥
-no_envelope e is = cc
-
 module _ (stream before rest : List ℕ) (walks : Walks stream before rest) where
   -- one more
   pub walks_more : (sender : ℕ) (payload later : List ℕ) → IsPayload payload → rest ≡ envelope sender payload ++ later → Walks stream (before ++ envelope sender payload) later
@@ -31,16 +25,15 @@ module _ (stream before rest : List ℕ) (walks : Walks stream before rest) wher
   -- none follows
   pub walks_stop : (place : ℕ) → place ≡ length stream - length rest → envelope_at rest ≡ None → (rest ≡ [] → ⊥) → IsMalformed place stream
   walks_stop place is none some =
-      let long : length stream ≡ length before + length rest = ap length walks.parts ∙ length-append before rest in
       record {
         front = before;
         payloads = walks.front;
         rest = rest;
         parts = walks.parts;
-        size = omega (arith, is, long);
+        size = omega (arith, is, ap length walks.parts, length-append before rest);
         whole = walks.sent;
         more = some;
-        unfit = λ sender payload after fits begins. no_envelope (payload, after) (sym (envelope_read rest sender payload after fits begins) ∙ none);
+        unfit = λ sender payload after fits begins. cc (envelope_read rest sender payload after fits begins, none);
       }
 
   -- nothing does

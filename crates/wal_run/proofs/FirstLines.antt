@@ -30,23 +30,21 @@ module _ (r : Rules) where
       → Steps r old event said new → (Runs r new events states lines → Begins r new some lines)
       → cond k ((states ≡ []) × (lines ≡ [])) (Runs r new events states lines) → Begins r old (event ∷ some) (said ∷ lines)
   one_begun old new event some events states said lines true is step more stops =
-      let Stops : Bool → Type 0 = λ b. cond b (◌≡◌ {A = List World} [] [] × ◌≡◌ {A = List Line} [] []) (Runs r new some [] []) in
       record {
         states = new ∷ [];
         first = said ∷ [];
         rest = [];
-        run = (step, subst Stops is (refl, refl));
+        run = (step, rw (← is) (refl, refl));
         whole = ap (λ (xs : List Line). said ∷ xs) stops.1;
         stops = inr refl;
       }
   one_begun old new event some events states said lines false is step more run =
       let at = more run in
-      let Goes : Bool → Type 0 = λ b. cond b ((at.states ≡ []) × (at.first ≡ [])) (Runs r new some at.states at.first) in
       record {
         states = new ∷ at.states;
         first = said ∷ at.first;
         rest = at.rest;
-        run = (step, subst Goes is at.run);
+        run = (step, rw (← is) at.run);
         whole = ap (λ (xs : List Line). said ∷ xs) at.whole;
         stops = ⊎_elim (λ goes. inl (sym is, goes)) (λ nil. inr nil) at.stops;
       }

@@ -1,6 +1,5 @@
 -- The image of the puts of payloads: a disk holds it, or the first record that does not fit is told.
-use Rattle.std.proofs.Common.{◌≡◌, ℕ, zero, suc, ◌+◌, ◌-◌, ◌<◌, ◌≤◌, Bool, true, false, List, [], ◌∷◌, ◌++◌, length, take, get_or, replicate, Result, Ok, Err, refl, sym, ap, ◌∙◌, subst, arith, length-append}
-use Rattle.std.specs.Prelude.{if◌then◌else◌, nat_lt}
+use Rattle.std.proofs.Common.{◌≡◌, ℕ, zero, suc, ◌+◌, ◌-◌, ◌<◌, ◌≤◌, List, [], ◌∷◌, ◌++◌, length, take, get_or, replicate, Result, Ok, Err, refl, sym, ap, ◌∙◌, arith, length-append}
 use Rattle.std.proofs.lemmas.Bool.{le-ltb, lt-ltb}
 use Rattle.std.proofs.lemmas.List.{append_assoc, append-nil, take_at, take_more, length-replicate}
 use Rattle.wal_shape.specs.declared.metadata.BlobId.{BlobId}
@@ -26,24 +25,20 @@ length-records-parts first c rest =
 image_fits : (size : ℕ) (first rest : List Call) → length (records (first ++ rest)) + 1 ≤ size → image_from size first rest ≡ Ok (records (first ++ rest) ++ 0 ∷ [])
 image_fits size first [] fits = ap (λ (l : List Call). Ok (records l ++ 0 ∷ [])) (sym (append-nil first))
 image_fits size first (c ∷ rest) fits =
-    let room : nat_lt (room_behind size first) (room_of c) ≡ false = le-ltb (room_behind size first) (room_of c) (omega (arith, fits, length-records-parts first c rest)) in
-    let parts : (first ++ c ∷ []) ++ rest ≡ first ++ c ∷ rest = append_assoc first (c ∷ []) rest in
-    ap (λ (b : Bool). if b then Err (room_of c, room_behind size first) else image_from size (first ++ c ∷ []) rest) room
-    ∙ image_fits size (first ++ c ∷ []) rest (subst (λ (l : List Call). length (records l) + 1 ≤ size) (sym parts) fits) ∙ ap (λ (l : List Call). Ok (records l ++ 0 ∷ [])) parts
+    let room = le-ltb (room_behind size first) (room_of c) (omega (arith, fits, length-records-parts first c rest)) in
+    let parts = append_assoc first (c ∷ []) rest in
+    rw (room, ← parts) (image_fits size (first ++ c ∷ []) rest (rw parts fits))
 
 -- where those of the first changes fit, and the next does not
 image_full : (size : ℕ) (first before : List Call) (c : Call) (rest : List Call) → length (records (first ++ before)) + 1 ≤ size → room_behind size (first ++ before) < room_of c
     → image_from size first (before ++ c ∷ rest) ≡ Err (room_of c, room_behind size (first ++ before))
 image_full size first [] c rest fits full =
-    let same : first ++ [] ≡ first = append-nil first in
-    let none : nat_lt (room_behind size first) (room_of c) ≡ true = lt-ltb (room_behind size first) (room_of c) (subst (λ (l : List Call). room_behind size l < room_of c) same full) in
-    ap (λ (b : Bool). if b then Err (room_of c, room_behind size first) else image_from size (first ++ c ∷ []) rest) none ∙ ap (λ (l : List Call). Err (room_of c, room_behind size l)) (sym same)
+    let same = append-nil first in
+    rw (same, lt-ltb (room_behind size first) (room_of c) (rw same at full)) refl
 image_full size first (d ∷ before) c rest fits full =
-    let room : nat_lt (room_behind size first) (room_of d) ≡ false = le-ltb (room_behind size first) (room_of d) (omega (arith, fits, length-records-parts first d before)) in
-    let parts : (first ++ d ∷ []) ++ before ≡ first ++ d ∷ before = append_assoc first (d ∷ []) before in
-    ap (λ (b : Bool). if b then Err (room_of d, room_behind size first) else image_from size (first ++ d ∷ []) (before ++ c ∷ rest)) room
-    ∙ image_full size (first ++ d ∷ []) before c rest (subst (λ (l : List Call). length (records l) + 1 ≤ size) (sym parts) fits) (subst (λ (l : List Call). room_behind size l < room_of c) (sym parts) full)
-    ∙ ap (λ (l : List Call). Err (room_of c, room_behind size l)) parts
+    let room = le-ltb (room_behind size first) (room_of d) (omega (arith, fits, length-records-parts first d before)) in
+    let parts = append_assoc first (d ∷ []) before in
+    rw (room, ← parts) (image_full size (first ++ d ∷ []) before c rest (rw parts fits) (rw parts full))
 
 -- ---- what a disk holds
 
@@ -60,17 +55,16 @@ image_made now size tail puts accepts long at closed =
     let fits : length (records puts) + 1 ≤ length now = accepted_fits now puts accepts in
     let front : take tail now ≡ records puts =
     ap (λ (l : List ℕ). take tail l) accepts.stands.is ∙ take_at (records puts) (accepts.stands.gate ∷ accepts.stands.rest) tail (sym at) in
-    let shown : take (tail + 1) now ≡ records puts ++ 0 ∷ [] =
-    take_more now tail 0 (omega (arith, fits, at)) ∙ ap (λ (l : List ℕ). l ++ get_or now tail 0 ∷ []) front ∙ ap (λ (g : ℕ). records puts ++ g ∷ []) closed in
-    image_fits size [] puts (omega (arith, fits, long)) ∙ ap (λ (l : List ℕ). Ok l) (sym shown)
+    rw (take_more now tail 0 (omega (arith, fits, at)), front, closed)
+    (image_fits size [] puts (omega (arith, fits, long)))
 
 pub image_refused : (now : List ℕ) (size tail needed free : ℕ) (puts first : List Call) (c : Call) (rest : List Call) → Accepts now first → length now ≡ size → tail ≡ length (records first) → puts ≡ first ++ c ∷ rest
     → needed ≡ room_of c → free ≡ length now - tail - 1 → free < needed → image_of size puts ≡ Err (needed, free)
 image_refused now size tail needed free puts first c rest accepts long at are needs left full =
     let fits : length (records first) + 1 ≤ length now = accepted_fits now first accepts in
     let room : free ≡ room_behind size first = omega (arith, left, long, at) in
-    ap (λ (l : List Call). image_of size l) are ∙ image_full size [] first c rest (omega (arith, fits, long)) (omega (arith, room, needs, full))
-    ∙ (λ i. Err (sym needs i, sym room i))
+    rw (are, needs, room) (image_full size [] first c rest (omega (arith, fits, long))
+    (omega (arith, room, needs, full)))
 
 -- ---- the command has one result
 
@@ -81,11 +75,10 @@ Made digest size payloads (Err full) s x = (s ≡ 4) × (x ≡ disk_full_text fu
 made_of : (digest : List ℕ → List ℕ) (size : ℕ) (payloads : List (List ℕ)) (s : ℕ) (x : List ℕ) → Told digest (imaging digest size) payloads s x
     → Made digest size payloads (image_of size (puts_of digest no_contents payloads)) s x
 made_of digest size payloads s x told =
-    let Is : Result (List ℕ) (ℕ × ℕ) → ℕ → List ℕ → Type 0 = λ r t y. Made digest size payloads r t y in
     elim told as (λ t y _. Made digest size payloads (image_of size (puts_of digest no_contents payloads)) t y) [
-      | succeeds text is ↦ subst (λ (r : Result (List ℕ) (ℕ × ℕ)). Made digest size payloads r 0 text) (sym is) (refl, refl)
+      | succeeds text is ↦ rw is (refl, refl)
       | rejects text is ↦ absurd is
-      | lacks text is ↦ subst (λ (r : Result (List ℕ) (ℕ × ℕ)). Made digest size payloads r 4 text) (sym is.2) (refl, is.3)
+      | lacks text is ↦ rw is.2 (refl, is.3)
       | misreads text is ↦ absurd is
       | collides left right text clash is ↦ absurd is
     ]

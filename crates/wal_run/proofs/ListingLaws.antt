@@ -1,5 +1,5 @@
 -- The lines of what is held, identifier by identifier, and that an image has one listing.
-use Rattle.std.proofs.Common.{◌≡◌, ◌⊎◌, inl, inr, ℕ, ◌+◌, ◌≤◌, Bool, true, false, cond, T, Option, Some, None, List, [], ◌∷◌, ◌++◌, length, filter, drop, get_or, slice_get, refl, sym, ap, ◌∙◌, subst, arith, length-append}
+use Rattle.std.proofs.Common.{◌≡◌, ◌⊎◌, inl, inr, ℕ, ◌+◌, ◌≤◌, Bool, true, false, cond, T, Option, Some, None, List, [], ◌∷◌, ◌++◌, length, filter, drop, get_or, slice_get, refl, sym, ap, ◌∙◌, arith, length-append}
 use Rattle.std.specs.Prelude.{⊤}
 use Rattle.std.specs.declared.cmp.Ordering.{Ordering}
 use Rattle.std.specs.declared.cmp.Ordering.TheVariants.{Less}
@@ -68,13 +68,13 @@ past_both (Some l) id x first less = ap is_lt (ids_total.trans l id x (lt_of (id
 all_past : (last : Option BlobId) (id : BlobId) (ids : List BlobId) → is_past last id ≡ true → IsAfter id ids → filter (is_past last) ids ≡ ids
 unfolding IsAfter
 all_past last id [] first after = refl
-all_past last id (x ∷ ids) first after = ap (λ (b : Bool). cond b (x ∷ filter (is_past last) ids) (filter (is_past last) ids)) (past_both last id x first after.0) ∙ ap (λ (l : List BlobId). x ∷ l) (all_past last id ids first after.1)
+all_past last id (x ∷ ids) first after = rw (past_both last id x first after.0, all_past last id ids first after.1) refl
 
 -- each stands past the one that they are after
 own_past : (id : BlobId) (ids : List BlobId) → IsAfter id ids → filter (is_past (Some id)) ids ≡ ids
 unfolding IsAfter
 own_past id [] after = refl
-own_past id (x ∷ ids) after = ap (λ (b : Bool). cond b (x ∷ filter (is_past (Some id)) ids) (filter (is_past (Some id)) ids)) (ap is_lt after.0) ∙ ap (λ (l : List BlobId). x ∷ l) (own_past id ids after.1)
+own_past id (x ∷ ids) after = rw (after.0, own_past id ids after.1) refl
 
 -- the first that passes is one of them
 first_after : (p : BlobId → Bool) (id : BlobId) (ids : List BlobId) (found : BlobId) → IsAfter id ids → slice_get (filter p ids) 0 ≡ Some found → id_cmp id found ≡ Less
@@ -83,7 +83,7 @@ first_after p id [] found after at = cc
 first_after p id (x ∷ ids) found after at = by (p x) at (first_after p id ids found after.1)
   where
     by : (b : Bool) → slice_get (cond b (x ∷ filter p ids) (filter p ids)) 0 ≡ Some found → (slice_get (filter p ids) 0 ≡ Some found → id_cmp id found ≡ Less) → id_cmp id found ≡ Less
-    by true here rest = let is : x ≡ found = cc in ap (id_cmp id) (sym is) ∙ after.0
+    by true here rest = let is : found ≡ x = cc in rw is after.0
     by false there rest = rest there
 
 -- those past the last one are the next, and those past that one
@@ -92,25 +92,21 @@ unfolding Ascend
 past_next last [] id ascend at = cc
 past_next last (x ∷ ids) id ascend at = by (is_past last x) refl at (past_next last ids id ascend.1)
   where
-    mine : BlobId → Bool
-    mine = is_past (Some id)
-
     by : (b : Bool) → is_past last x ≡ b → slice_get (cond b (x ∷ filter (is_past last) ids) (filter (is_past last) ids)) 0 ≡ Some id
         → (slice_get (filter (is_past last) ids) 0 ≡ Some id → filter (is_past last) ids ≡ id ∷ filter (is_past (Some id)) ids)
         → cond b (x ∷ filter (is_past last) ids) (filter (is_past last) ids) ≡ id ∷ cond (is_past (Some id) x) (x ∷ filter (is_past (Some id)) ids) (filter (is_past (Some id)) ids)
     by true passes here rest =
-        let is : x ≡ id = cc in
-        let out : is_past (Some id) x ≡ false = ap (λ (y : BlobId). is_past (Some id) y) is ∙ ap is_lt (tied_itself ids_total id) in
-        ap (λ (l : List BlobId). x ∷ l) (all_past last x ids passes ascend.0 ∙ sym (subst (λ (y : BlobId). filter (is_past (Some y)) ids ≡ ids) is (own_past x ids ascend.0))) ∙ ap (λ (y : BlobId). y ∷ filter (is_past (Some id)) ids) is
-        ∙ ap (λ (b : Bool). id ∷ cond b (x ∷ filter (is_past (Some id)) ids) (filter (is_past (Some id)) ids)) (sym out)
+        let is : id ≡ x = cc in
+        let out : is_past (Some x) x ≡ false = ap is_lt (tied_itself ids_total x) in
+        rw (is, out, all_past last x ids passes ascend.0, own_past x ids ascend.0) refl
     by false fails there rest =
         let before : id_cmp x id ≡ Less = first_after (is_past last) x ids id ascend.0 there in
         let out : is_past (Some id) x ≡ false = ap is_lt (ids_total.antisymm id x ∙ ap ordering_reverse before) in
-        rest there ∙ ap (λ (b : Bool). id ∷ cond b (x ∷ filter (is_past (Some id)) ids) (filter (is_past (Some id)) ids)) (sym out)
+        rw out (rest there)
 
 all_first : (ids : List BlobId) → filter (is_past None) ids ≡ ids
 all_first [] = refl
-all_first (x ∷ ids) = ap (λ (l : List BlobId). x ∷ l) (all_first ids)
+all_first (x ∷ ids) = rw (all_first ids) refl
 
 none_left : (ids : List BlobId) → slice_get ids 0 ≡ None → ids ≡ []
 none_left [] none = refl
@@ -130,20 +126,18 @@ abbrev pub IsListedTo : Contents → Option BlobId → List ℕ → Type 0
 IsListedTo contents last text = text ++ lines_of contents (to_come contents last) ≡ contents_text contents
 
 pub none_listed : (contents : Contents) (text : List ℕ) → text ≡ [] → IsListedTo contents None text
-none_listed contents text empty = ap (λ (l : List ℕ). l ++ lines_of contents (to_come contents None)) empty ∙ ap (lines_of contents) (all_first (fin.keys contents))
+none_listed contents text empty = rw (empty, all_first) refl
 
 pub one_next : (contents : Contents) (last : Option BlobId) (id : BlobId) → Some id ≡ next_id contents last → to_come contents last ≡ id ∷ to_come contents (Some id)
 one_next contents last id next = past_next last (fin.keys contents) id (ascend_of (fin.entries contents) (fin.entries_sorted contents)) (sym next)
 
 pub one_listed : (contents : Contents) (last : Option BlobId) (id : BlobId) (text new : List ℕ) → Some id ≡ next_id contents last → new ≡ text ++ holding_text id (parts_at contents id) → IsListedTo contents last text → IsListedTo contents (Some id) new
 one_listed contents last id text new next more so_far =
-    let rest : List ℕ = lines_of contents (to_come contents (Some id)) in
-    ap (λ (l : List ℕ). l ++ rest) more ∙ append_assoc text (holding_text id (parts_at contents id)) rest
-    ∙ ap (λ (l : List BlobId). text ++ lines_of contents l) (sym (one_next contents last id next)) ∙ so_far
+    rw (more, append_assoc) (rw (one_next contents last id next) at so_far)
 
 pub all_listed : (contents : Contents) (last found : Option BlobId) (text : List ℕ) → ((id : BlobId) → found ≡ Some id → ⊥) → found ≡ next_id contents last → IsListedTo contents last text → text ≡ contents_text contents
 all_listed contents last None text other none so_far =
-    sym (append-nil text) ∙ ap (λ (l : List BlobId). text ++ lines_of contents l) (sym (none_left (to_come contents last) (sym none))) ∙ so_far
+    let nil = none_left (to_come contents last) (sym none) in rw (← append-nil text) (rw nil at so_far)
 all_listed contents last (Some id) text other none so_far = absurd (other id refl)
 
 -- the line of a part of this size
@@ -205,8 +199,7 @@ module _ (digest : List ℕ → List ℕ) (image : List ℕ) where
   pub listed_is : (shown : List ℕ) (tail : ℕ) (held kept : Contents) (changes : List Call) (text : List ℕ) → shown ≡ image → IsJournal shown tail held changes → kept ≡ held → text ≡ contents_text kept
       → IsResult digest unpacking image 0 text
   listed_is shown tail held kept changes text same journal own line =
-      let accepts : Accepts image changes = subst (λ (b : List ℕ). Accepts b changes) same journal.accepts in
-      success text (image, refl, (changes, accepts, line ∙ ap contents_text (own ∙ journal.holds)))
+      success text (image, refl, (changes, rw same at journal.accepts, line ∙ ap contents_text (own ∙ journal.holds)))
 
   pub empty_is : image ≡ [] → IsResult digest unpacking image 8 (malformed_text 0)
   empty_is none = unreadable _ (inr (image, refl, (0, inl (none, refl), refl)))
@@ -214,5 +207,4 @@ module _ (digest : List ℕ → List ℕ) (image : List ℕ) where
   pub broken_is : (shown : List ℕ) (at : ℕ) (held : Contents) (changes : List Call) → shown ≡ image → ReadTo shown at held changes → get_or shown at 0 ≡ 1 → IsBad held (drop (at + 1) shown)
       → IsResult digest unpacking image 8 (malformed_text at)
   broken_is shown at held changes same so_far gate bad =
-      let broken : IsBrokenAt image at = subst (λ (b : List ℕ). IsBrokenAt b at) same (inr (changes, held, so_far, gate, bad)) in
-      unreadable _ (inr (image, refl, (at, broken, refl)))
+      unreadable _ (inr (image, refl, (at, rw (← same) (inr (changes, held, so_far, gate, bad)), refl)))

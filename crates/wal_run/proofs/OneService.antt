@@ -1,5 +1,5 @@
 -- Serving a shard, the bytes of a source have one answer, but for the two texts of a collision.
-use Rattle.std.proofs.Common.{◌≡◌, ◌⊎◌, ⊎_elim, inl, inr, ℕ, Bool, true, false, List, [], ◌∷◌, ◌++◌, Option, Some, refl, ap, subst, ◌∙◌, true≢false}
+use Rattle.std.proofs.Common.{◌≡◌, ◌⊎◌, ⊎_elim, inl, inr, ℕ, Bool, true, false, List, [], ◌∷◌, ◌++◌, Option, Some, refl, ap, ◌∙◌, true≢false}
 use Rattle.std.proofs.lemmas.Bool.{false≢true}
 use Rattle.std.proofs.lemmas.Grind.{flat_map-append}
 use Rattle.std.specs.Io.KnownBytes.{Appends, Consumes, IsAtEnd}
@@ -15,7 +15,6 @@ use Rattle.wal_serve.specs.State.{ServedState}
 use Rattle.wal_serve.proofs.OneEnd.{one_serving}
 use Rattle.wal_serve.proofs.OneTable.{one_table}
 use Rattle.wal_words.specs.declared.task.Service.{Service}
-use Rattle.wal_words.specs.declared.task.Task.{Task}
 use Rattle.wal_words.specs.declared.task.Task.TheVariants.{Serve}
 use Rattle.wal_words.specs.Task.{IsTask}
 use Rattle.wal_words.proofs.Rows.{one_task}
@@ -27,13 +26,8 @@ use Rattle.wal_run.proofs.CommandLaws.{SameAt, same_as}
 use Rattle.wal_run.proofs.ServiceEnds.{all_written, calm_or_faulted}
 
 -- one service is asked for
-service_of : Service → Task → Service
-service_of other (Serve service) = service
-service_of other task = other
-
 pub one_asked : (words : List (List ℕ)) (a b : Service) → IsTask words (Serve a) → IsTask words (Serve b) → a ≡ b
-unfolding service_of
-one_asked words a b asked also = ap (service_of a) (one_task words (Serve a) (Serve b) asked also)
+one_asked words a b asked also = cc (one_task words (Serve a) (Serve b) asked also)
 
 -- one end has one status
 same_status : (end other : ServeEnd) → SameEnd end other → end_status end ≡ end_status other
@@ -105,7 +99,4 @@ answer_or_fault digest words service a status asked ends =
     (calm_or_faulted (answering digest) (desk_room service.faults) serve_limit (at_start service) ends.2.taken (IsAtEnd a.after) ends.2.frames ends.0 a.SourceRose a.SinkRose ends.1 ends.2.serves)
   where
     until : {end : ServeEnd} → ends.1 ≡ end → ServedUntil digest service a end
-    until {end} is =
-        let Until : ServeEnd → Type 0 = λ e.
-        IsServed (answering digest) (desk_room service.faults) serve_limit service.shard (at_start service) ends.0 a.left a.after a.SourceRose a.old a.new a.SinkRose e in
-        (ends.0, subst Until is ends.2)
+    until is = (ends.0, rw is at ends.2)

@@ -11,30 +11,33 @@ BeginsNot rest = (sender : ℕ) (payload after : List ℕ) → IsPayload payload
 
 none_begins : BeginsNot []
 none_begins sender payload after fits same =
-    let long : 0 ≡ length (envelope sender payload ++ after) = ap length same in
-    omega (arith, long, length-append payload after)
+    omega (arith, ap length same, length-append payload after)
 
 -- whole envelopes at the front, behind which none stands, are the same ones, and as many bytes
 one_front : (ps qs : List (List ℕ)) (front rest other behind : List ℕ) → IsStream ps front → IsStream qs other → BeginsNot rest → BeginsNot behind
     → front ++ rest ≡ other ++ behind → (ps ≡ qs) × (length front ≡ length other)
 one_front [] [] front rest other behind is also none nothing same = (refl, ap length is ∙ sym (ap length also))
 one_front [] (q ∷ qs) front rest other behind is (sender, more, fits, parts, stream) none nothing same =
-    absurd (none sender q (more ++ behind) fits
-    (ap (λ (x : List ℕ). x ++ rest) (sym is) ∙ same ∙ ap (λ (x : List ℕ). x ++ behind) parts ∙ append_assoc (envelope sender q) more behind))
+    absurd (none sender q (more ++ behind) fits (rw (is, parts, append_assoc (envelope sender q) more behind) at same))
 one_front (p ∷ ps) [] front rest other behind (sender, more, fits, parts, stream) also none nothing same =
     absurd (nothing sender p (more ++ rest) fits
-    (ap (λ (x : List ℕ). x ++ behind) (sym also) ∙ sym same ∙ ap (λ (x : List ℕ). x ++ rest) parts ∙ append_assoc (envelope sender p) more rest))
+    (rw (also, parts, append_assoc (envelope sender p) more rest) at (sym same)))
 one_front (p ∷ ps) (q ∷ qs) front rest other behind (sender, more, fits, parts, stream) (from, further, fit, pieces, follows) none nothing same =
     let here : front ++ rest ≡ envelope sender p ++ (more ++ rest) = ap (λ (x : List ℕ). x ++ rest) parts ∙ append_assoc (envelope sender p) more rest in
     let there : front ++ rest ≡ envelope from q ++ (further ++ behind) =
-    same ∙ ap (λ (x : List ℕ). x ++ behind) pieces ∙ append_assoc (envelope from q) further behind in
+    rw (same, pieces) (append_assoc (envelope from q) further behind) in
     let one = one_envelope (front ++ rest) sender from p q (more ++ rest) (further ++ behind) fits fit here there in
-    let others = one_front ps qs more rest further behind stream follows none nothing one.1 in
-    let size : length p ≡ length q = ap length one.0 in
-    let long : length front ≡ length (envelope sender p ++ more) = ap length parts in
-    let wide : length other ≡ length (envelope from q ++ further) = ap length pieces in (
-      ap (λ (x : List ℕ). x ∷ ps) one.0 ∙ ap (λ (x : List (List ℕ)). q ∷ x) others.0,
-      omega (arith, size, long, wide, others.1, length-append p more, length-append q further),
+    let others = one_front ps qs more rest further behind stream follows none nothing one.1 in (
+      rw (one.0, others.0) refl,
+      omega (
+        arith,
+        ap length one.0,
+        ap length parts,
+        ap length pieces,
+        others.1,
+        length-append p more,
+        length-append q further,
+      ),
     )
 
 -- the payloads of a stream are the only ones
@@ -45,8 +48,7 @@ one_stream ps qs bytes is also = (one_front ps qs bytes [] bytes [] is also none
 pub not_malformed : (ps : List (List ℕ)) (place : ℕ) (bytes : List ℕ) → IsStream ps bytes → IsMalformed place bytes → ⊥
 not_malformed ps place bytes is bad =
     let same = (one_front ps bad.payloads bytes [] bad.front bad.rest is bad.whole none_begins bad.unfit (append-nil bytes ∙ bad.parts)).1 in
-    let long : length bytes ≡ length (bad.front ++ bad.rest) = ap length bad.parts in
-    bad.more (nil_from_length bad.rest (omega (arith, same, long, length-append bad.front bad.rest)))
+    bad.more (nil_from_length bad.rest (omega (arith, same, ap length bad.parts, length-append bad.front bad.rest)))
 
 -- and what is malformed is so at one place
 pub one_place : (i j : ℕ) (bytes : List ℕ) → IsMalformed i bytes → IsMalformed j bytes → i ≡ j

@@ -1,25 +1,20 @@
 -- Words and an input have one answer, but for the texts of a collision.
-use Rattle.std.proofs.Common.{◌≡◌, ⊎_elim, inl, inr, ℕ, ◌<◌, ◌≤◌, List, [], append-nil, length, Option, Some, refl, sym, ap, subst, ◌∙◌, arith}
+use Rattle.std.proofs.Common.{◌≡◌, ⊎_elim, inl, inr, ℕ, ◌<◌, List, [], append-nil, length, Option, Some, refl, sym, ap, ◌∙◌, arith}
 use Rattle.std.proofs.KnownBytes.{Appends-kept, Appends-nil}
-use Rattle.std.specs.Io.KnownBytes.{Appends, IsAtEnd}
-use Rattle.wal_serve.specs.declared.serving.ServeEnd.{ServeEnd}
+use Rattle.std.specs.Io.KnownBytes.{Appends}
 use Rattle.wal_serve.specs.declared.serving.ServeEnd.TheVariants.{ReadFault, WriteFault}
-use Rattle.wal_serve.specs.Room.{desk_room}
-use Rattle.wal_serve.specs.Serving.{IsServed}
-use Rattle.wal_serve.specs.State.{ServedState}
 use Rattle.wal_words.specs.declared.task.Task.{Task}
 use Rattle.wal_words.specs.declared.task.Task.TheVariants.{Serve}
 use Rattle.wal_words.specs.declared.task.Service.{Service}
 use Rattle.wal_words.specs.Task.{IsTask}
 use Rattle.wal_words.proofs.Rows.{one_task}
 use Rattle.wal_run.specs.Around.{Around}
-use Rattle.wal_run.specs.Command.{Grammar, IsFrontOf, IsFrontUpToClash, IsResult, IsTaken, MayLeave, MayOwe, TakenBy, TakesInput, bytes, nothing}
+use Rattle.wal_run.specs.Command.{Command, Grammar, IsFrontOf, IsFrontUpToClash, IsResult, IsTaken, IsTooLong, MayLeave, MayOwe, TakenBy, TakesInput, nothing}
 use Rattle.wal_run.specs.Commands.{command_of}
 use Rattle.wal_run.specs.Answers.{Answers, Completes, Ends, answered, broke_off, cut_off, done, no_memory, no_memory_for_words, served, serving_ended, sink_failed, source_failed, too_long, usage, whole}
 use Rattle.wal_run.specs.Causes as causes
 use Rattle.wal_run.specs.Causes.{HasOneAnswer, IsExact, WasTold}
-use Rattle.wal_run.specs.SameText.{IsPlaceOf, Place, SameText, line, place_of}
-use Rattle.wal_run.specs.Serving.{IsServiceResult, answering, at_start, serve_limit}
+use Rattle.wal_run.specs.SameText.{IsPlaceOf, Place, line, place_of}
 use Rattle.wal_run.proofs.CommandLaws.{SameAt, one_result}
 use Rattle.wal_run.proofs.OneService.{ServedUntil, answer_or_fault, one_asked, one_service}
 use Rattle.wal_run.proofs.ServiceEnds.{no_answer, no_result}
@@ -35,15 +30,15 @@ taken_once nothing limit input xs ys after then a b = a.1 ∙ sym b.1
 taken_once g limit input xs ys after then a b = a.told ∙ sym b.told
 
 -- an input is longer than the limit, or was taken whole
-longer : (limit : ℕ) (input xs ys : List ℕ) → xs ≡ input → limit < length xs → ys ≡ input → length ys ≤ limit → ⊥
-longer limit input xs ys is long also short =
-    let sizes : length xs ≡ length ys = ap length (is ∙ sym also) in
-    omega (arith, sizes, long, short)
-
 not_both : (g : Grammar) (limit : ℕ) (input xs ys : List ℕ) (then : Option (List ℕ)) → TakesInput g → xs ≡ input → limit < length xs
     → TakenBy g limit (Some input) then ys → ⊥
 not_both nothing limit input xs ys then takes is long b = takes
-not_both g limit input xs ys then takes is long b = longer limit input xs ys is long b.told b.within
+not_both g limit input xs ys then takes is long b = omega (arith, ap length is, ap length b.told, long, b.within)
+
+not_taken : {c : Command} {input : List ℕ} {after : Option (List ℕ)} (ys : List ℕ) (then : Option (List ℕ))
+    → IsTooLong c (Some input) after → IsTaken c (Some input) then ys → ⊥
+not_taken {c} {input} ys then long taken =
+    not_both c.grammar c.limit input long.input ys then long.takes long.told long.past taken
 
 -- ---- one answer
 
@@ -61,22 +56,17 @@ only_answer digest words place at input after s x then t y (usage none kept) (do
 only_answer digest words place at input after s x then t y (too_long a asks far) (usage never also) = absurd (never a asks)
 only_answer digest words place at input after s x then t y (too_long a asks far) (too_long b asked long) = (refl, inl refl)
 only_answer digest words place at input after s x then t y (too_long a asks far) (done b asked ys taken u z result) =
-    let Takes : Task → Type 0 = λ k. TakenBy (command_of digest k).grammar (command_of digest k).limit (Some input) then ys in
-    let here = subst Takes (one_task words b a asked asks) taken in
-    absurd (not_both (command_of digest a).grammar (command_of digest a).limit input far.input ys then far.takes far.told far.past here)
+    absurd (not_taken ys then far (rw (one_task words b a asked asks) at taken))
 only_answer digest words place at input after s x then t y (done a asks xs spent v w comes) (usage never also) = absurd (never a asks)
 only_answer digest words place at input after s x then t y (done a asks xs spent v w comes) (too_long b asked long) =
-    let Takes : Task → Type 0 = λ k. TakenBy (command_of digest k).grammar (command_of digest k).limit (Some input) after xs in
-    let here = subst Takes (one_task words a b asks asked) spent in
-    absurd (not_both (command_of digest b).grammar (command_of digest b).limit input long.input xs after long.takes long.told long.past here)
+    absurd (not_taken xs after long (rw (one_task words a b asks asked) at spent))
 only_answer digest words place at input after s x then t y (done a asks xs spent v w comes) (done b asked ys taken u z result) =
+    let c = command_of digest b in
     let one = one_task words a b asks asked in
-    let Takes : Task → Type 0 = λ k. TakenBy (command_of digest k).grammar (command_of digest k).limit (Some input) after xs in
-    let inputs = taken_once (command_of digest b).grammar (command_of digest b).limit input xs ys after then (subst Takes one spent) taken in
-    let Of : Task → Type 0 = λ k. IsResult digest (command_of digest k) xs v w in
-    let here = subst (λ (i : List ℕ). IsResult digest (command_of digest b) i v w) inputs (subst Of one comes) in
-    let one_line = one_result digest (command_of digest b) (determined digest b (in_range words b asked)) ys v w u z here result in
-    subst (λ (p : Place). SameAt p v w u z) (line_of digest b ys u z result ∙ sym (at b asked)) one_line
+    let inputs = taken_once c.grammar c.limit input xs ys after then (rw one at spent) taken in
+    let here = rw inputs at (rw one at comes) in
+    rw (at b asked, ← line_of digest b ys u z result)
+    (one_result digest c (determined digest b (in_range words b asked)) ys v w u z here result)
 
 -- THE ANSWER, where the source tells its bytes, is the only one; the texts of a collision are free
 pub only : (digest : List ℕ → List ℕ) (words : List (List ℕ)) (place : Place) → IsPlaceOf words place → (input : List ℕ) (after : Option (List ℕ)) (s : ℕ) (x : List ℕ) (then : Option (List ℕ)) (t : ℕ) (y : List ℕ)
@@ -85,9 +75,8 @@ only digest words place at input after s x then t y (answered u v is) (answered 
 only digest words place at input after s x then t y (answered u v is) (served service asked given spent w z serves) = absurd (no_answer digest words (Some input) after service u v asked is)
 only digest words place at input after s x then t y (served service asks taken lost u v serves) (answered w z also) = absurd (no_answer digest words (Some input) then service w z asks also)
 only digest words place at input after s x then t y (served service asks taken lost u v serves) (served other asked given spent w z also) =
-    let here = subst (λ (k : Service). IsServiceResult digest k taken (IsAtEnd after) u v) (one_asked words service other asks asked) serves in
-    let one = one_service digest other input taken given after then u w v z lost spent here also in
-    subst (λ (p : Place). SameAt p u v w z) (sym (at (Serve other) asked)) one
+    let here = rw (one_asked words service other asks asked) at serves in
+    rw (at (Serve other) asked) (one_service digest other input taken given after then u w v z lost spent here also)
 
 -- ---- what a command left written when it broke off is a front of the answer, up to a collision
 
@@ -97,33 +86,24 @@ module _ (digest : List ℕ → List ℕ) (words : List (List ℕ)) (input : Lis
       → Answers digest words (Some input) then t y → Is t y
   of_answer Is each t y (usage none kept) = absurd (none task asks)
   of_answer Is each t y (too_long b asked long) =
-      let here = subst (λ (k : Task). IsTaken (command_of digest k) (Some input) after xs) (one_task words task b asks asked) taken in
-      absurd (not_both (command_of digest b).grammar (command_of digest b).limit input long.input xs after long.takes long.told long.past here)
+      absurd (not_taken xs after long (rw (one_task words task b asks asked) at taken))
   of_answer Is each t y (done b asked ys given u z result) =
+      let c = command_of digest task in
       let one = one_task words b task asked asks in
-      let there = subst (λ (k : Task). IsTaken (command_of digest k) (Some input) then ys) one given in
-      let inputs = taken_once (command_of digest task).grammar (command_of digest task).limit input ys xs then after there taken in
-      let here = subst (λ (k : Task). IsResult digest (command_of digest k) ys u z) one result in
-      each u z (subst (λ (i : List ℕ). IsResult digest (command_of digest task) i u z) inputs here)
+      let inputs = taken_once c.grammar c.limit input ys xs then after (rw one at given) taken in
+      each u z (rw inputs at (rw one at result))
 
   pub front_left : MayLeave digest (command_of digest task) xs part → (t : ℕ) (y : List ℕ) → Completes digest words (Some input) then t y → IsFrontOf part y
   front_left left t y (answered u z is) = of_answer (λ s x. IsFrontOf part x) left.1 u z is
   front_left left t y (served service asked given spent u z serves) =
-      let none = subst (λ (k : Task). MayLeave digest (command_of digest k) xs part) (one_task words task (Serve service) asks asked) left in
-      absurd none.0.2
+      let none = rw (one_task words task (Serve service) asks asked) at left in absurd none.0.2
 
   pub front_owed : MayOwe digest (command_of digest task) xs part → (t : ℕ) (y : List ℕ) → Completes digest words (Some input) then t y → IsFrontUpToClash place t part y
   front_owed owed t y (answered u z is) =
       of_answer (λ s x. IsFrontUpToClash place s part x)
-      (λ s x result. subst (λ (p : Place). IsFrontUpToClash p s part x) (line_of digest task xs s x result ∙ sym (at task asks)) (owed.1 s x result)) u z is
+      (λ s x result. rw (at task asks, ← line_of digest task xs s x result) (owed.1 s x result)) u z is
   front_owed owed t y (served service asked given spent u z serves) =
-      let none = subst (λ (k : Task). MayOwe digest (command_of digest k) xs part) (one_task words task (Serve service) asks asked) owed in
-      absurd none.0.2
-
--- a shard served what such a source has left, and ended so
-abbrev Until : (List ℕ → List ℕ) → Service → ServedState → Around → Option (List ℕ) → ServeEnd → Type 0
-Until digest k state a left end =
-    IsServed (answering digest) (desk_room k.faults) serve_limit k.shard (at_start k) state left a.after a.SourceRose a.old a.new a.SinkRose end
+      let none = rw (one_task words task (Serve service) asks asked) at owed in absurd none.0.2
 
 -- so a run has that answer, but for want of memory and faults
 pub exact : (digest : List ℕ → List ℕ) (words : List (List ℕ)) (a : Around) (status : ℕ) → Ends digest words a status → IsExact digest words a status
@@ -133,51 +113,49 @@ exact digest words a status ends place at input tells then expected text answer 
       | no_memory_for_words kept none ↦ causes.no_memory [] (text, refl) (Appends-kept a.old a.old a.new [] (Appends-nil a.old) none)
       | no_memory asked is_task taken kept ↦ causes.no_memory [] (text, refl) (Appends-kept a.old a.old a.new [] (Appends-nil a.old) kept)
       | broke_off asked is_task xs taken part left put ↦
-          let here = subst (λ (l : Option (List ℕ)). IsTaken (command_of digest asked) l a.after xs) tells taken in
-          causes.no_memory part (front_left digest words input a.after then place at asked xs part is_task here left expected text answer) put
+          causes.no_memory part (front_left digest words input a.after then place at asked xs part is_task
+          (rw tells at taken) left expected text answer) put
       | source_failed asked is_task takes taken rose kept ↦ causes.source_failed rose [] (text, refl) (Appends-kept a.old a.old a.new [] (Appends-nil a.old) kept)
       | sink_failed s x given rose part ↦ causes.sink_failed rose x (up_to_clash s x (answered s x given)) part
       | cut_off asked is_task xs taken part owed rose front ↦
-          let here = subst (λ (l : Option (List ℕ)). IsTaken (command_of digest asked) l a.after xs) tells taken in
-          causes.sink_failed rose part (front_owed digest words input a.after then place at asked xs part is_task here owed expected text answer) front
+          causes.sink_failed rose part (front_owed digest words input a.after then place at asked xs part is_task
+          (rw tells at taken) owed expected text answer) front
       | serving_ended service asked s serves ↦
           ⊎_elim
           (λ given. told_so s given.0 given.1 given.2)
           (λ fault. ⊎_elim
-          (λ read. subst (WasTold place expected text a) (sym read.0) (read_failed service asked read.1 read.2))
-          (λ write. subst (WasTold place expected text a) (sym write.0) (write_failed service asked write.1 write.2)) fault)
+          (λ read. rw read.0 (read_failed service asked read.1 read.2))
+          (λ write. rw write.0 (write_failed service asked write.1 write.2)) fault)
           (answer_or_fault digest words service a s asked serves)
     ]
   where
+    one_of : (s : ℕ) (x : List ℕ) → Completes digest words a.left a.after s x → SameAt place s x expected text
+    one_of s x given = only digest words place at input a.after s x then expected text (rw tells at given) answer
+
     told_so : (s : ℕ) (x : List ℕ) → Completes digest words a.left a.after s x → Appends a.old a.new x → WasTold place expected text a s
-    told_so s x given put =
-        let one = only digest words place at input a.after s x then expected text (subst (λ (l : Option (List ℕ)). Completes digest words l a.after s x) tells given) answer in
-        subst (WasTold place expected text a) (sym one.0) (causes.told x (subst (λ (k : ℕ). SameText place k x text) one.0 one.1) put)
+    told_so s x given put = let one = one_of s x given in rw one.0 (causes.told x (rw one.0 at one.1) put)
 
     -- a text that is the same but for a collision is a front up to it
-    same_front : (x : List ℕ) → SameText place expected x text → IsFrontUpToClash place expected x text
-    same_front x same =
-        ⊎_elim (λ equal. inl ([], sym equal ∙ sym (append-nil x))) (λ apart. inr apart) same
-
     up_to_clash : (s : ℕ) (x : List ℕ) → Completes digest words a.left a.after s x → IsFrontUpToClash place expected x text
     up_to_clash s x given =
-        let one = only digest words place at input a.after s x then expected text (subst (λ (l : Option (List ℕ)). Completes digest words l a.after s x) tells given) answer in
-        same_front x (subst (λ (k : ℕ). SameText place k x text) one.0 one.1)
+        let one = one_of s x given in
+        ⊎_elim (λ equal. inl ([], sym equal ∙ sym (append-nil x))) (λ apart. inr (sym one.0 ∙ apart.0, apart.1)) one.1
 
     read_failed : (service : Service) → IsTask words (Serve service) → a.SourceRose → ServedUntil digest service a ReadFault → WasTold place expected text a 6
     read_failed service asked rose until =
-        let run = subst (λ (l : Option (List ℕ)). Until digest service until.0 a l ReadFault) tells until.1 in
         let whole = whole_of digest service input words then expected text asked answer in
-        let left = read_told digest service input expected text whole until.0 a.SourceRose a.SinkRose a.old a.new a.after run in
+        let left =
+        read_told digest service input expected text whole until.0 a.SourceRose a.SinkRose a.old a.new a.after
+        (rw tells at until.1) in
         causes.source_failed rose left.0 left.1 left.2
 
     write_failed : (service : Service) → IsTask words (Serve service) → a.SinkRose → ServedUntil digest service a WriteFault → WasTold place expected text a 7
     write_failed service asked rose until =
-        let run = subst (λ (l : Option (List ℕ)). Until digest service until.0 a l WriteFault) tells until.1 in
         let whole = whole_of digest service input words then expected text asked answer in
-        let left = write_told digest service input expected text whole until.0 a.SourceRose a.SinkRose a.old a.new a.after run in
-        let front = subst (λ (p : Place). IsFrontUpToClash p expected left.0 text) (sym (at (Serve service) asked)) left.1 in
-        causes.sink_failed rose left.0 front left.2
+        let left =
+        write_told digest service input expected text whole until.0 a.SourceRose a.SinkRose a.old a.new a.after
+        (rw tells at until.1) in
+        causes.sink_failed rose left.0 (rw (at (Serve service) asked) left.1) left.2
 
 pub one_answer : (digest : List ℕ → List ℕ) (words : List (List ℕ)) → HasOneAnswer digest words
 one_answer digest words place at input after later status other text given is also = only digest words place at input after status text later other given is also

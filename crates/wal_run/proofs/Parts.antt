@@ -1,28 +1,24 @@
 -- Texts that are written in parts.
-use Rattle.std.proofs.Common.{◌≡◌, ℕ, ◌+◌, ◌<◌, ◌≤◌, List, ◌++◌, length, length-append, take, Option, Result, Ok, Err, OnOk, OnErr, sym, subst, arith}
+use Rattle.std.proofs.Common.{◌≡◌, ℕ, ◌+◌, ◌≤◌, List, ◌++◌, length, length-append, take, Option, Result, Ok, Err, OnOk, OnErr, sym, subst, arith}
 use Rattle.std.proofs.Math.Seq.{take-append-add}
 use Rattle.std.proofs.lemmas.List.{take-append-le}
 use Rattle.std.proofs.KnownBytes.{Appends-trans}
 use Rattle.std.specs.Io.KnownBytes.{Appends}
 use Rattle.wal_port.specs.Appending.{AppendsPart}
 
--- a part, as a write says it
-pub part_put : (old new : Option (List ℕ)) (text : List ℕ) → (count : ℕ) × (count < length text) × Appends old new (take count text)
-    → AppendsPart old new text
-part_put old new text p = p
-
 -- a prefix of the first of two texts is one of both
 pub part_before : (a b : Option (List ℕ)) (first second : List ℕ) → AppendsPart a b first → AppendsPart a b (first ++ second)
 part_before a b first second p =
-    let long : p.0 < length (first ++ second) = omega (arith, p.1, length-append first second) in
     let within : p.0 ≤ length first = omega (arith, p.1) in
-    (p.0, long, subst (Appends a b) (sym (take-append-le p.0 first second within)) p.2)
+    (p.0, omega (arith, p.1, length-append first second), rw (take-append-le p.0 first second within) p.2)
 
 -- after the first text, a prefix of the second
 pub part_after : (a b c : Option (List ℕ)) (first second : List ℕ) → Appends a b first → AppendsPart b c second → AppendsPart a c (first ++ second)
-part_after a b c first second whole p =
-    let long : length first + p.0 < length (first ++ second) = omega (arith, p.1, length-append first second) in
-    (length first + p.0, long, subst (Appends a c) (sym (take-append-add first second p.0)) (Appends-trans a b c first (take p.0 second) whole p.2))
+part_after a b c first second whole p = (
+  length first + p.0,
+  omega (arith, p.1, length-append first second),
+  rw (take-append-add first second p.0) (Appends-trans a b c first (take p.0 second) whole p.2),
+)
 
 -- a failure within the first of two texts
 pub failed_before : {T E : Type 0} (r : Result T E) (a b : Option (List ℕ)) (first second whole : List ℕ) → whole ≡ first ++ second

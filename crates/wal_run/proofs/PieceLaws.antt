@@ -10,11 +10,10 @@ use Rattle.wal_frame.specs.Front.{IsWrong}
 use Rattle.wal_frame.specs.Stream.{IsMalformed}
 use Rattle.wal_frame.proofs.StreamLaws.{wrong_stays}
 use Rattle.wal_reader.specs.Intake.{IsWrongAt}
-use Rattle.wal_reader.specs.Standing.{ReaderState, StandsFor, Feeds, FinishesStream, IsStreamRead}
+use Rattle.wal_reader.specs.Standing.{ReaderState, Feeds, FinishesStream, IsStreamRead}
 use Rattle.wal_reader.specs.declared.errors.FeedError.{FeedError}
 use Rattle.wal_reader.specs.declared.errors.FeedError.TheVariants as feed
 use Rattle.wal_reader.specs.declared.errors.FinishError.{FinishError}
-use Rattle.wal_reader.specs.declared.errors.FinishError.TheVariants as finish
 use Rattle.wal_reader.specs.declared.outcome.ReadAnswer.{ReadAnswer}
 use Rattle.wal_shape.specs.declared.metadata.BlobId.{BlobId}
 use Rattle.wal_run.specs.Command.{IsResult, TakesAtMost, IsAllOf}
@@ -44,30 +43,15 @@ wrong_at_on place stream more w = record {
 -- the stream is malformed there
 pub wrong_malformed : (place : ℕ) (stream : List ℕ) → IsWrongAt place stream → IsMalformed place stream
 wrong_malformed place stream w =
-    let here : IsMalformed (length w.front) (w.front ++ (w.rest ++ [])) = wrong_stays w.payloads w.front w.rest [] w.whole w.wrong in
-    let Place : ℕ → Type 0 = λ n. IsMalformed n (w.front ++ (w.rest ++ [])) in
-    let Text : List ℕ → Type 0 = λ t. IsMalformed place t in
-    let all : w.front ++ (w.rest ++ []) ≡ stream = ap (λ (t : List ℕ). w.front ++ t) (append-nil w.rest) ∙ sym w.parts in
-    subst Text all (subst Place w.size here)
+    rw (w.parts, ← append-nil w.rest, ← w.size) (wrong_stays w.payloads w.front w.rest [] w.whole w.wrong)
 
 -- ---- a piece more
 
 pub stays_wrong : (digest : List ℕ → List ℕ) (id : List ℕ) (r : ReaderState) (wrong : Option ℕ) (place : ℕ) (stream piece : List ℕ) → wrong ≡ Some place → Stands digest id r wrong stream → IsWrongAt place (stream ++ piece)
-stays_wrong digest id r wrong place stream piece is stands =
-    let P : Option ℕ → Type 0 = λ w. Stands digest id r w stream in
-    wrong_at_on place stream piece (subst P is stands)
-
-pub stands_right : (digest : List ℕ → List ℕ) (id : List ℕ) (r : ReaderState) (wrong : Option ℕ) (stream : List ℕ) → wrong ≡ None → Stands digest id r wrong stream → StandsFor digest id r stream
-stands_right digest id r wrong stream is stands = (let P : Option ℕ → Type 0 = λ w. Stands digest id r w stream in subst P is stands)
-
-pub fed_wrong : (digest : List ℕ → List ℕ) (id : List ℕ) (r : ReaderState) (stream : List ℕ) (e : FeedError) (place : ℕ) → e ≡ feed.Malformed place → Feeds digest id r stream (Err e) → IsWrongAt place stream
-fed_wrong digest id r stream e place is feeds = (let P : FeedError → Type 0 = λ x. Feeds digest id r stream (Err x) in let fed : Feeds digest id r stream (Err (feed.Malformed place)) = subst P is feeds in fed.0)
+stays_wrong digest id r wrong place stream piece is stands = wrong_at_on place stream piece (rw is at stands)
 
 pub fed_long : (digest : List ℕ → List ℕ) (id : List ℕ) (r : ReaderState) (stream piece : List ℕ) (e : FeedError) → e ≡ feed.TooLong → length stream + length piece ≤ 134217728 → Feeds digest id r (stream ++ piece) (Err e) → ⊥
-fed_long digest id r stream piece e is few feeds =
-    let P : FeedError → Type 0 = λ x. Feeds digest id r (stream ++ piece) (Err x) in
-    let long : 134217728 < length (stream ++ piece) = subst P is feeds in
-    omega (arith, long, few, length-append stream piece)
+fed_long digest id r stream piece e is few feeds = omega (arith, rw is at feeds, few, length-append stream piece)
 
 -- ---- what a source gave
 
@@ -86,20 +70,7 @@ tells_more (Some bytes) (Some rest) taken limit gave long = omega (arith, long, 
 -- a piece that is empty is nothing
 pub none_given : (a b c : Option (List ℕ)) (got buffer : List ℕ) (count : ℕ) → Consumes a b got → Consumes b c (take count buffer) → count ≡ 0 → Consumes a c got
 none_given a b c got buffer count first next none =
-    let nil : got ++ take count buffer ≡ got = ap (λ (n : ℕ). got ++ take n buffer) none ∙ append-nil got in
-    subst (Consumes a c) nil (Consumes-trans a b c got (take count buffer) first next)
-
--- ---- what came of taking a stream
-
-pub taken_fault : (digest : List ℕ → List ℕ) (id : List ℕ) (left after : Option (List ℕ)) (Up : Type 0) (r : ReaderState) (e : TakeError) → e ≡ ReadFault → TakesStream digest id left after Up r (Err e) → TakesFew left after × Up
-taken_fault digest id left after Up r e is takes = (let P : TakeError → Type 0 = λ x. TakesStream digest id left after Up r (Err x) in subst P is takes)
-
-pub taken_long : (digest : List ℕ → List ℕ) (id : List ℕ) (left after : Option (List ℕ)) (Up : Type 0) (r : ReaderState) (e : TakeError) → e ≡ TooLong → TakesStream digest id left after Up r (Err e)
-    → (taken : List ℕ) × Consumes left after taken × (length taken ≡ 134217729)
-taken_long digest id left after Up r e is takes = (let P : TakeError → Type 0 = λ x. TakesStream digest id left after Up r (Err x) in subst P is takes)
-
-pub taken_few : (digest : List ℕ → List ℕ) (id : List ℕ) (left after : Option (List ℕ)) (Up : Type 0) (r : ReaderState) (e : TakeError) → e ≡ Memory → TakesStream digest id left after Up r (Err e) → TakesFew left after
-taken_few digest id left after Up r e is takes = (let P : TakeError → Type 0 = λ x. TakesStream digest id left after Up r (Err x) in subst P is takes)
+    rw (← append-nil got) (Consumes-trans a b c got [] first (rw none at next))
 
 pub none_taken : (left : Option (List ℕ)) (most : ℕ) → TakesAtMost left left most
 none_taken None most = ([], tt, omega arith)
@@ -110,18 +81,8 @@ none_taken (Some bytes) most = ([], refl, omega arith)
 pub answer_read : (digest : List ℕ → List ℕ) (id : BlobId) (stream : List ℕ) (given : Result ReadAnswer FinishError) (answer : ReadAnswer) (s : ℕ) (text : List ℕ) → given ≡ Ok answer → FinishesStream digest id.0 stream given
     → s ≡ outcome_status answer.outcome → text ≡ outcome_text answer.outcome → IsResult digest (reading digest id) stream s text
 answer_read digest id stream given answer s text is finishes s_is text_is =
-    let P : Result ReadAnswer FinishError → Type 0 = λ x. FinishesStream digest id.0 stream x in
-    let read : IsStreamRead digest id.0 stream answer = subst P is finishes in
+    let read : IsStreamRead digest id.0 stream answer = rw is at finishes in
     outcome_as digest id stream read.payloads s text read.whole answer.outcome read.is.0 s_is text_is
-
-pub answer_refused : (digest : List ℕ → List ℕ) (id stream : List ℕ) (given : Result ReadAnswer FinishError) (e : FinishError) → given ≡ Err e → FinishesStream digest id stream given → FinishesStream digest id stream (Err e)
-answer_refused digest id stream given e is finishes = (let P : Result ReadAnswer FinishError → Type 0 = λ x. FinishesStream digest id stream x in subst P is finishes)
-
-pub refused_malformed : (digest : List ℕ → List ℕ) (id stream : List ℕ) (e : FinishError) (place : ℕ) → e ≡ finish.Malformed place → FinishesStream digest id stream (Err e) → IsMalformed place stream
-refused_malformed digest id stream e place is finishes = (let P : FinishError → Type 0 = λ x. FinishesStream digest id stream (Err x) in subst P is finishes)
-
-pub found_wrong : (digest : List ℕ → List ℕ) (id : List ℕ) (r : ReaderState) (wrong : Option ℕ) (place : ℕ) (stream : List ℕ) → wrong ≡ Some place → Stands digest id r wrong stream → IsWrongAt place stream
-found_wrong digest id r wrong place stream is stands = (let P : Option ℕ → Type 0 = λ w. Stands digest id r w stream in subst P is stands)
 
 -- ---- what ends the pieces
 
@@ -136,13 +97,10 @@ pub piece_failed : (digest : List ℕ → List ℕ) (id : List ℕ) (a b c : Opt
     → IsErrAnd result (λ x. x ≡ e) → Consumes a b got → length got ≡ taken → taken ≤ 134217728 → (Late → Up) → GivesPiece b c Late taken buffer (Err e) → TakesStream digest id a c Up r result
 piece_failed digest id a b c Late Up r (Ok wrong) e got buffer taken is first long within up gives = absurd is
 piece_failed digest id a b c Late Up r (Err x) e got buffer taken is first long within up gives =
-    let P : TakeError → Type 0 = λ y. TakesStream digest id a c Up r (Err y) in
-    subst P (sym is) (ends_early digest id a b c Late Up r e got buffer taken first long within up gives)
+    rw is (ends_early digest id a b c Late Up r e got buffer taken first long within up gives)
 
 -- memory ran out for a piece
 pub feed_failed : (digest : List ℕ → List ℕ) (id : List ℕ) (a c : Option (List ℕ)) (Up : Type 0) (r : ReaderState) (result : Result (Option ℕ) TakeError) (e : TakeError) → IsErrAnd result (λ x. x ≡ e) → e ≡ Memory
     → TakesFew a c → TakesStream digest id a c Up r result
 feed_failed digest id a c Up r (Ok wrong) e is memory few = absurd is
-feed_failed digest id a c Up r (Err x) e is memory few =
-    let P : TakeError → Type 0 = λ y. TakesStream digest id a c Up r (Err y) in
-    subst P (sym (is ∙ memory)) few
+feed_failed digest id a c Up r (Err x) e is memory few = rw (is, memory) few

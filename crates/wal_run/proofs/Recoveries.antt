@@ -1,11 +1,7 @@
 -- What openings come to is one result of the command that recovers.
-use Rattle.std.proofs.Common.{◌≡◌, ℕ, ◌<◌, List, length, refl, sym, ap, subst, ◌∙◌}
+use Rattle.std.proofs.Common.{◌≡◌, ℕ, List, length, refl, sym, ap, ◌∙◌}
 use Rattle.wal_shape.specs.declared.axis.Axis.{Axis}
 use Rattle.wal_shape.specs.declared.metadata.BlobId.{BlobId}
-use Rattle.wal_shape.specs.Shape.{sliver_symbols}
-use Rattle.wal_shape.specs.EncodingProof.{EncodingProof}
-use Rattle.wal_evidence.specs.BadProof.{IsBadProof}
-use Rattle.wal_frame.specs.Frame.{Proof, envelope, frame_text}
 use Rattle.wal_reader.specs.Carried.{openings_in}
 use Rattle.wal_recover.specs.declared.outcome.Recovered.{Recovered}
 use Rattle.wal_recover.specs.declared.outcome.Recovered.TheVariants.{Inconsistent, Short, Sliver}
@@ -14,7 +10,6 @@ use Rattle.wal_recover.proofs.OneRecovery.{one_recovery}
 use Rattle.wal_theorem.proofs.OneReading.{metadata_fits}
 use Rattle.wal_run.specs.Command.{Recorded}
 use Rattle.wal_run.specs.inside.Command.{Told, collides, lacks, misreads, rejects, succeeds}
-use Rattle.wal_run.specs.Lines.{short_text}
 use Rattle.wal_run.specs.Recovering.{proof_of, recovering}
 use Rattle.wal_run.specs.inside.Recovering.{recovered_status, recovered_text}
 use Rattle.wal_run.proofs.CommandLaws.{Determined, same}
@@ -26,22 +21,8 @@ module _ (digest : List ℕ → List ℕ) (id : BlobId) (axis : Axis) (index : �
   -- what a recovery comes to is the result
   pub recovered_is : (o : Recovered) → Comes o → Told digest (recovering digest id axis index) r (recovered_status o) (recovered_text id.0 r.metadata.f axis index o)
   recovered_is (Sliver bytes) is = succeeds _ (bytes, is, refl)
-  recovered_is (Inconsistent p) is =
-      let made = is.comes in
-      rejects _ (
-        is.taken,
-        is.takes,
-        subst (IsBadProof digest r.metadata) made.0 made.1,
-        ap (λ (q : EncodingProof). envelope index (frame_text (Proof id.0 q))) made.0,
-      )
-  recovered_is (Short count) is =
-      let few = is.comes in
-      lacks _ (
-        is.taken,
-        is.takes,
-        subst (λ (k : ℕ). k < sliver_symbols axis r.metadata.f) few.0 few.1,
-        ap (λ (k : ℕ). short_text k (sliver_symbols axis r.metadata.f)) few.0,
-      )
+  recovered_is (Inconsistent p) is = rw is.comes.0 (rejects _ (is.taken, is.takes, rw is.comes.0 at is.comes.1, refl))
+  recovered_is (Short count) is = rw is.comes.0 (lacks _ (is.taken, is.takes, rw is.comes.0 at is.comes.1, refl))
 
   pub recovered_as : (o : Recovered) → Comes o → (s : ℕ) (text : List ℕ) → s ≡ recovered_status o → text ≡ recovered_text id.0 r.metadata.f axis index o
       → Told digest (recovering digest id axis index) r s text

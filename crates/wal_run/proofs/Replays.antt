@@ -54,26 +54,6 @@ clash_front lines all (inr apart) =
     let other = last_told all apart.front apart.other apart.collides_too apart.ends_too in
     inr (refl, record { front = report_of apart.front; clash = one.0; other = other.0; ends = one.1; ends_too = other.1 })
 
--- what a report is, by its status
-report_through : (digest : List ℕ → List ℕ) (schedule : Schedule) (status : ℕ) (text : List ℕ) → IsReport digest schedule status text → status ≡ 0
-    → (lines : List Line) × AreLines digest schedule lines × GoesOn lines × (text ≡ report_of lines)
-report_through digest schedule _ _ (whole lines are goes) zero = (lines, are, goes, refl)
-report_through digest schedule status text is zero = absurd (omega (arith, zero))
-
--- where it ended in a collision
-record Stops (digest : List ℕ → List ℕ) (schedule : Schedule) (text : List ℕ) : Type 0 where
-  pub front : List Line
-  pub left : List ℕ
-  pub right : List ℕ
-  pub are : AreLines digest schedule (front ++ line.Collision left right ∷ [])
-  pub goes : GoesOn front
-  pub told : text ≡ report_of (front ++ line.Collision left right ∷ [])
-
-report_stopped : (digest : List ℕ → List ℕ) (schedule : Schedule) (status : ℕ) (text : List ℕ) → IsReport digest schedule status text → status ≡ 10
-    → Stops digest schedule text
-report_stopped digest schedule _ _ (stopped front left right are goes clash) ten = record { front = front; left = left; right = right; are = are; goes = goes; told = refl }
-report_stopped digest schedule status text is ten = absurd (omega (arith, ten))
-
 -- what is told is a whole report, or one that a collision stopped
 module _ (digest : List ℕ → List ℕ) (schedule : Schedule) where
   abbrev Whole : ℕ → List ℕ → Type 0
@@ -82,29 +62,31 @@ module _ (digest : List ℕ → List ℕ) (schedule : Schedule) where
   abbrev Stopped : ℕ → List ℕ → Type 0
   Stopped s x = (lines : List Line) × AreLines digest schedule lines × EndsInCollision lines × (s ≡ 10) × (x ≡ report_of lines)
 
-  last : (left right : List ℕ) (front : List Line) → GoesOn front → EndsInCollision (front ++ line.Collision left right ∷ [])
-  last left right front goes = record { front = front; said = line.Collision left right; whole = refl; collision = refl; goes_on = goes }
+  of_report : (s : ℕ) (x : List ℕ) → IsReport digest schedule s x → (s ≡ 5 → ⊥) → Whole s x ⊎ Stopped s x
+  of_report _ _ (whole lines are goes) through = inl (lines, are, goes, refl, refl)
+  of_report _ _ (stopped front left right are goes clash) through =
+      let said = line.Collision left right in
+      let ends : EndsInCollision (front ++ said ∷ []) =
+      record { front = front; said = said; whole = refl; collision = refl; goes_on = goes } in
+      inr (front ++ said ∷ [], are, ends, refl, refl)
+  of_report _ _ is through = absurd (through refl)
 
   replay_of : (s : ℕ) (x : List ℕ) → Told digest (replaying digest) schedule s x → Whole s x ⊎ Stopped s x
   replay_of s x told =
       elim told as (λ t y _. Whole t y ⊎ Stopped t y) [
-        | succeeds text report ↦
-            let is = report_through digest schedule 0 text report refl in
-            inl (is.0, is.1, is.2, refl, is.3)
+        | succeeds text report ↦ of_report 0 text report (λ five. cc)
         | rejects text is ↦ absurd is
         | lacks text is ↦ absurd is
         | misreads text is ↦ absurd is
         | collides left right front clash report ↦
-            let is = report_stopped digest schedule 10 (front ++ collision_text left right) report refl in
-            inr (is.front ++ line.Collision is.left is.right ∷ [], is.are, last is.left is.right is.front is.goes, refl, is.told)
+            of_report 10 (front ++ collision_text left right) report (λ five. omega (arith, five))
       ]
 
 module _ (digest : List ℕ → List ℕ) (schedule : Schedule) (lines : List Line) (are : AreFirstLines digest schedule lines) where
   left_front : GoesOn lines → (s : ℕ) (x : List ℕ) → Told digest (replaying digest) schedule s x → IsFrontOf (report_of lines) x
   left_front goes s x told =
       let shown : (all : List Line) → AreLines digest schedule all → x ≡ report_of all → IsFrontOf (report_of lines) x = λ all known text.
-      let at = first_lines digest schedule lines all are known goes in
-      subst (IsFrontOf (report_of lines)) (sym text) (front_text lines all at.0 at.1) in
+      let at = first_lines digest schedule lines all are known goes in rw text (front_text lines all at.0 at.1) in
       ⊎_elim (λ is. shown is.0 is.1 is.4) (λ is. shown is.0 is.1 is.4) (replay_of digest schedule s x told)
 
   owed_front : (s : ℕ) (x : List ℕ) → Told digest (replaying digest) schedule s x → IsFrontUpToClash in_line s (report_of lines) x
@@ -112,7 +94,7 @@ module _ (digest : List ℕ → List ℕ) (schedule : Schedule) (lines : List Li
       ⊎_elim
       (λ is.
       let at = first_of_going digest schedule lines is.0 are is.1 is.2 in
-      inl (subst (IsFrontOf (report_of lines)) (sym is.4) (front_text lines is.0 at.0 at.1)))
+      inl (rw is.4 (front_text lines is.0 at.0 at.1)))
       (λ is. rw (is.3, is.4) (clash_front lines is.0 (first_or_clash digest schedule lines is.0 are is.1)))
       (replay_of digest schedule s x told)
 
@@ -131,7 +113,7 @@ module _ (digest : List ℕ → List ℕ) (input : List ℕ) (old new : Option (
     pub does_collision : Replays digest schedule old new SinkRose (Ok ending.Collision) → Ended digest input old new SinkRose 10
     does_collision t =
         let at = ends_in digest schedule t.0 t.1 t.2 in
-        let are = subst (λ (xs : List Line). AreLines digest schedule xs) at.whole t.1 in
+        let are = rw at.whole at t.1 in
         performed 10 (finished 10 10 (written (report_of t.0)
         (collision at.left at.right (report_of t.0) at.collides (record {
           front = report_of at.front;
@@ -157,8 +139,7 @@ module _ (digest : List ℕ → List ℕ) (input : List ℕ) (old new : Option (
   pub does_refuse : (e : ScheduleError) (status : ℕ) → IsRead input (Err e) → Performs (λ s text. (s ≡ 8) × IsFault e text) old new SinkRose status
       → Ended digest input old new SinkRose status
   does_refuse e status is_read p =
-      performed status (performs_as p (λ s text is. subst (λ (t : ℕ). IsResult digest (replaying digest) input t text) (sym is.0)
-      (unreadable text (inl (e, is_read, is.1)))))
+      performed status (performs_as p (λ s text is. rw is.0 (unreadable text (inl (e, is_read, is.1)))))
 
 -- ---- one result
 

@@ -1,5 +1,5 @@
 -- A schedule has the lines of one run, and one that ends in a collision shows two texts with one digest.
-use Rattle.std.proofs.Common.{◌≡◌, ℕ, ◌++◌, List, [], ◌∷◌, Bool, true, false, cond, codes, arith, refl, ap, subst, ◌∙◌}
+use Rattle.std.proofs.Common.{◌≡◌, ℕ, ◌++◌, List, length, length-append, [], ◌∷◌, Bool, true, false, cond, codes, arith, refl, ap, subst}
 use Rattle.std.proofs.lemmas.Bool.{false≢true}
 use Rattle.wal_tree.specs.Collision.{IsCollision}
 use Rattle.wal_event.specs.declared.event.Event.{Event}
@@ -30,8 +30,7 @@ shown r old e (line.Collision left right) new step = step.0
 shown r old e said new step = tt
 
 not_nil : (front : List Line) (said : Line) → front ++ said ∷ [] ≡ [] → ⊥
-not_nil [] said same = cc
-not_nil (x ∷ front) said same = cc
+not_nil front said same = omega (arith, ap length same, length-append front (said ∷ []))
 
 shown_behind : (r : Rules) (new : World) (events : List Event) (states : List World) (front : List Line) (said : Line) (k : Bool)
     → (Runs r new events states (front ++ said ∷ []) → ShowsClash r said)
@@ -53,6 +52,15 @@ pub collision_line : (said : Line) → is_collision said ≡ true → (left : Li
 collision_line (line.Collision left right) is = (left, right, refl)
 collision_line said is = absurd (false≢true is)
 
+-- the two texts of the last line have one digest
+pub ends_with : (digest : List ℕ → List ℕ) (schedule : Schedule) (lines : List Line) (left right : List ℕ)
+    → AreLines digest schedule lines
+    → (ends : EndsInCollision lines) → ends.said ≡ line.Collision left right → IsCollision digest left right
+ends_with digest schedule lines left right are ends said =
+    let whole = rw said at ends.whole in
+    shown_last (rules_of digest schedule.f) schedule.events are.states ends.front (line.Collision left right)
+    (first_state schedule) (rw whole at are.run)
+
 -- the lines of a schedule that end in a collision, with its two texts
 pub record EndsIn (digest : List ℕ → List ℕ) (schedule : Schedule) (lines : List Line) : Type 0 where
   pub left : List ℕ
@@ -65,15 +73,13 @@ pub record EndsIn (digest : List ℕ → List ℕ) (schedule : Schedule) (lines 
 pub ends_in : (digest : List ℕ → List ℕ) (schedule : Schedule) (lines : List Line) → AreLines digest schedule lines → (ends : EndsInCollision lines) → EndsIn digest schedule lines
 ends_in digest schedule lines are ends =
     let said = collision_line ends.said ends.collision in
-    let whole : lines ≡ ends.front ++ line.Collision said.0 said.1 ∷ [] = ends.whole ∙ ap (λ (l : Line). ends.front ++ l ∷ []) said.2 in
     record {
       left = said.0;
       right = said.1;
       front = ends.front;
-      whole = whole;
+      whole = rw said.2 at ends.whole;
       goes = ends.goes_on;
-      collides = shown_last (rules_of digest schedule.f) schedule.events are.states ends.front (line.Collision said.0 said.1) (first_state schedule)
-          (subst (λ (xs : List Line). Runs (rules_of digest schedule.f) (first_state schedule) schedule.events are.states xs) whole are.run);
+      collides = ends_with digest schedule lines said.0 said.1 are ends said.2;
     }
 
 -- a run that collides does not go on
@@ -81,20 +87,11 @@ pub collides_not : (lines : List Line) → EndsInCollision lines → GoesOn line
 collides_not lines ends goes = not_going ends.front ends.said (subst GoesOn ends.whole goes) ends.collision
 
 -- the lines of a schedule are those of one run
-one_lines : (digest : List ℕ → List ℕ) (schedule : Schedule) (xs ys : List Line) → AreLines digest schedule xs → AreLines digest schedule ys → SameLines xs ys
-one_lines digest schedule xs ys a b =
-    one_run (rules_of digest schedule.f) (only_rules digest schedule.f) schedule.events a.states b.states xs ys (first_state schedule) a.run b.run
-
 pub same_lines : (digest : List ℕ → List ℕ) (schedule other : Schedule) (xs ys : List Line) → schedule ≡ other → AreLines digest schedule xs → AreLines digest other ys → SameLines xs ys
-same_lines digest schedule other xs ys is a b = one_lines digest other xs ys (subst (λ (z : Schedule). AreLines digest z xs) is a) b
-
--- the two texts of the last line have one digest
-pub ends_with : (digest : List ℕ → List ℕ) (schedule : Schedule) (lines : List Line) (left right : List ℕ) → AreLines digest schedule lines
-    → (ends : EndsInCollision lines) → ends.said ≡ line.Collision left right → IsCollision digest left right
-ends_with digest schedule lines left right are ends said =
-    let whole : lines ≡ ends.front ++ line.Collision left right ∷ [] = ends.whole ∙ ap (λ (l : Line). ends.front ++ l ∷ []) said in
-    shown_last (rules_of digest schedule.f) schedule.events are.states ends.front (line.Collision left right) (first_state schedule)
-    (subst (λ (xs : List Line). Runs (rules_of digest schedule.f) (first_state schedule) schedule.events are.states xs) whole are.run)
+same_lines digest schedule other xs ys is a b =
+    let here = rw is at a in
+    one_run (rules_of digest other.f) (only_rules digest other.f) other.events here.states b.states xs ys
+    (first_state other) here.run b.run
 
 -- the line of a collision is that of its two texts
 joined : (c l s r n : List ℕ) → (c ++ l ++ s ++ r) ++ n ≡ c ++ l ++ s ++ r ++ n

@@ -50,18 +50,10 @@ one_list : {B : Type 0} (xs ys : List B) (id bytes : B → List ℕ) (Is : List 
 one_list [] [] id bytes Is once one e a b = refl
 one_list [] (y ∷ ys) id bytes Is once one e a b = absurd cc
 one_list (x ∷ xs) [] id bytes Is once one e a b = absurd cc
-one_list {B} (x ∷ xs) (y ∷ ys) id bytes Is once one e a b =
-    let same : bytes x ≡ bytes y = ap (first (bytes x)) e in
-    let names : id x ≡ id y = once (bytes y) (id x) (id y) (subst (λ (z : List ℕ). Is z (id x)) same a.0) b.0 in
-    ap (λ (z : B). z ∷ xs) (one x y names same) ∙ ap (λ (zs : List B). y ∷ zs) (one_list xs ys id bytes Is once one (ap others e) a.1 b.1)
-  where
-    first : List ℕ → List (List ℕ) → List ℕ
-    first d [] = d
-    first d (z ∷ zs) = z
-
-    others : List (List ℕ) → List (List ℕ)
-    others [] = []
-    others (z ∷ zs) = zs
+one_list (x ∷ xs) (y ∷ ys) id bytes Is once one e a b =
+    let same : bytes x ≡ bytes y = cc in
+    let names : id x ≡ id y = once (bytes y) (id x) (id y) (rw same at a.0) b.0 in
+    rw (one x y names same, one_list xs ys id bytes Is once one (cc) a.1 b.1) refl
 
 of_same : {B : Type 0} (xs ys : List B) → xs ≡ ys → (f : List B → Schedule) → f xs ≡ f ys
 of_same xs ys same f = ap f same

@@ -1,5 +1,5 @@
 -- A text is one schedule, or has one fault.
-use Rattle.std.proofs.Common.{◌≡◌, ℕ, List, Result, Ok, Err, Option, Some, unwrap_or, codes, refl, sym, ap, ◌∙◌}
+use Rattle.std.proofs.Common.{◌≡◌, ℕ, List, Result, Ok, Err, Option, Some, codes, refl, sym, ap, ◌∙◌}
 use Rattle.wal_event.specs.declared.event.Schedule.{Schedule}
 use Rattle.wal_schedule.specs.Grammar.{IsRead}
 use Rattle.wal_schedule.specs.declared.read.ScheduleError.{ScheduleError}
@@ -8,31 +8,17 @@ use Rattle.wal_run.specs.Command.{IsFault}
 use Rattle.wal_run.specs.Lines.{number_text}
 
 -- a value is told in one way
-some_once : {D : Type 0} (o : Option D) (d e : D) → o ≡ Some d → o ≡ Some e → d ≡ e
-some_once {D} o d e is also = ap (λ (x : Option D). unwrap_or x d) (sym is ∙ also)
-
 once : {D : Type 0} (U : Type 0) (o : Option D) (tell : D → Result Schedule ScheduleError) (a b : Result Schedule ScheduleError)
     → ((d : D) × (U × (o ≡ Some d)) × (tell d ≡ a)) → ((d : D) × (U × (o ≡ Some d)) × (tell d ≡ b)) → a ≡ b
-once U o tell a b x y = sym x.2 ∙ ap tell (some_once o x.0 y.0 x.1.1 y.1.1) ∙ y.2
-
-abbrev schedule_or : Schedule → Result Schedule ScheduleError → Schedule
-schedule_or d (Ok schedule) = schedule
-schedule_or d (Err e) = d
-
-abbrev error_or : ScheduleError → Result Schedule ScheduleError → ScheduleError
-error_or d (Ok schedule) = d
-error_or d (Err e) = e
+once U o tell a b x y = let same : x.0 ≡ y.0 = cc (x.1.1, y.1.1) in sym x.2 ∙ ap tell same ∙ y.2
 
 pub one_schedule : (text : List ℕ) (a b : Schedule) → IsRead text (Ok a) → IsRead text (Ok b) → a ≡ b
-one_schedule text a b x y = ap (schedule_or a) (once _ _ _ (Ok a) (Ok b) x y)
-
-not_fault : (a : Schedule) (e : ScheduleError) → ◌≡◌ {A = Result Schedule ScheduleError} (Ok a) (Err e) → ⊥
-not_fault a e same = absurd cc
+one_schedule text a b x y = cc (once _ _ _ (Ok a) (Ok b) x y)
 
 pub schedule_not_fault : (text : List ℕ) (a : Schedule) (e : ScheduleError) (told : List ℕ) → IsRead text (Ok a) → IsRead text (Err e) → IsFault e told → ⊥
 schedule_not_fault text a NotJson told x y is = y x.0 x.1
 schedule_not_fault text a Memory told x y is = is
-schedule_not_fault text a e told x y is = not_fault a e (once _ _ _ (Ok a) (Err e) x y)
+schedule_not_fault text a e told x y is = cc (once _ _ _ (Ok a) (Err e) x y)
 
 -- a text has one fault
 pub one_error : (text : List ℕ) (a b : ScheduleError) (told other : List ℕ) → IsRead text (Err a) → IsRead text (Err b) → IsFault a told → IsFault b other → a ≡ b
@@ -41,7 +27,7 @@ one_error text a Memory told other x y is also = absurd also
 one_error text Memory b told other x y is also = absurd is
 one_error text NotJson b told other x y is also = absurd (x y.0 y.1)
 one_error text a NotJson told other x y is also = absurd (y x.0 x.1)
-one_error text a b told other x y is also = ap (error_or NotJson) (once _ _ _ (Err a) (Err b) x y)
+one_error text a b told other x y is also = cc (once _ _ _ (Err a) (Err b) x y)
 
 -- whose text is one
 abbrev pub fault_text : ScheduleError → List ℕ

@@ -1,5 +1,5 @@
 -- The two texts that end serving have one digest.
-use Rattle.std.proofs.Common.{◌≡◌, ℕ, List, Bool, Option, Some, None, unwrap_or, Result, Ok, Err, sym, ap, subst, ◌∙◌, arith}
+use Rattle.std.proofs.Common.{◌≡◌, ℕ, List, Bool, Option, Some, Result, Ok, Err, sym, ap, ◌∙◌, arith}
 use Rattle.wal_shape.specs.declared.text.MetaClash.{MetaClash}
 use Rattle.wal_tree.specs.Collision.{IsCollision}
 use Rattle.wal_frame.specs.declared.frame.FrameError.{FrameError}
@@ -9,7 +9,7 @@ use Rattle.wal_frame.specs.Reading.{read_of}
 use Rattle.wal_ledger.specs.Ledger.{Log}
 use Rattle.wal_store.specs.Contents.{Contents}
 use Rattle.wal_shard.specs.declared.answers.PutAnswer.{PutAnswer}
-use Rattle.wal_shard.specs.declared.answers.PutAnswer.TheVariants.{Stored, Held, Unregistered, NoMetadata, Unverified, OtherMetadata, Full, Memory}
+use Rattle.wal_shard.specs.declared.answers.PutAnswer.TheVariants.{OtherMetadata}
 use Rattle.wal_shard.specs.Putting.{PutsOrWants}
 use Rattle.wal_shard.specs.State.{ShardState, desk}
 use Rattle.wal_serve.specs.declared.serving.ServeEnd.TheVariants.{Done, ReadFault, WriteFault, Collision}
@@ -23,8 +23,7 @@ use Rattle.wal_serve.specs.State.{ServedState as ServingState}
 put_clash : (digest : List ℕ → List ℕ) (want : Bool) (shard : ShardState) (log : Log) (frame : Frame) (answer : PutAnswer) (contents : Contents) (c : MetaClash)
     → PutsOrWants digest want (desk shard log) shard.contents frame answer contents → clash_in (put_reply answer) ≡ Some c → IsCollision digest c.left c.right
 put_clash digest want shard log frame (OtherMetadata d) contents c puts is =
-    let same : d ≡ c = ap (λ (o : Option MetaClash). unwrap_or o c) is in
-    subst (λ (x : MetaClash). IsCollision digest x.left x.right) same puts.6
+    let same : d ≡ c = cc in rw same at puts.6
 put_clash digest want shard log frame answer contents c puts is = absurd cc
 
 module _ (digest : List ℕ → List ℕ) (want : Bool) (old : ServingState) (texts : List (List ℕ)) (clash : Option MetaClash) (new : ServingState) (c : MetaClash) (is : clash ≡ Some c) where

@@ -1,5 +1,5 @@
 -- Where a fault ended serving, what was written is a front of the answer, up to a collision.
-use Rattle.std.proofs.Common.{◌≡◌, ⊎_elim, inl, inr, ℕ, ◌+◌, ◌<◌, List, ◌++◌, length, length-append, Option, Some, None, sym, ap, subst, ◌∙◌, arith}
+use Rattle.std.proofs.Common.{◌≡◌, ⊎_elim, inl, inr, ℕ, ◌+◌, List, ◌++◌, length, length-append, Option, Some, None, sym, ap, subst, ◌∙◌, arith}
 use Rattle.std.proofs.Math.Seq.{take-append-add}
 use Rattle.std.proofs.lemmas.Bool.{false≢true}
 use Rattle.std.proofs.lemmas.Grind.{flat_map-append}
@@ -82,10 +82,12 @@ module _ (digest : List ℕ → List ℕ) (service : Service) (input : List ℕ)
     broken taken frames b =
         let first = sent service.shard b.before in
         let second = sent service.shard b.some in
-        let parts : sent service.shard frames ≡ first ++ second = ap (sent service.shard) b.answered ∙ flat_map-append (envelope service.shard) b.before b.some in
-        let long : length first + b.count < length (first ++ second) = omega (arith, b.short, length-append first second) in
-        subst (AppendsPart old new) (sym parts)
-        (length first + b.count, long, subst (Appends old new) (sym (take-append-add first second b.count)) b.wrote)
+        rw (b.answered, flat_map-append (envelope service.shard) b.before b.some) (
+          length first + b.count,
+          omega (arith, b.short, length-append first second),
+          rw
+              (take-append-add first second b.count) b.wrote,
+        )
 
     -- a write failed
     pub write_told : (after : Option (List ℕ)) → Until after WriteFault → (given : List ℕ) × IsFrontUpToClash (frame service.shard) expected given text × AppendsPart old new given

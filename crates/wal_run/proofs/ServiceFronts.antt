@@ -1,5 +1,5 @@
 -- What was answered before a fault ended serving is what is answered first without one.
-use Rattle.std.proofs.Common.{◌≡◌, ◌⊎◌, inl, inr, ℕ, ◌+◌, ◌≤◌, Bool, true, false, List, [], ◌∷◌, ◌++◌, length, Option, Some, None, refl, sym, ap, ap₂, subst, ◌∙◌, append_assoc, append-nil, arith}
+use Rattle.std.proofs.Common.{◌≡◌, ◌⊎◌, inl, inr, ℕ, ◌+◌, ◌≤◌, Bool, true, false, List, [], ◌∷◌, ◌++◌, length, Option, Some, None, refl, sym, ap, ◌∙◌, append_assoc, append-nil, arith}
 use Rattle.std.proofs.lemmas.List.{length-append}
 use Rattle.std.specs.Prelude.{is_some}
 use Rattle.wal_shape.specs.declared.text.MetaClash.{MetaClash}
@@ -15,12 +15,8 @@ use Rattle.wal_serve.proofs.OneEnd as why
 use Rattle.wal_serve.proofs.OneEnd.{Why, none_follows}
 use Rattle.wal_serve.proofs.OneServed.{Goes, one_going, served_goes, stopped_before}
 
-none_some : (texts : MetaClash) → ◌≡◌ {A = Option MetaClash} None (Some texts) → ⊥
-none_some texts same = cc
-
-not_nil : (payloads : List (List ℕ)) (payload : List ℕ) (more : List (List ℕ)) → payloads ++ payload ∷ more ≡ [] → ⊥
-not_nil [] payload more is = absurd cc
-not_nil (first ∷ payloads) payload more is = absurd cc
+not_nil : {A : Type 0} (front : List A) (x : A) (back : List A) → front ++ x ∷ back ≡ [] → ⊥
+not_nil front x back is = omega (arith, ap length is, length-append front (x ∷ back))
 
 -- where two texts are among what was answered, they ended serving
 clash_ends : (limit n : ℕ) (tail : List ℕ) (clash : Option MetaClash) (long : ℕ) (end : ServeEnd) → Why limit n tail clash long end → is_some clash ≡ true → is_collision end ≡ true
@@ -50,6 +46,22 @@ module _ {C : Type 0} (Answer : Table C) (room limit : ℕ) (fresh : C) (input :
   behind : (taken front part rest : List ℕ) → input ≡ taken ++ rest → taken ≡ front ++ part → input ≡ front ++ (part ++ rest)
   behind taken front part rest is parts = is ∙ ap (λ (t : List ℕ). t ++ rest) parts ∙ append_assoc front part rest
 
+  -- behind whole envelopes, by a part of one
+  ended_within : (taken front part rest tail : List ℕ) (frames : List (List ℕ)) (state : C) (end : ServeEnd) (long : ℕ)
+      → input ≡ taken ++ rest
+      → taken ≡ front ++ part → part ++ rest ≡ tail → serving.Served Answer room fresh front frames None state
+      → Why limit (length front) tail None long end → Over frames end
+  ended_within taken front part rest tail frames state end long is parts tail_is some why = record {
+    front = front;
+    tail = tail;
+    clash = None;
+    long = long;
+    state = state;
+    parts = rw tail_is at (behind taken front part rest is parts);
+    served = some;
+    why = why;
+  }
+
   -- how serving without a fault ends
   pub over : (taken rest : List ℕ) (frames : List (List ℕ)) (state : C) (end : ServeEnd) → input ≡ taken ++ rest → Serves Answer room limit fresh taken (rest ≡ []) ⊥ ⊥ frames state end
       → Over frames end
@@ -59,42 +71,17 @@ module _ {C : Type 0} (Answer : Table C) (room limit : ℕ) (fresh : C) (input :
       record { front = taken; tail = rest; clash = Some clash; long = 0; state = state; parts = is; served = all; why = why.stopped clash refl within refl }
   over taken rest frames state _ is (serving.wrong front b parts bad some within) =
       let size : length front + 1 ≤ limit = omega (arith, ap length parts, length-append front (b ∷ []), within) in
-      record {
-        front = front;
-        tail = (b ∷ []) ++ rest;
-        clash = None;
-        long = 1;
-        state = state;
-        parts = behind taken front (b ∷ []) rest is parts;
-        served = some;
-        why = why.wrong b rest refl refl bad size refl;
-      }
+      ended_within taken front (b ∷ []) rest _ frames state _ 1 is parts refl some
+      (why.wrong b rest refl refl bad size refl)
   over taken rest frames state _ is (serving.cut front piece parts part long some within at_end) =
       let size : length front + length piece ≤ limit = omega (arith, ap length parts, length-append front piece, within) in
-      let tail : piece ++ rest ≡ piece = ap (λ (t : List ℕ). piece ++ t) at_end ∙ append-nil piece in
-      record {
-        front = front;
-        tail = piece;
-        clash = None;
-        long = length piece;
-        state = state;
-        parts = behind taken front piece rest is parts ∙ ap (λ (t : List ℕ). front ++ t) tail;
-        served = some;
-        why = why.cut refl part long size refl;
-      }
+      ended_within taken front piece rest piece frames state _ (length piece) is parts
+      (rw (at_end, append-nil) refl) some (why.cut refl part long size refl)
   over taken rest frames state _ is (serving.too_long front piece b parts part some past) =
       let size : length front + length piece ≡ limit =
       omega (arith, ap length parts, length-append front (piece ++ b ∷ []), length-append piece (b ∷ []), past) in
-      record {
-        front = front;
-        tail = (piece ++ b ∷ []) ++ rest;
-        clash = None;
-        long = length piece + 1;
-        state = state;
-        parts = behind taken front (piece ++ b ∷ []) rest is parts;
-        served = some;
-        why = why.too_long piece b rest refl (append_assoc piece (b ∷ []) rest) part size refl;
-      }
+      ended_within taken front (piece ++ b ∷ []) rest _ frames state _ (length piece + 1) is parts refl some
+      (why.too_long piece b rest refl (append_assoc piece (b ∷ []) rest) part size refl)
   over taken rest frames state _ is (serving.read_fault front piece parts part some within rose) = absurd rose
   over taken rest frames state _ is (serving.write_fault clash all within rose) = absurd rose
 
@@ -124,16 +111,12 @@ module _ {C : Type 0} (Answer : Table C) (room limit : ℕ) (fresh : C) (input :
     first_answers : (payloads : List (List ℕ)) (payload : List ℕ) (more : List (List ℕ)) (old : C) (frames others : List (List ℕ)) (second : Option MetaClash) (new then : C)
         → Goes Answer room payloads old frames None new → Goes Answer room (payloads ++ payload ∷ more) old others second then → (rest : List (List ℕ)) × (others ≡ frames ++ rest)
     first_answers [] payload more old frames others second new then a b = (others, ap (λ (t : List (List ℕ)). t ++ others) (sym a.0))
-    first_answers (first ∷ payloads) payload more old frames others second new then (inl a) b = absurd (none_some a.texts a.is)
+    first_answers (first ∷ payloads) payload more old frames others second new then (inl a) b = absurd (cc a.is)
     first_answers (first ∷ payloads) payload more old frames others second new then (inr a) (inl b) = absurd (not_nil payloads payload more b.alone)
     first_answers (first ∷ payloads) payload more old frames others second new then (inr (head, mid, replies, rest, goes, is)) (inr (some, here, answers, after, goes_on, also)) =
         let one = one_going Answer room single (first ∷ []) old head some None None mid here (alone first head old mid replies) (alone first some old here answers) in
-        let from = subst (λ (c : C). Goes Answer room payloads c rest None new) one.state goes in
-        let next = first_answers payloads payload more here rest after second new then from goes_on in (
-          next.0,
-          also ∙ ap₂ (λ (p q : List (List ℕ)). p ++ q) (sym (one.frames refl)) next.1 ∙ sym (append_assoc head rest next.0)
-              ∙ ap (λ (t : List (List ℕ)). t ++ next.0) (sym is),
-        )
+        let next = first_answers payloads payload more here rest after second new then (rw one.state at goes) goes_on in
+        (next.0, cc (also, one.frames refl, next.1, is, append_assoc head rest next.0))
 
     -- a front of all frames, or all but for the two texts in the last one
     abbrev pub FrontOrClash : List (List ℕ) → List (List ℕ) → Option MetaClash → ServeEnd → Type 0
@@ -143,8 +126,8 @@ module _ {C : Type 0} (Answer : Table C) (room limit : ℕ) (fresh : C) (input :
     module _ (frames others : List (List ℕ)) (clash : Option MetaClash) (end : ServeEnd) (a : Begun frames clash) (b : Over others end) (ps qs : List (List ℕ)) (begun : Goes Answer room ps fresh frames clash a.state) (whole : Goes Answer room qs fresh others b.clash b.state) where
       as_many : ps ≡ qs → FrontOrClash frames others clash end
       as_many same =
-          let goes = subst (λ (zs : List (List ℕ)). Goes Answer room zs fresh frames clash a.state) same begun in
-          let one = one_going Answer room single qs fresh frames others clash b.clash a.state b.state goes whole in
+          let one =
+          one_going Answer room single qs fresh frames others clash b.clash a.state b.state (rw same at begun) whole in
           by one.stops one.frames one.last (is_some clash) refl
         where
           by : is_some clash ≡ is_some b.clash → (is_some clash ≡ false → frames ≡ others) → (is_some clash ≡ true → SameButLast frames others) → (k : Bool) → is_some clash ≡ k
@@ -158,12 +141,11 @@ module _ {C : Type 0} (Answer : Table C) (room limit : ℕ) (fresh : C) (input :
         where
           by : (k : Option MetaClash) → clash ≡ k → FrontOrClash frames others clash end
           by None is =
-              let first = subst (λ (c : Option MetaClash). Goes Answer room ps fresh frames c a.state) is begun in
-              let all = subst (λ (zs : List (List ℕ)). Goes Answer room zs fresh others b.clash b.state) l.parts whole in
-              inl (first_answers ps l.payload l.others fresh frames others b.clash a.state b.state first all)
+              inl (first_answers ps l.payload l.others fresh frames others b.clash a.state b.state (rw is at begun)
+              (rw l.parts at whole))
           by (Some texts) is =
-              let all = subst (λ (zs : List (List ℕ)). Goes Answer room zs fresh others b.clash b.state) l.parts whole in
-              absurd (stopped_before Answer room single ps l.payload l.others fresh frames others clash b.clash texts a.state b.state is begun all)
+              absurd (stopped_before Answer room single ps l.payload l.others fresh frames others
+              clash b.clash texts a.state b.state is begun (rw l.parts at whole))
 
       none_more : Longer qs b.front b.tail ps a.front → ⊥
       none_more l =
@@ -172,8 +154,8 @@ module _ {C : Type 0} (Answer : Table C) (room limit : ℕ) (fresh : C) (input :
           by : (k : Option MetaClash) → b.clash ≡ k → ⊥
           by None calm = none_follows limit (length b.front) (length a.front) b.tail b.clash b.long end l.sender l.payload l.after b.why calm l.fits l.begins l.within a.within
           by (Some texts) is =
-              let all = subst (λ (zs : List (List ℕ)). Goes Answer room zs fresh frames clash a.state) l.parts begun in
-              stopped_before Answer room single qs l.payload l.others fresh others frames b.clash clash texts b.state a.state is whole all
+              stopped_before Answer room single qs l.payload l.others fresh others frames b.clash
+              clash texts b.state a.state is whole (rw l.parts at begun)
 
       as_compared : Compared ps a.front a.tail qs b.front b.tail → FrontOrClash frames others clash end
       as_compared (fronts.same payloads sizes tails) = as_many payloads

@@ -1,5 +1,5 @@
 -- A shard that serves: the state at the start, and how serving it ends.
-use Rattle.std.proofs.Common.{◌≡◌, ℕ, ◌+◌, ◌<◌, ◌≤◌, zero, suc, List, [], ◌∷◌, ◌++◌, length, Bool, true, false, not, ◌&&◌, ◌||◌, nat_lt, lt-ltb, eq-eqb, Option, Some, refl, sym, ap, ap₂, subst, ◌∙◌, arith}
+use Rattle.std.proofs.Common.{◌≡◌, ℕ, ◌+◌, ◌<◌, ◌≤◌, zero, suc, zero-add, List, [], ◌∷◌, ◌++◌, length, Bool, true, false, not, ◌&&◌, ◌||◌, nat_lt, lt-ltb, eq-eqb, Option, Some, refl, ap, ap₂, ◌∙◌, arith}
 use Rattle.std.specs.List.{list_all, range_with_len}
 use Rattle.std.specs.FinMap as map
 use Rattle.std.proofs.lemmas.List.FromFn.{get_or-range_with_len, length-range_with_len}
@@ -17,21 +17,12 @@ use Rattle.wal_serve.specs.State.{ServedState, state_of}
 use Rattle.wal_words.specs.declared.task.Service.{Service}
 use Rattle.wal_run.specs.Serving.{EndsServing, answering, at_start, end_status, own_nodes, serve_limit}
 use Rattle.wal_run.specs.inside.Serving.{MayServe}
+use Rattle.wal_run.proofs.ShardTexts.{range-split}
 use Rattle.wal_served.proofs.Reached.{desk_at_start, serves_reached}
 
 -- one node more
-numbers_more : (a n : ℕ) → range_with_len a (suc n) ≡ range_with_len a n ++ (a + n) ∷ []
-numbers_more a zero = let same : a ≡ a + 0 = omega arith in ap (λ (x : ℕ). x ∷ []) same
-numbers_more a (suc n) =
-    let same : (a + 1) + n ≡ a + suc n = omega arith in
-    ap (λ (l : List ℕ). a ∷ l) (numbers_more (a + 1) n ∙ ap (λ (x : ℕ). range_with_len (a + 1) n ++ x ∷ []) same)
-
 pub nodes_more : (n up : ℕ) (old new : List ℕ) → old ≡ range_with_len 0 n → new ≡ old ++ n ∷ [] → up ≡ n + 1 → new ≡ range_with_len 0 up
-nodes_more n up old new is pushed next =
-    let first : 0 + n ≡ n = omega arith in
-    let grown : suc n ≡ up = omega (arith, next) in
-    pushed ∙ ap (λ (l : List ℕ). l ++ n ∷ []) is ∙ ap (λ (x : ℕ). range_with_len 0 n ++ x ∷ []) (sym first) ∙ sym (numbers_more 0 n)
-    ∙ ap (λ (m : ℕ). range_with_len 0 m) grown
+nodes_more n up old new is pushed next = rw (pushed, is, range-split 0 n 1 up next, zero-add n) refl
 
 -- each shard's node has the shard's number
 pub own_node : (f s : ℕ) → s < committee_size f → node_of (own_nodes f) s ≡ s
@@ -60,9 +51,7 @@ own_committee f =
 
 pub committee_fits : (f : ℕ) (owners faulty : List ℕ) → owners ≡ own_nodes f → faulty ≡ [] → is_committee (committee_size f) owners faulty ≡ false → ⊥
 committee_fits f owners faulty is_owners is_faulty not_one =
-    let Of : List ℕ → List ℕ → Bool = λ a b. is_committee (committee_size f) a b in
-    let one : is_committee (committee_size f) owners faulty ≡ true = ap₂ Of is_owners is_faulty ∙ own_committee f in
-    let no : true ≡ false = sym one ∙ not_one in
+    let one : is_committee (committee_size f) owners faulty ≡ true = rw (is_owners, is_faulty) (own_committee f) in
     cc
 
 -- the ledger at the start reads epoch 0, and each shard has a node of its own
@@ -78,18 +67,14 @@ starts_owned s ledger f is same k within =
 -- the shard is as at the start
 pub starts_shard : (s : Service) (shard : ShardState) (keep : StoreState) → keep ≡ record { contents = map.empty; limit = Some s.pages }
     → shard ≡ record { f = s.faults; index = s.shard; contents = map.empty; limit = keep.limit } → shard ≡ (at_start s).shard
-starts_shard s shard keep is_keep is =
-    let Of : StoreState → ShardState = λ k. record { f = s.faults; index = s.shard; contents = map.empty; limit = k.limit } in
-    is ∙ ap Of is_keep
+starts_shard s shard keep is_keep is = rw (is, is_keep) refl
 
 -- the shard and the ledger are as at the start
 pub starts : (s : Service) (shard : ShardState) (serving : ServingState) → shard ≡ (at_start s).shard → serving.ledger ≡ (at_start s).ledger
     → state_of shard serving ≡ at_start s
-starts s shard serving is_shard is_ledger = joined shard serving.ledger is_shard is_ledger
-  where
-    joined : (shard : ShardState) (ledger : LedgerState) → shard ≡ (at_start s).shard → ledger ≡ (at_start s).ledger
-        → ◌≡◌ {A = ServedState} (record { shard = shard; ledger = ledger }) (at_start s)
-    joined shard ledger is_shard is_ledger = rw (is_shard, is_ledger) refl
+starts s shard serving is_shard is_ledger =
+    let Of : ShardState → LedgerState → ServedState = λ x l. record { shard = x; ledger = l } in
+    ap₂ Of is_shard is_ledger
 
 -- what was served from a state at the start is how serving it ended
 pub ends_serving : (digest : List ℕ → List ℕ) (s : Service) (shard : ShardState) (fresh state : ServedState) (left after : Option (List ℕ)) (SourceRose : Type 0) (old new : Option (List ℕ)) (SinkRose : Type 0) (end : ServeEnd) (status : ℕ)
@@ -97,9 +82,7 @@ pub ends_serving : (digest : List ℕ → List ℕ) (s : Service) (shard : Shard
     → IsServed (answering digest) (desk_room shard.f) serve_limit shard.index fresh state left after SourceRose old new SinkRose end → status ≡ end_status end
     → EndsServing digest s left after SourceRose old new SinkRose status
 ends_serving digest s shard fresh state left after SourceRose old new SinkRose end status may is_shard is_fresh served is =
-    let Of : ShardState → Type 0 = λ x. IsServed (answering digest) (desk_room x.f) serve_limit x.index fresh state left after SourceRose old new SinkRose end in
-    let From : ServedState → Type 0 = λ x. IsServed (answering digest) (desk_room s.faults) serve_limit s.shard x state left after SourceRose old new SinkRose end in
-    let run : From (at_start s) = subst From is_fresh (subst Of is_shard served) in
+    let run = rw is_fresh at (rw is_shard at served) in
     let inside : s.shard < committee_size s.faults = omega (arith, may.of_committee) in
     let reached = serves_reached digest false (desk_room s.faults) serve_limit (at_start s) run.taken _ _ _ run.frames state end (desk_at_start (at_start s) 0 inside refl) run.serves in
     (state, end, run, reached, is)

@@ -1,5 +1,5 @@
 -- The envelopes of a shard, and of the shards in turn.
-use Rattle.std.proofs.Common.{◌≡◌, ℕ, zero, suc, ◌+◌, ◌-◌, ◌*◌, ◌<◌, ◌≤◌, List, [], ◌∷◌, ◌++◌, length, take, drop, min, append_assoc, append-nil, refl, sym, ap, ap₂, ◌∙◌, arith}
+use Rattle.std.proofs.Common.{◌≡◌, ℕ, zero, suc, zero-add, ◌+◌, ◌-◌, ◌*◌, ◌<◌, ◌≤◌, List, [], ◌∷◌, ◌++◌, length, take, drop, min, append_assoc, append-nil, refl, sym, ap, ap₂, ◌∙◌, arith}
 use Rattle.std.proofs.Math.Nat.{mul_comm, mul-le-mul_right, mul-le-mul_left}
 use Rattle.std.proofs.lemmas.Grind.{flat_map-append}
 use Rattle.std.specs.List.{flat_map, range_with_len}
@@ -30,9 +30,7 @@ pub shard_parts : (id : List ℕ) (shape : BlobShape) (e : List ℕ) (shard i j 
     ++ envelope shard (sliver_frame id Secondary j (secondary_of shape.f (symbol_size shape.f shape.length) e j))
 unfolding shard_text
 shard_parts id shape e shard i j i_is j_is =
-    let s = symbol_size shape.f shape.length in
-    ap₂ (λ (a b : ℕ). envelope shard (sliver_frame id Primary a (primary_of shape.f s e a)) ++ envelope shard (sliver_frame id Secondary b (secondary_of shape.f s e b)))
-    (sym i_is) (sym j_is)
+    rw (i_is, j_is) refl
 
 -- a sliver has no more bytes than the longest blob
 pub sliver_fits : (f length count long : ℕ) → IsShape f length → count ≤ column_count f → long ≡ count * symbol_size f length → long ≤ most_bytes
@@ -49,10 +47,14 @@ sliver_fits f length count long fit few is =
 pub envelope_joins : (shard size : ℕ) (front head bytes frame : List ℕ) → front ≡ 0x57 ∷ (number_text w16 shard ++ number_text w32 size)
     → head ++ bytes ≡ frame → length frame ≡ size → (front ++ head) ++ bytes ≡ envelope shard frame
 envelope_joins shard size front head bytes frame is joins long =
-    append_assoc front head bytes
-    ∙ ap₂ (λ (a b : List ℕ). a ++ b) is joins
-    ∙ ap (λ l. 0x57 ∷ l) (append_assoc (number_text w16 shard) (number_text w32 size) frame)
-    ∙ ap (λ (k : ℕ). 0x57 ∷ (number_text w16 shard ++ number_text w32 k ++ frame)) (sym long)
+    rw (
+      append_assoc front head bytes,
+      joins,
+      is,
+      long,
+      append_assoc (number_text w16 shard)
+          (number_text w32 size) frame,
+    ) refl
 
 -- the envelope of a sliver in two parts
 pub sliver_parts : (id : List ℕ) (shard : ℕ) (axis : Axis) (index : ℕ) (front bytes sliver : List ℕ)
@@ -66,17 +68,18 @@ range-split a zero m k e = let k_is : k ≡ m = omega (arith, e) in let a_is : a
 range-split a (suc i) m zero e = let no : ⊥ = omega (arith, e) in absurd no
 range-split a (suc i) m (suc k) e =
     let next : a + 1 + i ≡ a + suc i = omega arith in
-    ap (λ l. a ∷ l) (range-split (a + 1) i m k (omega (arith, e)) ∙ ap (λ (x : ℕ). range_with_len (a + 1) i ++ range_with_len x m) next)
+    rw (range-split (a + 1) i m k (omega (arith, e)), next) refl
 
 -- the piece of one place, between those before it and those after it
 pub flat_map-split : (f : ℕ → List ℕ) (n i : ℕ) → i < n
     → flat_map f (range_with_len 0 n) ≡ flat_map f (range_with_len 0 i) ++ (f i ++ flat_map f (range_with_len (i + 1) (n - (i + 1))))
 flat_map-split f n i within =
-    let rest = range_with_len (i + 1) (n - (i + 1)) in
-    let first : 0 + i ≡ i = omega arith in
-    let from : range_with_len (0 + i) (suc (n - (i + 1))) ≡ i ∷ rest = ap (λ (x : ℕ). range_with_len x (suc (n - (i + 1)))) first in
-    ap (flat_map f) (range-split 0 i (suc (n - (i + 1))) n (omega (arith, within)) ∙ ap (λ l. range_with_len 0 i ++ l) from)
-    ∙ flat_map-append f (range_with_len 0 i) (i ∷ rest)
+    rw (
+      range-split 0 i (suc (n - (i + 1))) n (omega (arith, within)),
+      zero-add i,
+      flat_map-append f
+          (range_with_len 0 i),
+    ) refl
 
 -- a column's symbols are laid behind what a buffer holds: none
 pub laid_none : (b : Buffer) (n s : ℕ) (e : List ℕ) (c : ℕ) → b ≡ appended b (column_part n s e 0 c)
@@ -89,9 +92,7 @@ laid_none b n s e c =
 pub laid_more : (old now new : Buffer) (n s : ℕ) (e : List ℕ) (row c : ℕ) (piece : List ℕ) → now ≡ appended old (column_part n s e row c)
     → piece ≡ symbol n s e row c → new ≡ appended now piece → new ≡ appended old (column_part n s e (row + 1) c)
 laid_more old now new n s e row c piece before own put =
-    put ∙ ap₂ (λ (b : Buffer) (l : List ℕ). appended b l) before own
-    ∙ appended_then old (column_part n s e row c) (symbol n s e row c)
-    ∙ ap (λ l. appended old l) (sym (column_more n s e row c))
+    rw (put, before, own, column_more n s e row c) (appended_then old (column_part n s e row c) (symbol n s e row c))
 
 -- all of them
 pub laid_all : (old now : Buffer) (f s : ℕ) (e : List ℕ) (row c : ℕ) → row ≡ row_count f → now ≡ appended old (column_part (shard_count f) s e row c)
@@ -123,9 +124,7 @@ pub column_split : (f s : ℕ) (e : List ℕ) (row c : ℕ) (piece : List ℕ) �
     ++ (piece ++ flat_map (λ r. symbol (shard_count f) s e r c) (range_with_len (row + 1) (row_count f - (row + 1))))
 unfolding column_text secondary_of column_part
 column_split f s e row c piece within own =
-    let one : ℕ → List ℕ = λ r. symbol (shard_count f) s e r c in
-    flat_map-split one (row_count f) row within
-    ∙ ap (λ l. flat_map one (range_with_len 0 row) ++ (l ++ flat_map one (range_with_len (row + 1) (row_count f - (row + 1))))) (sym own)
+    rw own (flat_map-split (λ r. symbol (shard_count f) s e r c) (row_count f) row within)
 
 -- a symbol of a row that is at hand
 pub symbol_of_row : (n s size start end : ℕ) (e row : List ℕ) (r c : ℕ) → c < n → size ≡ s → row ≡ row_of n s e r → start ≡ c * size → end ≡ start + size
@@ -133,9 +132,7 @@ pub symbol_of_row : (n s size start end : ℕ) (e row : List ℕ) (r c : ℕ) �
 symbol_of_row n s size start end e row r c h size_is row_is starts ends =
     let long : end - start ≡ s = omega (arith, size_is, ends) in
     let at : start ≡ s * c = starts ∙ ap (λ (k : ℕ). c * k) size_is ∙ mul_comm c s in
-    ap₂ (λ (a b : ℕ). take a (drop b row)) long at
-    ∙ ap (λ (ys : List ℕ). take s (drop (s * c) ys)) row_is
-    ∙ row_of-symbol n s e r c h
+    rw (long, at, row_is) (row_of-symbol n s e r c h)
 
 -- room for short symbols, and for long ones
 pub laid_short : (k s : ℕ) → s < 8192 → k * s ≡ k * min s 8192

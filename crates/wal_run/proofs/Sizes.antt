@@ -22,20 +22,23 @@ bodies_long : (s : ℕ) (os : List Opening) → All (λ (o : Opening). length o.
 bodies_long s [] sizes bodies = omega arith
 bodies_long s (o ∷ os) sizes bodies =
     let size : length o.symbol ≡ s = sizes zero o (omega arith) in
-    let rest = bodies_long s os (λ k d below. sizes (suc k) d (omega (arith, below))) bodies.1 in
-    let one = length-body_text o in
-    let path = bodies.0.path in
-    let whole = length-append (body_text o) (flat_map body_text os) in
     let more : suc (length os) * (327 + s) ≡ 327 + s + length os * (327 + s) = omega arith in
-    omega (arith, rest, one, path, whole, size, more)
+    omega (
+      arith,
+      bodies_long s os (λ k d below. sizes (suc k) d (omega (arith, below))) bodies.1,
+      length-body_text o,
+      bodies.0.path,
+      length-append (body_text o) (flat_map body_text os),
+      size,
+      more,
+    )
 
 proof_long : (s : ℕ) (p : EncodingProof) → All (λ (o : Opening). length o.symbol ≡ s) p.openings → IsProof p → length p.openings * s ≤ most_bytes
     → length (proof_text p) ≤ 33554432
 unfolding proof_text
 proof_long s p sizes is small =
-    let bodies = bodies_long s p.openings sizes is.bodies in
     let parts : length p.openings * (327 + s) ≡ 327 * length p.openings + length p.openings * s = omega arith in
-    omega (arith, bodies, parts, small, is.count)
+    omega (arith, bodies_long s p.openings sizes is.bodies, parts, small, is.count)
 
 symbols_few : (axis : Axis) (f : ℕ) → sliver_symbols axis f ≤ column_count f
 symbols_few Primary f = omega arith

@@ -1,6 +1,5 @@
 use Rattle.std.proofs.Common.{refl}
 use Rattle.wal_run.specs.inside.Writing.{written, cut}
-use Rattle.wal_run.proofs.Parts.{part_put}
 use Rattle.wal_run.proofs.finish.finish.Goals as goal
 
 pub returns-in-Ok-clause-finishes : goal.returns-in-Ok-clause-finishes
@@ -8,4 +7,4 @@ returns-in-Ok-clause-finishes g c = written _ refl c.in-Ok.ensures.whole
 
 pub returns-in-Err-clause-finishes : goal.returns-in-Err-clause-finishes
 returns-in-Err-clause-finishes g c =
-    cut _ refl c.in-Err.ensures.fault (part_put _ _ _ c.in-Err.ensures.part)
+    cut _ refl c.in-Err.ensures.fault c.in-Err.ensures.part

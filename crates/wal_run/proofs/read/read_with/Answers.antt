@@ -1,9 +1,8 @@
 use Rattle.std.proofs.KnownBytes.{Keeps-refl}
-use Rattle.wal_port.specs.Faults.{Rose}
 use Rattle.wal_words.specs.declared.task.Task.TheVariants.{Read}
 use Rattle.wal_run.specs.Answers.{no_memory, source_failed, too_long}
 use Rattle.wal_run.proofs.Endings.{ends_finished, ends_performed, long_input}
-use Rattle.wal_run.proofs.PieceLaws.{taken_few, taken_fault, taken_long, tells_all, tells_more}
+use Rattle.wal_run.proofs.PieceLaws.{tells_all, tells_more}
 use Rattle.wal_run.proofs.Says.{performs_said}
 use Rattle.wal_run.proofs.read.read_with.Goals as goal
 
@@ -15,19 +14,17 @@ returns-in-Ok-clause-ends g c = λ id stands words asked.
 
 pub returns-in-Err-ReadFault-clause-ends : goal.returns-in-Err-ReadFault-clause-ends
 returns-in-Err-ReadFault-clause-ends g c = λ id stands words asked.
-    let t = taken_fault g.H.Hash32.digest id.0 (g.S.Source.left c.args.source.now) (g.S.Source.left c.take_stream.new.source)
-    (Rose (g.S.Source.faults c.args.source.now) (g.S.Source.faults c.take_stream.new.source)) c.take_stream.new.reader _ c.in-Err-ReadFault.field-0-is (c.in-Err-ReadFault.ensures.takes id.0 stands) in
+    let t = rw c.in-Err-ReadFault.field-0-is at (c.in-Err-ReadFault.ensures.takes id.0 stands) in
     source_failed (Read id) asked tt t.0 t.1 (Keeps-refl _)
 
 pub returns-in-Err-TooLong-clause-ends : goal.returns-in-Err-TooLong-clause-ends
 returns-in-Err-TooLong-clause-ends g c = λ id stands words asked.
-    let taken = taken_long g.H.Hash32.digest id.0 (g.S.Source.left c.args.source.now) (g.S.Source.left c.take_stream.new.source)
-    (Rose (g.S.Source.faults c.args.source.now) (g.S.Source.faults c.take_stream.new.source)) c.take_stream.new.reader _ c.in-Err-TooLong.field-0-is (c.in-Err-TooLong.ensures.takes id.0 stands) in
+    let taken = rw c.in-Err-TooLong.field-0-is at (c.in-Err-TooLong.ensures.takes id.0 stands) in
     let input = long_input (g.S.Source.left c.args.source.now) 134217728 taken.0 taken.2 (tells_more _ _ taken.0 134217728 taken.1 taken.2) in
     ends_finished _ _ _ _ 9 _ (λ text is. rw is (too_long (Read id) asked
     (record { takes = tt; input = input.0; told = input.1; past = input.2; taken = taken.0; consumed = taken.1; count = taken.2 }))) c.finish.ensures.finishes
 
 pub returns-clause-ends : goal.returns-clause-ends
 returns-clause-ends g c = λ id stands words asked.
-    no_memory (Read id) asked (taken_few g.H.Hash32.digest id.0 (g.S.Source.left c.args.source.now) (g.S.Source.left c.take_stream.new.source)
-    (Rose (g.S.Source.faults c.args.source.now) (g.S.Source.faults c.take_stream.new.source)) c.take_stream.new.reader _ c.in-Err-Memory.field-0-is (c.in-Err-Memory.ensures.takes id.0 stands)) (Keeps-refl _)
+    no_memory (Read id) asked (rw c.in-Err-Memory.field-0-is at (c.in-Err-Memory.ensures.takes id.0 stands))
+    (Keeps-refl _)

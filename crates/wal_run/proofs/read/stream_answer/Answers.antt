@@ -1,4 +1,4 @@
-use Rattle.wal_run.proofs.PieceLaws.{answer_read, answer_refused}
+use Rattle.wal_run.proofs.PieceLaws.{answer_read}
 use Rattle.wal_run.proofs.Says.{says_as}
 use Rattle.wal_run.proofs.read.stream_answer.Goals as goal
 
@@ -8,5 +8,4 @@ returns-in-Ok g c = λ id stream finishes.
     answer_read g.H.Hash32.digest id stream c.args.answer c.in-Ok.answer s text c.in-Ok.is finishes p.0 p.1)
 
 pub returns-in-Err : goal.returns-in-Err
-returns-in-Err g c = λ id stream finishes.
-    c.refusal_of.ensures id stream (answer_refused g.H.Hash32.digest id.0 stream c.args.answer c.in-Err.error c.in-Err.is finishes)
+returns-in-Err g c = λ id stream finishes. c.refusal_of.ensures id stream (rw c.in-Err.is at finishes)
