@@ -366,7 +366,7 @@ class Harm(GuardCase):
             status, _, told = await self.ask("GET", path)
             self.assertEqual((status, [it["blobId"] for it in told["blobs"]]), (200, names))
         self.assertEqual((await self.ask("GET", path + "f" * 64))[2]["blobs"], [])
-        self.assertEqual([it for it in ran if it.startswith("SELECT") and "until <=" in it], [])
+        self.assertEqual([it for it in ran if "identifier >" in it and "until <=" in it], [])
         self.network.state.base.set_trace_callback(None)
 
 
