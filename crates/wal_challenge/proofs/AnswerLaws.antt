@@ -33,33 +33,23 @@ word_among : (m : BlobMetadata) (axis : Axis) (primary secondary : List ℕ) (wo
 word_among m Primary primary secondary words are = are.row_word
 word_among m Secondary primary secondary words are = are.column_word
 
--- the symbol at the drawn place of the codeword, with its path, is what was drawn
-pub shows : (digest : List ℕ → List ℕ) (m : BlobMetadata) (shard : ℕ) (draw : Draw) (words : OwnWords) (o : Opening) → o.cross ≡ drawn_index m shard draw
-    → o.symbol ≡ region words.size (among draw.axis words.row words.column) draw.place
-    → o.path ≡ path_over digest words.size (among draw.axis words.row words.column) draw.place
-    → (primary secondary : List ℕ) → AreWordsOf m primary secondary words → ShowsDrawn digest m shard primary secondary draw o
-shows digest m shard draw words o cross symbol path primary secondary are =
-    let word = among draw.axis words.row words.column in
-    record {
-      cross = cross;
-      opens = record {
-        word = word;
-        is_word = word_among m draw.axis primary secondary words are;
-        symbol = symbol ∙ ap (λ s. region s word draw.place) are.size;
-        path = path ∙ ap (λ s. path_over digest s word draw.place) are.size;
-      };
-    }
-
--- so it is of an opening that was made
+-- the symbol at the drawn place of the codeword, with its path, is what was drawn, of an opening that was made
 pub shows_if : {E : Type 0} (r : Result Opening E) (digest : List ℕ → List ℕ) (m : BlobMetadata) (shard : ℕ) (draw : Draw) (words : OwnWords) (size : ℕ) (line : List ℕ)
     → size ≡ words.size → line ≡ among draw.axis words.row words.column → IfOk r (λ o. o.cross ≡ drawn_index m shard draw)
     → IfOk r (λ o. o.symbol ≡ region size line draw.place) → IfOk r (λ o. o.path ≡ path_over digest size line draw.place)
     → IfOk r (λ o. (primary secondary : List ℕ) → AreWordsOf m primary secondary words → ShowsDrawn digest m shard primary secondary draw o)
 shows_if (Err e) digest m shard draw words size line size_is line_is cross symbol path = tt
 shows_if (Ok o) digest m shard draw words size line size_is line_is cross symbol path =
-    shows digest m shard draw words o cross
-    (symbol ∙ ap (λ s. region s line draw.place) size_is ∙ ap (λ (l : List ℕ). region words.size l draw.place) line_is)
-    (path ∙ ap (λ s. path_over digest s line draw.place) size_is ∙ ap (λ (l : List ℕ). path_over digest words.size l draw.place) line_is)
+    λ primary secondary are.
+    record {
+      cross = cross;
+      opens = record {
+        word = among draw.axis words.row words.column;
+        is_word = word_among m draw.axis primary secondary words are;
+        symbol = cc (symbol, size_is, line_is, are.size);
+        path = cc (path, size_is, line_is, are.size);
+      };
+    }
 
 held_among : (digest : List ℕ → List ℕ) (m : BlobMetadata) (shard : ℕ) (axis : Axis) (primary secondary : List ℕ) → HoldsBoth digest m shard primary secondary
     → HoldsSliver digest m (crossing (crossing axis)) (held_index m.format m.f axis shard) (among axis primary secondary)
@@ -113,10 +103,9 @@ answers_more digest m beacon shard d primary secondary old new o draw before dra
 pub answers_none : (digest : List ℕ → List ℕ) (m : BlobMetadata) (beacon : List ℕ) (shard : ℕ) (primary secondary : List ℕ) (os : List Opening) → os ≡ []
     → AreAnswers digest m beacon shard 0 primary secondary os
 answers_none digest m beacon shard primary secondary os none =
-    let short : length os ≡ 0 = ap length none in
     record {
-      many = short;
-      each = λ d o there. let inside = slice_get_within os d o there in absurd (omega (arith, short, inside));
+      many = ap length none;
+      each = λ d o there. absurd (omega (arith, ap length none, slice_get_within os d o there));
     }
 
 -- the draw of an identifier and a number of shards that are the metadata's

@@ -41,12 +41,9 @@ evened_pairs digest width bytes long =
     let half : width ≡ 2 * (width / 2) + 1 = omega (arith, high) in
     let at : width * 32 ≡ length bytes = omega (arith, long) in
     let last : take 32 (drop (width * 32) (bytes ++ empty_entry)) ≡ empty_entry = ap (λ n. take 32 (drop n (bytes ++ empty_entry))) at ∙ ap (take 32) (drop-append_seam bytes empty_entry) in
-    ap (λ n. pair_up digest (pieces n 32 (evened bytes))) count
-    ∙ ap (λ (b : List ℕ). pair_up digest (pieces (suc width) 32 b)) (odd_more bytes odd)
-    ∙ ap (pair_up digest) (pieces-more width 32 (bytes ++ empty_entry)
-    ∙ ap (λ (ps : List (List ℕ)). ps ++ (take 32 (drop (width * 32) (bytes ++ empty_entry)) ∷ [])) (pieces-append width bytes empty_entry (omega (arith, long)))
-    ∙ ap (λ (p : List ℕ). pieces width 32 bytes ++ (p ∷ [])) last)
-    ∙ pair_up-odd digest (width / 2) (pieces width 32 bytes) (length-pieces width 32 bytes ∙ half))
+    let front = pieces-append width bytes empty_entry (omega (arith, long)) in
+    let paired = pair_up-odd digest (width / 2) (pieces width 32 bytes) (length-pieces width 32 bytes ∙ half) in
+    cc (count, odd_more bytes odd, pieces-more width 32 (bytes ++ empty_entry), front, last, paired))
     (cases_lt (width % 2) 1)
 
 -- the bytes of more than one entry, evened, are a level
@@ -95,11 +92,10 @@ path_more digest entries level at bytes old new whole is within so_far new_is =
     let here = level_above digest level entries in
     let sibling = get_or here (beside at) empty_entry in
     let rest = concat (path_of digest (pair_up digest here) (at / 2)) in
-    so_far ∙ ap (λ (p : List (List ℕ)). old ++ concat p) (path_of-step digest here at is.many)
-    ∙ sym (append_assoc old sibling rest)
-    ∙ ap (λ (s : List ℕ). (old ++ s) ++ rest) (sym (is.each (beside at) (beside_within here bytes at is within)))
-    ∙ ap (λ (o : List ℕ). o ++ rest) (sym new_is)
-    ∙ ap (λ (l : List (List ℕ)). new ++ concat (path_of digest l (at / 2))) (sym (level_above-next digest level (level + 1) entries refl))
+    let step = ap concat (path_of-step digest here at is.many) in
+    let copied = is.each (beside at) (beside_within here bytes at is within) in
+    let up = level_above-next digest level (level + 1) entries refl in
+    cc (so_far, step, append_assoc old sibling rest, copied, new_is, up)
 
 -- the parent's place is one of its level
 pub parent_within : (digest : List ℕ → List ℕ) (entries : List (List ℕ)) (level at : ℕ) → at < length (level_above digest level entries)
@@ -124,10 +120,7 @@ above_evened digest level given above whole given_is long joined =
     let size : length given ≡ 64 * ((width + 1) / 2) = ap length given_is ∙ evened_long width level all in
     let half : length given / 64 ≡ (width + 1) / 2 = omega (arith, size) in
     let count : length above / 32 ≡ length given / 64 = omega (arith, long) in
-    ap (λ n. pieces n 32 above) count ∙ joined
-    ∙ ap (λ n. pair_up digest (pieces (2 * n) 32 given)) half
-    ∙ ap (λ (b : List ℕ). pair_up digest (pieces (2 * ((width + 1) / 2)) 32 b)) given_is
-    ∙ evened_pairs digest width level all
+    cc (count, joined, half, given_is, evened_pairs digest width level all)
 
 -- a level that is kept
 pub level_at : (digest : List ℕ → List ℕ) (entries levels : List (List ℕ)) (k : ℕ) (bytes given : List ℕ) → FirstLevels digest entries levels → k < length levels

@@ -25,10 +25,9 @@ each_more P xs y each last k x there =
 pub one_list : {A : Type 0} (P : ℕ → A → Type 0) (xs ys : List A) → length xs ≡ length ys → ((k : ℕ) (x y : A) → P k x → P k y → x ≡ y)
     → ((k : ℕ) (x : A) → slice_get xs k ≡ Some x → P k x) → ((k : ℕ) (y : A) → slice_get ys k ≡ Some y → P k y) → xs ≡ ys
 one_list P [] [] long one of_xs of_ys = refl
-one_list P [] (y ∷ ys) long one of_xs of_ys = absurd (omega arith)
-one_list P (x ∷ xs) [] long one of_xs of_ys = absurd (omega arith)
 one_list P (x ∷ xs) (y ∷ ys) long one of_xs of_ys =
     ext_get_or x (x ∷ xs) (y ∷ ys) long
     (λ k l.
     one k (get_or (x ∷ xs) k x) (get_or (y ∷ ys) k x) (of_xs k (get_or (x ∷ xs) k x) (slice_get-get_or (x ∷ xs) k x l))
     (of_ys k (get_or (y ∷ ys) k x) (slice_get-get_or (y ∷ ys) k x (omega (arith, long, l)))))
+one_list P xs ys long one of_xs of_ys = absurd (omega (arith, long))

@@ -32,8 +32,7 @@ module _ (digest : List ℕ → List ℕ) (m : BlobMetadata) (beacon : List ℕ)
       (λ less. before k other less here)
       (λ past.
       let at : d ≡ k = omega (arith, below, past) in
-      let both : Some claim ≡ Some other = sym there ∙ ap (slice_get claims) at ∙ here in
-      let same : claim ≡ other = cc in
+      let same : claim ≡ other = cc (there, at, here) in
       subst (λ i. Answers i other) at (subst (Answers d) same is))
       (cases_lt k d)
 
@@ -42,11 +41,7 @@ module _ (digest : List ℕ → List ℕ) (m : BlobMetadata) (beacon : List ℕ)
   no_earlier claims d e of_d of_e less = of_d.wrong (of_e.before d of_d.claim less of_d.there)
 
   one_place : (claims : List Claim) (d e : ℕ) → IsFirstWrong digest m beacon shard claims d → IsFirstWrong digest m beacon shard claims e → d ≡ e
-  one_place claims d e of_d of_e =
-      ⊎_elim
-      (λ less. absurd (no_earlier claims d e of_d of_e less))
-      (λ past. ⊎_elim (λ less. absurd (no_earlier claims e d of_e of_d less)) (λ other. omega (arith, past, other)) (cases_lt e d))
-      (cases_lt d e)
+  one_place claims d e of_d of_e = grind (arith, no_earlier)
 
   -- where each answers none is wrong
   none_wrong : (claims : List Claim) (count d : ℕ) → length claims ≡ count → FirstAnswer digest m beacon shard claims count → IsFirstWrong digest m beacon shard claims d → ⊥
@@ -56,15 +51,12 @@ module _ (digest : List ℕ → List ℕ) (m : BlobMetadata) (beacon : List ℕ)
 
   -- claims come to one verdict
   pub one_verdict : (count : ℕ) (claims : List Claim) (a b : AnswerVerdict) → AnswersComeTo digest m beacon shard count claims a → AnswersComeTo digest m beacon shard count claims b → a ≡ b
-  one_verdict count claims (WrongCount k) (WrongCount j) of_a of_b = ap WrongCount (sym of_a.0 ∙ of_b.0)
-  one_verdict count claims (WrongCount k) (Wrong d) of_a of_b = absurd (of_a.1 (sym of_a.0 ∙ of_b.0))
-  one_verdict count claims (WrongCount k) Accepted of_a of_b = absurd (of_a.1 (sym of_a.0 ∙ of_b.0))
-  one_verdict count claims (Wrong d) (WrongCount j) of_a of_b = absurd (of_b.1 (sym of_b.0 ∙ of_a.0))
+  one_verdict count claims (WrongCount k) (WrongCount j) of_a of_b = cc (of_a.0, of_b.0)
   one_verdict count claims (Wrong d) (Wrong e) of_a of_b = ap Wrong (one_place claims d e of_a.1 of_b.1)
   one_verdict count claims (Wrong d) Accepted of_a of_b = absurd (none_wrong claims count d of_b.0 of_b.1 of_a.1)
-  one_verdict count claims Accepted (WrongCount j) of_a of_b = absurd (of_b.1 (sym of_b.0 ∙ of_a.0))
   one_verdict count claims Accepted (Wrong d) of_a of_b = absurd (none_wrong claims count d of_a.0 of_a.1 of_b.1)
   one_verdict count claims Accepted Accepted of_a of_b = refl
+  one_verdict count claims a b of_a of_b = absurd (grind arith)
 
 -- a claim that answers a draw has the target line's symbol, which is the drawn one
 drawn_symbol : (digest : List ℕ → List ℕ) (m : BlobMetadata) (shard : ℕ) (draw : Draw) (claim : Claim) (e : List ℕ)
@@ -121,13 +113,12 @@ claim_at : (digest : List ℕ → List ℕ) (m : BlobMetadata) (beacon : List �
     → (o : Opening) × (slice_get openings k ≡ Some o) × (claim ≡ claim_of digest m beacon shard (d + k) o)
 claim_at digest m beacon shard d k [] claim there = let inside = slice_get_within [] k claim there in absurd (omega arith)
 claim_at digest m beacon shard d zero (o ∷ openings) claim there =
-    let same : claim_of digest m beacon shard d o ≡ claim = cc in
     let here : d ≡ d + 0 = omega arith in
-    (o, refl, sym same ∙ ap (λ i. claim_of digest m beacon shard i o) here)
+    (o, refl, cc (there, here))
 claim_at digest m beacon shard d (suc k) (o ∷ openings) claim there =
     let rest = claim_at digest m beacon shard (d + 1) k openings claim there in
     let here : d + 1 + k ≡ d + suc k = omega arith in
-    (rest.0, rest.1, rest.2 ∙ ap (λ i. claim_of digest m beacon shard i rest.0) here)
+    (rest.0, rest.1, cc (rest.2, here))
 
 -- the claims that answers make are accepted
 pub accepted : (digest : List ℕ → List ℕ) (size_is : (text : List ℕ) → length (digest text) ≡ 32) (m : BlobMetadata) (beacon : List ℕ) (shard count : ℕ) (primary secondary : List ℕ) (openings : List Opening)
@@ -149,8 +140,4 @@ accepted digest size_is m beacon shard count primary secondary openings fit belo
 -- where each of the claims answers its draw they are accepted
 pub accepted_as : (digest : List ℕ → List ℕ) (m : BlobMetadata) (beacon : List ℕ) (shard count : ℕ) (given claims : List Claim) → given ≡ claims → length given ≡ count
     → FirstAnswer digest m beacon shard given (length given) → AnswersComeTo digest m beacon shard count claims Accepted
-accepted_as digest m beacon shard count given claims same many all = (
-  ap length (sym same) ∙ many,
-  subst (λ (cs : List Claim). FirstAnswer digest m beacon shard cs count) same
-      (subst (λ k. FirstAnswer digest m beacon shard given k) many all),
-)
+accepted_as digest m beacon shard count given claims same many all = rw (← same, ← many) (refl, all)

@@ -1,20 +1,19 @@
 -- Codewords: when two are the same, how sums of coefficients make them, and tables of them in both directions.
-use Rattle.std.proofs.Common.{◌≡◌, ◌∙◌, sym, ap, subst, ℕ, zero, suc, ◌<◌, ◌≤◌, List, [], ◌∷◌, length, get_or, slice_index, slice_index_or, map, arith, inl, inr}
-use Rattle.std.proofs.lemmas.Bool.{cases_lt}
+use Rattle.std.proofs.Common.{◌≡◌, ◌∙◌, sym, ap, ℕ, zero, suc, ◌<◌, ◌≤◌, List, [], ◌∷◌, length, get_or, slice_index, slice_index_or, map, arith}
 use Rattle.std.specs.List.{AllByRecursion, range_with_len}
 use Rattle.std.proofs.lemmas.List.{length-map, ext_get_or}
 use Rattle.std.proofs.lemmas.Grind.{get_or_default_zero}
 use Rattle.std.proofs.lemmas.List.Elements.{recursion_from_All, All-from_recursion}
 use Rattle.std.proofs.lemmas.List.FromFn.{length-range_with_len, get_or-range_with_len, get_or-map-range_with_len, length-map-range_with_len}
-use Rattle.wal_gf.specs.Field.{IsWord, times}
+use Rattle.wal_gf.specs.Field.{IsWord}
 use Rattle.wal_gf.specs.Polynomial.{evaluate}
 use Rattle.wal_gf.proofs.Polynomials.{value, IsPolynomial, polynomial_unique}
+use Rattle.wal_gf.proofs.Roots as roots
 use Rattle.wal_gf.proofs.TwoWays as tables
 use Rattle.wal_gf.proofs.Instance.{Element, words, element_of, elements_of, numbers_of, numbers_of-words, element_of-word, element-path, value-evaluate}
-use Rattle.wal_code.specs.Codeword.{Distinct, PassesThrough, IsCodeword, IsExtension, coefficient, combination}
-use Rattle.wal_code.proofs.Evaluation.{apart_elements, evaluate-number, evaluate-lt, solution}
-use Rattle.wal_code.proofs.Points.{apart, point_at, words_of}
-use Rattle.wal_code.proofs.Totals.{xor_below-same}
+use Rattle.wal_code.specs.Codeword.{Distinct, PassesThrough, IsCodeword, IsExtension, combination}
+use Rattle.wal_code.proofs.Evaluation.{combination-same, evaluate-number, evaluate-lt, solution}
+use Rattle.wal_code.proofs.Points.{words_of}
 
 -- ---- small laws
 
@@ -22,14 +21,9 @@ pub IsCodeword-same : (k n : ℕ) (c d : ℕ → ℕ) → ((i : ℕ) → i < n �
 IsCodeword-same k n c d e h =
     record { coefficients = h.coefficients; few = h.few; words = h.words; values = λ i l. e i l ∙ h.values i l }
 
-pub IsCodeword-shorter : (k m n : ℕ) (c : ℕ → ℕ) → m ≤ n → IsCodeword k n c → IsCodeword k m c
-IsCodeword-shorter k m n c e h =
-    record { coefficients = h.coefficients; few = h.few; words = h.words; values = λ i l. h.values i (omega arith) }
-
 -- the places of a codeword are words
 pub codeword-word : (k n : ℕ) (c : ℕ → ℕ) → n ≤ 65536 → IsCodeword k n c → (i : ℕ) → i < n → c i < 65536
-codeword-word k n c m h i l =
-    subst (λ (s : ℕ). s < 65536) (sym (h.values i l)) (evaluate-lt h.coefficients i h.words (omega arith))
+codeword-word k n c m h i l = rw (h.values i l) (evaluate-lt h.coefficients i h.words (omega arith))
 
 -- ---- codewords as polynomials over the field of words
 
@@ -59,10 +53,13 @@ of_polynomial k n c m w p =
     }
 
 -- what holds of each known point holds of each of its elements
-all_elements : (P : Element → Type 0) (known : List ℕ) → ((i : ℕ) → i < length known → P (element_of (get_or known i 0))) →
-    AllByRecursion P (elements_of known)
-all_elements P [] h = tt
-all_elements P (q ∷ known) h = (h zero (omega arith), all_elements P known (λ i l. h (suc i) (omega arith)))
+all_elements : (P : Element → Type 0) (known : List ℕ) → AllByRecursion IsWord known →
+    ((i : ℕ) → i < length known → (x : Element) → x.0 ≡ get_or known i 0 → P x) → AllByRecursion P (elements_of known)
+all_elements P [] ws h = tt
+all_elements P (q ∷ known) ws h = (
+  h zero (omega arith) (element_of q) (element_of-word q ws.0),
+  all_elements P known ws.1 (λ i l. h (suc i) (omega arith)),
+)
 
 -- Two codewords that agree at as many distinct points as they have coefficients agree everywhere.
 pub codeword_unique : (n : ℕ) (known : List ℕ) (c d : ℕ → ℕ) → n ≤ 65536 → Distinct known →
@@ -71,23 +68,15 @@ pub codeword_unique : (n : ℕ) (known : List ℕ) (c d : ℕ → ℕ) → n ≤
     ((i : ℕ) → i < length known → c (get_or known i 0) ≡ d (get_or known i 0)) →
     (i : ℕ) → i < n → c i ≡ d i
 codeword_unique n known c d m far below hc hd e i l =
-    let ws : AllByRecursion IsWord known = words_of known (λ j o. let b : get_or known j 0 < n = below j o in omega arith) in
-    let at : (j : ℕ) → j < length known → (element_of (get_or known j 0)).0 ≡ get_or known j 0 =
-    λ j o. element_of-word (get_or known j 0) (point_at IsWord known ws j o) in
-    let K : ℕ → (ℕ → ℕ) → Type 0 = λ k f. IsPolynomial words k (λ x. x.0 < n) (function f) in
-    let size : length known ≡ length (elements_of known) = sym (length-map known element_of) in
-    sym (element_of-word (c i) (codeword-word (length known) n c m hc i l)) ∙
-    ap (λ (x : Element). x.0)
-    (polynomial_unique words (λ x. x.0 < n) (elements_of known) (function c) (function d)
-    (apart_elements known ws (apart known far))
-    (all_elements (λ x. x.0 < n) known (λ j o. subst (λ (s : ℕ). s < n) (sym (at j o)) (below j o)))
-    (subst (λ (k : ℕ). K k c) size (to_polynomial (length known) n c m hc))
-    (subst (λ (k : ℕ). K k d) size (to_polynomial (length known) n d m hd))
-    (all_elements (λ x. function c x ≡ function d x) known
-    (λ j o.
-    ap (λ (s : ℕ). element_of (c s)) (at j o) ∙ ap element_of (e j o) ∙
-    ap (λ (s : ℕ). element_of (d s)) (sym (at j o))))
-    (i, omega arith) l) ∙
+    let ws : AllByRecursion IsWord known = words_of known (λ j o. omega (arith, below j o)) in
+    let path = polynomial_unique words (λ x. x.0 < n) (elements_of known) (function c) (function d)
+    (roots.apart known ws far)
+    (all_elements (λ x. x.0 < n) known ws (λ j o x p. rw p (below j o)))
+    (rw (length-map known element_of) (to_polynomial (length known) n c m hc))
+    (rw (length-map known element_of) (to_polynomial (length known) n d m hd))
+    (all_elements (λ x. function c x ≡ function d x) known ws (λ j o x p. rw p (ap element_of (e j o))))
+    (i, omega arith) l in
+    sym (element_of-word (c i) (codeword-word (length known) n c m hc i l)) ∙ ap (λ (x : Element). x.0) path ∙
     element_of-word (d i) (codeword-word (length known) n d m hd i l)
 
 -- ---- the first places
@@ -99,16 +88,21 @@ own_places known h i j d l m e =
     let same : i ≡ j = sym (at i (omega arith)) ∙ e ∙ at j m in
     omega arith
 
+-- the first places, as a list of points
+first_places : (k : ℕ) → (places : List ℕ) × (length places ≡ k) × ((i : ℕ) → i < length places → get_or places i 0 ≡ i)
+first_places k =
+    let size = length-range_with_len 0 k in (
+      range_with_len 0 k,
+      size,
+      λ i l. omega (arith, get_or-range_with_len 0 k i 0 (let b : i < k = omega arith in b)),
+    )
+
 pub codeword_unique_first : (k n : ℕ) (c d : ℕ → ℕ) → k ≤ n → n ≤ 65536 → IsCodeword k n c → IsCodeword k n d →
     ((i : ℕ) → i < k → c i ≡ d i) → (i : ℕ) → i < n → c i ≡ d i
 codeword_unique_first k n c d le m hc hd e i l =
-    let places : List ℕ = range_with_len 0 k in
-    let size : k ≡ length places = sym (length-range_with_len 0 k) in
-    let own : (j : ℕ) → j < length places → get_or places j 0 ≡ j =
-    λ j o. omega (arith, get_or-range_with_len 0 k j 0 (let b : j < k = omega arith in b)) in
-    codeword_unique n places c d m (own_places places own) (λ j o. omega (arith, own j o))
-    (subst (λ (s : ℕ). IsCodeword s n c) size hc) (subst (λ (s : ℕ). IsCodeword s n d) size hd)
-    (λ j o. ap c (own j o) ∙ e j (omega arith) ∙ ap d (sym (own j o))) i l
+    let f = first_places k in
+    codeword_unique n f.0 c d m (own_places f.0 f.2) (λ j o. omega (arith, f.2 j o)) (rw f.1 hc) (rw f.1 hd)
+    (λ j o. rw (f.2 j o) (e j (omega arith))) i l
 
 -- ---- sums of coefficients make codewords
 
@@ -125,16 +119,13 @@ of_values : (known : List ℕ) (value : ℕ → ℕ) → Distinct known →
     ((w : ℕ) → w < 65536 → combination known value w ≡ evaluate cs w)
 of_values known value d h v =
     let values : List ℕ = listed (length known) value in
-    let size : length values ≡ length known = length-map-range_with_len value 0 (length known) in
+    let size = length-map-range_with_len value 0 (length known) in
     let found = solution known values d (words_of known h)
-    (words_of values (λ i l.
-    subst (λ (s : ℕ). s < 65536) (sym (listed-at (length known) value i (omega arith))) (v i (omega arith)))) size in (
+    (words_of values (λ i l. rw (listed-at (length known) value i (omega arith)) (v i (omega arith)))) size in (
       found.0,
       found.1,
       λ w m.
-          xor_below-same (length known) (λ i. times (coefficient known (get_or known i 0) w) (value i))
-          (λ i. times (coefficient known (get_or known i 0) w) (get_or values i 0))
-          (λ i l. ap (λ (s : ℕ). times (coefficient known (get_or known i 0) w) s) (sym (listed-at (length known) value i l))) ∙
+          combination-same known w value (λ i. get_or values i 0) (λ i l. sym (listed-at (length known) value i l)) ∙
           sym (found.2 w m),
     )
 
@@ -153,24 +144,6 @@ pub combination-known : (known : List ℕ) (value : ℕ → ℕ) → Distinct kn
 combination-known known value d h v i l =
     let found = of_values known value d h v in
     found.2 (get_or known i 0) (h i l) ∙ found.1.there i l ∙ listed-at (length known) value i l
-
--- What keeps the first places, and has the combination of them at each other place, is a codeword.
-pub extended : (n : ℕ) (known : List ℕ) (value out : ℕ → ℕ) → length known ≤ n → n ≤ 65536 →
-    ((i : ℕ) → i < length known → get_or known i 0 ≡ i) → ((i : ℕ) → i < length known → value i < 65536) →
-    ((i : ℕ) → i < length known → out i ≡ value i) →
-    ((w : ℕ) → length known ≤ w → w < n → out w ≡ combination known value w) →
-    IsCodeword (length known) n out
-extended n known value out le m own v first rest =
-    let words : (i : ℕ) → i < length known → get_or known i 0 < 65536 = λ i l. omega (arith, own i l) in
-    let far : Distinct known = own_places known own in
-    IsCodeword-same (length known) n (combination known value) out
-    (λ i l.
-    elim (cases_lt i (length known)) [
-      | inl b ↦
-          first i b ∙ sym (combination-known known value far words v i b) ∙ ap (λ (s : ℕ). combination known value s) (own i b)
-      | inr b ↦ rest i b l
-    ])
-    (combination-codeword n known value m far words v)
 
 -- A list of values is extended in one way only.
 pub extension_unique : (values : List ℕ) (n : ℕ) (out other : List ℕ) → length values ≤ n → n ≤ 65536 →
@@ -195,7 +168,7 @@ extension_of_solution known values out cs n size own le e p h =
         values = λ i l. h i (omega arith);
       };
       begins = λ i l.
-          h i (omega arith) ∙ ap (λ (s : ℕ). evaluate cs s) (sym (own i (omega arith))) ∙ p.there i (omega arith);
+          h i (omega arith) ∙ ap (evaluate cs) (sym (own i (omega arith))) ∙ p.there i (omega arith);
     }
 
 -- ---- tables that are codewords along their rows and their columns
@@ -208,20 +181,14 @@ pub every_row : (k n m : ℕ) (known : List ℕ) (t : ℕ → ℕ → ℕ) → D
     ((c : ℕ) → c < m → IsCodeword (length known) n (λ r. t r c)) →
     (r : ℕ) → r < n → IsCodeword k m (λ c. t r c)
 every_row k n m known t d below far wide hr hc r l =
-    let at : (j : ℕ) → j < length known → (element_of (get_or known j 0)).0 ≡ get_or known j 0 =
-    λ j o. element_of-word (get_or known j 0) (let b : get_or known j 0 < n = below j o in omega arith) in
-    let ws : AllByRecursion IsWord known = words_of known (λ j o. let b : get_or known j 0 < n = below j o in omega arith) in
+    let ws : AllByRecursion IsWord known = words_of known (λ j o. omega (arith, below j o)) in
     let table : Element → Element → Element = λ a b. element_of (t a.0 b.0) in
     of_polynomial k m (λ c. t r c) wide (λ c o. codeword-word (length known) n (λ q. t q c) far (hc c o) r l)
-    (tables.every_row words k (λ x. x.0 < n) (λ x. x.0 < m) (elements_of known) table (apart_elements known ws (apart known d))
-    (all_elements (λ x. x.0 < n) known (λ j o. subst (λ (s : ℕ). s < n) (sym (at j o)) (below j o)))
-    (all_elements (λ x. IsPolynomial words k (λ y. y.0 < m) (table x)) known
-    (λ j o.
-    let Row : ℕ → Type 0 = λ s. IsPolynomial words k (λ y. y.0 < m) (function (λ c. t s c)) in
-    subst Row (sym (at j o)) (to_polynomial k m (λ c. t (get_or known j 0) c) wide (hr j o))))
-    (λ x p.
-    let Column : ℕ → Type 0 = λ s. IsPolynomial words s (λ y. y.0 < n) (function (λ q. t q x.0)) in
-    subst Column (sym (length-map known element_of)) (to_polynomial (length known) n (λ q. t q x.0) far (hc x.0 p)))
+    (tables.every_row words k (λ x. x.0 < n) (λ x. x.0 < m) (elements_of known) table (roots.apart known ws d)
+    (all_elements (λ x. x.0 < n) known ws (λ j o x p. rw p (below j o)))
+    (all_elements (λ x. IsPolynomial words k (λ y. y.0 < m) (table x)) known ws
+    (λ j o x p. rw p (to_polynomial k m (λ c. t (get_or known j 0) c) wide (hr j o))))
+    (λ x p. rw (length-map known element_of) (to_polynomial (length known) n (λ q. t q x.0) far (hc x.0 p)))
     (r, omega arith) l)
 
 -- The same where the first rows are known.
@@ -229,13 +196,9 @@ pub every_row_first : (k rows n m : ℕ) (t : ℕ → ℕ → ℕ) → rows ≤ 
     ((r : ℕ) → r < rows → IsCodeword k m (λ c. t r c)) → ((c : ℕ) → c < m → IsCodeword rows n (λ r. t r c)) →
     (r : ℕ) → r < n → IsCodeword k m (λ c. t r c)
 every_row_first k rows n m t le far wide hr hc r l =
-    let places : List ℕ = range_with_len 0 rows in
-    let size : length places ≡ rows = length-range_with_len 0 rows in
-    let own : (j : ℕ) → j < length places → get_or places j 0 ≡ j =
-    λ j o. omega (arith, get_or-range_with_len 0 rows j 0 (let b : j < rows = omega arith in b)) in
-    every_row k n m places t (own_places places own) (λ j o. omega (arith, own j o)) far wide
-    (λ j o. subst (λ (s : ℕ). IsCodeword k m (λ c. t s c)) (sym (own j o)) (hr j (omega arith)))
-    (λ c o. subst (λ (s : ℕ). IsCodeword s n (λ q. t q c)) (sym size) (hc c o)) r l
+    let f = first_places rows in
+    every_row k n m f.0 t (own_places f.0 f.2) (λ j o. omega (arith, f.2 j o)) far wide
+    (λ j o. rw (f.2 j o) (hr j (omega arith))) (λ c o. rw f.1 (hc c o)) r l
 
 -- Two tables of codewords in both directions that agree where a known row meets a first column agree everywhere.
 pub table_unique : (cols n m : ℕ) (known : List ℕ) (s t : ℕ → ℕ → ℕ) → Distinct known →

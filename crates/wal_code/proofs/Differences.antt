@@ -1,5 +1,6 @@
 -- Products of differences, over the points before a place, after it, and other than its own.
-use Rattle.std.proofs.Common.{◌≡◌, ◌≢◌, ◌∙◌, sym, ap, ap₂, subst, ℕ, zero, suc, ◌+◌, ◌<◌, ◌≤◌, List, [], ◌∷◌, ◌++◌, length, get_or, take, drop, refl, arith, lit<, Bool, true, false, cond, eqb, eq-eqb, eqb-true, bit_xor, add-one, drop-cons, drop_of_length-le}
+use Rattle.std.proofs.Common.{◌≡◌, ◌≢◌, ◌∙◌, sym, ℕ, zero, suc, ◌+◌, ◌<◌, ◌≤◌, List, [], ◌∷◌, ◌++◌, length, get_or, take, drop, refl, arith, lit<, Bool, true, false, cond, eqb, eq-eqb, bit_xor, add-one, drop-cons, drop_of_length-le}
+use Rattle.std.proofs.lemmas.Bool.{ne_eqb}
 use Rattle.std.proofs.Math.Seq.{take-suc}
 use Rattle.std.specs.List.{AllByRecursion}
 use Rattle.wal_gf.specs.Field.{IsWord, times}
@@ -15,14 +16,17 @@ abbrev pub other : ℕ → ℕ → ℕ → ℕ
 other p w q = cond (eqb p q) 1 (bit_xor w q)
 
 pub other-same : (p w q : ℕ) → p ≡ q → other p w q ≡ 1
-other-same p w q e = ap (λ (b : Bool). cond b 1 (bit_xor w q)) (eq-eqb p q e)
+other-same p w q e = rw (eq-eqb p q e)
 
 pub other-other : (p w q : ℕ) → p ≢ q → other p w q ≡ bit_xor w q
-other-other p w q n = by_test (eqb p q) refl
+other-other p w q n = rw (ne_eqb p q n)
+
+other-lt : (p w q : ℕ) → w < 65536 → q < 65536 → other p w q < 65536
+other-lt p w q l m = by_test (eqb p q)
   where
-    by_test : (b : Bool) → eqb p q ≡ b → other p w q ≡ bit_xor w q
-    by_test true e = absurd (n (eqb-true p q e))
-    by_test false e = ap (λ (b : Bool). cond b 1 (bit_xor w q)) e
+    by_test : (b : Bool) → cond b 1 (bit_xor w q) < 65536
+    by_test true = lit< tt
+    by_test false = xor-lt w q l m
 
 pub product_of_others-drop : (known : List ℕ) (i p w : ℕ) → i < length known →
     product_of_others (drop i known) p w ≡ times (other p w (get_or known i 0)) (product_of_others (drop (i + 1) known) p w)
@@ -49,8 +53,8 @@ product_of_all-append : (known : List ℕ) (q w : ℕ) → AllByRecursion IsWord
 unfolding product_of_all
 product_of_all-append [] q w h l m = times-one (bit_xor w q) (xor-lt w q m l) ∙ sym (one-times (bit_xor w q) (xor-lt w q m l))
 product_of_all-append (r ∷ known) q w h l m =
-    ap (λ (s : ℕ). times (bit_xor w r) s) (product_of_all-append known q w h.1 l m) ∙
-    sym (times_assoc (bit_xor w r) (product_of_all known w) (bit_xor w q) (product_of_all-lt known w) (xor-lt w q m l))
+    rw (product_of_all-append known q w h.1 l m)
+    (sym (times_assoc (bit_xor w r) (product_of_all known w) (bit_xor w q) (product_of_all-lt known w) (xor-lt w q m l)))
 
 words-take : (known : List ℕ) (i : ℕ) → AllByRecursion IsWord known → AllByRecursion IsWord (take i known)
 words-take known zero h = tt
@@ -68,22 +72,18 @@ product_of_all-take known i w h m l =
 none_left_out : (known : List ℕ) (p w : ℕ) → AllByRecursion (λ q. p ≢ q) known → product_of_others known p w ≡ product_of_all known w
 unfolding product_of_others product_of_all
 none_left_out [] p w h = refl
-none_left_out (q ∷ known) p w h =
-    ap₂ (λ (s t : ℕ). times s t) (other-other p w q h.0) (none_left_out known p w h.1)
+none_left_out (q ∷ known) p w h = rw (other-other p w q h.0, none_left_out known p w h.1)
 
 split : (known : List ℕ) (i w : ℕ) → Apart known → w < 65536 → i < length known →
     product_of_others known (get_or known i 0) w ≡
     times (product_of_all (take i known) w) (product_of_all (drop (suc i) known) w)
 unfolding product_of_others product_of_all Apart
-split [] i w d m l = let b : ⊥ = omega arith in absurd b
-split (q ∷ known) zero w d m l =
-    ap₂ (λ (s t : ℕ). times s t) (other-same q w q refl) (none_left_out known q w d.0)
+split [] i w d m l = absurd (omega arith)
+split (q ∷ known) zero w d m l = rw (other-same q w q refl, none_left_out known q w d.0)
 split (q ∷ known) (suc i) w d m l =
-    ap₂ (λ (s t : ℕ). times s t)
-    (other-other (get_or known i 0) w q (λ e. point_at (λ p. q ≢ p) known d.0 i (omega arith) (sym e)))
-    (split known i w d.1 m (omega arith)) ∙
-    sym (times_assoc (bit_xor w q) (product_of_all (take i known) w) (product_of_all (drop (suc i) known) w)
-    (product_of_all-lt (take i known) w) (product_of_all-lt (drop (suc i) known) w))
+    rw (other-other (get_or known i 0) w q (λ e. point_at (λ p. q ≢ p) known d.0 i (omega arith) (sym e)), split known i w d.1 m (omega arith))
+    (sym (times_assoc (bit_xor w q) (product_of_all (take i known) w) (product_of_all (drop (suc i) known) w)
+    (product_of_all-lt (take i known) w) (product_of_all-lt (drop (suc i) known) w)))
 
 -- the product over the others is that over the points before the place times that over those after it
 pub product_of_others-split : (known : List ℕ) (i w : ℕ) → Apart known → w < 65536 → i < length known →
@@ -92,34 +92,18 @@ pub product_of_others-split : (known : List ℕ) (i w : ℕ) → Apart known →
 product_of_others-split known i w d m l = rw add-one (split known i w d m l)
 
 -- what a loop over the points keeps: a is the product so far, b the next one, and t the whole
-
--- at a point that the product takes
 pub taken : (known : List ℕ) (i p w a b t : ℕ) → w < 65536 → get_or known i 0 < 65536 → i < length known →
-    p ≢ get_or known i 0 → b ≡ times a (bit_xor w (get_or known i 0)) →
-    times a (product_of_others (drop i known) p w) ≡ t →
+    b ≡ times a (other p w (get_or known i 0)) → times a (product_of_others (drop i known) p w) ≡ t →
     (b < 65536) × (times b (product_of_others (drop (i + 1) known) p w) ≡ t)
-taken known i p w a b t m q l n is e =
-    let q' : ℕ = get_or known i 0 in
-    let rest : ℕ = product_of_others (drop (i + 1) known) p w in (
-      subst (λ (n : ℕ). n < 65536) (sym is) (times-lt a (bit_xor w q') (xor-lt w q' m q)),
-      ap (λ (s : ℕ). times s rest) is ∙
-          times_assoc a (bit_xor w q') rest (xor-lt w q' m q) (product_of_others-lt (drop (i + 1) known) p w) ∙
-          ap (λ (s : ℕ). times a s)
-          (sym (product_of_others-drop known i p w l ∙ ap (λ (s : ℕ). times s rest) (other-other p w q' n))) ∙ e,
-    )
-
--- and at the point that it leaves out
-pub left_out : (known : List ℕ) (i p w a b t : ℕ) → i < length known → p ≡ get_or known i 0 → a < 65536 → b ≡ a →
-    times a (product_of_others (drop i known) p w) ≡ t →
-    (b < 65536) × (times b (product_of_others (drop (i + 1) known) p w) ≡ t)
-left_out known i p w a b t l n h is e =
-    let rest : ℕ = product_of_others (drop (i + 1) known) p w in (
-      omega arith,
-      ap (λ (s : ℕ). times s rest) is ∙
-          ap (λ (s : ℕ). times a s)
-          (sym (product_of_others-drop known i p w l ∙
-          ap (λ (s : ℕ). times s rest) (other-same p w (get_or known i 0) n) ∙
-          one-times rest (product_of_others-lt (drop (i + 1) known) p w))) ∙ e,
+taken known i p w a b t m q l is e =
+    let low = other-lt p w (get_or known i 0) m q in (
+      rw is (times-lt a (other p w (get_or known i 0)) low),
+      rw (
+        is,
+        times_assoc a (other p w (get_or known i 0)) (product_of_others (drop (i + 1) known) p w) low
+            (product_of_others-lt (drop (i + 1) known) p w),
+        ← product_of_others-drop known i p w l,
+      ) e,
     )
 
 -- once no point is left, the product is whole

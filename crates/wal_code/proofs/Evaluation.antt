@@ -1,7 +1,8 @@
 -- The coefficients give a polynomial's values, and any values at distinct points are those of a polynomial.
-use Rattle.std.proofs.Common.{◌≡◌, ◌≢◌, ◌∙◌, sym, ap, subst, ℕ, zero, suc, ◌<◌, List, [], ◌∷◌, length, get_or, refl, arith, bit_xor, eqb, Bool, true, false, cond, eq-eqb, eqb-true, inl, inr}
+use Rattle.std.proofs.Common.{◌≡◌, ◌≢◌, ◌∙◌, sym, ap, subst, ℕ, zero, suc, ◌<◌, List, [], ◌∷◌, length, get_or, refl, arith, eqb, cond, eq-eqb, inl, inr}
 use Rattle.std.specs.Prelude.{All}
 use Rattle.std.specs.List.{AllByRecursion}
+use Rattle.std.proofs.lemmas.Bool.{ne_eqb}
 use Rattle.std.proofs.lemmas.List.{length-map}
 use Rattle.std.proofs.lemmas.List.Elements.{recursion_from_All, All-from_recursion}
 use Rattle.wal_gf.specs.Field.{IsWord, times, xor_below}
@@ -10,6 +11,7 @@ use Rattle.wal_gf.proofs.Sums.{sum_over}
 use Rattle.wal_gf.proofs.Polynomials.{value, Apart, IsPolynomial}
 use Rattle.wal_gf.proofs.Lagrange.{through, through-polynomial, through-known, Among, interpolation}
 use Rattle.wal_gf.proofs.Lagrange as lagrange
+use Rattle.wal_gf.proofs.Roots as roots
 use Rattle.wal_gf.proofs.Instance.{Element, words, element_of, elements_of, numbers_of, numbers_of-elements, numbers_of-words, element_of-word, value-evaluate}
 use Rattle.wal_code.specs.Codeword.{Distinct, PassesThrough, coefficient, combination, Interpolates}
 use Rattle.wal_code.proofs.Points.{apart, point_at}
@@ -17,17 +19,6 @@ use Rattle.wal_code.proofs.Totals.{xor_below-first, xor_below-same}
 use Rattle.wal_code.proofs.Words.{coefficient-number}
 
 -- the points as elements
-
-pub apart_elements : (known : List ℕ) → AllByRecursion IsWord known → Apart known → Apart (elements_of known)
-unfolding Apart
-apart_elements [] h d = tt
-apart_elements (q ∷ known) h d = (others known h.1 d.0, apart_elements known h.1 d.1)
-  where
-    others : (ps : List ℕ) → AllByRecursion IsWord ps → AllByRecursion (λ p. q ≢ p) ps →
-        AllByRecursion (λ p. element_of q ≢ p) (elements_of ps)
-    others [] l n = tt
-    others (p ∷ ps) l n =
-        (λ e. n.0 (sym (element_of-word q h.0) ∙ ap (λ (x : Element). x.0) e ∙ element_of-word p l.0), others ps l.1 n.1)
 
 everywhere : (ps : List Element) → AllByRecursion (λ x. Unit {0}) ps
 everywhere [] = tt
@@ -46,8 +37,14 @@ sum-number : (known : List ℕ) (f : Element → Element) →
 unfolding sum_over words xor_below
 sum-number [] f = refl
 sum-number (q ∷ known) f =
-    ap (λ (s : ℕ). bit_xor (f (element_of q)).0 s) (sum-number known f) ∙
-    sym (xor_below-first (length known) (λ i. (f (element_of (get_or (q ∷ known) i 0))).0))
+    rw (sum-number known f) (sym (xor_below-first (length known) (λ i. (f (element_of (get_or (q ∷ known) i 0))).0)))
+
+-- the combination of equal values is the same
+pub combination-same : (known : List ℕ) (w : ℕ) (f g : ℕ → ℕ) → ((i : ℕ) → i < length known → f i ≡ g i) →
+    combination known f w ≡ combination known g w
+combination-same known w f g h =
+    xor_below-same (length known) (λ i. times (coefficient known (get_or known i 0) w) (f i))
+    (λ i. times (coefficient known (get_or known i 0) w) (g i)) (λ i l. rw (h i l))
 
 through-number : (known : List ℕ) (f : Element → Element) (w : Element) → AllByRecursion IsWord known →
     (through words (elements_of known) f w).0 ≡ combination known (λ i. (f (element_of (get_or known i 0))).0) w.0
@@ -77,17 +74,15 @@ interpolates known w d h m cs few ws =
     let byRec : AllByRecursion IsWord cs = recursion_from_All IsWord cs ws in
     sym (evaluate-number cs (w, m) byRec) ∙
     ap (λ (x : Element). x.0)
-    (interpolation words (λ x. Unit {0}) (elements_of known) (value words es) (apart_elements known h (apart known d))
+    (interpolation words (λ x. Unit {0}) (elements_of known) (value words es) (roots.apart known h d)
     (everywhere (elements_of known))
     (es, omega (arith, length-map cs element_of, length-map known element_of, few), λ x p. refl) (w, m) tt) ∙
     through-number known (value words es) (w, m) h ∙
-    xor_below-same (length known)
-    (λ i. times (coefficient known (get_or known i 0) w) (value words es (element_of (get_or known i 0))).0)
-    (λ i. times (coefficient known (get_or known i 0) w) (evaluate cs (get_or known i 0)))
+    combination-same known w (λ i. (value words es (element_of (get_or known i 0))).0)
+    (λ i. evaluate cs (get_or known i 0))
     (λ i l.
-    ap (λ (s : ℕ). times (coefficient known (get_or known i 0) w) s)
-    (evaluate-number cs (element_of (get_or known i 0)) byRec ∙
-    ap (λ (s : ℕ). evaluate cs s) (element_of-word (get_or known i 0) (point_at IsWord known h i l))))
+    evaluate-number cs (element_of (get_or known i 0)) byRec ∙
+    ap (evaluate cs) (element_of-word (get_or known i 0) (point_at IsWord known h i l)))
 
 -- the value that stands at the place of p, or 0 where p is no known point
 unfoldable pub value_at : List ℕ → List ℕ → ℕ → ℕ
@@ -95,24 +90,15 @@ value_at [] values p = 0
 value_at (q ∷ known) [] p = 0
 value_at (q ∷ known) (v ∷ values) p = cond (eqb p q) v (value_at known values p)
 
-eqb-other : (p q : ℕ) → p ≢ q → eqb p q ≡ false
-eqb-other p q n = by_test (eqb p q) refl
-  where
-    by_test : (b : Bool) → eqb p q ≡ b → eqb p q ≡ false
-    by_test true e = absurd (n (eqb-true p q e))
-    by_test false e = e
-
 value_at-place : (known values : List ℕ) → Apart known → length values ≡ length known → (i : ℕ) → i < length known →
     value_at known values (get_or known i 0) ≡ get_or values i 0
 unfolding value_at Apart
-value_at-place [] values d e i l = let b : ⊥ = omega arith in absurd b
-value_at-place (q ∷ known) [] d e i l = let b : ⊥ = omega arith in absurd b
-value_at-place (q ∷ known) (v ∷ values) d e zero l =
-    ap (λ (b : Bool). cond b v (value_at known values q)) (eq-eqb q q refl)
+value_at-place [] values d e i l = absurd (omega arith)
+value_at-place (q ∷ known) [] d e i l = absurd (omega arith)
+value_at-place (q ∷ known) (v ∷ values) d e zero l = rw (eq-eqb q q refl)
 value_at-place (q ∷ known) (v ∷ values) d e (suc i) l =
-    ap (λ (b : Bool). cond b v (value_at known values (get_or known i 0)))
-    (eqb-other (get_or known i 0) q (λ f. point_at (λ p. q ≢ p) known d.0 i (omega arith) (sym f))) ∙
-    value_at-place known values d.1 (omega arith) i (omega arith)
+    rw (ne_eqb (get_or known i 0) q (λ f. point_at (λ p. q ≢ p) known d.0 i (omega arith) (sym f)))
+    (value_at-place known values d.1 (omega arith) i (omega arith))
 
 -- Any words at distinct points are the values of a polynomial, and it has the combination of them at each other point.
 pub solution : (known values : List ℕ) → Distinct known → AllByRecursion IsWord known → AllByRecursion IsWord values →
@@ -132,27 +118,22 @@ solution known values d h v e =
         few = omega (arith, length-map p.0 (λ (x : Element). x.0), length-map known element_of, p.1);
         words = All-from_recursion IsWord (numbers_of p.0) (numbers_of-words p.0);
         there = λ i l.
-            ap (λ (s : ℕ). evaluate (numbers_of p.0) s) (sym (element_of-word (get_or known i 0) (point_at IsWord known h i l))) ∙
+            ap (evaluate (numbers_of p.0)) (sym (element_of-word (get_or known i 0) (point_at IsWord known h i l))) ∙
             sym (value-evaluate p.0 (element_of (get_or known i 0))) ∙
             ap (λ (x : Element). x.0)
             (p.2 (element_of (get_or known i 0)) tt ∙
-            through-known words (elements_of known) f (apart_elements known h (apart known d)) (element_of (get_or known i 0)) (among known i l)) ∙
+            through-known words (elements_of known) f (roots.apart known h d) (element_of (get_or known i 0))
+            (among known i l)) ∙
             at i l;
       },
       λ w m.
           sym (value-evaluate p.0 (w, m)) ∙ ap (λ (x : Element). x.0) (p.2 (w, m) tt) ∙ through-number known f (w, m) h ∙
-          xor_below-same (length known)
-          (λ i. times (coefficient known (get_or known i 0) w) (f (element_of (get_or known i 0))).0)
-          (λ i. times (coefficient known (get_or known i 0) w) (get_or values i 0))
-          (λ i l. ap (λ (s : ℕ). times (coefficient known (get_or known i 0) w) s) (at i l)),
+          combination-same known w (λ i. (f (element_of (get_or known i 0))).0) (λ i. get_or values i 0) at,
     )
 
 -- Where a polynomial passes through the values, the combination of the values is its value.
 pub combined : (known values cs : List ℕ) (w : ℕ) → Distinct known → AllByRecursion IsWord known → w < 65536 →
     PassesThrough known values cs → combination known (λ i. get_or values i 0) w ≡ evaluate cs w
 combined known values cs w d h m p =
-    xor_below-same (length known)
-    (λ i. times (coefficient known (get_or known i 0) w) (get_or values i 0))
-    (λ i. times (coefficient known (get_or known i 0) w) (evaluate cs (get_or known i 0)))
-    (λ i l. ap (λ (s : ℕ). times (coefficient known (get_or known i 0) w) s) (sym (p.there i l))) ∙
+    combination-same known w (λ i. get_or values i 0) (λ i. evaluate cs (get_or known i 0)) (λ i l. sym (p.there i l)) ∙
     sym (interpolates known w d h m cs p.few p.words)

@@ -1,6 +1,6 @@
 -- A coefficient of interpolation as a fraction: a product of differences over another.
-use Rattle.std.proofs.Common.{◌≡◌, ◌≢◌, ◌∙◌, sym, ap, ap₂, List, [], ◌∷◌, refl, Bool, true, false, cond, inl, inr}
-use Rattle.wal_gf.proofs.Algebra.{Field, unit-times, times_left_comm, no_divisors, equal_or_not, same_of_sum, same-other, times-nothing}
+use Rattle.std.proofs.Common.{◌≡◌, ◌≢◌, ◌∙◌, sym, List, [], ◌∷◌, refl, Bool, true, false, cond, inl, inr}
+use Rattle.wal_gf.proofs.Algebra.{Field, unit-times, times_left_comm, no_divisors, equal_or_not, same_of_sum, same-other}
 use Rattle.wal_gf.proofs.Lagrange.{factor, coefficient}
 
 -- w + q, or the unit where q is p
@@ -15,14 +15,9 @@ others F (q ∷ known) p w = F.times (difference F p w q) (others F known p w)
 module _ {K : Type 0} (F : Field K) where
   open F use {nothing, unit, plus, times, inverse, same, times_assoc, times_comm, times-unit, times-inverse, same-to, same-from}
 
-  -- the unit differs from nothing where any element does
-  unit-other : (a : K) → a ≢ nothing → unit ≢ nothing
-  unit-other a n e = n (sym (times-unit a) ∙ ap (λ (s : K). times a s) e ∙ times-nothing F a)
-
   inverse-only : (a b : K) → a ≢ nothing → times a b ≡ unit → b ≡ inverse a
   inverse-only a b n e =
-      sym (unit-times F b) ∙ ap (λ (s : K). times s b) (sym (times-inverse a n) ∙ times_comm a (inverse a)) ∙
-      times_assoc (inverse a) a b ∙ ap (λ (s : K). times (inverse a) s) e ∙ times-unit (inverse a)
+      cc (unit-times F b, times-inverse a n, times_comm a (inverse a), times_assoc (inverse a) a b, times-unit (inverse a))
 
   inverse-unit : unit ≢ nothing → inverse unit ≡ unit
   inverse-unit n = sym (inverse-only unit unit n (times-unit unit))
@@ -30,20 +25,20 @@ module _ {K : Type 0} (F : Field K) where
   product-other : (a b : K) → a ≢ nothing → b ≢ nothing → times a b ≢ nothing
   product-other a b n m e = m (no_divisors F a b n e)
 
+  grouped : (a b c d : K) → times (times a b) (times c d) ≡ times (times a c) (times b d)
+  grouped a b c d = simp (times_assoc, times_left_comm F)
+
   inverse-times : (a b : K) → a ≢ nothing → b ≢ nothing → inverse (times a b) ≡ times (inverse a) (inverse b)
   inverse-times a b n m =
       sym (inverse-only (times a b) (times (inverse a) (inverse b)) (product-other a b n m)
-      (grouped a b (inverse a) (inverse b) ∙ ap₂ (λ (s t : K). times s t) (times-inverse a n) (times-inverse b m) ∙ times-unit unit))
-    where
-      grouped : (p q r s : K) → times (times p q) (times r s) ≡ times (times p r) (times q s)
-      grouped p q r s = simp (times_assoc, times_left_comm F)
+      (grouped a b (inverse a) (inverse b) ∙ rw (times-inverse a n, times-inverse b m) (times-unit unit)))
 
   difference-other : unit ≢ nothing → (p q : K) → difference F p p q ≢ nothing
   unfolding difference
   difference-other n p q =
       elim (equal_or_not F p q) [
-        | inl e ↦ λ h. n (sym (ap (λ (b : Bool). cond b unit (plus p q)) (same-from p q e)) ∙ h)
-        | inr d ↦ λ h. d (same_of_sum F p q (sym (ap (λ (b : Bool). cond b unit (plus p q)) (same-other F p q d)) ∙ h))
+        | inl e ↦ λ h. n (rw (same-from p q e, difference) at h)
+        | inr d ↦ λ h. d (same_of_sum F p q (rw (same-other F p q d, difference) at h))
       ]
 
   -- the differences of a point from the others are not nothing, nor is their product
@@ -66,10 +61,11 @@ module _ {K : Type 0} (F : Field K) where
   unfolding coefficient others
   coefficient-fraction n [] p w = sym (unit-times F (inverse unit) ∙ inverse-unit n)
   coefficient-fraction n (q ∷ known) p w =
-      ap₂ (λ (s t : K). times s t) (factor-fraction n p w q) (coefficient-fraction n known p w) ∙
-      grouped (difference F p w q) (inverse (difference F p p q)) (others F known p w) (inverse (others F known p p)) ∙
-      ap (λ (s : K). times (times (difference F p w q) (others F known p w)) s)
-      (sym (inverse-times (difference F p p q) (others F known p p) (difference-other n p q) (others-own n known p)))
-    where
-      grouped : (a b c d : K) → times (times a b) (times c d) ≡ times (times a c) (times b d)
-      grouped a b c d = simp (times_assoc, times_left_comm F)
+      rw (
+        factor-fraction n p w q,
+        coefficient-fraction n known p w,
+        inverse-times (difference F p p q) (others F known p p) (difference-other n p q) (others-own n known p),
+        coefficient,
+        others,
+      )
+      (grouped (difference F p w q) (inverse (difference F p p q)) (others F known p w) (inverse (others F known p p)))

@@ -1,5 +1,5 @@
 -- Rows of weights: what they sum to, and how a table grows by them.
-use Rattle.std.proofs.Common.{◌≡◌, ◌∙◌, sym, ap, ℕ, List, ◌+◌, ◌*◌, ◌<◌, ◌≤◌, ◌++◌, length, get_or, slice_index, arith, length-append, inl, inr}
+use Rattle.std.proofs.Common.{◌≡◌, ◌∙◌, ap, ℕ, List, ◌+◌, ◌*◌, ◌<◌, ◌≤◌, ◌++◌, length, get_or, slice_index, arith, length-append, inl, inr}
 use Rattle.std.specs.Prelude.{All}
 use Rattle.std.proofs.lemmas.List.{get_or_append_left, get_or-append-add}
 use Rattle.std.proofs.Math.Nat.{mul-le-mul_right, eq-or-lt_of_le}
@@ -16,10 +16,10 @@ use Rattle.wal_code.proofs.Totals.{xor_below-same}
 pub weighted : (known values : List ℕ) (weights : List Gf) (w : ℕ) → length values ≡ length known → AreWeights known w weights →
     xor_below (length values) (λ i. times (element_at weights i) (slice_index values i)) ≡ combination known (slice_index values) w
 weighted known values weights w e h =
-    ap (λ (n : ℕ). xor_below n (λ i. times (element_at weights i) (slice_index values i))) e ∙
-    xor_below-same (length known) (λ i. times (element_at weights i) (slice_index values i))
+    rw e
+    (xor_below-same (length known) (λ i. times (element_at weights i) (slice_index values i))
     (λ i. times (coefficient known (slice_index known i) w) (slice_index values i))
-    (λ i l. ap (λ (s : ℕ). times s (slice_index values i)) (h i l))
+    (λ i l. ap (λ (s : ℕ). times s (slice_index values i)) (h i l)))
 
 -- the first n rows of a table have their coefficients
 abbrev pub HasRows : List ℕ → List ℕ → ℕ → List Gf → Type 0
@@ -33,21 +33,13 @@ pub row_added : (known wanted : List ℕ) (n : ℕ) (table row : List Gf) → Ha
     length row ≡ length known → AreWeights known (slice_index wanted n) row → HasRows known wanted (n + 1) (table ++ row)
 row_added known wanted n table row h e a = (
   omega (arith, length-append table row, h.0),
-  λ w k l m. elim (eq-or-lt_of_le (let b : w ≤ n = omega arith in b)) [ inl f ↦ new_row w k f m | inr f ↦ old_row w k f m ],
-)
-  where
-    old_row : (w k : ℕ) → w < n → k < length known →
-        element_at (table ++ row) (w * length known + k) ≡ coefficient known (slice_index known k) (slice_index wanted w)
-    old_row w k f m =
+  λ w k l m. elim (eq-or-lt_of_le (let b : w ≤ n = omega arith in b)) [
+    | inl f ↦ rw (f, ← h.0) (ap (λ (g : Gf). g.0) (get_or-append-add table row k (record { 0 = 0 })) ∙ a k m)
+    | inr f ↦
         let below : (w + 1) * length known ≤ n * length known = mul-le-mul_right (length known) (omega arith) in
         ap (λ (g : Gf). g.0) (get_or_append_left table row (record { 0 = 0 }) (w * length known + k) (omega (arith, h.0, below))) ∙ h.1 w k f m
-
-    new_row : (w k : ℕ) → w ≡ n → k < length known →
-        element_at (table ++ row) (w * length known + k) ≡ coefficient known (slice_index known k) (slice_index wanted w)
-    new_row w k f m =
-        ap (λ (i : ℕ). element_at (table ++ row) (i + k)) (ap (λ (i : ℕ). i * length known) f ∙ sym h.0) ∙
-        ap (λ (g : Gf). g.0) (get_or-append-add table row k (record { 0 = 0 })) ∙ a k m ∙
-        ap (λ (i : ℕ). coefficient known (slice_index known k) (slice_index wanted i)) (sym f)
+  ],
+)
 
 pub table_interpolates : (known wanted : List ℕ) (table : List Gf) → IsTable known wanted table → (w : ℕ) → w < length wanted →
     Interpolates known (slice_index wanted w)

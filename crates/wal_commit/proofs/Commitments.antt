@@ -1,9 +1,8 @@
 -- The spelling of a metadata in its two parts, and the pairs of roots one after the other.
-use Rattle.std.proofs.Common.{◌≡◌, ℕ, ◌+◌, ◌-◌, ◌*◌, ◌<◌, ◌≤◌, List, [], ◌∷◌, ◌++◌, length, length-append, get_or, map, take, drop, reverse, refl, sym, subst, ◌∙◌, ap, append_assoc, arith, append-nil}
-use Rattle.std.proofs.lemmas.List.FromFn.{map-range_with_len_more, length-map-range_with_len, get_or-map-range_with_len}
-use Rattle.std.proofs.lemmas.List.{map-id, take_at, drop_at, length-reverse, get_or-reverse, same_lists}
+use Rattle.std.proofs.Common.{◌≡◌, ℕ, ◌+◌, ◌-◌, ◌*◌, ◌<◌, ◌≤◌, List, [], ◌∷◌, ◌++◌, length, length-append, get_or, map, take, drop, reverse, refl, sym, subst, ◌∙◌, ap, append_assoc, arith}
+use Rattle.std.proofs.lemmas.List.FromFn.{length-map-range_with_len, get_or-map-range_with_len}
+use Rattle.std.proofs.lemmas.List.{take_at, drop_at, length-reverse, get_or-reverse, same_lists}
 use Rattle.std.specs.List.{AllByRecursion, flat_map, range_with_len}
-use Rattle.std.proofs.lemmas.Grind.{flat_map-append}
 use Rattle.wal_shape.specs.declared.axis.Axis.TheVariants.{Secondary}
 use Rattle.wal_shape.specs.declared.shape.Format.{Format}
 use Rattle.wal_shape.specs.declared.shape.Format.TheVariants.{One, Two}
@@ -14,6 +13,7 @@ use Rattle.wal_shape.proofs.MetadataLaws.{length-metadata_text}
 use Rattle.wal_tree.specs.Tree.{root_over}
 use Rattle.wal_tree.proofs.Sizes.{length-root_over}
 use Rattle.wal_matrix.specs.Matrix.{row_of, column_of}
+use Rattle.wal_matrix.proofs.Runs.{pieces_more}
 use Rattle.wal_commit.specs.Identifier.{IsMetadataOf, head_text, held_pairs, metadata_over}
 use Rattle.wal_commit.specs.inside.Identifier.{pair_over}
 
@@ -42,10 +42,7 @@ pairs_text-map f g (x ∷ xs) = ap (λ l. f x ++ g x ++ l) (pairs_text-map f g x
 
 -- the pieces of one more number
 pub flat_map-more : (f : ℕ → List ℕ) (n : ℕ) → flat_map f (range_with_len 0 (n + 1)) ≡ flat_map f (range_with_len 0 n) ++ f n
-flat_map-more f n =
-    ap (flat_map f) (sym (map-id (range_with_len 0 (n + 1))) ∙ map-range_with_len_more (λ (i : ℕ). i) 0 n n (omega arith) ∙ ap (λ l. l ++ n ∷ []) (map-id (range_with_len 0 n)))
-    ∙ flat_map-append f (range_with_len 0 n) (n ∷ [])
-    ∙ ap (λ l. flat_map f (range_with_len 0 n) ++ l) (append-nil (f n))
+flat_map-more f n = pieces_more f n
 
 -- secondary roots that are made by their index stand in the order of the shards that hold them
 pub held_order-map : (format : Format) (f : ℕ) (g : ℕ → List ℕ)

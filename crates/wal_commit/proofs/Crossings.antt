@@ -1,5 +1,5 @@
 -- The symbol of an opening and the own symbol of a matrix, under the root of one line.
-use Rattle.std.proofs.Common.{◌≡◌, ◌≢◌, ℕ, ◌+◌, ◌*◌, ◌/◌, ◌<◌, ◌≤◌, List, length, Some, sym, ap, subst, ◌∙◌, arith}
+use Rattle.std.proofs.Common.{◌≡◌, ◌≢◌, ℕ, ◌+◌, ◌*◌, ◌/◌, ◌<◌, ◌≤◌, List, length, sym, ap, subst, ◌∙◌, arith}
 use Rattle.std.proofs.Math.Nat.{mul-div_left, mul-le-mul_right}
 use Rattle.wal_kernel.specs.Region.{region}
 use Rattle.wal_shape.specs.declared.axis.Axis.{Axis}
@@ -36,37 +36,20 @@ pub line_count : (n size long place : ℕ) → 0 < size → long ≡ n * size �
 line_count n size long place some long_is below =
     let count : long / size ≡ n = ap (λ l. l / size) long_is ∙ mul-div_left n some in omega (arith, count)
 
--- a line's own symbol, and its path
-own_is_there : (s size index : ℕ) (word line own : List ℕ) → size ≡ s → line ≡ word → own ≡ region size line index → own ≡ region s word index
-own_is_there s size index word line own s_is line_is own_is = own_is ∙ ap (λ t. region t line index) s_is ∙ ap (λ (l : List ℕ). region s l index) line_is
-
-way_is_there : (digest : List ℕ → List ℕ) (s size index : ℕ) (word line way : List ℕ) → size ≡ s → line ≡ word → way ≡ path_over digest size line index →
-    way ≡ path_over digest s word index
-way_is_there digest s size index word line way s_is line_is way_is =
-    way_is ∙ ap (λ t. path_over digest t line index) s_is ∙ ap (λ (l : List ℕ). path_over digest s l index) line_is
-
 -- the path of a given symbol and that of a line's own symbol lead to the line's root
 pub symbols_meet : (digest : List ℕ → List ℕ) (size_is : (text : List ℕ) → length (digest text) ≡ 32) (n s count size index : ℕ) (word line own way symbol path : List ℕ) →
     count ≡ n → size ≡ s → line ≡ word → length word ≡ n * s → 0 < s → index < n → own ≡ region size line index → way ≡ path_over digest size line index →
     IsPathTo digest (root_over digest s word) n index symbol path → LeadToOneRoot digest count index symbol path own way
 symbols_meet digest size_is n s count size index word line own way symbol path count_is s_is line_is long some below own_is way_is given =
-    let Meet : ℕ → List ℕ → List ℕ → Type 0 = λ c o w. LeadToOneRoot digest c index symbol path o w in
-    let base : Meet n (region s word index) (path_over digest s word index) = record {
-      root = root_over digest s word;
-      left = given;
-      right = path_to_symbol digest size_is n s index word some long below;
-    } in
-    subst (λ c. Meet c own way) (sym count_is)
-    (subst (λ (o : List ℕ). Meet n o way) (sym (own_is_there s size index word line own s_is line_is own_is))
-    (subst (λ (w : List ℕ). Meet n (region s word index) w) (sym (way_is_there digest s size index word line way s_is line_is way_is)) base))
+    let right = path_to_symbol digest size_is n s index word some long below in
+    rw (count_is, own_is, way_is, s_is, line_is) (record { root = root_over digest s word; left = given; right = right })
 
 -- texts that meet on the path of a given symbol and on that of the line's own symbol
 pub texts_meet : (digest : List ℕ → List ℕ) (s size index : ℕ) (word line own way symbol path left right : List ℕ) → size ≡ s → line ≡ word →
     own ≡ region size line index → way ≡ path_over digest size line index → MeetOnPaths digest index symbol path own way left right →
     MeetOnPaths digest index symbol path (region s word index) (path_over digest s word index) left right
 texts_meet digest s size index word line own way symbol path left right s_is line_is own_is way_is meet =
-    subst (λ (w : List ℕ). MeetOnPaths digest index symbol path (region s word index) w left right) (way_is_there digest s size index word line way s_is line_is way_is)
-    (subst (λ (o : List ℕ). MeetOnPaths digest index symbol path o way left right) (own_is_there s size index word line own s_is line_is own_is) meet)
+    rw (own_is, way_is, s_is, line_is) at meet
 
 -- an opening that the metadata over a matrix commits leads to the root of the line that crosses the target there
 pub opening_leads : (digest : List ℕ → List ℕ) (shape : BlobShape) (e : List ℕ) (axis : Axis) (index : ℕ) (o : Opening)
@@ -77,8 +60,8 @@ unfolding metadata_over
 opening_leads digest shape e axis index o holds =
     let line = line_of (crossing axis) shape.f (symbol_size shape.f shape.length) e o.cross in
     let root = root_over digest (symbol_size shape.f shape.length) line in
-    let both : Some holds.root ≡ Some root = sym holds.committed ∙ root_of_line digest (crossing axis) shape e o.cross holds.cross in
-    let one : holds.root ≡ root = cc in
+    let own = root_of_line digest (crossing axis) shape e o.cross holds.cross in
+    let one : holds.root ≡ root = cc (holds.committed, own) in
     subst (λ (r : List ℕ). IsPathTo digest r (shard_count shape.f) index o.symbol o.path) one holds.leads
 
 -- its target and its cross are shards'
@@ -91,6 +74,4 @@ opening_within digest shape e axis index o holds = (holds.within, holds.cross)
 pub symbols_apart : (axis : Axis) (f s size index cross : ℕ) (e line own symbol : List ℕ) → length e ≡ shard_count f * shard_count f * s → index < shard_count f → cross < shard_count f →
     size ≡ s → line ≡ line_of (crossing axis) f s e cross → own ≡ region size line index → symbol ≢ region s (line_of axis f s e index) cross → symbol ≢ own
 symbols_apart axis f s size index cross e line own symbol long index_below cross_below size_is line_is own_is apart same =
-    apart
-    (same ∙ own_is ∙ ap (λ t. region t line index) size_is ∙ ap (λ (l : List ℕ). region s l index) line_is
-    ∙ sym (lines_cross axis f s e index cross long index_below cross_below))
+    apart (same ∙ rw (own_is, size_is, line_is) (sym (lines_cross axis f s e index cross long index_below cross_below)))

@@ -1,5 +1,5 @@
 -- The slivers and the openings that an honest writer hands out hold, and a held sliver has one codeword.
-use Rattle.std.proofs.Common.{◌≡◌, ℕ, ◌*◌, ◌/◌, ◌<◌, ◌≤◌, List, length, map, take, drop, slice_get, Some, option_map, refl, sym, ap, subst, ◌∙◌, arith}
+use Rattle.std.proofs.Common.{◌≡◌, ℕ, ◌*◌, ◌/◌, ◌<◌, ◌≤◌, List, length, map, slice_get, Some, option_map, refl, sym, ap, subst, ◌∙◌, arith}
 use Rattle.std.specs.List.{range_with_len}
 use Rattle.std.proofs.Math.Nat.{mul_comm, mul-div_left}
 use Rattle.std.proofs.lemmas.Option.{slice_get-map, slice_get_read}
@@ -75,9 +75,7 @@ pub path_to_symbol : (digest : List ℕ → List ℕ) (size_is : (text : List �
     → length word ≡ n * s → place < n → IsPathTo digest (root_over digest s word) n place (region s word place) (path_over digest s word place)
 path_to_symbol digest size_is n s place word some long h =
     let count : length word / s ≡ n = ap (λ (k : ℕ). k / s) long ∙ mul-div_left n some in
-    let P : ℕ → ℕ → Type 0 = λ k at. IsPathTo digest (root_over digest s word) k place (take s (drop at word)) (path_over digest s word place) in
-    let there : place < length word / s = omega (arith, count, h) in
-    subst (λ (k : ℕ). P k (s * place)) count (subst (λ (at : ℕ). P (length word / s) at) (mul_comm place s) (IsPathTo-path_of digest size_is s place word there))
+    rw (← count, mul_comm s place) (IsPathTo-path_of digest size_is s place word (omega (arith, count, h)))
 
 -- the opening that a held sliver gives holds
 pub honest_opening : (digest : List ℕ → List ℕ) (size_is : (text : List ℕ) → length (digest text) ≡ 32) (m : BlobMetadata) (axis : Axis) (index : ℕ) (sliver : List ℕ)
@@ -89,15 +87,13 @@ honest_opening digest size_is m axis index sliver o few h held is =
     let least = symbol_size-least m.f m.length in
     let some : 0 < s = (let wide = least.positive in omega arith) in
     let long : length is.word ≡ n * s = is.is_word.coded.size in
-    let P : List ℕ → List ℕ → Type 0 = λ symbol path. IsPathTo digest (root_over digest s is.word) n index symbol path in
-    let leads = path_to_symbol digest size_is n s index is.word some long h in
     record {
       within = h;
       cross = held.within;
       size = ap length is.symbol ∙ region_long s index is.word (omega (arith, run_fits index n s h, long));
       root = root_over digest s is.word;
       committed = held_root digest m (crossing axis) o.cross sliver is.word few held is.is_word;
-      leads = subst (λ (p : List ℕ). P o.symbol p) (sym is.path) (subst (λ (x : List ℕ). P x (path_over digest s is.word index)) (sym is.symbol) leads);
+      leads = rw (is.symbol, is.path) (path_to_symbol digest size_is n s index is.word some long h);
     }
 
 -- the opening that a sliver of a matrix gives has the symbol of the target's own line

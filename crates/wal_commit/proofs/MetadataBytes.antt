@@ -23,27 +23,16 @@ use Rattle.wal_commit.proofs.OneDigest.{IsDigest, root_over_32, byte_first}
 -- ---- numbers
 
 pub number16_bytes : (n : ℕ) → AreBytes (number_text w16 n)
-number16_bytes n zero = omega arith
-number16_bytes n (suc zero) = omega arith
 number16_bytes n (suc (suc i)) = omega arith
+number16_bytes n _ = omega arith
 
 pub number32_bytes : (n : ℕ) → AreBytes (number_text w32 n)
-number32_bytes n zero = omega arith
-number32_bytes n (suc zero) = omega arith
-number32_bytes n (suc (suc zero)) = omega arith
-number32_bytes n (suc (suc (suc zero))) = omega arith
 number32_bytes n (suc (suc (suc (suc i)))) = omega arith
+number32_bytes n _ = omega arith
 
 pub number64_bytes : (n : ℕ) → AreBytes (number_text w64 n)
-number64_bytes n zero = omega arith
-number64_bytes n (suc zero) = omega arith
-number64_bytes n (suc (suc zero)) = omega arith
-number64_bytes n (suc (suc (suc zero))) = omega arith
-number64_bytes n (suc (suc (suc (suc zero)))) = omega arith
-number64_bytes n (suc (suc (suc (suc (suc zero))))) = omega arith
-number64_bytes n (suc (suc (suc (suc (suc (suc zero)))))) = omega arith
-number64_bytes n (suc (suc (suc (suc (suc (suc (suc zero))))))) = omega arith
 number64_bytes n (suc (suc (suc (suc (suc (suc (suc (suc i)))))))) = omega arith
+number64_bytes n _ = omega arith
 
 pub number8_bytes : (n : ℕ) → AreBytes (number_text w8 n)
 number8_bytes n zero = omega arith

@@ -1,5 +1,5 @@
 -- Where no two texts collide, a root has one content, a path one leaf, and an identifier one metadata.
-use Rattle.std.proofs.Common.{◌≡◌, ℕ, zero, suc, ◌+◌, ◌*◌, ◌/◌, ◌%◌, ◌<◌, ◌≤◌, List, [], ◌∷◌, ◌++◌, length, get_or, take, drop, replicate, All, slice_get, Some, refl, sym, ap, ap₂, subst, ◌∙◌, arith, ⊎_elim, inl, inr, take-append-drop}
+use Rattle.std.proofs.Common.{◌≡◌, ℕ, zero, suc, ◌+◌, ◌*◌, ◌/◌, ◌%◌, ◌<◌, ◌≤◌, List, [], ◌∷◌, ◌++◌, length, get_or, take, drop, All, refl, sym, ap, ap₂, subst, ◌∙◌, arith, ⊎_elim, inl, inr, take-append-drop}
 use Rattle.std.specs.List.{concat}
 use Rattle.std.proofs.Math.Nat.{mul-div_left}
 use Rattle.std.proofs.lemmas.Bool.{cases_lt}
@@ -9,8 +9,8 @@ use Rattle.wal_shape.specs.declared.axis.Axis.{Axis}
 use Rattle.wal_shape.specs.declared.opening.Opening.{Opening}
 use Rattle.wal_shape.specs.declared.shape.Format.{Format}
 use Rattle.wal_shape.specs.declared.shape.Format.TheVariants.{One, Two}
-use Rattle.wal_shape.specs.Shape.{shard_count, sliver_symbols, symbol_size, crossing}
-use Rattle.wal_shape.specs.Metadata.{BlobMetadata, IsMetadata, roots_of}
+use Rattle.wal_shape.specs.Shape.{shard_count, sliver_symbols, symbol_size}
+use Rattle.wal_shape.specs.Metadata.{BlobMetadata, IsMetadata}
 use Rattle.wal_shape.specs.Spelling.{metadata_text}
 use Rattle.wal_shape.proofs.ShapeLaws.{symbol_size-least}
 use Rattle.wal_shape.proofs.MetadataLaws.{metadata_text-injective}
@@ -23,6 +23,7 @@ use Rattle.wal_tree.proofs.Collisions.{append_front, append_back}
 use Rattle.wal_tree.proofs.Roots.{length-pair_up}
 use Rattle.wal_matrix.proofs.Codewords.{AreBytes, bytes_of_part}
 use Rattle.wal_matrix.proofs.MatrixLaws.{bytes_within}
+use Rattle.wal_matrix.proofs.RowLaws.{zeros_after}
 use Rattle.wal_matrix.proofs.Words.{bytes_joined}
 use Rattle.wal_commit.specs.Held.{HoldsSliver, HoldsOpening}
 use Rattle.wal_commit.specs.Identifier.{head_text, held_pairs, identifier_of, identifier_tag, identifier_text, pair_root}
@@ -63,12 +64,7 @@ pub record Is32 (d : List ℕ) : Type 0 where
   pub bytes : AreBytes d
 
 empty_bytes : AreBytes empty_entry
-empty_bytes = bytes_of_all empty_entry (All-from_get_or IsByte empty_entry 0 (λ i l. zeros 32 i))
-  where
-    zeros : (n i : ℕ) → get_or (replicate n 0) i 0 < 256
-    zeros zero i = omega arith
-    zeros (suc n) zero = omega arith
-    zeros (suc n) (suc i) = zeros n i
+empty_bytes i = rw (zeros_after [] 32 i) (omega arith)
 
 -- a digest has 32 bytes
 pub record IsDigest (digest : List ℕ → List ℕ) : Type 0 where
@@ -132,9 +128,6 @@ module _ (digest : List ℕ → List ℕ) (is : IsDigest digest) where
   tag_of One = omega arith
   tag_of Two = omega arith
 
-  tag_small : (m : BlobMetadata) → identifier_tag m.format < 256
-  tag_small m = omega (arith, tag_of m.format)
-
   parts_bytes : (m : BlobMetadata) → AreBytes (metadata_text m) → AreBytes (head_text m.format m.f m.length ++ held_pairs m)
   parts_bytes m are = subst AreBytes (metadata_text-parts m) are
 
@@ -143,7 +136,8 @@ module _ (digest : List ℕ → List ℕ) (is : IsDigest digest) where
 
   pub text_bytes : (m : BlobMetadata) → AreBytes (metadata_text m) → AreBytes (identifier_text digest m)
   text_bytes m are =
-      byte_first (identifier_tag m.format) (head_text m.format m.f m.length ++ pair_root digest m) (tag_small m)
+      byte_first (identifier_tag m.format) (head_text m.format m.f m.length ++ pair_root digest m)
+      (omega (arith, tag_of m.format))
       (bytes_joined (head_text m.format m.f m.length) (pair_root digest m) (bytes_before (head_text m.format m.f m.length) (held_pairs m) (parts_bytes m are))
       (root_over_32 64 (held_pairs m) (pairs_bytes m are)).bytes)
 
@@ -159,41 +153,26 @@ module _ (digest : List ℕ → List ℕ) (is : IsOneToOne digest) where
       let e = ap (drop 1) (same_text (1 ∷ (a ++ b)) (1 ∷ (c ++ d)) (node_bytes digest is.digests a b is_a is_b) (node_bytes digest is.digests c d is_c is_d) same) in
       (append_front a c b d (is_a.size ∙ sym is_c.size) e, append_back a c b d (is_a.size ∙ sym is_c.size) e)
 
-  head_of : {X : Type 0} (x y : X) (xs ys : List X) → x ∷ xs ≡ y ∷ ys → x ≡ y
-  head_of x y xs ys e = ap (λ l. get_or l 0 x) e
-
-  tail_of : {X : Type 0} (x y : X) (xs ys : List X) → x ∷ xs ≡ y ∷ ys → xs ≡ ys
-  tail_of x y xs ys e = ap (drop 1) e
-
   -- a level has one level below it
   one_below : (xs ys : List (List ℕ)) → length xs ≡ length ys → All Is32 xs → All Is32 ys → pair_up digest xs ≡ pair_up digest ys → xs ≡ ys
   one_below [] [] long all_x all_y same = refl
-  one_below [] (c ∷ ys) long all_x all_y same = absurd (omega arith)
-  one_below (a ∷ xs) [] long all_x all_y same = absurd (omega arith)
   one_below (a ∷ []) (c ∷ []) long all_x all_y same =
-      let e = one_node a empty_entry c empty_entry (All-head Is32 a [] all_x) (empty_32 digest is.digests) (All-head Is32 c [] all_y) (empty_32 digest is.digests)
-      (head_of (node digest a empty_entry) (node digest c empty_entry) [] [] same) in
+      let e = one_node a empty_entry c empty_entry (All-head Is32 a [] all_x) (empty_32 digest is.digests)
+      (All-head Is32 c [] all_y) (empty_32 digest is.digests) (cc) in
       ap (λ (x : List ℕ). x ∷ []) e.0
-  one_below (a ∷ []) (c ∷ (d ∷ ys)) long all_x all_y same = absurd (omega arith)
-  one_below (a ∷ (b ∷ xs)) (c ∷ []) long all_x all_y same = absurd (omega arith)
   one_below (a ∷ (b ∷ xs)) (c ∷ (d ∷ ys)) long all_x all_y same =
       let rest_x = All-tail Is32 a (b ∷ xs) all_x in
       let rest_y = All-tail Is32 c (d ∷ ys) all_y in
-      let e = one_node a b c d (All-head Is32 a (b ∷ xs) all_x) (All-head Is32 b xs rest_x) (All-head Is32 c (d ∷ ys) all_y) (All-head Is32 d ys rest_y)
-      (head_of (node digest a b) (node digest c d) (pair_up digest xs) (pair_up digest ys) same) in
-      let below = one_below xs ys (omega arith) (All-tail Is32 b xs rest_x) (All-tail Is32 d ys rest_y)
-      (tail_of (node digest a b) (node digest c d) (pair_up digest xs) (pair_up digest ys) same) in
+      let e = one_node a b c d (All-head Is32 a (b ∷ xs) all_x) (All-head Is32 b xs rest_x)
+      (All-head Is32 c (d ∷ ys) all_y) (All-head Is32 d ys rest_y) (cc) in
+      let below = one_below xs ys (omega arith) (All-tail Is32 b xs rest_x) (All-tail Is32 d ys rest_y) (cc) in
       ap₂ ◌∷◌ e.0 (ap₂ ◌∷◌ e.1 below)
+  one_below _ _ long all_x all_y same = absurd (omega arith)
 
   one_within : (levels : ℕ) (xs ys : List (List ℕ)) → length xs ≤ levels → length xs ≡ length ys → All Is32 xs → All Is32 ys
       → root_within digest levels xs ≡ root_within digest levels ys → xs ≡ ys
   one_within levels [] [] few long all_x all_y same = refl
-  one_within levels [] (c ∷ ys) few long all_x all_y same = absurd (omega arith)
-  one_within levels (a ∷ xs) [] few long all_x all_y same = absurd (omega arith)
   one_within levels (a ∷ []) (c ∷ []) few long all_x all_y same = ap (λ (x : List ℕ). x ∷ []) same
-  one_within levels (a ∷ []) (c ∷ (d ∷ ys)) few long all_x all_y same = absurd (omega arith)
-  one_within levels (a ∷ (b ∷ xs)) (c ∷ []) few long all_x all_y same = absurd (omega arith)
-  one_within zero (a ∷ (b ∷ xs)) (c ∷ (d ∷ ys)) few long all_x all_y same = absurd (omega arith)
   one_within (suc levels) (a ∷ (b ∷ xs)) (c ∷ (d ∷ ys)) few long all_x all_y same =
       let here = a ∷ (b ∷ xs) in
       let there = c ∷ (d ∷ ys) in
@@ -202,12 +181,10 @@ module _ (digest : List ℕ → List ℕ) (is : IsOneToOne digest) where
     where
       up_long : (us vs : List (List ℕ)) → length us ≡ length vs → length (pair_up digest us) ≡ length (pair_up digest vs)
       up_long [] [] e = refl
-      up_long [] (v ∷ vs) e = absurd (omega arith)
-      up_long (u ∷ us) [] e = absurd (omega arith)
       up_long (u ∷ []) (v ∷ []) e = refl
-      up_long (u ∷ []) (v ∷ (w ∷ vs)) e = absurd (omega arith)
-      up_long (u ∷ (t ∷ us)) (v ∷ []) e = absurd (omega arith)
       up_long (u ∷ (t ∷ us)) (v ∷ (w ∷ vs)) e = omega (arith, up_long us vs (omega arith))
+      up_long _ _ e = absurd (omega arith)
+  one_within _ _ _ few long all_x all_y same = absurd (omega arith)
 
   same_leaf : (x y : List ℕ) → AreBytes x → AreBytes y → leaf digest x ≡ leaf digest y → x ≡ y
   same_leaf x y bytes_x bytes_y same = ap (drop 1) (same_text (0 ∷ x) (0 ∷ y) (leaf_bytes digest is.digests x bytes_x) (leaf_bytes digest is.digests y bytes_y) same)
@@ -215,15 +192,13 @@ module _ (digest : List ℕ → List ℕ) (is : IsOneToOne digest) where
   one_content : (count s : ℕ) (x y : List ℕ) → length x ≡ count * s → length y ≡ count * s → AreBytes x → AreBytes y
       → leaves digest count s x ≡ leaves digest count s y → x ≡ y
   one_content zero s [] [] long_x long_y bytes_x bytes_y same = refl
-  one_content zero s [] (b ∷ y) long_x long_y bytes_x bytes_y same = absurd (omega arith)
-  one_content zero s (a ∷ x) y long_x long_y bytes_x bytes_y same = absurd (omega arith)
   one_content (suc count) s x y long_x long_y bytes_x bytes_y same =
-      let first = same_leaf (take s x) (take s y) (bytes_taken s x bytes_x) (bytes_taken s y bytes_y)
-      (head_of (leaf digest (take s x)) (leaf digest (take s y)) (leaves digest count s (drop s x)) (leaves digest count s (drop s y)) same) in
+      let first = same_leaf (take s x) (take s y) (bytes_taken s x bytes_x) (bytes_taken s y bytes_y) (cc) in
       let next : suc count * s ≡ s + count * s = omega arith in
       let rest = one_content count s (drop s x) (drop s y) (omega (arith, length-drop s x, next)) (omega (arith, length-drop s y, next)) (bytes_dropped s x bytes_x) (bytes_dropped s y bytes_y)
-      (tail_of (leaf digest (take s x)) (leaf digest (take s y)) (leaves digest count s (drop s x)) (leaves digest count s (drop s y)) same) in
+      (cc) in
       sym (take-append-drop s x) ∙ ap₂ ◌++◌ first rest ∙ take-append-drop s y
+  one_content zero s _ _ long_x long_y bytes_x bytes_y same = absurd (omega arith)
 
   count_leaves : (count s : ℕ) (xs : List ℕ) → length (leaves digest count s xs) ≡ count
   count_leaves zero s xs = refl
@@ -236,10 +211,10 @@ module _ (digest : List ℕ → List ℕ) (is : IsOneToOne digest) where
       let count : (xs : List ℕ) → length xs ≡ n * s → length xs / s ≡ n = λ xs long. ap (λ (k : ℕ). k / s) long ∙ mul-div_left n some in
       let root : ℕ → List ℕ → List ℕ = λ k xs. root_of digest (leaves digest k s xs) in
       let roots : root n x ≡ root n y = ap (λ (k : ℕ). root k x) (sym (count x long_x)) ∙ same ∙ ap (λ (k : ℕ). root k y) (count y long_y) in
-      let few : length (leaves digest n s x) ≤ length (leaves digest n s x) = omega arith in
       let levels : length (leaves digest n s y) ≡ length (leaves digest n s x) = count_leaves n s y ∙ sym (count_leaves n s x) in
       one_content n s x y long_x long_y bytes_x bytes_y
-      (one_within (length (leaves digest n s x)) (leaves digest n s x) (leaves digest n s y) few (sym levels) (leaves_32 digest is.digests n s x bytes_x) (leaves_32 digest is.digests n s y bytes_y)
+      (one_within (length (leaves digest n s x)) (leaves digest n s x) (leaves digest n s y) (omega arith) (sym levels)
+      (leaves_32 digest is.digests n s x bytes_x) (leaves_32 digest is.digests n s y bytes_y)
       (roots ∙ ap (λ (k : ℕ). root_within digest k (leaves digest n s y)) levels))
 
   -- ---- paths
@@ -259,8 +234,6 @@ module _ (digest : List ℕ → List ℕ) (is : IsOneToOne digest) where
   one_way : (place : ℕ) (e f : List ℕ) (ps qs : List (List ℕ)) → length ps ≡ length qs → Is32 e → Is32 f → All Is32 ps → All Is32 qs
       → folded digest place e ps ≡ folded digest place f qs → e ≡ f
   one_way place e f [] [] long is_e is_f all_a all_b same = same
-  one_way place e f [] (t ∷ qs) long is_e is_f all_a all_b same = absurd (omega arith)
-  one_way place e f (s ∷ ps) [] long is_e is_f all_a all_b same = absurd (omega arith)
   one_way place e f (s ∷ ps) (t ∷ qs) long is_e is_f all_a all_b same =
       let is_s = All-head Is32 s ps all_a in
       let is_t = All-head Is32 t qs all_b in
@@ -268,6 +241,7 @@ module _ (digest : List ℕ → List ℕ) (is : IsOneToOne digest) where
       (one_way (place / 2) (parent digest place e s) (parent digest place f t) ps qs (omega arith)
       (parent_cases Is32 place e s (node_32 digest is.digests e s is_e is_s) (node_32 digest is.digests s e is_s is_e)) (parent_cases Is32 place f t (node_32 digest is.digests f t is_f is_t) (node_32 digest is.digests t f is_t is_f))
       (All-tail Is32 s ps all_a) (All-tail Is32 t qs all_b) same)
+  one_way _ _ _ _ _ long is_e is_f all_a all_b same = absurd (omega arith)
 
   count_pieces : (count : ℕ) (xs : List ℕ) → length (pieces count 32 xs) ≡ count
   count_pieces zero xs = refl
@@ -302,8 +276,7 @@ module _ (digest : List ℕ → List ℕ) (is : IsOneToOne digest) where
       let s = symbol_size m.f m.length in
       let least = symbol_size-least m.f m.length in
       let some = least.positive in
-      let roots : Some (root_over digest s held.word) ≡ Some (root_over digest s other.word) = sym held.root ∙ other.root in
-      let root : root_over digest s held.word ≡ root_over digest s other.word = cc in
+      let root : root_over digest s held.word ≡ root_over digest s other.word = cc (held.root, other.root) in
       let same = one_root (shard_count m.f) s held.word other.word (omega arith) held.is_word.coded.size other.is_word.coded.size
       (bytes_within held.word held.is_word.coded.fits) (bytes_within other.word other.is_word.coded.fits) root in
       sym held.is_word.begins ∙ ap (take (sliver_symbols axis m.f * s)) same ∙ other.is_word.begins
@@ -312,8 +285,7 @@ module _ (digest : List ℕ → List ℕ) (is : IsOneToOne digest) where
   pub one_symbol : (m : BlobMetadata) (axis : Axis) (index : ℕ) (o p : Opening) → o.cross ≡ p.cross → HoldsOpening digest m axis index o → HoldsOpening digest m axis index p
       → AreBytes o.symbol → AreBytes o.path → AreBytes p.symbol → AreBytes p.path → o.symbol ≡ p.symbol
   one_symbol m axis index o p cross held other symbol_o path_o symbol_p path_p =
-      let roots : Some held.root ≡ Some other.root = sym held.committed ∙ ap (slice_get (roots_of (crossing axis) m)) cross ∙ other.committed in
-      let root : held.root ≡ other.root = cc in
+      let root : held.root ≡ other.root = cc (held.committed, other.committed, cross) in
       one_leaf other.root (shard_count m.f) index o.symbol o.path p.symbol p.path
       (subst (λ (r : List ℕ). IsPathTo digest r (shard_count m.f) index o.symbol o.path) root held.leads) other.leads symbol_o path_o symbol_p path_p
 
@@ -325,15 +297,14 @@ module _ (digest : List ℕ → List ℕ) (is : IsDigest digest) where
       ⊎_elim (λ within. all k empty_entry within) (λ past. subst Is32 (sym (get_or_past entries k empty_entry past)) (empty_32 digest is)) (cases_lt k (length entries))
 
   path_within_32 : (n place : ℕ) (entries : List (List ℕ)) → length entries ≤ n → All Is32 entries → All Is32 (path_of digest entries place)
-  path_within_32 n place [] few all = rw (path_of-end digest [] place (omega arith)) (All-nil Is32)
-  path_within_32 n place (a ∷ []) few all = rw (path_of-end digest (a ∷ []) place (omega arith)) (All-nil Is32)
-  path_within_32 zero place (a ∷ (b ∷ more)) few all = absurd (omega arith)
   path_within_32 (suc n) place (a ∷ (b ∷ more)) few all =
       let up = pair_up digest (a ∷ (b ∷ more)) in
       rw (path_of-step digest (a ∷ (b ∷ more)) place (omega arith))
       (All-cons Is32 (get_or (a ∷ (b ∷ more)) (beside place) empty_entry) (path_of digest up (place / 2))
       (entry_32 (a ∷ (b ∷ more)) (beside place) all)
       (path_within_32 n (place / 2) up (omega (arith, length-pair_up digest more)) (all_up digest is (a ∷ (b ∷ more)) all)))
+  path_within_32 zero place (a ∷ (b ∷ more)) few all = absurd (omega arith)
+  path_within_32 n place xs few all = rw (path_of-end digest xs place (omega arith)) (All-nil Is32)
 
   joined_bytes : (xs : List (List ℕ)) → All Is32 xs → AreBytes (concat xs)
   joined_bytes [] all = λ i. omega arith

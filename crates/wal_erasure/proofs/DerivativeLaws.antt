@@ -7,7 +7,7 @@ use Rattle.wal_gf.specs.Field as field
 use Rattle.wal_gf.proofs.Additive.{additive-zero, all_below, all_below-at}
 use Rattle.wal_gf.proofs.Products.{times-lt, times-zero, times-one, times_assoc, times_left_comm}
 use Rattle.wal_gf.proofs.Polynomials as polynomial
-use Rattle.wal_gf.proofs.Polynomials.{IsPolynomial, IsPolynomial-more, IsPolynomial-same, IsPolynomial-nothing, IsPolynomial-constant, IsPolynomial-plus, IsPolynomial-times}
+use Rattle.wal_gf.proofs.Polynomials.{IsPolynomial, IsPolynomial-same, IsPolynomial-nothing, IsPolynomial-constant, IsPolynomial-plus, IsPolynomial-times}
 use Rattle.wal_gf.proofs.Instance.{Element, words, element_of}
 use Rattle.wal_code.proofs.Codes.{function}
 use Rattle.wal_fft.specs.Transform.{skew, value}
@@ -20,15 +20,15 @@ use Rattle.wal_erasure.proofs.Numbers.{plus-number, times-number, nothing-number
 
 -- ---- slopes
 
-scale_check : T (all_below 9 (λ j. eqb (scale j % 65536) (scale j)))
-unfolding all_below
-scale_check = tt
+-- numbers are words where a computed table says so
+small_below : (n : ℕ) (f : ℕ → ℕ) → T (all_below n (λ j. eqb (f j % 65536) (f j))) → (j : ℕ) → j < n → f j < 65536
+small_below n f test j few =
+    let same : f j % 65536 ≡ f j = eqb→eq _ _ (all_below-at n (λ j. eqb (f j % 65536) (f j)) test j few) in
+    omega (arith, mod-lt (f j) {m = 65536} (lit< tt))
 
 scale-lt : (j : ℕ) → j < 9 → scale j < 65536
-scale-lt j few =
-    let same : scale j % 65536 ≡ scale j = eqb→eq _ _ (all_below-at 9 (λ j. eqb (scale j % 65536) (scale j)) scale_check j few) in
-    let low : scale j % 65536 < 65536 = mod-lt (scale j) (lit< tt) in
-    omega arith
+unfolding all_below
+scale-lt = small_below 9 scale tt
 
 pub slope-lt : (j d : ℕ) → slope j d < 65536
 unfolding slope
@@ -48,22 +48,13 @@ slope-divides (suc j) d few near =
     ∙ ap (times (scale j)) (times_assoc d (slope j d) u (slope-lt j d) one)
     ∙ times_left_comm (scale j) d (times (slope j d) u) (scale-lt j (omega arith)) (omega arith) (times-lt (slope j d) u one)
 
-rate_check : T (all_below 9 (λ j. eqb (rate (suc j)) (times (scale j) (rate j))))
-unfolding all_below times field.product field.remainder field.cancel field.xor_below
-rate_check = tt
-
 rate_step : (j : ℕ) → j < 9 → rate (suc j) ≡ times (scale j) (rate j)
-rate_step j few = eqb→eq _ _ (all_below-at 9 (λ j. eqb (rate (suc j)) (times (scale j) (rate j))) rate_check j few)
-
-rate_words : T (all_below 10 (λ j. eqb (rate j % 65536) (rate j)))
-unfolding all_below
-rate_words = tt
+unfolding all_below times field.product field.remainder field.cancel field.xor_below
+rate_step j few = eqb→eq _ _ (all_below-at 9 (λ j. eqb (rate (suc j)) (times (scale j) (rate j))) tt j few)
 
 pub rate-lt : (j : ℕ) → j < 10 → rate j < 65536
-rate-lt j few =
-    let same : rate j % 65536 ≡ rate j = eqb→eq _ _ (all_below-at 10 (λ j. eqb (rate j % 65536) (rate j)) rate_words j few) in
-    let low : rate j % 65536 < 65536 = mod-lt (rate j) (lit< tt) in
-    omega arith
+unfolding all_below
+rate-lt = small_below 10 rate tt
 
 -- the slope at nothing is the rate
 pub slope-none : (j : ℕ) → j < 10 → slope j 0 ≡ rate j
@@ -134,11 +125,9 @@ unfolding quotient
 quotient-same zero c d e x same = refl
 quotient-same (suc j) c d e x same =
     let upper : (i : ℕ) → i < 2 ^ j → c (2 ^ j + i) ≡ d (2 ^ j + i) = λ i below. same (2 ^ j + i) (omega (arith, pow-suc 2 j)) in
-    ap₂ (λ (u v : ℕ). bit_xor u v)
-    (ap₂ (λ (u v : ℕ). bit_xor u (times (skew j e) v))
-    (quotient-same j c d e x (λ i below. same i (omega (arith, pow-suc 2 j))))
-    (quotient-same j (λ i. c (2 ^ j + i)) (λ i. d (2 ^ j + i)) e x upper))
-    (ap (times (slope j (bit_xor x e))) (value-same j (λ i. c (2 ^ j + i)) (λ i. d (2 ^ j + i)) x upper))
+    rw (quotient-same j c d e x (λ i below. same i (omega (arith, pow-suc 2 j))))
+    (rw (quotient-same j (λ i. c (2 ^ j + i)) (λ i. d (2 ^ j + i)) e x upper)
+    (rw (value-same j (λ i. c (2 ^ j + i)) (λ i. d (2 ^ j + i)) x upper)))
 
 -- the quotient's own value at e
 pub quotient_own : (j : ℕ) (c : ℕ → ℕ) (x : ℕ) → j < 10 → quotient (suc j) c x x
@@ -182,23 +171,23 @@ slope_first e x = refl
 -- row j has 2^j coefficients
 slope-polynomial : (j e : ℕ) → j < 10 → IsPolynomial words (2 ^ j) IsPoint (slope_at j e)
 slope-polynomial zero e few =
-    IsPolynomial-same words (2 ^ 0) IsPoint (λ x. element_of 1) (slope_at 0 e) (λ x point. slope_first e x)
-    (IsPolynomial-more words 1 (2 ^ 0) IsPoint (λ x. element_of 1) (omega arith) (IsPolynomial-constant words 0 IsPoint (element_of 1)))
+    let p = IsPolynomial-constant words 0 IsPoint (element_of 1) in
+    (p.0, omega (arith, p.1), λ x point. p.2 x point ∙ slope_first e x)
 slope-polynomial (suc j) e few =
     let before = slope-polynomial j e (omega arith) in
     let some = pow_pos j in
-    let a = 2 ^ j - 1 in
-    let b = suc (2 ^ j) in
-    let product : IsPolynomial words (a + b) IsPoint (λ x. words.times (polynomial.value words before.0 x) (step_of j e x)) =
-    product_of words a b IsPoint (step_of j e) (step-polynomial j e (omega arith)) before.0 (omega (arith, before.1)) in
-    IsPolynomial-same words (2 ^ suc j) IsPoint
-    (λ x. words.times (element_of (scale j)) (words.times (polynomial.value words before.0 x) (step_of j e x))) (slope_at (suc j) e)
-    (λ x point.
-    ap (λ (s : Element). words.times (element_of (scale j)) (words.times s (step_of j e x))) (before.2 x point)
-    ∙ slope-product j e x (omega arith))
-    (IsPolynomial-more words (a + b) (2 ^ suc j) IsPoint
-    (λ x. words.times (element_of (scale j)) (words.times (polynomial.value words before.0 x) (step_of j e x))) (omega (arith, pow-suc 2 j))
-    (IsPolynomial-times words (a + b) IsPoint (λ x. words.times (polynomial.value words before.0 x) (step_of j e x)) (element_of (scale j)) product))
+    let p = IsPolynomial-times words (2 ^ j - 1 + suc (2 ^ j)) IsPoint
+        (λ x. words.times (polynomial.value words before.0 x) (step_of j e x))
+        (element_of (scale j))
+        (product_of words (2 ^ j - 1) (suc (2 ^ j)) IsPoint (step_of j e) (step-polynomial j e (omega arith)) before.0
+        (omega (arith, before.1))) in (
+      p.0,
+      omega (arith, p.1, pow-suc 2 j),
+      λ x point.
+          p.2 x point ∙ ap (λ (s : Element). words.times (element_of (scale j)) (words.times s (step_of j e x)))
+          (before.2 x point)
+          ∙ slope-product j e x (omega arith),
+    )
 
 quotient-parts : (j : ℕ) (c : ℕ → ℕ) (e : ℕ) (x : Element) → AreWords c
     → words.plus (words.plus (function (quotient j c e) x) (words.times (element_of (skew j e)) (function (quotient j (λ i. c (2 ^ j + i)) e) x)))
@@ -224,9 +213,8 @@ quotient-parts j c e x low =
 -- the quotient has one coefficient less than the polynomial
 pub quotient-polynomial : (j : ℕ) (c : ℕ → ℕ) (e : ℕ) → j ≤ 10 → AreWords c → IsPolynomial words (2 ^ j - 1) IsPoint (function (quotient j c e))
 quotient-polynomial zero c e few low =
-    IsPolynomial-same words (2 ^ 0 - 1) IsPoint (λ x. words.nothing) (function (quotient 0 c e))
-    (λ x point. nothing-number ∙ ap element_of (sym (quotient-zero c e x.0)))
-    (IsPolynomial-nothing words (2 ^ 0 - 1) IsPoint)
+    let p = IsPolynomial-nothing words (2 ^ 0 - 1) IsPoint in
+    (p.0, p.1, λ x point. p.2 x point ∙ nothing-number ∙ ap element_of (sym (quotient-zero c e x.0)))
 quotient-polynomial (suc j) c e few low =
     let h : ℕ → ℕ = λ i. c (2 ^ j + i) in
     let lowh : AreWords h = λ i. low (2 ^ j + i) in
@@ -236,18 +224,21 @@ quotient-polynomial (suc j) c e few low =
     let some = pow_pos j in
     let slopes = slope-polynomial j e (omega arith) in
     let l : Element → Element = λ x. words.times (polynomial.value words slopes.0 x) (function (value j h) x) in
-    let values : IsPolynomial words (2 ^ j) IsPoint (function (value j h)) =
-    value-polynomial j (2 ^ j) h (omega arith) lowh (λ i over within. let b : ⊥ = omega arith in absurd b) in
-    let first : IsPolynomial words n IsPoint f =
-    IsPolynomial-more words (2 ^ j - 1) n IsPoint f (omega (arith, pow-suc 2 j)) (quotient-polynomial j c e (omega arith) low) in
-    let second : IsPolynomial words n IsPoint g =
-    IsPolynomial-more words (2 ^ j - 1) n IsPoint g (omega (arith, pow-suc 2 j))
-    (IsPolynomial-times words (2 ^ j - 1) IsPoint (function (quotient j h e)) (element_of (skew j e)) (quotient-polynomial j h e (omega arith) lowh)) in
-    let third : IsPolynomial words n IsPoint l =
-    IsPolynomial-more words (2 ^ j - 1 + 2 ^ j) n IsPoint l (omega (arith, pow-suc 2 j))
-    (product_of words (2 ^ j - 1) (2 ^ j) IsPoint (function (value j h)) values slopes.0 (omega (arith, slopes.1))) in
-    IsPolynomial-same words n IsPoint (λ x. words.plus (words.plus (f x) (g x)) (l x)) (function (quotient (suc j) c e))
-    (λ x point.
-    ap (λ (s : Element). words.plus (words.plus (f x) (g x)) (words.times s (function (value j h) x))) (slopes.2 x point)
-    ∙ quotient-parts j c e x low)
-    (IsPolynomial-plus words n IsPoint (λ x. words.plus (f x) (g x)) l (IsPolynomial-plus words n IsPoint f g first second) third)
+    let first = quotient-polynomial j c e (omega arith) low in
+    let second = IsPolynomial-times words (2 ^ j - 1) IsPoint (function (quotient j h e)) (element_of (skew j e))
+        (quotient-polynomial j h e (omega arith) lowh) in
+    let third = product_of words (2 ^ j - 1) (2 ^ j) IsPoint (function (value j h))
+        (value-polynomial j (2 ^ j) h (omega arith) lowh (λ i over within. absurd (omega arith))) slopes.0
+        (omega (arith, slopes.1)) in
+    let p = IsPolynomial-plus words n IsPoint (λ x. words.plus (f x) (g x)) l
+        (IsPolynomial-plus words n IsPoint f g (first.0, omega (arith, first.1, pow-suc 2 j), first.2)
+        (second.0, omega (arith, second.1, pow-suc 2 j), second.2))
+        (third.0, omega (arith, third.1, pow-suc 2 j), third.2) in (
+      p.0,
+      p.1,
+      λ x point.
+          p.2 x point
+          ∙ ap (λ (s : Element). words.plus (words.plus (f x) (g x)) (words.times s (function (value j h) x)))
+          (slopes.2 x point)
+          ∙ quotient-parts j c e x low,
+    )

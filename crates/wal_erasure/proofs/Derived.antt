@@ -1,5 +1,5 @@
 -- What one level of the derivative does, from what the calls on the halves do.
-use Rattle.std.proofs.Common.{◌≡◌, ℕ, suc, ◌+◌, ◌-◌, ◌*◌, ◌^◌, ◌<◌, List, ◌++◌, length, slice_index, bit_xor, sym, ap, ap₂, subst, ◌∙◌, arith}
+use Rattle.std.proofs.Common.{◌≡◌, ℕ, suc, ◌+◌, ◌-◌, ◌*◌, ◌^◌, ◌<◌, List, ◌++◌, length, slice_index, bit_xor, sym, ap, ap₂, ◌∙◌, arith}
 use Rattle.std.specs.Int.Bits.{xor_assoc}
 use Rattle.std.proofs.lemmas.Nat.{xor_comm}
 use Rattle.wal_gf.specs.Field.{times}
@@ -67,11 +67,10 @@ pub derived_level : (width level : ℕ) (low high low_derived low_sum high_deriv
     → Derives width (level - 1) low high low_derived low_sum high_derived → AreDerived width level (low ++ high) (low_sum ++ high_derived)
 derived_level width level low high low_derived low_sum high_derived some h =
     let same : suc (level - 1) ≡ level = omega arith in
-    let P : ℕ → Type 0 = λ l. AreDerived width l (low ++ high) (low_sum ++ high_derived) in
-    subst P same (derived width (level - 1) low high low_derived low_sum high_derived h)
+    rw (← same) (derived width (level - 1) low high low_derived low_sum high_derived h)
 
 -- one coefficient has the derivative 0
 pub derived_none : (width level : ℕ) (old new : List ℕ) → level ≡ 0 → ((p : ℕ) → word_at new p ≡ 0) → AreDerived width level old new
 derived_none width level old new none zeros =
-    let P : ℕ → Type 0 = λ l. AreDerived width l old new in
-    subst P (sym none) (λ w l x. value-zero (lane width new w) x ∙ zeros (width * 0 + w) ∙ sym (quotient-zero (lane width old w) x x))
+    rw none
+    (λ w l x. value-zero (lane width new w) x ∙ zeros (width * 0 + w) ∙ sym (quotient-zero (lane width old w) x x))

@@ -1,5 +1,5 @@
 -- The value at a missing point: the derivative there is the missing word times the locator of the other missing points.
-use Rattle.std.proofs.Common.{◌≡◌, ◌≢◌, ℕ, suc, ◌+◌, ◌-◌, ◌^◌, ◌<◌, ◌≤◌, List, ◌∷◌, length, get_or, map, slice_index, slice_index_or, false, bit_xor, refl, sym, ap, ap₂, subst, ◌∙◌, arith, inl, inr, pow_mono}
+use Rattle.std.proofs.Common.{◌≡◌, ◌≢◌, ℕ, suc, ◌-◌, ◌^◌, ◌<◌, ◌≤◌, List, ◌∷◌, length, get_or, map, slice_index, slice_index_or, false, bit_xor, refl, sym, ap, ap₂, ◌∙◌, arith, inl, inr, pow_mono}
 use Rattle.std.specs.List.{range_with_len}
 use Rattle.std.specs.Int.Bits.{xor_zero_l, xor_zero_r}
 use Rattle.std.proofs.lemmas.Nat.{xor_lt}
@@ -9,8 +9,7 @@ use Rattle.std.proofs.lemmas.List.FromFn.{get_or-map-range_with_len, length-map-
 use Rattle.std.proofs.lemmas.Grind.{get_or_default_zero}
 use Rattle.wal_gf.specs.Field.{IsWord, times, inverse}
 use Rattle.wal_gf.proofs.Additive.{xor_back}
-use Rattle.wal_gf.proofs.Polynomials as polynomial
-use Rattle.wal_gf.proofs.Polynomials.{IsPolynomial, IsPolynomial-more, IsPolynomial-same}
+use Rattle.wal_gf.proofs.Polynomials.{IsPolynomial}
 use Rattle.wal_gf.proofs.Products.{times-lt, times_assoc, times_comm, one-times, times-zero}
 use Rattle.wal_gf.proofs.Inverses.{times-inverse, inverse-lt}
 use Rattle.wal_gf.proofs.Instance.{Element, element-path, words, element_of, element_of-word, elements_of, numbers_of, numbers_of-words, value-evaluate, xor-lt}
@@ -84,8 +83,8 @@ cofactor known n given e x = times (locator (e ∷ known) n x) (combination know
 -- a word times one that is not 0, and times its inverse
 undone : (d y : ℕ) → d < 65536 → y < 65536 → d ≢ 0 → times (inverse d) (times d y) ≡ y
 undone d y ld ly other =
-    sym (times_assoc (inverse d) d y ld ly) ∙ ap (λ (s : ℕ). times s y) (times_comm (inverse d) d (inverse-lt d) ld ∙ times-inverse d ld other)
-    ∙ one-times y ly
+    let grouped = times_assoc (inverse d) d y ld ly in
+    cc (times_comm (inverse d) d (inverse-lt d) ld, times-inverse d ld other, one-times y ly)
 
 -- words whose products by a word that is not 0 are the same
 cancelled : (d a b : ℕ) → d < 65536 → a < 65536 → b < 65536 → d ≢ 0 → times d a ≡ times d b → a ≡ b
@@ -121,10 +120,9 @@ module _ (known : List ℕ) (level : ℕ) (given c : ℕ → ℕ) (h : IsErasure
       elim (either (is_known known x)) [
         | inl taken ↦
             let found = is_known-found known x taken in
-            let P : ℕ → Type 0 = λ y. value level c y ≡ times (locator known (2 ^ level) y) (combination known given y) in
             let k = found.0 in
             let p = slice_index known found.0 in
-            subst P found.2
+            rw (← found.2)
             (h.at_known k found.1
             ∙ ap₂ (λ (s t : ℕ). times s t) (locator-own known n p (ap (is_known known) found.2 ∙ taken)) (sym (combination-known known given h.distinct known_words h.words k found.1)))
         | inr free ↦
@@ -166,12 +164,15 @@ module _ (known : List ℕ) (level : ℕ) (given c : ℕ → ℕ) (h : IsErasure
         let l = locator-polynomial (e ∷ known) n (omega arith) in
         let all = counted known n h.distinct h.below in
         let less = count-suc known n e e_below missing in
-        IsPolynomial-same words (2 ^ level - 1) IsPoint (λ x. words.times (polynomial.value words l.0 x) (s x)) (function (cofactor known n given e))
-        (λ x point.
-        ap (λ (y : Element). words.times y (s x)) (l.2 x point)
-        ∙ times-number (locator (e ∷ known) n x.0) (combination known given x.0) (locator-lt (e ∷ known) n x.0) (sum_word x.0 x.1))
-        (IsPolynomial-more words (a + b) (2 ^ level - 1) IsPoint (λ x. words.times (polynomial.value words l.0 x) (s x)) (omega (arith, all, less))
-        (product_of words a b IsPoint s (from_codeword (length known) (combination known given) whole_codeword) l.0 l.1))
+        let p = product_of words a b IsPoint s
+            (from_codeword (length known) (combination known given) whole_codeword) l.0 l.1 in (
+          p.0,
+          omega (arith, all, less, p.1),
+          λ x point.
+              p.2 x point ∙ ap (λ (y : Element). words.times y (s x)) (l.2 x point)
+              ∙ times-number (locator (e ∷ known) n x.0) (combination known given x.0) (locator-lt (e ∷ known) n x.0)
+              (sum_word x.0 x.1),
+        )
 
     -- at e too
     pub erased : quotient level c e e ≡ times (others known (2 ^ level) e) (combination known given e)
@@ -183,11 +184,12 @@ module _ (known : List ℕ) (level : ℕ) (given c : ℕ → ℕ) (h : IsErasure
         let long : length (other_points e (2 ^ level - 1)) ≡ 2 ^ level - 1 = others-long e m in
         let at : (i : ℕ) → i < length (other_points e (2 ^ level - 1)) → get_or (other_points e (2 ^ level - 1)) i 0 ≡ bit_xor e (suc i) = λ i l. others-at e m i (omega arith) in
         let below : (i : ℕ) → i < length (other_points e (2 ^ level - 1)) → get_or (other_points e (2 ^ level - 1)) i 0 < 2 ^ level =
-        λ i l. subst (λ (s : ℕ). s < 2 ^ level) (sym (at i l)) (xor_lt level e (suc i) e_below (omega arith)) in
+        λ i l. rw (at i l) (xor_lt level e (suc i) e_below (omega arith)) in
         codeword_unique n points (quotient level c e) (cofactor known n given e) (omega arith) (others-distinct e m) below
-        (subst (λ (k : ℕ). IsCodeword k n (quotient level c e)) (sym long)
-        (to_codeword m n (quotient level c e) most (λ i l. quotient-lt level c e i h.coefficients) (quotient-polynomial level c e h.few h.coefficients)))
-        (subst (λ (k : ℕ). IsCodeword k n (cofactor known n given e)) (sym long)
+        (rw long
+        (to_codeword m n (quotient level c e) most (λ i l. quotient-lt level c e i h.coefficients)
+        (quotient-polynomial level c e h.few h.coefficients)))
+        (rw long
         (to_codeword m n (cofactor known n given e) most (λ i l. cofactor-lt i (omega arith)) cofactor-polynomial))
         (λ i l. away (get_or points i 0) (below i l) (λ same. another e i (sym (at i l) ∙ same)))
         e e_below

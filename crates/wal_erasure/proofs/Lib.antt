@@ -1,4 +1,3 @@
-pub mod Ascending
 pub mod Derived
 pub mod DerivativeLaws
 pub mod Erased

@@ -1,8 +1,9 @@
 -- The laws of the locator: its roots are the missing points, what one point brings to it, its degree, and how many points are missing.
-use Rattle.std.proofs.Common.{◌≡◌, ◌≢◌, ℕ, zero, suc, ◌+◌, ◌<◌, ◌≤◌, List, [], ◌∷◌, length, slice_index, Bool, true, false, cond, eqb, eq-eqb, eqb-true, bit_xor, refl, sym, ap, ap₂, subst, ◌∙◌, arith, lit<, zero-add, ◌⊎◌, inl, inr}
+use Rattle.std.proofs.Common.{◌≡◌, ◌≢◌, ℕ, zero, suc, ◌+◌, ◌<◌, ◌≤◌, List, [], ◌∷◌, length, slice_index, Bool, true, false, cond, eqb, eq-eqb, eqb-true, bit_xor, refl, sym, ap, ap₂, ◌∙◌, arith, lit<, zero-add, ◌⊎◌, inl, inr}
 use Rattle.std.specs.Int.Bits.{xor_self}
+use Rattle.std.proofs.lemmas.Bool.{ne_eqb}
 use Rattle.wal_gf.specs.Field.{times}
-use Rattle.wal_gf.proofs.Polynomials.{IsPolynomial, IsPolynomial-same, IsPolynomial-constant, IsPolynomial-line}
+use Rattle.wal_gf.proofs.Polynomials.{IsPolynomial, IsPolynomial-constant, IsPolynomial-line}
 use Rattle.wal_gf.proofs.Products.{times-lt, zero-times, times_left_comm}
 use Rattle.wal_gf.proofs.Instance.{Element, words, element_of, xor-lt}
 use Rattle.wal_code.specs.Codeword.{Distinct}
@@ -25,12 +26,9 @@ pub is_known-first : (q x : ℕ) (known : List ℕ) → q ≡ x → is_known (q 
 unfolding is_known
 is_known-first q x known e = ap (λ (b : Bool). cond b true (is_known known x)) (eq-eqb q x e)
 
-eqb-other : (q x : ℕ) → q ≢ x → eqb q x ≡ false
-eqb-other q x other = elim (either (eqb q x)) [ inl e ↦ absurd (other (eqb-true q x e)) | inr e ↦ e ]
-
 pub is_known-rest : (q x : ℕ) (known : List ℕ) → q ≢ x → is_known (q ∷ known) x ≡ is_known known x
 unfolding is_known
-is_known-rest q x known other = ap (λ (b : Bool). cond b true (is_known known x)) (eqb-other q x other)
+is_known-rest q x known other = ap (λ (b : Bool). cond b true (is_known known x)) (ne_eqb q x other)
 
 either_point : (q x : ℕ) → (q ≡ x) ⊎ (q ≢ x)
 either_point q x = elim (either (eqb q x)) [ inl e ↦ inl (eqb-true q x e) | inr e ↦ inr (λ same. differ (eqb q x) (eq-eqb q x same) e) ]
@@ -124,8 +122,7 @@ locator-pulled known zero e x far below low missing = absurd (omega arith)
 locator-pulled known (suc n) e x far below low missing =
     elim (either_point e n) [
       | inl same ↦
-          let P : ℕ → Type 0 = λ y. locator known (suc n) x ≡ times (bit_xor x y) (locator (y ∷ known) (suc n) x) in
-          subst P (sym same)
+          rw same
           (locator-missing known n x (sym (ap (is_known known) same) ∙ missing)
           ∙ ap (times (bit_xor x n)) (sym (locator-known (n ∷ known) n x (is_known-first n n known refl) ∙ late known n n x (omega arith))))
       | inr other ↦
@@ -230,20 +227,17 @@ locator_line known n x low free =
 -- it has one coefficient more than there are missing points
 pub locator-polynomial : (known : List ℕ) (n : ℕ) → n ≤ 65536 → IsPolynomial words (suc (missing_count known n)) IsPoint (function (locator known n))
 locator-polynomial known zero far =
-    IsPolynomial-same words (suc (missing_count known 0)) IsPoint (λ x. element_of 1) (function (locator known 0))
-    (λ x point. ap element_of (sym (locator-start known x.0)))
-    (IsPolynomial-constant words (missing_count known 0) IsPoint (element_of 1))
+    let p = IsPolynomial-constant words (missing_count known 0) IsPoint (element_of 1) in
+    (p.0, p.1, λ x point. p.2 x point ∙ ap element_of (sym (locator-start known x.0)))
 locator-polynomial known (suc n) far =
     let before = locator-polynomial known n (omega arith) in
-    let P : ℕ → Type 0 = λ k. IsPolynomial words (suc k) IsPoint (function (locator known (suc n))) in
     elim (either (is_known known n)) [
       | inl taken ↦
-          subst P (sym (count-known known n taken))
-          (IsPolynomial-same words (suc (missing_count known n)) IsPoint (function (locator known n)) (function (locator known (suc n)))
-          (λ x point. ap element_of (sym (locator-known known n x.0 taken))) before)
+          (before.0, omega (arith, before.1, count-known known n taken),
+          λ x point. before.2 x point ∙ ap element_of (sym (locator-known known n x.0 taken)))
       | inr free ↦
-          subst P (sym (count-missing known n free))
-          (IsPolynomial-same words (suc (suc (missing_count known n))) IsPoint (λ x. words.times (words.plus x (element_of n)) (function (locator known n) x))
-          (function (locator known (suc n))) (λ x point. locator_line known n x (omega arith) free)
-          (IsPolynomial-line words (suc (missing_count known n)) IsPoint (function (locator known n)) (element_of n) before))
+          let p = IsPolynomial-line words (suc (missing_count known n)) IsPoint (function (locator known n))
+              (element_of n) before in
+          (p.0, omega (arith, p.1, count-missing known n free),
+          λ x point. p.2 x point ∙ locator_line known n x (omega arith) free)
     ]

@@ -1,8 +1,10 @@
 -- Sums and products of words, as numbers and as elements of the field.
 use Rattle.std.proofs.Common.{◌≡◌, ◌≢◌, ℕ, ◌<◌, bit_xor, sym, ap, ap₂, ◌∙◌, lit<}
-use Rattle.std.specs.Int.Bits.{xor_assoc, xor_self, xor_zero_l, xor_zero_r}
+use Rattle.std.specs.Int.Bits.{xor_zero_r}
 use Rattle.wal_gf.specs.Field.{times}
-use Rattle.wal_gf.proofs.Algebra.{Field, plus-times, times_left_comm, plus_left_comm, no_divisors}
+use Rattle.wal_gf.proofs.Algebra.{Field, plus-times, times_left_comm, plus_left_comm}
+use Rattle.wal_gf.proofs.Additive.{xor_back}
+use Rattle.wal_gf.proofs.Inverses.{zero_factor}
 use Rattle.wal_gf.proofs.Products.{times-lt}
 use Rattle.wal_gf.proofs.Instance.{Element, element-path, words, element_of, element_of-word, xor-lt}
 
@@ -25,16 +27,11 @@ own-number x = element-path _ _ (sym (element_of-word x.0 x.1))
 
 -- a product of words that are not 0 is not 0
 pub product-other : (a b : ℕ) → a < 65536 → b < 65536 → a ≢ 0 → b ≢ 0 → times a b ≢ 0
-unfolding words
-product-other a b low low' other other' e =
-    let a' : Element = (a, low) in
-    let b' : Element = (b, low') in
-    other' (ap (λ (v : Element). v.0) (no_divisors words a' b' (λ z. other (ap (λ (v : Element). v.0) z)) (element-path _ _ e)))
+product-other a b low low' other other' e = other' (zero_factor a b low low' other e)
 
 -- words whose sum is 0 are equal
 pub sum-none : (a b : ℕ) → bit_xor a b ≡ 0 → a ≡ b
-sum-none a b e =
-    sym (xor_zero_r a) ∙ ap (bit_xor a) (sym (xor_self b)) ∙ sym (xor_assoc a b b) ∙ ap (λ (s : ℕ). bit_xor s b) e ∙ xor_zero_l b
+sum-none a b e = cc (xor_zero_r a, xor_back a b)
 
 pub sum-other : (a b : ℕ) → a ≢ b → bit_xor a b ≢ 0
 sum-other a b other e = other (sum-none a b e)

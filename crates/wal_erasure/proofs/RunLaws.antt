@@ -1,5 +1,5 @@
 -- Runs of words that are put, taken and copied one after the other.
-use Rattle.std.proofs.Common.{◌≡◌, ◌≢◌, ℕ, ◌+◌, ◌*◌, ◌<◌, ◌≤◌, ◌⊎◌, inl, inr, List, length, slice_index, refl, sym, ap, subst, ◌∙◌, arith, mul-le-mul_left, mul-le-mul_right}
+use Rattle.std.proofs.Common.{◌≡◌, ◌≢◌, ℕ, ◌+◌, ◌*◌, ◌<◌, ◌≤◌, ◌⊎◌, inl, inr, List, length, slice_index, sym, ap, ◌∙◌, arith, mul-le-mul_left, mul-le-mul_right}
 use Rattle.std.proofs.lemmas.Bool.{cases_lt}
 use borrow.Rule.Slice.PartMut.{put_mid}
 use Rattle.wal_gf.specs.Field.{times}
@@ -9,7 +9,7 @@ use Rattle.wal_code.specs.Weights.{element_at}
 use Rattle.wal_kernel.specs.Region.{word_at}
 use Rattle.wal_fft.specs.Transform.{lane}
 use Rattle.wal_fft.proofs.Lanes.{word_at-put_before, word_at-put_within, word_at-put_after}
-use Rattle.wal_erasure.specs.inside.Run.{ArePut, AreTaken, IsCopy, AreCopied}
+use Rattle.wal_erasure.specs.inside.Run.{ArePut, AreTaken, IsCopy}
 
 -- below one more
 below_next : (i n : ℕ) → i < n + 1 → (i < n) ⊎ (i ≡ n)
@@ -65,13 +65,6 @@ module _ (stride start width point at k : ℕ) (old part : List ℕ) (at_is : at
 
 -- ---- putting at known points
 
-pub put_none : (words start width : ℕ) (known : List ℕ) (factors : List Gf) (regions strip : List ℕ) → ((p : ℕ) → word_at strip p ≡ 0)
-    → ArePut words start width known 0 factors regions strip
-put_none words start width known factors regions strip zeros = record {
-  products = λ w l k below. absurd (omega arith);
-  zeros = λ w l x none. zeros (width * x + w);
-}
-
 pub put_more : (words start width place at k : ℕ) (known : List ℕ) (factors : List Gf) (regions old part : List ℕ) → Distinct known → place < length known
     → at ≡ 2 * width * slice_index known place → k ≡ 2 * width → at + k ≤ length old → length part ≡ k
     → ((w : ℕ) → w < width → word_at part w ≡ times (element_at factors (slice_index known place)) (word_at regions (words * place + (start + w))))
@@ -84,8 +77,7 @@ put_more words start width place at k known factors regions old part distinct in
             (distinct i place 0 less inside) l
             ∙ h.products w l i less
         | inr same ↦
-            let P : ℕ → Type 0 = λ i. lane width (put_mid at k old part) w (slice_index known i) ≡ times (element_at factors (slice_index known i)) (word_at regions (words * i + (start + w))) in
-            subst P (sym same)
+            rw same
             (word-own width 0 width (slice_index known place) at k old part start_is k_is room long all (width * slice_index known place + w) w (omega arith) l
             ∙ product w l)
       ];
@@ -102,12 +94,6 @@ put_more words start width place at k known factors regions old part distinct in
 
 -- ---- taking
 
-pub taken_none : (words start width : ℕ) (factors : List Gf) (strip old : List ℕ) → AreTaken words start width 0 factors strip old old
-taken_none words start width factors strip old = record {
-  products = λ w l i below. absurd (omega arith);
-  before = λ i p below. refl;
-}
-
 pub taken_more : (words start width place at k : ℕ) (factors : List Gf) (strip old mid part : List ℕ)
     → at ≡ 2 * (words * place + start) → k ≡ 2 * width → at + k ≤ length mid → length part ≡ k → start + width ≤ words
     → ((w : ℕ) → w < width → word_at part w ≡ times (element_at factors place) (lane width strip w place))
@@ -119,8 +105,7 @@ taken_more words start width place at k factors strip old mid part at_is k_is ro
             word-apart words start width place at k mid part at_is k_is room long within i (start + w) (λ same. absurd (omega arith)) (omega arith)
             ∙ h.products w l i less
         | inr same ↦
-            let P : ℕ → Type 0 = λ i. word_at (put_mid at k mid part) (words * i + (start + w)) ≡ times (element_at factors i) (lane width strip w i) in
-            subst P (sym same)
+            rw same
             (word-own words start width place at k mid part at_is k_is room long within (words * place + (start + w)) w (omega arith) l ∙ product w l)
       ];
   before = λ i p below. word-before words start width place at k mid part at_is k_is room long within i p below ∙ h.before i p below;
@@ -140,35 +125,3 @@ copy_one words from to at k sources old part at_is k_is room long same = record 
 
     all : 0 + words ≤ words
     all = omega arith
-
-pub copied_none : (words wanted : ℕ) (known sources old : List ℕ) → AreCopied words wanted known 0 sources old old
-copied_none words wanted known sources old = record {
-  copied = λ k below within w l. absurd (omega arith);
-  kept = λ x none w l. refl;
-}
-
-pub copied_more : (words wanted place : ℕ) (known sources old mid new : List ℕ) → Distinct known → place < length known
-    → IsCopy words place (slice_index known place) sources mid new
-    → AreCopied words wanted known place sources old mid → AreCopied words wanted known (place + 1) sources old new
-copied_more words wanted place known sources old mid new distinct inside copy h = record {
-  copied = λ k below within w l.
-      elim (below_next k place below) [
-        | inl less ↦ copy.kept (slice_index known k) (distinct k place 0 less inside) w l ∙ h.copied k less within w l
-        | inr same ↦
-            let P : ℕ → Type 0 = λ i. word_at new (words * slice_index known i + w) ≡ word_at sources (words * i + w) in
-            subst P (sym same) (copy.copied w l)
-      ];
-  kept = λ x none w l.
-      copy.kept x (λ same. none place (omega arith) (sym same)) w l ∙ h.kept x (λ k below. none k (omega arith)) w l;
-}
-
-pub copied_skip : (words wanted place : ℕ) (known sources old mid : List ℕ) → wanted ≤ slice_index known place
-    → AreCopied words wanted known place sources old mid → AreCopied words wanted known (place + 1) sources old mid
-copied_skip words wanted place known sources old mid beyond h = record {
-  copied = λ k below within w l.
-      elim (below_next k place below) [
-        | inl less ↦ h.copied k less within w l
-        | inr same ↦ let e : slice_index known k ≡ slice_index known place = ap (slice_index known) same in absurd (omega arith)
-      ];
-  kept = λ x none w l. h.kept x (λ k below. none k (omega arith)) w l;
-}

@@ -1,6 +1,5 @@
 -- Strips that are solved, and all regions.
-use Rattle.std.proofs.Common.{◌≡◌, ℕ, ◌+◌, ◌-◌, ◌*◌, ◌^◌, ◌<◌, ◌≤◌, List, length, slice_index, Bool, true, false, cond, refl, sym, ap, ap₂, subst, ◌∙◌, arith, inl, inr}
-use Rattle.std.proofs.lemmas.Bool.{cases_lt}
+use Rattle.std.proofs.Common.{◌≡◌, ℕ, ◌+◌, ◌-◌, ◌*◌, ◌^◌, ◌<◌, ◌≤◌, List, length, slice_index, Bool, true, false, cond, sym, ap, ap₂, ◌∙◌, arith, inl, inr}
 use Rattle.wal_gf.specs.Field.{times, inverse}
 use Rattle.wal_gf.specs.declared.Gf.{Gf}
 use Rattle.wal_code.specs.Codeword.{Distinct, combination, coefficient}
@@ -74,30 +73,10 @@ module _ (words start width wanted level : ℕ) (known : List ℕ) (factors : Li
   pub strip_solved : AreSolved words start (start + width) wanted known sources old new
   strip_solved = record {
     sums = λ p from to x below missing.
-        let P : ℕ → Type 0 = λ s. word_at new (words * x + s) ≡ combination known (λ k. word_at sources (words * k + s)) x in
         let place : start + (p - start) ≡ p = omega arith in
-        subst P place (solved_word (p - start) (omega arith) x below missing);
+        rw (← place) (solved_word (p - start) (omega arith) x below missing);
     before = h.take.before;
   }
-
--- ---- strips one after the other
-
-pub solved_none : (words wanted : ℕ) (known sources old : List ℕ) → AreSolved words 0 0 wanted known sources old old
-solved_none words wanted known sources old = record {
-  sums = λ p from to x below missing. absurd (omega arith);
-  before = λ i p below. refl;
-}
-
-pub solved_more : (words start end wanted : ℕ) (known sources old mid new : List ℕ) → AreSolved words 0 start wanted known sources old mid
-    → AreSolved words start end wanted known sources mid new → AreSolved words 0 end wanted known sources old new
-solved_more words start end wanted known sources old mid new h l = record {
-  sums = λ p from to x below missing.
-      elim (cases_lt p start) [
-        | inl early ↦ l.before x p early ∙ h.sums p from early x below missing
-        | inr late ↦ l.sums p late to x below missing
-      ];
-  before = λ i p below. absurd (omega arith);
-}
 
 -- ---- all regions
 
@@ -115,8 +94,7 @@ module _ (words wanted : ℕ) (known sources old mid new : List ℕ) (distinct :
       elim (either (is_known known x)) [
         | inl taken ↦
             let found = is_known-found known x taken in
-            let P : ℕ → Type 0 = λ y. y < wanted → word_at new (words * y + w) ≡ combination known (λ k. word_at sources (words * k + w)) y in
-            subst P found.2 (λ within. all_known w l found.0 found.1 within) below
+            rw (← found.2) (all_known w l found.0 found.1 (rw found.2 below))
         | inr free ↦ copied.kept x (is_known-apart known x free) w l ∙ solved.sums w (omega arith) l x below free
       ]
 
@@ -124,8 +102,7 @@ module _ (words wanted : ℕ) (known sources old mid new : List ℕ) (distinct :
       → word_at (region size new x) w ≡ combination known (λ k. word_at (region size sources k) w) x
   all_solved size even w l x below =
       let low : w < words = omega arith in
-      let P : ℕ → Type 0 = λ s. word_at (region s new x) w ≡ combination known (λ k. word_at (region s sources k) w) x in
-      subst P (sym even)
+      rw even
       (word_at-region words x w new low ∙ all_words w low x below
       ∙ xor_below-same (length known) (λ i. times (coefficient known (slice_index known i) x) (word_at sources (words * i + w)))
       (λ i. times (coefficient known (slice_index known i) x) (word_at (region (2 * words) sources i) w))

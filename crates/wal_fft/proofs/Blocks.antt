@@ -14,35 +14,21 @@ some_points level points e = let some = pow_pos level in omega arith
 -- the bytes of a block, and of its halves
 pub whole_long : (level points width whole : ℕ) → 0 < level → points ≡ 2 ^ (level - 1) → whole ≡ 2 ^ level * (2 * width)
     → whole ≡ points * 2 * width + points * 2 * width
-whole_long level points width whole some e long =
-    let both : 2 ^ level * (2 * width) ≡ points * 2 * (2 * width) = ap (λ (n : ℕ). n * (2 * width)) (double level points some e) in
-    let turned : points * 2 * (2 * width) ≡ points * 2 * width + points * 2 * width = omega arith in
-    long ∙ both ∙ turned
+whole_long level points width whole some e long = rw (long, double level points some e) (omega arith)
 
 pub half_long : (level points width : ℕ) → points ≡ 2 ^ level → points * 2 * width ≡ 2 ^ level * (2 * width)
-half_long level points width e =
-    let turned : points * 2 * width ≡ points * (2 * width) = omega arith in
-    turned ∙ ap (λ (n : ℕ). n * (2 * width)) e
+half_long level points width e = rw (← e) (omega arith)
 
 -- the points of a block lie below 1024
 pub last_point : (level points index : ℕ) → 0 < level → points ≡ 2 ^ (level - 1) → (index + 1) * 2 ^ level ≤ 1024
     → 2 * index * points + 2 * points ≤ 1024
-last_point level points index some e within =
-    let both : (index + 1) * 2 ^ level ≡ (index + 1) * (points * 2) = ap (λ (n : ℕ). (index + 1) * n) (double level points some e) in
-    let turned : (index + 1) * (points * 2) ≡ 2 * index * points + 2 * points = omega arith in
-    omega arith
+last_point level points index some e within = omega (arith, rw (double level points some e) at within)
 
 pub lower_points : (level points index : ℕ) → points ≡ 2 ^ level → 2 * index * points + 2 * points ≤ 1024 → (2 * index + 1) * 2 ^ level ≤ 1024
-lower_points level points index e within =
-    let same : (2 * index + 1) * points ≡ (2 * index + 1) * 2 ^ level = ap (λ (n : ℕ). (2 * index + 1) * n) e in
-    let turned : (2 * index + 1) * points ≡ 2 * index * points + points = omega arith in
-    omega arith
+lower_points level points index e within = rw (← e) (omega arith)
 
 pub upper_points : (level points index : ℕ) → points ≡ 2 ^ level → 2 * index * points + 2 * points ≤ 1024 → (2 * index + 1 + 1) * 2 ^ level ≤ 1024
-upper_points level points index e within =
-    let same : (2 * index + 1 + 1) * points ≡ (2 * index + 1 + 1) * 2 ^ level = ap (λ (n : ℕ). (2 * index + 1 + 1) * n) e in
-    let turned : (2 * index + 1 + 1) * points ≡ 2 * index * points + 2 * points = omega arith in
-    omega arith
+upper_points level points index e within = rw (← e) (omega arith)
 
 -- the widest strip for which there is room has some words
 pub widest_some : (room points : ℕ) → 1 ≤ points → points ≤ 1024 → 2048 ≤ room → 1 ≤ room / (2 * points)

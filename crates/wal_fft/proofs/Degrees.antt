@@ -6,13 +6,13 @@ use Rattle.std.proofs.lemmas.List.{length-map}
 use Rattle.std.proofs.lemmas.List.Elements.{All-from_recursion}
 use Rattle.wal_gf.specs.Field.{IsWord, times}
 use Rattle.wal_gf.proofs.Polynomials as polynomial
-use Rattle.wal_gf.proofs.Polynomials.{IsPolynomial, IsPolynomial-more, IsPolynomial-same, IsPolynomial-nothing, IsPolynomial-constant, IsPolynomial-plus, IsPolynomial-times, IsPolynomial-line}
+use Rattle.wal_gf.proofs.Polynomials.{IsPolynomial, IsPolynomial-nothing, IsPolynomial-constant, IsPolynomial-plus, IsPolynomial-times, IsPolynomial-line}
 use Rattle.wal_gf.proofs.Products.{times-zero}
 use Rattle.wal_gf.proofs.Instance.{Element, element-path, words, element_of, element_of-word, numbers_of, numbers_of-words, value-evaluate}
 use Rattle.wal_code.specs.Codeword.{IsCodeword}
 use Rattle.wal_code.proofs.Codes.{function}
 use Rattle.wal_fft.specs.Transform.{skew, value}
-use Rattle.wal_fft.proofs.SkewLaws.{skew-lt, skew-first, skew-step, line, scale}
+use Rattle.wal_fft.proofs.SkewLaws.{skew-lt, skew-first, skew-step, line, scale, scale-lt}
 use Rattle.wal_fft.proofs.ProductDegrees.{product_of}
 use Rattle.wal_fft.proofs.Values.{AreWords, value-lt, value-none, value-zero, value-suc}
 
@@ -25,18 +25,6 @@ raised-number : (s t : ℕ) → s < 65536 → t < 65536
 unfolding words
 raised-number s t low low' = ap₂ (λ (a b : ℕ). times a (times b (bit_xor b 1))) (element_of-word s low) (element_of-word t low')
 
-scale-lt : (j : ℕ) → j < 9 → scale j < 65536
-scale-lt zero few = omega arith
-scale-lt (suc zero) few = omega arith
-scale-lt (suc (suc zero)) few = omega arith
-scale-lt (suc (suc (suc zero))) few = omega arith
-scale-lt (suc (suc (suc (suc zero)))) few = omega arith
-scale-lt (suc (suc (suc (suc (suc zero))))) few = omega arith
-scale-lt (suc (suc (suc (suc (suc (suc zero)))))) few = omega arith
-scale-lt (suc (suc (suc (suc (suc (suc (suc zero))))))) few = omega arith
-scale-lt (suc (suc (suc (suc (suc (suc (suc (suc zero)))))))) few = omega arith
-scale-lt (suc (suc (suc (suc (suc (suc (suc (suc (suc j))))))))) few = let b : ⊥ = omega arith in absurd b
-
 first-number : (x : Element) → IsPoint x → words.times (words.plus x words.nothing) words.unit ≡ function (skew 0) x
 first-number x point =
     words.times-unit (words.plus x words.nothing) ∙ words.plus-nothing x
@@ -45,28 +33,26 @@ first-number x point =
 -- row j has 2^j + 1 coefficients
 pub skew-polynomial : (j : ℕ) → j < 10 → IsPolynomial words (suc (2 ^ j)) IsPoint (function (skew j))
 skew-polynomial zero few =
-    IsPolynomial-same words 2 IsPoint (λ x. words.times (words.plus x words.nothing) words.unit) (function (skew 0)) first-number
-    (IsPolynomial-line words 1 IsPoint (λ x. words.unit) words.nothing (IsPolynomial-constant words 0 IsPoint words.unit))
+    let p = IsPolynomial-line words 1 IsPoint (λ x. words.unit) words.nothing
+        (IsPolynomial-constant words 0 IsPoint words.unit) in
+    (p.0, p.1, λ x point. p.2 x point ∙ first-number x point)
 skew-polynomial (suc j) few =
-    let d = 2 ^ j in
-    let f = function (skew j) in
     let before = skew-polynomial j (omega arith) in
-    let more : IsPolynomial words (suc d) IsPoint (λ x. words.plus (f x) words.unit) =
-    IsPolynomial-plus words (suc d) IsPoint f (λ x. words.unit) before (IsPolynomial-constant words d IsPoint words.unit) in
-    let product : IsPolynomial words (d + suc d) IsPoint (λ x. words.times (polynomial.value words before.0 x) (words.plus (f x) words.unit)) =
-    product_of words d (suc d) IsPoint (λ x. words.plus (f x) words.unit) more before.0 before.1 in
-    IsPolynomial-same words (suc (2 ^ suc j)) IsPoint
-    (λ x. words.times (element_of (scale j)) (words.times (polynomial.value words before.0 x) (words.plus (f x) words.unit)))
-    (function (skew (suc j)))
-    (λ x point.
-    ap (λ (s : Element). words.times (element_of (scale j)) (words.times s (words.plus (f x) words.unit))) (before.2 x point)
-    ∙ element-path _ _
-    (raised-number (scale j) (skew j x.0) (scale-lt j (omega arith)) (skew-lt j x.0) ∙ sym (skew-step j x.0 (omega arith) point)
-    ∙ sym (element_of-word (skew (suc j) x.0) (skew-lt (suc j) x.0))))
-    (IsPolynomial-more words (d + suc d) (suc (2 ^ suc j)) IsPoint
-    (λ x. words.times (element_of (scale j)) (words.times (polynomial.value words before.0 x) (words.plus (f x) words.unit)))
-    (omega (arith, pow-suc 2 j))
-    (IsPolynomial-times words (d + suc d) IsPoint (λ x. words.times (polynomial.value words before.0 x) (words.plus (f x) words.unit)) (element_of (scale j)) product))
+    let other : Element → Element = λ x. words.plus (function (skew j) x) words.unit in
+    let more = IsPolynomial-plus words (suc (2 ^ j)) IsPoint (function (skew j)) (λ x. words.unit) before
+        (IsPolynomial-constant words (2 ^ j) IsPoint words.unit) in
+    let p = IsPolynomial-times words (2 ^ j + suc (2 ^ j)) IsPoint
+        (λ x. words.times (polynomial.value words before.0 x) (other x))
+        (element_of (scale j)) (product_of words (2 ^ j) (suc (2 ^ j)) IsPoint other more before.0 before.1) in (
+      p.0,
+      omega (arith, p.1, pow-suc 2 j),
+      λ x point.
+          p.2 x point ∙ ap (λ (s : Element). words.times (element_of (scale j)) (words.times s (other x)))
+          (before.2 x point)
+          ∙ element-path _ _
+          (raised-number (scale j) (skew j x.0) (scale-lt j) (skew-lt j x.0) ∙ sym (skew-step j x.0 (omega arith) point)
+          ∙ sym (element_of-word (skew (suc j) x.0) (skew-lt (suc j) x.0))),
+    )
 
 sum-number : (a s b : ℕ) → a < 65536 → s < 65536 → b < 65536
     → (words.plus (element_of a) (words.times (element_of s) (element_of b))).0 ≡ bit_xor a (times s b)
@@ -98,37 +84,41 @@ nothing_value c x none = element-path _ _ (sym (ap (λ (s : ℕ). s % 65536) (va
 pub value-polynomial : (j k : ℕ) (c : ℕ → ℕ) → j ≤ 10 → AreWords c → ((i : ℕ) → k ≤ i → i < 2 ^ j → c i ≡ 0)
     → IsPolynomial words k IsPoint (function (value j c))
 value-polynomial zero zero c few low none =
-    IsPolynomial-same words 0 IsPoint (λ x. words.nothing) (function (value 0 c))
-    (λ x point. nothing_value c x (none 0 (omega arith) (omega arith)))
-    (IsPolynomial-nothing words 0 IsPoint)
+    let p = IsPolynomial-nothing words 0 IsPoint in
+    (p.0, p.1, λ x point. p.2 x point ∙ nothing_value c x (none 0 (omega arith) (omega arith)))
 value-polynomial zero (suc k) c few low none =
-    IsPolynomial-same words (suc k) IsPoint (λ x. element_of (c 0)) (function (value 0 c)) (λ x point. ap element_of (sym (value-zero c x.0)))
-    (IsPolynomial-constant words k IsPoint (element_of (c 0)))
+    let p = IsPolynomial-constant words k IsPoint (element_of (c 0)) in
+    (p.0, p.1, λ x point. p.2 x point ∙ ap element_of (sym (value-zero c x.0)))
 value-polynomial (suc j) k c few low none =
     elim (cases_lt k (2 ^ j)) [
       | inl below ↦
-          IsPolynomial-same words k IsPoint (function (value j c)) (function (value (suc j) c))
-          (λ x point. ap element_of (no_upper j c x.0 (λ i within. none (2 ^ j + i) (omega arith) (omega (arith, pow-suc 2 j)))))
-          (value-polynomial j k c (omega arith) low (λ i from within. none i from (omega (arith, pow-suc 2 j))))
+          let p = value-polynomial j k c (omega arith) low
+              (λ i from within. none i from (omega (arith, pow-suc 2 j))) in (
+            p.0,
+            p.1,
+            λ x point.
+                p.2 x point
+                ∙ ap element_of
+                (no_upper j c x.0 (λ i within. none (2 ^ j + i) (omega arith) (omega (arith, pow-suc 2 j)))),
+          )
       | inr from ↦
-          let d = k - 2 ^ j in
           let h : ℕ → ℕ = λ i. c (2 ^ j + i) in
-          let lower : IsPolynomial words k IsPoint (function (value j c)) =
-          IsPolynomial-more words (2 ^ j) k IsPoint (function (value j c)) from
-          (value-polynomial j (2 ^ j) c (omega arith) low (λ i over within. let b : ⊥ = omega arith in absurd b)) in
-          let upper : IsPolynomial words d IsPoint (function (value j h)) =
-          value-polynomial j d h (omega arith) (λ i. low (2 ^ j + i)) (λ i over within. none (2 ^ j + i) (omega arith) (omega (arith, pow-suc 2 j))) in
           let row = skew-polynomial j (omega arith) in
-          let product : IsPolynomial words k IsPoint (λ x. words.times (polynomial.value words row.0 x) (function (value j h) x)) =
-          IsPolynomial-more words (2 ^ j + d) k IsPoint (λ x. words.times (polynomial.value words row.0 x) (function (value j h) x)) (omega arith)
-          (product_of words (2 ^ j) d IsPoint (function (value j h)) upper row.0 row.1) in
-          IsPolynomial-same words k IsPoint
-          (λ x. words.plus (function (value j c) x) (words.times (polynomial.value words row.0 x) (function (value j h) x)))
-          (function (value (suc j) c))
-          (λ x point.
-          ap (λ (s : Element). words.plus (function (value j c) x) (words.times s (function (value j h) x))) (row.2 x point)
-          ∙ halves j c x low)
-          (IsPolynomial-plus words k IsPoint (function (value j c)) (λ x. words.times (polynomial.value words row.0 x) (function (value j h) x)) lower product)
+          let lower = value-polynomial j (2 ^ j) c (omega arith) low (λ i over within. absurd (omega arith)) in
+          let upper = value-polynomial j (k - 2 ^ j) h (omega arith) (λ i. low (2 ^ j + i))
+              (λ i over within. none (2 ^ j + i) (omega arith) (omega (arith, pow-suc 2 j))) in
+          let product = product_of words (2 ^ j) (k - 2 ^ j) IsPoint (function (value j h)) upper row.0 row.1 in
+          let p = IsPolynomial-plus words k IsPoint (function (value j c))
+              (λ x. words.times (polynomial.value words row.0 x) (function (value j h) x))
+              (lower.0, omega (arith, lower.1), lower.2) (product.0, omega (arith, product.1), product.2) in (
+            p.0,
+            p.1,
+            λ x point.
+                p.2 x point
+                ∙ ap (λ (s : Element). words.plus (function (value j c) x) (words.times s (function (value j h) x)))
+                (row.2 x point)
+                ∙ halves j c x low,
+          )
     ]
 
 -- a polynomial over the field of words is a codeword at the first points

@@ -76,18 +76,30 @@ copied_word from n base xs part w even same within =
 part_long : (from : ℕ) (xs : List ℕ) → length (take (length xs - 2 * from) (drop (2 * from) xs)) ≡ length xs - 2 * from
 part_long from xs = mid_len (2 * from) (length xs) xs (omega arith)
 
+-- a sum in the words from one place on, of what the source's words are made to
+sum_from : (made : ℕ → ℕ) (from : ℕ) (old source part : List ℕ) → length source ≡ length old → 2 * from ≤ length old
+    → length part ≡ length old - 2 * from
+    → ((q : ℕ) → 2 * q + 1 < length old - 2 * from
+    → word_at part q ≡ bit_xor (word_at (take (length old - 2 * from) (drop (2 * from) old)) q)
+    (made (word_at (take (length source - 2 * from) (drop (2 * from) source)) q)))
+    → WasAdded (λ p. made (word_at source p)) from old (put_mid (2 * from) (length old - 2 * from) old part)
+sum_from made from old source part same inside long sums =
+    added_from (λ p. made (word_at source p)) from old part inside long
+    (λ q within.
+    sums q within
+    ∙ ap₂ (λ (s t : ℕ). bit_xor s (made t))
+    (copied_word (2 * from) (length old - 2 * from) from old
+    (take (length old - 2 * from) (drop (2 * from) old)) q refl refl within)
+    (copied_word (2 * from) (length source - 2 * from) from source
+    (take (length source - 2 * from) (drop (2 * from) source)) q refl refl (omega arith)))
+
 -- a sum of products in the words from one place on
 pub product_from : (c from : ℕ) (old source part : List ℕ) → length source ≡ length old → 2 * from ≤ length old
     → IsScaledSum c (take (length old - 2 * from) (drop (2 * from) old)) (take (length source - 2 * from) (drop (2 * from) source)) part
     → WasAdded (scaled c source) from old (put_mid (2 * from) (length old - 2 * from) old part)
 product_from c from old source part same inside h =
     let long = part_long from old in
-    added_from (scaled c source) from old part inside (h.same_length ∙ long)
-    (λ q within.
-    h.words q (omega arith)
-    ∙ ap₂ (λ (s t : ℕ). bit_xor s (times c t))
-    (copied_word (2 * from) (length old - 2 * from) from old (take (length old - 2 * from) (drop (2 * from) old)) q refl refl within)
-    (copied_word (2 * from) (length source - 2 * from) from source (take (length source - 2 * from) (drop (2 * from) source)) q refl refl (omega arith)))
+    sum_from (times c) from old source part same inside (h.same_length ∙ long) (λ q within. h.words q (omega arith))
 
 -- a sum of words
 pub words_from : (from : ℕ) (old source part : List ℕ) → length source ≡ length old → 2 * from ≤ length old
@@ -95,12 +107,7 @@ pub words_from : (from : ℕ) (old source part : List ℕ) → length source ≡
     → WasAdded (word_at source) from old (put_mid (2 * from) (length old - 2 * from) old part)
 words_from from old source part same inside h =
     let long = part_long from old in
-    added_from (word_at source) from old part inside (h.same_length ∙ long)
-    (λ q within.
-    h.words q (omega arith)
-    ∙ ap₂ (λ (s t : ℕ). bit_xor s t)
-    (copied_word (2 * from) (length old - 2 * from) from old (take (length old - 2 * from) (drop (2 * from) old)) q refl refl within)
-    (copied_word (2 * from) (length source - 2 * from) from source (take (length source - 2 * from) (drop (2 * from) source)) q refl refl (omega arith)))
+    sum_from (λ n. n) from old source part same inside (h.same_length ∙ long) (λ q within. h.words q (omega arith))
 
 -- nothing is added where each summand is 0
 pub added_nothing : (f : ℕ → ℕ) (from : ℕ) (old : List ℕ) → ((p : ℕ) → f p ≡ 0) → WasAdded f from old old

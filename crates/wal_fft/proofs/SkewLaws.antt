@@ -33,12 +33,9 @@ small-word (x ∷ xs) holds zero =
     omega arith
 small-word (x ∷ xs) holds (suc k) = small-word xs (both_true (eqb (x % 65536) x) (small xs) holds).1 k
 
-small_check : T (small table)
-unfolding small
-small_check = tt
-
 pub entry-lt : (j i : ℕ) → entry j i < 65536
-entry-lt j i = small-word table small_check (10 * j + i)
+unfolding small
+entry-lt j i = small-word table tt (10 * j + i)
 
 bit_times-lt : (d a : ℕ) → d < 2 → a < 65536 → d * a < 65536
 bit_times-lt zero a low below = omega arith
@@ -69,9 +66,8 @@ one_check = tt
 
 part_split : (n q r : ℕ) → r < 2 ^ n → q * 2 ^ n + r ≡ bit_xor (q * 2 ^ n) r
 part_split n q r below =
-    ap₂ (λ (s t : ℕ). s * 2 ^ n + t) (sym (xor_zero_r q)) (sym (xor_zero_l r))
-    ∙ sym (xor_block n q 0 0 r (pow_pos n) below)
-    ∙ ap₂ (λ (s t : ℕ). bit_xor s t) (add-zero _) (ap (λ (s : ℕ). s + r) (zero-mul (2 ^ n)) ∙ zero-add _)
+    let parts = xor_block n q 0 0 r (pow_pos n) below in
+    cc (xor_zero_r q, xor_zero_l r, add-zero (q * 2 ^ n), zero-mul (2 ^ n), zero-add r)
 
 pub skew-part : (n j q r : ℕ) → r < 2 ^ n → skew j (q * 2 ^ n + r) ≡ bit_xor (skew j (q * 2 ^ n)) (skew j r)
 skew-part n j q r below = ap (skew j) (part_split n q r below) ∙ skew-additive j (q * 2 ^ n) r
@@ -110,12 +106,15 @@ line s = times s (bit_xor s 1)
 abbrev pub scale : ℕ → ℕ
 scale j = slice_index (30723 ∷ 4973 ∷ 60035 ∷ 613 ∷ 21230 ∷ 46348 ∷ 37670 ∷ 42719 ∷ 14201 ∷ []) j
 
+pub scale-lt : (j : ℕ) → scale j < 65536
+unfolding small
+scale-lt j = small-word (30723 ∷ 4973 ∷ 60035 ∷ 613 ∷ 21230 ∷ 46348 ∷ 37670 ∷ 42719 ∷ 14201 ∷ []) tt j
+
 square-sum : (a b : ℕ) → a < 65536 → b < 65536 → times (bit_xor a b) (bit_xor a b) ≡ bit_xor (times a a) (times b b)
 square-sum a b low low' =
-    times-xor_left (bit_xor a b) a b ∙ ap₂ (λ (s t : ℕ). bit_xor s t) (times-xor_right a a b) (times-xor_right b a b)
-    ∙ xor_assoc (times a a) (times a b) (bit_xor (times b a) (times b b))
-    ∙ ap (λ (s : ℕ). bit_xor (times a a) (bit_xor (times a b) (bit_xor s (times b b)))) (times_comm b a low' low)
-    ∙ ap (λ (s : ℕ). bit_xor (times a a) s) (xor_back (times a b) (times b b))
+    let grouped = xor_assoc (times a a) (times a b) (bit_xor (times b a) (times b b)) in
+    let back = xor_back (times a b) (times b b) in
+    cc (times-xor_left (bit_xor a b) a b, times-xor_right a a b, times-xor_right b a b, times_comm b a low' low)
 
 line-is : (a : ℕ) → a < 65536 → line a ≡ bit_xor (times a a) a
 line-is a low = times-xor_right a a 1 ∙ ap (bit_xor (times a a)) (times-one a low)

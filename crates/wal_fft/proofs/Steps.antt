@@ -17,10 +17,7 @@ start_of : (index p d : ℕ) → d ≡ p * 2 → 2 * index * p ≡ index * d
 start_of index p d e = sym (ap (λ (s : ℕ). index * s) e ∙ omega arith)
 
 upper_of : (index p d : ℕ) → d ≡ p * 2 → (2 * index + 1) * p ≡ index * d + p
-upper_of index p d e =
-    let s : 2 * index * p ≡ index * d = start_of index p d e in
-    let t : (2 * index + 1) * p ≡ 2 * index * p + p = omega arith in
-    t ∙ ap (λ (n : ℕ). n + p) s
+upper_of index p d e = rw e (omega arith)
 
 lower_start : (index j : ℕ) → 2 * index * 2 ^ j ≡ index * 2 ^ suc j
 lower_start index j = start_of index (2 ^ j) (2 ^ suc j) (pow-suc 2 j)
@@ -34,13 +31,11 @@ upper_start index j u =
 
 -- what was added is added back
 undone : (a b c : ℕ) → a ≡ bit_xor b c → b ≡ bit_xor a c
-undone a b c e =
-    sym (xor_zero_r b) ∙ ap (bit_xor b) (sym (xor_self c)) ∙ sym (xor_assoc b c c) ∙ ap (λ (s : ℕ). bit_xor s c) (sym e)
+undone a b c e = cc (xor_zero_r b, xor_self c, xor_assoc b c c)
 
 -- and what was added twice is gone
 twice : (a b d c : ℕ) → a ≡ bit_xor b c → b ≡ bit_xor d c → a ≡ d
-twice a b d c e e' =
-    e ∙ ap (λ (s : ℕ). bit_xor s c) e' ∙ xor_assoc d c c ∙ ap (bit_xor d) (xor_self c) ∙ xor_zero_r d
+twice a b d c e e' = cc (xor_zero_r d, xor_self c, xor_assoc d c c)
 
 -- ---- lists of two halves
 
@@ -108,9 +103,7 @@ module _ (width j index from to : ℕ) (low high low_sum high_sum low_values hig
         | inl lower ↦ evaluated_lower w l i lower after before
         | inr upper ↦
             let place : i ≡ 2 ^ j + (i - 2 ^ j) = omega arith in
-            let P : ℕ → Type 0 = λ s. lane width (low_values ++ high_values) w s ≡ value (suc j) (lane width (low ++ high) w) (index * 2 ^ suc j + s) in
-            subst P (sym place)
-            (evaluated_upper w l (i - 2 ^ j) (omega (arith, pow-suc 2 j)) (omega arith) (omega arith))
+            rw place (evaluated_upper w l (i - 2 ^ j) (omega (arith, pow-suc 2 j)) (omega arith) (omega arith))
       ]
 
 -- ---- restoring, where the known points are in the lower half
@@ -239,14 +232,12 @@ module _ (width j index known : ℕ) (low high low_coeffs high_sum high_coeffs h
           | inl lower ↦ both_values_low w l i lower
           | inr upper ↦
               let place : i ≡ 2 ^ j + (i - 2 ^ j) = omega arith in
-              let P : ℕ → Type 0 = λ s. lane width (low ++ high) w s ≡ value (suc j) (lane width (low_new ++ high_new) w) (index * 2 ^ suc j + s) in
-              subst P (sym place) (both_values_high w l (i - 2 ^ j) (omega arith) (omega (arith, pow-suc 2 j)))
+              rw place (both_values_high w l (i - 2 ^ j) (omega arith) (omega (arith, pow-suc 2 j)))
         ];
     others = λ w l i above within.
         let more = h.more in
         let place : i ≡ 2 ^ j + (i - 2 ^ j) = omega arith in
-        let P : ℕ → Type 0 = λ s. lane width (low_new ++ high_new) w s ≡ lane width (low ++ high) w s in
-        subst P (sym place) (both_others w l (i - 2 ^ j) (omega arith) (omega (arith, pow-suc 2 j)));
+        rw place (both_others w l (i - 2 ^ j) (omega arith) (omega (arith, pow-suc 2 j)));
   }
 
 -- ---- the same at a level above 0
@@ -256,32 +247,30 @@ pub evaluated_level : (width level index from to : ℕ) (low high low_sum high_s
     → AreValues width level index from to (low ++ high) (low_values ++ high_values)
 evaluated_level width level index from to low high low_sum high_sum low_values high_values some h =
     let same : suc (level - 1) ≡ level = omega arith in
-    let P : ℕ → Type 0 = λ l. AreValues width l index from to (low ++ high) (low_values ++ high_values) in
-    subst P same (evaluated width (level - 1) index from to low high low_sum high_sum low_values high_values h)
+    rw (← same) (evaluated width (level - 1) index from to low high low_sum high_sum low_values high_values h)
 
 pub lower_level : (width level index known : ℕ) (low high low_sum low_coeffs low_new : List ℕ) → 0 < level
     → RestoresLower width (level - 1) index known low high low_sum low_coeffs low_new
     → AreCoefficients width level index known (low ++ high) (low_new ++ high)
 lower_level width level index known low high low_sum low_coeffs low_new some h =
     let same : suc (level - 1) ≡ level = omega arith in
-    let P : ℕ → Type 0 = λ l. AreCoefficients width l index known (low ++ high) (low_new ++ high) in
-    subst P same (restored_lower width (level - 1) index known low high low_sum low_coeffs low_new h)
+    rw (← same) (restored_lower width (level - 1) index known low high low_sum low_coeffs low_new h)
 
 pub both_level : (width level index known : ℕ) (low high low_coeffs high_sum high_coeffs high_new low_new : List ℕ) → 0 < level → known ≤ 2 ^ level
     → RestoresBoth width (level - 1) index known low high low_coeffs high_sum high_coeffs high_new low_new
     → AreCoefficients width level index known (low ++ high) (low_new ++ high_new)
 both_level width level index known low high low_coeffs high_sum high_coeffs high_new low_new some most h =
     let same : suc (level - 1) ≡ level = omega arith in
-    let P : ℕ → Type 0 = λ l. known ≤ 2 ^ l → AreCoefficients width l index known (low ++ high) (low_new ++ high_new) in
-    subst P same (restored_both width (level - 1) index known low high low_coeffs high_sum high_coeffs high_new low_new h) most
+    rw (← same)
+    (restored_both width (level - 1) index known low high low_coeffs high_sum high_coeffs high_new low_new h
+    (rw same most))
 
 -- ---- where nothing is done
 
 -- one point
 pub one_value : (width level index from to : ℕ) (bytes : List ℕ) → level ≡ 0 → AreValues width level index from to bytes bytes
 one_value width level index from to bytes none =
-    let P : ℕ → Type 0 = λ l. AreValues width l index from to bytes bytes in
-    subst P (sym none)
+    rw none
     (λ w l i below after before.
     let first : i ≡ 0 = omega arith in
     ap (lane width bytes w) first ∙ sym (value-zero (lane width bytes w) (index * 2 ^ 0 + i)))
@@ -297,12 +286,6 @@ one_coefficient width level index known bytes none most =
       others = λ w l i above within. refl;
     })
     most
-
-pub none_known : (width level index known : ℕ) (bytes : List ℕ) → known ≡ 0 → AreCoefficients width level index known bytes bytes
-none_known width level index known bytes none = record {
-  values = λ w l i below. absurd (omega arith);
-  others = λ w l i above within. refl;
-}
 
 -- no point of the block is wanted
 pub none_wanted : (width level index from to points : ℕ) (old new : List ℕ) → 0 < level → points ≡ 2 ^ (level - 1)

@@ -1,5 +1,5 @@
 -- Strips that are gathered, scattered and extended.
-use Rattle.std.proofs.Common.{◌≡◌, ℕ, ◌+◌, ◌-◌, ◌*◌, ◌^◌, ◌<◌, ◌≤◌, ◌⊎◌, inl, inr, List, length, take, slice_index, refl, sym, ap, ap₂, subst, ◌∙◌, arith, mul-le-mul_left, mul-le-mul_right}
+use Rattle.std.proofs.Common.{◌≡◌, ℕ, ◌+◌, ◌-◌, ◌*◌, ◌^◌, ◌<◌, ◌≤◌, ◌⊎◌, inl, inr, List, length, take, slice_index, sym, ap, ap₂, subst, ◌∙◌, arith, mul-le-mul_left, mul-le-mul_right}
 use Rattle.std.proofs.lemmas.Bool.{cases_lt}
 use Rattle.std.proofs.lemmas.List.{ext_get_or, get_or-take, length-take-le}
 use borrow.Rule.Slice.PartMut.{put_mid}
@@ -28,13 +28,6 @@ below_next i n below = elim (cases_lt i n) [ inl l ↦ inl l | inr g ↦ inr (om
 
 -- ---- gathering
 
--- no run yet
-pub gathered_none : (words start width : ℕ) (regions strip : List ℕ) → ((p : ℕ) → word_at strip p ≡ 0) → IsGathered words start width 0 regions strip
-gathered_none words start width regions strip zeros = record {
-  copied = λ w l i below. absurd (omega arith);
-  zeros = λ w l i above. zeros (width * i + w);
-}
-
 module _ (words start width place at k : ℕ) (regions old part : List ℕ)
     (at_is : at ≡ 2 * width * place) (k_is : k ≡ 2 * width) (room : at + k ≤ length old) (long : length part ≡ k)
     (words_of : (w : ℕ) → w < width → word_at part w ≡ word_at regions (words * place + (start + w)))
@@ -61,21 +54,12 @@ module _ (words start width place at k : ℕ) (regions old part : List ℕ)
     copied = λ w l i below.
         elim (below_next i place below) [
           | inl less ↦ gathered_before w i l less ∙ h.copied w l i less
-          | inr same ↦
-              let P : ℕ → Type 0 = λ i. lane width (put_mid at k old part) w i ≡ word_at regions (words * i + (start + w)) in
-              subst P (sym same) (gathered_own w l)
+          | inr same ↦ rw same (gathered_own w l)
         ];
     zeros = λ w l i above. gathered_after w i above ∙ h.zeros w l i (omega arith);
   }
 
 -- ---- scattering
-
-pub scattered_none : (words start width known : ℕ) (strip old : List ℕ) → IsScattered words start width known known strip old old
-scattered_none words start width known strip old = record {
-  copied = λ w l i above below. absurd (omega arith);
-  first = λ k below. refl;
-  before = λ i p below. refl;
-}
 
 module _ (words start width known place at k : ℕ) (strip old mid part : List ℕ)
     (at_is : at ≡ 2 * (words * place + start)) (k_is : k ≡ 2 * width) (room : at + k ≤ length mid) (long : length part ≡ k)
@@ -119,9 +103,7 @@ module _ (words start width known place at k : ℕ) (strip old mid part : List �
         | inl less ↦
             let early = run_before words i place less in
             scattered_before (words * i + (start + w)) (omega arith) ∙ h.copied w l i above less
-        | inr same ↦
-            let P : ℕ → Type 0 = λ i. word_at (put_mid at k mid part) (words * i + (start + w)) ≡ lane width strip w i in
-            subst P (sym same) (scattered_own w l)
+        | inr same ↦ rw same (scattered_own w l)
       ]
 
   pub scattered_more : IsScattered words start width known (place + 1) strip old (put_mid at k mid part)
@@ -183,21 +165,12 @@ module _ (words start width known total level : ℕ) (old gathered coeffs values
   pub strip_codewords : IsExtendedStrip words start (start + width) known total old new
   strip_codewords = record {
     codewords = λ p from to.
-        let P : ℕ → Type 0 = λ s. IsCodeword known total (λ i. word_at new (words * i + s)) in
-        let place : start + (p - start) ≡ p = omega arith in
-        subst P place (strip_word (p - start) (omega arith));
+        let place : start + (p - start) ≡ p = omega arith in rw (← place) (strip_word (p - start) (omega arith));
     first = h.scatter.first;
     before = h.scatter.before;
   }
 
 -- ---- strips one after the other
-
-pub strips_none : (words known total : ℕ) (old : List ℕ) → IsExtendedStrip words 0 0 known total old old
-strips_none words known total old = record {
-  codewords = λ p from to. absurd (omega arith);
-  first = λ k below. refl;
-  before = λ i p below. refl;
-}
 
 pub strips_more : (words start end known total : ℕ) (old mid new : List ℕ) → IsExtendedStrip words 0 start known total old mid
     → IsExtendedStrip words start end known total mid new → IsExtendedStrip words 0 end known total old new

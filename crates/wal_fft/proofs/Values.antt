@@ -32,19 +32,18 @@ pub value-same : (j : ℕ) (c d : ℕ → ℕ) (x : ℕ) → ((i : ℕ) → i < 
 unfolding value
 value-same zero c d x same = same 0 (lit< tt)
 value-same (suc j) c d x same =
-    ap₂ (λ (s t : ℕ). bit_xor s (times (skew j x) t))
-    (value-same j c d x (λ i below. same i (omega (arith, pow-suc 2 j))))
-    (value-same j (λ i. c (2 ^ j + i)) (λ i. d (2 ^ j + i)) x (λ i below. same (2 ^ j + i) (omega (arith, pow-suc 2 j))))
+    rw (value-same j c d x (λ i below. same i (omega (arith, pow-suc 2 j))))
+    (rw (value-same j (λ i. c (2 ^ j + i)) (λ i. d (2 ^ j + i)) x
+    (λ i below. same (2 ^ j + i) (omega (arith, pow-suc 2 j)))))
 
 -- coefficients that are all 0 have the value 0
 pub value-none : (j : ℕ) (c : ℕ → ℕ) (x : ℕ) → ((i : ℕ) → i < 2 ^ j → c i ≡ 0) → value j c x ≡ 0
 unfolding value
 value-none zero c x none = none 0 (lit< tt)
 value-none (suc j) c x none =
-    ap₂ (λ (s t : ℕ). bit_xor s (times (skew j x) t))
-    (value-none j c x (λ i below. none i (omega (arith, pow-suc 2 j))))
-    (value-none j (λ i. c (2 ^ j + i)) x (λ i below. none (2 ^ j + i) (omega (arith, pow-suc 2 j))))
-    ∙ ap (bit_xor 0) (times-zero (skew j x)) ∙ xor_self 0
+    rw (value-none j c x (λ i below. none i (omega (arith, pow-suc 2 j))))
+    (rw (value-none j (λ i. c (2 ^ j + i)) x (λ i below. none (2 ^ j + i) (omega (arith, pow-suc 2 j))))
+    (rw (times-zero (skew j x)) (xor_self 0)))
 
 pub value-line : (j : ℕ) (c d : ℕ → ℕ) (s x : ℕ) → s < 65536 → AreWords d
     → value j (λ i. bit_xor (c i) (times s (d i))) x ≡ bit_xor (value j c x) (times s (value j d x))

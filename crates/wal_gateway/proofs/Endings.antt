@@ -22,21 +22,12 @@ use Rattle.wal_gateway.proofs.Runs.{answered_more, only_more}
 -- a range that was found is that of the blob in the list
 in_blob : (from size : ℕ) (o : Option CheckedBlob) (found : Found) → Some found ≡ option_map (λ blob. range_of from size blob.bytes) o
     → (blob : CheckedBlob) × (o ≡ Some blob) × (found ≡ range_of from size blob.bytes)
-in_blob from size None found is = absurd (no_some found is)
-  where
-    no_some : (f : Found) → Some f ≡ None → ⊥
-    no_some f e = cc
-in_blob from size (Some blob) found is = (blob, refl, same found (range_of from size blob.bytes) is)
-  where
-    same : (a b : Found) → Some a ≡ Some b → a ≡ b
-    same a b e = cc
+in_blob from size None found is = absurd cc
+in_blob from size (Some blob) found is = (blob, refl, cc)
 
 no_blob : (from size : ℕ) (o : Option CheckedBlob) (found : Option Found) → found ≡ None → found ≡ option_map (λ blob. range_of from size blob.bytes) o → o ≡ None
 no_blob from size None found none is = refl
-no_blob from size (Some blob) found none is = absurd (no_some (range_of from size blob.bytes) (sym is ∙ none))
-  where
-    no_some : (f : Found) → Some f ≡ None → ⊥
-    no_some f e = cc
+no_blob from size (Some blob) found none is = absurd cc
 
 module _ (digest : List ℕ → List ℕ) (old : Cache) (get : Get) where
   -- a hit
@@ -45,9 +36,9 @@ module _ (digest : List ℕ → List ℕ) (old : Cache) (get : Get) where
       → ((blob : CheckedBlob) → kept_blob old get.id ≡ Some blob → new ≡ used old get.id blob) → EndsGet digest old get (Ok (record { hit = true; found = found })) new
   ends_hit result found new some is leaves =
       let of = in_blob get.from get.size (kept_blob old get.id) found (sym some ∙ is) in
-      let answer_of : Found → GetAnswer = λ f. record { hit = true; found = f } in
-      let hits : Hits old get of.0 (answer_of found) new = (ap answer_of of.2, leaves of.0 of.1) in
-      (hit_answers digest old get of.0 (answer_of found) new of.1 hits, hit_only digest old get of.0 (answer_of found) new of.1 hits)
+      let answer : GetAnswer = record { hit = true; found = found } in
+      let hits : Hits old get of.0 answer new = (cc (of.2), leaves of.0 of.1) in
+      (hit_answers digest old get of.0 answer new of.1 hits, hit_only digest old get of.0 answer new of.1 hits)
 
   -- a miss
   ends_miss : (outcome : Outcome) (answer : GetAnswer) (new : Cache) → kept_blob old get.id ≡ None → IsOutcome digest get.id.0 get.payloads outcome
@@ -64,11 +55,8 @@ module _ (digest : List ℕ → List ℕ) (old : Cache) (get : Get) where
       → EndsGet digest old get (Ok (record { hit = false; found = found })) new
   ends_bytes outcome evidence shape bytes found new none is only has outcome_is shape_is found_is new_is =
       let here : IsEvidenceFor digest get.id.0 get.payloads (told.Bytes bytes) evidence = subst (λ (o : Outcome). HasEvidence digest get.id.0 get.payloads o evidence) outcome_is has in
-      let answer_of : Found → GetAnswer = λ f. record { hit = false; found = f } in
-      let with_shape : BlobShape → Cache = λ s. entered old get.id (record { shape = s; bytes = bytes }) in
-      ends_miss (read.Bytes bytes) (answer_of found) new none (subst (IsOutcome digest get.id.0 get.payloads) outcome_is is)
-      (subst (IsOnlyOutcome digest get.id.0 get.payloads) outcome_is only) (ap answer_of found_is)
-      (here.0.metadata, here.4, new_is ∙ ap with_shape (shape_is here.0 here.1))
+      ends_miss (read.Bytes bytes) (record { hit = false; found = found }) new none (subst (IsOutcome digest get.id.0 get.payloads) outcome_is is)
+      (subst (IsOnlyOutcome digest get.id.0 get.payloads) outcome_is only) (cc (found_is)) (here.0.metadata, here.4, cc (new_is, shape_is here.0 here.1))
 
   -- and where it gives none
   leaves_none : (outcome : Outcome) → ((bytes : List ℕ) → outcome ≡ read.Bytes bytes → ⊥) → Leaves digest old get outcome old

@@ -1,5 +1,6 @@
 -- A hit answers as a read of the payloads does, or the read's evidence contradicts the blob in the list.
 use Rattle.std.proofs.Common.{◌≡◌, ℕ, Bool, true, false, List, Option, Some, None, MatchOption, ◌⊎◌, inl, inr, refl, sym, ap, subst, ◌∙◌, cond}
+use Rattle.std.proofs.lemmas.Bool.{false≢true}
 use Rattle.std.specs.Str.{bytes_eq}
 use Rattle.std.proofs.lemmas.Slice.Eq.{bytes_eq-Decides}
 use Rattle.std.specs.Map.{lookup, remove_entry}
@@ -22,15 +23,6 @@ use Rattle.wal_gateway.specs.Getting.{AnswersGet, Cache, Get, Hits, Misses, foun
 use Rattle.wal_gateway.specs.Kept.{ContradictsKept, IsFreshOrContrary}
 use Rattle.wal_gateway.proofs.PairLaws.{id_itself}
 
-no_bytes : (blob : List ℕ) → told.Bytes blob ≡ told.Reject → ⊥
-no_bytes blob same = cc
-
-not_rejected : (blob : List ℕ) → read.Bytes blob ≡ read.Reject → ⊥
-not_rejected blob same = cc
-
-same_bytes : (a b : List ℕ) → read.Bytes a ≡ read.Bytes b → b ≡ a
-same_bytes a b same = cc
-
 -- the blob that was used is in the list
 used_kept : (cache : Cache) (id : BlobId) (blob : CheckedBlob) → kept_blob (used cache id blob) id ≡ Some blob
 used_kept cache id blob = ap (λ (b : Bool). cond b (Some blob) (lookup (id_eq id) (remove_entry (id_eq id) cache.pairs))) (id_itself id)
@@ -41,21 +33,20 @@ module _ (digest : List ℕ → List ℕ) (id : List ℕ) (payloads : List (List
       → IsJudgedBy digest m basis (told.Bytes bytes) → IsOutcome digest id payloads (read.Bytes bytes)
   judged_outcome m (Slivers indices joined) bytes held one drawn judged =
       (m, one, indices, joined, drawn, held.count, judged)
-  judged_outcome m (Proof p) bytes held one drawn judged = absurd (no_bytes bytes judged)
+  judged_outcome m (Proof p) bytes held one drawn judged = absurd (let is : told.Bytes bytes ≡ told.Reject = judged in cc)
 
   -- so it leads to no bytes that are not the outcome
-  contrary : (verdict : Verdict) (outcome : Outcome) (evidence : Option Evidence) (cache : Cache) (key : BlobId) (blob : CheckedBlob) → key.0 ≡ id
-      → kept_blob cache key ≡ Some blob → IsOnlyOutcome digest id payloads outcome → (read.Bytes blob.bytes ≡ outcome → ⊥)
-      → ((other : Outcome) → (bytes : List ℕ) → other ≡ read.Bytes bytes → IsOutcome digest id payloads other → other ≡ outcome)
+  contrary : (verdict : Verdict) (evidence : Option Evidence) (cache : Cache) (key : BlobId) (blob : CheckedBlob) → key.0 ≡ id
+      → kept_blob cache key ≡ Some blob → (IsOutcome digest id payloads (read.Bytes blob.bytes) → ⊥)
       → IsEvidenceFor digest id payloads verdict evidence → (e : Evidence) × (evidence ≡ Some e) × ContradictsKept digest cache key e
-  contrary verdict outcome evidence cache key blob key_is kept only apart same has = (
+  contrary verdict evidence cache key blob key_is kept apart has = (
     has.0,
     has.1,
     record {
       blob = blob;
       kept = kept;
       evidence = subst (λ (i : List ℕ). IsEvidence digest i has.0) (sym key_is) has.2;
-      other = λ judged. apart (same (read.Bytes blob.bytes) blob.bytes refl (judged_outcome has.0.metadata has.0.basis blob.bytes has.2.held has.4 has.5 judged));
+      other = λ judged. apart (judged_outcome has.0.metadata has.0.basis blob.bytes has.2.held has.4 has.5 judged);
     },
   )
 
@@ -68,17 +59,14 @@ module _ (digest : List ℕ → List ℕ) (id : List ℕ) (payloads : List (List
       by : (b : Bool) → bytes_eq bytes blob.bytes ≡ b
           → (range_of from size blob.bytes ≡ range_of from size bytes) ⊎ ((e : Evidence) × (evidence ≡ Some e) × ContradictsKept digest cache key e)
       by true is = inl (ap (range_of from size) (sym ((bytes_eq-Decides bytes blob.bytes).0 is)))
-      by false is = inr (contrary (told.Bytes bytes) (read.Bytes bytes) evidence cache key blob key_is kept only
-          (λ same. differ (same_bytes blob.bytes bytes same)) (λ other b other_is outcome. subst (λ (o : Outcome). IsOutcome digest id payloads o → o ≡ read.Bytes bytes) (sym other_is) (only (read.Bytes b)) outcome) has)
-        where
-          differ : bytes ≡ blob.bytes → ⊥
-          differ same = let yes_is : bytes_eq bytes blob.bytes ≡ true = (bytes_eq-Decides bytes blob.bytes).1 same in false_true (sym is ∙ yes_is)
-            where
-              false_true : false ≡ true → ⊥
-              false_true e = cc
+      by false is = inr (contrary (told.Bytes bytes) evidence cache key blob key_is kept
+          (λ outcome.
+          let same : read.Bytes blob.bytes ≡ read.Bytes bytes = only (read.Bytes blob.bytes) outcome in
+          let bytes_are : bytes ≡ blob.bytes = cc in
+          false≢true (sym is ∙ (bytes_eq-Decides bytes blob.bytes).1 bytes_are)) has)
   fresh_or_contrary from size read.Reject evidence cache key blob key_is kept only has verdict =
-      inr (contrary told.Reject read.Reject evidence cache key blob key_is kept only (not_rejected blob.bytes)
-      (λ other b other_is outcome. subst (λ (o : Outcome). IsOutcome digest id payloads o → o ≡ read.Reject) (sym other_is) (only (read.Bytes b)) outcome) has)
+      inr (contrary told.Reject evidence cache key blob key_is kept
+      (λ outcome. let same : read.Bytes blob.bytes ≡ read.Reject = only (read.Bytes blob.bytes) outcome in cc) has)
   fresh_or_contrary from size outcome evidence cache key blob key_is kept only has verdict = absurd verdict
 
 -- of a get that is a hit
@@ -87,10 +75,7 @@ pub hit_fresh : (digest : List ℕ → List ℕ) (old : Cache) (get : Get) (answ
 hit_fresh digest old get answer new answers hit = by (kept_blob old get.id) answers
   where
     by : (o : Option CheckedBlob) → MatchOption o (Misses digest old get answer new) (λ blob. Hits old get blob answer new) → IsFreshOrContrary digest new get answer
-    by None misses = absurd (false_true (sym (ap (λ (a : GetAnswer). a.hit) misses.2) ∙ hit))
-      where
-        false_true : false ≡ true → ⊥
-        false_true e = cc
+    by None misses = absurd (false≢true (sym (ap (λ (a : GetAnswer). a.hit) misses.2) ∙ hit))
     by (Some blob) hits = λ fresh is verdict.
         let kept : kept_blob new get.id ≡ Some blob = subst (λ (c : Cache). kept_blob c get.id ≡ Some blob) (sym hits.1) (used_kept old get.id blob) in
         let here = fresh_or_contrary digest get.id.0 get.payloads get.from get.size fresh.outcome fresh.evidence new get.id blob refl kept is.1 is.2 verdict in

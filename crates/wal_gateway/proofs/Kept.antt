@@ -1,5 +1,5 @@
 -- Each blob in the list has its identifier.
-use Rattle.std.proofs.Common.{◌≡◌, ℕ, ◌≤◌, List, ◌∷◌, length, take, Option, Some, None, IsSome, refl, sym, ap, subst, ◌∙◌, ⊎_elim}
+use Rattle.std.proofs.Common.{◌≡◌, ℕ, ◌≤◌, List, ◌∷◌, length, take, Option, Some, None, refl, sym, ap, subst, ⊎_elim}
 use Rattle.std.specs.List.{IsDistinct}
 use Rattle.std.specs.Map.{keys_of, lookup}
 use Rattle.lru.specs.LruCache.{LruCache, lru_cache, promoted, put_entries}
@@ -57,10 +57,7 @@ module _ (digest : List ℕ → List ℕ) where
       → IsIdentifierOf digest m.format m.f bytes (identifier_of digest m)
   identified m (Slivers indices joined) bytes judged =
       subst (λ (b : List ℕ). IsIdentifierOf digest m.format m.f b (identifier_of digest m)) (sym judged.2.0) judged.2.1
-  identified m (Proof p) bytes judged = absurd (no_bytes bytes judged)
-    where
-      no_bytes : (blob : List ℕ) → told.Bytes blob ≡ told.Reject → ⊥
-      no_bytes blob same = cc
+  identified m (Proof p) bytes judged = absurd (let is : told.Bytes bytes ≡ told.Reject = judged in cc)
 
   -- so it is checked
   pub judged_checked : (id : BlobId) (e : Evidence) (bytes : List ℕ) → Commits digest id.0 e.metadata → IsJudgedBy digest e.metadata e.basis (told.Bytes bytes)
@@ -79,29 +76,18 @@ module _ (digest : List ℕ → List ℕ) where
       let here : IsEvidenceFor digest id.0 payloads (told.Bytes bytes) evidence = subst (λ (o : Outcome). HasEvidence digest id.0 payloads o evidence) is has in
       subst (λ (s : BlobShape). IsChecked digest id (record { shape = s; bytes = bytes })) (sym (shape_is here.0 here.1)) (judged_checked id here.0 bytes here.2.committed here.3)
 
-  -- and there is evidence for it
-  pub read_evident : (id : BlobId) (payloads : List (List ℕ)) (outcome : Outcome) (evidence : Option Evidence) (bytes : List ℕ)
-      → HasEvidence digest id.0 payloads outcome evidence → outcome ≡ read.Bytes bytes → IsSome evidence
-  read_evident id payloads outcome evidence bytes has is =
-      let here : IsEvidenceFor digest id.0 payloads (told.Bytes bytes) evidence = subst (λ (o : Outcome). HasEvidence digest id.0 payloads o evidence) is has in
-      subst (λ (o : Option Evidence). IsSome o) (sym here.1) refl
-
   -- the invariant after a blob entered
   pub entered_invariant : (blobs new : LruCache BlobId CheckedBlob) (cache : Cache) (id : BlobId) (blob : CheckedBlob) → record { pairs = blobs.entries; capacity = blobs.cap } ≡ cache
       → kept_blob cache id ≡ None → AreChecked digest blobs.entries × (1 ≤ blobs.cap) → IsChecked digest id blob → new ≡ lru_cache (put_entries id_eq blobs id blob) blobs.cap
       → AreChecked digest new.entries × (1 ≤ new.cap)
   entered_invariant blobs new cache id blob is none all one new_is =
       let absent : lookup (id_eq id) blobs.entries ≡ None = subst (λ (c : Cache). kept_blob c id ≡ None) (sym is) none in
-      let Kept : LruCache BlobId CheckedBlob → Type 0 = λ k. AreChecked digest k.entries × (1 ≤ k.cap) in
-      subst Kept (sym new_is)
-      (subst (λ (es : List (BlobId × CheckedBlob)). AreChecked digest es × (1 ≤ blobs.cap)) (sym (put_entered blobs id blob absent all.1))
-      (checked_entered blobs.cap id blob blobs.entries all.0 one, all.1))
+      rw (new_is, put_entered blobs id blob absent all.1) (checked_entered blobs.cap id blob blobs.entries all.0 one, all.1)
 
   -- and after one was used
   pub used_invariant : (blobs new : LruCache BlobId CheckedBlob) (id : BlobId) → AreChecked digest blobs.entries × (1 ≤ blobs.cap)
       → new ≡ lru_cache (promoted (id_eq id) blobs.entries) blobs.cap → AreChecked digest new.entries × (1 ≤ new.cap)
-  used_invariant blobs new id all new_is =
-      subst (λ (k : LruCache BlobId CheckedBlob). AreChecked digest k.entries × (1 ≤ k.cap)) (sym new_is) (checked_promoted id blobs.entries all.0, all.1)
+  used_invariant blobs new id all new_is = rw new_is (checked_promoted id blobs.entries all.0, all.1)
 
 -- the list after a blob entered
 pub entered_shown : (blobs new : LruCache BlobId CheckedBlob) (cache : Cache) (id : BlobId) (blob : CheckedBlob) → record { pairs = blobs.entries; capacity = blobs.cap } ≡ cache
@@ -109,9 +95,7 @@ pub entered_shown : (blobs new : LruCache BlobId CheckedBlob) (cache : Cache) (i
     → record { pairs = new.entries; capacity = new.cap } ≡ entered cache id blob
 entered_shown blobs new cache id blob is none some new_is =
     let absent : lookup (id_eq id) blobs.entries ≡ None = subst (λ (c : Cache). kept_blob c id ≡ None) (sym is) none in
-    let show : LruCache BlobId CheckedBlob → Cache = λ k. record { pairs = k.entries; capacity = k.cap } in
-    let with_pairs : List (BlobId × CheckedBlob) → Cache = λ es. record { pairs = es; capacity = blobs.cap } in
-    ap show new_is ∙ ap with_pairs (put_entered blobs id blob absent some) ∙ ap (λ (c : Cache). entered c id blob) is
+    rw (new_is, put_entered blobs id blob absent some) (ap (λ (c : Cache). entered c id blob) is)
 
 -- and after one was used
 pub used_shown : (blobs new : LruCache BlobId CheckedBlob) (cache : Cache) (id : BlobId) (blob : CheckedBlob) → record { pairs = blobs.entries; capacity = blobs.cap } ≡ cache
@@ -119,9 +103,7 @@ pub used_shown : (blobs new : LruCache BlobId CheckedBlob) (cache : Cache) (id :
     → record { pairs = new.entries; capacity = new.cap } ≡ used cache id blob
 used_shown blobs new cache id blob is kept new_is =
     let found : lookup (id_eq id) blobs.entries ≡ Some blob = subst (λ (c : Cache). kept_blob c id ≡ Some blob) (sym is) kept in
-    let show : LruCache BlobId CheckedBlob → Cache = λ k. record { pairs = k.entries; capacity = k.cap } in
-    let with_pairs : List (BlobId × CheckedBlob) → Cache = λ es. record { pairs = es; capacity = blobs.cap } in
-    ap show new_is ∙ ap with_pairs (promoted_used id blobs.entries blob found) ∙ ap (λ (c : Cache). used c id blob) is
+    rw (new_is, promoted_used id blobs.entries blob found) (ap (λ (c : Cache). used c id blob) is)
 
 module _ (digest : List ℕ → List ℕ) where
   -- evidence against a blob in the list contradicts its bytes
@@ -130,7 +112,7 @@ module _ (digest : List ℕ → List ℕ) where
       → lookup (id_eq id) pairs ≡ Some blob → bytes ≡ blob.bytes → ContradictsBlob digest blob.shape bytes e
   contradicts_bytes pairs capacity cache id e blob bytes is all against found bytes_are =
       let kept : kept_blob cache id ≡ Some blob = subst (λ (c : Cache). kept_blob c id ≡ Some blob) is found in
-      let same : against.blob ≡ blob = one_blob against.blob blob (sym against.kept ∙ kept) in
+      let same : against.blob ≡ blob = cc (against.kept, kept) in
       let checked = found_checked digest id pairs blob all found in
       subst (λ (b : List ℕ). ContradictsBlob digest blob.shape b e) (sym bytes_are) (record {
         id = id.0;
@@ -138,9 +120,6 @@ module _ (digest : List ℕ → List ℕ) where
         evidence = against.evidence;
         other = λ judged. against.other (subst (λ (x : CheckedBlob). IsJudgedBy digest e.metadata e.basis (told.Bytes x.bytes)) (sym same) judged);
       })
-    where
-      one_blob : (a b : CheckedBlob) → Some a ≡ Some b → a ≡ b
-      one_blob a b same = cc
 
   -- whose the two texts are, in other words
   pub kept_texts : (pairs : List (BlobId × CheckedBlob)) (capacity : ℕ) (cache : Cache) (id : BlobId) (e : Evidence) (blob : CheckedBlob) (bytes left right : List ℕ)

@@ -1,6 +1,5 @@
 -- A get has one answer, but for the two texts of a collision.
-use Rattle.std.proofs.Common.{◌≡◌, ℕ, List, Option, Some, None, MatchOption, false, refl, sym, ap, subst, ◌∙◌}
-use Rattle.wal_shape.specs.Metadata.{BlobMetadata}
+use Rattle.std.proofs.Common.{◌≡◌, ℕ, List, Option, Some, None, MatchOption, false, refl, sym, subst, ◌∙◌}
 use Rattle.wal_reader.specs.Outcome.{IsOnlyOutcome, IsOutcome, SameOutcome}
 use Rattle.wal_reader.specs.declared.outcome.Outcome.{Outcome}
 use Rattle.wal_reader.specs.declared.outcome.Outcome.TheVariants as read
@@ -8,7 +7,7 @@ use Rattle.wal_gateway.specs.declared.answer.Found.{Found}
 use Rattle.wal_gateway.specs.declared.answer.Found.TheVariants.{Collision}
 use Rattle.wal_gateway.specs.declared.answer.GetAnswer.{GetAnswer}
 use Rattle.wal_gateway.specs.declared.checked.CheckedBlob.{CheckedBlob}
-use Rattle.wal_gateway.specs.Getting.{AnswersGet, Cache, Get, Hits, Leaves, Misses, blob_with, entered, found_of, kept_blob}
+use Rattle.wal_gateway.specs.Getting.{AnswersGet, Cache, Get, Hits, Leaves, Misses, found_of, kept_blob}
 use Rattle.wal_gateway.specs.Gotten.{IsOnlyAnswer, SameGetAnswer, SameFound}
 
 pub same_itself : (f : Found) → SameFound f f
@@ -33,9 +32,7 @@ module _ (digest : List ℕ → List ℕ) (old : Cache) (get : Get) where
   left_along a b x y same left right = one b x y (subst (λ (o : Outcome). Leaves digest old get o x) same left) right
     where
       one : (o : Outcome) (x y : Cache) → Leaves digest old get o x → Leaves digest old get o y → x ≡ y
-      one (read.Bytes bytes) x y left right =
-          let same : left.0 ≡ right.0 = right.1.1 left.0 left.1.0 in
-          left.2 ∙ ap (λ (m : BlobMetadata). entered old get.id (blob_with m bytes)) same ∙ sym right.2
+      one (read.Bytes bytes) x y left right = cc (left.2, right.2, right.1.1 left.0 left.1.0)
       one o x y left right = left ∙ sym right
 
   same_left : (a b : Outcome) (x y : Cache) → SameOutcome a b → Leaves digest old get a x → Leaves digest old get b y → x ≡ y

@@ -3,7 +3,6 @@ use Rattle.std.proofs.Common.{◌≡◌, ℕ, zero, suc, ◌-◌, ◌≤◌, tru
 use Rattle.std.specs.Option.{option_map, option_map_or}
 use Rattle.std.specs.Map.{lookup, lookup_entry, remove_entry}
 use Rattle.std.specs.Cmp.Lexicographic.{same_text}
-use Rattle.std.proofs.lemmas.Option.{none-some}
 use Rattle.std.proofs.lemmas.Cmp.{nat_list_eq_equiv}
 use Rattle.lru.specs.LruCache.{LruCache, promoted, put_entries}
 use Rattle.lru.proofs.CallerLemmas.{Contains-lookup_entry}
@@ -20,35 +19,15 @@ id_same a b same = let of_text : List ℕ → BlobId = λ text. record { 0 = tex
 pub id_itself : (a : BlobId) → id_eq a a ≡ true
 id_itself a = nat_list_eq_equiv.refl a.0
 
-value_of : (o : Option (BlobId × CheckedBlob)) (e : BlobId × CheckedBlob) (blob : CheckedBlob) → o ≡ Some e → option_map (λ e. e.1) o ≡ Some blob → e.1 ≡ blob
-value_of None e blob is value = cc
-value_of (Some f) e blob is value = cc
-
-no_value : (o : Option (BlobId × CheckedBlob)) (blob : CheckedBlob) → o ≡ None → option_map (λ e. e.1) o ≡ Some blob → ⊥
-no_value None blob is value = none-some blob value
-no_value (Some f) blob is value = cc
-
-some_value : (o : Option (BlobId × CheckedBlob)) (e : BlobId × CheckedBlob) → o ≡ Some e → option_map (λ e. e.1) o ≡ None → ⊥
-some_value None e is value = cc
-some_value (Some f) e is value = cc
-
 module _ (id : BlobId) (pairs : List (BlobId × CheckedBlob)) where
   -- the pair of an identifier goes to the front
   pub promoted_used : (blob : CheckedBlob) → lookup (id_eq id) pairs ≡ Some blob → promoted (id_eq id) pairs ≡ (id, blob) ∷ remove_entry (id_eq id) pairs
-  promoted_used blob found = by (lookup_entry (id_eq id) pairs) refl
+  promoted_used blob found = by (lookup_entry (id_eq id) pairs) refl (lookup-lookup_entry (id_eq id) pairs ∙ found)
     where
-      value : option_map (λ e. e.1) (lookup_entry (id_eq id) pairs) ≡ Some blob
-      value = lookup-lookup_entry (id_eq id) pairs ∙ found
-
-      by : (o : Option (BlobId × CheckedBlob)) → lookup_entry (id_eq id) pairs ≡ o
+      by : (o : Option (BlobId × CheckedBlob)) → lookup_entry (id_eq id) pairs ≡ o → option_map (λ e. e.1) o ≡ Some blob
           → option_map_or (λ e. e ∷ remove_entry (id_eq id) pairs) o pairs ≡ (id, blob) ∷ remove_entry (id_eq id) pairs
-      by None is = absurd (no_value (lookup_entry (id_eq id) pairs) blob is value)
-      by (Some e) is =
-          let bytes : e.1 ≡ blob = value_of (lookup_entry (id_eq id) pairs) e blob is value in
-          let key : id ≡ e.0 = id_same id e.0 (Contains-lookup_entry (id_eq id) pairs e is).1 in
-          let pair : BlobId → CheckedBlob → BlobId × CheckedBlob = λ k v. (k, v) in
-          let same : e ≡ (id, blob) = ap (λ (k : BlobId). pair k e.1) (sym key) ∙ ap (λ (v : CheckedBlob). pair id v) bytes in
-          ap (λ (p : BlobId × CheckedBlob). p ∷ remove_entry (id_eq id) pairs) same
+      by None is value = cc
+      by (Some (key, held)) is value = cc (id_same id key (Contains-lookup_entry (id_eq id) pairs (key, held) is).1, value)
 
 one_before : (n : ℕ) (pair : BlobId × CheckedBlob) (pairs : List (BlobId × CheckedBlob)) → 1 ≤ n → pair ∷ take (n - 1) pairs ≡ take n (pair ∷ pairs)
 one_before zero pair pairs some = absurd (omega arith)
@@ -57,10 +36,10 @@ one_before (suc n) pair pairs some = let less : suc n - 1 ≡ n = omega arith in
 -- a pair whose identifier is new goes to the front, and the last one beyond the capacity goes
 pub put_entered : (cache : LruCache BlobId CheckedBlob) (id : BlobId) (blob : CheckedBlob) → lookup (id_eq id) cache.entries ≡ None → 1 ≤ cache.cap
     → put_entries id_eq cache id blob ≡ take cache.cap ((id, blob) ∷ cache.entries)
-put_entered cache id blob new some = by (lookup_entry (id_eq id) cache.entries) refl
+put_entered cache id blob new some = by (lookup_entry (id_eq id) cache.entries) (lookup-lookup_entry (id_eq id) cache.entries ∙ new)
   where
-    by : (o : Option (BlobId × CheckedBlob)) → lookup_entry (id_eq id) cache.entries ≡ o
+    by : (o : Option (BlobId × CheckedBlob)) → option_map (λ e. e.1) o ≡ None
         → option_map_or (λ e. (e.0, blob) ∷ remove_entry (id_eq id) cache.entries) o ((id, blob) ∷ take (cache.cap - 1) cache.entries)
         ≡ take cache.cap ((id, blob) ∷ cache.entries)
-    by None is = one_before cache.cap (id, blob) cache.entries some
-    by (Some e) is = absurd (some_value (lookup_entry (id_eq id) cache.entries) e is (lookup-lookup_entry (id_eq id) cache.entries ∙ new))
+    by None value = one_before cache.cap (id, blob) cache.entries some
+    by (Some e) value = cc

@@ -1,5 +1,5 @@
 -- Requests among the envelopes of a stream, and reading from a stream.
-use Rattle.std.proofs.Common.{◌≡◌, ℕ, ◌+◌, ◌-◌, ◌<◌, ◌≤◌, List, [], ◌∷◌, ◌++◌, length, take, Option, Some, None, Result, Ok, Err, refl, sym, ap, subst, ◌∙◌, append-nil, append_assoc, arith, length-append}
+use Rattle.std.proofs.Common.{◌≡◌, ℕ, ◌+◌, ◌-◌, ◌<◌, List, [], ◌∷◌, ◌++◌, length, take, Option, Some, None, Ok, refl, sym, ap, subst, ◌∙◌, append-nil, append_assoc, arith, length-append}
 use Rattle.std.proofs.lemmas.List.{take_at}
 use Rattle.std.specs.Option.{option_map_or}
 use Rattle.wal_frame.specs.Frame.{envelope}
@@ -13,7 +13,6 @@ use Rattle.wal_reader.specs.declared.outcome.ReadAnswer.{ReadAnswer}
 use Rattle.wal_reader.proofs.IntakeLaws.{one_cut, part_none, wrong_none}
 use Rattle.wal_gateway.specs.declared.request.Asked.{Asked}
 use Rattle.wal_gateway.specs.declared.request.Request.{Request}
-use Rattle.wal_gateway.specs.Getting.{Get}
 use Rattle.wal_gateway.specs.Requests.{IsFirstRequest, get_of, gets_in, request_of}
 
 -- ---- a stream has one list of payloads, and no place where it is malformed
@@ -38,19 +37,8 @@ read_answer digest id bytes answer finished ps is =
 
 -- ---- the first request
 
-abbrev the_envelope : List ℕ × List ℕ → Option (List ℕ × List ℕ)
-the_envelope e = Some e
-
-same_pair : (x y : List ℕ × List ℕ) → the_envelope x ≡ the_envelope y → x ≡ y
-same_pair x y e = cc
-
-pair_is : (p q a b : List ℕ) → the_envelope (p, a) ≡ the_envelope (q, b) → (p ≡ q) × (a ≡ b)
-pair_is p q a b e =
-    let same = same_pair (p, a) (q, b) e in
-    (ap (λ (x : List ℕ × List ℕ). x.0) same, ap (λ (x : List ℕ × List ℕ). x.1) same)
-
-no_pair : (p a : List ℕ) → the_envelope (p, a) ≡ None → ⊥
-no_pair p a e = cc
+parts_of : (a b : List ℕ × List ℕ) → Some a ≡ Some b → (a.0 ≡ b.0) × (a.1 ≡ b.1)
+parts_of a b same = (let pairs : a ≡ b = cc in (ap (λ (e : List ℕ × List ℕ). e.0) pairs, ap (λ (e : List ℕ × List ℕ). e.1) pairs))
 
 empty_none : envelope_at [] ≡ None
 unfolding envelope_at
@@ -59,14 +47,14 @@ empty_none = refl
 -- what an envelope at the front of a stream is of its payloads
 at_front : (ps : List (List ℕ)) (bytes payload later : List ℕ) → IsStream ps bytes → envelope_at bytes ≡ Some (payload, later)
     → (rest : List (List ℕ)) × (ps ≡ payload ∷ rest) × IsStream rest later
-at_front [] bytes payload later is at = absurd (no_pair payload later (sym at ∙ ap envelope_at is ∙ empty_none))
+at_front [] bytes payload later is at = absurd (cc (at, ap envelope_at is, empty_none))
 at_front (p ∷ ps) bytes payload later is at =
-    let same = pair_is p payload is.1 later (sym (envelope_read bytes is.0 p is.1 is.2 is.3) ∙ at) in
-    (ps, ap (λ (x : List ℕ). x ∷ ps) same.0, subst (λ (t : List ℕ). IsStream ps t) same.1 is.4)
+    let same = parts_of (p, is.1) (payload, later) (sym (envelope_read bytes is.0 p is.1 is.2 is.3) ∙ at) in
+    (ps, ap (λ (x : List ℕ). x ∷ ps) same.0, subst (IsStream ps) same.1 is.4)
 
 none_at_front : (ps : List (List ℕ)) (bytes : List ℕ) → IsStream ps bytes → envelope_at bytes ≡ None → ps ≡ []
 none_at_front [] bytes is none = refl
-none_at_front (p ∷ ps) bytes is none = absurd (no_pair p is.1 (sym (envelope_read bytes is.0 p is.1 is.2 is.3) ∙ none))
+none_at_front (p ∷ ps) bytes is none = absurd (cc (envelope_read bytes is.0 p is.1 is.2 is.3, none))
 
 gets_next : (front ps : List (List ℕ)) (payload : List ℕ) (o : Option Request) → request_of payload ≡ o
     → gets_in front (payload ∷ ps) ≡ option_map_or (λ r. get_of front r ∷ gets_in [] ps) o (gets_in (front ++ payload ∷ []) ps)

@@ -1,5 +1,5 @@
 -- Functions that keep sums of polynomials over GF(2). On polynomials of degree below n such a function is known by its values at the powers of x below the n-th.
-use Rattle.std.proofs.Common.{◌≡◌, ℕ, zero, suc, ◌+◌, ◌*◌, ◌/◌, ◌%◌, ◌^◌, ◌<◌, Bool, cond, T, bit_xor, sym, ap, ap₂, subst, ◌⊎◌, ◌∙◌, arith, zero-mul, one-mul, add-zero, zero-add, mul_comm, mod-lt, div-lt_iff_lt-mul, div-add-mod', pow_pos, pow-suc, eq-or-lt_of_le, ⊎_elim, true, false}
+use Rattle.std.proofs.Common.{◌≡◌, ℕ, zero, suc, ◌+◌, ◌*◌, ◌/◌, ◌%◌, ◌^◌, ◌<◌, Bool, cond, T, bit_xor, sym, ap, ap₂, ◌⊎◌, ◌∙◌, arith, zero-mul, one-mul, add-zero, zero-add, mul_comm, mod-lt, div-lt_iff_lt-mul, div-add-mod', pow_pos, pow-suc, eq-or-lt_of_le, ⊎_elim, true, false, eqb, eqb→eq}
 use Rattle.std.specs.Int.{bit_at}
 use Rattle.std.specs.Int.Bits.{xor_assoc, xor_self, xor_zero_l, xor_zero_r}
 use Rattle.std.proofs.lemmas.Nat.{xor_comm, xor_block}
@@ -12,14 +12,14 @@ IsAdditive f = (a b : ℕ) → f (bit_xor a b) ≡ bit_xor (f a) (f b)
 -- ---- sums of two, three and four
 
 pub xor_left_comm : (a b c : ℕ) → bit_xor a (bit_xor b c) ≡ bit_xor b (bit_xor a c)
-xor_left_comm a b c = sym (xor_assoc a b c) ∙ ap (λ (s : ℕ). bit_xor s c) (xor_comm a b) ∙ xor_assoc b a c
+xor_left_comm a b c = sym (xor_assoc a b c) ∙ rw (xor_comm a b) (xor_assoc b a c)
 
 pub xor_middle : (a b c d : ℕ) → bit_xor (bit_xor a b) (bit_xor c d) ≡ bit_xor (bit_xor a c) (bit_xor b d)
 xor_middle a b c d = simp (xor_assoc, xor_left_comm)
 
 -- what is added twice is gone
 pub xor_back : (a b : ℕ) → bit_xor a (bit_xor a b) ≡ b
-xor_back a b = sym (xor_assoc a a b) ∙ ap (λ (s : ℕ). bit_xor s b) (xor_self a) ∙ xor_zero_l b
+xor_back a b = sym (xor_assoc a a b) ∙ rw xor_self (xor_zero_l b)
 
 pub additive-zero : (f : ℕ → ℕ) → IsAdditive f → f 0 ≡ 0
 additive-zero f keeps = ap f (sym (xor_self 0)) ∙ keeps 0 0 ∙ xor_self (f 0)
@@ -29,16 +29,14 @@ additive-zero f keeps = ap f (sym (xor_self 0)) ∙ keeps 0 0 ∙ xor_self (f 0)
 pub scale_xor : (d a b : ℕ) → d < 2 → d * bit_xor a b ≡ bit_xor (d * a) (d * b)
 scale_xor zero a b low = simp (zero-mul, xor_zero_l)
 scale_xor (suc zero) a b low = simp (one-mul)
-scale_xor (suc (suc d)) a b low = let b : ⊥ = omega arith in absurd b
+scale_xor (suc (suc d)) a b low = absurd (omega arith)
 
 pub scaled_sum : (d e a : ℕ) → d < 2 → e < 2 → (d + e) % 2 * a ≡ bit_xor (d * a) (e * a)
 scaled_sum zero zero a low low' = simp (zero-mul, xor_zero_l)
 scaled_sum zero (suc zero) a low low' = simp (zero-mul, one-mul, xor_zero_l)
 scaled_sum (suc zero) zero a low low' = simp (zero-mul, one-mul, xor_zero_r)
 scaled_sum (suc zero) (suc zero) a low low' = simp (zero-mul, one-mul, xor_self)
-scaled_sum (suc (suc d)) e a low low' = let b : ⊥ = omega arith in absurd b
-scaled_sum zero (suc (suc e)) a low low' = let b : ⊥ = omega arith in absurd b
-scaled_sum (suc zero) (suc (suc e)) a low low' = let b : ⊥ = omega arith in absurd b
+scaled_sum d e a low low' = absurd (omega arith)
 
 pub shift-additive : (n : ℕ) → IsAdditive (λ a. 2 ^ n * a)
 shift-additive n a b =
@@ -68,22 +66,18 @@ top_split n a =
     ∙ ap₂ (λ (s t : ℕ). bit_xor s t) (add-zero _) (ap (λ (s : ℕ). s + a % 2 ^ n) (zero-mul (2 ^ n)) ∙ zero-add _)
 
 at_bit : (f g : ℕ → ℕ) (n d : ℕ) → IsAdditive f → IsAdditive g → d < 2 → f (2 ^ n) ≡ g (2 ^ n) → f (d * 2 ^ n) ≡ g (d * 2 ^ n)
-at_bit f g n zero keeps keeps' low same =
-    ap f (zero-mul (2 ^ n)) ∙ additive-zero f keeps ∙ sym (additive-zero g keeps') ∙ sym (ap g (zero-mul (2 ^ n)))
-at_bit f g n (suc zero) keeps keeps' low same = ap f (one-mul (2 ^ n)) ∙ same ∙ sym (ap g (one-mul (2 ^ n)))
-at_bit f g n (suc (suc d)) keeps keeps' low same = let b : ⊥ = omega arith in absurd b
+at_bit f g n zero keeps keeps' low same = rw zero-mul (additive-zero f keeps ∙ sym (additive-zero g keeps'))
+at_bit f g n (suc zero) keeps keeps' low same = rw one-mul same
+at_bit f g n (suc (suc d)) keeps keeps' low same = absurd (omega arith)
 
 pub same_by_powers : (n : ℕ) (f g : ℕ → ℕ) → IsAdditive f → IsAdditive g → ((i : ℕ) → i < n → f (2 ^ i) ≡ g (2 ^ i)) → (a : ℕ) → a < 2 ^ n → f a ≡ g a
 same_by_powers zero f g keeps keeps' same a low =
-    let none : a ≡ 0 = omega arith in
-    ap f none ∙ additive-zero f keeps ∙ sym (additive-zero g keeps') ∙ sym (ap g none)
+    let none : a ≡ 0 = omega arith in rw none (additive-zero f keeps ∙ sym (additive-zero g keeps'))
 same_by_powers (suc n) f g keeps keeps' same a low =
     let top : a / 2 ^ n < 2 = (div-lt_iff_lt-mul {x = a} {y = 2} (pow_pos n)).1 (omega (arith, pow-suc 2 n)) in
-    ap f (top_split n a) ∙ keeps (a / 2 ^ n * 2 ^ n) (a % 2 ^ n)
-    ∙ ap₂ (λ (s t : ℕ). bit_xor s t)
-    (at_bit f g n (a / 2 ^ n) keeps keeps' top (same n (omega arith)))
-    (same_by_powers n f g keeps keeps' (λ i below. same i (omega arith)) (a % 2 ^ n) (mod-lt a (pow_pos n)))
-    ∙ sym (keeps' (a / 2 ^ n * 2 ^ n) (a % 2 ^ n)) ∙ sym (ap g (top_split n a))
+    let high = at_bit f g n (a / 2 ^ n) keeps keeps' top (same n (omega arith)) in
+    let rest = same_by_powers n f g keeps keeps' (λ i below. same i (omega arith)) (a % 2 ^ n) (mod-lt a (pow_pos n)) in
+    cc (top_split n a, keeps (a / 2 ^ n * 2 ^ n) (a % 2 ^ n), keeps' (a / 2 ^ n * 2 ^ n) (a % 2 ^ n))
 
 -- ---- tests over all numbers below a bound
 
@@ -97,8 +91,14 @@ cond-both false c holds = absurd holds
 
 pub all_below-at : (n : ℕ) (p : ℕ → Bool) → T (all_below n p) → (i : ℕ) → i < n → T (p i)
 unfolding all_below
-all_below-at zero p holds i below = let b : ⊥ = omega arith in absurd b
+all_below-at zero p holds i below = absurd (omega arith)
 all_below-at (suc n) p holds i below =
     let both = cond-both (p n) (all_below n p) holds in
-    let place : (i ≡ n) ⊎ (i < n) = eq-or-lt_of_le (omega arith) in
-    ⊎_elim (λ e. let P : ℕ → Type 0 = λ k. T (p k) in subst P (sym e) both.0) (λ l. all_below-at n p both.1 i l) place
+    ⊎_elim (λ e. rw e both.0) (λ l. all_below-at n p both.1 i l) (eq-or-lt_of_le (omega arith))
+
+-- functions that keep sums are the same below 2 ^ n where a computed table says so of the powers of x
+pub same_by_table : (n : ℕ) (f g : ℕ → ℕ) → IsAdditive f → IsAdditive g
+    → T (all_below n (λ i. eqb (f (2 ^ i)) (g (2 ^ i)))) →
+    (a : ℕ) → a < 2 ^ n → f a ≡ g a
+same_by_table n f g keeps keeps' test =
+    same_by_powers n f g keeps keeps' (λ i l. eqb→eq _ _ (all_below-at n (λ i. eqb (f (2 ^ i)) (g (2 ^ i))) test i l))

@@ -1,5 +1,5 @@
 -- A field of characteristic 2: each element is its own negative, so there is no subtraction.
-use Rattle.std.proofs.Common.{◌≡◌, ◌≢◌, ◌∙◌, sym, ap, Bool, true, false, refl, ◌⊎◌, inl, inr}
+use Rattle.std.proofs.Common.{◌≡◌, ◌≢◌, ◌∙◌, sym, Bool, true, false, refl, ◌⊎◌, inl, inr}
 
 pub record Field (K : Type 0) : Type 0 where
   pub nothing : K
@@ -34,21 +34,20 @@ module _ {K : Type 0} (F : Field K) where
   plus-times a b c = times_comm (plus a b) c ∙ rw (times-plus, times_comm c a, times_comm c b)
 
   pub plus_left_comm : (a b c : K) → plus a (plus b c) ≡ plus b (plus a c)
-  plus_left_comm a b c = sym (plus_assoc a b c) ∙ ap (λ (s : K). plus s c) (plus_comm a b) ∙ plus_assoc b a c
+  plus_left_comm a b c = sym (plus_assoc a b c) ∙ rw (plus_comm a b) (plus_assoc b a c)
 
   pub times_left_comm : (a b c : K) → times a (times b c) ≡ times b (times a c)
-  times_left_comm a b c = sym (times_assoc a b c) ∙ ap (λ (s : K). times s c) (times_comm a b) ∙ times_assoc b a c
+  times_left_comm a b c = sym (times_assoc a b c) ∙ rw (times_comm a b) (times_assoc b a c)
 
   pub plus_back : (a b : K) → plus a (plus a b) ≡ b
-  plus_back a b = sym (plus_assoc a a b) ∙ ap (λ (s : K). plus s b) (plus-self a) ∙ nothing-plus b
+  plus_back a b = sym (plus_assoc a a b) ∙ rw (plus-self a) (nothing-plus b)
 
   -- two elements whose sum is nothing are equal
   pub same_of_sum : (a b : K) → plus a b ≡ nothing → a ≡ b
-  same_of_sum a b h = sym (plus-nothing a) ∙ ap (λ (s : K). plus a s) (sym h) ∙ plus_back a b
+  same_of_sum a b h = cc (plus-nothing a, plus_back a b)
 
   pub times-nothing : (a : K) → times a nothing ≡ nothing
-  times-nothing a =
-      ap (λ (s : K). times a s) (sym (plus-self nothing)) ∙ times-plus a nothing nothing ∙ plus-self (times a nothing)
+  times-nothing a = cc (plus-self nothing, times-plus a nothing nothing, plus-self (times a nothing))
 
   pub nothing-times : (a : K) → times nothing a ≡ nothing
   nothing-times a = times_comm nothing a ∙ times-nothing a
@@ -56,8 +55,8 @@ module _ {K : Type 0} (F : Field K) where
   -- where a product is nothing and its first factor is not, the second is
   pub no_divisors : (a b : K) → a ≢ nothing → times a b ≡ nothing → b ≡ nothing
   no_divisors a b h e =
-      sym (unit-times b) ∙ ap (λ (s : K). times s b) (sym (times-inverse a h) ∙ times_comm a (inverse a)) ∙
-      times_assoc (inverse a) a b ∙ ap (λ (s : K). times (inverse a) s) e ∙ times-nothing (inverse a)
+      let i = inverse a in
+      cc (unit-times b, times-inverse a h, times_comm a i, times_assoc i a b, times-nothing i)
 
   -- equality is told by a test, so any two elements are equal or not
   pub equal_or_not : (a b : K) → (a ≡ b) ⊎ (a ≢ b)
@@ -65,7 +64,7 @@ module _ {K : Type 0} (F : Field K) where
     where
       by_test : (t : Bool) → same a b ≡ t → (a ≡ b) ⊎ (a ≢ b)
       by_test true e = inl (same-to a b e)
-      by_test false e = inr (λ h. let f : true ≡ false = sym (same-from a b h) ∙ e in cc)
+      by_test false e = inr (λ h. cc (same-from a b h, e))
 
   pub same-other : (a b : K) → a ≢ b → same a b ≡ false
   same-other a b h = by_test (same a b) refl

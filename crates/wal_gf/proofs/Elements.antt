@@ -1,5 +1,5 @@
 -- Lists of field elements, and the lists of their numbers.
-use Rattle.std.proofs.Common.{◌≡◌, ℕ, ◌<◌, List, ◌++◌, length, take, get_or, All, ap, subst, ◌∙◌, arith}
+use Rattle.std.proofs.Common.{◌≡◌, ℕ, ◌<◌, List, ◌++◌, length, take, get_or, All, ap, ◌∙◌, arith}
 use Rattle.std.proofs.lemmas.List.{length-map}
 use Rattle.std.proofs.Math.ListN.{get_or-map}
 use Rattle.std.proofs.Math.Seq.{take-append_seam}
@@ -18,9 +18,7 @@ pub length-words_of : (gs : List Gf) → length (words_of gs) ≡ length gs
 length-words_of gs = length-map gs (λ (g : Gf). g.0)
 
 pub element_word : (gs : List Gf) (i : ℕ) → i < length gs → All IsWord (words_of gs) → IsWord (get_or gs i zero_element).0
-element_word gs i within lows =
-    let P : ℕ → Type 0 = λ s. IsWord s in
-    subst P (number_at gs i) (lows i 0 (omega (arith, length-words_of gs)))
+element_word gs i within lows = rw (number_at gs i) at (lows i 0 (omega (arith, length-words_of gs)))
 
 -- a Vec after a slice of all its elements was written
 pub take-written : (xs ys : List Gf) (n : ℕ) → n ≡ length xs → take n (xs ++ ys) ≡ xs

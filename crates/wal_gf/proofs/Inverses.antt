@@ -1,11 +1,11 @@
 -- Each word but 0 has an inverse, its power 65534. Nothing is taken on trust: that squaring 16 times gives each word back is computed,
 -- and that 0 and 1 are their own squares alone is shown by a function that undoes u^2 + u up to the lowest bit.
-use Rattle.std.proofs.Common.{◌≡◌, ◌≢◌, ℕ, zero, suc, ◌+◌, ◌*◌, ◌%◌, ◌^◌, ◌<◌, List, [], ◌∷◌, get_or, eqb, T, bit_xor, refl, sym, ap, ap₂, ◌∙◌, arith, mod-lt, mod-eq_of_lt, pow-suc, eqb→eq, lit<}
+use Rattle.std.proofs.Common.{◌≡◌, ◌≢◌, ℕ, zero, suc, ◌+◌, ◌*◌, ◌%◌, ◌^◌, ◌<◌, List, [], ◌∷◌, get_or, bit_xor, refl, sym, ap, ◌∙◌, arith, mod-lt, mod-eq_of_lt, pow-suc, lit<}
 use Rattle.std.specs.Int.{bit_at}
 use Rattle.std.specs.Int.Bits.{xor_assoc, xor_self, xor_zero_r}
 use Rattle.std.proofs.lemmas.Nat.{xor_mod}
 use Rattle.wal_gf.specs.Field.{xor_below, product, cancel, remainder, times, power, inverse}
-use Rattle.wal_gf.proofs.Additive.{IsAdditive, additive-zero, bit-additive, sum-additive, xor_below-additive, same_by_powers, all_below, all_below-at, xor_back}
+use Rattle.wal_gf.proofs.Additive.{IsAdditive, additive-zero, bit-additive, sum-additive, xor_below-additive, same_by_table, all_below, xor_back}
 use Rattle.wal_gf.proofs.Products.{times-lt, times_comm, times_assoc, times-xor_left, times-xor_right, times-zero, one-times}
 use Rattle.wal_gf.proofs.Powers.{power-suc, power-lt, power-one, power-add, power-square}
 
@@ -16,14 +16,13 @@ square a = times (a % 2 ^ 16) (a % 2 ^ 16)
 
 square-is : (a : ℕ) → a < 65536 → square a ≡ times a a
 unfolding square
-square-is a low = let same : a % 2 ^ 16 ≡ a = mod-eq_of_lt low in ap₂ (λ (s t : ℕ). times s t) same same
+square-is a low = rw (mod-eq_of_lt low)
 
 square-sum : (a b : ℕ) → a < 65536 → b < 65536 → times (bit_xor a b) (bit_xor a b) ≡ bit_xor (times a a) (times b b)
 square-sum a b low low' =
-    times-xor_left (bit_xor a b) a b ∙ ap₂ (λ (s t : ℕ). bit_xor s t) (times-xor_right a a b) (times-xor_right b a b)
-    ∙ xor_assoc (times a a) (times a b) (bit_xor (times b a) (times b b))
-    ∙ ap (λ (s : ℕ). bit_xor (times a a) (bit_xor (times a b) (bit_xor s (times b b)))) (times_comm b a low' low)
-    ∙ ap (λ (s : ℕ). bit_xor (times a a) s) (xor_back (times a b) (times b b))
+    let grouped = xor_assoc (times a a) (times a b) (bit_xor (times b a) (times b b)) in
+    let back = xor_back (times a b) (times b b) in
+    cc (times-xor_left (bit_xor a b) a b, times-xor_right a a b, times-xor_right b a b, times_comm b a low' low)
 
 square-additive : IsAdditive square
 unfolding square
@@ -49,15 +48,10 @@ squared-power (suc n) a low =
     let twice : 2 ^ n + 2 ^ n ≡ 2 ^ suc n = omega (arith, pow-suc 2 n) in
     ap (squared n) (square-is a low) ∙ squared-power n (times a a) (times-lt a a low) ∙ power-square a (2 ^ n) low ∙ ap (power a) twice
 
-squared_check : T (all_below 16 (λ i. eqb (squared 16 (2 ^ i)) (2 ^ i)))
-unfolding all_below squared square times product xor_below remainder cancel
-squared_check = tt
-
 pub power-field : (a : ℕ) → a < 65536 → power a 65536 ≡ a
+unfolding all_below squared square times product xor_below remainder cancel
 power-field a low =
-    sym (squared-power 16 a low)
-    ∙ same_by_powers 16 (squared 16) (λ a. a) (squared-additive 16) (λ a b. refl)
-    (λ i within. eqb→eq _ _ (all_below-at 16 (λ i. eqb (squared 16 (2 ^ i)) (2 ^ i)) squared_check i within)) a low
+    sym (squared-power 16 a low) ∙ same_by_table 16 (squared 16) (λ a. a) (squared-additive 16) (λ a b. refl) tt a low
 
 -- ---- 0 and 1 alone are their own squares
 
@@ -73,31 +67,26 @@ back-additive : IsAdditive back
 unfolding back
 back-additive = xor_below-additive 16 (λ i v. bit_at v i * get_or table i 0) (λ i. bit-additive i (get_or table i 0))
 
-back_check : T (all_below 16 (λ i. eqb (back (bit_xor (square (2 ^ i)) (2 ^ i))) (bit_xor (2 ^ i) (2 ^ i % 2))))
-unfolding all_below back square times product xor_below remainder cancel
-back_check = tt
-
 back-is : (u : ℕ) → u < 65536 → back (bit_xor (square u) u) ≡ bit_xor u (u % 2)
+unfolding all_below back square times product xor_below remainder cancel
 back-is =
-    same_by_powers 16 (λ u. back (bit_xor (square u) u)) (λ u. bit_xor u (u % 2))
-    (λ a b. ap back (sum-additive square (λ u. u) square-additive (λ a b. refl) a b) ∙ back-additive (bit_xor (square a) a) (bit_xor (square b) b))
-    (sum-additive (λ u. u) (λ u. u % 2) (λ a b. refl) (λ a b. xor_mod a b 1))
-    (λ i within. eqb→eq _ _ (all_below-at 16 (λ i. eqb (back (bit_xor (square (2 ^ i)) (2 ^ i))) (bit_xor (2 ^ i) (2 ^ i % 2))) back_check i within))
+    same_by_table 16 (λ u. back (bit_xor (square u) u)) (λ u. bit_xor u (u % 2))
+    (λ a b. rw (sum-additive square (λ u. u) square-additive (λ a b. refl) a b)
+    (back-additive (bit_xor (square a) a) (bit_xor (square b) b)))
+    (sum-additive (λ u. u) (λ u. u % 2) (λ a b. refl) (λ a b. xor_mod a b 1)) tt
 
 own_square : (u : ℕ) → u < 65536 → times u u ≡ u → u < 2
 own_square u low same =
-    let gone : bit_xor (square u) u ≡ 0 = ap (λ (s : ℕ). bit_xor s u) (square-is u low ∙ same) ∙ xor_self u in
-    let equal : bit_xor u (u % 2) ≡ 0 = sym (back-is u low) ∙ ap back gone ∙ additive-zero back back-additive in
-    let lowest : u ≡ u % 2 = sym (xor_zero_r u) ∙ ap (λ (s : ℕ). bit_xor u s) (sym equal) ∙ xor_back u (u % 2) in
+    let gone : bit_xor (square u) u ≡ 0 = rw (square-is u low, same) (xor_self u) in
+    let equal : bit_xor u (u % 2) ≡ 0 = sym (back-is u low) ∙ rw gone (additive-zero back back-additive) in
+    let lowest : u ≡ u % 2 = cc (xor_zero_r u, xor_back u (u % 2)) in
     omega (arith, mod-lt u {m = 2} (lit< tt))
 
 -- ---- inverses
 
 -- the power 65535 is its own square
 unit-square : (a : ℕ) → a < 65536 → times (power a 65535) (power a 65535) ≡ power a 65535
-unit-square a low =
-    sym (power-add a 65535 65535) ∙ power-add a 65536 65534 ∙ ap (λ (s : ℕ). times s (power a 65534)) (power-field a low)
-    ∙ sym (power-suc a 65534)
+unit-square a low = cc (power-add a 65535 65535, power-add a 65536 65534, power-field a low, power-suc a 65534)
 
 pub times-inverse : (a : ℕ) → a < 65536 → a ≢ 0 → times a (power a 65534) ≡ 1
 times-inverse a low some = cases (power a 65535) refl (own_square (power a 65535) (power-lt a 65535) (unit-square a low))

@@ -1,7 +1,7 @@
 -- Interpolation over a field: the coefficients by which the values at known points give the value anywhere.
-use Rattle.std.proofs.Common.{◌≡◌, ◌≢◌, ◌∙◌, sym, ap, ap₂, ℕ, zero, suc, List, [], ◌∷◌, length, refl, arith, ◌⊎◌, inl, inr, Bool, cond, subst}
+use Rattle.std.proofs.Common.{◌≡◌, ◌≢◌, ◌∙◌, sym, ℕ, zero, suc, List, [], ◌∷◌, length, refl, arith, ◌⊎◌, inl, inr, cond, subst}
 use Rattle.std.specs.List.{AllByRecursion}
-use Rattle.wal_gf.proofs.Algebra.{Field, nothing-plus, unit-times, nothing-times, times-nothing, same_of_sum, equal_or_not, same-other}
+use Rattle.wal_gf.proofs.Algebra.{Field, times_left_comm, nothing-plus, unit-times, nothing-times, times-nothing, same_of_sum, equal_or_not, same-other}
 use Rattle.wal_gf.proofs.Sums.{sum_over, sum_over-same}
 use Rattle.wal_gf.proofs.Polynomials.{Apart, IsPolynomial, IsPolynomial-more, IsPolynomial-same, IsPolynomial-constant, IsPolynomial-times, IsPolynomial-line, IsPolynomial-sum, polynomial_unique}
 
@@ -38,13 +38,11 @@ module _ {K : Type 0} (F : Field K) where
 
   factor-same : (p w q : K) → p ≡ q → factor F p w q ≡ unit
   unfolding factor
-  factor-same p w q e =
-      ap (λ (b : Bool). cond b unit (times (plus w q) (inverse (plus p q)))) (same-from p q e)
+  factor-same p w q e = rw (same-from p q e)
 
   factor-other : (p w q : K) → p ≢ q → factor F p w q ≡ times (plus w q) (inverse (plus p q))
   unfolding factor
-  factor-other p w q n =
-      ap (λ (b : Bool). cond b unit (times (plus w q) (inverse (plus p q)))) (same-other F p q n)
+  factor-other p w q n = rw (same-other F p q n)
 
   factor-own : (p q : K) → factor F p p q ≡ unit
   factor-own p q =
@@ -57,8 +55,7 @@ module _ {K : Type 0} (F : Field K) where
   pub coefficient-own : (known : List K) (p : K) → coefficient F known p p ≡ unit
   unfolding coefficient
   coefficient-own [] p = refl
-  coefficient-own (q ∷ known) p =
-      ap₂ (λ (s t : K). times s t) (factor-own p q) (coefficient-own known p) ∙ times-unit unit
+  coefficient-own (q ∷ known) p = rw (factor-own p q, coefficient-own known p, coefficient) (times-unit unit)
 
   -- its coefficient at another known point is nothing
   pub coefficient-other : (known : List K) (p w : K) → p ≢ w → Among w known → coefficient F known p w ≡ nothing
@@ -67,30 +64,22 @@ module _ {K : Type 0} (F : Field K) where
   coefficient-other (q ∷ known) p w n m =
       elim m [
         | inl e ↦
-            ap (λ (s : K). times s (coefficient F known p w))
-            (factor-other p w q (λ f. n (f ∙ sym e)) ∙
-            ap (λ (s : K). times (plus s q) (inverse (plus p q))) e ∙
-            ap (λ (s : K). times s (inverse (plus p q))) (plus-self q) ∙ nothing-times F (inverse (plus p q))) ∙
-            nothing-times F (coefficient F known p w)
-        | inr i ↦
-            ap (λ (s : K). times (factor F p w q) s) (coefficient-other known p w n i) ∙ times-nothing F (factor F p w q)
+            rw (factor-other p w q (λ f. n (f ∙ sym e)), e, plus-self q, coefficient)
+            (rw (nothing-times F (inverse (plus p q))) (nothing-times F (coefficient F known p q)))
+        | inr i ↦ rw (coefficient-other known p w n i, coefficient) (times-nothing F (factor F p w q))
       ]
 
   -- what a factor does to a polynomial in w
   times_factor : (k : ℕ) (P : K → Type 0) (f : K → K) (p q : K) → p ≢ q → IsPolynomial F k P f →
       IsPolynomial F (suc k) P (λ w. times (factor F p w q) (f w))
   times_factor k P f p q n h =
-      IsPolynomial-same F (suc k) P (λ w. times (inverse (plus p q)) (times (plus w q) (f w))) (λ w. times (factor F p w q) (f w))
-      (λ w z.
-      sym (times_assoc (inverse (plus p q)) (plus w q) (f w)) ∙
-      ap (λ (s : K). times s (f w)) (times_comm (inverse (plus p q)) (plus w q) ∙ sym (factor-other p w q n)))
-      (IsPolynomial-times F (suc k) P (λ w. times (plus w q) (f w)) (inverse (plus p q)) (IsPolynomial-line F k P f q h))
+      let m = IsPolynomial-times F (suc k) P (λ w. times (plus w q) (f w)) (inverse (plus p q))
+      (IsPolynomial-line F k P f q h) in
+      (m.0, m.1, λ w z. m.2 w z ∙ rw (factor-other p w q n) (simp (times_assoc, times_comm, times_left_comm F)))
 
   times_factor-same : (k : ℕ) (P : K → Type 0) (f : K → K) (p q : K) → p ≡ q → IsPolynomial F k P f →
       IsPolynomial F k P (λ w. times (factor F p w q) (f w))
-  times_factor-same k P f p q e h =
-      IsPolynomial-same F k P f (λ w. times (factor F p w q) (f w))
-      (λ w z. sym (ap (λ (s : K). times s (f w)) (factor-same p w q e) ∙ unit-times F (f w))) h
+  times_factor-same k P f p q e h = (h.0, h.1, λ w z. h.2 w z ∙ sym (rw (factor-same p w q e) (unit-times F (f w))))
 
   coefficient-polynomial_more : (P : K → Type 0) (known : List K) (p : K) →
       IsPolynomial F (suc (length known)) P (λ w. coefficient F known p w)
@@ -135,8 +124,8 @@ module _ {K : Type 0} (F : Field K) where
   unfolding sum_over
   sum-none known [] f w m n = refl
   sum-none known (p ∷ ps) f w m n =
-      ap₂ (λ (s t : K). plus (times s (f p)) t) (coefficient-other known p w (λ e. n.0 (sym e)) m) (sum-none known ps f w m n.1) ∙
-      plus-nothing (times nothing (f p)) ∙ nothing-times F (f p)
+      rw (coefficient-other known p w (λ e. n.0 (sym e)) m, sum-none known ps f w m n.1, sum_over)
+      (plus-nothing (times nothing (f p)) ∙ nothing-times F (f p))
 
   sum-one : (known ps : List K) (f : K → K) (w : K) → Among w known → Apart ps → Among w ps →
       sum_over F ps (λ p. times (coefficient F known p w) (f p)) ≡ f w
@@ -145,15 +134,11 @@ module _ {K : Type 0} (F : Field K) where
   sum-one known (p ∷ ps) f w m d i =
       elim i [
         | inl e ↦
-            ap₂ (λ (s t : K). plus (times s (f p)) t)
-            (ap (λ (s : K). coefficient F known p s) e ∙ coefficient-own known p)
-            (sum-none known ps f w m (let Q : K → Type 0 = λ s. AllByRecursion (λ q. s ≢ q) ps in subst Q (sym e) d.0)) ∙
-            plus-nothing (times unit (f p)) ∙ unit-times F (f p) ∙ ap f (sym e)
+            rw (sum-none known ps f w m (rw e d.0), e, coefficient-own known p, sum_over)
+            (plus-nothing (times unit (f p)) ∙ unit-times F (f p))
         | inr j ↦
-            ap₂ (λ (s t : K). plus (times s (f p)) t)
-            (coefficient-other known p w (λ e. Among-All ps (λ q. p ≢ q) d.0 w j e) m)
-            (sum-one known ps f w m d.1 j) ∙
-            ap (λ (s : K). plus s (f w)) (nothing-times F (f p)) ∙ nothing-plus F (f w)
+            rw (coefficient-other known p w (Among-All ps (λ q. p ≢ q) d.0 w j) m, sum_over)
+            (rw (sum-one known ps f w m d.1 j, nothing-times F (f p)) (nothing-plus F (f w)))
       ]
 
   -- at a known point `through` gives the value there

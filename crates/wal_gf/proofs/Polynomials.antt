@@ -55,43 +55,41 @@ module _ {K : Type 0} (F : Field K) where
   value-nothing (c ∷ cs) h x =
       ap₂ (λ (s t : K). plus s (times x t)) h.0 (value-nothing cs h.1 x) ∙ nothing-plus F (times x nothing) ∙ times-nothing F x
 
+  -- where the higher coefficients are nothing and a value is, the constant is
+  first_nothing : (c : K) (cs : List K) (r : K) → AllByRecursion (λ d. d ≡ nothing) cs → value F (c ∷ cs) r ≡ nothing →
+      AllByRecursion (λ d. d ≡ nothing) (c ∷ cs)
+  unfolding value
+  first_nothing c cs r rest h =
+      let e : plus c (times r (value F cs r)) ≡ nothing = h in
+      (rw (value-nothing cs rest r, times-nothing F r, plus-nothing c) at e, rest)
+
   nothing_divided : (r : K) (cs : List K) → AllByRecursion (λ c. c ≡ nothing) (divide F r cs) →
       AllByRecursion (λ c. c ≡ nothing) cs
-  unfolding divide value
+  unfolding divide
   nothing_divided r [] h = h
-  nothing_divided r (c ∷ cs) h =
-      let rest : AllByRecursion (λ d. d ≡ nothing) cs = nothing_divided r cs h.1 in (
-        sym (plus-nothing c) ∙
-            ap (λ (s : K). plus c s) (sym (times-nothing F r) ∙ ap (λ (s : K). times r s) (sym (value-nothing cs rest r))) ∙ h.0,
-        rest,
-      )
+  nothing_divided r (c ∷ cs) h = first_nothing c cs r (nothing_divided r cs h.1) h.0
 
   roots_divided : (c : K) (cs : List K) (r : K) (rs : List K) → value F (c ∷ cs) r ≡ nothing →
       AllByRecursion (λ s. r ≢ s) rs → AllByRecursion (λ s. value F (c ∷ cs) s ≡ nothing) rs →
       AllByRecursion (λ s. value F (divide F r cs) s ≡ nothing) rs
   roots_divided c cs r [] e d h = h
   roots_divided c cs r (s ∷ rs) e d h = (
-    no_divisors F (plus s r) (value F (divide F r cs) s)
-        (λ z. d.0 (sym (same_of_sum F s r z)))
-        (sym (nothing-plus F (times (plus s r) (value F (divide F r cs) s))) ∙
-        ap (λ (t : K). plus t (times (plus s r) (value F (divide F r cs) s))) (sym e) ∙ sym (divided c cs r s) ∙ h.0),
+    no_divisors F (plus s r) (value F (divide F r cs) s) (λ z. d.0 (sym (same_of_sum F s r z)))
+        (cc (nothing-plus F (times (plus s r) (value F (divide F r cs) s)), divided c cs r s, e, h.0)),
     roots_divided c cs r rs e d.1 h.1,
   )
 
   -- a polynomial with as many roots as coefficients has no coefficient but nothing
   pub all_nothing : (rs cs : List K) → length cs ≤ length rs → Apart rs → AllByRecursion (λ r. value F cs r ≡ nothing) rs →
       AllByRecursion (λ c. c ≡ nothing) cs
-  unfolding Apart value
+  unfolding Apart
   all_nothing rs [] l d h = tt
-  all_nothing [] (c ∷ cs) l d h = let b : ⊥ = omega arith in absurd b
+  all_nothing [] (c ∷ cs) l d h = absurd (omega arith)
   all_nothing (r ∷ rs) (c ∷ cs) l d h =
-      let rest : AllByRecursion (λ e. e ≡ nothing) cs =
-      nothing_divided r cs
-      (all_nothing rs (divide F r cs) (omega (arith, length-divide F r cs)) d.1 (roots_divided c cs r rs h.0 d.0 h.1)) in (
-        sym (plus-nothing c) ∙
-            ap (λ (s : K). plus c s) (sym (times-nothing F r) ∙ ap (λ (s : K). times r s) (sym (value-nothing cs rest r))) ∙ h.0,
-        rest,
-      )
+      first_nothing c cs r
+      (nothing_divided r cs
+      (all_nothing rs (divide F r cs) (omega (arith, length-divide F r cs)) d.1 (roots_divided c cs r rs h.0 d.0 h.1)))
+      h.0
 
   pub too_many_roots : (rs cs : List K) → length cs ≤ length rs → Apart rs → AllByRecursion (λ r. value F cs r ≡ nothing) rs →
       (x : K) → value F cs x ≡ nothing
@@ -105,10 +103,6 @@ module _ {K : Type 0} (F : Field K) where
   pub IsPolynomial-same : (k : ℕ) (P : K → Type 0) (f g : K → K) → ((x : K) → P x → f x ≡ g x) →
       IsPolynomial F k P f → IsPolynomial F k P g
   IsPolynomial-same k P f g e h = (h.0, h.1, λ x p. h.2 x p ∙ e x p)
-
-  pub IsPolynomial-where : (k : ℕ) (P Q : K → Type 0) (f : K → K) → ((x : K) → Q x → P x) →
-      IsPolynomial F k P f → IsPolynomial F k Q f
-  IsPolynomial-where k P Q f e h = (h.0, h.1, λ x q. h.2 x (e x q))
 
   pub IsPolynomial-nothing : (k : ℕ) (P : K → Type 0) → IsPolynomial F k P (λ x. nothing)
   unfolding value
@@ -129,17 +123,14 @@ module _ {K : Type 0} (F : Field K) where
   unfolding added
   length-added k [] ds h l = l
   length-added k (c ∷ cs) [] h l = h
-  length-added zero (c ∷ cs) (d ∷ ds) h l = let b : ⊥ = omega arith in absurd b
-  length-added (suc k) (c ∷ cs) (d ∷ ds) h l =
-      omega (arith, length-added k cs ds (omega arith) (omega arith))
+  length-added zero (c ∷ cs) (d ∷ ds) h l = absurd (omega arith)
+  length-added (suc k) (c ∷ cs) (d ∷ ds) h l = omega (arith, length-added k cs ds (omega arith) (omega arith))
 
   pub value-added : (cs ds : List K) (x : K) → value F (added cs ds) x ≡ plus (value F cs x) (value F ds x)
   unfolding value added
   value-added [] ds x = sym (nothing-plus F (value F ds x))
   value-added (c ∷ cs) [] x = sym (plus-nothing (plus c (times x (value F cs x))))
-  value-added (c ∷ cs) (d ∷ ds) x =
-      ap (λ (s : K). plus (plus c d) (times x s)) (value-added cs ds x) ∙
-      simp (times-plus, plus_assoc, plus_comm)
+  value-added (c ∷ cs) (d ∷ ds) x = rw (value-added cs ds x) (simp (times-plus, plus_assoc, plus_comm))
 
   unfoldable pub scaled : K → List K → List K
   scaled a [] = []
@@ -154,8 +145,7 @@ module _ {K : Type 0} (F : Field K) where
   unfolding value scaled
   value-scaled a [] x = sym (times-nothing F a)
   value-scaled a (c ∷ cs) x =
-      ap (λ (s : K). plus (times a c) (times x s)) (value-scaled a cs x) ∙
-      ap (λ (s : K). plus (times a c) s) (times_left_comm F x a (value F cs x)) ∙ sym (times-plus a c (times x (value F cs x)))
+      rw (value-scaled a cs x, times_left_comm F x a (value F cs x)) (sym (times-plus a c (times x (value F cs x))))
 
   pub IsPolynomial-plus : (k : ℕ) (P : K → Type 0) (f g : K → K) → IsPolynomial F k P f → IsPolynomial F k P g →
       IsPolynomial F k P (λ x. plus (f x) (g x))
@@ -201,8 +191,22 @@ module _ {K : Type 0} (F : Field K) where
   differences : (P : K → Type 0) (f g : K → K) (d : K → K) (rs : List K) → ((x : K) → P x → d x ≡ plus (f x) (g x)) →
       AllByRecursion P rs → AllByRecursion (λ r. f r ≡ g r) rs → AllByRecursion (λ r. d r ≡ nothing) rs
   differences P f g d [] e p h = tt
-  differences P f g d (r ∷ rs) e p h =
-      (e r p.0 ∙ ap (λ (s : K). plus s (g r)) h.0 ∙ plus-self (g r), differences P f g d rs e p.1 h.1)
+  differences P f g d (r ∷ rs) e p h = (cc (e r p.0, h.0, plus-self (g r)), differences P f g d rs e p.1 h.1)
+
+  no_difference : (cs ds : List K) → length cs ≡ length ds → AllByRecursion (λ c. c ≡ nothing) (added cs ds) → cs ≡ ds
+  unfolding added
+  no_difference [] [] same h = refl
+  no_difference (c ∷ cs) (d ∷ ds) same h = rw (same_of_sum F c d h.0, no_difference cs ds (omega arith) h.1)
+  no_difference cs ds same h = absurd (omega arith)
+
+  -- two polynomials with as many coefficients that agree at as many points have the same coefficients
+  pub coefficients_unique : (rs cs ds : List K) → length cs ≡ length ds → length cs ≤ length rs → Apart rs →
+      AllByRecursion (λ r. value F cs r ≡ value F ds r) rs → cs ≡ ds
+  coefficients_unique rs cs ds same few d h =
+      no_difference cs ds same
+      (all_nothing rs (added cs ds) (length-added (length rs) cs ds few (omega arith)) d
+      (differences (λ x. value F cs x ≡ value F ds x) (value F cs) (value F ds) (value F (added cs ds)) rs
+      (λ x p. value-added cs ds x) h h))
 
   -- two polynomials with at most k coefficients that agree at k points agree everywhere
   pub polynomial_unique : (P : K → Type 0) (rs : List K) (f g : K → K) → Apart rs → AllByRecursion P rs →

@@ -1,5 +1,5 @@
 -- The laws of powers of a word.
-use Rattle.std.proofs.Common.{◌≡◌, ℕ, zero, suc, ◌+◌, ◌<◌, refl, sym, ap, ◌∙◌, arith, zero-add, suc-add}
+use Rattle.std.proofs.Common.{◌≡◌, ℕ, zero, suc, ◌+◌, ◌<◌, refl, arith, zero-add, suc-add}
 use Rattle.wal_gf.specs.Field.{times, power}
 use Rattle.wal_gf.proofs.Products.{times-lt, times-one, one-times, times_assoc}
 
@@ -16,20 +16,18 @@ power-lt a zero = omega (arith, power-zero a)
 power-lt a (suc n) = omega (arith, power-suc a n, times-lt a (power a n) (power-lt a n))
 
 pub power-one : (a : ℕ) → a < 65536 → power a 1 ≡ a
-power-one a low = power-suc a 0 ∙ ap (times a) (power-zero a) ∙ times-one a low
+power-one a low = cc (power-suc a 0, power-zero a, times-one a low)
 
 pub power-add : (a m n : ℕ) → power a (m + n) ≡ times (power a m) (power a n)
-power-add a zero n = ap (power a) (zero-add n) ∙ sym (one-times (power a n) (power-lt a n)) ∙ ap (λ (s : ℕ). times s (power a n)) (sym (power-zero a))
+power-add a zero n = cc (zero-add n, power-zero a, one-times (power a n) (power-lt a n))
 power-add a (suc m) n =
-    ap (power a) (suc-add m n) ∙ power-suc a (m + n) ∙ ap (times a) (power-add a m n)
-    ∙ sym (times_assoc a (power a m) (power a n) (power-lt a m) (power-lt a n))
-    ∙ ap (λ (s : ℕ). times s (power a n)) (sym (power-suc a m))
+    let grouped = times_assoc a (power a m) (power a n) (power-lt a m) (power-lt a n) in
+    cc (suc-add m n, power-suc a (m + n), power-suc a m, power-add a m n)
 
 -- the power of a square
 pub power-square : (a n : ℕ) → a < 65536 → power (times a a) n ≡ power a (n + n)
-power-square a zero low = power-zero (times a a) ∙ sym (power-zero a)
+power-square a zero low = cc (power-zero (times a a), power-zero a)
 power-square a (suc n) low =
     let twice : suc n + suc n ≡ suc (suc (n + n)) = omega arith in
-    power-suc (times a a) n ∙ ap (times (times a a)) (power-square a n low)
-    ∙ times_assoc a a (power a (n + n)) low (power-lt a (n + n))
-    ∙ ap (times a) (sym (power-suc a (n + n))) ∙ sym (power-suc a (suc (n + n))) ∙ ap (power a) (sym twice)
+    let grouped = times_assoc a a (power a (n + n)) low (power-lt a (n + n)) in
+    cc (power-suc (times a a) n, power-square a n low, power-suc a (n + n), power-suc a (suc (n + n)))

@@ -5,7 +5,7 @@ use Rattle.std.specs.Int.{bit_at}
 use Rattle.std.proofs.lemmas.Nat.{xor_mod, xor_shr}
 use Rattle.std.proofs.lemmas.Nat.Bits.{bit_at_cat_low, bit_at_lowest}
 use Rattle.wal_gf.specs.Field.{modulus, xor_below, product, cancel, remainder, times}
-use Rattle.wal_gf.proofs.Additive.{IsAdditive, additive-zero, scale_xor, shift-additive, bit-additive, sum-additive, xor_below-additive, same_by_powers, all_below, all_below-at}
+use Rattle.wal_gf.proofs.Additive.{IsAdditive, additive-zero, scale_xor, shift-additive, bit-additive, sum-additive, xor_below-additive, same_by_powers, same_by_table, all_below, all_below-at}
 
 -- ---- sums are kept
 
@@ -81,30 +81,26 @@ times-low a b =
 
 -- ---- products are words
 
-word_check : T (all_below 16 (λ i. all_below 16 (λ j. eqb (times (2 ^ i) (2 ^ j)) (times (2 ^ i) (2 ^ j) % 2 ^ 16))))
-unfolding all_below times product xor_below remainder cancel
-word_check = tt
-
 word-bilinear : IsBilinear (λ a b. times a b % 2 ^ 16)
 word-bilinear = (
   λ a b c. ap (λ (s : ℕ). s % 2 ^ 16) (times-xor_right a b c) ∙ xor_mod (times a b) (times a c) 16,
   λ b a c. ap (λ (s : ℕ). s % 2 ^ 16) (times-xor_left b a c) ∙ xor_mod (times a b) (times c b) 16,
 )
 
+short : (a b : ℕ) → a < 2 ^ 16 → b < 2 ^ 16 → times a b ≡ times a b % 2 ^ 16
+unfolding all_below times product xor_below remainder cancel
+short = same_bilinear times (λ a b. times a b % 2 ^ 16) times-bilinear word-bilinear tt
+
 pub times-lt : (a b : ℕ) → b < 65536 → times a b < 65536
 times-lt a b low =
-    let short : times (a % 2 ^ 16) b ≡ times (a % 2 ^ 16) b % 2 ^ 16 = same_bilinear times (λ a b. times a b % 2 ^ 16) times-bilinear word-bilinear word_check (a % 2 ^ 16) b (mod-lt a (lit< tt)) low in
-    let bound : times (a % 2 ^ 16) b % 2 ^ 16 < 65536 = mod-lt (times (a % 2 ^ 16) b) (lit< tt) in
-    omega (arith, times-low a b)
+    let within = mod-lt (times (a % 2 ^ 16) b) {m = 2 ^ 16} (lit< tt) in
+    omega (arith, times-low a b, short (a % 2 ^ 16) b (mod-lt a (lit< tt)) low)
 
 -- ---- commutativity, associativity, the unit
 
-comm_check : T (all_below 16 (λ i. all_below 16 (λ j. eqb (times (2 ^ i) (2 ^ j)) (times (2 ^ j) (2 ^ i)))))
-unfolding all_below times product xor_below remainder cancel
-comm_check = tt
-
 pub times_comm : (a b : ℕ) → a < 65536 → b < 65536 → times a b ≡ times b a
-times_comm = same_bilinear times (λ a b. times b a) times-bilinear (times-xor_left, times-xor_right) comm_check
+unfolding all_below times product xor_below remainder cancel
+times_comm = same_bilinear times (λ a b. times b a) times-bilinear (times-xor_left, times-xor_right) tt
 
 assoc_check : T (all_below 16 (λ i. all_below 16 (λ j. all_below 16 (λ k. eqb (times (times (2 ^ i) (2 ^ j)) (2 ^ k)) (times (2 ^ i) (times (2 ^ j) (2 ^ k)))))))
 unfolding all_below times product xor_below remainder cancel
@@ -130,18 +126,16 @@ times_assoc a b c low low' =
         (all_below-at 16 (λ i. all_below 16 (λ j. all_below 16 (λ k. eqb (times (times (2 ^ i) (2 ^ j)) (2 ^ k)) (times (2 ^ i) (times (2 ^ j) (2 ^ k)))))) assoc_check i within)
         b c low low'
 
-unit_check : T (all_below 16 (λ i. eqb (times 1 (2 ^ i)) (2 ^ i)))
-unfolding all_below times product xor_below remainder cancel
-unit_check = tt
-
 pub one-times : (a : ℕ) → a < 65536 → times 1 a ≡ a
-one-times = same_by_powers 16 (times 1) (λ a. a) (times-xor_right 1) (λ a b. refl) (λ i within. eqb→eq _ _ (all_below-at 16 (λ i. eqb (times 1 (2 ^ i)) (2 ^ i)) unit_check i within))
+unfolding all_below times product xor_below remainder cancel
+one-times = same_by_table 16 (times 1) (λ a. a) (times-xor_right 1) (λ a b. refl) tt
 
 pub times-one : (a : ℕ) → a < 65536 → times a 1 ≡ a
-times-one a low = times_comm a 1 low (lit< tt) ∙ one-times a low
+times-one a low = rw (times_comm a 1 low (lit< tt)) (one-times a low)
 
 pub times_left_comm : (a b c : ℕ) → a < 65536 → b < 65536 → c < 65536 → times a (times b c) ≡ times b (times a c)
-times_left_comm a b c low low' low'' = sym (times_assoc a b c low' low'') ∙ ap (λ (s : ℕ). times s c) (times_comm a b low low') ∙ times_assoc b a c low low''
+times_left_comm a b c low low' low'' = sym (times_assoc a b c low' low'')
+    ∙ rw (times_comm a b low low') (times_assoc b a c low low'')
 
 -- ---- one step of shift and add
 
@@ -158,13 +152,11 @@ doubled-additive = sum-additive (λ b. b * 2 % 2 ^ 16) (λ b. bit_at b 15 * 0x10
         twice : IsAdditive (λ b. b * 2)
         twice a b = mul_comm (bit_xor a b) 2 ∙ shift-additive 1 a b ∙ ap₂ (λ (s t : ℕ). bit_xor s t) (mul_comm 2 a) (mul_comm 2 b)
 
-step_check : T (all_below 16 (λ i. all_below 16 (λ j. eqb (times (2 ^ i) (2 ^ j)) (bit_xor (2 ^ i % 2 * 2 ^ j) (times (2 ^ i / 2) (doubled (2 ^ j)))))))
-unfolding all_below times product xor_below remainder cancel
-step_check = tt
-
 -- the product as what the lowest bit of a brings, and the rest of a times the doubled b
 pub times-step : (a b : ℕ) → a < 65536 → b < 65536 → times a b ≡ bit_xor (a % 2 * b) (times (a / 2) (doubled b))
-times-step = same_bilinear times (λ a b. bit_xor (a % 2 * b) (times (a / 2) (doubled b))) times-bilinear (right, left) step_check
+unfolding all_below times product xor_below remainder cancel
+times-step =
+    same_bilinear times (λ a b. bit_xor (a % 2 * b) (times (a / 2) (doubled b))) times-bilinear (right, left) tt
   where
     half : IsAdditive (λ a. a / 2)
     half a b = xor_shr a b 1

@@ -1,11 +1,11 @@
 -- `remainder` is division by the modulus: with a quotient it gives back what was divided, and it undoes a multiple of the modulus plus a word.
-use Rattle.std.proofs.Common.{◌≡◌, ℕ, zero, suc, ◌+◌, ◌*◌, ◌%◌, ◌^◌, ◌<◌, eqb, T, bit_xor, refl, sym, ap, ap₂, ◌∙◌, arith, mod-lt, eqb→eq, lit<}
+use Rattle.std.proofs.Common.{◌≡◌, ℕ, zero, suc, ◌+◌, ◌*◌, ◌%◌, ◌^◌, ◌<◌, eqb, T, bit_xor, refl, sym, ap, ◌∙◌, arith, mod-lt, lit<}
 use Rattle.std.specs.Int.{bit_at}
 use Rattle.std.specs.Int.Bits.{xor_self, xor_zero_l}
 use Rattle.std.proofs.lemmas.Nat.{xor_mod}
 use Rattle.wal_gf.specs.Field.{modulus, xor_below, product, cancel, remainder}
 use Rattle.wal_gf.specs.Laws.{DividesWithRemainder}
-use Rattle.wal_gf.proofs.Additive.{IsAdditive, bit-additive, sum-additive, same_by_powers, all_below, all_below-at}
+use Rattle.wal_gf.proofs.Additive.{IsAdditive, bit-additive, sum-additive, same_by_table, all_below}
 use Rattle.wal_gf.proofs.Products.{product-xor_left, cancel-xor, remainder-xor}
 
 -- the powers of x whose multiples of the modulus `remainder` takes away
@@ -22,68 +22,46 @@ quotient-xor (suc n) a b =
 
 -- ---- the quotient times the modulus, and the remainder, are what was divided
 
-divided_check : T (all_below 32 (λ i. eqb (bit_xor (product 16 (quotient 16 (2 ^ i)) modulus) (remainder 16 (2 ^ i))) (2 ^ i)))
-unfolding all_below quotient product xor_below remainder cancel
-divided_check = tt
-
 pub divided : (p : ℕ) → p < 2 ^ 32 → bit_xor (product 16 (quotient 16 p) modulus) (remainder 16 p) ≡ p
+unfolding all_below quotient product xor_below remainder cancel
 divided =
-    same_by_powers 32 (λ p. bit_xor (product 16 (quotient 16 p) modulus) (remainder 16 p)) (λ p. p)
+    same_by_table 32 (λ p. bit_xor (product 16 (quotient 16 p) modulus) (remainder 16 p)) (λ p. p)
     (sum-additive (λ p. product 16 (quotient 16 p) modulus) (remainder 16)
-    (λ a b. ap (λ (q : ℕ). product 16 q modulus) (quotient-xor 16 a b) ∙ product-xor_left 16 modulus (quotient 16 a) (quotient 16 b))
-    (remainder-xor 16))
-    (λ a b. refl)
-    (λ i within. eqb→eq _ _ (all_below-at 32 (λ i. eqb (bit_xor (product 16 (quotient 16 (2 ^ i)) modulus) (remainder 16 (2 ^ i))) (2 ^ i)) divided_check i within))
+    (λ a b. rw (quotient-xor 16 a b) (product-xor_left 16 modulus (quotient 16 a) (quotient 16 b))) (remainder-xor 16))
+    (λ a b. refl) tt
 
 -- ---- both are words
 
 word_of : (f : ℕ → ℕ) → IsAdditive f → T (all_below 32 (λ i. eqb (f (2 ^ i)) (f (2 ^ i) % 2 ^ 16))) → (p : ℕ) → p < 2 ^ 32 → f p < 65536
 word_of f keeps test p low =
     let short : f p ≡ f p % 2 ^ 16 =
-    same_by_powers 32 f (λ p. f p % 2 ^ 16) keeps (λ a b. ap (λ (s : ℕ). s % 2 ^ 16) (keeps a b) ∙ xor_mod (f a) (f b) 16)
-    (λ i within. eqb→eq _ _ (all_below-at 32 (λ i. eqb (f (2 ^ i)) (f (2 ^ i) % 2 ^ 16)) test i within)) p low in
-    let bound : f p % 2 ^ 16 < 65536 = mod-lt (f p) (lit< tt) in
-    omega arith
-
-remainder_check : T (all_below 32 (λ i. eqb (remainder 16 (2 ^ i)) (remainder 16 (2 ^ i) % 2 ^ 16)))
-unfolding all_below remainder cancel
-remainder_check = tt
-
-quotient_check : T (all_below 32 (λ i. eqb (quotient 16 (2 ^ i)) (quotient 16 (2 ^ i) % 2 ^ 16)))
-unfolding all_below quotient cancel
-quotient_check = tt
+    same_by_table 32 f (λ p. f p % 2 ^ 16) keeps (λ a b. rw (keeps a b) (xor_mod (f a) (f b) 16)) test p low in
+    omega (arith, mod-lt (f p) {m = 2 ^ 16} (lit< tt))
 
 pub remainder-lt : (p : ℕ) → p < 2 ^ 32 → remainder 16 p < 65536
-remainder-lt = word_of (remainder 16) (remainder-xor 16) remainder_check
+unfolding all_below remainder cancel
+remainder-lt = word_of (remainder 16) (remainder-xor 16) tt
 
 quotient-lt : (p : ℕ) → p < 2 ^ 32 → quotient 16 p < 65536
-quotient-lt = word_of (quotient 16) (quotient-xor 16) quotient_check
+unfolding all_below quotient cancel
+quotient-lt = word_of (quotient 16) (quotient-xor 16) tt
 
 -- ---- a multiple of the modulus leaves 0, and a word leaves itself
 
-multiple_check : T (all_below 16 (λ i. eqb (remainder 16 (product 16 (2 ^ i) modulus)) 0))
-unfolding all_below product xor_below remainder cancel
-multiple_check = tt
-
-word_check : T (all_below 16 (λ i. eqb (remainder 16 (2 ^ i)) (2 ^ i)))
-unfolding all_below remainder cancel
-word_check = tt
-
 multiple-left : (q : ℕ) → q < 65536 → remainder 16 (product 16 q modulus) ≡ 0
+unfolding all_below product xor_below remainder cancel
 multiple-left =
-    same_by_powers 16 (λ q. remainder 16 (product 16 q modulus)) (λ q. 0)
-    (λ a b. ap (remainder 16) (product-xor_left 16 modulus a b) ∙ remainder-xor 16 (product 16 a modulus) (product 16 b modulus))
-    (λ a b. sym (xor_self 0))
-    (λ i within. eqb→eq _ _ (all_below-at 16 (λ i. eqb (remainder 16 (product 16 (2 ^ i) modulus)) 0) multiple_check i within))
+    same_by_table 16 (λ q. remainder 16 (product 16 q modulus)) (λ q. 0)
+    (λ a b. rw (product-xor_left 16 modulus a b) (remainder-xor 16 (product 16 a modulus) (product 16 b modulus)))
+    (λ a b. sym (xor_self 0)) tt
 
 pub word-left : (r : ℕ) → r < 65536 → remainder 16 r ≡ r
-word-left =
-    same_by_powers 16 (remainder 16) (λ r. r) (remainder-xor 16) (λ a b. refl)
-    (λ i within. eqb→eq _ _ (all_below-at 16 (λ i. eqb (remainder 16 (2 ^ i)) (2 ^ i)) word_check i within))
+unfolding all_below remainder cancel
+word-left = same_by_table 16 (remainder 16) (λ r. r) (remainder-xor 16) (λ a b. refl) tt
 
 pub remainder_unique : (q r : ℕ) → q < 65536 → r < 65536 → remainder 16 (bit_xor (product 16 q modulus) r) ≡ r
 remainder_unique q r low low' =
-    remainder-xor 16 (product 16 q modulus) r ∙ ap₂ (λ (s t : ℕ). bit_xor s t) (multiple-left q low) (word-left r low') ∙ xor_zero_l r
+    rw (remainder-xor 16 (product 16 q modulus) r, multiple-left q low, word-left r low') (xor_zero_l r)
 
 pub divides : DividesWithRemainder
 divides p low = (

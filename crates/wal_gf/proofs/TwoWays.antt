@@ -1,13 +1,13 @@
 -- Tables that are polynomials along their rows and along their columns.
-use Rattle.std.proofs.Common.{◌≡◌, ◌∙◌, sym, ℕ, List, length}
+use Rattle.std.proofs.Common.{◌≡◌, sym, ℕ, List, length}
 use Rattle.std.specs.List.{AllByRecursion}
-use Rattle.wal_gf.proofs.Algebra.{Field, times_left_comm}
-use Rattle.wal_gf.proofs.Sums.{sum_over, sum_over-same, sum_over-times, sum_over-swap}
+use Rattle.wal_gf.proofs.Algebra.{Field}
+use Rattle.wal_gf.proofs.Sums.{sum_over}
 use Rattle.wal_gf.proofs.Polynomials.{Apart, IsPolynomial, IsPolynomial-same, IsPolynomial-sum, polynomial_unique}
 use Rattle.wal_gf.proofs.Lagrange.{coefficient, through, Among, All-Among, interpolation}
 
 module _ {K : Type 0} (F : Field K) where
-  open F use {plus, times, times_comm}
+  open F use {times}
 
   -- Where each column is a polynomial that the known rows determine, and each known row is one with at most k coefficients,
   -- every row is one with at most k coefficients. R holds of the rows, and C of the columns.
@@ -37,21 +37,3 @@ module _ {K : Type 0} (F : Field K) where
       polynomial_unique F C cols (λ c. s u c) (λ c. t u c) e j (hs u m) (ht u m)
       (All-Among cols (λ c. s u c ≡ t u c) (λ v n. b u v m n)) c q))
       r p
-
-  -- Extending the rows first and the columns first gives the same table.
-  pub extended_both_ways : (rows cols : List K) (t : K → K → K) (r c : K) →
-      through F rows (λ p. through F cols (λ q. t p q) c) r ≡ through F cols (λ q. through F rows (λ p. t p q) r) c
-  unfolding through
-  extended_both_ways rows cols t r c =
-      let a : K → K = λ p. coefficient F rows p r in
-      let b : K → K = λ q. coefficient F cols q c in
-      sum_over-same F rows (λ p. times (a p) (sum_over F cols (λ q. times (b q) (t p q))))
-      (λ p. sum_over F cols (λ q. times (a p) (times (b q) (t p q))))
-      (λ p. sym (sum_over-times F cols (λ q. times (b q) (t p q)) (a p))) ∙
-      sum_over-swap F rows cols (λ p q. times (a p) (times (b q) (t p q))) ∙
-      sum_over-same F cols (λ q. sum_over F rows (λ p. times (a p) (times (b q) (t p q))))
-      (λ q. times (b q) (sum_over F rows (λ p. times (a p) (t p q))))
-      (λ q.
-      sum_over-same F rows (λ p. times (a p) (times (b q) (t p q))) (λ p. times (b q) (times (a p) (t p q)))
-      (λ p. times_left_comm F (a p) (b q) (t p q)) ∙
-      sum_over-times F rows (λ p. times (a p) (t p q)) (b q))

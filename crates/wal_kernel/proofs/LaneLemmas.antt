@@ -1,7 +1,8 @@
 -- What the operations on vectors of bytes hold at each lane.
-use Rattle.std.proofs.Common.{zero, suc, zero-mul, one-mul, mod-eq_of_lt, take, drop, length-drop, length-append, ◌≡◌, ℕ, ◌+◌, ◌-◌, ◌*◌, ◌/◌, ◌%◌, ◌^◌, ◌<◌, ◌≤◌, ◌⊎◌, inl, inr, List, ◌++◌, length, get_or, map, replicate, refl, sym, ap, ap₂, ◌∙◌, arith, w8, bit_and, bit_xor, Fits, eq-or-lt_of_le, slice_index, T, eqb, eqb→eq}
+use Rattle.std.proofs.Common.{zero, suc, zero-mul, one-mul, mod-eq_of_lt, take, drop, length-drop, length-append, ◌≡◌, ℕ, ◌+◌, ◌-◌, ◌*◌, ◌/◌, ◌%◌, ◌^◌, ◌<◌, ◌≤◌, ◌⊎◌, inl, inr, List, ◌++◌, length, get_or, map, replicate, refl, sym, ap, ap₂, ◌∙◌, arith, w8, bit_and, bit_xor, Fits, slice_index, T, eqb, eqb→eq}
 use Rattle.std.specs.Simd.Lanes.{zip2, chunk, put_chunk, Each1}
 use Rattle.std.specs.List.{range_with_len}
+use Rattle.std.proofs.lemmas.Bool.{cases_lt}
 use Rattle.std.proofs.lemmas.Simd.{length-zip2, get_or-zip2, get_or-replicate, length-chunk, get_or-chunk, length-put_chunk, get_or-put_chunk_below, get_or-put_chunk_at, get_or-put_chunk_above, swz_l, SwzOk, SwzOk-from_below, get_or-swz_l_below, length-swz_l, Each1-from_get_or, Each1-get_or}
 use Rattle.std.specs.Int.Bits.{and_zero_r}
 use Rattle.std.proofs.Math.ListN.{get_or-eq_default}
@@ -80,35 +81,27 @@ module _ (js : List ℕ) (f : ℕ → ℕ) (h : HasLanes 32 js f) (small : (k : 
             get_or-swz_l_below w8 16 table 0 js k (omega arith) (omega arith) ∙ holds.each (16 * ((0 + k) / 16) + get_or js k 0) (omega arith) ∙ ap g entry;
       }
 
--- a place before n or from n on
-before_or_from : (n k : ℕ) → (k < n) ⊎ (n ≤ k)
-before_or_from n k = elim (eq-or-lt_of_le {n = n - (n - k)} {m = k} (omega arith)) [ inl e ↦ near (eq-or-lt_of_le {n = k - (k - n)} {m = n} (omega arith)) | inr l ↦ inr (omega arith) ]
-  where
-    near : (k - (k - n) ≡ n) ⊎ (k - (k - n) < n) → (k < n) ⊎ (n ≤ k)
-    near (inl e) = inr (omega arith)
-    near (inr l) = inl (omega arith)
-
 -- a store of the sum of a vector and what stood there
 pub stored : (f : ℕ → ℕ) (old now v : List ℕ) (at : ℕ) → at + 32 ≤ length now → HasLanes 32 v (λ k. bit_xor (slice_index now (at + k)) (f (at + k)))
     → IsSumBelow f old at now → IsSumBelow f old (at + 32) (put_chunk at now v)
 stored f old now v at room h sum = record {
   bytes = sum.bytes;
   long = length-put_chunk at now v ∙ sum.long;
-  below = λ k l. place k l (below_or_at k);
+  below = λ k l. place k l (cases_lt k at);
   above = λ k l. get_or-put_chunk_above at now v k 0 (omega (arith, h.long)) ∙ sum.above k (omega arith);
 }
   where
-    below_or_at : (k : ℕ) → (k < at) ⊎ ((j : ℕ) × (k ≡ at + j))
-    below_or_at k = elim (before_or_from at k) [ inl l ↦ inl l | inr l ↦ inr (k - at, omega arith) ]
-
-    place : (k : ℕ) → k < at + 32 → (k < at) ⊎ ((j : ℕ) × (k ≡ at + j)) → slice_index (put_chunk at now v) k ≡ bit_xor (slice_index old k) (f k)
+    place : (k : ℕ) → k < at + 32 → (k < at) ⊎ (at ≤ k)
+        → slice_index (put_chunk at now v) k ≡ bit_xor (slice_index old k) (f k)
     place k l (inl before) = get_or-put_chunk_below at now v k 0 before ∙ sum.below k before
-    place k l (inr (j, e)) =
+    place k l (inr after) =
+        let j = k - at in
+        let e : k ≡ at + (k - at) = omega arith in
         rw e (get_or-put_chunk_at at now v j 0 (omega (arith, h.long)) (omega (arith, h.long)) ∙ h.each j (omega arith) ∙ ap (λ b. bit_xor b (f (at + j))) (sum.above (at + j) (omega arith)))
 
 -- two neighbouring loads
 pub joined : (n at : ℕ) (xs a b : List ℕ) → HasLanes n a (λ k. slice_index xs (at + k)) → HasLanes n b (λ k. slice_index xs (at + n + k)) → (j : ℕ) → j < n + n → slice_index (a ++ b) j ≡ slice_index xs (at + j)
-joined n at xs a b h h' j l = place (before_or_from n j)
+joined n at xs a b h h' j l = place (cases_lt j n)
   where
     place : (j < n) ⊎ (n ≤ j) → slice_index (a ++ b) j ≡ slice_index xs (at + j)
     place (inl before) = get_or_append_left a b 0 j (omega (arith, h.long)) ∙ h.each j before
@@ -131,7 +124,7 @@ pub HasLanes-by_turns : (f : ℕ → ℕ) (at from to : ℕ) (high low : List �
     → HasLanes 32 high (λ k. f (at + 2 * word_of_lane k)) → HasLanes 32 low (λ k. f (at + 2 * word_of_lane k + 1))
     → HasLanes 32 (map (λ k. slice_index (high ++ low) (word_of_lane (from + k / 2) + 32 * (k % 2))) (range_with_len 0 32)) (λ k. f (to + k))
 HasLanes-by_turns f at from to high low small start h h' =
-    HasLanes-same 32 _ _ _ (HasLanes-listed 32 (λ k. slice_index (high ++ low) (word_of_lane (from + k / 2) + 32 * (k % 2)))) (λ k l. place k l (before_or_from 1 (k % 2)))
+    HasLanes-same 32 _ _ _ (HasLanes-listed 32 (λ k. slice_index (high ++ low) (word_of_lane (from + k / 2) + 32 * (k % 2)))) (λ k l. place k l (cases_lt (k % 2) 1))
   where
     place : (k : ℕ) → k < 32 → (k % 2 < 1) ⊎ (1 ≤ k % 2) → slice_index (high ++ low) (word_of_lane (from + k / 2) + 32 * (k % 2)) ≡ f (to + k)
     place k l (inl even) =
@@ -154,10 +147,11 @@ HasLanes-by_turns f at from to high low small start h h' =
 pub padded_at : (bytes part : List ℕ) (at n : ℕ) → at ≤ length bytes → n ≡ length bytes - at → part ≡ drop at bytes → (k : ℕ) → slice_index (part ++ drop n (replicate 64 0)) k ≡ slice_index bytes (at + k)
 padded_at bytes part at n starts is e k =
     let long : length part ≡ n = ap length e ∙ length-drop at bytes ∙ sym is in
-    place long (before_or_from n k)
+    place long (cases_lt k n)
   where
     zeros : (i : ℕ) → slice_index (replicate 64 0) i ≡ 0
-    zeros i = elim (before_or_from 64 i) [ inl l ↦ get_or-replicate 64 i 0 0 l | inr l ↦ get_or-eq_default (replicate 64 0) 0 l ]
+    zeros i =
+        elim (cases_lt i 64) [ inl l ↦ get_or-replicate 64 i 0 0 l | inr l ↦ get_or-eq_default (replicate 64 0) 0 l ]
 
     place : length part ≡ n → (k < n) ⊎ (n ≤ k) → slice_index (part ++ drop n (replicate 64 0)) k ≡ slice_index bytes (at + k)
     place long (inl before) = get_or_append_left part (drop n (replicate 64 0)) 0 k (omega arith) ∙ ap (λ xs. slice_index xs k) e ∙ get_or-drop at bytes k 0
@@ -173,7 +167,7 @@ pub part_added : (f g : ℕ → ℕ) (old before sums new part rest : List ℕ) 
 part_added f g old before sums new part rest at starts wide ends held same added is empty sum = record {
   bytes = sum.bytes;
   long = all ∙ sum.long;
-  below = λ k l. place k l (before_or_from at k);
+  below = λ k l. place k l (cases_lt k at);
   above = λ k l. get_or-eq_default (take at before ++ (part ++ rest)) 0 (omega (arith, all)) ∙ sym (get_or-eq_default old 0 (omega (arith, sum.long)));
 }
   where

@@ -62,15 +62,9 @@ times_by_bits c k low small =
     let eighth : k / 4 / 2 ≡ k / 8 = omega arith in
     let none : k / 8 / 2 ≡ 0 = omega arith in
     times_comm c k low (omega arith)
-    ∙ halved k c (omega arith) low
-    ∙ ap (bit_xor (k % 2 * c))
-    (halved (k / 2) by_2 (omega arith) low_2
-    ∙ ap (bit_xor (k / 2 % 2 * by_2))
-    (ap (λ (n : ℕ). times n by_4) quarter ∙ halved (k / 4) by_4 (omega arith) low_4
-    ∙ ap (bit_xor (k / 4 % 2 * by_4))
-    (ap (λ (n : ℕ). times n by_8) eighth ∙ halved (k / 8) by_8 (omega arith) low_8
-    ∙ ap (bit_xor (k / 8 % 2 * by_8)) (ap (λ (n : ℕ). times n (times by_8 2)) none ∙ zero-times (times by_8 2))
-    ∙ xor_zero_r (k / 8 % 2 * by_8))))
+    ∙ rw (halved k c (omega arith) low, halved (k / 2) by_2 (omega arith) low_2, quarter)
+    (rw (halved (k / 4) by_4 (omega arith) low_4, eighth, halved (k / 8) by_8 (omega arith) low_8, none)
+    (rw (zero-times (times by_8 2), xor_zero_r (k / 8 % 2 * by_8))))
 
 -- the bytes of a word, the most significant first
 pub first_byte : (word : ℕ) (bytes : List ℕ) → word < 65536 → bytes ≡ to_be_bytes w16 word → slice_index bytes 0 ≡ word / 256
@@ -133,15 +127,10 @@ xor₄ p q r s = ap₂ (λ (x y : ℕ). bit_xor x y) p (ap₂ (λ (x y : ℕ). b
 
 -- ---- the bytes of a table
 
-scale-high : (d word byte : ℕ) → d < 2 → byte ≡ word / 256 → d * byte ≡ d * word / 256
-scale-high zero word byte small e = zero-mul byte ∙ sym (ap (λ (w : ℕ). w / 256) (zero-mul word))
-scale-high (suc zero) word byte small e = one-mul byte ∙ e ∙ sym (ap (λ (w : ℕ). w / 256) (one-mul word))
-scale-high (suc (suc d)) word byte small e = let b : ⊥ = omega arith in absurd b
-
-scale-low : (d word byte : ℕ) → d < 2 → byte ≡ word % 256 → d * byte ≡ d * word % 256
-scale-low zero word byte small e = zero-mul byte ∙ sym (ap (λ (w : ℕ). w % 256) (zero-mul word))
-scale-low (suc zero) word byte small e = one-mul byte ∙ e ∙ sym (ap (λ (w : ℕ). w % 256) (one-mul word))
-scale-low (suc (suc d)) word byte small e = let b : ⊥ = omega arith in absurd b
+scale-part : (f : ℕ → ℕ) → f 0 ≡ 0 → (d word byte : ℕ) → d < 2 → byte ≡ f word → d * byte ≡ f (d * word)
+scale-part f none zero word byte small e = rw (zero-mul, zero-mul) (sym none)
+scale-part f none (suc zero) word byte small e = rw (one-mul, one-mul) e
+scale-part f none (suc (suc d)) word byte small e = absurd (omega arith)
 
 -- a product with the number of a lane in its half of a vector
 times_by_lane : (c k : ℕ) → c < 65536
@@ -158,12 +147,18 @@ module _ (c at_1 at_2 at_4 at_8 : ℕ) (v : List ℕ) (low : c < 65536)
     (h : HasLanes 32 v (λ k. bit_xor (k % 2 * at_1) (bit_xor (k / 2 % 2 * at_2) (bit_xor (k / 4 % 2 * at_4) (k / 8 % 2 * at_8))))) where
   pub multiples-high : at_1 ≡ c / 256 → at_2 ≡ times c 2 / 256 → at_4 ≡ times (times c 2) 2 / 256 → at_8 ≡ times (times (times c 2) 2) 2 / 256 → IsTable (λ k. times c k / 256) v
   multiples-high e e' e'' e''' = HasLanes-same 32 v _ _ h (λ k l.
-      xor₄ (scale-high (k % 2) c at_1 (omega arith) e) (scale-high (k / 2 % 2) (times c 2) at_2 (omega arith) e') (scale-high (k / 4 % 2) (times (times c 2) 2) at_4 (omega arith) e'') (scale-high (k / 8 % 2) (times (times (times c 2) 2) 2) at_8 (omega arith) e''')
+      let part = scale-part (λ w. w / 256) refl in
+      xor₄ (part (k % 2) c at_1 (omega arith) e) (part (k / 2 % 2) (times c 2) at_2 (omega arith) e')
+      (part (k / 4 % 2) (times (times c 2) 2) at_4 (omega arith) e'')
+      (part (k / 8 % 2) (times (times (times c 2) 2) 2) at_8 (omega arith) e''')
       ∙ sym (ap (λ (w : ℕ). w / 256) (times_by_lane c k low) ∙ high_sum (k % 2 * c) (k / 2 % 2 * times c 2) (k / 4 % 2 * times (times c 2) 2) (k / 8 % 2 * times (times (times c 2) 2) 2)))
 
   pub multiples-low : at_1 ≡ c % 256 → at_2 ≡ times c 2 % 256 → at_4 ≡ times (times c 2) 2 % 256 → at_8 ≡ times (times (times c 2) 2) 2 % 256 → IsTable (λ k. times c k % 256) v
   multiples-low e e' e'' e''' = HasLanes-same 32 v _ _ h (λ k l.
-      xor₄ (scale-low (k % 2) c at_1 (omega arith) e) (scale-low (k / 2 % 2) (times c 2) at_2 (omega arith) e') (scale-low (k / 4 % 2) (times (times c 2) 2) at_4 (omega arith) e'') (scale-low (k / 8 % 2) (times (times (times c 2) 2) 2) at_8 (omega arith) e''')
+      let part = scale-part (λ w. w % 256) refl in
+      xor₄ (part (k % 2) c at_1 (omega arith) e) (part (k / 2 % 2) (times c 2) at_2 (omega arith) e')
+      (part (k / 4 % 2) (times (times c 2) 2) at_4 (omega arith) e'')
+      (part (k / 8 % 2) (times (times (times c 2) 2) 2) at_8 (omega arith) e''')
       ∙ sym (ap (λ (w : ℕ). w % 256) (times_by_lane c k low) ∙ low_sum (k % 2 * c) (k / 2 % 2 * times c 2) (k / 4 % 2 * times (times c 2) 2) (k / 8 % 2 * times (times (times c 2) 2) 2)))
 
 -- ---- the bytes of x^4 times a word
@@ -206,25 +201,17 @@ low_part-additive =
     (sum-additive (λ w. w / 256 / 16 * 2 ^ 3 % 256) (λ w. bit_xor (w / 256 / 16 * 2 ^ 1 % 256) (w / 256 / 16)) (moved 3 (λ w. w / 256 / 16) top-additive)
     (sum-additive (λ w. w / 256 / 16 * 2 ^ 1 % 256) (λ w. w / 256 / 16) (moved 1 (λ w. w / 256 / 16) top-additive) top-additive))
 
-high_check : T (all_below 16 (λ i. eqb (high_part (2 ^ i)) (times (2 ^ i) 16 / 256)))
-unfolding all_below times product xor_below remainder cancel high_part
-high_check = tt
-
-low_check : T (all_below 16 (λ i. eqb (low_part (2 ^ i)) (times (2 ^ i) 16 % 256)))
-unfolding all_below times product xor_below remainder cancel low_part
-low_check = tt
-
 high_of_product : (w : ℕ) → w < 65536 → high_of_sixteenfold (w / 256) (w % 256) ≡ times w 16 / 256
-unfolding high_part
+unfolding all_below times product xor_below remainder cancel high_part
 high_of_product w low =
     same_by_powers 16 high_part (λ a. times a 16 / 256) high_part-additive (composed (λ a. a / 256) (λ a. times a 16) (divided 8) (times-xor_left 16))
-    (λ i l. eqb→eq _ _ (all_below-at 16 (λ i. eqb (high_part (2 ^ i)) (times (2 ^ i) 16 / 256)) high_check i l)) w low
+    (λ i l. eqb→eq _ _ (all_below-at 16 (λ i. eqb (high_part (2 ^ i)) (times (2 ^ i) 16 / 256)) tt i l)) w low
 
 low_of_product : (w : ℕ) → w < 65536 → low_of_sixteenfold (w / 256) (w % 256) ≡ times w 16 % 256
-unfolding low_part
+unfolding all_below times product xor_below remainder cancel low_part
 low_of_product w low =
     same_by_powers 16 low_part (λ a. times a 16 % 256) low_part-additive (composed (λ a. a % 256) (λ a. times a 16) (reduced 8) (times-xor_left 16))
-    (λ i l. eqb→eq _ _ (all_below-at 16 (λ i. eqb (low_part (2 ^ i)) (times (2 ^ i) 16 % 256)) low_check i l)) w low
+    (λ i l. eqb→eq _ _ (all_below-at 16 (λ i. eqb (low_part (2 ^ i)) (times (2 ^ i) 16 % 256)) tt i l)) w low
 
 turned : (c k : ℕ) → k < 16 → times (times c k) 16 ≡ times (times c 16) k
 turned c k l = times_assoc c k 16 (omega arith) (lit< tt) ∙ ap (times c) (times_comm k 16 (omega arith) (lit< tt)) ∙ sym (times_assoc c 16 k (lit< tt) (omega arith))

@@ -35,6 +35,13 @@ pieces_front s xs (suc n) =
     ∙ sym (take-add (n * s) s xs)
     ∙ ap (λ (k : ℕ). take k xs) next)
 
+-- a list is the pieces of one size that it is made of
+pieces_whole : (f : ℕ → List ℕ) (s n : ℕ) (xs : List ℕ) → length xs ≡ n * s
+    → ((i : ℕ) → i < n → f i ≡ take s (drop (i * s) xs))
+    → flat_map f (range_with_len 0 n) ≡ xs
+pieces_whole f s n xs long same =
+    same_pieces f (λ i. take s (drop (i * s) xs)) n same ∙ pieces_front s xs n ∙ take_all (n * s) xs (omega arith)
+
 -- a secondary sliver that crosses the source block is its column
 pub secondary_of_source : (f s : ℕ) (block e : List ℕ) (j : ℕ) → IsMatrixOf f s block e → j < column_count f
     → secondary_of f s e j ≡ column_part (column_count f) s block (row_count f) j
@@ -106,15 +113,17 @@ row_front rows width s columns given r c room hr hc =
     (omega (arith, column_part_long rows s columns given r room hr, run_fits c given s hc))
     ∙ column_symbol rows s columns given c r room hc hr
 
--- the front of zeros is zeros
+-- a piece of zeros is zeros
 abbrev zeros_of : ℕ → List ℕ
 zeros_of n = replicate n 0
 
-zeros_front : (s more : ℕ) → take s (zeros_of (s + more)) ≡ zeros_of s
-zeros_front s more =
-    let joined : zeros_of s ++ zeros_of more ≡ zeros_of (s + more) = replicate-append-replicate s more 0 in
-    let long : length (zeros_of s) ≡ s = length-replicate s 0 in
-    ap (λ (xs : List ℕ). take s xs) (sym joined) ∙ take_at (zeros_of s) (zeros_of more) s long
+zeros_piece : (s n i : ℕ) → i < n → take s (drop (i * s) (zeros_of (n * s))) ≡ zeros_of s
+zeros_piece s n i h =
+    let more = n * s - i * s - s in
+    let left : n * s - i * s ≡ s + more = omega (arith, run_fits i n s h) in
+    ap (λ (xs : List ℕ). take s xs)
+    (drop-replicate (i * s) (n * s) 0 ∙ ap (λ (k : ℕ). zeros_of k) left ∙ sym (replicate-append-replicate s more 0))
+    ∙ take_at (zeros_of s) (zeros_of more) s (length-replicate s 0)
 
 -- the rest of a row
 row_rest : (rows width s : ℕ) (columns : List ℕ) (given r c : ℕ) → given * rows * s ≤ length columns → r < rows → given ≤ c → c < width
@@ -127,13 +136,9 @@ row_rest rows width s columns given r c room hr hc inside =
     let split : (c - given) + given ≡ c = omega arith in
     let both : over + given * s ≡ c * s = omega (arith, ap (λ (n : ℕ). n * s) split) in
     let place : c * s ≡ length part + over = omega (arith, column_part_long rows s columns given r room hr) in
-    let below : c - given < width - given = omega arith in
-    let left : all - over ≡ s + (all - over - s) = omega (arith, run_fits (c - given) (width - given) s below) in
     ap (λ (k : ℕ). take s (drop k (part ++ replicate all 0))) place
     ∙ ap (λ (xs : List ℕ). take s xs) (drop-append-add part (replicate all 0) over)
-    ∙ ap (λ (xs : List ℕ). take s xs) (drop-replicate over all 0)
-    ∙ ap (λ (n : ℕ). take s (replicate n 0)) left
-    ∙ zeros_front s (all - over - s)
+    ∙ zeros_piece s (width - given) (c - given) (omega arith)
 
 -- symbol (r, c) of the block is symbol r of column c
 pub block_symbol : (f s : ℕ) (columns : List ℕ) (given : ℕ) → given ≤ column_count f → given * row_count f * s ≤ length columns
@@ -157,25 +162,10 @@ block_column f s columns given fewer long c hc =
     let room : given * row_count f * s ≤ length columns = omega arith in
     let bytes : length own ≡ row_count f * s =
     region_long (row_count f * s) c columns (omega (arith, run_fits c given (row_count f * s) hc)) in
-    same_pieces (λ r. symbol (column_count f) s (block_of_columns f s columns given) r c) (λ r. take s (drop (r * s) own)) (row_count f)
+    pieces_whole (λ r. symbol (column_count f) s (block_of_columns f s columns given) r c) s (row_count f) own bytes
     (λ r hr.
     let start : s * r ≡ r * s = omega arith in
     block_symbol f s columns given fewer room r c hr hc ∙ ap (λ (k : ℕ). take s (drop k own)) start)
-    ∙ pieces_front s own (row_count f)
-    ∙ take_all (row_count f * s) own (omega arith)
-
--- pieces of zeros
-zero_pieces : (s n : ℕ) → flat_map (λ (i : ℕ). zeros_of s) (range_with_len 0 n) ≡ zeros_of (n * s)
-zero_pieces s zero = let none : 0 ≡ 0 * s = omega arith in ap (λ (k : ℕ). zeros_of k) none
-zero_pieces s (suc n) =
-    let P : ℕ → Type 0 = λ k. flat_map (λ (i : ℕ). zeros_of s) (range_with_len 0 k) ≡ zeros_of (k * s) in
-    let next : n * s + s ≡ (n + 1) * s = omega arith in
-    let joined : zeros_of (n * s) ++ zeros_of s ≡ zeros_of (n * s + s) = replicate-append-replicate (n * s) s 0 in
-    subst P (add-one n)
-    (pieces_more (λ (i : ℕ). zeros_of s) n
-    ∙ ap (λ (xs : List ℕ). xs ++ zeros_of s) (zero_pieces s n)
-    ∙ joined
-    ∙ ap (λ (k : ℕ). zeros_of k) next)
 
 -- and zeros where none was given
 pub block_rest : (f s : ℕ) (columns : List ℕ) (given : ℕ) → given ≤ column_count f → length columns ≡ given * (row_count f * s)
@@ -184,12 +174,13 @@ pub block_rest : (f s : ℕ) (columns : List ℕ) (given : ℕ) → given ≤ co
 unfolding column_part
 block_rest f s columns given fewer long c hc inside =
     let room : given * row_count f * s ≤ length columns = omega arith in
-    same_pieces (λ r. symbol (column_count f) s (block_of_columns f s columns given) r c) (λ (r : ℕ). zeros_of s) (row_count f)
+    pieces_whole (λ r. symbol (column_count f) s (block_of_columns f s columns given) r c) s (row_count f)
+    (zeros_of (row_count f * s)) (length-replicate (row_count f * s) 0)
     (λ r hr.
     row_symbol (column_count f) s (block_of_columns f s columns given) r c inside
     ∙ ap (λ (xs : List ℕ). take s (drop (c * s) xs)) (row_of_block f s columns given r fewer room hr)
-    ∙ row_rest (row_count f) (column_count f) s columns given r c room hr hc inside)
-    ∙ zero_pieces s (row_count f)
+    ∙ row_rest (row_count f) (column_count f) s columns given r c room hr hc inside
+    ∙ sym (zeros_piece s (row_count f) r hr))
 
 -- what a buffer is to which zeros were added
 pub laid_zeros : (old laid : List ℕ) (place count run : ℕ) → place ≡ length old → count ≡ length old

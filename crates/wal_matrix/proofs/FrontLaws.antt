@@ -3,26 +3,23 @@ use Rattle.std.proofs.Common.{◌≡◌, ℕ, ◌+◌, ◌-◌, ◌*◌, ◌/◌
 use Rattle.std.proofs.Math.Nat.{mul_comm, mul-le-mul_left, mul-le-mul_right}
 use Rattle.std.proofs.lemmas.Bool.{cases_lt}
 use Rattle.std.proofs.lemmas.Nat.{div-mul-add, mod-mul-add, mul-add-lt}
-use Rattle.std.proofs.lemmas.List.{ext_get_or, get_or_append_left, get_or-append_right, get_or_past, get_or-take, get_or-drop, take_at}
+use Rattle.std.proofs.lemmas.List.{get_or_append_left, get_or-append_right, get_or_past, get_or-take, get_or-drop, take_at}
 use borrow.Rule.Slice.PartMut.{put_mid, post_of}
 use Rattle.wal_code.specs.Codeword.{IsCodeword}
-use Rattle.wal_code.proofs.Codes.{IsCodeword-same, codeword_unique_first}
 use Rattle.wal_kernel.specs.Region.{word_at, region}
-use Rattle.wal_kernel.proofs.Words.{bytes_from_words}
-use Rattle.wal_kernel.proofs.Regions.{region-append_left, region-byte, region-drop}
+use Rattle.wal_kernel.proofs.Regions.{region-append_left, region-drop}
 use Rattle.wal_shape.specs.Shape.{shard_count, row_count, column_count, symbol_size}
 use Rattle.wal_matrix.specs.Front.{AreColumns}
 use Rattle.wal_matrix.specs.inside.Front.{ArePut}
 use Rattle.wal_matrix.specs.Matrix.{symbol, padded, IsMatrixOf, IsExtended}
 use Rattle.wal_matrix.specs.inside.Row.{IsRowFrom}
 use Rattle.wal_matrix.proofs.Codewords.{AreBytes, bytes_of_part, region_after}
-use Rattle.wal_matrix.proofs.MatrixLaws.{bytes_within}
-use Rattle.wal_matrix.proofs.PaddedLaws.{padded_long}
+use Rattle.wal_matrix.proofs.MatrixLaws.{bytes_within, same_runs}
 use Rattle.wal_matrix.proofs.Places.{place_fits, run_fits}
-use Rattle.wal_matrix.proofs.RowLaws.{zeros_after}
+use Rattle.wal_matrix.proofs.RowLaws.{block_symbol, row_source}
 use Rattle.wal_matrix.proofs.Runs.{region_long, region-put_other, region-put_same}
 use Rattle.wal_matrix.proofs.Symbols.{symbol_is, symbol_long}
-use Rattle.wal_matrix.proofs.TurnedLaws.{symbol_of_front, word_of_row}
+use Rattle.wal_matrix.proofs.TurnedLaws.{symbol_kept, column_codeword}
 
 -- what is left to be filled with zeros
 pub rest_to_fill : (h : ℕ) (copied out : List ℕ) → length copied ≡ h → h ≤ length out
@@ -67,23 +64,10 @@ laid_bytes start from to h m bytes out copied zeros is_from is_to held is long n
 pub put_source : (f s : ℕ) (bytes e part : List ℕ) (r c : ℕ) → s ≡ symbol_size f (length bytes) → IsExtended f bytes e → r < row_count f → c < column_count f
     → length part ≡ s → ((i : ℕ) → i < s → get_or part i 0 ≡ get_or bytes ((r * column_count f + c) * s + i) 0)
     → part ≡ symbol (shard_count f) s e r c
-unfolding padded
 put_source f s bytes e part r c size is hr hc long same =
-    let k = column_count f in
-    let block = padded f bytes in
-    let block_long : length block ≡ row_count f * k * s = padded_long f bytes ∙ ap (λ (z : ℕ). row_count f * k * z) (sym size) in
-    let right = symbol_long k s block (row_count f) r c (omega arith) hr hc in
-    let P : ℕ → Type 0 = λ z. symbol k z block r c ≡ symbol (shard_count f) z e r c in
-    ext_get_or 0 part (symbol k s block r c) (long ∙ sym right)
-    (λ i h.
-    let inside : i < s = omega arith in
-    let number : (r * k + c) * s + i ≡ s * (r * k + c) + i = omega arith in
-    same i inside
-    ∙ ap (λ (j : ℕ). get_or bytes j 0) number
-    ∙ sym (ap (λ (ys : List ℕ). get_or ys i 0) (symbol_is k s block r c)
-    ∙ region-byte s block (r * k + c) i inside
-    ∙ zeros_after bytes (row_count f * k * symbol_size f (length bytes) - length bytes) (s * (r * k + c) + i)))
-    ∙ subst P (sym size) (sym (is.source r c hr hc))
+    block_symbol f s bytes part r c size hr hc long same
+    ∙ subst (λ (z : ℕ). symbol (column_count f) z (padded f bytes) r c ≡ symbol (shard_count f) z e r c) (sym size)
+    (sym (is.source r c hr hc))
 
 -- the place of a symbol of the source block
 pub source_place : (f s r c : ℕ) → r < row_count f → c < column_count f → (r * column_count f + c) * s + s ≤ shard_count f * shard_count f * s
@@ -103,28 +87,16 @@ pub row_symbols : (f s : ℕ) (bytes e row : List ℕ) (r : ℕ) → f ≤ 333 �
     → AreBytes row → length row ≡ shard_count f * s
     → IsRowFrom (column_count f) (shard_count f) s bytes (r * (column_count f * s)) row
     → (c : ℕ) → c < shard_count f → region s row c ≡ symbol (shard_count f) s e r c
-row_symbols f s bytes e row r few even size is hr bytes_row long from c hc =
+row_symbols f s bytes e row r few even size is hr bytes_row long from =
     let n = shard_count f in
-    let k = column_count f in
     let matrix : IsMatrixOf f s (padded f bytes) e = subst (λ (z : ℕ). IsMatrixOf f z (padded f bytes) e) (sym size) is in
     let deep : r < n = omega arith in
-    let piece : (j : ℕ) → j < n → length (region s row j) ≡ s = λ j hj. region_long s j row (omega (arith, run_fits j n s hj)) in
-    let left = piece c hc in
-    let right : length (symbol n s e r c) ≡ s = symbol_long n s e n r c (omega (arith, matrix.coded.size)) deep hc in
-    bytes_from_words (region s row c) (symbol n s e r c) (left ∙ sym right) (ap (λ (a : ℕ). a % 2) left ∙ even)
-    (bytes_of_part s (s * c) row bytes_row) (bytes_of_symbol n s e r c (bytes_within e matrix.coded.fits))
-    (λ w l.
-    let low : 2 * w < s = omega (arith, left) in
-    codeword_unique_first k n (λ j. word_at (region s row j) w) (λ j. word_at (symbol n s e r j) w) (omega arith) (omega arith)
-    (from.codeword w low) (matrix.coded.rows r w deep low)
-    (λ j hj.
-    ap (λ (ys : List ℕ). word_at ys w)
-    (put_source f s bytes e (region s row j) r j size is hr hj (piece j (omega arith))
-    (λ i hi.
-    let within : s * j + i < k * s = omega (arith, run_fits j k s hj) in
-    let number : r * (k * s) + (s * j + i) ≡ (r * k + j) * s + i = omega arith in
-    region-byte s row j i hi ∙ from.begins (s * j + i) within ∙ ap (λ (z : ℕ). get_or bytes z 0) number)))
-    c hc)
+    same_runs (column_count f) n s (λ j. region s row j) (λ j. symbol n s e r j) (omega arith) (omega arith) even
+    (λ j hj. region_long s j row (omega (arith, run_fits j n s hj)))
+    (λ j hj. symbol_long n s e n r j (omega (arith, matrix.coded.size)) deep hj)
+    (λ j. bytes_of_part s (s * j) row bytes_row) (λ j. bytes_of_symbol n s e r j (bytes_within e matrix.coded.fits))
+    from.codeword (λ w low. matrix.coded.rows r w deep low)
+    (λ j hj. row_source f s bytes row r j size long hr hj from ∙ sym (matrix.source r j hr hj))
 
 -- the redundant symbols of the rows so far
 abbrev pub KeptRows : ℕ → ℕ → List ℕ → ℕ → List ℕ → Type 0
@@ -180,56 +152,28 @@ put_more f s first count place m bytes old part some room long own before =
     (cases_lt (r * count + k) place)
 
 -- columns that were extended from their first symbols
-columns_of_words : (f h count : ℕ) (old new : List ℕ) → f ≤ 333 → length new ≡ shard_count f * (count * (2 * h)) → AreBytes new
-    → take (row_count f * (count * (2 * h))) new ≡ take (row_count f * (count * (2 * h))) old
-    → ((w : ℕ) → 2 * w < count * (2 * h) → IsCodeword (row_count f) (shard_count f) (λ i. word_at (region (count * (2 * h)) new i) w))
-    → (bytes : List ℕ) (first : ℕ) → 2 * h ≡ symbol_size f (length bytes) → first + count ≤ shard_count f
-    → ArePut f (2 * h) bytes first count (row_count f * count) old → AreColumns f (2 * h) bytes first count new
-columns_of_words f h count old new few long bytes_new kept codewords bytes first size fits put =
-    λ e is r k hr hk.
-    let n = shard_count f in
-    let s = 2 * h in
-    let rows = row_count f in
-    let matrix : IsMatrixOf f s (padded f bytes) e = subst (λ (z : ℕ). IsMatrixOf f z (padded f bytes) e) (sym size) is in
-    let far : first + k < n = omega arith in
-    let whole : n * count * s ≤ length new = omega (arith, long) in
-    let left : length (symbol count s new r k) ≡ s = symbol_long count s new n r k whole hr hk in
-    let right : length (symbol n s e r (first + k)) ≡ s = symbol_long n s e n r (first + k) (omega (arith, matrix.coded.size)) hr far in
-    let even : s % 2 ≡ 0 = omega arith in
-    bytes_from_words (symbol count s new r k) (symbol n s e r (first + k)) (left ∙ sym right) (ap (λ (a : ℕ). a % 2) left ∙ even)
-    (bytes_of_symbol count s new r k bytes_new) (bytes_of_symbol n s e r (first + k) (bytes_within e matrix.coded.fits))
-    (λ w l.
-    let low : w < h = omega (arith, left) in
-    let place : 2 * (k * h + w) < count * s = omega (arith, run_fits k count s hk) in
-    let early : 2 * w < s = omega arith in
-    codeword_unique_first rows n (λ i. word_at (symbol count s new i k) w) (λ i. word_at (symbol n s e i (first + k)) w) (omega arith) (omega arith)
-    (IsCodeword-same rows n (λ i. word_at (region (count * s) new i) (k * h + w)) (λ i. word_at (symbol count s new i k) w)
-    (λ i hi. word_of_row count h new i k w hk low) (codewords (k * h + w) place))
-    (matrix.coded.columns (first + k) w far early)
-    (λ i hi.
-    let inside : (i * count + k) * s + s ≤ rows * (count * s) = omega (arith, place_fits i rows k count s hi hk) in
-    let below : i * count + k < rows * count = omega (arith, mul-add-lt i count k rows hi hk, mul_comm rows count) in
-    ap (λ (ys : List ℕ). word_at ys w)
-    (sym (symbol_of_front count s (rows * (count * s)) new i k inside)
-    ∙ ap (λ (ys : List ℕ). symbol count s ys i k) kept
-    ∙ symbol_of_front count s (rows * (count * s)) old i k inside
-    ∙ put e is i k hk below))
-    r hr)
-
--- the same at an even size
 pub columns_extended : (f s count : ℕ) (old new : List ℕ) → f ≤ 333 → s % 2 ≡ 0 → length new ≡ shard_count f * (count * s) → AreBytes new
     → take (row_count f * (count * s)) new ≡ take (row_count f * (count * s)) old
     → ((w : ℕ) → 2 * w < count * s → IsCodeword (row_count f) (shard_count f) (λ i. word_at (region (count * s) new i) w))
     → (bytes : List ℕ) (first : ℕ) → s ≡ symbol_size f (length bytes) → first + count ≤ shard_count f
     → ArePut f s bytes first count (row_count f * count) old → AreColumns f s bytes first count new
-columns_extended f s count old new few even =
-    let half : 2 * (s / 2) ≡ s = omega arith in
-    let P : ℕ → Type 0 = λ z. length new ≡ shard_count f * (count * z) → AreBytes new
-    → take (row_count f * (count * z)) new ≡ take (row_count f * (count * z)) old
-    → ((w : ℕ) → 2 * w < count * z → IsCodeword (row_count f) (shard_count f) (λ i. word_at (region (count * z) new i) w))
-    → (bytes : List ℕ) (first : ℕ) → z ≡ symbol_size f (length bytes) → first + count ≤ shard_count f
-    → ArePut f z bytes first count (row_count f * count) old → AreColumns f z bytes first count new in
-    subst P half (columns_of_words f (s / 2) count old new few)
+columns_extended f s count old new few even long bytes_new kept codewords bytes first size fits put =
+    λ e is r k hr hk.
+    let n = shard_count f in
+    let rows = row_count f in
+    let matrix : IsMatrixOf f s (padded f bytes) e = subst (λ (z : ℕ). IsMatrixOf f z (padded f bytes) e) (sym size) is in
+    let far : first + k < n = omega arith in
+    same_runs rows n s (λ i. symbol count s new i k) (λ i. symbol n s e i (first + k)) (omega arith) (omega arith) even
+    (λ i hi. symbol_long count s new n i k (omega (arith, long)) hi hk)
+    (λ i hi. symbol_long n s e n i (first + k) (omega (arith, matrix.coded.size)) hi far)
+    (λ i. bytes_of_symbol count s new i k bytes_new)
+    (λ i. bytes_of_symbol n s e i (first + k) (bytes_within e matrix.coded.fits))
+    (λ w low. column_codeword rows n count s new even codewords k w hk low)
+    (λ w low. matrix.coded.columns (first + k) w far low)
+    (λ i hi.
+    let below : i * count + k < rows * count = omega (arith, mul-add-lt i count k rows hi hk, mul_comm rows count) in
+    symbol_kept rows count s new old i k hi hk kept ∙ put e is i k hk below)
+    r hr
 
 -- the redundant symbols of one more row have their bytes
 pub kept_long : (f s index : ℕ) (old row : List ℕ) → length old ≡ index * (f * s) → length row ≡ shard_count f * s

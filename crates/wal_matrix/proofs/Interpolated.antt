@@ -1,5 +1,5 @@
 -- The matrix of words through given primary slivers: each sliver goes on along its row, and the columns go through these rows.
-use Rattle.std.proofs.Common.{◌≡◌, ℕ, ◌*◌, ◌<◌, ◌≤◌, List, length, get_or, sym, ap, subst, ◌∙◌, arith}
+use Rattle.std.proofs.Common.{◌≡◌, ℕ, ◌*◌, ◌%◌, ◌<◌, ◌≤◌, List, length, get_or, sym, ap, subst, ◌∙◌, arith, All}
 use Rattle.std.specs.List.{range_with_len}
 use Rattle.std.proofs.lemmas.List.FromFn.{get_or-range_with_len, length-range_with_len}
 use Rattle.wal_code.specs.Codeword.{IsCodeword, Distinct, combination}
@@ -10,95 +10,102 @@ use Rattle.wal_matrix.specs.Matrix.{symbol}
 use Rattle.wal_matrix.proofs.Codewords.{AreBytes, range_distinct}
 use Rattle.wal_matrix.proofs.MatrixLaws.{word_of_symbol}
 
--- as many joined primary slivers as there are rows, of symbols of h words, and their distinct indices
-pub record ArePrimaries (f h : ℕ) (indices joined : List ℕ) : Type 0 where
+-- as many joined primary slivers as there are rows, and their distinct indices
+pub record AreSlivers (f s : ℕ) (indices joined : List ℕ) : Type 0 where
   pub few : f ≤ 333
-  pub some : 0 < h
+  pub even : s % 2 ≡ 0
+  pub some : 0 < s
   pub count : length indices ≡ row_count f
   pub distinct : Distinct indices
-  pub below : (i : ℕ) → i < length indices → get_or indices i 0 < shard_count f
-  pub size : length joined ≡ row_count f * (column_count f * (2 * h))
+  pub below : All (λ i. i < shard_count f) indices
+  pub size : length joined ≡ row_count f * (column_count f * s)
   pub bytes : AreBytes joined
 
 -- word w of symbol j of the sliver at place k
 abbrev pub given : ℕ → ℕ → List ℕ → ℕ → ℕ → ℕ → ℕ
-given f h joined k j w = word_at (symbol (column_count f) (2 * h) joined k j) w
+given f s joined k j w = word_at (symbol (column_count f) s joined k j) w
 
 -- the sliver at place k goes on along its row
 abbrev pub along : ℕ → ℕ → List ℕ → ℕ → ℕ → ℕ → ℕ
-along f h joined k c w = combination (range_with_len 0 (column_count f)) (λ j. given f h joined k j w) c
+along f s joined k c w = combination (range_with_len 0 (column_count f)) (λ j. given f s joined k j w) c
 
 -- and each column goes through these rows
 abbrev pub across : ℕ → ℕ → List ℕ → List ℕ → ℕ → ℕ → ℕ → ℕ
-across f h indices joined r c w = combination indices (λ k. along f h joined k c w) r
+across f s indices joined r c w = combination indices (λ k. along f s joined k c w) r
 
-module _ (f h : ℕ) (indices joined : List ℕ) (are : ArePrimaries f h indices joined) where
-  pub given-word : (k j w : ℕ) → given f h joined k j w < 65536
-  given-word k j w = word_of_symbol (column_count f) (2 * h) joined k j w are.bytes
+module _ (f s : ℕ) (indices joined : List ℕ) (are : AreSlivers f s indices joined) where
+  pub given-word : (k j w : ℕ) → given f s joined k j w < 65536
+  given-word k j w = word_of_symbol (column_count f) s joined k j w are.bytes
 
   first_place : (i : ℕ) → i < column_count f → get_or (range_with_len 0 (column_count f)) i 0 ≡ i
   first_place i l = omega (arith, get_or-range_with_len 0 (column_count f) i 0 l)
 
-  along-codeword : (k w : ℕ) → IsCodeword (column_count f) (shard_count f) (λ c. along f h joined k c w)
+  first_word : (i : ℕ) → i < length (range_with_len 0 (column_count f))
+      → get_or (range_with_len 0 (column_count f)) i 0 < 65536
+  first_word i l =
+      let few = are.few in
+      let all = length-range_with_len 0 (column_count f) in
+      omega (arith, first_place i (omega arith))
+
+  along-codeword : (k w : ℕ) → IsCodeword (column_count f) (shard_count f) (λ c. along f s joined k c w)
   along-codeword k w =
       let m = column_count f in
-      let n = shard_count f in
       let few = are.few in
-      let size = length-range_with_len 0 m in
-      subst (λ (d : ℕ). IsCodeword d n (λ c. along f h joined k c w)) size
-      (combination-codeword n (range_with_len 0 m) (λ j. given f h joined k j w) (omega arith) (range_distinct 0 m)
-      (λ i l. omega (arith, first_place i (omega arith))) (λ i l. given-word k i w))
+      subst (λ (d : ℕ). IsCodeword d (shard_count f) (λ c. along f s joined k c w)) (length-range_with_len 0 m)
+      (combination-codeword (shard_count f) (range_with_len 0 m) (λ j. given f s joined k j w) (omega arith)
+      (range_distinct 0 m) first_word (λ i l. given-word k i w))
 
-  along-word : (k c w : ℕ) → c < shard_count f → along f h joined k c w < 65536
+  along-word : (k c w : ℕ) → c < shard_count f → along f s joined k c w < 65536
   along-word k c w hc =
       let few = are.few in
-      codeword-word (column_count f) (shard_count f) (λ a. along f h joined k a w) (omega arith) (along-codeword k w) c hc
+      codeword-word (column_count f) (shard_count f) (λ a. along f s joined k a w) (omega arith) (along-codeword k w) c
+      hc
 
-  pub along-first : (k c w : ℕ) → c < column_count f → along f h joined k c w ≡ given f h joined k c w
-  along-first k c w hc =
-      let m = column_count f in
-      let few = are.few in
-      let size = length-range_with_len 0 m in
-      ap (λ (a : ℕ). along f h joined k a w) (sym (first_place c hc))
-      ∙ combination-known (range_with_len 0 m) (λ j. given f h joined k j w) (range_distinct 0 m)
-      (λ i l. omega (arith, first_place i (omega arith))) (λ i l. given-word k i w) c (omega arith)
-
-  index_word : (i : ℕ) → i < length indices → get_or indices i 0 < 65536
-  index_word i l = let few = are.few in let below = are.below i l in omega arith
+  pub index_word : (i : ℕ) → i < length indices → get_or indices i 0 < 65536
+  index_word i l = let few = are.few in omega (arith, are.below i 0 l)
 
   across-codeword : (c w : ℕ) → c < shard_count f
-      → IsCodeword (length indices) (shard_count f) (λ r. across f h indices joined r c w)
+      → IsCodeword (length indices) (shard_count f) (λ r. across f s indices joined r c w)
   across-codeword c w hc =
       let few = are.few in
-      combination-codeword (shard_count f) indices (λ k. along f h joined k c w) (omega arith) are.distinct index_word
+      combination-codeword (shard_count f) indices (λ k. along f s joined k c w) (omega arith) are.distinct index_word
       (λ k l. along-word k c w hc)
 
   across-known : (k c w : ℕ) → k < length indices → c < shard_count f
-      → across f h indices joined (get_or indices k 0) c w ≡ along f h joined k c w
+      → across f s indices joined (get_or indices k 0) c w ≡ along f s joined k c w
   across-known k c w hk hc =
-      combination-known indices (λ a. along f h joined a c w) are.distinct index_word (λ a l. along-word a c w hc) k hk
+      combination-known indices (λ a. along f s joined a c w) are.distinct index_word (λ a l. along-word a c w hc) k hk
 
-  pub across-column : (c w : ℕ) → c < shard_count f → IsCodeword (row_count f) (shard_count f) (λ r. across f h indices joined r c w)
+  pub across-column : (c w : ℕ) → c < shard_count f
+      → IsCodeword (row_count f) (shard_count f) (λ r. across f s indices joined r c w)
   across-column c w hc =
-      subst (λ (d : ℕ). IsCodeword d (shard_count f) (λ r. across f h indices joined r c w)) are.count (across-codeword c w hc)
+      subst (λ (d : ℕ). IsCodeword d (shard_count f) (λ r. across f s indices joined r c w)) are.count
+      (across-codeword c w hc)
 
-  pub across-word : (r c w : ℕ) → r < shard_count f → c < shard_count f → across f h indices joined r c w < 65536
+  pub across-word : (r c w : ℕ) → r < shard_count f → c < shard_count f → across f s indices joined r c w < 65536
   across-word r c w hr hc =
       let few = are.few in
-      codeword-word (length indices) (shard_count f) (λ a. across f h indices joined a c w) (omega arith) (across-codeword c w hc) r hr
+      codeword-word (length indices) (shard_count f) (λ a. across f s indices joined a c w) (omega arith)
+      (across-codeword c w hc) r hr
 
-  pub across-row : (r w : ℕ) → r < shard_count f → IsCodeword (column_count f) (shard_count f) (λ c. across f h indices joined r c w)
+  pub across-row : (r w : ℕ) → r < shard_count f
+      → IsCodeword (column_count f) (shard_count f) (λ c. across f s indices joined r c w)
   across-row r w hr =
       let m = column_count f in
       let n = shard_count f in
       let few = are.few in
-      every_row m n n indices (λ a c. across f h indices joined a c w) are.distinct are.below (omega arith) (omega arith)
+      every_row m n n indices (λ a c. across f s indices joined a c w) are.distinct (λ i l. are.below i 0 l)
+      (omega arith) (omega arith)
       (λ k hk.
-      IsCodeword-same m n (λ c. along f h joined k c w) (λ c. across f h indices joined (get_or indices k 0) c w)
+      IsCodeword-same m n (λ c. along f s joined k c w) (λ c. across f s indices joined (get_or indices k 0) c w)
       (λ c hc. across-known k c w hk hc) (along-codeword k w))
       (λ c hc. across-codeword c w hc) r hr
 
   -- at the given places it has the given words
   pub across-given : (k c w : ℕ) → k < length indices → c < column_count f
-      → across f h indices joined (get_or indices k 0) c w ≡ given f h joined k c w
-  across-given k c w hk hc = across-known k c w hk (omega arith) ∙ along-first k c w hc
+      → across f s indices joined (get_or indices k 0) c w ≡ given f s joined k c w
+  across-given k c w hk hc =
+      let m = column_count f in
+      across-known k c w hk (omega arith) ∙ ap (λ (a : ℕ). along f s joined k a w) (sym (first_place c hc))
+      ∙ combination-known (range_with_len 0 m) (λ j. given f s joined k j w) (range_distinct 0 m) first_word
+      (λ i l. given-word k i w) c (omega (arith, length-range_with_len 0 m))

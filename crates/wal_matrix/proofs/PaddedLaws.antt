@@ -19,11 +19,11 @@ padded_long f bytes =
     ∙ ap (λ (k : ℕ). length bytes + k) (length-replicate (whole - length bytes) 0) ∙ omega arith
 
 -- what a buffer holds that is filled with the blob and resized
-pub padded_is : (f size : ℕ) (bytes : List ℕ) → size ≡ row_count f * column_count f * symbol_size f (length bytes)
-    → take size bytes ++ replicate (size - length bytes) 0 ≡ padded f bytes
+pub padded_is : (f size count : ℕ) (bytes held : List ℕ)
+    → size ≡ row_count f * column_count f * symbol_size f (length bytes) → held ≡ bytes
+    → count ≡ length held → take size held ++ replicate (size - count) 0 ≡ padded f bytes
 unfolding padded
-padded_is f size bytes is =
+padded_is f size count bytes held is same long =
     let fits = blob_fits f bytes in
     let room : length bytes ≤ size = omega arith in
-    ap (λ (front : List ℕ). front ++ replicate (size - length bytes) 0) (take_all size bytes room)
-    ∙ ap (λ (k : ℕ). bytes ++ replicate (k - length bytes) 0) is
+    rw (long, same) (rw (take_all size bytes room) (ap (λ (k : ℕ). bytes ++ replicate (k - length bytes) 0) is))

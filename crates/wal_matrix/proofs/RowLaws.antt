@@ -1,8 +1,7 @@
 -- Rows that are laid into a matrix and extended there.
-use Rattle.std.proofs.Common.{◌≡◌, ℕ, ◌+◌, ◌-◌, ◌*◌, ◌/◌, ◌%◌, ◌<◌, ◌≤◌, min, List, ◌++◌, length, take, drop, replicate, slice_index, get_or, zero, suc, refl, sym, ap, subst, ◌∙◌, arith, zero-add, ⊎_elim, below_more, length-append, length-take, length-drop}
+use Rattle.std.proofs.Common.{◌≡◌, ℕ, ◌+◌, ◌-◌, ◌*◌, ◌%◌, ◌<◌, ◌≤◌, min, List, ◌++◌, length, take, drop, replicate, slice_index, get_or, zero, suc, refl, sym, ap, subst, ◌∙◌, arith, ⊎_elim, below_more, length-append, length-take, length-drop}
 use Rattle.std.proofs.lemmas.Bool.{cases_lt}
 use Rattle.std.proofs.lemmas.List.{append_assoc, ext_get_or, get_or_append_left, get_or-append_right, get_or-append-add, get_or_past, get_or-take, get_or-drop, length-replicate, take_all, take_at, take-take}
-use Rattle.std.proofs.Math.Nat.{mul_comm}
 use Rattle.wal_code.specs.Codeword.{IsCodeword}
 use Rattle.wal_code.proofs.Codes.{IsCodeword-same, every_row_first}
 use Rattle.wal_kernel.specs.Region.{word_at, region}
@@ -12,10 +11,10 @@ use Rattle.wal_matrix.specs.Matrix.{symbol, padded, IsMatrixOf}
 use Rattle.wal_matrix.specs.inside.Row.{laid_row, IsRowFrom}
 use Rattle.wal_matrix.proofs.Codewords.{AreBytes}
 use Rattle.wal_matrix.proofs.Places.{run_fits, part_fits}
-use Rattle.wal_matrix.proofs.Runs.{part_of_part}
-use Rattle.wal_matrix.proofs.Symbols.{symbol_is, symbol_long, row_symbol}
+use Rattle.wal_matrix.proofs.Runs.{region_long, run_of_front}
+use Rattle.wal_matrix.proofs.Symbols.{symbol_is, symbol_long, joined-symbol}
 use Rattle.wal_matrix.proofs.PaddedLaws.{padded_long}
-use Rattle.wal_matrix.proofs.TurnedLaws.{word_of_row}
+use Rattle.wal_matrix.proofs.TurnedLaws.{column_codeword}
 
 zero_of_zeros : (n k : ℕ) → slice_index (replicate n 0) k ≡ 0
 zero_of_zeros zero k = refl
@@ -59,38 +58,38 @@ cut_part start width from to bytes is_from is_to =
     ∙ sym (get_or-take width (drop start bytes) i 0 below ∙ get_or-drop start bytes i 0))
 
 -- a part of the blob is appended, and zeros to the end of the row
-pub laid_after : (start width run from to : ℕ) (bytes old held after : List ℕ) → from ≡ min start (length bytes) → to ≡ min (start + width) (length bytes)
-    → width ≤ run → held ≡ old ++ take (to - from) (drop from bytes)
-    → after ≡ take (length old + run) held ++ replicate (length old + run - length held) 0
+pub laid_after : (start width run from to place count : ℕ) (bytes old held after : List ℕ)
+    → from ≡ min start (length bytes)
+    → to ≡ min (start + width) (length bytes) → width ≤ run → held ≡ old ++ take (to - from) (drop from bytes)
+    → place ≡ length old → count ≡ length held → after ≡ take (place + run) held ++ replicate (place + run - count) 0
     → after ≡ old ++ laid_row start width run bytes
 unfolding laid_row
-laid_after start width run from to bytes old held after is_from is_to room appended filled =
+laid_after start width run from to place count bytes old held after is_from is_to room appended at whole filled =
     let part = take width (drop start bytes) in
     let own : held ≡ old ++ part = appended ∙ ap (λ (p : List ℕ). old ++ p) (cut_part start width from to bytes is_from is_to) in
     let long : length held ≡ length old + length part = ap length own ∙ length-append old part in
     let few = length-take width (drop start bytes) in
-    let rest : length old + run - length held ≡ run - length part = omega arith in
+    let rest : place + run - count ≡ run - length part = omega arith in
     filled
-    ∙ ap (λ (p : List ℕ). p ++ replicate (length old + run - length held) 0) (take_all (length old + run) held (omega arith) ∙ own)
-    ∙ ap (λ (k : ℕ). old ++ part ++ replicate k 0) rest
+    ∙ ap (λ (p : List ℕ). p ++ replicate (place + run - count) 0) (take_all (place + run) held (omega arith) ∙ own)
+    ∙ ap (λ (k : ℕ). (old ++ part) ++ replicate k 0) rest
     ∙ append_assoc old part (replicate (run - length part) 0)
 
 -- it has all bytes of the row
-pub laid_long : (start known total size : ℕ) (bytes old : List ℕ) → known ≤ total
-    → length (old ++ laid_row start (known * size) (total * size) bytes) ≡ length old + total * size
+pub laid_long : (start known total size place : ℕ) (bytes old laid : List ℕ) → known ≤ total → place ≡ length old
+    → laid ≡ old ++ laid_row start (known * size) (total * size) bytes → length laid ≡ place + total * size
 unfolding laid_row
-laid_long start known total size bytes old fewer =
+laid_long start known total size place bytes old laid fewer at is =
     let part = take (known * size) (drop start bytes) in
     let zeros : List ℕ = replicate (total * size - length part) 0 in
     let zeros_long : length zeros ≡ total * size - length part = length-replicate (total * size - length part) 0 in
-    let few = length-take (known * size) (drop start bytes) in
     omega (
       arith,
       part_fits known total size fewer,
+      ap length is,
       length-append old (part ++ zeros),
       length-append part zeros,
-      zeros_long,
-      few,
+      length-take (known * size) (drop start bytes),
     )
 
 -- the row that was laid last is extended
@@ -140,62 +139,79 @@ rows_more known total size row n bytes old new at kept long before own =
     sym (take_all run (drop n new) (omega arith)) ∙ ap (λ (k : ℕ). take run (drop k new)) start in
     below_more _ _
     (λ r h.
-    let inside : run * r + run ≤ n = omega (arith, run_fits r row run h) in
     let same : region run old r ≡ region run new r =
-    ap (λ (ys : List ℕ). take run (drop (run * r) ys)) (sym kept)
-    ∙ part_of_part run (run * r) n 0 new inside
-    ∙ ap (λ (k : ℕ). take run (drop k new)) (zero-add (run * r)) in
+    ap (λ (ys : List ℕ). region run ys r) (sym kept)
+    ∙ run_of_front run (run * r) n new (omega (arith, run_fits r row run h)) in
     subst (P r) same (before r h))
     (subst (P row) last own)
 
--- a symbol of a row that begins with a part of the blob
-row_source : (f s : ℕ) (bytes e : List ℕ) (r c : ℕ) → s ≡ symbol_size f (length bytes) → length e ≡ shard_count f * shard_count f * s
-    → r < row_count f → c < column_count f
-    → IsRowFrom (column_count f) (shard_count f) s bytes (r * (column_count f * s)) (region (shard_count f * s) e r)
-    → symbol (shard_count f) s e r c ≡ symbol (column_count f) s (padded f bytes) r c
+-- a byte of a symbol of the source block is one of the blob
+pub block_byte : (f s : ℕ) (bytes : List ℕ) (r c i : ℕ) → i < s
+    → get_or (symbol (column_count f) s (padded f bytes) r c) i 0 ≡ get_or bytes ((r * column_count f + c) * s + i) 0
 unfolding padded
-row_source f s bytes e r c size long hr hc own =
-    let n = shard_count f in
+block_byte f s bytes r c i inside =
     let k = column_count f in
-    let row = region (n * s) e r in
     let block = padded f bytes in
-    let wide : c < n = omega arith in
-    let deep : r < n = omega arith in
-    let block_long : length block ≡ row_count f * k * s = padded_long f bytes ∙ ap (λ (z : ℕ). row_count f * k * z) (sym size) in
-    let left = symbol_long n s e n r c (omega arith) deep wide in
-    let right = symbol_long k s block (row_count f) r c (omega arith) hr hc in
-    ext_get_or 0 (symbol n s e r c) (symbol k s block r c) (left ∙ sym right)
-    (λ i h.
-    let inside : i < s = omega arith in
-    let within : c * s + i < k * s = omega (arith, run_fits c k s hc) in
-    let number : r * (k * s) + (c * s + i) ≡ s * (r * k + c) + i = omega arith in
-    ap (λ (ys : List ℕ). get_or ys i 0) (row_symbol n s e r c wide)
-    ∙ get_or-take s (drop (c * s) row) i 0 inside
-    ∙ get_or-drop (c * s) row i 0
-    ∙ own.begins (c * s + i) within
+    let number : s * (r * k + c) + i ≡ (r * k + c) * s + i = omega arith in
+    ap (λ (ys : List ℕ). get_or ys i 0) (symbol_is k s block r c) ∙ region-byte s block (r * k + c) i inside
+    ∙ zeros_after bytes (row_count f * k * symbol_size f (length bytes) - length bytes) (s * (r * k + c) + i)
     ∙ ap (λ (j : ℕ). get_or bytes j 0) number
-    ∙ sym (ap (λ (ys : List ℕ). get_or ys i 0) (symbol_is k s block r c)
-    ∙ region-byte s block (r * k + c) i inside
-    ∙ zeros_after bytes (row_count f * k * symbol_size f (length bytes) - length bytes) (s * (r * k + c) + i)))
 
--- rows that are laid and extended, and then whole rows
-extended_down : (f h : ℕ) (bytes e : List ℕ) → f ≤ 333 → 2 * h ≡ symbol_size f (length bytes)
-    → length e ≡ shard_count f * shard_count f * (2 * h) → AreBytes e
+-- what has the bytes of the blob at its place is a symbol of the source block
+pub block_symbol : (f s : ℕ) (bytes part : List ℕ) (r c : ℕ) → s ≡ symbol_size f (length bytes) → r < row_count f
+    → c < column_count f
+    → length part ≡ s → ((i : ℕ) → i < s → get_or part i 0 ≡ get_or bytes ((r * column_count f + c) * s + i) 0)
+    → part ≡ symbol (column_count f) s (padded f bytes) r c
+block_symbol f s bytes part r c size hr hc long same =
+    let k = column_count f in
+    let block = padded f bytes in
+    let block_long : length block ≡ row_count f * k * s = padded_long f bytes ∙ ap (λ (z : ℕ). row_count f * k * z) (sym size) in
+    ext_get_or 0 part (symbol k s block r c) (long ∙ sym (symbol_long k s block (row_count f) r c (omega arith) hr hc))
+    (λ i h. let inside : i < s = omega arith in same i inside ∙ sym (block_byte f s bytes r c i inside))
+
+-- a symbol of a row that begins with a part of the blob
+pub row_source : (f s : ℕ) (bytes row : List ℕ) (r c : ℕ) → s ≡ symbol_size f (length bytes)
+    → length row ≡ shard_count f * s → r < row_count f → c < column_count f
+    → IsRowFrom (column_count f) (shard_count f) s bytes (r * (column_count f * s)) row
+    → region s row c ≡ symbol (column_count f) s (padded f bytes) r c
+row_source f s bytes row r c size long hr hc own =
+    let k = column_count f in
+    block_symbol f s bytes (region s row c) r c size hr hc
+    (region_long s c row (omega (arith, run_fits c (shard_count f) s (omega arith))))
+    (λ i hi.
+    let within : s * c + i < k * s = omega (arith, run_fits c k s hc) in
+    let number : r * (k * s) + (s * c + i) ≡ (r * k + c) * s + i = omega arith in
+    region-byte s row c i hi ∙ own.begins (s * c + i) within ∙ ap (λ (j : ℕ). get_or bytes j 0) number)
+
+-- rows that are laid and extended, and then whole rows, which the extension kept
+pub extended_in_place : (f s count : ℕ) (bytes cells filled e : List ℕ) → f ≤ 333 → s % 2 ≡ 0
+    → s ≡ symbol_size f (length bytes) → length e ≡ shard_count f * shard_count f * s → AreBytes e
+    → count ≡ length cells → count ≡ row_count f * (shard_count f * s)
+    → filled ≡ take (shard_count f * (shard_count f * s)) cells ++ replicate (shard_count f * (shard_count f * s) - count) 0
+    → take (row_count f * (shard_count f * s)) e ≡ take (row_count f * (shard_count f * s)) filled
     → ((r : ℕ) → r < row_count f
-    → IsRowFrom (column_count f) (shard_count f) (2 * h) bytes (r * (column_count f * (2 * h))) (region (shard_count f * (2 * h)) e r))
-    → ((w : ℕ) → 2 * w < shard_count f * (2 * h) → IsCodeword (row_count f) (shard_count f) (λ r. word_at (region (shard_count f * (2 * h)) e r) w))
-    → IsMatrixOf f (2 * h) (padded f bytes) e
-extended_down f h bytes e few size long bytes_e rows codewords =
+    → IsRowFrom (column_count f) (shard_count f) s bytes (r * (column_count f * s)) (region (shard_count f * s) cells r))
+    → ((w : ℕ) → 2 * w < shard_count f * s → IsCodeword (row_count f) (shard_count f) (λ r. word_at (region (shard_count f * s) e r) w))
+    → IsMatrixOf f (symbol_size f (length bytes)) (padded f bytes) e
+extended_in_place f s count bytes cells filled e few even size long bytes_e at laid_long is kept rows codewords =
     let n = shard_count f in
-    let s = 2 * h in
     let run = n * s in
-    let columns : (c w : ℕ) → c < n → 2 * w < s → IsCodeword (row_count f) n (λ r. word_at (symbol n s e r c) w) =
-    λ c w hc hw.
-    let within : w < h = omega arith in
-    IsCodeword-same (row_count f) n (λ r. word_at (region run e r) (c * h + w)) (λ r. word_at (symbol n s e r c) w)
-    (λ r l. word_of_row n h e r c w hc within)
-    (codewords (c * h + w) (omega (arith, run_fits c n h hc))) in
-    record {
+    let end = row_count f * run in
+    let zeros : List ℕ = replicate (n * run - count) 0 in
+    let fits : length cells ≤ n * run = omega (arith, part_fits (row_count f) n run (omega arith)) in
+    let front : take end e ≡ cells =
+    kept
+    ∙ ap (λ (ys : List ℕ). take end ys) (is ∙ ap (λ (ys : List ℕ). ys ++ zeros) (take_all (n * run) cells fits))
+    ∙ take_at cells zeros end (omega arith) in
+    let own : (r : ℕ) → r < row_count f → IsRowFrom (column_count f) n s bytes (r * (column_count f * s)) (region run e r) =
+    λ r hr.
+    let same : region run cells r ≡ region run e r =
+    ap (λ (ys : List ℕ). region run ys r) (sym front)
+    ∙ run_of_front run (run * r) end e (omega (arith, run_fits r (row_count f) run hr)) in
+    subst (λ (ys : List ℕ). IsRowFrom (column_count f) n s bytes (r * (column_count f * s)) ys) same (rows r hr) in
+    let columns = column_codeword (row_count f) n n s e even codewords in
+    subst (λ (z : ℕ). IsMatrixOf f z (padded f bytes) e) size
+    (record {
       coded = record {
         size = long;
         fits = λ i _. bytes_e i;
@@ -203,49 +219,12 @@ extended_down f h bytes e few size long bytes_e rows codewords =
             every_row_first (column_count f) (row_count f) n n (λ a b. word_at (symbol n s e a b) w) (omega arith) (omega arith) (omega arith)
             (λ a ha.
             IsCodeword-same (column_count f) n (λ b. word_at (region s (region run e a) b) w) (λ b. word_at (symbol n s e a b) w)
-            (λ b hb.
-            ap (λ (ys : List ℕ). word_at ys w) (row_symbol n s e a b hb)
-            ∙ ap (λ (k : ℕ). word_at (take s (drop k (region run e a))) w) (mul_comm b s))
-            ((rows a ha).codeword w hw))
-            (λ b hb. columns b w hb hw)
-            r hr;
+            (λ b hb. ap (λ (ys : List ℕ). word_at ys w) (sym (joined-symbol n s e a b hb))) ((own a ha).codeword w hw))
+            (λ b hb. columns b w hb hw) r hr;
         columns = columns;
       };
-      source = λ r c hr hc. row_source f s bytes e r c size long hr hc (rows r hr);
-    }
-
--- the same at an even size, for rows that the extension kept
-pub extended_in_place : (f s : ℕ) (bytes cells filled e : List ℕ) → f ≤ 333 → s % 2 ≡ 0 → s ≡ symbol_size f (length bytes)
-    → length e ≡ shard_count f * shard_count f * s → AreBytes e
-    → length cells ≡ row_count f * (shard_count f * s)
-    → filled ≡ take (shard_count f * (shard_count f * s)) cells ++ replicate (shard_count f * (shard_count f * s) - length cells) 0
-    → take (row_count f * (shard_count f * s)) e ≡ take (row_count f * (shard_count f * s)) filled
-    → ((r : ℕ) → r < row_count f
-    → IsRowFrom (column_count f) (shard_count f) s bytes (r * (column_count f * s)) (region (shard_count f * s) cells r))
-    → ((w : ℕ) → 2 * w < shard_count f * s → IsCodeword (row_count f) (shard_count f) (λ r. word_at (region (shard_count f * s) e r) w))
-    → IsMatrixOf f (symbol_size f (length bytes)) (padded f bytes) e
-extended_in_place f s bytes cells filled e few even size long bytes_e laid_long is kept rows codewords =
-    let n = shard_count f in
-    let run = n * s in
-    let end = row_count f * run in
-    let zeros : List ℕ = replicate (n * run - length cells) 0 in
-    let fits : length cells ≤ n * run = omega (arith, part_fits (row_count f) n run (omega arith)) in
-    let front : take end e ≡ cells =
-    kept
-    ∙ ap (λ (ys : List ℕ). take end ys) (is ∙ ap (λ (ys : List ℕ). ys ++ zeros) (take_all (n * run) cells fits))
-    ∙ take_at cells zeros end laid_long in
-    let own : (r : ℕ) → r < row_count f → IsRowFrom (column_count f) n s bytes (r * (column_count f * s)) (region run e r) =
-    λ r hr.
-    let inside : run * r + run ≤ end = omega (arith, run_fits r (row_count f) run hr) in
-    let same : region run cells r ≡ region run e r =
-    ap (λ (ys : List ℕ). take run (drop (run * r) ys)) (sym front)
-    ∙ part_of_part run (run * r) end 0 e inside
-    ∙ ap (λ (k : ℕ). take run (drop k e)) (zero-add (run * r)) in
-    subst (λ (ys : List ℕ). IsRowFrom (column_count f) n s bytes (r * (column_count f * s)) ys) same (rows r hr) in
-    let half : 2 * (s / 2) ≡ s = omega arith in
-    let P : ℕ → Type 0 = λ z. z ≡ symbol_size f (length bytes) → length e ≡ n * n * z
-    → ((r : ℕ) → r < row_count f → IsRowFrom (column_count f) n z bytes (r * (column_count f * z)) (region (n * z) e r))
-    → ((w : ℕ) → 2 * w < n * z → IsCodeword (row_count f) n (λ r. word_at (region (n * z) e r) w))
-    → IsMatrixOf f z (padded f bytes) e in
-    subst (λ (z : ℕ). IsMatrixOf f z (padded f bytes) e) size
-    (subst P half (λ size' long' own' codewords'. extended_down f (s / 2) bytes e few size' long' bytes_e own' codewords') size long own codewords)
+      source = λ r c hr hc.
+          sym (joined-symbol n s e r c (omega arith))
+          ∙ row_source f s bytes (region run e r) r c size
+          (region_long run r e (omega (arith, run_fits r n run (omega arith)))) hr hc (own r hr);
+    })

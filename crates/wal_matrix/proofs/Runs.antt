@@ -1,5 +1,5 @@
 -- Runs of bytes in a list that is made of runs of one size.
-use Rattle.std.proofs.Common.{◌≡◌, ℕ, ◌+◌, ◌-◌, ◌*◌, ◌<◌, ◌≤◌, List, [], ◌∷◌, ◌++◌, length, take, drop, refl, sym, ap, subst, ◌∙◌, arith, add-one, length-append, length-take, length-drop, zero, suc, ⊎_elim}
+use Rattle.std.proofs.Common.{◌≡◌, ℕ, ◌+◌, ◌-◌, ◌*◌, ◌<◌, ◌≤◌, List, [], ◌∷◌, ◌++◌, length, take, drop, refl, sym, ap, subst, ◌∙◌, arith, add-one, zero-add, length-append, length-take, length-drop, zero, suc, ⊎_elim}
 use Rattle.std.specs.List.{flat_map, range_with_len}
 use Rattle.std.proofs.lemmas.List.{append-nil, map-id, take_at, drop_at, drop-append-le, take-append-le, take_all, length-take-le, take-append-drop, drop-take, drop-drop, take-take}
 use Rattle.std.proofs.lemmas.List.FromFn.{map-range_with_len_more}
@@ -90,3 +90,13 @@ part_of_part s a b d xs h =
     ∙ ap (λ (ys : List ℕ). take s ys) (drop-take a (b - a) (drop d xs))
     ∙ take-take s (b - a) (drop a (drop d xs)) few
     ∙ ap (λ (ys : List ℕ). take s ys) (drop-drop a d xs)
+
+-- a run of the front of a list
+pub run_of_front : (s a m : ℕ) (xs : List ℕ) → a + s ≤ m → take s (drop a (take m xs)) ≡ take s (drop a xs)
+run_of_front s a m xs h = part_of_part s a m 0 xs h ∙ ap (λ (k : ℕ). take s (drop k xs)) (zero-add a)
+
+-- runs of lists that have the same front
+pub run_kept : (s a m : ℕ) (xs ys : List ℕ) → a + s ≤ m → take m xs ≡ take m ys
+    → take s (drop a xs) ≡ take s (drop a ys)
+run_kept s a m xs ys h same = sym (run_of_front s a m xs h) ∙ ap (λ (zs : List ℕ). take s (drop a zs)) same
+    ∙ run_of_front s a m ys h

@@ -7,7 +7,7 @@ use Rattle.wal_matrix.proofs.Runs.{length-pieces, region_long}
 use Rattle.wal_matrix.proofs.Places.{run_fits, part_fits}
 use Rattle.std.proofs.lemmas.List.{take_all, take-append-le}
 use Rattle.std.proofs.Math.Nat.{mul_comm}
-use Rattle.wal_matrix.proofs.Symbols.{symbol_long, row_symbol, column_symbol, column_more}
+use Rattle.wal_matrix.proofs.Symbols.{symbol_long, joined-symbol, column_symbol, column_more}
 
 -- a row is the run at its number
 pub row_is : (n s : ℕ) (e : List ℕ) (i : ℕ) → row_of n s e i ≡ region (n * s) e i
@@ -51,10 +51,7 @@ column_part_long n s e rows j room h = length-pieces (λ r. symbol n s e r j) s 
 
 -- the symbol of a row at a column
 pub row_of-symbol : (n s : ℕ) (e : List ℕ) (r c : ℕ) → c < n → region s (row_of n s e r) c ≡ symbol n s e r c
-row_of-symbol n s e r c h =
-    ap (λ (ys : List ℕ). region s ys c) (row_is n s e r)
-    ∙ ap (λ (k : ℕ). take s (drop k (region (n * s) e r))) (mul_comm s c)
-    ∙ sym (row_symbol n s e r c h)
+row_of-symbol n s e r c h = ap (λ (ys : List ℕ). region s ys c) (row_is n s e r) ∙ joined-symbol n s e r c h
 
 -- the symbol of a column at a row
 pub column_part-symbol : (n s : ℕ) (e : List ℕ) (rows r c : ℕ) → rows * n * s ≤ length e → r < rows → c < n

@@ -1,5 +1,5 @@
 -- The sums of known symbols are the one codeword that has them at their indices.
-use Rattle.std.proofs.Common.{◌≡◌, ℕ, ◌*◌, ◌/◌, ◌%◌, ◌<◌, ◌≤◌, List, length, get_or, slice_index, sym, ap, subst, ◌∙◌, arith, All}
+use Rattle.std.proofs.Common.{◌≡◌, ℕ, ◌*◌, ◌%◌, ◌<◌, ◌≤◌, List, length, get_or, slice_index, sym, ap, ◌∙◌, arith, All}
 use Rattle.wal_code.specs.Codeword.{Distinct, coefficient, combination}
 use Rattle.wal_code.proofs.Codes.{IsCodeword-same, codeword_unique, combination-codeword, combination-known}
 use Rattle.wal_kernel.specs.Region.{word_at, region}
@@ -77,24 +77,14 @@ module _ (n s : ℕ) (known loaded : List ℕ) (are : AreKnown n s known loaded)
           through = solved-through;
         }
 
-  -- codewords through the same symbols have the same words
-  same_solved_words : (a b : List ℕ) → PassesCodeword (length known) n s known loaded a → PassesCodeword (length known) n s known loaded b
-      → (i w : ℕ) → i < n → 2 * w < s → word_at (region s a i) w ≡ word_at (region s b i) w
-  same_solved_words a b ha hb i w hi hw =
+  -- codewords through the same symbols are the same
+  pub solved_unique : (a b : List ℕ) → PassesCodeword (length known) n s known loaded a → PassesCodeword (length known) n s known loaded b → a ≡ b
+  solved_unique a b ha hb =
       let few = are.few in
+      same_by_words n s a b are.even are.some ha.coded.size hb.coded.size (bytes_within a ha.coded.fits)
+      (bytes_within b hb.coded.fits)
+      (λ i w hi hw.
       codeword_unique n known (λ j. word_at (region s a j) w) (λ j. word_at (region s b j) w) (omega arith) are.distinct index_below
       (ha.coded.codeword w hw) (hb.coded.codeword w hw)
       (λ k hk. ap (λ (ys : List ℕ). word_at ys w) (ha.through k hk ∙ sym (hb.through k hk)))
-      i hi
-
-  -- and are the same
-  pub solved_unique : (a b : List ℕ) → PassesCodeword (length known) n s known loaded a → PassesCodeword (length known) n s known loaded b → a ≡ b
-  solved_unique a b ha hb =
-      let half : 2 * (s / 2) ≡ s = (let even = are.even in omega arith) in
-      let some : 0 < s / 2 = (let even = are.even in let wide = are.some in omega arith) in
-      let P : ℕ → Type 0 = λ t. length a ≡ n * t → length b ≡ n * t
-      → ((i w : ℕ) → i < n → w < s / 2 → word_at (region t a i) w ≡ word_at (region t b i) w) → a ≡ b in
-      subst P half
-      (λ long_a long_b same.
-      same_by_words n (s / 2) a b some long_a long_b (bytes_within a ha.coded.fits) (bytes_within b hb.coded.fits) same)
-      ha.coded.size hb.coded.size (λ i w hi hw. same_solved_words a b ha hb i w hi (omega arith))
+      i hi)

@@ -5,23 +5,21 @@ use Rattle.std.proofs.lemmas.Bool.{cases_lt}
 use Rattle.std.proofs.lemmas.List.{ext_get_or, get_or-take, get_or-drop}
 use borrow.Rule.Slice.PartMut.{put_mid}
 use Rattle.wal_code.specs.Codeword.{IsCodeword}
-use Rattle.wal_code.proofs.Codes.{IsCodeword-same, codeword_unique_first}
+use Rattle.wal_code.proofs.Codes.{IsCodeword-same}
 use Rattle.wal_kernel.specs.Region.{word_at, region}
-use Rattle.wal_kernel.proofs.Words.{bytes_from_words, word_at-take, word_at-drop}
-use Rattle.wal_kernel.proofs.Regions.{region-byte}
+use Rattle.wal_kernel.proofs.Words.{word_at-take, word_at-drop}
 use Rattle.wal_shape.specs.Shape.{shard_count, row_count, column_count, symbol_size}
-use Rattle.wal_matrix.specs.Matrix.{symbol, padded, IsMatrixOf, IsExtended}
+use Rattle.wal_matrix.specs.Matrix.{symbol, padded, IsMatrixOf}
 use Rattle.wal_matrix.specs.Strips.{IsMatrixStrip}
 use Rattle.wal_matrix.specs.inside.Strips.{AreSources, IsRowStrip, AreRowStrips}
 use Rattle.wal_matrix.proofs.Codewords.{AreBytes, bytes_of_part}
 use Rattle.wal_matrix.proofs.FrontLaws.{bytes_of_symbol, source_place}
-use Rattle.wal_matrix.proofs.MatrixLaws.{bytes_within}
-use Rattle.wal_matrix.proofs.Places.{place_fits, run_fits}
-use Rattle.wal_matrix.proofs.RowLaws.{zeros_after}
-use Rattle.wal_matrix.proofs.Runs.{region_long, region-put_other, region-put_same}
-use Rattle.wal_matrix.proofs.Symbols.{symbol_is, symbol_long, row_symbol}
-use Rattle.wal_matrix.proofs.TurnedLaws.{symbol_of_front, word_of_row}
-use Rattle.wal_matrix.proofs.Words.{region_of_front}
+use Rattle.wal_matrix.proofs.MatrixLaws.{bytes_within, same_runs}
+use Rattle.wal_matrix.proofs.Places.{run_fits}
+use Rattle.wal_matrix.proofs.RowLaws.{block_byte}
+use Rattle.wal_matrix.proofs.Runs.{region_long, run_kept, region-put_other, region-put_same}
+use Rattle.wal_matrix.proofs.Symbols.{symbol_long, row_symbol}
+use Rattle.wal_matrix.proofs.TurnedLaws.{symbol_kept, column_codeword}
 
 -- the strip of a source symbol lies within the matrix
 pub strip_place : (f s r c from long : ℕ) → r < row_count f → c < column_count f → from + long ≤ s
@@ -59,42 +57,29 @@ sources_more f s row from long column m bytes old part room size own before =
     ∙ ap (λ (i : ℕ). get_or bytes ((row * column_count f + i) * s + from + k) 0) same)
     (cases_lt c column)
 
--- a word of a strip is a word of the whole
-pub word_of_strip : (from long : ℕ) (xs : List ℕ) (w : ℕ) → from % 2 ≡ 0 → 2 * w + 1 < long
-    → word_at (take long (drop from xs)) w ≡ word_at xs (from / 2 + w)
-word_of_strip from long xs w even low =
+-- codewords of symbols are codewords of their strips
+strip_codeword : (known n s from long : ℕ) (cells : ℕ → List ℕ) → from % 2 ≡ 0 → long % 2 ≡ 0 → from + long ≤ s
+    → ((w : ℕ) → 2 * w < s → IsCodeword known n (λ i. word_at (cells i) w))
+    → (w : ℕ) → 2 * w < long → IsCodeword known n (λ i. word_at (take long (drop from (cells i))) w)
+strip_codeword known n s from long cells even_from even within codewords w low =
     let half : from ≡ 2 * (from / 2) = omega arith in
-    word_at-take long (drop from xs) w low
-    ∙ ap (λ (k : ℕ). word_at (drop k xs) w) half
-    ∙ word_at-drop (from / 2) xs w
+    IsCodeword-same known n (λ i. word_at (cells i) (from / 2 + w)) (λ i. word_at (take long (drop from (cells i))) w)
+    (λ i _.
+    word_at-take long (drop from (cells i)) w (omega arith) ∙ ap (λ (k : ℕ). word_at (drop k (cells i)) w) half
+    ∙ word_at-drop (from / 2) (cells i) w)
+    (codewords (from / 2 + w) (omega arith))
 
 -- a strip within a list has its bytes
 pub strip_long : (from long : ℕ) (xs : List ℕ) → from + long ≤ length xs → length (take long (drop from xs)) ≡ long
 strip_long from long xs h = omega (arith, length-take long (drop from xs), length-drop from xs)
 
--- a byte of a source symbol
-pub source_byte : (f s : ℕ) (bytes e : List ℕ) (r c i : ℕ) → s ≡ symbol_size f (length bytes) → IsExtended f bytes e
-    → r < row_count f → c < column_count f → i < s
-    → get_or (symbol (shard_count f) s e r c) i 0 ≡ get_or bytes ((r * column_count f + c) * s + i) 0
-unfolding padded
-source_byte f s bytes e r c i size is hr hc inside =
-    let k = column_count f in
-    let block = padded f bytes in
-    let P : ℕ → Type 0 = λ z. symbol k z block r c ≡ symbol (shard_count f) z e r c in
-    let number : s * (r * k + c) + i ≡ (r * k + c) * s + i = omega arith in
-    sym (ap (λ (ys : List ℕ). get_or ys i 0) (subst P (sym size) (sym (is.source r c hr hc))))
-    ∙ ap (λ (ys : List ℕ). get_or ys i 0) (symbol_is k s block r c)
-    ∙ region-byte s block (r * k + c) i inside
-    ∙ zeros_after bytes (row_count f * k * symbol_size f (length bytes) - length bytes) (s * (r * k + c) + i)
-    ∙ ap (λ (j : ℕ). get_or bytes j 0) number
-
 -- a run with the blob's bytes is the strip of a source symbol
-pub source_strip : (f s : ℕ) (bytes e part : List ℕ) (r c from long : ℕ) → s ≡ symbol_size f (length bytes) → IsExtended f bytes e
+source_strip : (f s : ℕ) (bytes e part : List ℕ) (r c from long : ℕ) → IsMatrixOf f s (padded f bytes) e
     → r < row_count f → c < column_count f → from + long ≤ s → length part ≡ long
     → length (symbol (shard_count f) s e r c) ≡ s
     → ((k : ℕ) → k < long → get_or part k 0 ≡ get_or bytes ((r * column_count f + c) * s + from + k) 0)
     → part ≡ take long (drop from (symbol (shard_count f) s e r c))
-source_strip f s bytes e part r c from long size is hr hc within part_long whole same =
+source_strip f s bytes e part r c from long matrix hr hc within part_long whole same =
     let piece = symbol (shard_count f) s e r c in
     let right = strip_long from long piece (omega (arith, whole)) in
     ext_get_or 0 part (take long (drop from piece)) (part_long ∙ sym right)
@@ -103,9 +88,9 @@ source_strip f s bytes e part r c from long size is hr hc within part_long whole
     let number : (r * column_count f + c) * s + from + k ≡ (r * column_count f + c) * s + (from + k) = omega arith in
     same k inside
     ∙ ap (λ (j : ℕ). get_or bytes j 0) number
-    ∙ sym (get_or-take long (drop from piece) k 0 inside
-    ∙ get_or-drop from piece k 0
-    ∙ source_byte f s bytes e r c (from + k) size is hr hc (omega arith)))
+    ∙ sym (get_or-take long (drop from piece) k 0 inside ∙ get_or-drop from piece k 0
+    ∙ ap (λ (ys : List ℕ). get_or ys (from + k) 0) (matrix.source r c hr hc)
+    ∙ block_byte f s bytes r c (from + k) (omega arith)))
 
 -- a row of strips that was extended from those of its source symbols
 pub row_strip : (f long : ℕ) (old new : List ℕ) → f ≤ 333 → long % 2 ≡ 0 → length new ≡ shard_count f * long → AreBytes new
@@ -114,36 +99,26 @@ pub row_strip : (f long : ℕ) (old new : List ℕ) → f ≤ 333 → long % 2 �
     → (bytes : List ℕ) (s row from : ℕ) → s ≡ symbol_size f (length bytes) → row < row_count f → from % 2 ≡ 0 → from + long ≤ s
     → AreSources f s bytes row from long (column_count f) old → IsRowStrip f s bytes row from long new
 row_strip f long old new few even size bytes_new kept codewords bytes s row from is_size hr even_from within sources =
-    λ e is c hc.
+    λ e is.
     let n = shard_count f in
     let m = column_count f in
     let matrix : IsMatrixOf f s (padded f bytes) e = subst (λ (z : ℕ). IsMatrixOf f z (padded f bytes) e) (sym is_size) is in
     let deep : row < n = omega arith in
     let whole : (j : ℕ) → j < n → length (symbol n s e row j) ≡ s = λ j hj. symbol_long n s e n row j (omega (arith, matrix.coded.size)) deep hj in
     let piece : (j : ℕ) → j < n → length (region long new j) ≡ long = λ j hj. region_long long j new (omega (arith, run_fits j n long hj)) in
-    let left = piece c hc in
-    let right = strip_long from long (symbol n s e row c) (omega (arith, whole c hc)) in
-    bytes_from_words (region long new c) (take long (drop from (symbol n s e row c))) (left ∙ sym right) (ap (λ (a : ℕ). a % 2) left ∙ even)
-    (bytes_of_part long (long * c) new bytes_new)
-    (bytes_of_part long from (symbol n s e row c) (bytes_of_symbol n s e row c (bytes_within e matrix.coded.fits)))
-    (λ w l.
-    let low : 2 * w + 1 < long = omega (arith, left) in
-    codeword_unique_first m n (λ j. word_at (region long new j) w) (λ j. word_at (take long (drop from (symbol n s e row j))) w) (omega arith) (omega arith)
-    (codewords w (omega arith))
-    (IsCodeword-same m n (λ j. word_at (symbol n s e row j) (from / 2 + w)) (λ j. word_at (take long (drop from (symbol n s e row j))) w)
-    (λ j hj. word_of_strip from long (symbol n s e row j) w even_from low)
-    (matrix.coded.rows row (from / 2 + w) deep (omega arith)))
+    same_runs m n long (λ j. region long new j) (λ j. take long (drop from (symbol n s e row j))) (omega arith)
+    (omega arith) even piece (λ j hj. strip_long from long (symbol n s e row j) (omega (arith, whole j hj)))
+    (λ j. bytes_of_part long (long * j) new bytes_new)
+    (λ j. bytes_of_part long from (symbol n s e row j) (bytes_of_symbol n s e row j (bytes_within e matrix.coded.fits)))
+    codewords (strip_codeword m n s from long (λ j. symbol n s e row j) even_from even within
+    (λ w low. matrix.coded.rows row w deep low))
     (λ j hj.
-    let early : long * j + long ≤ m * long = omega (arith, run_fits j m long hj) in
-    ap (λ (ys : List ℕ). word_at ys w)
-    (source_strip f s bytes e (region long new j) row j from long is_size is hr hj within (piece j (omega arith)) (whole j (omega arith))
+    source_strip f s bytes e (region long new j) row j from long matrix hr hj within (piece j (omega arith))
+    (whole j (omega arith))
     (λ k hk.
-    ap (λ (ys : List ℕ). get_or ys k 0)
-    (sym (region_of_front long (m * long) j new early)
-    ∙ ap (λ (ys : List ℕ). region long ys j) kept
-    ∙ region_of_front long (m * long) j old early)
-    ∙ sources j k hj hk)))
-    c hc)
+    ap (λ (ys : List ℕ). get_or ys k 0) (run_kept long (long * j) (m * long) new old
+    (omega (arith, run_fits j m long hj)) kept)
+    ∙ sources j k hj hk))
 
 -- the strips of one more row are put
 pub row_strips_more : (f s from long row at m : ℕ) (bytes old part : List ℕ) → at ≡ row * (shard_count f * long)
@@ -171,56 +146,25 @@ row_strips_more f s from long row at m bytes old part is_at room size own before
     (cases_lt r row)
 
 -- strips of the first rows that were extended to all rows
-strip_of_words : (f h : ℕ) (old new : List ℕ) → f ≤ 333 → length new ≡ shard_count f * (shard_count f * (2 * h)) → AreBytes new
-    → take (row_count f * (shard_count f * (2 * h))) new ≡ take (row_count f * (shard_count f * (2 * h))) old
-    → ((w : ℕ) → 2 * w < shard_count f * (2 * h)
-    → IsCodeword (row_count f) (shard_count f) (λ i. word_at (region (shard_count f * (2 * h)) new i) w))
-    → (bytes : List ℕ) (s from : ℕ) → s ≡ symbol_size f (length bytes) → from % 2 ≡ 0 → from + 2 * h ≤ s
-    → AreRowStrips f s bytes (row_count f) from (2 * h) old → IsMatrixStrip f s bytes from (2 * h) new
-strip_of_words f h old new few size bytes_new kept codewords bytes s from is_size even_from within rows =
-    λ e is r c hr hc.
-    let n = shard_count f in
-    let long = 2 * h in
-    let first = row_count f in
-    let matrix : IsMatrixOf f s (padded f bytes) e = subst (λ (z : ℕ). IsMatrixOf f z (padded f bytes) e) (sym is_size) is in
-    let whole : length (symbol n s e r c) ≡ s = symbol_long n s e n r c (omega (arith, matrix.coded.size)) hr hc in
-    let left : length (symbol n long new r c) ≡ long = symbol_long n long new n r c (omega (arith, size)) hr hc in
-    let right = strip_long from long (symbol n s e r c) (omega (arith, whole)) in
-    let even : long % 2 ≡ 0 = omega arith in
-    bytes_from_words (symbol n long new r c) (take long (drop from (symbol n s e r c))) (left ∙ sym right) (ap (λ (a : ℕ). a % 2) left ∙ even)
-    (bytes_of_symbol n long new r c bytes_new)
-    (bytes_of_part long from (symbol n s e r c) (bytes_of_symbol n s e r c (bytes_within e matrix.coded.fits)))
-    (λ w l.
-    let low : w < h = omega (arith, left) in
-    let place : 2 * (c * h + w) < n * long = omega (arith, run_fits c n long hc) in
-    codeword_unique_first first n (λ i. word_at (symbol n long new i c) w) (λ i. word_at (take long (drop from (symbol n s e i c))) w) (omega arith) (omega arith)
-    (IsCodeword-same first n (λ i. word_at (region (n * long) new i) (c * h + w)) (λ i. word_at (symbol n long new i c) w)
-    (λ i hi. word_of_row n h new i c w hc low) (codewords (c * h + w) place))
-    (IsCodeword-same first n (λ i. word_at (symbol n s e i c) (from / 2 + w)) (λ i. word_at (take long (drop from (symbol n s e i c))) w)
-    (λ i hi. word_of_strip from long (symbol n s e i c) w even_from (omega arith))
-    (matrix.coded.columns c (from / 2 + w) hc (omega arith)))
-    (λ i hi.
-    let inside : (i * n + c) * long + long ≤ first * (n * long) = omega (arith, place_fits i first c n long hi hc) in
-    ap (λ (ys : List ℕ). word_at ys w)
-    (sym (symbol_of_front n long (first * (n * long)) new i c inside)
-    ∙ ap (λ (ys : List ℕ). symbol n long ys i c) kept
-    ∙ symbol_of_front n long (first * (n * long)) old i c inside
-    ∙ rows e is i c hi hc))
-    r hr)
-
--- the same at an even size
 pub strip_extended : (f long : ℕ) (old new : List ℕ) → f ≤ 333 → long % 2 ≡ 0 → length new ≡ shard_count f * (shard_count f * long) → AreBytes new
     → take (row_count f * (shard_count f * long)) new ≡ take (row_count f * (shard_count f * long)) old
     → ((w : ℕ) → 2 * w < shard_count f * long
     → IsCodeword (row_count f) (shard_count f) (λ i. word_at (region (shard_count f * long) new i) w))
     → (bytes : List ℕ) (s from : ℕ) → s ≡ symbol_size f (length bytes) → from % 2 ≡ 0 → from + long ≤ s
     → AreRowStrips f s bytes (row_count f) from long old → IsMatrixStrip f s bytes from long new
-strip_extended f long old new few even =
-    let half : 2 * (long / 2) ≡ long = omega arith in
-    let P : ℕ → Type 0 = λ z. length new ≡ shard_count f * (shard_count f * z) → AreBytes new
-    → take (row_count f * (shard_count f * z)) new ≡ take (row_count f * (shard_count f * z)) old
-    → ((w : ℕ) → 2 * w < shard_count f * z
-    → IsCodeword (row_count f) (shard_count f) (λ i. word_at (region (shard_count f * z) new i) w))
-    → (bytes : List ℕ) (s from : ℕ) → s ≡ symbol_size f (length bytes) → from % 2 ≡ 0 → from + z ≤ s
-    → AreRowStrips f s bytes (row_count f) from z old → IsMatrixStrip f s bytes from z new in
-    subst P half (strip_of_words f (long / 2) old new few)
+strip_extended f long old new few even size bytes_new kept codewords bytes s from is_size even_from within rows =
+    λ e is r c hr hc.
+    let n = shard_count f in
+    let first = row_count f in
+    let matrix : IsMatrixOf f s (padded f bytes) e = subst (λ (z : ℕ). IsMatrixOf f z (padded f bytes) e) (sym is_size) is in
+    same_runs first n long (λ i. symbol n long new i c) (λ i. take long (drop from (symbol n s e i c))) (omega arith)
+    (omega arith) even (λ i hi. symbol_long n long new n i c (omega (arith, size)) hi hc)
+    (λ i hi. strip_long from long (symbol n s e i c)
+    (omega (arith, symbol_long n s e n i c (omega (arith, matrix.coded.size)) hi hc)))
+    (λ i. bytes_of_symbol n long new i c bytes_new)
+    (λ i. bytes_of_part long from (symbol n s e i c) (bytes_of_symbol n s e i c (bytes_within e matrix.coded.fits)))
+    (λ w low. column_codeword first n n long new even codewords c w hc low)
+    (strip_codeword first n s from long (λ i. symbol n s e i c) even_from even within
+    (λ w low. matrix.coded.columns c w hc low))
+    (λ i hi. symbol_kept first n long new old i c hi hc kept ∙ rows e is i c hi hc)
+    r hr

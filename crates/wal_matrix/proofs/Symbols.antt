@@ -58,6 +58,12 @@ row_symbol n s e r c h =
     let place : (r * n + c) * s ≡ n * s * r + c * s = omega arith in
     ap (λ (k : ℕ). take s (drop k e)) place ∙ sym (part_of_part s (c * s) (n * s) (n * s * r) e (run_fits c n s h))
 
+-- a symbol of one of joined runs
+pub joined-symbol : (m s : ℕ) (joined : List ℕ) (k c : ℕ) → c < m
+    → region s (region (m * s) joined k) c ≡ symbol m s joined k c
+joined-symbol m s joined k c hc =
+    ap (λ (a : ℕ). take s (drop a (region (m * s) joined k))) (mul_comm s c) ∙ sym (row_symbol m s joined k c hc)
+
 -- a block of which each row is a column of another
 pub turned : (rows columns s : ℕ) (from into : List ℕ) → rows * columns * s ≤ length from
     → ((c : ℕ) → c < columns → region (rows * s) into c ≡ column_part columns s from rows c)

@@ -1,5 +1,5 @@
 -- A matrix that is made of given words.
-use Rattle.std.proofs.Common.{◌≡◌, ℕ, ◌+◌, ◌*◌, ◌/◌, ◌%◌, ◌<◌, List, [], ◌∷◌, zero, suc, length, take, drop, refl, sym, ap, subst, ◌∙◌, arith, add-one, get_or}
+use Rattle.std.proofs.Common.{◌≡◌, ℕ, ◌+◌, ◌*◌, ◌/◌, ◌%◌, ◌<◌, List, [], ◌∷◌, zero, suc, length, take, drop, refl, sym, ap, subst, ◌∙◌, arith, get_or}
 use Rattle.std.specs.List.{flat_map, range_with_len}
 use Rattle.std.proofs.lemmas.List.{ext_get_or}
 use Rattle.std.proofs.lemmas.Nat.{div_below, mod_below, div-add-mod', div-mul-add, mod-mul-add}
@@ -9,9 +9,9 @@ use Rattle.wal_kernel.proofs.Regions.{region-byte}
 use Rattle.wal_matrix.specs.Matrix.{symbol}
 use Rattle.wal_matrix.proofs.Codewords.{AreBytes}
 use Rattle.wal_matrix.proofs.Places.{run_fits}
-use Rattle.wal_matrix.proofs.Runs.{length-pieces, pieces_more, piece_at}
+use Rattle.wal_matrix.proofs.Runs.{length-pieces, piece_at}
 use Rattle.wal_matrix.proofs.Symbols.{symbol_is}
-use Rattle.wal_matrix.proofs.Words.{bytes_joined}
+use Rattle.wal_matrix.proofs.Words.{bytes_of_pieces}
 
 -- the two bytes of a word
 abbrev pub two_bytes : ℕ → List ℕ
@@ -30,16 +30,9 @@ bytes_of_two a b ha hb (suc zero) = hb
 bytes_of_two a b ha hb (suc (suc i)) = omega arith
 
 written_bytes : (word : ℕ → ℕ) (count : ℕ) → ((k : ℕ) → k < count → word k < 65536) → AreBytes (written_words word count)
-written_bytes word zero words = λ i. omega arith
-written_bytes word (suc count) words =
-    let piece : ℕ → List ℕ = λ k. two_bytes (word k) in
-    let own = words count (omega arith) in
-    let P : List ℕ → Type 0 = λ ys. AreBytes ys in
-    let Q : ℕ → Type 0 = λ k. AreBytes (flat_map piece (range_with_len 0 k)) in
-    subst Q (add-one count)
-    (subst P (sym (pieces_more piece count))
-    (bytes_joined (flat_map piece (range_with_len 0 count)) (piece count) (written_bytes word count (λ k h. words k (omega arith)))
-    (bytes_of_two (word count / 256) (word count % 256) (omega arith) (omega arith))))
+written_bytes word count words =
+    bytes_of_pieces (λ k. two_bytes (word k)) count
+    (λ k h. let own = words k h in bytes_of_two (word k / 256) (word k % 256) (omega arith) (omega arith))
 
 written_at : (word : ℕ → ℕ) (count k : ℕ) → k < count → word_at (written_words word count) k ≡ word k
 written_at word count k h =
@@ -61,10 +54,7 @@ by_number-at n h t r c w hc hw =
     let swap : h * i + w ≡ i * h + w = omega arith in
     let cell : (h * i + w) / h ≡ i = ap (λ (k : ℕ). k / h) swap ∙ div-mul-add i h w hw in
     let word : (h * i + w) % h ≡ w = ap (λ (k : ℕ). k % h) swap ∙ mod-mul-add i h w hw in
-    ap (λ (k : ℕ). t (k / n) (k % n) ((h * i + w) % h)) cell
-    ∙ ap (λ (k : ℕ). t (i / n) (i % n) k) word
-    ∙ ap (λ (k : ℕ). t k (i % n) w) (div-mul-add r n c hc)
-    ∙ ap (λ (k : ℕ). t r k w) (mod-mul-add r n c hc)
+    rw (cell, word, div-mul-add r n c hc, mod-mul-add r n c hc)
 
 -- some matrix of symbols of h words has the given words
 pub table_exists : (n h : ℕ) (t : ℕ → ℕ → ℕ → ℕ) → 0 < n → 0 < h

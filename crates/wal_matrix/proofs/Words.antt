@@ -1,5 +1,5 @@
 -- The codewords of slivers are the rows and columns of the matrix.
-use Rattle.std.proofs.Common.{◌≡◌, ℕ, ◌+◌, ◌-◌, ◌*◌, ◌/◌, ◌%◌, ◌<◌, ◌≤◌, List, ◌++◌, zero, suc, add-one, zero-add, length, take, drop, refl, sym, ap, subst, ◌∙◌, arith, ⊎_elim}
+use Rattle.std.proofs.Common.{◌≡◌, ℕ, ◌+◌, ◌-◌, ◌*◌, ◌%◌, ◌<◌, ◌≤◌, List, ◌++◌, zero, suc, add-one, length, refl, sym, ap, subst, ◌∙◌, arith, ⊎_elim}
 use Rattle.std.specs.List.{flat_map, range_with_len}
 use Rattle.std.proofs.lemmas.Bool.{cases_lt}
 use Rattle.std.proofs.lemmas.List.{get_or_append_left, get_or-append_right}
@@ -12,7 +12,7 @@ use Rattle.wal_matrix.specs.Matrix.{symbol, row_of, primary_of, column_part, col
 use Rattle.wal_matrix.specs.Word.{IsWordOf}
 use Rattle.wal_matrix.proofs.Codewords.{AreBytes, bytes_of_part}
 use Rattle.wal_matrix.proofs.MatrixLaws.{bytes_within, same_by_words}
-use Rattle.wal_matrix.proofs.Runs.{pieces_more, part_of_part}
+use Rattle.wal_matrix.proofs.Runs.{pieces_more, run_kept}
 use Rattle.wal_matrix.proofs.Places.{run_fits}
 use Rattle.wal_matrix.proofs.Slivers.{row_is, row_long, primary_is, primary_long, row_of-symbol, column_is, column_part-symbol, secondary-front, secondary_long, column_long}
 
@@ -40,29 +40,32 @@ bytes_joined xs ys bx by i =
     (λ past. subst (λ (v : ℕ). v < 256) (sym (get_or-append_right xs ys (length xs) i 0 refl past)) (by (i - length xs)))
     (cases_lt i (length xs))
 
+-- pieces of bytes
+pub bytes_of_pieces : (piece : ℕ → List ℕ) (n : ℕ) → ((k : ℕ) → k < n → AreBytes (piece k))
+    → AreBytes (flat_map piece (range_with_len 0 n))
+bytes_of_pieces piece zero are = λ i. omega arith
+bytes_of_pieces piece (suc n) are =
+    let Q : ℕ → Type 0 = λ k. AreBytes (flat_map piece (range_with_len 0 k)) in
+    subst Q (add-one n)
+    (subst AreBytes (sym (pieces_more piece n))
+    (bytes_joined (flat_map piece (range_with_len 0 n)) (piece n) (bytes_of_pieces piece n (λ k h. are k (omega arith)))
+    (are n (omega arith))))
+
 -- the symbols of a column are bytes
 pub bytes_of_column : (n s : ℕ) (e : List ℕ) (rows c : ℕ) → AreBytes e → AreBytes (column_part n s e rows c)
 unfolding column_part symbol
-bytes_of_column n s e zero c bytes = λ i. omega arith
-bytes_of_column n s e (suc rows) c bytes =
-    let piece : ℕ → List ℕ = λ r. symbol n s e r c in
-    let P : List ℕ → Type 0 = λ ys. AreBytes ys in
-    let Q : ℕ → Type 0 = λ k. AreBytes (flat_map piece (range_with_len 0 k)) in
-    subst Q (add-one rows)
-    (subst P (sym (pieces_more piece rows))
-    (bytes_joined (flat_map piece (range_with_len 0 rows)) (piece rows) (bytes_of_column n s e rows c bytes)
-    (bytes_of_part s ((rows * n + c) * s) e bytes)))
+bytes_of_column n s e rows c bytes = bytes_of_pieces (λ r. symbol n s e r c) rows
+    (λ r _. bytes_of_part s ((r * n + c) * s) e bytes)
 
 -- the column of a matrix is the codeword of its secondary sliver
 pub column_is_word : (f s : ℕ) (e : List ℕ) (j : ℕ) → IsCodedMatrix f s e → j < shard_count f
     → IsWordOf Secondary f s (secondary_of f s e j) (column_of (shard_count f) s e j)
 column_is_word f s e j matrix h =
     let n = shard_count f in
-    let P : List ℕ → Type 0 = λ ys. AreBytes ys in
     record {
       coded = record {
         size = column_long n s e j matrix.size h;
-        fits = λ k _. subst P (sym (column_is n s e j)) (bytes_of_column n s e n j (bytes_within e matrix.fits)) k;
+        fits = λ k _. rw column_is (bytes_of_column n s e n j (bytes_within e matrix.fits) k);
         codeword = λ w hw.
             IsCodeword-same (row_count f) n (λ r. word_at (symbol n s e r j) w) (λ r. word_at (region s (column_of n s e j) r) w)
             (λ r hr.
@@ -110,32 +113,17 @@ pub symbols_fit : (axis : Axis) (f : ℕ) → sliver_symbols axis f ≤ shard_co
 symbols_fit Primary f = omega arith
 symbols_fit Secondary f = omega arith
 
--- a run of the front of a list
-pub region_of_front : (s m i : ℕ) (xs : List ℕ) → s * i + s ≤ m → region s (take m xs) i ≡ region s xs i
-region_of_front s m i xs h = part_of_part s (s * i) m 0 xs h ∙ ap (λ (k : ℕ). take s (drop k xs)) (zero-add (s * i))
-
--- codewords of one sliver have the same words
-pub same_symbols : (axis : Axis) (f s : ℕ) (sliver a b : List ℕ) → f ≤ 333 → IsWordOf axis f s sliver a → IsWordOf axis f s sliver b
-    → (i w : ℕ) → i < shard_count f → 2 * w < s → word_at (region s a i) w ≡ word_at (region s b i) w
-same_symbols axis f s sliver a b few ha hb i w hi hw =
-    let k = sliver_symbols axis f in
-    let n = shard_count f in
-    codeword_unique_first k n (λ j. word_at (region s a j) w) (λ j. word_at (region s b j) w) (symbols_fit axis f) (omega arith)
-    (ha.coded.codeword w hw) (hb.coded.codeword w hw)
-    (λ j hj.
-    let early : s * j + s ≤ k * s = omega (arith, run_fits j k s hj) in
-    ap (λ (ys : List ℕ). word_at ys w) (sym (region_of_front s (k * s) j a early))
-    ∙ ap (λ (ys : List ℕ). word_at (region s ys j) w) (ha.begins ∙ sym hb.begins)
-    ∙ ap (λ (ys : List ℕ). word_at ys w) (region_of_front s (k * s) j b early))
-    i hi
-
 -- a sliver has one codeword
 pub word_unique : (axis : Axis) (f s : ℕ) (sliver a b : List ℕ) → f ≤ 333 → s % 2 ≡ 0 → 0 < s
     → IsWordOf axis f s sliver a → IsWordOf axis f s sliver b → a ≡ b
-word_unique axis f s sliver a b few even some =
-    let P : ℕ → Type 0 = λ k. IsWordOf axis f k sliver a → IsWordOf axis f k sliver b → a ≡ b in
-    let half : 2 * (s / 2) ≡ s = omega arith in
-    subst P half
-    (λ ha hb.
-    same_by_words (shard_count f) (s / 2) a b (omega arith) ha.coded.size hb.coded.size (bytes_within a ha.coded.fits) (bytes_within b hb.coded.fits)
-    (λ i w hi hw. same_symbols axis f (2 * (s / 2)) sliver a b few ha hb i w hi (omega arith)))
+word_unique axis f s sliver a b few even some ha hb =
+    let k = sliver_symbols axis f in
+    let n = shard_count f in
+    same_by_words n s a b even some ha.coded.size hb.coded.size (bytes_within a ha.coded.fits)
+    (bytes_within b hb.coded.fits)
+    (λ i w hi hw.
+    codeword_unique_first k n (λ j. word_at (region s a j) w) (λ j. word_at (region s b j) w) (symbols_fit axis f) (omega arith)
+    (ha.coded.codeword w hw) (hb.coded.codeword w hw)
+    (λ j hj.
+    ap (λ (ys : List ℕ). word_at ys w) (run_kept s (s * j) (k * s) a b (omega (arith, run_fits j k s hj))
+    (ha.begins ∙ sym hb.begins))) i hi)

@@ -43,12 +43,10 @@ says_replied own at room old mid new payloads count r by is writes left enough e
     let last = reply_text (done (length payloads)) in
     let front = sent own payloads in
     let whole : sent own (payloads ++ last ∷ []) ≡ front ++ envelope own last = flat_map-append (envelope own) payloads (last ∷ []) ∙ ap (λ (t : List ℕ). front ++ t) (sent_one own last) in
-    let same : envelope at (reply_text r) ≡ envelope own last =
-    ap (λ (n : ℕ). envelope n (reply_text r)) by ∙ ap (λ (q : Reply). envelope own (reply_text q)) is ∙ ap (λ (k : ℕ). envelope own (reply_text (done k))) writes.counted in
+    let same : envelope at (reply_text r) ≡ envelope own last = cc (by, is, writes.counted) in
     let spare : mid.spare ≡ old.spare - length front = ap (λ (b : Buffer). b.spare) writes.written in
     record {
-      written = e ∙ ap (appended mid) same ∙ ap (λ (b : Buffer). appended b (envelope own last)) writes.written
-          ∙ appended_then old front (envelope own last) ∙ ap (appended old) (sym whole);
+      written = cc (e, same, writes.written, appended_then old front (envelope own last), whole);
       fits = omega (arith, ap length whole, length-append front (envelope own last), ap length same, spare, left, enough, fits);
     }
 
@@ -69,16 +67,14 @@ pub says_row : (own at : ℕ) (old new : Buffer) (Answer : Row) (before after : 
     → Answer before (outcome_text outcome ∷ []) (clash_in outcome) after → clash ≡ clash_in outcome → at ≡ own → new ≡ appended old (envelope at (outcome_text outcome)) → length (envelope at (outcome_text outcome)) ≤ old.spare
     → (frames : List (List ℕ)) × Answer before frames clash after × Says own old frames new
 says_row own at old new Answer before after outcome clash answers ends by e fits =
-    let P : Option MetaClash → Type 0 = λ c. Answer before (outcome_text outcome ∷ []) c after in
-    (outcome_text outcome ∷ [], subst P (sym ends) answers, says_one own at old new (outcome_text outcome) by e fits)
+    rw ends (outcome_text outcome ∷ [], answers, says_one own at old new (outcome_text outcome) by e fits)
 
 module _ (digest : List ℕ → List ℕ) (may_want : Bool) where
   -- the row of a frame that is known
   pub at_frame : (shown x : Frame) (before after : ServedState) (frames : List (List ℕ)) (clash : Option MetaClash) → shown ≡ x
       → AnswersFrame digest may_want x before frames clash after → AnswersFrame digest may_want shown before frames clash after
   at_frame shown x before after frames clash same h =
-      let P : Frame → Type 0 = λ y. AnswersFrame digest may_want y before frames clash after in
-      subst P (sym same) h
+      subst (λ (y : Frame). AnswersFrame digest may_want y before frames clash after) (sym same) h
 
   -- a metadata, a sliver or a proof
   pub put_row : (x : Frame) (before after : ServedState) (frames : List (List ℕ)) (clash : Option MetaClash) → CanBePut x
@@ -103,9 +99,8 @@ module _ (digest : List ℕ → List ℕ) (may_want : Bool) where
   pub fault_row : (read : Result Frame FrameError) (fault : FrameError) (before : ServedState) (r : Reply) → read ≡ Err fault → r ≡ malformed fault
       → AnswersRead digest may_want read before (reply_text r ∷ []) None before
   fault_row read fault before r reads is =
-      let P : Result Frame FrameError → Type 0 = λ x. AnswersRead digest may_want x before (reply_text r ∷ []) None before in
-      let here : P (Err fault) = ((ap (λ (q : Reply). reply_text q ∷ []) is, refl), refl) in
-      subst P (sym reads) here
+      subst (λ (x : Result Frame FrameError). AnswersRead digest may_want x before (reply_text r ∷ []) None before) (sym reads)
+      ((ap (λ (q : Reply). reply_text q ∷ []) is, refl), refl)
 
 -- ---- payloads in the buffer
 
@@ -113,13 +108,10 @@ module _ (digest : List ℕ → List ℕ) (may_want : Bool) where
 pub overlong_into : (C : Type 0) (Answer : Table C) (buffer : PayloadRoom) (size : ℕ) (old : C) (r : Reply) → r ≡ overlong → buffer.room < size
     → AnswersInto Answer buffer size old (reply_text r ∷ []) None old
 overlong_into C Answer buffer size old r is less =
-    let P : Reply → Type 0 = λ q. AnswersInto Answer buffer size old (reply_text q ∷ []) None old in
-    let here : P overlong = (λ payload long kept. read_past (omega (arith, less, long)), tt) in
-    subst P (sym is) here
+    rw is (λ payload long kept. read_past (omega (arith, less, long)), tt)
 
 -- a payload that is in the buffer
 pub looked_into : (C : Type 0) (Answer : Table C) (buffer : PayloadRoom) (there : List ℕ) (size : ℕ) (old new : C) (frames : List (List ℕ)) (clash : Option MetaClash) → size ≤ buffer.room
     → there ≡ buffer.bytes → Answer old there frames clash new → RepliesInto Answer buffer size old frames clash new
 looked_into C Answer buffer there size old new frames clash le is answers payload long kept =
-    let P : List ℕ → Type 0 = λ p. Answer old p frames clash new in
-    looked_at frames clash new (omega (arith, le, long)) (subst P (is ∙ kept le) answers)
+    looked_at frames clash new (omega (arith, le, long)) (rw (is ∙ kept le) at answers)

@@ -45,8 +45,7 @@ pub part_long : (size : ℕ) (head bytes : List ℕ) → IsHead size head → le
 part_long size head bytes is few =
     let sender = is.sender in
     let text = 0x57 ∷ (number_text w16 sender ++ number_text w32 size) in
-    let P : List ℕ → Type 0 = λ t. IsPart (t ++ bytes) in
-    let part : P text = (
+    subst (λ (t : List ℕ). IsPart (t ++ bytes)) (sym is.text) (
       refl,
       λ other payload after fits same.
           let size-is : size_in (text ++ bytes) ≡ size = from_be_bytes-to_be_bytes_4 size is.fits in
@@ -54,8 +53,7 @@ part_long size head bytes is few =
           let sizes : size ≡ length payload = sym size-is ∙ ap size_in same ∙ other-is in
           let long : length (text ++ bytes) ≡ length (envelope other payload ++ after) = ap length same in
           absurd (omega (arith, long, sizes, length-append text bytes, length-append (envelope other payload) after)),
-    ) in
-    subst P (sym is.text) part
+    )
 
 pub head_long : (size : ℕ) (head : List ℕ) → IsHead size head → length head ≡ 7
 head_long size head is = ap length is.text ∙ omega arith
@@ -67,48 +65,29 @@ first_lack took.Ended = Nothing
 first_lack took.TooLong = TooLong
 first_lack took.Failed = Failed
 
-first_took : (a b : Option (List ℕ)) (Up : Type 0) (most : ℕ) (t : Took) (got : List ℕ) (lack : Lack) → (t ≡ took.Whole → ⊥)
-    → lack ≡ first_lack t → Takes a b Up 1 most t got → Lacks a b Up most lack got
-first_took a b Up most _ _ lack not is (whole got more all within) = absurd (not refl)
-first_took a b Up most _ _ lack not is (ended got more few within end) =
-    let nil : got ≡ [] = nil_from_length got (omega arith) in
-    let P : List ℕ → Type 0 = λ t. Lacks a b Up most Nothing t in
-    let Q : Lack → Type 0 = λ l. Lacks a b Up most l got in
-    subst Q (sym is) (subst P (sym nil) (env.nothing (subst (Consumes a b) nil more) end))
-first_took a b Up most _ _ lack not is (too_long got x more few within) =
-    let nil : got ≡ [] = nil_from_length got (omega arith) in
-    let part : IsPart got = subst IsPart (sym nil) tt in
-    let Q : Lack → Type 0 = λ l. Lacks a b Up most l (got ++ x ∷ []) in
-    subst Q (sym is) (env.too_long got x more part within)
-first_took a b Up most _ _ lack not is (failed got more few within up) =
-    let nil : got ≡ [] = nil_from_length got (omega arith) in
-    let part : IsPart got = subst IsPart (sym nil) tt in
-    let Q : Lack → Type 0 = λ l. Lacks a b Up most l got in
-    subst Q (sym is) (env.failed got more part within up)
+-- the first byte was not taken
+pub first_lacks : (a b : Option (List ℕ)) (Up : Type 0) (size most : ℕ) (t : Took) (got : List ℕ) (lack : Lack) → size ≡ 1 → (t ≡ took.Whole → ⊥)
+    → lack ≡ first_lack t → Takes a b Up size most t got → Lacks a b Up most lack got
+first_lacks a b Up size most _ _ lack one not is (whole got more all within) = absurd (not refl)
+first_lacks a b Up size most _ _ lack one not is (ended [] more few within end) = rw is (env.nothing more end)
+first_lacks a b Up size most _ _ lack one not is (ended (y ∷ got) more few within end) = absurd (omega arith)
+first_lacks a b Up size most _ _ lack one not is (too_long [] x more few within) = rw is (env.too_long [] x more tt within)
+first_lacks a b Up size most _ _ lack one not is (too_long (y ∷ got) x more few within) = absurd (omega arith)
+first_lacks a b Up size most _ _ lack one not is (failed [] more few within up) = rw is (env.failed [] more tt within up)
+first_lacks a b Up size most _ _ lack one not is (failed (y ∷ got) more few within up) = absurd (omega arith)
 
 -- what was taken whole
 whole_if : (t : Took) → lack_of t ≡ None → t ≡ took.Whole
 whole_if took.Whole is = refl
-whole_if took.Ended is = absurd cc
-whole_if took.TooLong is = absurd cc
-whole_if took.Failed is = absurd cc
+whole_if t is = absurd cc
 
 -- the first byte was taken, and it begins no envelope
 pub first_wrong : (a b : Option (List ℕ)) (Up : Type 0) (most : ℕ) (t : Took) (got into : List ℕ) → length into ≡ 1 → t ≡ took.Whole → (t ≡ took.Whole → into ≡ got)
     → (get_or into 0 0 ≡ 0x57 → ⊥) → Takes a b Up (length into) most t got → Lacks a b Up most Wrong got
-first_wrong a b Up most t got [] one is kept not takes = absurd (omega arith)
-first_wrong a b Up most t got (x ∷ y ∷ into) one is kept not takes = absurd (omega arith)
 first_wrong a b Up most t got (x ∷ []) one is kept not takes =
     let all = took_whole a b Up 1 most t got is takes in
-    let P : List ℕ → Type 0 = λ g. Lacks a b Up most Wrong g in
-    subst P (kept is) (env.wrong x (subst (Consumes a b) (sym (kept is)) all.0) not all.2)
-
--- the first byte was not taken
-pub first_lacks : (a b : Option (List ℕ)) (Up : Type 0) (size most : ℕ) (t : Took) (got : List ℕ) (lack : Lack) → size ≡ 1 → (t ≡ took.Whole → ⊥)
-    → lack ≡ first_lack t → Takes a b Up size most t got → Lacks a b Up most lack got
-first_lacks a b Up size most t got lack one not is takes =
-    let P : ℕ → Type 0 = λ n. Takes a b Up n most t got in
-    first_took a b Up most t got lack not is (subst P one takes)
+    rw (← kept is) (env.wrong x (subst (Consumes a b) (sym (kept is)) all.0) not all.2)
+first_wrong a b Up most t got into one is kept not takes = absurd (omega (arith, one))
 
 -- what follows the front was not taken whole
 pub lacks_behind : (a b c : Option (List ℕ)) (Late Up : Type 0) (size more most : ℕ) (t : Took) (front got : List ℕ) (lack : Lack) → Consumes a b front → 0 < length front
@@ -116,29 +95,24 @@ pub lacks_behind : (a b c : Option (List ℕ)) (Late Up : Type 0) (size more mos
     → Takes b c Late size more t got → Lacks a c Up most lack (front ++ got)
 lacks_behind a b c Late Up size more most _ front _ lack first some sum parts up is (whole got next all within) = absurd cc
 lacks_behind a b c Late Up size more most _ front _ lack first some sum parts up is (ended got next few within end) =
-    let e : Cut ≡ lack = cc in
-    let P : Lack → Type 0 = λ l. Lacks a c Up most l (front ++ got) in
-    subst P e (env.cut (front ++ got) (Consumes-trans a b c front got first next) (parts got few) (omega (arith, length-append front got)) (omega (arith, length-append front got)) end)
+    let e : lack ≡ Cut = cc in
+    rw e (env.cut (front ++ got) (Consumes-trans a b c front got first next) (parts got few) (omega (arith, length-append front got)) (omega (arith, length-append front got)) end)
 lacks_behind a b c Late Up size more most _ front _ lack first some sum parts up is (too_long got x next few within) =
-    let e : TooLong ≡ lack = cc in
+    let e : lack ≡ TooLong = cc in
     let joined : (front ++ got) ++ x ∷ [] ≡ front ++ (got ++ x ∷ []) = append_assoc front got (x ∷ []) in
     let all = subst (Consumes a c) (sym joined) (Consumes-trans a b c front (got ++ x ∷ []) first next) in
-    let P : List ℕ → Type 0 = λ g. Lacks a c Up most TooLong g in
-    let Q : Lack → Type 0 = λ l. Lacks a c Up most l (front ++ (got ++ x ∷ [])) in
-    subst Q e (subst P joined (env.too_long (front ++ got) x all (parts got few) (omega (arith, length-append front got))))
+    rw (e, ← joined) (env.too_long (front ++ got) x all (parts got few) (omega (arith, length-append front got)))
 lacks_behind a b c Late Up size more most _ front _ lack first some sum parts up is (failed got next few within late) =
-    let e : Failed ≡ lack = cc in
-    let P : Lack → Type 0 = λ l. Lacks a c Up most l (front ++ got) in
-    subst P e (env.failed (front ++ got) (Consumes-trans a b c front got first next) (parts got few) (omega (arith, length-append front got)) (up late))
+    let e : lack ≡ Failed = cc in
+    rw e (env.failed (front ++ got) (Consumes-trans a b c front got first next) (parts got few) (omega (arith, length-append front got)) (up late))
 
 -- what follows the first byte was not taken whole
 pub lacks_head : (a b c : Option (List ℕ)) (Late Up : Type 0) (six most : ℕ) (t : Took) (first got : List ℕ) (lack : Lack) → (first ≡ 0x57 ∷ []) × Consumes a b first × (1 ≤ most)
     → (Late → Up) → lack_of t ≡ Some lack → six ≡ 6 → Takes b c Late six (most - 1) t got → Lacks a c Up most lack (first ++ got)
 lacks_head a b c Late Up six most t first got lack one up is size takes =
     let len : length first ≡ 1 = ap length one.0 in
-    let parts : (rest : List ℕ) → length rest < 6 → IsPart (first ++ rest) = λ rest few. (let P : List ℕ → Type 0 = λ t. IsPart (t ++ rest) in subst P (sym one.0) (part_short rest few)) in
-    let Q : ℕ → Type 0 = λ n. Takes b c Late n (most - 1) t got in
-    lacks_behind a b c Late Up 6 (most - 1) most t first got lack one.1 (omega (arith, len)) (omega (arith, len, one.2)) parts up is (subst Q size takes)
+    lacks_behind a b c Late Up 6 (most - 1) most t first got lack one.1 (omega (arith, len)) (omega (arith, len, one.2))
+    (λ rest few. subst (λ (t : List ℕ). IsPart (t ++ rest)) (sym one.0) (part_short rest few)) up is (rw size at takes)
 
 -- the head was taken
 pub takes_head : (a b c : Option (List ℕ)) (Late : Type 0) (six most : ℕ) (t : Took) (first got fields : List ℕ) (size : ℕ) → (first ≡ 0x57 ∷ []) × Consumes a b first × (1 ≤ most)
@@ -147,7 +121,7 @@ pub takes_head : (a b c : Option (List ℕ)) (Late : Type 0) (six most : ℕ) (t
 takes_head a b c Late six most t first got fields size one is six-is takes kept head =
     let full = whole_if t is in
     let all = took_whole b c Late six (most - 1) t got full takes in
-    let text : 0x57 ∷ fields ≡ first ++ got = ap (λ (g : List ℕ). 0x57 ∷ g) (kept full) ∙ ap (λ (g : List ℕ). g ++ got) (sym one.0) in
+    let text : 0x57 ∷ fields ≡ first ++ got = cc (kept full, one.0) in
     let len : length first ≡ 1 = ap length one.0 in (
       subst (IsHead size) text head,
       Consumes-trans a b c first got one.1 all.0,

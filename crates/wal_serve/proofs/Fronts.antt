@@ -1,23 +1,17 @@
 -- Two streams at the front of the same bytes: they are the same, or one of them goes on where the other ends.
-use Rattle.std.proofs.Common.{◌≡◌, ℕ, ◌+◌, ◌≤◌, List, [], ◌∷◌, ◌++◌, length, take, drop, Option, Some, None, refl, sym, ap, ◌∙◌, append_assoc, arith}
+use Rattle.std.proofs.Common.{◌≡◌, ℕ, ◌+◌, ◌≤◌, List, [], ◌∷◌, ◌++◌, length, take, drop, Some, refl, sym, ap, ◌∙◌, append_assoc, arith}
 use Rattle.std.proofs.lemmas.List.{length-append, take_at}
 use Rattle.wal_frame.specs.Frame.{envelope}
 use Rattle.wal_frame.specs.Stream.{IsPayload, IsStream}
 use Rattle.wal_frame.proofs.StreamLaws.{envelope_read}
 
+parts_of : (a b : List ℕ × List ℕ) → Some a ≡ Some b → (a.0 ≡ b.0) × (a.1 ≡ b.1)
+parts_of a b same = (let pairs : a ≡ b = cc in (ap (λ (e : List ℕ × List ℕ). e.0) pairs, ap (λ (e : List ℕ × List ℕ). e.1) pairs))
+
 -- an envelope at the front is one
-abbrev payload_in : Option (List ℕ × List ℕ) → List ℕ
-payload_in None = []
-payload_in (Some e) = e.0
-
-abbrev rest_in : Option (List ℕ × List ℕ) → List ℕ
-rest_in None = []
-rest_in (Some e) = e.1
-
 pub one_envelope : (bytes : List ℕ) (s t : ℕ) (p q x y : List ℕ) → IsPayload p → IsPayload q → bytes ≡ envelope s p ++ x → bytes ≡ envelope t q ++ y → (p ≡ q) × (x ≡ y)
 one_envelope bytes s t p q x y fits also is_p is_q =
-    let both = sym (envelope_read bytes s p x fits is_p) ∙ envelope_read bytes t q y also is_q in
-    (ap payload_in both, ap rest_in both)
+    parts_of (p, x) (q, y) (sym (envelope_read bytes s p x fits is_p) ∙ envelope_read bytes t q y also is_q)
 
 -- fronts of one length are the same
 pub same_front : (front rest other behind : List ℕ) → front ++ rest ≡ other ++ behind → length front ≡ length other → front ≡ other
@@ -30,8 +24,7 @@ shorter_front [] rest other behind same few = (other, refl)
 shorter_front (x ∷ front) rest [] behind same few = absurd (omega arith)
 shorter_front (x ∷ front) rest (y ∷ other) behind same few =
     let more = shorter_front front rest other behind (ap (drop 1) same) (omega (arith, few)) in
-    let first : x ≡ y = cc in
-    (more.0, ap (λ (t : List ℕ). y ∷ t) more.1 ∙ ap (λ (b : ℕ). b ∷ (front ++ more.0)) (sym first))
+    (more.0, cc)
 
 -- the second stream goes on where the first one ends
 pub record Longer (ps : List (List ℕ)) (front rest : List ℕ) (qs : List (List ℕ)) (other : List ℕ) : Type 0 where
@@ -58,7 +51,7 @@ begins_now front rest q qs sender next other behind is fits parts all = record {
   after = next ++ behind;
   parts = refl;
   fits = fits;
-  begins = ap (λ (t : List ℕ). t ++ rest) (sym is) ∙ all ∙ ap (λ (t : List ℕ). t ++ behind) parts ∙ append_assoc (envelope sender q) next behind;
+  begins = cc (is, all, parts, append_assoc (envelope sender q) next behind);
   within = omega (arith, ap length is, ap length parts, length-append (envelope sender q) next);
 }
 
@@ -69,7 +62,7 @@ begins_later p q ps qs s t front rest other x y one is also l = record {
   payload = l.payload;
   others = l.others;
   after = l.after;
-  parts = ap (λ (z : List (List ℕ)). q ∷ z) l.parts ∙ ap (λ (z : List ℕ). z ∷ (ps ++ l.payload ∷ l.others)) (sym one);
+  parts = cc (l.parts, one);
   fits = l.fits;
   begins = l.begins;
   within = omega (arith, l.within, ap length one, ap length is, ap length also, length-append (envelope s p) x, length-append (envelope t q) y);
@@ -78,18 +71,14 @@ begins_later p q ps qs s t front rest other x y one is also l = record {
 compared_later : (p q : List ℕ) (ps qs : List (List ℕ)) (s t : ℕ) (front rest other behind x y : List ℕ) → p ≡ q → front ≡ envelope s p ++ x → other ≡ envelope t q ++ y
     → Compared ps x rest qs y behind → Compared (p ∷ ps) front rest (q ∷ qs) other behind
 compared_later p q ps qs s t front rest other behind x y one is also (same equal long tails) =
-    same
-    (ap (λ (z : List (List ℕ)). p ∷ z) equal ∙ ap (λ (z : List ℕ). z ∷ qs) one)
-    (omega (arith, long, ap length one, ap length is, ap length also, length-append (envelope s p) x, length-append (envelope t q) y))
-    tails
+    same (cc (equal, one)) (omega (arith, long, ap length one, ap length is, ap length also, length-append (envelope s p) x, length-append (envelope t q) y)) tails
 compared_later p q ps qs s t front rest other behind x y one is also (less l) = less (begins_later p q ps qs s t front rest other x y one is also l)
 compared_later p q ps qs s t front rest other behind x y one is also (more l) = more (begins_later q p qs ps t s other behind front y x (sym one) also is l)
 
 pub compared : (ps qs : List (List ℕ)) (front rest other behind : List ℕ) → IsStream ps front → IsStream qs other → front ++ rest ≡ other ++ behind
     → Compared ps front rest qs other behind
 compared [] [] front rest other behind is also all =
-    same refl (ap length (is ∙ sym also))
-    (ap (λ (t : List ℕ). t ++ rest) (sym is) ∙ all ∙ ap (λ (t : List ℕ). t ++ behind) also)
+    same refl (cc (is, also)) (cc (is, also, all))
 compared [] (q ∷ qs) front rest other behind is (sender, next, fits, parts, stream) all =
     less (begins_now front rest q qs sender next other behind is fits parts all)
 compared (p ∷ ps) [] front rest other behind (sender, next, fits, parts, stream) also all =

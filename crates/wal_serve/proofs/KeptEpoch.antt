@@ -1,5 +1,5 @@
 -- What serving answers leaves the epoch of the ledger, and who runs each shard in it, as they are.
-use Rattle.std.proofs.Common.{◌≡◌, ℕ, ◌<◌, Bool, true, List, Option, None, Result, Ok, Err, refl, sym, ap, subst, ◌∙◌, arith}
+use Rattle.std.proofs.Common.{◌≡◌, ℕ, ◌<◌, Bool, true, List, Option, None, Result, Ok, Err, refl, ap, ◌∙◌, arith}
 use Rattle.wal_shape.specs.declared.metadata.BlobId.{BlobId}
 use Rattle.wal_shape.specs.declared.text.MetaClash.{MetaClash}
 use Rattle.wal_shape.specs.declared.axis.Side.TheVariants.{Now}
@@ -35,7 +35,7 @@ then : (a b c : Log) → KeepsEpoch a b → KeepsEpoch b c → KeepsEpoch a c
 then a b c first next = record { reading = next.reading ∙ first.reading; owners = next.owners ∙ first.owners }
 
 same_ledger : (old new : LedgerState) → new ≡ old → KeepsEpoch old.log new.log
-same_ledger old new same = record { reading = ap (λ (l : LedgerState). reading l.log) same; owners = ap (λ (l : LedgerState). owners_of Now l.log) same }
+same_ledger old new same = rw same (record { reading = refl; owners = refl })
 
 -- what is asked of the log that serving began with holds of the one that it left
 pub epoch_on : (fresh old new : Log) → old ≡ fresh → KeepsEpoch old new → reading fresh ≡ 0 → reading new ≡ 0
@@ -44,15 +44,13 @@ epoch_on fresh old new same keeps zero = keeps.reading ∙ ap reading same ∙ z
 pub owners_on : (fresh old new : Log) (f g : ℕ) → old ≡ fresh → KeepsEpoch old new → g ≡ f → ((s : ℕ) → s < committee_size f → node_of (owners_of Now fresh) s ≡ s)
     → (s : ℕ) → s < committee_size g → node_of (owners_of Now new) s ≡ s
 owners_on fresh old new f g same keeps one own s less =
-    ap (λ (o : List ℕ). node_of o s) (keeps.owners ∙ ap (owners_of Now) same) ∙ own s (subst (λ (n : ℕ). s < committee_size n) one less)
+    cc (keeps.owners, same, own s (rw one at less))
 
 one_entry : (old new : LedgerState) (b : Body) → is_plain b ≡ true → new ≡ takes_in old b → KeepsEpoch old.log new.log
 one_entry old new b plain is =
     let stays = plain_stays old.log b plain in
-    record {
-      reading = ap (λ (l : LedgerState). reading l.log) is ∙ stays.reading;
-      owners = ap (λ (l : LedgerState). owners_of Now l.log) is ∙ ap (owners_at (entered old.log b)) stays.reading ∙ stays.owners (reading old.log);
-    }
+    rw is
+    (record { reading = stays.reading; owners = ap (owners_at (entered old.log b)) stays.reading ∙ stays.owners (reading old.log) })
 
 claimed : (kind : Kind) (old : LedgerState) (shard : ℕ) (id : BlobId) (r : Reply) (new : LedgerState) → ClaimEntered kind old shard id r new → KeepsEpoch old.log new.log
 claimed Holds old shard id r new (acking.Counted count, h, is) = one_entry old new (claim_of Holds shard id) refl h.0.2
@@ -77,7 +75,7 @@ registers old id until answer new h = same_ledger old new (grind arith)
 -- what is answered to an entry
 by_entry : (Makes : Reply → LedgerState → Type 0) (old new : ServedState) (frames : List (List ℕ)) (clash : Option MetaClash)
     → ((r : Reply) (ledger : LedgerState) → Makes r ledger → KeepsEpoch old.ledger.log ledger.log) → AnswersEntry Makes old frames clash new → KeepsEpoch old.ledger.log new.ledger.log
-by_entry Makes old new frames clash each h = subst (λ (s : ServedState). KeepsEpoch old.ledger.log s.ledger.log) (sym h.4) (each h.0 h.1 h.2)
+by_entry Makes old new frames clash each h = rw h.4 (each h.0 h.1 h.2)
 
 module _ (digest : List ℕ → List ℕ) (may_want : Bool) (old new : ServedState) (frames : List (List ℕ)) (clash : Option MetaClash) where
   by_frame : (frame : Frame) → AnswersFrame digest may_want frame old frames clash new → KeepsEpoch old.ledger.log new.ledger.log

@@ -1,5 +1,5 @@
 -- Over a keep that never wants memory no frame that serving answers says so.
-use Rattle.std.proofs.Common.{◌≡◌, ℕ, ◌⊎◌, inl, inr, Bool, false, List, [], ◌∷◌, ◌++◌, length, Option, Some, None, Result, Ok, Err, sym, ap, subst, arith}
+use Rattle.std.proofs.Common.{◌≡◌, ℕ, ⊎_elim, Bool, false, List, [], ◌∷◌, ◌++◌, length, Option, Some, None, Result, Ok, Err, sym, ap, subst, arith}
 use Rattle.std.proofs.lemmas.Bool.{false≢true}
 use Rattle.std.specs.List.{Contains}
 use Rattle.std.proofs.lemmas.List.Elements.{Contains-append_cases, Contains-push_cases}
@@ -47,18 +47,10 @@ no_frames : Calm []
 no_frames among = omega (arith, among.1)
 
 one_frame : (frame : List ℕ) → (frame ≡ reply_text no_memory → ⊥) → Calm (frame ∷ [])
-one_frame frame not among = by (Contains-push_cases [] frame (reply_text no_memory) among)
-  where
-    by : Contains [] (reply_text no_memory) ⊎ (frame ≡ reply_text no_memory) → ⊥
-    by (inl before) = no_frames before
-    by (inr same) = not same
+one_frame frame not among = ⊎_elim no_frames not (Contains-push_cases [] frame (reply_text no_memory) among)
 
 both : (xs ys : List (List ℕ)) → Calm xs → Calm ys → Calm (xs ++ ys)
-both xs ys first next among = by (Contains-append_cases xs ys (reply_text no_memory) among)
-  where
-    by : Contains xs (reply_text no_memory) ⊎ Contains ys (reply_text no_memory) → ⊥
-    by (inl before) = first before
-    by (inr behind) = next behind
+both xs ys first next among = ⊎_elim first next (Contains-append_cases xs ys (reply_text no_memory) among)
 
 -- another kind of frame, and a reply of another code
 of_kind : (frame : List ℕ) → (first_of frame ≡ 0x30 → ⊥) → Calm (frame ∷ [])
@@ -96,7 +88,7 @@ opening_calm digest id shard p axis index _ (no_shard m holds not) = no_frames
 
 symbols_calm : (digest : List ℕ → List ℕ) (id : List ℕ) (shard : ℕ) (p : Parts) (axis : Axis) (index : ℕ) (frames : List (List ℕ)) → SymbolReplies digest id shard p axis index frames → Calm frames
 symbols_calm digest id shard p axis index frames s =
-    subst Calm (sym s.2)
+    rw s.2
     (both (metadata_reply p) (s.0 ++ proof_reply id p) (metadata_calm p) (both s.0 (proof_reply id p) (opening_calm digest id shard p axis index s.0 s.1) (proof_calm id p)))
 
 -- ---- replies
@@ -123,7 +115,7 @@ fault_calm fault e = grind arith
 -- ---- requests
 
 told : (r : Reply) (frames : List (List ℕ)) (clash : Option MetaClash) → IsReplyOutcome (Ok r) frames clash → (r.code ≡ 7 → ⊥) → Calm frames
-told r frames clash is not = subst Calm (sym is.0) (of_code r not)
+told r frames clash is not = rw is.0 (of_code r not)
 
 put_calm : (digest : List ℕ → List ℕ) (d : PutDesk) (old new : Contents) (frame : Frame) (answer : PutAnswer) → PutsOrWants digest false d old frame answer new → Calm (outcome_text (put_reply answer) ∷ [])
 put_calm digest d old new frame (putting.OtherMetadata clash) h = of_kind (clash_text clash) (λ e. omega (arith, e))
@@ -132,7 +124,7 @@ put_calm digest d old new frame answer h = one_frame (outcome_text (put_reply an
 
 replied : (payloads frames : List (List ℕ)) (clash : Option MetaClash) → IsReplied payloads frames clash → Calm payloads → Calm frames
 replied payloads frames clash is calm =
-    subst Calm (sym is.0) (both payloads (reply_text (done (length payloads)) ∷ []) calm (of_code (done (length payloads)) (λ e. omega (arith, e))))
+    rw is.0 (both payloads (reply_text (done (length payloads)) ∷ []) calm (of_code (done (length payloads)) (λ e. omega (arith, e))))
 
 by_entry : (Makes : Reply → LedgerState → Type 0) (old new : ServedState) (frames : List (List ℕ)) (clash : Option MetaClash)
     → ((r : Reply) (ledger : LedgerState) → Makes r ledger → r.code ≡ 7 → ⊥) → AnswersEntry Makes old frames clash new → Calm frames
@@ -141,8 +133,8 @@ by_entry Makes old new frames clash each h = told h.0 frames clash h.3 (each h.0
 module _ (digest : List ℕ → List ℕ) (old new : ServedState) (frames : List (List ℕ)) (clash : Option MetaClash) where
   by_put : (frame : Frame) → AnswersPut digest false frame old frames clash new → Calm frames
   by_put frame h =
-      let put = h.2 in
-      subst Calm (sym h.3.0) (subst (λ (o : Result Reply MetaClash). Calm (outcome_text o ∷ [])) (sym put.2) (put_calm digest _ old.shard.contents h.1 frame put.0 put.1))
+      rw h.3.0
+      (subst (λ (o : Result Reply MetaClash). Calm (outcome_text o ∷ [])) (sym h.2.2) (put_calm digest _ old.shard.contents h.1 frame h.2.0 h.2.1))
 
   by_frame : (frame : Frame) → AnswersFrame digest false frame old frames clash new → Calm frames
   by_frame (Metadata m) h = by_put _ h

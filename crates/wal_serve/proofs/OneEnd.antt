@@ -1,5 +1,5 @@
 -- Where a source tells its bytes, serving ends in one way, if the table has one answer to each payload.
-use Rattle.std.proofs.Common.{◌≡◌, ℕ, ◌+◌, ◌<◌, ◌≤◌, List, [], ◌∷◌, ◌++◌, length, Option, Some, None, refl, sym, ap, subst, ◌∙◌, append_assoc, append-nil, arith, true≢false}
+use Rattle.std.proofs.Common.{◌≡◌, ℕ, ◌+◌, ◌<◌, ◌≤◌, List, [], ◌∷◌, ◌++◌, length, Option, Some, None, refl, sym, ap, subst, ◌∙◌, append_assoc, append-nil, arith, true, true≢false}
 use Rattle.std.proofs.lemmas.List.{length-append}
 use Rattle.std.specs.Prelude.{is_some}
 use Rattle.wal_shape.specs.declared.text.MetaClash.{MetaClash}
@@ -30,13 +30,8 @@ pub data Why (limit n : ℕ) (tail : List ℕ) (clash : Option MetaClash) (long 
 pub no_bytes : (sender : ℕ) (payload after : List ℕ) → [] ≡ envelope sender payload ++ after → ⊥
 no_bytes sender payload after is = absurd cc
 
-first_of : List ℕ → ℕ
-first_of [] = 0
-first_of (b ∷ bytes) = b
-
 pub first_byte : (b : ℕ) (more : List ℕ) (sender : ℕ) (payload after : List ℕ) → b ∷ more ≡ envelope sender payload ++ after → b ≡ 0x57
-unfolding first_of
-first_byte b more sender payload after is = ap first_of is
+first_byte b more sender payload after is = cc
 
 pub part_begins : (part : List ℕ) (sender : ℕ) (payload after : List ℕ) → IsPart part → IsPayload payload → part ≡ envelope sender payload ++ after → ⊥
 part_begins [] sender payload after is fits begins = no_bytes sender payload after begins
@@ -85,20 +80,19 @@ module _ (limit n : ℕ) (tail : List ℕ) where
   one_long : (long more : ℕ) (end other : ServeEnd) → Why limit n tail None long end → Why limit n tail None more other → long ≡ more
   one_long long more end other a b = grind (arith, nil_no_part, wrong_not_part, wrong_not_long, cut_not_long)
 
-  stopped_long : (texts : MetaClash) (long : ℕ) (end : ServeEnd) → Why limit n tail (Some texts) long end → long ≡ 0
-  stopped_long texts long end why = grind arith
+  stopped_as : (texts : MetaClash) (long : ℕ) (end : ServeEnd) → Why limit n tail (Some texts) long end → (is_collision end ≡ true) × (long ≡ 0)
+  stopped_as texts long end why = grind arith
 
-pub one_why : (limit n : ℕ) (tail : List ℕ) (clash second : Option MetaClash) (long more : ℕ) → is_some clash ≡ is_some second → (end other : ServeEnd)
-    → Why limit n tail clash long end → Why limit n tail second more other → SameEnd end other × (long ≡ more)
-one_why limit n tail None None long more stops end other a b =
-    let is = one_calm limit n tail long more end other a b in
-    ((ap is_collision is, λ calm. is), one_long limit n tail long more end other a b)
-one_why limit n tail (Some texts) (Some given) long more stops end other a b =
-    let collides = why_collides limit n tail (Some texts) long end a in
-    let too = why_collides limit n tail (Some given) more other b in
-    let size = stopped_long limit n tail texts long end a ∙ sym (stopped_long limit n tail given more other b) in
-    ((collides ∙ sym too, λ calm. absurd (true≢false (sym collides ∙ calm))), size)
-one_why limit n tail clash second long more stops end other a b = absurd (grind arith)
+  pub one_why : (clash second : Option MetaClash) (long more : ℕ) → is_some clash ≡ is_some second → (end other : ServeEnd)
+      → Why limit n tail clash long end → Why limit n tail second more other → SameEnd end other × (long ≡ more)
+  one_why None None long more stops end other a b =
+      let is = one_calm long more end other a b in
+      ((ap is_collision is, λ calm. is), one_long long more end other a b)
+  one_why (Some texts) (Some given) long more stops end other a b =
+      let here = stopped_as texts long end a in
+      let there = stopped_as given more other b in
+      ((here.0 ∙ sym there.0, λ calm. absurd (true≢false (sym here.0 ∙ calm))), here.1 ∙ sym there.1)
+  one_why clash second long more stops end other a b = absurd (grind arith)
 
 -- ---- one end
 
@@ -116,9 +110,10 @@ module _ {C : Type 0} (Answer : Table C) (room limit : ℕ) (fresh : C) (input :
     pub size : length taken ≡ length front + long
     pub why : Why limit (length front) tail clash long end
 
-  ended : (taken front tail : List ℕ) (frames : List (List ℕ)) (clash : Option MetaClash) (state : C) (long : ℕ) (end : ServeEnd) → input ≡ front ++ tail
-      → serving.Served Answer room fresh front frames clash state → length taken ≡ length front + long → Why limit (length front) tail clash long end → Ended taken frames state end
-  ended taken front tail frames clash state long end parts served size why =
+  ended : {taken front : List ℕ} {frames : List (List ℕ)} {clash : Option MetaClash} {state : C} {long : ℕ} {end : ServeEnd}
+      (tail : List ℕ) → input ≡ front ++ tail → serving.Served Answer room fresh front frames clash state
+      → length taken ≡ length front + long → Why limit (length front) tail clash long end → Ended taken frames state end
+  ended {taken} {front} {frames} {clash} {state} {long} tail parts served size why =
       let goes = served_goes Answer room fresh front frames clash state served in
       record {
         front = front;
@@ -133,35 +128,21 @@ module _ {C : Type 0} (Answer : Table C) (room limit : ℕ) (fresh : C) (input :
         why = why;
       }
 
-  behind_front : (taken front part rest : List ℕ) → input ≡ taken ++ rest → taken ≡ front ++ part → input ≡ front ++ (part ++ rest)
-  behind_front taken front part rest is parts = is ∙ ap (λ (t : List ℕ). t ++ rest) parts ∙ append_assoc front part rest
-
-  part_at_end : (part rest : List ℕ) → rest ≡ [] → part ++ rest ≡ part
-  part_at_end part rest nil = ap (λ (t : List ℕ). part ++ t) nil ∙ append-nil part
-
-  no_rest : (taken : List ℕ) → length taken ≡ length taken + 0
-  no_rest taken = omega arith
-
   ended_by : (taken rest : List ℕ) (frames : List (List ℕ)) (state : C) (end : ServeEnd) → input ≡ taken ++ rest → Serves Answer room limit fresh taken (rest ≡ []) ⊥ ⊥ frames state end
       → Ended taken frames state end
-  ended_by taken rest frames state _ is (serving.done all within at_end) = ended taken taken rest frames None state 0 Done is all (no_rest taken) (done refl at_end within refl)
-  ended_by taken rest frames state _ is (serving.stopped clash before all within last) =
-      ended taken taken rest frames (Some clash) state 0 (Collision clash) is all (no_rest taken) (stopped clash refl within refl)
+  ended_by taken rest frames state _ is (serving.done all within at_end) = ended rest is all (omega arith) (done refl at_end within refl)
+  ended_by taken rest frames state _ is (serving.stopped clash before all within last) = ended rest is all (omega arith) (stopped clash refl within refl)
   ended_by taken rest frames state _ is (serving.wrong front b parts bad some within) =
       let size : length taken ≡ length front + 1 = omega (arith, ap length parts, length-append front (b ∷ [])) in
-      ended taken front ((b ∷ []) ++ rest) frames None state 1 (Malformed (length front)) (behind_front taken front (b ∷ []) rest is parts) some size
-      (wrong b rest refl refl bad (omega (arith, size, within)) refl)
+      ended (b ∷ rest) (cc (is, parts, append_assoc front (b ∷ []) rest)) some size (wrong b rest refl refl bad (omega (arith, size, within)) refl)
   ended_by taken rest frames state _ is (serving.cut front piece parts part long some within at_end) =
       let size : length taken ≡ length front + length piece = omega (arith, ap length parts, length-append front piece) in
-      let tail = part_at_end piece rest at_end in
-      ended taken front piece frames None state (length piece) (Malformed (length front))
-      (behind_front taken front piece rest is parts ∙ ap (λ (t : List ℕ). front ++ t) tail) some size
-      (cut refl part long (omega (arith, size, within)) refl)
+      ended piece (cc (is, parts, at_end, append-nil taken)) some size (cut refl part long (omega (arith, size, within)) refl)
   ended_by taken rest frames state _ is (serving.too_long front piece b parts part some past) =
       let size : length taken ≡ length front + (length piece + 1) =
       omega (arith, ap length parts, length-append front (piece ++ b ∷ []), length-append piece (b ∷ [])) in
-      ended taken front ((piece ++ b ∷ []) ++ rest) frames None state (length piece + 1) TooLong (behind_front taken front (piece ++ b ∷ []) rest is parts) some size
-      (too_long piece b rest refl (append_assoc piece (b ∷ []) rest) part (omega (arith, size, past)) refl)
+      ended (piece ++ b ∷ rest) (cc (is, parts, append_assoc front (piece ++ b ∷ []) rest, append_assoc piece (b ∷ []) rest)) some size
+      (too_long piece b rest refl refl part (omega (arith, size, past)) refl)
   ended_by taken rest frames state _ is (serving.read_fault front piece parts part some within rose) = absurd rose
   ended_by taken rest frames state _ is (serving.write_fault clash all within rose) = absurd rose
 
@@ -176,8 +157,8 @@ module _ {C : Type 0} (Answer : Table C) (room limit : ℕ) (fresh : C) (input :
         by None calm = none_follows limit (length a.front) (length b.front) a.tail a.clash a.long end l.sender l.payload l.after a.why calm l.fits l.begins l.within
             (why_within limit (length b.front) b.tail b.clash b.long other b.why)
         by (Some texts) is =
-            let goes = subst (λ (ps : List (List ℕ)). Goes Answer room ps fresh others b.clash then) l.parts b.goes in
-            stopped_before Answer room single a.payloads l.payload l.others fresh frames others a.clash b.clash texts state then is a.goes goes
+            stopped_before Answer room single a.payloads l.payload l.others fresh frames others a.clash b.clash texts state then is a.goes
+            (subst (λ (ps : List (List ℕ)). Goes Answer room ps fresh others b.clash then) l.parts b.goes)
 
     same_tail : (taken given rest after : List ℕ) (frames others : List (List ℕ)) (state then : C) (end other : ServeEnd) (a : Ended taken frames state end) (b : Ended given others then other)
         → input ≡ taken ++ rest → input ≡ given ++ after → a.payloads ≡ b.payloads → length a.front ≡ length b.front → a.tail ≡ b.tail
@@ -185,9 +166,7 @@ module _ {C : Type 0} (Answer : Table C) (room limit : ℕ) (fresh : C) (input :
     same_tail taken given rest after frames others state then end other a b is also same_payloads sizes tails =
         let goes = subst (λ (ps : List (List ℕ)). Goes Answer room ps fresh frames a.clash state) same_payloads a.goes in
         let one = one_going Answer room single b.payloads fresh frames others a.clash b.clash state then goes b.goes in
-        let here = subst (λ (t : List ℕ). Why limit (length a.front) t a.clash a.long end) tails a.why in
-        let there = subst (λ (k : ℕ). Why limit k b.tail a.clash a.long end) sizes here in
-        let reason = one_why limit (length b.front) b.tail a.clash b.clash a.long b.long one.stops end other there b.why in
+        let reason = one_why limit (length b.front) b.tail a.clash b.clash a.long b.long one.stops end other (rw (tails, sizes) at a.why) b.why in
         let collides = why_collides limit (length a.front) a.tail a.clash a.long end a.why in
         record {
           taken = same_front taken rest given after (sym is ∙ also) (a.size ∙ omega (arith, sizes, reason.1) ∙ sym b.size);

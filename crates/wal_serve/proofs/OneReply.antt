@@ -1,22 +1,19 @@
 -- What a shard and a ledger answer is one thing, but for the two texts of a collision.
-use Rattle.std.proofs.Common.{◌≡◌, ℕ, ◌<◌, false, List, [], ◌∷◌, ◌++◌, Result, Ok, Err, refl, sym, ap, subst, ◌∙◌, arith}
+use Rattle.std.proofs.Common.{◌≡◌, ℕ, false, List, Result, Ok, Err, refl, arith}
 use Rattle.std.specs.Prelude.{⊤}
 use Rattle.wal_shape.specs.declared.metadata.BlobId.{BlobId}
 use Rattle.wal_shape.specs.declared.axis.Axis.{Axis}
 use Rattle.wal_shape.specs.declared.text.MetaClash.{MetaClash}
-use Rattle.wal_shape.specs.Shape.{shard_count, crossing}
-use Rattle.wal_shape.specs.Metadata.{BlobMetadata, held_index}
 use Rattle.wal_commit.specs.Held.{IsOpeningOf}
 use Rattle.wal_commit.proofs.HonestOpenings.{one_opening}
-use Rattle.wal_frame.specs.Frame.{Frame, frame_text}
-use Rattle.wal_frame.specs.Frame as frames
+use Rattle.wal_frame.specs.Frame.{Frame}
 use Rattle.wal_store.specs.Parts.{Parts}
 use Rattle.wal_store.specs.Contents.{Contents}
 use Rattle.wal_ledger.specs.declared.entry.Kind.{Kind}
 use Rattle.wal_ledger.specs.declared.entry.Kind.TheVariants.{Holds, Denies}
 use Rattle.wal_ledger.specs.Ledger.{Log, LedgerState}
 use Rattle.wal_shard.specs.declared.answers.PutAnswer.{PutAnswer}
-use Rattle.wal_shard.specs.Holding.{OpeningReply, given, not_held, no_shard, SymbolReplies, metadata_reply, proof_reply}
+use Rattle.wal_shard.specs.Holding.{OpeningReply, given, not_held, no_shard, SymbolReplies}
 use Rattle.wal_shard.specs.Putting.{PutDesk, PutsOrWants}
 use Rattle.wal_shard.proofs.Soundness.{one_metadata}
 use Rattle.wal_shard.proofs.OnePut.{never_wants, none_some, puts_once, some_is}
@@ -47,31 +44,26 @@ one_put digest d old frame a b x y p q =
 -- ---- openings of held slivers
 
 module _ (digest : List ℕ → List ℕ) (id : List ℕ) (shard : ℕ) (p : Parts) (axis : Axis) (index : ℕ) where
-  abbrev opening_payload : ℕ → List ℕ → List ℕ → List (List ℕ)
-  opening_payload cross symbol path = frame_text (frames.Opening id axis index (record { cross = cross; symbol = symbol; path = path })) ∷ []
-
   one_opening_reply : (a b : List (List ℕ)) → OpeningReply digest id shard p axis index a → OpeningReply digest id shard p axis index b → a ≡ b
   one_opening_reply a b (given m sliver o has at within cross is) (given n other q has_n at_n within_n cross_n is_n) =
       let same = one_metadata p m n has has_n in
       let bytes = some_is _ sliver other at at_n in
-      let Opens : BlobMetadata → List ℕ → Type 0 = λ x y. IsOpeningOf digest x axis index y o in
-      let here : Opens n other = subst (λ (y : List ℕ). Opens n y) bytes (subst (λ (x : BlobMetadata). Opens x sliver) same is) in
+      let here : IsOpeningOf digest n axis index other o = rw (same, bytes) at is in
       let one = one_opening digest n axis index other o q has_n.fit.shape.1 here is_n in
-      let crosses : o.cross ≡ q.cross = cross ∙ ap (λ (x : BlobMetadata). held_index x.format x.f (crossing axis) shard) same ∙ sym cross_n in
-      ap (λ (x : ℕ). opening_payload x o.symbol o.path) crosses
-      ∙ ap (λ (x : List ℕ). opening_payload q.cross x o.path) one.0
-      ∙ ap (λ (x : List ℕ). opening_payload q.cross q.symbol x) one.1
+      let crosses : o.cross ≡ q.cross = cc (cross, cross_n, same) in
+      let all : o ≡ q = λ i. record { cross = crosses i; symbol = one.0 i; path = one.1 i } in
+      cc (all)
   one_opening_reply a b (given m sliver o has at within cross is) (not_held none) = absurd (none_some _ sliver none at)
   one_opening_reply a b (given m sliver o has at within cross is) (no_shard n has_n outside) =
-      absurd (outside (subst (λ (x : BlobMetadata). index < shard_count x.f) (one_metadata p m n has has_n) within))
+      absurd (outside (rw (one_metadata p m n has has_n) at within))
   one_opening_reply a b (not_held none) (given n other q has_n at_n within_n cross_n is_n) = absurd (none_some _ other none at_n)
   one_opening_reply a b (no_shard m has outside) (given n other q has_n at_n within_n cross_n is_n) =
-      absurd (outside (subst (λ (x : BlobMetadata). index < shard_count x.f) (one_metadata p n m has_n has) within_n))
+      absurd (outside (rw (one_metadata p n m has_n has) at within_n))
   one_opening_reply a b s t = refl
 
   pub one_symbols : (a b : List (List ℕ)) → SymbolReplies digest id shard p axis index a → SymbolReplies digest id shard p axis index b → a ≡ b
   one_symbols a b s t =
-      s.2 ∙ ap (λ (x : List (List ℕ)). metadata_reply p ++ (x ++ proof_reply id p)) (one_opening_reply s.0 t.0 s.1 t.1) ∙ sym t.2
+      cc (s.2, t.2, one_opening_reply s.0 t.0 s.1 t.1)
 
 -- ---- the ledger
 

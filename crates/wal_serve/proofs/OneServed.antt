@@ -1,6 +1,7 @@
 -- A table that has one answer to each payload serves payloads in one way.
-use Rattle.std.proofs.Common.{◌≡◌, ◌⊎◌, ℕ, inl, inr, List, [], ◌∷◌, ◌++◌, Option, Some, None, refl, sym, ap, subst, ◌∙◌, append_assoc, append-nil, arith, true≢false}
+use Rattle.std.proofs.Common.{◌≡◌, ◌⊎◌, ℕ, inl, inr, List, [], ◌∷◌, ◌++◌, length, Option, Some, None, refl, sym, ap, subst, ◌∙◌, append_assoc, append-nil, arith, true≢false}
 use Rattle.std.proofs.lemmas.Bool.{false≢true}
+use Rattle.std.proofs.lemmas.List.{length-append}
 use Rattle.std.specs.Prelude.{is_some}
 use Rattle.wal_shape.specs.declared.text.MetaClash.{MetaClash}
 use Rattle.wal_frame.specs.Stream.{IsStream}
@@ -8,18 +9,7 @@ use Rattle.wal_frame.proofs.StreamLaws.{stream_grows}
 use Rattle.wal_serve.specs.Reply.{clash_text}
 use Rattle.wal_serve.specs.Serving as serving
 use Rattle.wal_serve.specs.Serving.{Table, Replies, Served}
-use Rattle.wal_serve.specs.Determined.{SameButLast}
 use Rattle.wal_serve.specs.inside.Determined.{IsSingle, SameAnswer}
-
--- the same frames before, and then the same but for the last one
-last_behind : (front same xs ys : List (List ℕ)) → front ≡ same → SameButLast xs ys → SameButLast (front ++ xs) (same ++ ys)
-last_behind front same xs ys is last = record {
-  front = same ++ last.front;
-  one = last.one;
-  other = last.other;
-  ends = ap (λ (t : List (List ℕ)). t ++ xs) is ∙ ap (λ (t : List (List ℕ)). same ++ t) last.ends ∙ sym (append_assoc same last.front (clash_text last.one ∷ []));
-  ends_too = ap (λ (t : List (List ℕ)). same ++ t) last.ends_too ∙ sym (append_assoc same last.front (clash_text last.other ∷ []));
-}
 
 module _ {C : Type 0} (Answer : Table C) (room : ℕ) where
   -- the first payload stops serving
@@ -36,9 +26,6 @@ module _ {C : Type 0} (Answer : Table C) (room : ℕ) where
       Stops old payload payloads frames clash new
       ⊎ ((some : List (List ℕ)) × (mid : C) × Replies Answer room old payload some None mid × (rest : List (List ℕ)) × Goes payloads mid rest clash new × (frames ≡ some ++ rest))
 
-  none_some : (clash : Option MetaClash) (texts : MetaClash) → clash ≡ None → clash ≡ Some texts → ⊥
-  none_some clash texts none some = absurd cc
-
   -- one more payload at the end
   one_more : (payload : List ℕ) (some : List (List ℕ)) (clash : Option MetaClash) (old new : C) → Replies Answer room old payload some clash new → Goes (payload ∷ []) old some clash new
   one_more payload some None old new replies = inr (some, new, replies, [], (refl, refl, refl), sym (append-nil some))
@@ -46,11 +33,8 @@ module _ {C : Type 0} (Answer : Table C) (room : ℕ) where
 
   goes_more : (payloads : List (List ℕ)) (payload : List ℕ) (frames some : List (List ℕ)) (clash : Option MetaClash) (old mid new : C) → Goes payloads old frames None mid
       → Replies Answer room mid payload some clash new → Goes (payloads ++ payload ∷ []) old (frames ++ some) clash new
-  goes_more [] payload frames some clash old mid new goes replies =
-      let here : Replies Answer room old payload some clash new = subst (λ (c : C). Replies Answer room c payload some clash new) goes.2 replies in
-      let nothing : some ≡ frames ++ some = ap (λ (t : List (List ℕ)). t ++ some) (sym goes.0) in
-      subst (λ (t : List (List ℕ)). Goes (payload ∷ []) old t clash new) nothing (one_more payload some clash old new here)
-  goes_more (first ∷ payloads) payload frames some clash old mid new (inl stops) replies = absurd (none_some None stops.texts refl stops.is)
+  goes_more [] payload frames some clash old mid new goes replies = rw goes.0 (one_more payload some clash old new (rw goes.2 at replies))
+  goes_more (first ∷ payloads) payload frames some clash old mid new (inl stops) replies = absurd (cc (stops.is))
   goes_more (first ∷ payloads) payload frames some clash old mid new (inr (head, then, answered, rest, goes, is)) replies =
       inr (
         head,
@@ -76,10 +60,10 @@ module _ {C : Type 0} (Answer : Table C) (room : ℕ) where
     one_reply : (old : C) (payload : List ℕ) (frames others : List (List ℕ)) (clash second : Option MetaClash) (new then : C) → Replies Answer room old payload frames clash new
         → Replies Answer room old payload others second then → SameAnswer frames others clash second new then
     one_reply old payload frames others clash second new then (serving.looked_at f c n few is) (serving.looked_at g d m less also) = single old payload f g c d n m is also
-    one_reply old payload frames others clash second new then (serving.looked_at f c n few is) (serving.read_past many) = absurd (omega (arith, few, many))
-    one_reply old payload frames others clash second new then (serving.read_past many) (serving.looked_at g d m less also) = absurd (omega (arith, less, many))
     one_reply old payload frames others clash second new then (serving.read_past many) (serving.read_past much) =
         record { stops = refl; frames = λ calm. refl; last = λ stops. absurd (false≢true stops); state = refl }
+    one_reply old payload frames others clash second new then (serving.looked_at f c n few is) (serving.read_past many) = absurd (omega (arith, few, many))
+    one_reply old payload frames others clash second new then (serving.read_past many) (serving.looked_at g d m less also) = absurd (omega (arith, less, many))
 
     -- one of two stops serving
     not_both : (old : C) (payload : List ℕ) (frames others : List (List ℕ)) (clash : Option MetaClash) (texts : MetaClash) (new then : C) → clash ≡ Some texts
@@ -87,18 +71,20 @@ module _ {C : Type 0} (Answer : Table C) (room : ℕ) where
     not_both old payload frames others clash texts new then is replies goes =
         true≢false (sym (ap is_some is) ∙ (one_reply old payload frames others clash None new then replies goes).stops)
 
-    -- the rest from one state
-    from_here : (payloads : List (List ℕ)) (mid here : C) (rest : List (List ℕ)) (clash : Option MetaClash) (new : C) → mid ≡ here → Goes payloads mid rest clash new → Goes payloads here rest clash new
-    from_here payloads mid here rest clash new is goes = subst (λ (c : C). Goes payloads c rest clash new) is goes
-
     both_go : (head first frames others rest more : List (List ℕ)) (clash second : Option MetaClash) (new then : C) → head ≡ first → frames ≡ head ++ rest → others ≡ first ++ more
         → SameAnswer rest more clash second new then → SameAnswer frames others clash second new then
     both_go head first frames others rest more clash second new then one is also same = record {
       stops = same.stops;
-      frames = λ calm. is ∙ ap (λ (t : List (List ℕ)). t ++ rest) one ∙ ap (λ (t : List (List ℕ)). first ++ t) (same.frames calm) ∙ sym also;
+      frames = λ calm. cc (is, one, same.frames calm, also);
       last = λ stops.
-          let last = last_behind head first rest more one (same.last stops) in
-          record { front = last.front; one = last.one; other = last.other; ends = is ∙ last.ends; ends_too = also ∙ last.ends_too };
+          let last = same.last stops in
+          record {
+            front = first ++ last.front;
+            one = last.one;
+            other = last.other;
+            ends = cc (is, one, last.ends, append_assoc first last.front (clash_text last.one ∷ []));
+            ends_too = cc (also, last.ends_too, append_assoc first last.front (clash_text last.other ∷ []));
+          };
       state = same.state;
     }
 
@@ -118,19 +104,15 @@ module _ {C : Type 0} (Answer : Table C) (room : ℕ) where
     one_going (payload ∷ payloads) old frames others clash second new then (inr (head, mid, replies, rest, goes, is)) (inr (first, here, answers, more, goes_on, also)) =
         let one = one_reply old payload head first None None mid here replies answers in
         both_go head first frames others rest more clash second new then (one.frames refl) is also
-        (one_going payloads here rest more clash second new then (from_here payloads mid here rest clash new one.state goes) goes_on)
-
-    not_nil : (payloads : List (List ℕ)) (payload : List ℕ) (more : List (List ℕ)) → payloads ++ payload ∷ more ≡ [] → ⊥
-    not_nil [] payload more is = absurd cc
-    not_nil (first ∷ payloads) payload more is = absurd cc
+        (one_going payloads here rest more clash second new then (subst (λ (c : C). Goes payloads c rest clash new) one.state goes) goes_on)
 
     -- nothing is answered behind what stopped serving
     pub stopped_before : (payloads : List (List ℕ)) (payload : List ℕ) (more : List (List ℕ)) (old : C) (frames others : List (List ℕ)) (clash second : Option MetaClash) (texts : MetaClash) (new then : C)
         → clash ≡ Some texts → Goes payloads old frames clash new → Goes (payloads ++ payload ∷ more) old others second then → ⊥
-    stopped_before [] payload more old frames others clash second texts new then is a b = none_some clash texts a.1 is
-    stopped_before (first ∷ payloads) payload more old frames others clash second texts new then is a (inl b) = not_nil payloads payload more b.alone
+    stopped_before [] payload more old frames others clash second texts new then is a b = absurd (cc (a.1, is))
+    stopped_before (first ∷ payloads) payload more old frames others clash second texts new then is a (inl b) = omega (arith, ap length b.alone, length-append payloads (payload ∷ more))
     stopped_before (first ∷ payloads) payload more old frames others clash second texts new then is (inl a) (inr (head, here, replies, rest, goes, also)) =
         not_both old first frames head clash texts new here is a.replies replies
     stopped_before (first ∷ payloads) payload more old frames others clash second texts new then is (inr (some, mid, answers, rest, goes, is_all)) (inr (head, here, replies, behind, goes_on, also)) =
         let one = one_reply old first some head None None mid here answers replies in
-        stopped_before payloads payload more here rest behind clash second texts new then is (from_here payloads mid here rest clash new one.state goes) goes_on
+        stopped_before payloads payload more here rest behind clash second texts new then is (subst (λ (c : C). Goes payloads c rest clash new) one.state goes) goes_on

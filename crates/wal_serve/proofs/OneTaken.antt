@@ -43,9 +43,9 @@ module _ {C : Type 0} (Answer : Table C) (room limit : ℕ) (fresh : C) (taken :
     pub goes : Goes Answer room payloads fresh frames clash state
     pub left : Left limit (length front) tail
 
-  told : (front tail : List ℕ) (frames : List (List ℕ)) (clash : Option MetaClash) (state : C) → taken ≡ front ++ tail → serving.Served Answer room fresh front frames clash state
-      → Left limit (length front) tail → Told frames state
-  told front tail frames clash state parts served left =
+  told : {front : List ℕ} {frames : List (List ℕ)} {clash : Option MetaClash} {state : C} (tail : List ℕ) → taken ≡ front ++ tail
+      → serving.Served Answer room fresh front frames clash state → Left limit (length front) tail → Told frames state
+  told {front} {frames} {clash} {state} tail parts served left =
       let goes = served_goes Answer room fresh front frames clash state served in
       record { front = front; tail = tail; payloads = goes.0; clash = clash; parts = parts; stream = goes.1; goes = goes.2; left = left }
 
@@ -53,16 +53,16 @@ module _ {C : Type 0} (Answer : Table C) (room limit : ℕ) (fresh : C) (taken :
   front_within front tail parts within = omega (arith, ap length parts, length-append front tail, within)
 
   told_by : (frames : List (List ℕ)) (state : C) (end : ServeEnd) → Serves Answer room limit fresh taken ⊤ ⊤ ⊤ frames state end → Told frames state
-  told_by frames state _ (serving.done all within at_end) = told taken [] frames None state (sym (append-nil taken)) all (nothing refl within)
-  told_by frames state _ (serving.stopped clash before all within last) = told taken [] frames (Some clash) state (sym (append-nil taken)) all (nothing refl within)
   told_by frames state _ (serving.wrong front b parts bad some within) =
-      told front (b ∷ []) frames None state parts some (wrong b [] refl bad (front_within front (b ∷ []) parts within))
-  told_by frames state _ (serving.cut front piece parts is long some within at_end) = told front piece frames None state parts some (part is (front_within front piece parts within))
+      told (b ∷ []) parts some (wrong b [] refl bad (front_within front (b ∷ []) parts within))
+  told_by frames state _ (serving.cut front piece parts is long some within at_end) = told piece parts some (part is (front_within front piece parts within))
   told_by frames state _ (serving.too_long front piece b parts is some size) =
-      told front (piece ++ b ∷ []) frames None state parts some
+      told (piece ++ b ∷ []) parts some
       (past piece b [] refl is (omega (arith, ap length parts, size, length-append front (piece ++ b ∷ []), length-append piece (b ∷ []))))
-  told_by frames state _ (serving.read_fault front piece parts is some within rose) = told front piece frames None state parts some (part is (front_within front piece parts within))
-  told_by frames state _ (serving.write_fault clash all within rose) = told taken [] frames clash state (sym (append-nil taken)) all (nothing refl within)
+  told_by frames state _ (serving.read_fault front piece parts is some within rose) = told piece parts some (part is (front_within front piece parts within))
+  told_by frames state _ (serving.done all within at_end) = told [] (sym (append-nil taken)) all (nothing refl within)
+  told_by frames state _ (serving.stopped clash before all within last) = told [] (sym (append-nil taken)) all (nothing refl within)
+  told_by frames state _ (serving.write_fault clash all within rose) = told [] (sym (append-nil taken)) all (nothing refl within)
 
   module _ (single : IsSingle Answer) where
     not_longer : (frames others : List (List ℕ)) (state then : C) (a : Told frames state) (b : Told others then) → Longer a.payloads a.front a.tail b.payloads b.front → ⊥

@@ -1,13 +1,9 @@
 -- What the requests do that have one answer.
-use Rattle.std.proofs.Common.{◌≡◌, ℕ, ◌<◌, Bool, List, [], ◌∷◌, None, Result, Ok, Err, refl, sym, ap, subst}
+use Rattle.std.proofs.Common.{◌≡◌, ℕ, ◌<◌, Bool, List, [], ◌∷◌, None, Result, Ok, Err, refl, ap, subst}
 use Rattle.wal_shape.specs.declared.metadata.BlobId.{BlobId}
-use Rattle.wal_ledger.specs.declared.answers.AckAnswer.{AckAnswer}
-use Rattle.wal_ledger.specs.declared.answers.AttestAnswer.{AttestAnswer}
 use Rattle.wal_ledger.specs.declared.entry.Kind.{Kind}
-use Rattle.wal_ledger.specs.declared.entry.Kind.TheVariants.{Holds, Denies}
 use Rattle.wal_ledger.specs.Ledger.{LedgerState}
 use Rattle.wal_ledger.specs.Shards.{committee_size}
-use Rattle.wal_ledger.specs.Answers.{Acks, Attests}
 use Rattle.wal_frame.specs.Frame.{Frame}
 use Rattle.wal_shape.specs.declared.text.MetaClash.{MetaClash}
 use Rattle.wal_shard.specs.declared.answers.PutAnswer.{PutAnswer}
@@ -17,44 +13,24 @@ use Rattle.wal_shard.specs.declared.answers.AckRefusal.{AckRefusal}
 use Rattle.wal_shard.specs.Vouching.{Vouches, MayForget, without_slivers}
 use Rattle.wal_serve.specs.declared.reply.Reply.{Reply}
 use Rattle.wal_serve.specs.State.{ServedState, with_ledger}
-use Rattle.wal_serve.specs.Reply.{done, refused, no_shard, put_reply, refusal_reply, ack_reply, attest_reply, reply_text, outcome_text, clash_in}
+use Rattle.wal_serve.specs.Reply.{done, refused, no_shard, put_reply, refusal_reply, reply_text, outcome_text, clash_in}
 use Rattle.wal_serve.specs.Answers.{AnswersEntry, AnswersForget, AnswersPut}
-use Rattle.wal_serve.specs.Requests.{ClaimEntered, Vouched, unbacked, asked, Entered, of_committee, of_none, Forgets, forgotten, kept}
+use Rattle.wal_serve.specs.Requests.{ClaimEntered, Vouched, unbacked, asked, Entered, of_none, forgotten, kept}
 
 -- the shard's refusal; the ledger is lent
 pub vouched_not : (kind : Kind) (s : ServedState) (lent : LedgerState) (id : BlobId) (why : AckRefusal) (r : Reply) → lent ≡ s.ledger → Vouches kind lent.log s.shard.contents id (Err why)
     → r ≡ refusal_reply why → Vouched kind s id r s.ledger
 vouched_not kind s lent id why r lends vouches is =
-    let P : LedgerState → Type 0 = λ l. Vouches kind l.log s.shard.contents id (Err why) in
-    let Q : Reply → Type 0 = λ q. Vouched kind s id q s.ledger in
-    subst Q (sym is) (unbacked why (subst P lends vouches))
+    rw is (unbacked why (subst (λ (l : LedgerState). Vouches kind l.log s.shard.contents id (Err why)) lends vouches))
 
-vouched : (kind : Kind) (s : ServedState) (lent new : LedgerState) (id : BlobId) (own : ℕ) (r : Reply) → lent ≡ s.ledger → own ≡ s.shard.index → Vouches kind lent.log s.shard.contents id (Ok tt)
+pub vouched : (kind : Kind) (s : ServedState) (lent new : LedgerState) (id : BlobId) (own : ℕ) (r : Reply) → lent ≡ s.ledger → own ≡ s.shard.index → Vouches kind lent.log s.shard.contents id (Ok tt)
     → ClaimEntered kind s.ledger own id r new → Vouched kind s id r new
 vouched kind s lent new id own r lends by vouches claimed =
-    let P : LedgerState → Type 0 = λ l. Vouches kind l.log s.shard.contents id (Ok tt) in
-    let Q : ℕ → Type 0 = λ n. ClaimEntered kind s.ledger n id r new in
-    asked r new (subst P lends vouches) (subst Q by claimed)
-
-pub vouched_ack : (s : ServedState) (lent new : LedgerState) (id : BlobId) (own : ℕ) (answer : AckAnswer) (r : Reply) → lent ≡ s.ledger → own ≡ s.shard.index
-    → Vouches Holds lent.log s.shard.contents id (Ok tt) → Acks s.ledger own id answer new → r ≡ ack_reply answer → Vouched Holds s id r new
-vouched_ack s lent new id own answer r lends by vouches acks is = vouched Holds s lent new id own r lends by vouches (answer, acks, is)
-
-pub vouched_attest : (s : ServedState) (lent new : LedgerState) (id : BlobId) (own : ℕ) (answer : AttestAnswer) (r : Reply) → lent ≡ s.ledger → own ≡ s.shard.index
-    → Vouches Denies lent.log s.shard.contents id (Ok tt) → Attests s.ledger own id answer new → r ≡ attest_reply answer → Vouched Denies s id r new
-vouched_attest s lent new id own answer r lends by vouches attests is = vouched Denies s lent new id own r lends by vouches (answer, attests, is)
+    asked r new (rw lends at vouches) (subst (λ (n : ℕ). ClaimEntered kind s.ledger n id r new) by claimed)
 
 -- entries of shards
 pub entered_none : (kind : Kind) (old : LedgerState) (shard : ℕ) (id : BlobId) (r : Reply) → r ≡ no_shard → (shard < committee_size old.log.f → ⊥) → Entered kind old shard id r old
-entered_none kind old shard id r is not = (let Q : Reply → Type 0 = λ q. Entered kind old shard id q old in subst Q (sym is) (of_none not))
-
-pub entered_ack : (old new : LedgerState) (shard : ℕ) (id : BlobId) (answer : AckAnswer) (r : Reply) → shard < committee_size old.log.f → Acks old shard id answer new → r ≡ ack_reply answer
-    → Entered Holds old shard id r new
-entered_ack old new shard id answer r here acks is = of_committee r new here (answer, acks, is)
-
-pub entered_attest : (old new : LedgerState) (shard : ℕ) (id : BlobId) (answer : AttestAnswer) (r : Reply) → shard < committee_size old.log.f → Attests old shard id answer new → r ≡ attest_reply answer
-    → Entered Denies old shard id r new
-entered_attest old new shard id answer r here attests is = of_committee r new here (answer, attests, is)
+entered_none kind old shard id r is not = rw is (of_none not)
 
 -- what the ledger answers, as a row of the table
 pub entry_row : (Makes : Reply → LedgerState → Type 0) (s : ServedState) (r : Reply) (ledger : LedgerState) → Makes r ledger
@@ -68,21 +44,16 @@ state_with shard ledger = record { shard = shard; ledger = ledger }
 pub forgets_done : (s : ServedState) (lent : LedgerState) (shard : ShardState) (id : BlobId) (r : Reply) → lent ≡ s.ledger → MayForget lent.log s.shard.contents id → r ≡ done 0
     → shard ≡ with_contents s.shard (without_slivers s.shard.contents id) → AnswersForget id s (reply_text r ∷ []) None (state_with shard s.ledger)
 forgets_done s lent shard id r lends may is gone =
-    let P : LedgerState → Type 0 = λ l. MayForget l.log s.shard.contents id in
-    let Q : Reply → Type 0 = λ q. Forgets s.ledger.log s.shard.contents id q (without_slivers s.shard.contents id) in
-    (r, without_slivers s.shard.contents id, subst Q (sym is) (forgotten (subst P lends may)), (refl, refl), ap (λ (z : ShardState). state_with z s.ledger) gone)
+    (r, without_slivers s.shard.contents id, rw is (forgotten (rw lends at may)), (refl, refl), ap (λ (z : ShardState). state_with z s.ledger) gone)
 
 pub forgets_not : (s : ServedState) (lent : LedgerState) (shard : ShardState) (id : BlobId) (r : Reply) → lent ≡ s.ledger → (MayForget lent.log s.shard.contents id → ⊥) → r ≡ refused 5
     → shard ≡ s.shard → AnswersForget id s (reply_text r ∷ []) None (state_with shard s.ledger)
 forgets_not s lent shard id r lends not is stays =
-    let P : LedgerState → Type 0 = λ l. MayForget l.log s.shard.contents id → ⊥ in
-    let Q : Reply → Type 0 = λ q. Forgets s.ledger.log s.shard.contents id q s.shard.contents in
-    (r, s.shard.contents, subst Q (sym is) (kept (subst P lends not)), (refl, refl), ap (λ (z : ShardState). state_with z s.ledger) stays)
+    (r, s.shard.contents, rw is (kept (rw lends at not)), (refl, refl), ap (λ (z : ShardState). state_with z s.ledger) stays)
 
 -- what is put; the ledger is lent
 pub gives_put : (digest : List ℕ → List ℕ) (may_want : Bool) (s : ServedState) (lent : LedgerState) (shard : ShardState) (x : Frame) (answer : PutAnswer) (outcome : Result Reply MetaClash) → lent ≡ s.ledger
     → PutsOrWants digest may_want (desk s.shard lent.log) s.shard.contents x answer shard.contents → outcome ≡ put_reply answer → ShowsTexts digest s.shard.contents x answer → shard ≡ with_contents s.shard shard.contents
     → AnswersPut digest may_want x s (outcome_text outcome ∷ []) (clash_in outcome) (state_with shard s.ledger)
 gives_put digest may_want s lent shard x answer outcome lends puts is shows same =
-    let P : LedgerState → Type 0 = λ l. PutsOrWants digest may_want (desk s.shard l.log) s.shard.contents x answer shard.contents in
-    (outcome, shard.contents, (answer, subst P lends puts, is, shows), (refl, refl), ap (λ (z : ShardState). state_with z s.ledger) same)
+    (outcome, shard.contents, (answer, rw lends at puts, is, shows), (refl, refl), ap (λ (z : ShardState). state_with z s.ledger) same)

@@ -1,5 +1,5 @@
 -- Bytes that are taken in pieces.
-use Rattle.std.proofs.Common.{◌≡◌, ℕ, ◌+◌, ◌-◌, ◌^◌, ◌<◌, ◌≤◌, inl, inr, List, [], ◌∷◌, ◌++◌, length, take, drop, Option, refl, sym, ap, subst, ◌∙◌, append_assoc, append-nil, arith}
+use Rattle.std.proofs.Common.{◌≡◌, ℕ, ◌+◌, ◌-◌, ◌<◌, ◌≤◌, inl, inr, List, [], ◌∷◌, ◌++◌, length, take, drop, Option, refl, sym, ap, subst, ◌∙◌, append_assoc, append-nil, arith}
 use Rattle.std.specs.Io.KnownBytes.{Consumes, Keeps, IsAtEnd}
 use Rattle.std.proofs.KnownBytes.{Consumes-trans, Consumes-kept, Consumes-nil}
 use Rattle.std.proofs.lemmas.List.{length-append, length-drop, nil_from_length}
@@ -15,11 +15,6 @@ use Rattle.wal_serve.specs.inside.Taking.{Takes, whole, ended, too_long, failed}
 pub rose_since : (a b c : ℕ) → a ≤ b → Rose b c → Rose a c
 rose_since a b c le (inl rose) = inl (omega arith)
 rose_since a b c le (inr last) = inr last
-
--- a count that rose and then did not fall rose
-pub rose_before : (a b c : ℕ) → b ≤ c → c ≤ 2 ^ 64 - 1 → Rose a b → Rose a c
-rose_before a b c le most (inl rose) = inl (omega arith)
-rose_before a b c le most (inr last) = inr (omega arith)
 
 -- the source ended behind what was taken
 pub ends_behind : (a b c : Option (List ℕ)) (Up : Type 0) (size most : ℕ) (got piece : List ℕ) → Consumes a b got → Consumes b c piece → length piece ≡ 0
@@ -43,8 +38,7 @@ takes_past a b c Late Up size most _ front _ first long less up (ended got more 
 takes_past a b c Late Up size most _ front _ first long less up (too_long got x more few within) =
     let joined : (front ++ got) ++ x ∷ [] ≡ front ++ (got ++ x ∷ []) = append_assoc front got (x ∷ []) in
     let all = subst (Consumes a c) (sym joined) (Consumes-trans a b c front (got ++ x ∷ []) first more) in
-    let P : List ℕ → Type 0 = λ t. Takes a c Up size most TooLong t in
-    subst P joined (too_long (front ++ got) x all (omega (arith, length-append front got)) (omega (arith, length-append front got)))
+    rw (← joined) (too_long (front ++ got) x all (omega (arith, length-append front got)) (omega (arith, length-append front got)))
 takes_past a b c Late Up size most _ front _ first long less up (failed got more few within late) =
     failed (front ++ got) (Consumes-trans a b c front got first more) (omega (arith, length-append front got)) (omega (arith, length-append front got)) (up late)
 
@@ -53,21 +47,13 @@ pub took_whole : (a b : Option (List ℕ)) (Up : Type 0) (size most : ℕ) (took
 took_whole a b Up size most _ _ is (whole got more all within) = (more, all, within)
 took_whole a b Up size most _ _ is takes = absurd cc
 
--- what was not taken whole where fewer bytes may be taken is the same where more are wanted
-pub took_less : (a b : Option (List ℕ)) (Up : Type 0) (size more : ℕ) (took : Took) (got : List ℕ) → (took ≡ Whole → ⊥) → size ≤ more → Takes a b Up size size took got
-    → Takes a b Up more size took got
-took_less a b Up size more _ _ not le (whole got m all within) = absurd (not refl)
-took_less a b Up size more _ _ not le (ended got m few within end) = ended got m (omega arith) within end
-took_less a b Up size more _ _ not le (too_long got x m few within) = absurd (omega arith)
-took_less a b Up size more _ _ not le (failed got m few within up) = failed got m (omega arith) within up
-
--- and where more may be taken
-pub took_within : (a b : Option (List ℕ)) (Up : Type 0) (size most : ℕ) (took : Took) (got : List ℕ) → size ≤ most → Takes a b Up size size took got
-    → Takes a b Up size most took got
-took_within a b Up size most _ _ le (whole got m all within) = whole got m all le
-took_within a b Up size most _ _ le (ended got m few within end) = ended got m few (omega arith) end
-took_within a b Up size most _ _ le (too_long got x m few within) = absurd (omega arith)
-took_within a b Up size most _ _ le (failed got m few within up) = failed got m few (omega arith) up
+-- what was taken of so many bytes is the same where more may be taken, and where more are wanted if not all were taken
+pub took_of : (a b : Option (List ℕ)) (Up : Type 0) (size more most : ℕ) (took : Took) (got : List ℕ) → size ≤ more → size ≤ most
+    → (took ≡ Whole → more ≡ size) → Takes a b Up size size took got → Takes a b Up more most took got
+took_of a b Up size more most _ _ le within same (whole got m all few) = (let is = same refl in whole got m (omega arith) (omega arith))
+took_of a b Up size more most _ _ le within same (ended got m few room end) = ended got m (omega arith) (omega arith) end
+took_of a b Up size more most _ _ le within same (too_long got x m few room) = absurd (omega arith)
+took_of a b Up size more most _ _ le within same (failed got m few room up) = failed got m (omega arith) (omega arith) up
 
 -- ---- pieces in a slice
 
@@ -93,15 +79,6 @@ written_long done into piece same = same_len_mid done (length into - done) into 
 pub rest_long : (done : ℕ) (into : List ℕ) → length (take (length into - done) (drop done into)) ≡ length into - done
 rest_long done into = length-take-le (length into - done) (drop done into) (omega (arith, length-drop done into))
 
-pub ended_not_whole : Ended ≡ Whole → ⊥
-ended_not_whole is = cc
-
-pub too_long_not_whole : TooLong ≡ Whole → ⊥
-too_long_not_whole is = cc
-
-pub failed_not_whole : Failed ≡ Whole → ⊥
-failed_not_whole is = cc
-
 -- the whole slice was filled
 pub taken_whole : (a b : Option (List ℕ)) (Up : Type 0) (done : ℕ) (into : List ℕ) → done ≤ length into → length into ≤ done → Consumes a b (take done into)
     → (got : List ℕ) × Takes a b Up (length into) (length into) Whole got × (Whole ≡ Whole → into ≡ got)
@@ -118,8 +95,7 @@ front_long most into front same le = omega (arith, same, length-take-le most int
 -- it ends the source
 pub past_ends : (a c : Option (List ℕ)) (Up : Type 0) (n : ℕ) (piece : List ℕ) → Consumes a c (take n piece) → n ≡ length (take n piece) → n ≡ 0 → IsAtEnd c → Takes a c Up 1 0 Ended []
 past_ends a c Up n piece next count none end =
-    let nil : take n piece ≡ [] = nil_from_length (take n piece) (omega (arith, count, none)) in
-    ended [] (subst (Consumes a c) nil next) (omega arith) (omega arith) end
+    ended [] (subst (Consumes a c) (nil_from_length (take n piece) (omega (arith, count, none))) next) (omega arith) (omega arith) end
 
 -- it is there
 pub past_more : (a c : Option (List ℕ)) (Up : Type 0) (n : ℕ) (piece : List ℕ) → Consumes a c (take n piece) → n ≤ length piece → (n ≡ 0 → ⊥) → length piece ≡ 1
@@ -132,21 +108,3 @@ past_more a c Up n piece next le some one = absurd (omega (arith, one))
 -- the read failed
 pub past_fails : (a c : Option (List ℕ)) (Up : Type 0) → Keeps a c → Up → Takes a c Up 1 0 Failed []
 past_fails a c Up kept up = failed [] (Consumes-kept a a c [] (Consumes-nil a) kept) (omega arith) (omega arith) up
-
-pub past_not_whole : (a b : Option (List ℕ)) (Up : Type 0) (t : Took) (got : List ℕ) → Takes a b Up 1 0 t got → t ≡ Whole → ⊥
-past_not_whole a b Up t got takes is = (let all = took_whole a b Up 1 0 t got is takes in omega (arith, all.2))
-
-pub took_less_at : (a b : Option (List ℕ)) (Up : Type 0) (long most more : ℕ) (took : Took) (got : List ℕ) → long ≡ most → (took ≡ Whole → ⊥) → most ≤ more → Takes a b Up long long took got
-    → Takes a b Up more most took got
-took_less_at a b Up long most more took got same not le takes =
-    let P : ℕ → Type 0 = λ n. Takes a b Up n n took got in
-    took_less a b Up most more took got not le (subst P same takes)
-
-pub not_ended : (t : Took) → t ≡ Ended → t ≡ Whole → ⊥
-not_ended t is all = cc
-
-pub not_too_long : (t : Took) → t ≡ TooLong → t ≡ Whole → ⊥
-not_too_long t is all = cc
-
-pub not_failed : (t : Took) → t ≡ Failed → t ≡ Whole → ⊥
-not_failed t is all = cc

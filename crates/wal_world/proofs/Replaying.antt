@@ -1,11 +1,11 @@
 -- Replays, event by event.
-use Rattle.std.proofs.Common.{◌≡◌, ℕ, zero, suc, ◌+◌, ◌<◌, ◌≤◌, ◌⊎◌, inl, inr, List, [], ◌∷◌, ◌++◌, length, length-append, take, drop, take-append-drop, append_assoc, get_or, Bool, true, false, Option, Some, None, Result, Ok, Err, IsErrAnd, refl, sym, ap, subst, ◌∙◌, append-nil, arith}
+use Rattle.std.proofs.Common.{◌≡◌, ℕ, zero, suc, ◌+◌, ◌<◌, ◌≤◌, inl, inr, List, [], ◌∷◌, ◌++◌, length, length-append, take, drop, take-append-drop, append_assoc, get_or, Bool, true, false, Option, Result, Ok, Err, IsErrAnd, refl, sym, ap, subst, ◌∙◌, append-nil, arith}
 use Rattle.std.proofs.Math.Seq.{take-append-add}
-use Rattle.std.proofs.KnownBytes.{Appends-nil, Appends-trans}
+use Rattle.std.proofs.KnownBytes.{Appends-kept, Appends-nil, Appends-trans}
 use Rattle.std.proofs.lemmas.Grind.{flat_map-append}
 use Rattle.std.proofs.lemmas.List.{length-take, take_all, take_more}
 use Rattle.std.specs.List.{AllByRecursion}
-use Rattle.std.specs.Io.KnownBytes.{Appends, Keeps}
+use Rattle.std.specs.Io.KnownBytes.{Appends}
 use Rattle.wal_event.specs.Event.{IsSchedule, IsEventWithin}
 use Rattle.wal_event.specs.declared.event.Event.{Event}
 use Rattle.wal_event.specs.declared.event.Schedule.{Schedule}
@@ -19,7 +19,7 @@ use Rattle.wal_protocol.specs.Rules.{Rules}
 use Rattle.wal_protocol.specs.Step.{Steps}
 use Rattle.wal_protocol.specs.Run.{first_state, is_collision, GoesOn, Runs}
 use Rattle.wal_theorem.specs.Instance.{rules_of}
-use Rattle.wal_theorem.specs.Lines.{AreLines, AreFirstLines, EndsInCollision, IsUnfinished, front_of}
+use Rattle.wal_theorem.specs.Lines.{AreLines, AreFirstLines, EndsInCollision, front_of}
 use Rattle.wal_world.specs.Ending.{Replays}
 use Rattle.wal_world.specs.inside.Ending.{Takes}
 use Rattle.wal_world.specs.declared.run.ReplayEnd.{ReplayEnd}
@@ -30,47 +30,57 @@ use Rattle.wal_protocol.proofs.Agreement.{last}
 use Rattle.wal_protocol.proofs.RunLaws.{goes_on_push, last_push, runs_each, runs_push, runs_stop}
 use Rattle.wal_theorem.proofs.Headline.{run_safe, run_recovers}
 
--- what stands after the first events, where none of their lines is a collision: a run of them that led to this state, and its report
-pub record IsReplaying (r : Rules) (schedule : Schedule) (count : ℕ) (old now : Option (List ℕ)) (w : World) : Type 0 where
+-- what stands after the first events, where none of their lines is a collision: a run of them that led to this state
+pub record IsRunning (r : Rules) (schedule : Schedule) (count : ℕ) (w : World) : Type 0 where
   pub states : List World
   pub lines : List Line
   pub runs : Runs r (first_state schedule) (take count schedule.events) states lines
   pub goes_on : GoesOn lines
   pub at : last (first_state schedule) states ≡ w
-  pub wrote : Appends old now (report_of lines)
+
+-- and its report
+pub record IsReplaying (r : Rules) (schedule : Schedule) (count : ℕ) (old now : Option (List ℕ)) (w : World) : Type 0 where
+  pub run : IsRunning r schedule count w
+  pub wrote : Appends old now (report_of run.lines)
 
 -- a count that rose since a later moment rose since an earlier one
 pub rose_since : (a b c : ℕ) → a ≤ b → Rose b c → Rose a c
-rose_since a b c less (inl more) = inl (omega (arith, less, more))
+rose_since a b c less (inl more) = inl (omega arith)
 rose_since a b c less (inr most) = inr most
-
-appends_kept : (a b c : Option (List ℕ)) (text : List ℕ) → Appends a b text → Keeps b c → Appends a c text
-appends_kept None b c text put kept = tt
-appends_kept (Some x) (Some y) (Some z) text put kept = kept ∙ put
-appends_kept a b c text put kept = absurd assumption
 
 report_push : (lines : List Line) (said : Line) → report_of (lines ++ said ∷ []) ≡ report_of lines ++ line_text said
 report_push lines said = flat_map-append line_text lines (said ∷ []) ∙ ap (λ t. report_of lines ++ t) (append-nil (line_text said))
 
-module _ (r : Rules) (s : Schedule) (old : Option (List ℕ)) where
-  pub replaying_first : (w : World) → w ≡ first_state s → IsReplaying r s 0 old old w
-  replaying_first w same = record { states = []; lines = []; runs = tt; goes_on = tt; at = sym same; wrote = Appends-nil old }
+module _ (r : Rules) (s : Schedule) where
+  abbrev pub running_first : (w : World) → w ≡ first_state s → IsRunning r s 0 w
+  running_first w same = record { states = []; lines = []; runs = tt; goes_on = tt; at = sym same }
 
   -- one more event was taken
+  abbrev pub running_more : (count : ℕ) (event : Event) (said : Line) (w new : World) → IsRunning r s count w → take (count + 1) s.events ≡ take count s.events ++ event ∷ []
+      → Steps r w event said new → is_collision said ≡ false → IsRunning r s (count + 1) new
+  running_more count event said w new is grows step goes = record {
+    states = is.states ++ new ∷ [];
+    lines = is.lines ++ said ∷ [];
+    runs = subst (λ (events : List Event). Runs r (first_state s) events (is.states ++ new ∷ []) (is.lines ++ said ∷ [])) (sym grows)
+        (runs_push r (first_state s) (take count s.events) is.states is.lines event said new is.runs is.goes_on (subst (λ (x : World). Steps r x event said new) (sym is.at) step));
+    goes_on = goes_on_push is.lines said is.goes_on goes;
+    at = last_push (first_state s) is.states new;
+  }
+
+module _ (r : Rules) (s : Schedule) (old : Option (List ℕ)) where
+  pub replaying_first : (w : World) → w ≡ first_state s → IsReplaying r s 0 old old w
+  replaying_first w same = record { run = running_first r s w same; wrote = Appends-nil old }
+
+  -- one more event was taken, and its line written
   pub replaying_more : (count : ℕ) (event : Event) (mid now : Option (List ℕ)) (w new : World) (Late : Type 0) (stops : Bool) → IsReplaying r s count old mid w
       → take (count + 1) s.events ≡ take count s.events ++ event ∷ [] → Takes r w event new mid now Late (Ok stops) → stops ≡ false → IsReplaying r s (count + 1) old now new
   replaying_more count event mid now w new Late stops is grows t goes = record {
-    states = is.states ++ new ∷ [];
-    lines = is.lines ++ t.0 ∷ [];
-    runs = subst (λ (events : List Event). Runs r (first_state s) events (is.states ++ new ∷ []) (is.lines ++ t.0 ∷ [])) (sym grows)
-        (runs_push r (first_state s) (take count s.events) is.states is.lines event t.0 new is.runs is.goes_on (subst (λ (x : World). Steps r x event t.0 new) (sym is.at) t.1));
-    goes_on = goes_on_push is.lines t.0 is.goes_on (t.2 ∙ goes);
-    at = last_push (first_state s) is.states new;
-    wrote = subst (Appends old now) (sym (report_push is.lines t.0)) (Appends-trans old mid now (report_of is.lines) (line_text t.0) is.wrote t.3);
+    run = running_more r s count event t.0 w new is.run grows t.1 (t.2 ∙ goes);
+    wrote = subst (Appends old now) (sym (report_push is.run.lines t.0)) (Appends-trans old mid now (report_of is.run.lines) (line_text t.0) is.wrote t.3);
   }
 
 -- a run of the schedule is its lines
-are_lines : (digest : List ℕ → List ℕ) → ((text : List ℕ) → length (digest text) ≡ 32) → (s : Schedule) → IsSchedule s → (states : List World) (lines : List Line)
+pub are_lines : (digest : List ℕ → List ℕ) → ((text : List ℕ) → length (digest text) ≡ 32) → (s : Schedule) → IsSchedule s → (states : List World) (lines : List Line)
     → Runs (rules_of digest s.f) (first_state s) s.events states lines → AreLines digest s lines
 are_lines digest size s fit states lines run = record {
   states = states;
@@ -110,36 +120,38 @@ more_events s count event grows =
     let longer : length (take (count + 1) s.events) ≡ length (take count s.events ++ event ∷ []) = ap (λ (l : List Event). length l) grows in
     omega (arith, longer, length-append (take count s.events) (event ∷ []), length-take (count + 1) s.events, length-take count s.events)
 
-unfinished : (r : Rules) (s : Schedule) (count : ℕ) (states : List World) (lines : List Line) → Runs r (first_state s) (take count s.events) states lines → GoesOn lines
-    → count < length s.events → IsUnfinished s lines
-unfinished r s count states lines run on more =
-    inl (omega (arith, runs_each r (first_state s) (take count s.events) states lines run on, length-take count s.events, more))
+module _ (digest : List ℕ → List ℕ) (size : (text : List ℕ) → length (digest text) ≡ 32) (s : Schedule) (fit : IsSchedule s) where
+  abbrev r : Rules
+  r = rules_of digest s.f
 
-module _ (digest : List ℕ → List ℕ) (size : (text : List ℕ) → length (digest text) ≡ 32) (s : Schedule) (fit : IsSchedule s) (old : Option (List ℕ)) where
   -- all events were taken
-  pub replays_whole : (count : ℕ) (now : Option (List ℕ)) (w : World) (SinkRose : Type 0) → IsReplaying (rules_of digest s.f) s count old now w → take count s.events ≡ s.events
-      → Replays digest s old now SinkRose (Ok ending.Whole)
-  replays_whole count now w SinkRose is all =
-      let run = subst (λ (events : List Event). Runs (rules_of digest s.f) (first_state s) events is.states is.lines) all is.runs in
-      (is.lines, are_lines digest size s fit is.states is.lines run, is.goes_on, is.wrote)
+  pub run_whole : (count : ℕ) (w : World) (is : IsRunning r s count w) → take count s.events ≡ s.events → AreLines digest s is.lines
+  run_whole count w is all = are_lines digest size s fit is.states is.lines (subst (λ (events : List Event). Runs r (first_state s) events is.states is.lines) all is.runs)
 
   -- the last one gave a collision
+  abbrev pub run_stopped : (count : ℕ) (event : Event) (rest : List Event) (said : Line) (w new : World) (is : IsRunning r s count w) → s.events ≡ take count s.events ++ event ∷ rest
+      → Steps r w event said new → is_collision said ≡ true → AreLines digest s (is.lines ++ said ∷ []) × EndsInCollision (is.lines ++ said ∷ [])
+  run_stopped count event rest said w new is split step stops =
+      let states = is.states ++ new ∷ [] in
+      let lines = is.lines ++ said ∷ [] in
+      let at = subst (λ (x : World). Steps r x event said new) (sym is.at) step in
+      let runs = runs_stop r (first_state s) (take count s.events) is.states is.lines event rest said new is.runs is.goes_on at stops in (
+        are_lines digest size s fit states lines (subst (λ (events : List Event). Runs r (first_state s) events states lines) (sym split) runs),
+        record { front = is.lines; said = said; whole = refl; collision = stops; goes_on = is.goes_on },
+      )
+
+module _ (digest : List ℕ → List ℕ) (size : (text : List ℕ) → length (digest text) ≡ 32) (s : Schedule) (fit : IsSchedule s) (old : Option (List ℕ)) where
+  pub replays_whole : (count : ℕ) (now : Option (List ℕ)) (w : World) (SinkRose : Type 0) → IsReplaying (rules_of digest s.f) s count old now w → take count s.events ≡ s.events
+      → Replays digest s old now SinkRose (Ok ending.Whole)
+  replays_whole count now w SinkRose is all = (is.run.lines, run_whole digest size s fit count w is.run all, is.run.goes_on, is.wrote)
+
   pub replays_stopped : (count : ℕ) (event : Event) (rest : List Event) (mid now : Option (List ℕ)) (w new : World) (Late SinkRose : Type 0) (stops : Bool)
       → IsReplaying (rules_of digest s.f) s count old mid w → s.events ≡ take count s.events ++ event ∷ rest → Takes (rules_of digest s.f) w event new mid now Late (Ok stops) → stops ≡ true
       → Replays digest s old now SinkRose (Ok ending.Collision)
   replays_stopped count event rest mid now w new Late SinkRose stops is split t is_stop =
-      let r = rules_of digest s.f in
-      let step = subst (λ (x : World). Steps r x event t.0 new) (sym is.at) t.1 in
-      let states = is.states ++ new ∷ [] in
-      let lines = is.lines ++ t.0 ∷ [] in
-      let runs = runs_stop r (first_state s) (take count s.events) is.states is.lines event rest t.0 new is.runs is.goes_on step (t.2 ∙ is_stop) in
-      let run = subst (λ (events : List Event). Runs r (first_state s) events states lines) (sym split) runs in
-      let wrote = Appends-trans old mid now (report_of is.lines) (line_text t.0) is.wrote t.3 in (
-        lines,
-        are_lines digest size s fit states lines run,
-        record { front = is.lines; said = t.0; whole = refl; collision = t.2 ∙ is_stop; goes_on = is.goes_on },
-        subst (Appends old now) (sym (report_push is.lines t.0)) wrote,
-      )
+      let h = run_stopped digest size s fit count event rest t.0 w new is.run split t.1 (t.2 ∙ is_stop) in
+      let wrote = Appends-trans old mid now (report_of is.run.lines) (line_text t.0) is.wrote t.3 in
+      (is.run.lines ++ t.0 ∷ [], h.0, h.1, subst (Appends old now) (sym (report_push is.run.lines t.0)) wrote)
 
 -- a part of the second of two texts, after the first
 part_after : (a b c : Option (List ℕ)) (first second : List ℕ) → Appends a b first → AppendsPart b c second → AppendsPart a c (first ++ second)
@@ -153,24 +165,25 @@ module _ (digest : List ℕ → List ℕ) (size : (text : List ℕ) → length (
       → IsReplaying (rules_of digest s.f) s count old mid w → take (count + 1) s.events ≡ take count s.events ++ event ∷ [] → Takes (rules_of digest s.f) w event new mid now Late (Err e) → (Late → SinkRose)
       → Replays digest s old now SinkRose (Err e)
   replays_failed count event mid now w new Late SinkRose failing.Memory is grows kept since =
-      let more = more_events s count event grows in (
-        is.lines,
-        first_lines digest size s fit count (omega (arith, more)) is.states is.lines is.runs,
-        is.goes_on,
-        unfinished (rules_of digest s.f) s count is.states is.lines is.runs is.goes_on more,
-        appends_kept old mid now (report_of is.lines) is.wrote kept,
+      let more = more_events s count event grows in
+      let run = is.run in (
+        run.lines,
+        first_lines digest size s fit count (omega (arith, more)) run.states run.lines run.runs,
+        run.goes_on,
+        inl (omega (arith, runs_each (rules_of digest s.f) (first_state s) (take count s.events) run.states run.lines run.runs run.goes_on, length-take count s.events, more)),
+        Appends-kept old mid now (report_of run.lines) is.wrote kept,
       )
   replays_failed count event mid now w new Late SinkRose failing.WriteFault is grows t since =
       let r = rules_of digest s.f in
-      let step = subst (λ (x : World). Steps r x event t.0 t.1) (sym is.at) t.2 in
-      let states = is.states ++ t.1 ∷ [] in
-      let lines = is.lines ++ t.0 ∷ [] in
-      let runs = runs_push r (first_state s) (take count s.events) is.states is.lines event t.0 t.1 is.runs is.goes_on step in
-      let part = part_after old mid now (report_of is.lines) (line_text t.0) is.wrote t.4 in (
+      let step = subst (λ (x : World). Steps r x event t.0 t.1) (sym is.run.at) t.2 in
+      let states = is.run.states ++ t.1 ∷ [] in
+      let lines = is.run.lines ++ t.0 ∷ [] in
+      let runs = runs_push r (first_state s) (take count s.events) is.run.states is.run.lines event t.0 t.1 is.run.runs is.run.goes_on step in
+      let part = part_after old mid now (report_of is.run.lines) (line_text t.0) is.wrote t.4 in (
         lines,
         first_lines digest size s fit (count + 1) (omega (arith, more_events s count event grows)) states lines (subst (λ (events : List Event). Runs r (first_state s) events states lines) (sym grows) runs),
         since t.3,
-        subst (AppendsPart old now) (sym (report_push is.lines t.0)) part,
+        subst (AppendsPart old now) (sym (report_push is.run.lines t.0)) part,
       )
 
 -- a line that was written in part
@@ -179,18 +192,15 @@ pub taken_in_part : (r : Rules) (old : World) (event : Event) (new : World) (bef
     → Takes r old event new before after Late result
 taken_in_part r old event new before after Late (Ok x) said text shown cause step told lent rose part = absurd cause
 taken_in_part r old event new before after Late (Err e) said text shown cause step told lent rose part =
-    let Of : ReplayError → Type 0 = λ x. Takes r old event new before after Late (Err x) in
-    let Part : List ℕ → Type 0 = λ t. AppendsPart before after t in
-    let line : AppendsPart before after (line_text said) = subst Part (lent ∙ told) part in
-    subst Of (sym cause) (said, new, step, rose, line)
+    let line : AppendsPart before after (line_text said) = subst (λ (t : List ℕ). AppendsPart before after t) (lent ∙ told) part in
+    subst (λ (x : ReplayError). Takes r old event new before after Late (Err x)) (sym cause) (said, new, step, rose, line)
 
 -- nothing was taken
 pub replays_nothing : (digest : List ℕ → List ℕ) → ((text : List ℕ) → length (digest text) ≡ 32) → (s : Schedule) → IsSchedule s → (old : Option (List ℕ)) (SinkRose : Type 0) (result : Result ReplayEnd ReplayError)
     → IsErrAnd result (λ e. e ≡ failing.Memory) → Replays digest s old old SinkRose result
 replays_nothing digest size s fit old SinkRose (Ok x) cause = absurd cause
 replays_nothing digest size s fit old SinkRose (Err e) cause =
-    let Of : ReplayError → Type 0 = λ x. Replays digest s old old SinkRose (Err x) in
-    subst Of (sym cause) ([], first_lines digest size s fit 0 (omega arith) [] [] tt, tt, inr refl, Appends-nil old)
+    subst (λ (x : ReplayError). Replays digest s old old SinkRose (Err x)) (sym cause) ([], first_lines digest size s fit 0 (omega arith) [] [] tt, tt, inr refl, Appends-nil old)
 
 -- an event among others is in range
 event_within : (n : ℕ) (front rest : List Event) (event : Event) → AllByRecursion (IsEventWithin n) (front ++ event ∷ rest) → IsEventWithin n event
@@ -209,10 +219,8 @@ pub record IsEventAt (events : List Event) (i : ℕ) (event : Event) : Type 0 wh
 
 pub event_at : (events items : List Event) (i : ℕ) (event : Event) → items ≡ events → i < length items → event ≡ get_or items i event → IsEventAt events i event
 event_at events items i event same below is =
-    let At : List Event → Type 0 = λ l. get_or l i event ≡ event in
-    let here : get_or events i event ≡ event = subst At same (sym is) in
-    let Below : List Event → Type 0 = λ l. i < length l in
-    let less : i < length events = subst Below same below in
+    let here = subst (λ (l : List Event). get_or l i event ≡ event) same (sym is) in
+    let less = subst (λ (l : List Event). i < length l) same below in
     record {
       split = events_split events i event less ∙ ap (λ (x : Event). take i events ++ x ∷ drop (i + 1) events) here;
       grows = take_more events i event less ∙ ap (λ (x : Event). take i events ++ x ∷ []) here;
@@ -220,27 +228,23 @@ event_at events items i event same below is =
 
 pub within_schedule : (s : Schedule) (f i : ℕ) (event : Event) → IsSchedule s → f ≡ s.f → IsEventAt s.events i event → IsEventWithin (committee_size f) event
 within_schedule s f i event fit same at =
-    let All : List Event → Type 0 = λ events. AllByRecursion (IsEventWithin (committee_size s.f)) events in
-    let Fits : ℕ → Type 0 = λ n. IsEventWithin (committee_size n) event in
-    subst Fits (sym same) (event_within (committee_size s.f) (take i s.events) (drop (i + 1) s.events) event (subst All at.split fit.each))
+    let each = subst (λ (l : List Event). AllByRecursion (IsEventWithin (committee_size s.f)) l) at.split fit.each in
+    subst (λ (n : ℕ). IsEventWithin (committee_size n) event) (sym same) (event_within (committee_size s.f) (take i s.events) (drop (i + 1) s.events) event each)
 
 -- all events
 pub all_events : (events items : List Event) (i : ℕ) → items ≡ events → length items ≤ i → take i events ≡ events
 all_events events items i same past =
-    let All : List Event → Type 0 = λ l. take i l ≡ l in
-    subst All same (take_all i items past)
+    subst (λ (l : List Event). take i l ≡ l) same (take_all i items past)
 
 -- the same by the committee's own number of faults
 pub takes_as : (digest : List ℕ → List ℕ) (f g : ℕ) (w : World) (event : Event) (new : World) (mid now : Option (List ℕ)) (Late : Type 0) (result : Result Bool ReplayError)
     → f ≡ g → Takes (rules_of digest f) w event new mid now Late result → Takes (rules_of digest g) w event new mid now Late result
 takes_as digest f g w event new mid now Late result same t =
-    let Of : ℕ → Type 0 = λ n. Takes (rules_of digest n) w event new mid now Late result in
-    subst Of same t
+    subst (λ (n : ℕ). Takes (rules_of digest n) w event new mid now Late result) same t
 
 -- the same by what a failure is passed on as
 pub replays_as : (digest : List ℕ → List ℕ) (s : Schedule) (old now : Option (List ℕ)) (SinkRose : Type 0) (result : Result ReplayEnd ReplayError) (e : ReplayError)
     → IsErrAnd result (λ x. x ≡ e) → Replays digest s old now SinkRose (Err e) → Replays digest s old now SinkRose result
 replays_as digest s old now SinkRose (Ok x) e cause r = absurd cause
 replays_as digest s old now SinkRose (Err x) e cause r =
-    let Of : ReplayError → Type 0 = λ y. Replays digest s old now SinkRose (Err y) in
-    subst Of (sym cause) r
+    subst (λ (y : ReplayError). Replays digest s old now SinkRose (Err y)) (sym cause) r

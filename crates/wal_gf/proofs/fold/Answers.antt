@@ -1,7 +1,7 @@
-use Rattle.std.proofs.Common.{◌≡◌, ℕ, ◌+◌, ◌*◌, ◌/◌, ◌%◌, ◌^◌, ◌<◌, ◌≤◌, T, eqb, eqb→eq, bit_xor, bit_and, ap, ap₂, ◌∙◌, arith, rules, pow_mono, pow-add, mul_comm}
+use Rattle.std.proofs.Common.{◌≡◌, ℕ, ◌+◌, ◌*◌, ◌/◌, ◌%◌, ◌^◌, ◌<◌, ◌≤◌, bit_xor, bit_and, ap, ap₂, ◌∙◌, arith, rules, pow_mono, pow-add, mul_comm}
 use Rattle.std.proofs.lemmas.Nat.{and_mask, xor_lt, xor_mod, xor_shr}
 use Rattle.wal_gf.specs.Field.{cancel, remainder}
-use Rattle.wal_gf.proofs.Additive.{IsAdditive, shift-additive, sum-additive, same_by_powers, all_below, all_below-at}
+use Rattle.wal_gf.proofs.Additive.{IsAdditive, shift-additive, sum-additive, same_by_table, all_below}
 use Rattle.wal_gf.proofs.Products.{remainder-xor}
 use Rattle.wal_gf.proofs.fold.Goals as goal
 
@@ -27,16 +27,11 @@ folded-additive =
     (high-additive 3))
     (high-additive 12)
 
-fold_check : T (all_below 32 (λ i. eqb (remainder 16 (folded (2 ^ i))) (remainder 16 (2 ^ i))))
-unfolding all_below folded remainder cancel
-fold_check = tt
-
 folded-remainder : (p : ℕ) → p < 2 ^ 32 → remainder 16 (folded p) ≡ remainder 16 p
+unfolding all_below folded remainder cancel
 folded-remainder =
-    same_by_powers 32 (λ p. remainder 16 (folded p)) (remainder 16)
-    (λ a b. ap (remainder 16) (folded-additive a b) ∙ remainder-xor 16 (folded a) (folded b))
-    (remainder-xor 16)
-    (λ i within. eqb→eq _ _ (all_below-at 32 (λ i. eqb (remainder 16 (folded (2 ^ i))) (remainder 16 (2 ^ i))) fold_check i within))
+    same_by_table 32 (λ p. remainder 16 (folded p)) (remainder 16)
+    (λ a b. rw (folded-additive a b) (remainder-xor 16 (folded a) (folded b))) (remainder-xor 16) tt
 
 masked : (p : ℕ) → bit_xor (bit_xor (bit_xor (bit_xor (bit_and p 65535) (p / 65536)) (p / 65536 * 2 % 4294967296)) (p / 65536 * 8 % 4294967296)) (p / 65536 * 4096 % 4294967296) ≡ folded p
 unfolding folded

@@ -18,19 +18,12 @@ climb-init g c =
       within = omega (arith, c.requires.place, length-leaves digest count c.args.size c.args.content.now);
     }
 
-pub sibling_in-requires-clause-whole : goal.sibling_in-requires-clause-whole
-sibling_in-requires-clause-whole g c =
+pub sibling_in-requires : goal.sibling_in-requires
+sibling_in-requires g c =
     let digest = g.H.Hash32.digest in
     let entries = leaves digest (length c.args.content.now / c.args.size) c.args.size c.args.content.now in
     let is = level_at digest entries c.args.levels.now c.climb.level c.index-levels-level.result c.as_slice.result.now c.requires.levels.first c.climb-test.true c.index-levels-level.is c.as_slice.ensures in
-    omega (arith, is.long)
-
-pub sibling_in-requires-clause-place : goal.sibling_in-requires-clause-place
-sibling_in-requires-clause-place g c =
-    let digest = g.H.Hash32.digest in
-    let entries = leaves digest (length c.args.content.now / c.args.size) c.args.size c.args.content.now in
-    let is = level_at digest entries c.args.levels.now c.climb.level c.index-levels-level.result c.as_slice.result.now c.requires.levels.first c.climb-test.true c.index-levels-level.is c.as_slice.ensures in
-    omega (arith, is.long, c.climb.invariant.within)
+    record { whole = omega (arith, is.long); place = omega (arith, is.long, c.climb.invariant.within) }
 
 pub climb-preserved : goal.climb-preserved
 climb-preserved g c =

@@ -1,9 +1,8 @@
 -- Each point other than the given one adds its difference to the product.
 use Rattle.std.proofs.Common.{◌∙◌, sym, ap, ℕ, List, ◌<◌, get_or, lit<, arith}
-use Rattle.wal_gf.specs.declared.Gf.{Gf}
-use Rattle.wal_gf.proofs.Products.{one-times}
+use Rattle.wal_gf.proofs.Products.{one-times, times-one}
 use Rattle.wal_code.specs.Weights.{product_of_others}
-use Rattle.wal_code.proofs.Differences.{product_of_others-lt, taken, left_out, whole}
+use Rattle.wal_code.proofs.Differences.{product_of_others-lt, other-same, other-other, taken, whole}
 use Rattle.wal_code.proofs.Points.{words_of}
 use Rattle.wal_code.proofs.Words.{product_of_others-own}
 use Rattle.wal_code.proofs.weights.product_of_others.Goals as goal
@@ -15,19 +14,17 @@ loop-q-init c = (lit< tt, one-times _ (product_of_others-lt c.args.known.now c.a
 pub loop-q-preserved : goal.loop-q-preserved
 loop-q-preserved c =
     let known : List ℕ = c.args.known.now in
-    let i : ℕ = c.loop-q.q-index in
+    let q : ℕ = get_or known c.loop-q.q-index 0 in
     let p : ℕ = c.args.point in
     let w : ℕ = c.args.wanted in
-    let word : get_or known i 0 < 65536 = omega (arith, c.type_inv.known i) in
-    elim c.if-q-point.branch [
-      | then-q-point b ↦
-          taken known i p w c.loop-q.product.0 c.if-q-point.product.0 (product_of_others known p w) (omega arith) word
-          c.loop-q-test.true (λ e. b.if-q-point.true (sym e)) (ap (λ (g : Gf). g.0) b.product-is ∙ b.mul-product.ensures)
-          c.loop-q.invariant.1
+    taken known c.loop-q.q-index p w c.loop-q.product.0 c.if-q-point.product.0 (product_of_others known p w) (omega arith)
+    (omega (arith, c.type_inv.known c.loop-q.q-index)) c.loop-q-test.true
+    (elim c.if-q-point.branch [
+      | then-q-point b ↦ cc (b.product-is, b.mul-product.ensures, other-other p w q (λ e. b.if-q-point.true (sym e)))
       | else-q-point b ↦
-          left_out known i p w c.loop-q.product.0 c.if-q-point.product.0 (product_of_others known p w) c.loop-q-test.true
-          (sym b.if-q-point.false) c.loop-q.invariant.0 (ap (λ (g : Gf). g.0) b.product-is) c.loop-q.invariant.1
-    ]
+          cc (b.product-is, times-one c.loop-q.product.0 c.loop-q.invariant.0, other-same p w q (sym b.if-q-point.false))
+    ])
+    c.loop-q.invariant.1
 
 pub returns-clause-value : goal.returns-clause-value
 returns-clause-value c =

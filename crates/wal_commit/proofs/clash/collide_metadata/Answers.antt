@@ -1,8 +1,7 @@
 -- Texts that differ collide, and else the metadata have the same numbers and one root over different pairs.
-use Rattle.std.proofs.Common.{◌≡◌, ◌≢◌, ◌∙◌, List, ℕ, inl, inr, subst, sym, rules}
+use Rattle.std.proofs.Common.{◌≡◌, ◌≢◌, ◌∙◌, inl, inr, sym, rules}
 use Rattle.wal_shape.specs.MetaRef.{metadata_shown}
-use Rattle.wal_commit.specs.Identifier.{held_pairs, identifier_text}
-use Rattle.wal_tree.specs.Path.{MeetInTrees}
+use Rattle.wal_commit.specs.Identifier.{identifier_text}
 use Rattle.wal_tree.proofs.Collisions.{are_bytes}
 use Rattle.wal_commit.proofs.Clashes.{one_digest, pairs_apart, same_heads}
 use Rattle.wal_commit.proofs.clash.collide_metadata.Goals as goal
@@ -39,14 +38,8 @@ returns-then-ne-clause-texts g c =
 
 pub returns-clause-texts : goal.returns-clause-texts
 returns-clause-texts g c =
-    let a = metadata_shown c.args.a in
-    let b = metadata_shown c.args.b in
-    let left = c.collide_short_lists.result.left in
-    let right = c.collide_short_lists.result.right in
     let same : c.identified-left.result ≡ c.identified-right.result = search rules in
-    let Meet : List ℕ → List ℕ → Type 0 = λ x y. MeetInTrees g.H.Hash32.digest 64 x y left right in
     inr (
       sym c.identified-left.ensures ∙ same ∙ c.identified-right.ensures,
-      subst (λ (y : List ℕ). Meet (held_pairs a) y) c.split_spelling-2.ensures.pairs
-          (subst (λ (x : List ℕ). Meet x c.split_spelling-2.result.1.now) c.split_spelling.ensures.pairs c.collide_short_lists.ensures.texts),
+      rw (c.split_spelling.ensures.pairs, c.split_spelling-2.ensures.pairs) at c.collide_short_lists.ensures.texts,
     )

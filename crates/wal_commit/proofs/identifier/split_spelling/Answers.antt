@@ -1,4 +1,4 @@
-use Rattle.std.proofs.Common.{◌≡◌, ◌+◌, ◌∙◌, ap, length, take, drop, arith}
+use Rattle.std.proofs.Common.{◌+◌, ◌∙◌, ap, length, take, drop, arith}
 use Rattle.wal_shape.specs.MetaRef.{metadata_shown}
 use Rattle.wal_shape.specs.Spelling.{format_text}
 use Rattle.wal_commit.proofs.Commitments.{head_is, pairs_are, metadata_size}
@@ -11,14 +11,14 @@ split_at-requires c =
 
 pub returns-clause-head : goal.returns-clause-head
 returns-clause-head c =
-    let m = metadata_shown c.args.m in
     let k = length c.version_of.result.now + 10 in
-    let size : k ≡ length (format_text m.format) + 10 = omega (arith, ap length c.version_of.ensures, ap (λ f. length (format_text f)) c.format.ensures) in
-    c.split_at.ensures.front ∙ ap (take k) c.bytes.ensures.spelling ∙ head_is m k size
+    c.split_at.ensures.front ∙ ap (take k) c.bytes.ensures.spelling
+    ∙ head_is (metadata_shown c.args.m) k
+    (omega (arith, ap length c.version_of.ensures, ap (λ f. length (format_text f)) c.format.ensures))
 
 pub returns-clause-pairs : goal.returns-clause-pairs
 returns-clause-pairs c =
-    let m = metadata_shown c.args.m in
     let k = length c.version_of.result.now + 10 in
-    let size : k ≡ length (format_text m.format) + 10 = omega (arith, ap length c.version_of.ensures, ap (λ f. length (format_text f)) c.format.ensures) in
-    c.split_at.ensures.back ∙ ap (drop k) c.bytes.ensures.spelling ∙ pairs_are m k size
+    c.split_at.ensures.back ∙ ap (drop k) c.bytes.ensures.spelling
+    ∙ pairs_are (metadata_shown c.args.m) k
+    (omega (arith, ap length c.version_of.ensures, ap (λ f. length (format_text f)) c.format.ensures))

@@ -1,8 +1,7 @@
-use Rattle.std.proofs.Common.{◌≡◌, ℕ, ◌*◌, ◌/◌, ◌<◌, List, length, vec_len, ap, sym, subst, ◌∙◌, arith}
+use Rattle.std.proofs.Common.{◌≡◌, ◌*◌, ◌<◌, length, vec_len, ap, sym, subst, ◌∙◌, arith}
 use Rattle.std.proofs.lemmas.List.{take_at}
 use Rattle.wal_shape.specs.Shape.{symbol_size}
 use Rattle.wal_shape.proofs.ShapeLaws.{symbol_size-least}
-use Rattle.wal_lanes.specs.Pieces.{AreDigests}
 use Rattle.wal_matrix.specs.Matrix.{shards, symbol_bytes}
 use Rattle.wal_commit.specs.inside.Leaves.{AreLeafDigests}
 use Rattle.wal_commit.proofs.LeafTables.{digested_are, whole_pieces}
@@ -23,8 +22,7 @@ returns g c =
     let size : c.symbol_size.result ≡ symbol_bytes e = c.symbol_size.ensures.value ∙ ap (λ s. symbol_size s.f s.length) c.shape-2.ensures in
     let some : 0 < symbol_bytes e = omega (arith, (symbol_size-least e.shape.f e.shape.length).positive) in
     let whole : length e.cells ≡ shards e * shards e * symbol_bytes e = sym (ap length c.cells.ensures.value) ∙ c.cells.ensures.long in
-    let Written : ℕ → List ℕ → Type 0 = λ k ys. AreDigests digest 0 k ys (length ys / k) out in
-    let written = subst (λ k. Written k e.cells) size (subst (Written c.symbol_size.result) c.cells.ensures.value c.digest_pieces.ensures) in
+    let written = rw (c.cells.ensures.value, size) at c.digest_pieces.ensures in
     let filled : length out ≡ vec_len c.in_ok-digests.digests = c.digest_pieces.auto.out ∙ c.deref_mut.ensures.len in
     subst (AreLeafDigests digest (shards e) (symbol_bytes e) e.cells) (sym (take_at out _ _ filled))
     (digested_are digest (shards e) (symbol_bytes e) e.cells out some whole written)

@@ -1,9 +1,7 @@
-use Rattle.std.proofs.Common.{◌≡◌, ◌-◌, ◌*◌, ◌^◌, ◌<◌, List, ◌++◌, length, ℕ, rules, arith, ap, ◌∙◌, subst}
+use Rattle.std.proofs.Common.{◌≡◌, ◌-◌, ◌*◌, ◌^◌, ◌<◌, List, ◌++◌, length, ℕ, rules, arith, ap, ◌∙◌}
 use Rattle.wal_kernel.specs.Region.{word_at}
 use Rattle.wal_kernel.proofs.Words.{word_at-zeros}
-use Rattle.wal_fft.specs.Transform.{scaled, WasAdded}
 use Rattle.wal_fft.proofs.Blocks.{whole_long, half_long}
-use Rattle.wal_erasure.specs.inside.Derivative.{AreDerived}
 use Rattle.wal_erasure.proofs.Derived.{derived_none, derived_level}
 use Rattle.wal_erasure.proofs.derivative.+derive.Goals as goal
 
@@ -49,11 +47,9 @@ returns t c =
     let both : low ++ high ≡ c.args.buffer.now = search rules in
     let whole = whole_long level c.half-points.result width (length c.args.buffer.now) (omega arith) c.half-points.ensures c.requires.long in
     let half = half_long (level - 1) c.half-points.result width c.half-points.ensures in
-    let Old : List ℕ → Type 0 = λ b. AreDerived width level b (c.add_product.new.target ++ c.derive-2.new.buffer) in
-    let Added : ℕ → Type 0 = λ s. WasAdded (scaled s high) 0 c.derive.new.buffer c.add_product.new.target in
     let low_long : length low ≡ 2 ^ (level - 1) * (2 * width) = omega (arith, c.split_at_mut-low.ensures.front_len) in
     let high_long : length high ≡ 2 ^ (level - 1) * (2 * width) = omega (arith, c.split_at_mut-low.ensures.front_len, c.split_at_mut-low.ensures.back_len) in
-    subst Old both
+    rw (← both)
     (derived_level width level low high c.derive.new.buffer c.add_product.new.target c.derive-2.new.buffer (omega arith)
     record {
       few = let most = c.requires.few in omega arith;
@@ -65,6 +61,6 @@ returns t c =
         high_long = omega (arith, c.derive-2.auto.buffer);
       };
       in_low = c.derive.ensures;
-      to_low = subst Added c.rate.ensures c.add_product.ensures;
+      to_low = rw c.rate.ensures at c.add_product.ensures;
       in_high = c.derive-2.ensures;
     })

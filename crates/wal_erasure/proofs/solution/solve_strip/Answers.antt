@@ -1,5 +1,4 @@
-use Rattle.std.proofs.Common.{ℕ, ◌^◌, ◌≤◌, subst, rules, arith, pow_mono}
-use Rattle.wal_fft.specs.Transform.{AreCoefficients}
+use Rattle.std.proofs.Common.{◌^◌, ◌≤◌, rules, arith, pow_mono}
 use Rattle.wal_erasure.proofs.SolvedLaws.{strip_solved}
 use Rattle.wal_erasure.proofs.solution.solve_strip.Goals as goal
 
@@ -15,7 +14,6 @@ evaluate-requires-clause-points c =
 
 pub returns : goal.returns
 returns c =
-    let Known : ℕ → Type 0 = λ n. AreCoefficients c.args.width c.args.level 0 n c.put_known.new.strip c.restore.new.buffer in
     strip_solved c.args.words c.args.start c.args.width c.args.wanted c.args.level c.args.known.now c.args.factors.now c.args.sources.now
     c.put_known.new.strip c.restore.new.buffer c.derive.new.buffer c.evaluate.new.buffer c.args.targets.now c.take_wanted.new.regions
     record {
@@ -27,7 +25,7 @@ returns c =
       source_bytes = λ i. let b = c.type_inv.sources i in search rules;
       bytes = λ i. let b = c.restore.type_inv in search rules;
       put = c.put_known.ensures;
-      restore = subst Known c.points.ensures.value c.restore.ensures;
+      restore = rw c.points.ensures.value at c.restore.ensures;
       derive = c.derive.ensures;
       evaluate = c.evaluate.ensures;
       take = c.take_wanted.ensures;

@@ -1,5 +1,5 @@
-use Rattle.std.proofs.Common.{◌≡◌, ◌-◌, ◌*◌, ◌^◌, ◌<◌, inl, inr, List, ◌++◌, length, slice_index, ℕ, rules, arith, ◌∙◌, sym, ap, subst}
-use Rattle.wal_fft.specs.Transform.{skew, scaled, AreValues, WasAdded}
+use Rattle.std.proofs.Common.{◌≡◌, ◌-◌, ◌*◌, ◌^◌, ◌<◌, inl, inr, ◌++◌, length, slice_index, ℕ, rules, arith, ◌∙◌, ap}
+use Rattle.wal_fft.specs.Transform.{skew}
 use Rattle.wal_fft.proofs.Blocks.{whole_long, half_long, last_point, lower_points, upper_points, some_points}
 use Rattle.wal_fft.proofs.Steps.{one_value, none_wanted, evaluated_level}
 use Rattle.wal_fft.proofs.transform.+evaluate.Goals as goal
@@ -54,10 +54,9 @@ evaluate-requires t c =
     let half = half_long (c.args.level - 1) c.half-points.result c.args.width c.half-points.ensures in
     let last = last_point c.args.level c.half-points.result c.args.index (omega arith) c.half-points.ensures c.requires.points in (
       omega (arith, c.decreases),
-      (
-        omega (arith, c.split_at_mut-low.ensures.front_len, c.add_product.ensures.long),
-        (omega arith, lower_points (c.args.level - 1) c.half-points.result c.args.index c.half-points.ensures last),
-      ),
+      omega (arith, c.split_at_mut-low.ensures.front_len, c.add_product.ensures.long),
+      omega arith,
+      lower_points (c.args.level - 1) c.half-points.result c.args.index c.half-points.ensures last,
     )
 
 pub evaluate-requires-2 : goal.evaluate-requires-2
@@ -66,10 +65,9 @@ evaluate-requires-2 t c =
     let half = half_long (c.args.level - 1) c.half-points.result c.args.width c.half-points.ensures in
     let last = last_point c.args.level c.half-points.result c.args.index (omega arith) c.half-points.ensures c.requires.points in (
       omega (arith, c.decreases),
-      (
-        omega (arith, c.split_at_mut-low.ensures.front_len, c.split_at_mut-low.ensures.back_len, c.add_words.ensures.long),
-        (omega arith, upper_points (c.args.level - 1) c.half-points.result c.args.index c.half-points.ensures last),
-      ),
+      omega (arith, c.split_at_mut-low.ensures.front_len, c.split_at_mut-low.ensures.back_len, c.add_words.ensures.long),
+      omega arith,
+      upper_points (c.args.level - 1) c.half-points.result c.args.index c.half-points.ensures last,
     )
 
 pub returns : goal.returns
@@ -82,25 +80,20 @@ returns t c =
     let half = half_long (level - 1) c.half-points.result c.args.width c.half-points.ensures in
     let factor : c.skew.result.0 ≡ skew (level - 1) (2 * c.args.index * 2 ^ (level - 1)) =
     c.skew.ensures ∙ ap (λ (p : ℕ). skew (level - 1) (2 * c.args.index * p)) c.half-points.ensures in
-    let Old : List ℕ → Type 0 = λ b. AreValues c.args.width level c.args.index c.args.from c.args.to b (c.evaluate.new.buffer ++ c.evaluate-2.new.buffer) in
-    let Added : ℕ → Type 0 = λ s. WasAdded (scaled s high) 0 low c.add_product.new.target in
     let low_long : length low ≡ 2 ^ (level - 1) * (2 * c.args.width) = omega (arith, c.split_at_mut-low.ensures.front_len) in
     let high_long : length high ≡ 2 ^ (level - 1) * (2 * c.args.width) = omega (arith, c.split_at_mut-low.ensures.front_len, c.split_at_mut-low.ensures.back_len) in
-    subst Old both
+    rw (← both)
     (evaluated_level c.args.width level c.args.index c.args.from c.args.to low high c.add_product.new.target c.add_words.new.target
     c.evaluate.new.buffer c.evaluate-2.new.buffer (omega arith)
     record {
       few = let most = c.requires.few in omega arith;
-      bytes = λ k.
-          let byte : slice_index c.args.buffer.now k < 256 = search rules in
-          let Byte : List ℕ → Type 0 = λ xs. slice_index xs k < 256 in
-          subst Byte (sym both) byte;
+      bytes = λ k. let byte : slice_index c.args.buffer.now k < 256 = search rules in rw both byte;
       halves = record { low_long = low_long; high_long = high_long };
       value_halves = record {
         low_long = omega (arith, c.evaluate.auto.buffer, c.add_product.ensures.long);
         high_long = omega (arith, c.evaluate-2.auto.buffer, c.add_words.ensures.long);
       };
-      to_low = subst Added factor c.add_product.ensures;
+      to_low = rw factor at c.add_product.ensures;
       to_high = c.add_words.ensures;
       in_low = c.evaluate.ensures;
       in_high = c.evaluate-2.ensures;

@@ -1,6 +1,5 @@
-use Rattle.std.proofs.Common.{◌≡◌, ◌+◌, ◌-◌, ◌*◌, ◌^◌, ◌<◌, List, ◌++◌, length, ℕ, rules, arith, ◌∙◌, ap, subst}
-use Rattle.wal_kernel.specs.Region.{word_at}
-use Rattle.wal_fft.specs.Transform.{skew, scaled, AreCoefficients, WasAdded}
+use Rattle.std.proofs.Common.{◌≡◌, ◌+◌, ◌-◌, ◌*◌, ◌^◌, ◌<◌, ◌++◌, length, ℕ, rules, arith, ◌∙◌, ap}
+use Rattle.wal_fft.specs.Transform.{skew}
 use Rattle.wal_fft.proofs.Blocks.{whole_long, half_long, last_point, lower_points, upper_points, some_points, double}
 use Rattle.wal_fft.proofs.Steps.{one_coefficient, lower_level, both_level}
 use Rattle.wal_fft.proofs.transform.+restore.Goals as goal
@@ -38,16 +37,10 @@ restore-requires t c =
     let half = half_long (c.args.level - 1) c.half-points.result c.args.width c.half-points.ensures in
     let last = last_point c.args.level c.half-points.result c.args.index (omega arith) c.half-points.ensures c.requires.points in (
       omega (arith, c.decreases),
-      (
-        omega (arith, c.split_at_mut-low.ensures.front_len, c.add_product.ensures.long),
-        (
-          omega arith,
-          (
-            lower_points (c.args.level - 1) c.half-points.result c.args.index c.half-points.ensures last,
-            omega (arith, c.if-known-points.true, c.half-points.ensures),
-          ),
-        ),
-      ),
+      omega (arith, c.split_at_mut-low.ensures.front_len, c.add_product.ensures.long),
+      omega arith,
+      lower_points (c.args.level - 1) c.half-points.result c.args.index c.half-points.ensures last,
+      omega (arith, c.if-known-points.true, c.half-points.ensures),
     )
 
 pub add_product-requires-then-known-points-clause-equal : goal.add_product-requires-then-known-points-clause-equal
@@ -60,16 +53,10 @@ restore-requires-else-known-points t c =
     let half = half_long (c.args.level - 1) c.half-points.result c.args.width c.half-points.ensures in
     let last = last_point c.args.level c.half-points.result c.args.index (omega arith) c.half-points.ensures c.requires.points in (
       omega (arith, c.decreases),
-      (
-        omega (arith, c.split_at_mut-low.ensures.front_len),
-        (
-          omega arith,
-          (
-            lower_points (c.args.level - 1) c.half-points.result c.args.index c.half-points.ensures last,
-            omega (arith, c.half-points.ensures),
-          ),
-        ),
-      ),
+      omega (arith, c.split_at_mut-low.ensures.front_len),
+      omega arith,
+      lower_points (c.args.level - 1) c.half-points.result c.args.index c.half-points.ensures last,
+      omega (arith, c.half-points.ensures),
     )
 
 pub add_words-requires-clause-equal : goal.add_words-requires-clause-equal
@@ -84,16 +71,10 @@ restore-requires-else-known-points-2 t c =
     let both = double c.args.level c.half-points.result (omega arith) c.half-points.ensures in
     let last = last_point c.args.level c.half-points.result c.args.index (omega arith) c.half-points.ensures c.requires.points in (
       omega (arith, c.decreases),
-      (
-        omega (arith, c.split_at_mut-low.ensures.front_len, c.split_at_mut-low.ensures.back_len, c.add_words.ensures.long),
-        (
-          omega arith,
-          (
-            upper_points (c.args.level - 1) c.half-points.result c.args.index c.half-points.ensures last,
-            omega (arith, c.half-points.ensures, c.requires.known),
-          ),
-        ),
-      ),
+      omega (arith, c.split_at_mut-low.ensures.front_len, c.split_at_mut-low.ensures.back_len, c.add_words.ensures.long),
+      omega arith,
+      upper_points (c.args.level - 1) c.half-points.result c.args.index c.half-points.ensures last,
+      omega (arith, c.half-points.ensures, c.requires.known),
     )
 
 pub add_words-requires-else-known-points-clause-equal : goal.add_words-requires-else-known-points-clause-equal
@@ -118,13 +99,9 @@ returns-then-known-points t c =
     let half = half_long (level - 1) c.half-points.result width c.half-points.ensures in
     let factor : c.skew-factor.result.0 ≡ skew (level - 1) (2 * c.args.index * 2 ^ (level - 1)) =
     c.skew-factor.ensures ∙ ap (λ (p : ℕ). skew (level - 1) (2 * c.args.index * p)) c.half-points.ensures in
-    let Old : List ℕ → Type 0 = λ b. AreCoefficients width level c.args.index c.args.known b (low_new ++ high) in
-    let ToLow : ℕ → Type 0 = λ s. WasAdded (scaled s high) (width * c.args.known) low c.add_product.new.target in
-    let Back : ℕ → Type 0 = λ s. WasAdded (scaled s high) 0 c.restore.new.buffer low_new in
     let low_long : length low ≡ 2 ^ (level - 1) * (2 * width) = omega (arith, c.split_at_mut-low.ensures.front_len) in
     let high_long : length high ≡ 2 ^ (level - 1) * (2 * width) = omega (arith, c.split_at_mut-low.ensures.front_len, c.split_at_mut-low.ensures.back_len) in
-    let coeffs_long : length c.restore.new.buffer ≡ 2 ^ (level - 1) * (2 * width) = omega (arith, c.add_product.ensures.long, c.restore.auto.buffer) in
-    subst Old both
+    rw (← both)
     (lower_level width level c.args.index c.args.known low high c.add_product.new.target c.restore.new.buffer low_new (omega arith)
     record {
       few = let most = c.requires.few in omega arith;
@@ -132,10 +109,10 @@ returns-then-known-points t c =
       bytes = λ i. let b = c.type_inv.buffer i in search rules;
       halves = record { low_long = low_long; high_long = high_long };
       new_halves = record { low_long = omega (arith, c.add_product-then-known-points.ensures.long); high_long = high_long };
-      coeffs_long = coeffs_long;
-      to_low = subst ToLow factor c.add_product.ensures;
+      coeffs_long = omega (arith, c.add_product.ensures.long, c.restore.auto.buffer);
+      to_low = rw factor at c.add_product.ensures;
       in_low = c.restore.ensures;
-      back = subst Back factor c.add_product-then-known-points.ensures;
+      back = rw factor at c.add_product-then-known-points.ensures;
     })
 
 pub returns-else-known-points : goal.returns-else-known-points
@@ -156,16 +133,9 @@ returns-else-known-points t c =
     let half = half_long (level - 1) c.half-points.result width c.half-points.ensures in
     let factor : c.skew-factor.result.0 ≡ skew (level - 1) (2 * index * 2 ^ (level - 1)) =
     c.skew-factor.ensures ∙ ap (λ (p : ℕ). skew (level - 1) (2 * index * p)) c.half-points.ensures in
-    let Old : List ℕ → Type 0 = λ b. AreCoefficients width level index known b (low_new ++ high_new) in
-    let InLow : ℕ → Type 0 = λ p. AreCoefficients width (level - 1) (2 * index) p low low_coeffs in
-    let ToHigh : ℕ → Type 0 = λ p. WasAdded (word_at low_coeffs) (width * (known - p)) high high_sum in
-    let InHigh : ℕ → Type 0 = λ p. AreCoefficients width (level - 1) (2 * index + 1) (known - p) high_sum high_coeffs in
-    let Back : ℕ → Type 0 = λ s. WasAdded (scaled s high_new) 0 low_coeffs low_new in
     let low_long : length low ≡ 2 ^ (level - 1) * (2 * width) = omega (arith, c.split_at_mut-low.ensures.front_len) in
     let high_long : length high ≡ 2 ^ (level - 1) * (2 * width) = omega (arith, c.split_at_mut-low.ensures.front_len, c.split_at_mut-low.ensures.back_len) in
-    let coeffs_long : length low_coeffs ≡ 2 ^ (level - 1) * (2 * width) = omega (arith, c.restore-else-known-points.auto.buffer) in
-    let high_coeffs_long : length high_coeffs ≡ 2 ^ (level - 1) * (2 * width) = omega (arith, c.add_words.ensures.long, c.restore-else-known-points-2.auto.buffer) in
-    subst Old both
+    rw (← both)
     (both_level width level index known low high low_coeffs high_sum high_coeffs high_new low_new (omega arith) c.requires.known
     record {
       few = let most = c.requires.few in omega arith;
@@ -176,11 +146,11 @@ returns-else-known-points t c =
         low_long = omega (arith, c.add_product-else-known-points.ensures.long);
         high_long = omega (arith, c.add_words-else-known-points.ensures.long);
       };
-      low_long = coeffs_long;
-      high_long = high_coeffs_long;
-      in_low = subst InLow c.half-points.ensures c.restore-else-known-points.ensures;
-      to_high = subst ToHigh c.half-points.ensures c.add_words.ensures;
-      in_high = subst InHigh c.half-points.ensures c.restore-else-known-points-2.ensures;
+      low_long = omega (arith, c.restore-else-known-points.auto.buffer);
+      high_long = omega (arith, c.add_words.ensures.long, c.restore-else-known-points-2.auto.buffer);
+      in_low = rw c.half-points.ensures at c.restore-else-known-points.ensures;
+      to_high = rw c.half-points.ensures at c.add_words.ensures;
+      in_high = rw c.half-points.ensures at c.restore-else-known-points-2.ensures;
       high_back = c.add_words-else-known-points.ensures;
-      low_back = subst Back factor c.add_product-else-known-points.ensures;
+      low_back = rw factor at c.add_product-else-known-points.ensures;
     })

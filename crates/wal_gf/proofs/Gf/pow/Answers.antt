@@ -1,4 +1,4 @@
-use Rattle.std.proofs.Common.{◌≡◌, ℕ, suc, ◌+◌, ◌/◌, ◌%◌, ◌<◌, ◌≤◌, sym, ap, ap₂, ◌∙◌, arith, rules, lit<}
+use Rattle.std.proofs.Common.{◌≡◌, ℕ, suc, ◌+◌, ◌/◌, ◌%◌, ◌<◌, ◌≤◌, ap, ap₂, ◌∙◌, arith, rules, lit<}
 use Rattle.wal_gf.specs.Field.{times, power}
 use Rattle.wal_gf.proofs.Products.{times-lt, times-one, one-times, times_assoc}
 use Rattle.wal_gf.proofs.Powers.{power-zero, power-suc, power-lt, power-square}
@@ -7,17 +7,13 @@ use Rattle.wal_gf.proofs.Gf.pow.Goals as goal
 use Rattle.wal_gf.proofs.Gf.pow.Goals.{then-rest-eq1, else-rest-eq1}
 
 even_turn : (r s n whole : ℕ) → s < 65536 → n % 2 ≡ 0 → times r (power s n) ≡ whole → times r (power (times s s) (n / 2)) ≡ whole
-even_turn r s n whole low even before =
-    let halves : n / 2 + n / 2 ≡ n = omega arith in
-    ap (times r) (power-square s (n / 2) low ∙ ap (power s) halves) ∙ before
+even_turn r s n whole low even before = let halves : n / 2 + n / 2 ≡ n = omega arith in cc (power-square s (n / 2) low)
 
 odd_turn : (r s n whole : ℕ) → s < 65536 → n % 2 ≡ 1 → times r (power s n) ≡ whole → times (times r s) (power (times s s) (n / 2)) ≡ whole
 odd_turn r s n whole low odd before =
     let halves : suc (n / 2 + n / 2) ≡ n = omega arith in
-    ap (times (times r s)) (power-square s (n / 2) low)
-    ∙ times_assoc r s (power s (n / 2 + n / 2)) low (power-lt s (n / 2 + n / 2))
-    ∙ ap (times r) (sym (power-suc s (n / 2 + n / 2)) ∙ ap (power s) halves)
-    ∙ before
+    let half = power s (n / 2 + n / 2) in
+    cc (power-square s (n / 2) low, times_assoc r s half low (power-lt s (n / 2 + n / 2)), power-suc s (n / 2 + n / 2))
 
 pub loop-rest-init : goal.loop-rest-init
 loop-rest-init c = record {
@@ -49,9 +45,7 @@ loop-rest-preserved c = record {
 }
 
 finished : (r s n whole : ℕ) → r < 65536 → n ≤ 0 → times r (power s n) ≡ whole → r ≡ whole
-finished r s n whole low done before =
-    let none : n ≡ 0 = omega arith in
-    sym (times-one r low) ∙ ap (times r) (sym (power-zero s) ∙ ap (power s) (sym none)) ∙ before
+finished r s n whole low done before = let none : n ≡ 0 = omega arith in cc (times-one r low, power-zero s)
 
 pub returns : goal.returns
 returns c = finished c.loop-rest.result.0 c.loop-rest.square.0 c.loop-rest.rest _ c.loop-rest.invariant.word c.loop-rest-test.false c.loop-rest.invariant.together

@@ -1,4 +1,4 @@
-use Rattle.std.proofs.Common.{◌≡◌, ℕ, suc, ◌+◌, ◌<◌, List, [], subst, length, set, take, get_or, All, sym, ap, ap₂, ◌∙◌, arith, rules, bit_xor, add-one}
+use Rattle.std.proofs.Common.{◌≡◌, ℕ, suc, ◌+◌, ◌<◌, List, [], length, set, take, get_or, All, sym, ap, ap₂, ◌∙◌, arith, rules, bit_xor, add-one}
 use Rattle.std.specs.List.{take-map}
 use Rattle.std.specs.Int.Bits.{xor_assoc, xor_zero_r}
 use Rattle.std.proofs.lemmas.List.{map-set}
@@ -14,9 +14,7 @@ use Rattle.wal_gf.proofs.Coefficients.{evaluate-set, evaluate-take}
 use Rattle.wal_gf.proofs.polynomial.add_scaled.Goals as goal
 
 more_words : (gs : List Gf) (i : ℕ) (g : Gf) → IsWord g.0 → All IsWord (words_of gs) → All IsWord (words_of (set gs i g))
-more_words gs i g low lows =
-    let P : List ℕ → Type 0 = λ s. All IsWord s in
-    subst P (sym (map-set (λ (h : Gf). h.0) gs i g)) (All-set IsWord (words_of gs) i g.0 low lows)
+more_words gs i g low lows = rw (map-set (λ (h : Gf). h.0) gs i g) (All-set IsWord (words_of gs) i g.0 low lows)
 
 turn : (target other : List Gf) (new : Gf) (i f x base : ℕ) → i < length target → i < length other → IsWord f → IsWord (get_or other i zero_element).0
     → new.0 ≡ bit_xor (get_or target i zero_element).0 (times f (get_or other i zero_element).0)

@@ -1,4 +1,4 @@
-use Rattle.std.proofs.Common.{◌≡◌, ◌≢◌, ℕ, ◌<◌, sym, ap, ap₂, ◌∙◌, rules, bit_xor}
+use Rattle.std.proofs.Common.{◌≡◌, ◌≢◌, ℕ, ◌<◌, sym, ◌∙◌, rules, bit_xor}
 use Rattle.wal_gf.specs.Field.{times, inverse}
 use Rattle.wal_gf.specs.Polynomial.{evaluate}
 use Rattle.wal_gf.proofs.Additive.{xor_back}
@@ -9,17 +9,13 @@ use Rattle.wal_gf.proofs.polynomial.slope_at.Goals as goal
 -- (d / m) * m
 undone : (d m : ℕ) → d < 65536 → m < 65536 → m ≢ 0 → times (times d (inverse m)) m ≡ d
 undone d m low low' some =
-    times_assoc d (inverse m) m (inverse-lt m) low'
-    ∙ ap (times d) (times_comm (inverse m) m (inverse-lt m) low' ∙ times-inverse m low' some)
-    ∙ times-one d low
+    let grouped = times_assoc d (inverse m) m (inverse-lt m) low' in
+    cc (times_comm (inverse m) m (inverse-lt m) low', times-inverse m low' some, times-one d low)
 
 reached : (e m v e' m' d i s : ℕ) → e ≡ e' → m ≡ m' → d ≡ bit_xor e v → i ≡ inverse m → s ≡ times d i → d < 65536 → m < 65536 → m' ≢ 0
     → bit_xor e' (times s m') ≡ v
 reached e m v e' m' d i s at at' missing undoing slope low low' some =
-    ap₂ (λ (t u : ℕ). bit_xor t (times s u)) (sym at) (sym at')
-    ∙ ap (λ (t : ℕ). bit_xor e (times t m)) (slope ∙ ap (times d) undoing)
-    ∙ ap (bit_xor e) (undone d m low low' (λ none. some (sym at' ∙ none)) ∙ missing)
-    ∙ xor_back e v
+    cc (undone d m low low' (λ none. some (sym at' ∙ none)), xor_back e v)
 
 pub returns-clause-reached : goal.returns-clause-reached
 returns-clause-reached c =

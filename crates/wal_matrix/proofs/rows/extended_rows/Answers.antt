@@ -1,4 +1,4 @@
-use Rattle.std.proofs.Common.{rules, ◌≡◌, ℕ, ◌-◌, ◌*◌, ◌++◌, List, length, take, replicate, vec_len, arith, subst, sym, ap, ◌∙◌}
+use Rattle.std.proofs.Common.{rules, ◌≡◌, ℕ, ◌-◌, ◌*◌, List, length, take, vec_len, arith, subst, sym, ap, ◌∙◌}
 use Rattle.std.proofs.lemmas.List.{take_at}
 use Rattle.wal_shape.specs.Shape.{shard_count, row_count, symbol_size}
 use Rattle.wal_matrix.specs.Matrix.{IsMatrixOf, padded}
@@ -12,22 +12,18 @@ extend_down-requires-clause-even c = even_product (shard_count c.args.f) c.args.
 pub returns : goal.returns
 returns c =
     let f = c.args.f in
-    let bytes = c.args.bytes.now in
     let run = shard_count f * c.args.size in
-    let whole = shard_count f * run in
     let cells = c.in_ok-cells.cells in
     let filled = c.resize.new.self in
     let e = c.extend_down.new.cells in
-    let len : vec_len cells ≡ length cells.items = search rules in
-    let F : ℕ → Type 0 = λ k. filled.items ≡ take whole cells.items ++ replicate (whole - k) 0 in
     let kept : length e ≡ vec_len filled = c.extend_down.auto.cells ∙ c.deref_mut-2.ensures.len in
-    let long : length e ≡ whole = kept ∙ (search rules) in
-    let P : List ℕ → Type 0 = λ ys. IsMatrixOf f (symbol_size f (length bytes)) (padded f bytes) ys in
+    let long : length e ≡ shard_count f * run = kept ∙ (search rules) in
+    let P : List ℕ → Type 0 = λ ys. IsMatrixOf f (symbol_size f (length c.args.bytes.now)) (padded f c.args.bytes.now)
+    ys in
     subst P (sym (take_at e _ _ kept))
-    (extended_in_place f c.args.size bytes cells.items filled.items e c.requires.few c.requires.even c.requires.size
-    (long ∙ omega arith) (c.extend_down.ensures.bytes)
-    (sym len ∙ c.in_ok-cells.ensures.long)
-    (subst F len c.in_ok-resize.ensures.items)
+    (extended_in_place f c.args.size (vec_len cells) c.args.bytes.now cells.items filled.items e c.requires.few
+    c.requires.even c.requires.size
+    (long ∙ omega arith) c.extend_down.ensures.bytes (search rules) c.in_ok-cells.ensures.long
+    c.in_ok-resize.ensures.items
     (c.extend_down.ensures.same ∙ ap (λ (ys : List ℕ). take (row_count f * run) ys) c.deref_mut-2.ensures.value)
-    c.in_ok-cells.ensures.rows
-    c.extend_down.ensures.codeword)
+    c.in_ok-cells.ensures.rows c.extend_down.ensures.codeword)

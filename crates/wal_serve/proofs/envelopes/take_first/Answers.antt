@@ -1,5 +1,4 @@
 use Rattle.std.proofs.Common.{sym, ap}
-use Rattle.wal_serve.proofs.TakingLaws.{not_ended, not_too_long, not_failed}
 use Rattle.wal_serve.proofs.EnvelopeLaws.{first_lack, first_wrong, first_lacks}
 use Rattle.wal_serve.proofs.envelopes.take_first.Goals as goal
 
@@ -11,14 +10,14 @@ returns-else-first-eq-ENVELOPE-clause-takes g c =
 pub returns-in-Ended-clause-takes : goal.returns-in-Ended-clause-takes
 returns-in-Ended-clause-takes g c =
     let t = c.fill.ensures.takes in
-    (t.0, first_lacks _ _ _ _ _ _ t.0 _ c.fill.auto.into (not_ended c.fill.result c.in-Ended.is) (sym (ap first_lack c.in-Ended.is)) t.1)
+    (t.0, first_lacks _ _ _ _ _ _ t.0 _ c.fill.auto.into (λ all. cc (c.in-Ended.is, all)) (sym (ap first_lack c.in-Ended.is)) t.1)
 
 pub returns-in-TooLong-clause-takes : goal.returns-in-TooLong-clause-takes
 returns-in-TooLong-clause-takes g c =
     let t = c.fill.ensures.takes in
-    (t.0, first_lacks _ _ _ _ _ _ t.0 _ c.fill.auto.into (not_too_long c.fill.result c.in-TooLong.is) (sym (ap first_lack c.in-TooLong.is)) t.1)
+    (t.0, first_lacks _ _ _ _ _ _ t.0 _ c.fill.auto.into (λ all. cc (c.in-TooLong.is, all)) (sym (ap first_lack c.in-TooLong.is)) t.1)
 
 pub returns-in-Failed-clause-takes : goal.returns-in-Failed-clause-takes
 returns-in-Failed-clause-takes g c =
     let t = c.fill.ensures.takes in
-    (t.0, first_lacks _ _ _ _ _ _ t.0 _ c.fill.auto.into (not_failed c.fill.result c.in-Failed.is) (sym (ap first_lack c.in-Failed.is)) t.1)
+    (t.0, first_lacks _ _ _ _ _ _ t.0 _ c.fill.auto.into (λ all. cc (c.in-Failed.is, all)) (sym (ap first_lack c.in-Failed.is)) t.1)

@@ -1,12 +1,12 @@
-use Rattle.std.proofs.Common.{◌≡◌, ◌++◌, ◌≤◌, length, arith}
+use Rattle.std.proofs.Common.{◌≡◌, ◌++◌, ◌≤◌, length, refl, arith}
 use Rattle.std.proofs.Math.Seq.{length-take-le}
-use Rattle.wal_serve.proofs.TakingLaws.{rose_since, took_whole, took_within, took_less_at, takes_past, front_long, past_not_whole}
+use Rattle.wal_serve.proofs.TakingLaws.{rose_since, took_whole, took_of, takes_past, front_long}
 use Rattle.wal_serve.proofs.taking.fill.Goals as goal
 
 pub returns-then-into-most-clause-takes : goal.returns-then-into-most-clause-takes
 returns-then-into-most-clause-takes g c =
     let t = c.fill_all.ensures.takes in
-    (t.0, took_within _ _ _ _ _ _ _ (omega (arith, c.if-into-most.true, c.fill_all.auto.into)) t.1, t.2)
+    (t.0, took_of _ _ _ _ _ _ _ _ (omega arith) (omega (arith, c.if-into-most.true, c.fill_all.auto.into)) (λ is. refl) t.1, t.2)
 
 pub returns-then-is_whole-clause-takes : goal.returns-then-is_whole-clause-takes
 returns-then-is_whole-clause-takes g c =
@@ -21,7 +21,7 @@ returns-then-is_whole-clause-takes g c =
       t.0 ++ p.0,
       takes_past _ _ _ _ _ _ most _ t.0 p.0 all.0 (omega (arith, all.1, c.fill_all-took.auto.into, length-take-le most into le)) (omega (arith, long, c.if-into-most.false))
           (rose_since _ _ _ c.fill_all-took.ensures.later) p.1,
-      λ is. absurd (past_not_whole _ _ _ _ _ p.1 is),
+      λ is. (let whole = took_whole _ _ _ _ _ _ _ is p.1 in absurd (omega (arith, whole.2))),
     )
 
 pub returns-else-is_whole-clause-takes : goal.returns-else-is_whole-clause-takes
@@ -35,6 +35,6 @@ returns-else-is_whole-clause-takes g c =
     let not = c.is_whole.ensures.other c.if-is_whole.false in
     let long = front_long most into sub c.fill_all-took.auto.into le in (
       t.0,
-      took_less_at _ _ _ (length sub) most _ _ _ same not (omega (arith, long, le)) t.1,
+      took_of _ _ _ (length sub) _ most _ _ (omega (arith, same, long, le)) (omega (arith, same)) (λ is. absurd (not is)) t.1,
       λ is. absurd (not is),
     )

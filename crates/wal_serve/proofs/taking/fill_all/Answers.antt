@@ -1,7 +1,7 @@
 -- Each piece goes right after the pieces before it.
 use Rattle.std.proofs.Common.{◌≡◌, ◌-◌, ◌<◌, ◌≤◌, length, take, ◌∙◌, arith}
 use Rattle.std.proofs.Math.Seq.{length-take-le}
-use Rattle.wal_serve.proofs.TakingLaws.{rose_since, ends_behind, fails_behind, next_consumed, rest_long, written_long, ended_not_whole, failed_not_whole, taken_whole}
+use Rattle.wal_serve.proofs.TakingLaws.{rose_since, ends_behind, fails_behind, next_consumed, rest_long, written_long, taken_whole}
 use Rattle.wal_serve.proofs.taking.fill_all.Goals as goal
 
 pub pieces-preserved : goal.pieces-preserved
@@ -29,7 +29,7 @@ returns-in-Ok-eq0-clause-takes g c =
       take c.pieces.done into,
       ends_behind _ _ _ _ _ _ (take c.pieces.done into) (take c.in-Ok-eq0.field-0 piece) c.pieces.invariant.taken read.0
           (omega (arith, c.in-Ok-eq0.ensures.bound.1, none)) (omega (arith, long, few)) (omega (arith, long, few)) (read.1 none (omega (arith, room, c.pieces-test.true))),
-      λ is. absurd (ended_not_whole is),
+      λ is. absurd cc,
     )
 
 pub returns-in-Err-clause-takes : goal.returns-in-Err-clause-takes
@@ -42,7 +42,7 @@ returns-in-Err-clause-takes g c =
       take c.pieces.done into,
       fails_behind _ _ _ _ _ _ (take c.pieces.done into) c.pieces.invariant.taken c.in-Err.ensures.bytes (omega (arith, long, few)) (omega (arith, long, few))
           (rose_since _ _ _ c.pieces.invariant.later c.in-Err.ensures.failed),
-      λ is. absurd (failed_not_whole is),
+      λ is. absurd cc,
     )
 
 pub returns-clause-takes : goal.returns-clause-takes

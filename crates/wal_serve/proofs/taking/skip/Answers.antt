@@ -1,11 +1,11 @@
-use Rattle.std.proofs.Common.{◌++◌, arith}
-use Rattle.wal_serve.proofs.TakingLaws.{rose_since, took_whole, took_within, took_less, takes_past}
+use Rattle.std.proofs.Common.{◌++◌, refl, arith}
+use Rattle.wal_serve.proofs.TakingLaws.{rose_since, took_whole, took_of, takes_past}
 use Rattle.wal_serve.proofs.taking.skip.Goals as goal
 
 pub returns-then-size-most-clause-takes : goal.returns-then-size-most-clause-takes
 returns-then-size-most-clause-takes g c =
     let t = c.skip_all.ensures.takes in
-    (t.0, took_within _ _ _ _ _ _ _ c.if-size-most.true t.1)
+    (t.0, took_of _ _ _ _ _ _ _ _ (omega arith) c.if-size-most.true (λ is. refl) t.1)
 
 pub returns-then-is_whole-clause-takes : goal.returns-then-is_whole-clause-takes
 returns-then-is_whole-clause-takes g c =
@@ -17,4 +17,5 @@ returns-then-is_whole-clause-takes g c =
 pub returns-else-is_whole-clause-takes : goal.returns-else-is_whole-clause-takes
 returns-else-is_whole-clause-takes g c =
     let t = c.skip_all-took.ensures.takes in
-    (t.0, took_less _ _ _ c.args.most _ _ _ (c.is_whole.ensures.other c.if-is_whole.false) (omega (arith, c.if-size-most.false)) t.1)
+    let not = c.is_whole.ensures.other c.if-is_whole.false in
+    (t.0, took_of _ _ _ c.args.most _ _ _ _ (omega (arith, c.if-size-most.false)) (omega arith) (λ is. absurd (not is)) t.1)

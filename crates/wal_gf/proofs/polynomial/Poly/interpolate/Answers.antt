@@ -1,4 +1,4 @@
-use Rattle.std.proofs.Common.{◌≡◌, ◌≢◌, ℕ, ◌<◌, List, [], ◌∷◌, length, get_or, All, AllPairs, subst, sym, ap, ap₂, ◌∙◌, arith, lit<, bit_xor, below_more}
+use Rattle.std.proofs.Common.{◌≡◌, ◌≢◌, ℕ, ◌<◌, List, [], ◌∷◌, length, get_or, All, AllPairs, subst, sym, ap, ◌∙◌, arith, lit<, bit_xor, below_more}
 use Rattle.std.specs.Int.Bits.{xor_self, xor_zero_r}
 use Rattle.std.proofs.lemmas.Nat.{xor_lt}
 use Rattle.std.proofs.lemmas.List.{get_or_default}
@@ -11,7 +11,8 @@ use Rattle.wal_gf.proofs.Additive.{xor_back}
 use Rattle.wal_gf.proofs.Products.{times-zero, zero-times}
 use Rattle.wal_gf.proofs.Inverses.{zero_factor}
 use Rattle.wal_gf.proofs.Elements.{zero_element, number_at, length-words_of}
-use Rattle.wal_gf.proofs.Coefficients.{evaluate-lt, evaluate-one, evaluate-more_zeros, length-with_zeros, with_zeros-words, same_coefficients}
+use Rattle.wal_gf.proofs.Coefficients.{evaluate-lt, evaluate-one, evaluate-more_zeros, length-with_zeros, with_zeros-words}
+use Rattle.wal_gf.proofs.Roots.{same_coefficients}
 use Rattle.wal_gf.proofs.polynomial.Poly.interpolate.Goals as goal
 
 -- ---- the start: no point, and the polynomial 1
@@ -47,8 +48,7 @@ slope_at-slope-requires c low =
 
 value_kept : (found new vanishing : List ℕ) (s x v : ℕ) → evaluate new x ≡ bit_xor (evaluate found x) (times s (evaluate vanishing x))
     → evaluate found x ≡ v → evaluate vanishing x ≡ 0 → evaluate new x ≡ v
-value_kept found new vanishing s x v added before root =
-    added ∙ ap₂ (λ (t u : ℕ). bit_xor t (times s u)) before root ∙ ap (bit_xor v) (times-zero s) ∙ xor_zero_r v
+value_kept found new vanishing s x v added before root = cc (times-zero s, xor_zero_r v)
 
 value_here : (new : List ℕ) (p p' v v' w : ℕ) → p' ≡ p → v' ≡ v → evaluate new p ≡ w → w ≡ v → evaluate new p' ≡ v'
 value_here new p p' v v' w same same' is reached = ap (evaluate new) same ∙ is ∙ reached ∙ sym same'
@@ -57,8 +57,7 @@ root_kept : (new old : List ℕ) (x p : ℕ) → evaluate new x ≡ times (bit_x
 root_kept new old x p is root = is ∙ ap (times (bit_xor x p)) root ∙ times-zero (bit_xor x p)
 
 root_here : (new old : List ℕ) (x p : ℕ) → evaluate new x ≡ times (bit_xor x p) (evaluate old x) → x ≡ p → evaluate new x ≡ 0
-root_here new old x p is same =
-    is ∙ ap (λ (s : ℕ). times s (evaluate old x)) (ap (λ (s : ℕ). bit_xor s p) same ∙ xor_self p) ∙ zero-times (evaluate old x)
+root_here new old x p is same = cc (xor_self p, zero-times (evaluate old x))
 
 no_root : (new old : List ℕ) (x p : ℕ) → evaluate new x ≡ times (bit_xor x p) (evaluate old x) → All IsWord old → IsWord x → IsWord p
     → x ≢ p → evaluate old x ≢ 0 → evaluate new x ≢ 0
@@ -101,9 +100,7 @@ words_all : (ns : List ℕ) → ((j : ℕ) → j < length ns → IsWord (get_or 
 words_all ns lows k d within = let P : ℕ → Type 0 = λ s. IsWord s in subst P (get_or_default ns k 0 d within) (lows k within)
 
 agree : (cs ds ps vs : List ℕ) → HasValues cs ps vs → HasValues ds ps vs → All (λ p. evaluate cs p ≡ evaluate ds p) ps
-agree cs ds ps vs has has' k d within =
-    let P : ℕ → Type 0 = λ p. evaluate cs p ≡ evaluate ds p in
-    subst P (get_or_default ps k 0 d within) (has k within ∙ sym (has' k within))
+agree cs ds ps vs has has' k d within = rw (← get_or_default ps k 0 d within) (has k within ∙ sym (has' k within))
 
 only_one : (found ps vs : List ℕ) → length found ≡ length ps → All IsWord found → ((j : ℕ) → j < length ps → IsWord (get_or ps j 0))
     → HasValues found ps vs → AllPairs (λ p q. p ≢ q) ps → IsOnlyWithValues found ps vs

@@ -1,14 +1,14 @@
 use Rattle.wal_ledger.specs.declared.entry.Kind.TheVariants.{Holds}
 use Rattle.wal_serve.specs.Requests.{Vouched}
 use Rattle.wal_serve.specs.inside.Session.{served}
-use Rattle.wal_serve.proofs.RequestLaws.{entry_row, vouched_not, vouched_ack}
+use Rattle.wal_serve.proofs.RequestLaws.{entry_row, vouched_not, vouched}
 use Rattle.wal_serve.proofs.session.Session.acknowledge.Goals as goal
 
 pub returns-in-Ok-clause-gives : goal.returns-in-Ok-clause-gives
 returns-in-Ok-clause-gives g c =
     let s = served c.args.self.now in
     entry_row (Vouched Holds s c.args.id.now) s c.ack_reply.result c.ack.new.self.ledger
-    (vouched_ack s c.ledger.result.now _ c.args.id.now c.index.result _ _ c.ledger.ensures.value c.index.ensures.value c.in-Ok.ensures c.ack.ensures.answer c.ack_reply.ensures.value)
+    (vouched Holds s c.ledger.result.now _ c.args.id.now c.index.result _ c.ledger.ensures.value c.index.ensures.value c.in-Ok.ensures (c.ack.result, c.ack.ensures.answer, c.ack_reply.ensures.value))
 
 pub returns-in-Err-clause-gives : goal.returns-in-Err-clause-gives
 returns-in-Err-clause-gives g c =

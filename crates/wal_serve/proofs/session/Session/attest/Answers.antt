@@ -1,14 +1,14 @@
 use Rattle.wal_ledger.specs.declared.entry.Kind.TheVariants.{Denies}
 use Rattle.wal_serve.specs.Requests.{Vouched}
 use Rattle.wal_serve.specs.inside.Session.{served}
-use Rattle.wal_serve.proofs.RequestLaws.{entry_row, vouched_not, vouched_attest}
+use Rattle.wal_serve.proofs.RequestLaws.{entry_row, vouched_not, vouched}
 use Rattle.wal_serve.proofs.session.Session.attest.Goals as goal
 
 pub returns-in-Ok-clause-gives : goal.returns-in-Ok-clause-gives
 returns-in-Ok-clause-gives g c =
     let s = served c.args.self.now in
     entry_row (Vouched Denies s c.args.id.now) s c.attest_reply.result c.attest-in-Ok.new.self.ledger
-    (vouched_attest s c.ledger.result.now _ c.args.id.now c.index.result _ _ c.ledger.ensures.value c.index.ensures.value c.in-Ok.ensures c.attest-in-Ok.ensures.answer c.attest_reply.ensures.value)
+    (vouched Denies s c.ledger.result.now _ c.args.id.now c.index.result _ c.ledger.ensures.value c.index.ensures.value c.in-Ok.ensures (c.attest-in-Ok.result, c.attest-in-Ok.ensures.answer, c.attest_reply.ensures.value))
 
 pub returns-in-Err-clause-gives : goal.returns-in-Err-clause-gives
 returns-in-Err-clause-gives g c =

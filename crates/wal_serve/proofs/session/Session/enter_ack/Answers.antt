@@ -1,7 +1,7 @@
 use Rattle.wal_ledger.specs.declared.entry.Kind.TheVariants.{Holds}
-use Rattle.wal_serve.specs.Requests.{Entered}
+use Rattle.wal_serve.specs.Requests.{Entered, of_committee}
 use Rattle.wal_serve.specs.inside.Session.{served}
-use Rattle.wal_serve.proofs.RequestLaws.{entry_row, entered_none, entered_ack}
+use Rattle.wal_serve.proofs.RequestLaws.{entry_row, entered_none}
 use Rattle.wal_serve.proofs.session.Session.enter_ack.Goals as goal
 
 pub returns-then-not-is_shard-clause-gives : goal.returns-then-not-is_shard-clause-gives
@@ -14,4 +14,4 @@ pub returns-clause-gives : goal.returns-clause-gives
 returns-clause-gives g c =
     let s = served c.args.self.now in
     entry_row (Entered Holds s.ledger c.args.shard c.args.id.now) s c.ack_reply.result c.ack.new.self.ledger
-    (entered_ack s.ledger _ c.args.shard c.args.id.now _ _ (c.is_shard.ensures.is c.if-not-is_shard.false) c.ack.ensures.answer c.ack_reply.ensures.value)
+    (of_committee _ _ (c.is_shard.ensures.is c.if-not-is_shard.false) (c.ack.result, c.ack.ensures.answer, c.ack_reply.ensures.value))

@@ -1,7 +1,7 @@
 use Rattle.wal_ledger.specs.declared.entry.Kind.TheVariants.{Denies}
-use Rattle.wal_serve.specs.Requests.{Entered}
+use Rattle.wal_serve.specs.Requests.{Entered, of_committee}
 use Rattle.wal_serve.specs.inside.Session.{served}
-use Rattle.wal_serve.proofs.RequestLaws.{entry_row, entered_none, entered_attest}
+use Rattle.wal_serve.proofs.RequestLaws.{entry_row, entered_none}
 use Rattle.wal_serve.proofs.session.Session.enter_attest.Goals as goal
 
 pub returns-then-not-is_shard-clause-gives : goal.returns-then-not-is_shard-clause-gives
@@ -14,4 +14,4 @@ pub returns-clause-gives : goal.returns-clause-gives
 returns-clause-gives g c =
     let s = served c.args.self.now in
     entry_row (Entered Denies s.ledger c.args.shard c.args.id.now) s c.attest_reply.result c.attest.new.self.ledger
-    (entered_attest s.ledger _ c.args.shard c.args.id.now _ _ (c.is_shard.ensures.is c.if-not-is_shard.false) c.attest.ensures.answer c.attest_reply.ensures.value)
+    (of_committee _ _ (c.is_shard.ensures.is c.if-not-is_shard.false) (c.attest.result, c.attest.ensures.answer, c.attest_reply.ensures.value))

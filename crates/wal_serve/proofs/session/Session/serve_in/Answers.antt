@@ -22,37 +22,32 @@ envelopes-preserved g c =
     let inv = c.envelopes.invariant in
     let t = c.in-Ok.ensures.takes in
     let one = c.in-Ok-None.ensures in
-    let long = envelope_long c.in-Ok.size _ t.0 t.1.0 in record {
+    let long = envelope_long t.1.0 in record {
       within = omega (arith, inv.within, long, t.1.2, c.from.ensures);
       held = c.in-Ok.ensures.room ∙ inv.held;
       room = one.room ∙ inv.room;
       stays = stays_on _ _ _ inv.stays one.stays;
       source = omega (arith, inv.source, c.in-Ok.ensures.later);
       sink = omega (arith, inv.sink, one.later);
-      so_far = serving_more ServedState (AnswersRequest g.H.Hash32.digest g.K.Keep.may_want) _ _ c.envelopes.self.shard.now.index c.in-Ok.size c.envelopes.taken _ _ _ _ _ _ _ _ _ _ _ c.take_envelope.new.buffer t.0
-          one.serves.1 one.serves.0 inv.so_far t.1 (c.in-Ok.ensures.room ∙ inv.held) one.serves.2.0 (sym one.serves.3.0 ∙ c.in-Ok-None.field-0-is) inv.stays.place.index one.serves.3.1 (omega (arith, c.from.ensures));
+      so_far = serving_more c.args.limit inv.so_far inv.within _ t.1 (c.in-Ok.ensures.room ∙ inv.held) one.serves.2.0 inv.stays.place.index
+          (sym one.serves.3.0 ∙ c.in-Ok-None.field-0-is) one.serves.3.1 (omega (arith, c.from.ensures));
     }
 
 pub returns-in-Err-clause-served : goal.returns-in-Err-clause-served
 returns-in-Err-clause-served g c =
     let inv = c.envelopes.invariant in
-    let t = c.in-Err.ensures.takes in
-    ends_without ServedState (AnswersRequest g.H.Hash32.digest g.K.Keep.may_want) _ _ c.envelopes.taken c.args.limit _ _ _ _ _ _ _ _ _ _ c.in-Err.lack t.0 _ inv.so_far inv.within
-    (rose_since _ _ _ inv.source) t.1 c.end_without.ensures
+    ends_without c.args.limit inv.so_far inv.within (rose_since _ _ _ inv.source) c.in-Err.ensures.takes.1 c.end_without.ensures
 
 pub returns-in-Ok-Some-clause-served : goal.returns-in-Ok-Some-clause-served
 returns-in-Ok-Some-clause-served g c =
     let inv = c.envelopes.invariant in
-    let t = c.in-Ok.ensures.takes in
     let one = c.in-Ok-Some.ensures in
-    ends_stopped ServedState (AnswersRequest g.H.Hash32.digest g.K.Keep.may_want) _ _ c.envelopes.self.shard.now.index c.in-Ok.size c.envelopes.taken c.args.limit _ _ _ _ _ _ _ _ _ _ _ c.take_envelope.new.buffer t.0
-    one.serves.1 one.serves.0 c.in-Ok-Some.clash inv.so_far inv.within t.1 (c.in-Ok.ensures.room ∙ inv.held) one.serves.2.0 one.serves.2.1
-    (sym one.serves.3.0 ∙ c.in-Ok-Some.field-0-is) inv.stays.place.index one.serves.3.1
+    ends_stopped c.args.limit inv.so_far inv.within _ c.in-Ok.ensures.takes.1 (c.in-Ok.ensures.room ∙ inv.held) one.serves.2.0 inv.stays.place.index
+    c.in-Ok-Some.clash one.serves.2.1 (sym one.serves.3.0 ∙ c.in-Ok-Some.field-0-is) one.serves.3.1
 
 pub returns-in-Err-serve_one-clause-served : goal.returns-in-Err-serve_one-clause-served
 returns-in-Err-serve_one-clause-served g c =
     let inv = c.envelopes.invariant in
-    let t = c.in-Ok.ensures.takes in
     let one = c.in-Err-serve_one.ensures in
-    ends_write_fault ServedState (AnswersRequest g.H.Hash32.digest g.K.Keep.may_want) _ _ c.envelopes.self.shard.now.index c.in-Ok.size c.envelopes.taken c.args.limit _ _ _ _ _ _ _ _ _ _ _ c.take_envelope.new.buffer t.0
-    one.serves.1 one.serves.0 inv.so_far inv.within t.1 (c.in-Ok.ensures.room ∙ inv.held) one.serves.2.0 inv.stays.place.index one.serves.3 (rose_since _ _ _ inv.sink one.fault)
+    ends_write_fault c.args.limit inv.so_far inv.within _ c.in-Ok.ensures.takes.1 (c.in-Ok.ensures.room ∙ inv.held) one.serves.2.0 inv.stays.place.index
+    one.serves.3 (rose_since _ _ _ inv.sink one.fault)
