@@ -1,7 +1,8 @@
-//! Under the toy digest the root over a codeword is 1 and zeros where its words sum to zero. For one fault those of each
-//! codeword do, so all slivers of a size collide. For two faults they sum to the value at 7 of the codeword's polynomial, so
-//! the multiples of the codeword 7 6 5 4 3 2 1 collide. The texts are worked out by hand: a digest takes the bytes of a text
-//! one place further for each mark, and leaves out what stands in it twice.
+//! Under the toy digest the root over a codeword is 1 and zeros where its words sum to zero. For
+//! one fault those of each codeword do, so all slivers of a size collide. For two faults they sum
+//! to the value at 7 of the codeword's polynomial, so the multiples of the codeword 7 6 5 4 3 2 1
+//! collide. The texts are worked out by hand: a digest takes the bytes of a text one place further
+//! for each mark, and leaves out what stands in it twice.
 
 ghost use Rattle.std.specs.Prelude.{◌≡◌, ℕ, ◌*◌, ◌≤◌, List, IfOk, length};
 ghost use Rattle.wal_shape.specs.Shape.{sliver_symbols};
@@ -34,7 +35,8 @@ fn twice(mark: u8, digest: &[u8; 6]) -> [u8; 65] {
     text
 }
 
-/// Whether these are two texts with one toy digest, of this mark and twice the digests that begin so.
+/// Whether these are two texts with one toy digest, of this mark and twice the digests that begin
+/// so.
 pub(crate) fn shows(found: Option<Collision>, mark: u8, left: &[u8; 6], right: &[u8; 6]) -> bool {
     match found {
         Some(c) => collide(&c)
@@ -49,7 +51,8 @@ fn root_of_word(alloc: Global, f: u32, axis: Axis, sliver: &[u8]) -> Result<Dige
     requires some { 1 ≤ f }
     requires few { f ≤ 333 }
     requires long { length sliver.now ≡ sliver_symbols axis f * 2 }
-    ensures { IfOk result (λ r. (word : List ℕ) × IsWordOf axis f 2 sliver.now word × (r ≡ root_over toy32 2 word)) }
+    ensures { IfOk result
+        (λ r. (word : List ℕ) × IsWordOf axis f 2 sliver.now word × (r ≡ root_over toy32 2 word)) }
 {
     let mut work = Work::create(alloc, f)?;
     let digest = root::<Toy32>(expand(&mut work, axis, 2, sliver), 2);
@@ -137,8 +140,8 @@ fn clash_of(left: &[u8], right: &[u8]) -> Option<MetaClash> {
     Some(collide_metadata::<Toy32>(a, b))
 }
 
-// The last byte of the length and that of the root over the pairs, which is byte 28 of the roots three levels below, stand
-// 32 positions apart.
+// The last byte of the length and that of the root over the pairs, which is byte 28 of the roots
+// three levels below, stand 32 positions apart.
 #[test]
 fn texts_of_identifiers_collide(rt: HostRuntime) {
     let left = toy_metadata();

@@ -1,6 +1,7 @@
-//! The metadata and the identifiers of the worked blob. Under the toy digest they are worked by hand: the four words of each
-//! row and of each column sum to zero, so that the root over them is 1 and then zeros; the two roots of a pair cancel, and
-//! the root over the pairs is again 1 and then zeros.
+//! The metadata and the identifiers of the worked blob. Under the toy digest they are worked by
+//! hand: the four words of each row and of each column sum to zero, so that the root over them is 1
+//! and then zeros; the two roots of a pair cancel, and the root over the pairs is again 1 and then
+//! zeros.
 
 use sha2::{Digest, Sha256};
 use std::alloc::Global;
@@ -60,7 +61,8 @@ fn identifiers_of_six_words(rt: HostRuntime) -> Result<(), Fail> {
     Ok(())
 }
 
-/// The extended matrix of the six words, worked by hand: row 3 and column 3 follow from the sums of the words before them.
+/// The extended matrix of the six words, worked by hand: row 3 and column 3 follow from the sums of
+/// the words before them.
 const WORDS: [[u16; 4]; 4] = [[1, 2, 3, 0], [4, 5, 6, 7], [11, 12, 9, 14], [14, 11, 12, 9]];
 
 /// The SHA-256 digest of a prefix and two parts, by the crate `sha2` alone.

@@ -1,6 +1,7 @@
-//! Answers on challenges, ranges and bundles that are not a blob's, and have its identifier under the toy digest: for one
-//! fault all blobs of a length with symbols of at most 31 bytes have one metadata there, whose roots are all 1 and zeros. The
-//! texts are worked out by hand, as those of two slivers or of two paths.
+//! Answers on challenges, ranges and bundles that are not a blob's, and have its identifier under
+//! the toy digest: for one fault all blobs of a length with symbols of at most 31 bytes have one
+//! metadata there, whose roots are all 1 and zeros. The texts are worked out by hand, as those of
+//! two slivers or of two paths.
 
 ghost use Rattle.std.specs.Prelude.{◌≡◌, ◌*◌, IfSome, drop, take};
 ghost use Rattle.wal_matrix.specs.Matrix.{row_of, shards, symbol_bytes};
@@ -21,7 +22,8 @@ use wal_tree::{Hash32, Toy32};
 /// The symbol at a place of a row.
 fn symbol_at(matrix: &Encoded, row: u16, place: u16) -> Option<&[u8]>
     ensures { IfSome result (λ symbol. symbol.now
-        ≡ take (symbol_bytes matrix.now) (drop (symbol_bytes matrix.now * place) (row_of (shards matrix.now) (symbol_bytes matrix.now) matrix.now.cells row))) }
+        ≡ take (symbol_bytes matrix.now) (drop (symbol_bytes matrix.now * place)
+        (row_of (shards matrix.now) (symbol_bytes matrix.now) matrix.now.cells row))) }
 {
     if u32::from(row) >= matrix.shape().n() || u32::from(place) >= matrix.shape().n() {
         return None;
@@ -31,7 +33,8 @@ fn symbol_at(matrix: &Encoded, row: u16, place: u16) -> Option<&[u8]>
     Some(&matrix.row(row)[start..start + size])
 }
 
-/// The texts for a claim on a row that the metadata of these bytes commits, and whose symbol is another one.
+/// The texts for a claim on a row that the metadata of these bytes commits, and whose symbol is
+/// another one.
 fn collision_of_claim<H: Hash32>(
     alloc: Global,
     shape: &Shape,
@@ -54,7 +57,8 @@ fn collision_of_claim<H: Hash32>(
     Ok(Some(claim_collision::<H>(alloc, shape, bytes, claim)?))
 }
 
-/// A claim that holds for twelve zero bytes: the symbol at place 0 of row 0, on the path of column 0.
+/// A claim that holds for twelve zero bytes: the symbol at place 0 of row 0, on the path of
+/// column 0.
 fn zero_claim(alloc: Global) -> Result<Claim, AllocError> {
     let mut path = [0; 64];
     path[32] = 1;
@@ -100,8 +104,8 @@ fn metadata_frame(alloc: Global, length: u8) -> Result<Bytes, AllocError> {
     Ok(Bytes::from_vec(Vec::from_slice(alloc, &frame)?))
 }
 
-/// The frame of a sliver of such a blob: what follows the identifier is the axis (1 byte), the index (2), the size (4), and
-/// the symbols.
+/// The frame of a sliver of such a blob: what follows the identifier is the axis (1 byte), the
+/// index (2), the size (4), and the symbols.
 fn sliver_frame(alloc: Global, length: u8, behind: &[u8]) -> Result<Bytes, AllocError> {
     let mut frame = Vec::from_slice(alloc, &[0x11])?;
     frame.extend_from_slice(&toy_id(length))?;
@@ -122,8 +126,8 @@ fn payloads_of(
     Ok(Payloads::from_vec(vec![in alloc; metadata, first, second]?))
 }
 
-/// The texts for the blob of this identifier and of so many bytes that the gateway keeps, and payloads that by themselves give
-/// another one.
+/// The texts for the blob of this identifier and of so many bytes that the gateway keeps, and
+/// payloads that by themselves give another one.
 fn collision_of_kept<H: Hash32>(
     alloc: Global,
     gateway: &mut Gateway<H>,
@@ -197,7 +201,8 @@ fn columns_of(alloc: Global, last: u8) -> Result<Payloads, AllocError> {
     )
 }
 
-/// The texts for the bundle of these members and payloads of its identifier that tell another member k.
+/// The texts for the bundle of these members and payloads of its identifier that tell another
+/// member k.
 fn collision_of_bundle<H: Hash32>(
     alloc: Global,
     f: u32,

@@ -22,7 +22,8 @@ fn kept(gateway: &Gateway<Sha>) -> (usize, bool, bool) {
     (gateway.len(), worked, gateway.contains(&BlobId(FALSE_ID)))
 }
 
-/// Whether the worked blob enters a list of one and is served from there, and a blob of which nothing is known does not.
+/// Whether the worked blob enters a list of one and is served from there, and a blob of which
+/// nothing is known does not.
 fn is_kept(alloc: Global) -> Result<bool, Fail> {
     let Ok(payloads) = split(alloc, &STREAM) else {
         return Ok(false);

@@ -1,4 +1,5 @@
-//! Tests of frames, commitments, readers and collisions: the worked blob, and calls that take memory.
+//! Tests of frames, commitments, readers and collisions: the worked blob, and calls that take
+//! memory.
 #![tactic(auto)]
 
 #[cfg(test)]

@@ -27,7 +27,8 @@ fn is_read(alloc: Global) -> Result<bool, AllocError> {
     }
 }
 
-/// How many bytes of the stream a reader takes, one by one, before it settles, where it then gives the blob.
+/// How many bytes of the stream a reader takes, one by one, before it settles, where it then gives
+/// the blob.
 fn settles_behind(alloc: Global) -> Result<Option<usize>, AllocError> {
     let mut reader = Reader::<Sha>::create(alloc, &BlobId(ID))?;
     let mut before = 1usize;
@@ -52,8 +53,8 @@ fn the_worked_blob_is_read(rt: HostRuntime) -> Result<(), Fail> {
     Ok(())
 }
 
-/// Whether the stream of slivers 1 and 0 and then the metadata, behind a payload that is no frame, gives the blob in two
-/// pieces, the first of so many bytes.
+/// Whether the stream of slivers 1 and 0 and then the metadata, behind a payload that is no frame,
+/// gives the blob in two pieces, the first of so many bytes.
 fn is_read_cut(alloc: Global, length: usize) -> Result<bool, AllocError> {
     let mut stream = Vec::from_slice(alloc, &[0x57, 0, 3, 0, 0, 0, 1, 0xff])?;
     stream.extend_from_slice(&STREAM[378..431])?;

@@ -1,5 +1,6 @@
-//! The matrix of six words for one fault, as computed by hand: the last word of a row is the sum of the other three,
-//! since the points 0 to 3 sum to zero, and a column of v and w goes on with v + 2(v + w) and v + 3(v + w).
+//! The matrix of six words for one fault, as computed by hand: the last word of a row is the sum of
+//! the other three, since the points 0 to 3 sum to zero, and a column of v and w goes on with v +
+//! 2(v + w) and v + 3(v + w).
 
 ghost use Rattle.std.specs.Prelude.{◌≡◌, ◌<◌, ◌≤◌, IfOk, length, All};
 ghost use Rattle.wal_code.specs.Codeword.{Distinct};

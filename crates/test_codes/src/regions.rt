@@ -1,5 +1,5 @@
-//! Sums, transforms and codewords over regions. The values were computed by products and inverses of the field alone, apart
-//! from this code.
+//! Sums, transforms and codewords over regions. The values were computed by products and inverses
+//! of the field alone, apart from this code.
 
 use std::alloc::{AllocError, Global};
 use std::test::Fail;

@@ -1,5 +1,5 @@
-//! Digests and trees: those of SHA-256 from FIPS 180-4 and from a script over Python's hashlib, those of the toy digest
-//! worked by hand.
+//! Digests and trees: those of SHA-256 from FIPS 180-4 and from a script over Python's hashlib,
+//! those of the toy digest worked by hand.
 
 use std::alloc::{AllocError, Global};
 use std::test::Fail;
@@ -137,7 +137,8 @@ fn roots_of_sha_256(rt: HostRuntime) {
     assert!(rt; are_roots());
 }
 
-// The third leaf of three stands beside the empty entry, and its parent beside the root of the first two leaves.
+// The third leaf of three stands beside the empty entry, and its parent beside the root of the
+// first two leaves.
 #[test]
 fn the_path_of_the_third_of_three_leaves(rt: HostRuntime) {
     let mut siblings = [0; 64];
@@ -168,7 +169,8 @@ const ONE: Digest = [
     1, 0, 0, 0, 0, 0, 0, 0, 0, 0, 0, 0, 0, 0, 0, 0, 0, 0, 0, 0, 0, 0, 0, 0, 0, 0, 0, 0, 0, 0, 0, 0,
 ];
 
-/// The four leaf digests have 1, 2, 3, 0 at byte 2, and the two inner digests cancel but for the prefix.
+/// The four leaf digests have 1, 2, 3, 0 at byte 2, and the two inner digests cancel but for the
+/// prefix.
 fn is_toy_root() -> bool {
     let mut digests = [0; 128];
     digests[2] = 1;

@@ -1,5 +1,6 @@
-//! Bytes for the tests, which a script over Python's hashlib computed: the worked blob, six words of two bytes, for one
-//! fault under SHA-256, and metadata of twelve bytes that commit a row which is encoded wrongly.
+//! Bytes for the tests, which a script over Python's hashlib computed: the worked blob, six words
+//! of two bytes, for one fault under SHA-256, and metadata of twelve bytes that commit a row which
+//! is encoded wrongly.
 #![tactic(auto)]
 
 /// The blob.
@@ -11,8 +12,8 @@ pub const ID: [u8; 32] = [
     0x4b, 0x39, 0x0c, 0x35, 0xd1, 1, 0x72, 0x64, 0x24, 0x62, 0x9d, 0xe2, 0xf5, 0xab, 0x48, 0xfa,
 ];
 
-/// Its envelopes: the metadata, whose spelling stands from byte 8 to byte 274, and then for each shard the primary and the
-/// secondary sliver.
+/// Its envelopes: the metadata, whose spelling stands from byte 8 to byte 274, and then for each
+/// shard the primary and the secondary sliver.
 pub const STREAM: [u8; 690] = [
     0x57, 0, 0, 0, 0, 1, 0x0b, 0x10, 0, 1, 0, 0, 0, 0, 0, 0, 0, 0x0c, 0xc9, 0x25, 0xf7, 0x21, 0xeb,
     0xc3, 0xef, 0x5f, 0, 0x42, 7, 0xdc, 0x9c, 0x1c, 0xeb, 0xe3, 4, 0x11, 0xac, 0x77, 0xaa, 0xa5,
@@ -60,7 +61,8 @@ pub const FALSE_ID: [u8; 32] = [
     0x7c, 0xc8, 0x5d, 0x6e, 0xfa, 0xb6, 0x24, 0xd0, 0xa3, 0xdf, 0x20, 0x0b, 0x7b, 0x93, 0x1a, 0x72,
 ];
 
-/// The envelopes of these metadata, up to byte 274, and of two openings of secondary sliver 2, by row 1 and by the false row.
+/// The envelopes of these metadata, up to byte 274, and of two openings of secondary sliver 2, by
+/// row 1 and by the false row.
 pub const OPENED: [u8; 506] = [
     0x57, 0, 0, 0, 0, 1, 0x0b, 0x10, 0, 1, 0, 0, 0, 0, 0, 0, 0, 0x0c, 0xc9, 0x25, 0xf7, 0x21, 0xeb,
     0xc3, 0xef, 0x5f, 0, 0x42, 7, 0xdc, 0x9c, 0x1c, 0xeb, 0xe3, 4, 0x11, 0xac, 0x77, 0xaa, 0xa5,
@@ -94,8 +96,9 @@ pub const OPENED: [u8; 506] = [
     0x87, 0x51, 0xbd, 0x41, 0xab, 0xfe, 0x8e, 0x8c, 0x20, 0x78, 0x94,
 ];
 
-/// The envelopes of these metadata, and from shard 2 that of the proof by the two openings. The frame of the metadata stands
-/// from byte 7 to byte 274, and behind byte 314 what follows the identifier in that of the proof.
+/// The envelopes of these metadata, and from shard 2 that of the proof by the two openings. The
+/// frame of the metadata stands from byte 7 to byte 274, and behind byte 314 what follows the
+/// identifier in that of the proof.
 pub const PROVED: [u8; 465] = [
     0x57, 0, 0, 0, 0, 1, 0x0b, 0x10, 0, 1, 0, 0, 0, 0, 0, 0, 0, 0x0c, 0xc9, 0x25, 0xf7, 0x21, 0xeb,
     0xc3, 0xef, 0x5f, 0, 0x42, 7, 0xdc, 0x9c, 0x1c, 0xeb, 0xe3, 4, 0x11, 0xac, 0x77, 0xaa, 0xa5,
@@ -153,7 +156,8 @@ pub const HELD: [u8; 378] = [
     0xe2, 0xf5, 0xab, 0x48, 0xfa, 1, 0, 0, 0, 0, 0, 4, 0, 1, 0, 4,
 ];
 
-/// The envelopes of its metadata, up to byte 274, and of what shard 0 answers to two draws by a beacon of zeros.
+/// The envelopes of its metadata, up to byte 274, and of what shard 0 answers to two draws by a
+/// beacon of zeros.
 pub const SHOWN: [u8; 506] = [
     0x57, 0, 0, 0, 0, 1, 0x0b, 0x10, 0, 1, 0, 0, 0, 0, 0, 0, 0, 0x0c, 0xc9, 0x25, 0xf7, 0x21, 0xeb,
     0xc3, 0xef, 0x5f, 0, 0x42, 7, 0xdc, 0x9c, 0x1c, 0xeb, 0xe3, 4, 0x11, 0xac, 0x77, 0xaa, 0xa5,

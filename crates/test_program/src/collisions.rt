@@ -1,6 +1,7 @@
-//! Replays that end in a collision. Under the toy digest all blobs of twelve bytes for one fault have one metadata, and all
-//! blobs of thirty bytes for two faults one identifier: their metadata are the same where the words of each row and column
-//! sum to zero, as those of a multiple of the codeword 7 6 5 4 3 2 1 do.
+//! Replays that end in a collision. Under the toy digest all blobs of twelve bytes for one fault
+//! have one metadata, and all blobs of thirty bytes for two faults one identifier: their metadata
+//! are the same where the words of each row and column sum to zero, as those of a multiple of the
+//! codeword 7 6 5 4 3 2 1 do.
 
 use crate::runs::run_on;
 use std::alloc::{AllocError, Global};
@@ -42,8 +43,8 @@ const TWO_FAULTS: [Setting; 2] = [
     },
 ];
 
-/// What a sign stands for: the identifier, the front of metadata, and the roots 1 and zeros, zeros, and that over a line of
-/// ones.
+/// What a sign stands for: the identifier, the front of metadata, and the roots 1 and zeros, zeros,
+/// and that over a line of ones.
 fn meaning(setting: Setting, sign: u8) -> &'static str {
     match sign {
         b'@' => setting.id,
@@ -202,8 +203,9 @@ const READ_ONES: &str =
 const READ_ZEROS: &str =
     r##"{"do":"read","id":"@","replies":[{"bytes":"#0002000000000000001e%%%%%%%%%%%%%%"},{"bytes":"11@0000000000000a00000000000000000000"},{"bytes":"11@0000010000000a00000000000000000000"},{"bytes":"11@0000020000000a00000000000000000000"}]}"##;
 
-/// A read of the metadata of zeros and a proof by openings of three of their rows for secondary sliver 0. In place of zero the
-/// first one has the symbol 1, and beside it a leaf for 1, so that both leave the digest of their node as it was.
+/// A read of the metadata of zeros and a proof by openings of three of their rows for secondary
+/// sliver 0. In place of zero the first one has the symbol 1, and beside it a leaf for 1, so that
+/// both leave the digest of their node as it was.
 const READ_PROOF: &str =
     r##"{"do":"read","id":"@","replies":[{"bytes":"#0002000000000000001e%%%%%%%%%%%%%%"},{"bytes":"13@01000000030000000000020001030000010000000000000000000000000000000000000000000000000000000000%%000100000002000003_%%000200000002000003_%%"}]}"##;
 

@@ -11,8 +11,8 @@ use wal_port::{MemSink, MemSource};
 use wal_run::run;
 use wal_tree::Sha;
 
-/// A command with its input, the status, the text behind so many bytes, how many bytes it is given and may write at once, and
-/// how many reads and writes there are.
+/// A command with its input, the status, the text behind so many bytes, how many bytes it is given
+/// and may write at once, and how many reads and writes there are.
 #[derive(Clone, Copy)]
 struct Trial {
     words: &'static [&'static str],
@@ -222,7 +222,8 @@ fn run_trial(
     Ok((status, sink))
 }
 
-/// Whether the run ends plainly behind the whole text, though a read or a write behind the last ones would fail.
+/// Whether the run ends plainly behind the whole text, though a read or a write behind the last
+/// ones would fail.
 fn is_whole(alloc: Global, trial: Trial) -> Result<bool, AllocError> {
     let reads = [trial.reads.saturating_add(1)];
     let writes = [trial.writes.saturating_add(1)];
@@ -240,7 +241,8 @@ fn fails_to_read(alloc: Global, trial: Trial) -> Result<bool, AllocError> {
     Ok(told)
 }
 
-/// Whether each write that fails ends the run behind what the writes before it took, each of which took something.
+/// Whether each write that fails ends the run behind what the writes before it took, each of which
+/// took something.
 fn fails_to_write(alloc: Global, trial: Trial) -> Result<bool, AllocError> {
     let mut told = true;
     let mut least = 0;
@@ -288,8 +290,8 @@ const SERVE: Trial = Trial {
     writes: 6,
 };
 
-/// The read and the write that fails, with 0 for none, and the status and the length of what is written then. Each envelope is
-/// three reads, and its answer three writes before the next read.
+/// The read and the write that fails, with 0 for none, and the status and the length of what is
+/// written then. Each envelope is three reads, and its answer three writes before the next read.
 const SERVED: [(u32, u32, u8, usize); 15] = [
     (1, 0, 6, 0),
     (2, 0, 6, 0),

@@ -1,5 +1,5 @@
-//! Tests of the whole program over sources and sinks in memory: runs under the toy digest, reads and writes that fail, and
-//! schedules as text.
+//! Tests of the whole program over sources and sinks in memory: runs under the toy digest, reads
+//! and writes that fail, and schedules as text.
 #![tactic(auto)]
 
 #[cfg(test)]

@@ -1,5 +1,6 @@
-//! The commands on challenges, bundles and ranges under the toy digest, whose rows a script over Python's hashlib worked with
-//! the digest exchanged: all blobs of twelve bytes for one fault have one metadata there, and one identifier.
+//! The commands on challenges, bundles and ranges under the toy digest, whose rows a script over
+//! Python's hashlib worked with the digest exchanged: all blobs of twelve bytes for one fault have
+//! one metadata there, and one identifier.
 
 use crate::runs::run_on;
 use std::alloc::{AllocError, Global};

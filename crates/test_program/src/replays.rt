@@ -1,5 +1,5 @@
-//! Schedules under SHA-256: one in which each event ends in each of its words, stories that were worked by hand, and the
-//! sample of a number.
+//! Schedules under SHA-256: one in which each event ends in each of its words, stories that were
+//! worked by hand, and the sample of a number.
 
 use crate::runs::words_of;
 use std::alloc::{AllocError, Global};

@@ -1,5 +1,5 @@
-//! Runs under the toy digest, worked by hand: all roots over twelve bytes for one fault are 1 and zeros, and so is the root
-//! over the pairs of roots.
+//! Runs under the toy digest, worked by hand: all roots over twelve bytes for one fault are 1 and
+//! zeros, and so is the root over the pairs of roots.
 
 use std::alloc::{AllocError, Global};
 use std::test::Fail;
@@ -105,7 +105,8 @@ fn the_longest_blob(rt: HostRuntime) -> Result<(), Fail> {
     Ok(())
 }
 
-/// Appends the envelope of the metadata of six words, with this byte at the front of the first two roots.
+/// Appends the envelope of the metadata of six words, with this byte at the front of the first two
+/// roots.
 fn put_metadata(stream: &mut Vec<u8>, first: u8) -> Result<(), AllocError> {
     stream.extend_from_slice(&[
         0x57, 0, 0, 0, 0, 1, 0x0b, 0x10, 0, 1, 0, 0, 0, 0, 0, 0, 0, 12,

@@ -4,7 +4,8 @@ use std::alloc::{AllocError, Global};
 use std::test::Fail;
 use wal_schedule::{read_schedule, sample, write_schedule};
 use wal_tree::Toy32;
-/// One event of each kind, with each kind of reply, each side and each axis, and numbers at their limits.
+/// One event of each kind, with each kind of reply, each side and each axis, and numbers at their
+/// limits.
 const EACH: &str = r#"{"f":1,"epoch":65535,"format":2,"owners":[0,0,1,2],"faulty":[0,1],"events":[
 {"do":"register","id":"02000100000000000000000c010000000000000000000000000000000000000f","until":65536},
 {"do":"write","blob":"00fF","to":[0,3]},

@@ -1,4 +1,5 @@
-//! A ledger of four nodes with a shard each: a blob is certified and handed over, and what is refused.
+//! A ledger of four nodes with a shard each: a blob is certified and handed over, and what is
+//! refused.
 
 ghost use Rattle.std.specs.Prelude.{◌≡◌, IfOk};
 ghost use Rattle.wal_ledger.specs.Kept.{SameEpoch};

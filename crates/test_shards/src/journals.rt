@@ -1,4 +1,5 @@
-//! A journal over a disk whose calls fail one after the other, over what crashes leave, and over payloads.
+//! A journal over a disk whose calls fail one after the other, over what crashes leave, and over
+//! payloads.
 
 use std::alloc::Global;
 use std::test::Fail;
@@ -85,8 +86,8 @@ fn found(alloc: Global, fails: u32) -> Result<Option<Sizes>, Fail> {
     })
 }
 
-/// What is to be held: a call that syncs and one that reads open the disk, and each change makes four calls, of
-/// which the third opens its gate.
+/// What is to be held: a call that syncs and one that reads open the disk, and each change makes
+/// four calls, of which the third opens its gate.
 fn wanted(fails: u32) -> Sizes {
     match fails {
         0..=5 => (None, None),
@@ -108,15 +109,16 @@ fn each_call_fails(rt: HostRuntime) -> Result<(), Fail> {
     Ok(())
 }
 
-/// The record of a put of six bytes with its gate, and the closed gate behind it, over zeros or over old bytes.
+/// The record of a put of six bytes with its gate, and the closed gate behind it, over zeros or
+/// over old bytes.
 const RECORD: [u8; 46] = [
     1, 1, 0xaa, 0xaa, 0xaa, 0xaa, 0xaa, 0xaa, 0xaa, 0xaa, 0xaa, 0xaa, 0xaa, 0xaa, 0xaa, 0xaa, 0xaa,
     0xaa, 0xaa, 0xaa, 0xaa, 0xaa, 0xaa, 0xaa, 0xaa, 0xaa, 0xaa, 0xaa, 0xaa, 0xaa, 0xaa, 0xaa, 0xaa,
     0xaa, 1, 0, 0, 0, 6, 1, 1, 1, 1, 1, 1, 0,
 ];
 
-/// How many bytes of a part an image holds, if it is opened. The image has the words of the record whose bits are
-/// set, old bytes for the others, and this gate.
+/// How many bytes of a part an image holds, if it is opened. The image has the words of the record
+/// whose bits are set, old bytes for the others, and this gate.
 fn opened(alloc: Global, words: u32, gate: u8) -> Result<Option<Option<u32>>, Fail> {
     let mut bytes = vec![in alloc; 1u8; 48]?;
     for place in 0..46 {

@@ -93,7 +93,8 @@ fn makes_room<K: Keep>(keep: &mut K, bytes: &[u8]) -> bool {
         && stands(keep, 3, Part::Secondary, 4093, [77, 78, 79, 80])
 }
 
-/// Whether three pages refuse what needs more than is free, and are all free once the blob is dropped.
+/// Whether three pages refuse what needs more than is free, and are all free once the blob is
+/// dropped.
 fn has_three<K: Keep>(keep: &mut K, bytes: &[u8]) -> bool {
     let full = KeepError::Full { needed: 2, free: 1 };
     let filled = put(keep, 7, Part::Metadata, bytes, 266) == Ok(())

@@ -1,5 +1,5 @@
-//! Tests of the adapters to std, of pages and both keeps, of a journal, of a handover, and of a writer and a shard
-//! that serves.
+//! Tests of the adapters to std, of pages and both keeps, of a journal, of a handover, and of a
+//! writer and a shard that serves.
 #![tactic(auto)]
 
 #[cfg(test)]

@@ -1,5 +1,5 @@
-//! Messages of the blob of six words for one fault under the toy digest. Its matrix has the rows 1 2 3 0, 4 5 6 7,
-//! 11 12 9 14 and 14 11 12 9.
+//! Messages of the blob of six words for one fault under the toy digest. Its matrix has the rows 1
+//! 2 3 0, 4 5 6 7, 11 12 9 14 and 14 11 12 9.
 
 ghost use Rattle.std.specs.Prelude.{◌<◌};
 

@@ -22,7 +22,8 @@ use wal_writer::Write;
 fn ledger(alloc: Global) -> Result<Serving, Fail>
     ensures f { IfOk result (λ s. s.ledger.log.f ≡ 1) }
     ensures epoch { IfOk result (λ s. reading s.ledger.log ≡ 0) }
-    ensures owners { IfOk result (λ s. (k : ℕ) → k < 4 → node_of (owners_of Now s.ledger.log) k ≡ k) }
+    ensures owners { IfOk result
+        (λ s. (k : ℕ) → k < 4 → node_of (owners_of Now s.ledger.log) k ≡ k) }
 {
     let owners = Shards::from_vec(Vec::from_slice(alloc, &[0, 1, 2, 3])?);
     let faulty = Shards::from_vec(Vec::new(alloc));
@@ -84,8 +85,8 @@ fn on_pool<H: Hash32>(
     end
 }
 
-/// The answers to a registration of a blob, its metadata and its two slivers, from a shard of three pages: the primary sliver
-/// needs two pages of the one that is free, and the secondary one fits.
+/// The answers to a registration of a blob, its metadata and its two slivers, from a shard of three
+/// pages: the primary sliver needs two pages of the one that is free, and the secondary one fits.
 const STORED: [u8; 68] = [
     0x57, 0, 0, 0, 0, 0, 10, 0x30, 0, 0, 0, 0, 9, 0, 0, 0, 0, //
     0x57, 0, 0, 0, 0, 0, 10, 0x30, 0, 0, 0, 0, 0, 0, 0, 0, 0, //
@@ -151,7 +152,8 @@ fn two_metadata(alloc: Global) -> Result<Vec<u8>, AllocError> {
     Ok(stream)
 }
 
-/// The answers: registered, stored, and the leaves of the two pairs, two texts of one digest. Nothing behind them is answered.
+/// The answers: registered, stored, and the leaves of the two pairs, two texts of one digest.
+/// Nothing behind them is answered.
 fn two_texts() -> [u8; 174] {
     let mut wanted = [0; 174];
     wanted[..17].copy_from_slice(&STORED[..17]);

@@ -8,12 +8,14 @@ use Rattle.wal_reader.specs.Carried.{IsFirstHeldSliver, NoHeldSliver, openings_i
 use Rattle.wal_recover.specs.Recovery.{OpeningsComeTo}
 use Rattle.wal_recover.specs.declared.outcome.Recovered.TheVariants.{Sliver}
 
--- these are the bytes of column j: those of the first held secondary sliver of this index, or where there is none those of
--- the sliver that the openings give
-abbrev pub IsColumn : (List ℕ → List ℕ) → List ℕ → BlobMetadata → List (List ℕ) → ℕ → List ℕ → Type 0
+-- these are the bytes of column j: those of the first held secondary sliver of this index, or where
+-- there is none those of the sliver that the openings give
+abbrev pub IsColumn : (List ℕ → List ℕ) → List ℕ → BlobMetadata → List (List ℕ) → ℕ → List ℕ
+    → Type 0
 IsColumn digest id m payloads j bytes =
     IsFirstHeldSliver digest id m Secondary j payloads bytes
-    ⊎ (NoHeldSliver digest id m Secondary j payloads × OpeningsComeTo digest m Secondary j (openings_in id Secondary j payloads) (Sliver bytes))
+    ⊎ (NoHeldSliver digest id m Secondary j payloads
+    × OpeningsComeTo digest m Secondary j (openings_in id Secondary j payloads) (Sliver bytes))
 
 -- these are the bytes of column j of a matrix
 abbrev pub IsOwnColumn : ℕ → ℕ → List ℕ → ℕ → List ℕ → Type 0
@@ -24,7 +26,8 @@ abbrev pub IsMissing : (ℕ → List ℕ → Type 0) → ℕ → Type 0
 IsMissing Column j = (bytes : List ℕ) → Column j bytes → ⊥
 
 -- these are the bytes of `count` columns from column `from` on, one after the other
-pub record AreColumns (Column : ℕ → List ℕ → Type 0) (size from count : ℕ) (bytes : List ℕ) : Type 0 where
+pub record AreColumns (Column : ℕ → List ℕ → Type 0)
+    (size from count : ℕ) (bytes : List ℕ) : Type 0 where
   pub long : length bytes ≡ count * size
   pub each : (j : ℕ) → j < count → Column (from + j) (region size bytes j)
 

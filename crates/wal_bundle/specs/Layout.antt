@@ -1,6 +1,7 @@
 -- How members are laid into the columns of one blob.
 --
--- The index fills columns from column 0 on, and the bytes of each member the columns behind, from a column's start.
+-- The index fills columns from column 0 on, and the bytes of each member the columns behind, from a
+-- column's start.
 use Rattle.std.specs.Prelude.{◌≡◌, ℕ, ◌+◌, ◌-◌, ◌*◌, ◌%◌, ◌<◌, ◌≤◌, List, ◌++◌, length, map, take, replicate, slice_index, Result, Ok, Err}
 use Rattle.std.specs.Int.{w16, w32, div_ceil}
 use Rattle.std.specs.List.{flat_map, range_with_len, sum_by}
@@ -32,7 +33,8 @@ member_columns size lengths = sum_by (columns_for size) lengths
 
 -- the column that member k begins with
 unfoldable pub first_column : ℕ → List ℕ → ℕ → ℕ
-first_column size lengths k = index_columns size (length lengths) + member_columns size (take k lengths)
+first_column size lengths k =
+    index_columns size (length lengths) + member_columns size (take k lengths)
 
 -- all columns that are used
 unfoldable pub used_columns : ℕ → List ℕ → ℕ
@@ -51,7 +53,8 @@ pub record IsBundleSize (f : ℕ) (lengths : List ℕ) (s : ℕ) : Type 0 where
 
 -- the entry of member k: its first column, and its length
 unfoldable pub entry_text : ℕ → List ℕ → ℕ → List ℕ
-entry_text size lengths k = number_text w16 (first_column size lengths k) ++ number_text w32 (slice_index lengths k)
+entry_text size lengths k =
+    number_text w16 (first_column size lengths k) ++ number_text w32 (slice_index lengths k)
 
 -- the entries of the first members
 abbrev pub entries_text : ℕ → List ℕ → ℕ → List ℕ
@@ -59,11 +62,13 @@ entries_text size lengths count = flat_map (entry_text size lengths) (range_with
 
 -- the index: the number of members, and an entry for each
 unfoldable pub index_text : ℕ → List ℕ → List ℕ
-index_text size lengths = number_text w16 (length lengths) ++ entries_text size lengths (length lengths)
+index_text size lengths =
+    number_text w16 (length lengths) ++ entries_text size lengths (length lengths)
 
 -- bytes, and zeros up to the end of their last column
 unfoldable pub whole_columns : ℕ → List ℕ → List ℕ
-whole_columns size bytes = bytes ++ replicate (columns_for size (length bytes) * size - length bytes) 0
+whole_columns size bytes =
+    bytes ++ replicate (columns_for size (length bytes) * size - length bytes) 0
 
 -- the lengths of members
 abbrev pub lengths_of : List (List ℕ) → List ℕ
@@ -72,12 +77,14 @@ lengths_of members = map (λ member. length member) members
 -- the columns that are used, one after the other: the index, and the members
 unfoldable pub columns_text : ℕ → List (List ℕ) → List ℕ
 columns_text size members =
-    whole_columns size (index_text size (lengths_of members)) ++ flat_map (whole_columns size) members
+    whole_columns size (index_text size (lengths_of members))
+    ++ flat_map (whole_columns size) members
 
 -- the bundle for symbols of s bytes: the source block that has these columns, row by row
 unfoldable pub bundle_text : ℕ → ℕ → List (List ℕ) → List ℕ
 bundle_text f s members =
-    block_of_columns f s (columns_text (column_bytes f s) members) (used_columns (column_bytes f s) (lengths_of members))
+    block_of_columns f s (columns_text (column_bytes f s) members)
+    (used_columns (column_bytes f s) (lengths_of members))
 
 -- these bytes are the bundle of the members, of which there are at most twice as many as faults
 pub record IsBundle (f : ℕ) (members : List (List ℕ)) (bytes : List ℕ) : Type 0 where
@@ -88,7 +95,8 @@ pub record IsBundle (f : ℕ) (members : List (List ℕ)) (bytes : List ℕ) : T
 
 -- what bundling members for f faults comes to; of these cases one applies, but for want of memory
 abbrev pub Bundles : ℕ → List (List ℕ) → Result (List ℕ) BundleError → Type 0
-Bundles f members (Ok bytes) = (1 ≤ f) × (f ≤ 333) × IsBundle f members bytes × (length bytes ≤ most_bytes)
+Bundles f members (Ok bytes) =
+    (1 ≤ f) × (f ≤ 333) × IsBundle f members bytes × (length bytes ≤ most_bytes)
 -- there is no such number of faults
 Bundles f members (Err BadFaults) = (1 ≤ f) × (f ≤ 333) → ⊥
 -- there are more than twice as many members as faults

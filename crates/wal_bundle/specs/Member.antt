@@ -16,8 +16,8 @@ use Rattle.wal_bundle.specs.Columns.{AreColumns, IsColumn, IsFirstMissing, IsMis
 unfoldable pub count_in : List ℕ → ℕ
 count_in bytes = from_be_bytes w16 (take 2 bytes)
 
--- columns begin with the index of members of these lengths, at most twice as many as faults, and s is the least size of a
--- symbol for which these have room
+-- columns begin with the index of members of these lengths, at most twice as many as faults, and s
+-- is the least size of a symbol for which these have room
 pub record IsIndex (f s : ℕ) (columns lengths : List ℕ) : Type 0 where
   pub few : length lengths ≤ 2 * f
   pub size : IsBundleSize f lengths s
@@ -26,21 +26,28 @@ pub record IsIndex (f s : ℕ) (columns lengths : List ℕ) : Type 0 where
 -- the columns of the index of members of these lengths are there
 pub record HasIndex (Column : ℕ → List ℕ → Type 0) (f s : ℕ) (lengths : List ℕ) : Type 0 where
   pub columns : List ℕ
-  pub there : AreColumns Column (column_bytes f s) 0 (index_columns (column_bytes f s) (length lengths)) columns
+  pub there : AreColumns Column (column_bytes f s) 0
+      (index_columns (column_bytes f s) (length lengths)) columns
   pub index : IsIndex f s columns lengths
 
 -- by this index the columns of member k are there, and begin with these bytes
-pub record HasMember (Column : ℕ → List ℕ → Type 0) (f s : ℕ) (lengths : List ℕ) (k : ℕ) (bytes : List ℕ) : Type 0 where
+pub record HasMember (Column : ℕ → List ℕ → Type 0) (f s : ℕ)
+    (lengths : List ℕ) (k : ℕ) (bytes : List ℕ) : Type 0 where
   pub within : k < length lengths
   pub columns : List ℕ
-  pub there : AreColumns Column (column_bytes f s) (first_column (column_bytes f s) lengths k) (columns_for (column_bytes f s) (slice_index lengths k)) columns
+  pub there : AreColumns Column (column_bytes f s) (first_column (column_bytes f s) lengths k)
+      (columns_for (column_bytes f s) (slice_index lengths k)) columns
   pub front : bytes ≡ take (slice_index lengths k) columns
 
--- the columns of the index of members of these lengths are there, and those of member k, and they are those of the extended matrix
-pub record ShowsMember (Column : ℕ → List ℕ → Type 0) (f s : ℕ) (lengths e : List ℕ) (k : ℕ) : Type 0 where
-  pub index : (j : ℕ) → j < index_columns (column_bytes f s) (length lengths) → Column j (secondary_of f s e j)
+-- the columns of the index of members of these lengths are there, and those of member k, and they
+-- are those of the extended matrix
+pub record ShowsMember (Column : ℕ → List ℕ → Type 0)
+    (f s : ℕ) (lengths e : List ℕ) (k : ℕ) : Type 0 where
+  pub index : (j : ℕ) → j < index_columns (column_bytes f s) (length lengths)
+      → Column j (secondary_of f s e j)
   pub member : (j : ℕ) → j < columns_for (column_bytes f s) (slice_index lengths k)
-      → Column (first_column (column_bytes f s) lengths k + j) (secondary_of f s e (first_column (column_bytes f s) lengths k + j))
+      → Column (first_column (column_bytes f s) lengths k + j)
+      (secondary_of f s e (first_column (column_bytes f s) lengths k + j))
 
 -- j is the first column that is missing on the way to member k
 pub data MissesColumn (Column : ℕ → List ℕ → Type 0) (f s k j : ℕ) : Type 0 where
@@ -48,37 +55,45 @@ pub data MissesColumn (Column : ℕ → List ℕ → Type 0) (f s k j : ℕ) : T
   of_start : j ≡ 0 → IsMissing Column 0 → MissesColumn Column f s k j
   -- a further column of the index, which column 0 tells the members' number of
   of_index : (bytes : List ℕ) → Column 0 bytes → count_in bytes ≤ 2 * f
-      → IsFirstMissing Column 1 (index_columns (column_bytes f s) (count_in bytes)) j → MissesColumn Column f s k j
+      → IsFirstMissing Column 1 (index_columns (column_bytes f s) (count_in bytes)) j
+      → MissesColumn Column f s k j
   -- a column of the member
   of_member : (lengths : List ℕ) → HasIndex Column f s lengths → k < length lengths
       → IsFirstMissing Column (first_column (column_bytes f s) lengths k)
-      (first_column (column_bytes f s) lengths k + columns_for (column_bytes f s) (slice_index lengths k)) j
+      (first_column (column_bytes f s) lengths k
+      + columns_for (column_bytes f s) (slice_index lengths k))
+      j
       → MissesColumn Column f s k j
 
--- column 0 tells of too many members, or the columns of the index are there, and it is that of no members
+-- column 0 tells of too many members, or the columns of the index are there, and it is that of no
+-- members
 pub data HasBadIndex (Column : ℕ → List ℕ → Type 0) (f s : ℕ) : Type 0 where
   -- it tells of too many
   of_many : (bytes : List ℕ) → Column 0 bytes → 2 * f < count_in bytes → HasBadIndex Column f s
   -- it is that of no lengths
   of_none : (bytes : List ℕ) → Column 0 bytes → count_in bytes ≤ 2 * f → (columns : List ℕ)
-      → AreColumns Column (column_bytes f s) 0 (index_columns (column_bytes f s) (count_in bytes)) columns
+      → AreColumns Column (column_bytes f s) 0
+      (index_columns (column_bytes f s) (count_in bytes)) columns
       → ((lengths : List ℕ) → IsIndex f s columns lengths → ⊥) → HasBadIndex Column f s
 
 -- what the columns that are there tell of member k; of these cases one applies
 abbrev pub Tells : (ℕ → List ℕ → Type 0) → ℕ → ℕ → ℕ → MemberAnswer → Type 0
 Tells Column f s k (Missing j) = MissesColumn Column f s k j
 Tells Column f s k BadIndex = HasBadIndex Column f s
-Tells Column f s k (NoMember count) = (lengths : List ℕ) × HasIndex Column f s lengths × (count ≡ length lengths) × (count ≤ k)
-Tells Column f s k (Member bytes) = (lengths : List ℕ) × HasIndex Column f s lengths × HasMember Column f s lengths k bytes
+Tells Column f s k (NoMember count) =
+    (lengths : List ℕ) × HasIndex Column f s lengths × (count ≡ length lengths) × (count ≤ k)
+Tells Column f s k (Member bytes) =
+    (lengths : List ℕ) × HasIndex Column f s lengths × HasMember Column f s lengths k bytes
 Tells Column f s k NoMetadata = ⊥
 Tells Column f s k (Collision clash) = ⊥
 
 -- what payloads tell of member k of the bundle with this identifier; of these cases one applies
 abbrev pub IsMember : (List ℕ → List ℕ) → List ℕ → ℕ → List (List ℕ) → MemberAnswer → Type 0
--- two metadata of the identifier differ, the first one and the first that differs from it, and two texts collide, each digested for
--- its own
+-- two metadata of the identifier differ, the first one and the first that differs from it, and two
+-- texts collide, each digested for its own
 IsMember digest id k payloads (Collision clash) =
-    (a : BlobMetadata) × (b : BlobMetadata) × AreFirstTwo digest id payloads a b × IsCollision digest clash.left clash.right
+    (a : BlobMetadata) × (b : BlobMetadata) × AreFirstTwo digest id payloads a b
+    × IsCollision digest clash.left clash.right
     × AreDigestedFor digest a b clash.left clash.right
 -- there is no metadata of the identifier
 IsMember digest id k payloads NoMetadata = (m : BlobMetadata) → HasMetadata digest id payloads m → ⊥

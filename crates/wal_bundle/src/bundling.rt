@@ -89,18 +89,21 @@ fn bundle_of(
     Ok(laid(alloc, f, half, lengths, members)?)
 }
 
-/// The bundle of these members for f faults: the blob whose source block has the columns of the index and of the members,
-/// row by row.
+/// The bundle of these members for f faults: the blob whose source block has the columns of the
+/// index and of the members, row by row.
 ///
-/// Column 0 begins with the index: the number of members in two bytes, and for each its first column in two and its length in
-/// four, most significant first. A member begins with a column of its own, behind those of the index and of the members
-/// before it, and an empty one names the column of the next. What the columns have besides is zero. A symbol has the least
-/// even number of bytes, at least 2, for which all of this has room in `2f + 1` columns of `f + 1` symbols.
+/// Column 0 begins with the index: the number of members in two bytes, and for each its first
+/// column in two and its length in four, most significant first. A member begins with a column of
+/// its own, behind those of the index and of the members before it, and an empty one names the
+/// column of the next. What the columns have besides is zero. A symbol has the least even number of
+/// bytes, at least 2, for which all of this has room in `2f + 1` columns of `f + 1` symbols.
 pub fn bundle(alloc: Global, f: u32, members: &Payloads) -> Result<Bytes, BundleError>
     ensures bundled { Bundles f members.now result }
     // There is no other answer, but for want of memory.
-    ensures only { (other : Result (List ℕ) BundleError) → Bundles f members.now other → other ≢ Err Memory → result ≢ Err Memory → other ≡ result }
-    // It fills its source block, so that the symbols of its matrix have the size that it was laid out for.
+    ensures only { (other : Result (List ℕ) BundleError) → Bundles f members.now other
+        → other ≢ Err Memory → result ≢ Err Memory → other ≡ result }
+    // It fills its source block, so that the symbols of its matrix have the size that it was laid
+    // out for.
     ensures long { IfOk result (λ bytes. (s : ℕ) → IsBundleSize f (lengths_of members.now) s
         → (length bytes ≡ cell_count f * s) × (symbol_size f (length bytes) ≡ s)) }
 {
@@ -109,7 +112,9 @@ pub fn bundle(alloc: Global, f: u32, members: &Payloads) -> Result<Bytes, Bundle
 
 /// A column of a bundle that is used is the secondary sliver of its index, in the extended matrix.
 pub fn bundle_columns_are_slivers()
-    ensures { (f s : ℕ) (members : List (List ℕ)) (e : List ℕ) → IsBundleSize f (lengths_of members) s → IsExtended f (bundle_text f s members) e
+    ensures { (f s : ℕ) (members : List (List ℕ)) (e : List ℕ)
+        → IsBundleSize f (lengths_of members) s → IsExtended f (bundle_text f s members) e
         → (j : ℕ) → j < used_columns (column_bytes f s) (lengths_of members)
-        → secondary_of f s e j ≡ region (column_bytes f s) (columns_text (column_bytes f s) members) j }
+        → secondary_of f s e j
+        ≡ region (column_bytes f s) (columns_text (column_bytes f s) members) j }
 {}

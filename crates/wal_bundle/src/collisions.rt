@@ -37,9 +37,12 @@ fn other_column<H: Hash32>(
 ) -> Result<Option<Bytes>, AllocError>
     requires f { work.old.f ≡ (metadata_shown m).f }
     requires shape { IsShape (metadata_shown m).f (metadata_shown m).length }
-    ensures column { IfOk result (λ found. IfSome found (λ bytes. IsColumn H.digest id.now.0 (metadata_shown m.entry) payloads.now j bytes)) }
+    ensures column { IfOk result (λ found. IfSome found (λ bytes.
+        IsColumn H.digest id.now.0 (metadata_shown m.entry) payloads.now j bytes)) }
     ensures apart { IfOk result (λ found. IfSome found (λ bytes. bytes ≢ own.now)) }
-    ensures none { IfOk result (λ found. IfNone found ((bytes : List ℕ) → IsColumn H.digest id.now.0 (metadata_shown m.entry) payloads.now j bytes → bytes ≡ own.now)) }
+    ensures none { IfOk result (λ found. IfNone found ((bytes : List ℕ)
+        → IsColumn H.digest id.now.0 (metadata_shown m.entry) payloads.now j bytes
+        → bytes ≡ own.now)) }
     ensures f { work.new.f ≡ work.old.f }
 {
     match column_in::<H>(alloc, work, id, m, j, payloads)? {
@@ -57,7 +60,8 @@ fn other_column<H: Hash32>(
 /// Column j of the matrix, in memory.
 fn own_column(alloc: Global, matrix: &Encoded, j: u16) -> Result<Vec<u8>, AllocError>
     requires { j < shard_count matrix.now.shape.f }
-    ensures { IfOk result (λ own. own.items ≡ secondary_of matrix.now.shape.f (symbol_bytes matrix.now) matrix.now.cells j) }
+    ensures { IfOk result (λ own. own.items
+        ≡ secondary_of matrix.now.shape.f (symbol_bytes matrix.now) matrix.now.cells j) }
 {
     let size = matrix.shape().sliver_len(Axis::Secondary) as usize;
     let mut own = vec![in alloc; 0u8; size]?;
@@ -65,7 +69,8 @@ fn own_column(alloc: Global, matrix: &Encoded, j: u16) -> Result<Vec<u8>, AllocE
     Ok(own)
 }
 
-/// Two texts with one digest, from a column that is not the matrix's own, though the metadata commits both.
+/// Two texts with one digest, from a column that is not the matrix's own, though the metadata
+/// commits both.
 fn collide_own<H: Hash32>(
     alloc: Global,
     id: &BlobId,
@@ -73,13 +78,18 @@ fn collide_own<H: Hash32>(
     matrix: &Encoded,
     payloads: &Payloads,
 ) -> Result<Collision, AllocError>
-    requires metadata { metadata_shown m ≡ metadata_over H.digest matrix.now.shape matrix.now.cells }
+    requires metadata { metadata_shown m
+        ≡ metadata_over H.digest matrix.now.shape matrix.now.cells }
     requires coded { IsCodedMatrix matrix.now.shape.f (symbol_bytes matrix.now) matrix.now.cells }
-    requires apart { AgreeBelow (shard_count (metadata_shown m).f) (IsColumn H.digest id.now.0 (metadata_shown m) payloads.now)
+    requires apart { AgreeBelow (shard_count (metadata_shown m).f)
+        (IsColumn H.digest id.now.0 (metadata_shown m) payloads.now)
         (IsOwnColumn matrix.now.shape.f (symbol_bytes matrix.now) matrix.now.cells) → ⊥ }
     ensures collision { IfOk result (λ c. IsCollision H.digest c.left c.right) }
-    ensures texts { IfOk result (λ c. AreDigestedForColumns H.digest (metadata_shown m.entry).f (IsColumn H.digest id.now.0 (metadata_shown m.entry) payloads.now)
-        (IsOwnColumn matrix.now.shape.f (symbol_bytes matrix.now) matrix.now.cells) c.left c.right) }
+    ensures texts { IfOk result
+        (λ c. AreDigestedForColumns H.digest (metadata_shown m.entry).f
+        (IsColumn H.digest id.now.0 (metadata_shown m.entry) payloads.now)
+        (IsOwnColumn matrix.now.shape.f (symbol_bytes matrix.now) matrix.now.cells)
+        c.left c.right) }
 {
     let mut work = Work::create(alloc, m.f())?;
     for j in 0..matrix.shape().n() as u16 {
@@ -105,8 +115,9 @@ fn bundle_again(alloc: Global, f: u32, members: &Payloads) -> Result<Bytes, Allo
     }
 }
 
-/// Two texts with one digest, from payloads that tell of member k what is not so of the bundle with this identifier: those of
-/// the two metadata where these differ, and else those that a column has with the bundle's own.
+/// Two texts with one digest, from payloads that tell of member k what is not so of the bundle with
+/// this identifier: those of the two metadata where these differ, and else those that a column has
+/// with the bundle's own.
 ///
 /// It fails only for want of memory.
 pub fn bundle_collision<H: Hash32>(
@@ -119,8 +130,10 @@ pub fn bundle_collision<H: Hash32>(
 ) -> Result<Collision, AllocError>
     requires { ContradictsBundle H.digest shape.now members.now id.now.0 k payloads.now }
     ensures collision { IfOk result (λ c. IsCollision H.digest c.left c.right) }
-    // The left text is the bundle's where the metadata differ, and that of the payloads' column else.
-    ensures texts { IfOk result (λ c. AreDigestedForBundle H.digest shape.now members.now id.now.0 payloads.now c.left c.right) }
+    // The left text is the bundle's where the metadata differ, and that of the payloads' column
+    // else.
+    ensures texts { IfOk result (λ c.
+        AreDigestedForBundle H.digest shape.now members.now id.now.0 payloads.now c.left c.right) }
 {
     let bytes = bundle_again(alloc, shape.f(), members)?;
     let matrix = extend(alloc, shape, bytes.as_slice())?;
@@ -146,10 +159,13 @@ fn columns_apart<H: Hash32>(
 ) -> Result<Option<(Bytes, Bytes)>, AllocError>
     requires f { work.old.f ≡ (metadata_shown m).f }
     requires shape { IsShape (metadata_shown m).f (metadata_shown m).length }
-    ensures left { IfOk result (λ found. IfSome found (λ two. IsColumn H.digest id.now.0 (metadata_shown m.entry) a.now j two.0)) }
-    ensures right { IfOk result (λ found. IfSome found (λ two. IsColumn H.digest id.now.0 (metadata_shown m.entry) b.now j two.1)) }
+    ensures left { IfOk result (λ found.
+        IfSome found (λ two. IsColumn H.digest id.now.0 (metadata_shown m.entry) a.now j two.0)) }
+    ensures right { IfOk result (λ found.
+        IfSome found (λ two. IsColumn H.digest id.now.0 (metadata_shown m.entry) b.now j two.1)) }
     ensures apart { IfOk result (λ found. IfSome found (λ two. two.0 ≢ two.1)) }
-    ensures none { IfOk result (λ found. IfNone found ((x y : List ℕ) → IsColumn H.digest id.now.0 (metadata_shown m.entry) a.now j x
+    ensures none { IfOk result (λ found.
+        IfNone found ((x y : List ℕ) → IsColumn H.digest id.now.0 (metadata_shown m.entry) a.now j x
         → IsColumn H.digest id.now.0 (metadata_shown m.entry) b.now j y → x ≡ y)) }
     ensures f { work.new.f ≡ work.old.f }
 {
@@ -162,7 +178,8 @@ fn columns_apart<H: Hash32>(
     }
 }
 
-/// Two texts with one digest, from two lists of payloads that show two different columns, though one metadata commits both.
+/// Two texts with one digest, from two lists of payloads that show two different columns, though
+/// one metadata commits both.
 fn collide_columns<H: Hash32>(
     alloc: Global,
     id: &BlobId,
@@ -170,10 +187,13 @@ fn collide_columns<H: Hash32>(
     a: &Payloads,
     b: &Payloads,
 ) -> Result<Collision, AllocError>
-    requires { AgreeBelow (shard_count (metadata_shown m).f) (IsColumn H.digest id.now.0 (metadata_shown m) a.now)
+    requires { AgreeBelow (shard_count (metadata_shown m).f)
+        (IsColumn H.digest id.now.0 (metadata_shown m) a.now)
         (IsColumn H.digest id.now.0 (metadata_shown m) b.now) → ⊥ }
     ensures collision { IfOk result (λ c. IsCollision H.digest c.left c.right) }
-    ensures texts { IfOk result (λ c. AreDigestedForColumns H.digest (metadata_shown m.entry).f (IsColumn H.digest id.now.0 (metadata_shown m.entry) a.now)
+    ensures texts { IfOk result
+        (λ c. AreDigestedForColumns H.digest (metadata_shown m.entry).f
+        (IsColumn H.digest id.now.0 (metadata_shown m.entry) a.now)
         (IsColumn H.digest id.now.0 (metadata_shown m.entry) b.now) c.left c.right) }
 {
     let mut work = Work::create(alloc, m.f())?;
@@ -191,8 +211,9 @@ fn collide_columns<H: Hash32>(
     unreachable!()
 }
 
-/// Two texts with one digest, from two lists of payloads that tell two different members k of one identifier: those of the two
-/// metadata where these differ, and else those that two different columns have.
+/// Two texts with one digest, from two lists of payloads that tell two different members k of one
+/// identifier: those of the two metadata where these differ, and else those that two different
+/// columns have.
 ///
 /// It fails only for want of memory.
 pub fn member_collision<H: Hash32>(
@@ -205,7 +226,8 @@ pub fn member_collision<H: Hash32>(
     requires { AreContraryMembers H.digest id.now.0 k a.now b.now }
     ensures collision { IfOk result (λ c. IsCollision H.digest c.left c.right) }
     // The left text is of the first list of payloads, and the right one of the other.
-    ensures texts { IfOk result (λ c. AreDigestedForMembers H.digest id.now.0 a.now b.now c.left c.right) }
+    ensures texts { IfOk result
+        (λ c. AreDigestedForMembers H.digest id.now.0 a.now b.now c.left c.right) }
 {
     let FoundMetadata::One(left) = metadata_in::<H>(id, a) else {
         unreachable!()
@@ -219,11 +241,14 @@ pub fn member_collision<H: Hash32>(
     collide_columns::<H>(alloc, id, left, a, b)
 }
 
-/// Payloads of bytes that contradict a bundle, or each other, make it impossible that no two texts of bytes have one digest.
-/// Computes nothing.
+/// Payloads of bytes that contradict a bundle, or each other, make it impossible that no two texts
+/// of bytes have one digest. Computes nothing.
 pub fn contrary_members_collide<H: Hash32>()
-    ensures bundle { (shape : BlobShape) (members : List (List ℕ)) (id : List ℕ) (k : ℕ) (payloads : List (List ℕ)) → All (All IsByte) payloads
+    ensures bundle { (shape : BlobShape) (members : List (List ℕ))
+        (id : List ℕ) (k : ℕ) (payloads : List (List ℕ))
+        → All (All IsByte) payloads
         → ContradictsBundle H.digest shape members id k payloads → CanCollide H.digest }
-    ensures members { (id : List ℕ) (k : ℕ) (a b : List (List ℕ)) → All (All IsByte) a → All (All IsByte) b
+    ensures members { (id : List ℕ) (k : ℕ) (a b : List (List ℕ)) → All (All IsByte) a
+        → All (All IsByte) b
         → AreContraryMembers H.digest id k a b → CanCollide H.digest }
 {}

@@ -39,8 +39,10 @@ fn recovered_in<H: Hash32>(
 ) -> Result<Option<Bytes>, AllocError>
     requires f { work.old.f ≡ (metadata_shown m).f }
     requires none { NoHeldSliver H.digest id.now.0 (metadata_shown m) Secondary j payloads.now }
-    ensures there { IfOk result (λ found. IfSome found (λ bytes. IsColumn H.digest id.now.0 (metadata_shown m.entry) payloads.now j bytes)) }
-    ensures missing { IfOk result (λ found. IfNone found (IsMissing (IsColumn H.digest id.now.0 (metadata_shown m.entry) payloads.now) j)) }
+    ensures there { IfOk result (λ found. IfSome found (λ bytes.
+        IsColumn H.digest id.now.0 (metadata_shown m.entry) payloads.now j bytes)) }
+    ensures missing { IfOk result (λ found. IfNone found (IsMissing
+        (IsColumn H.digest id.now.0 (metadata_shown m.entry) payloads.now) j)) }
     ensures f { work.new.f ≡ work.old.f }
 {
     let openings = openings_in(alloc, id, Axis::Secondary, j, payloads)?;
@@ -48,8 +50,8 @@ fn recovered_in<H: Hash32>(
     Ok(sliver_of(recovery.outcome))
 }
 
-/// The bytes of column j, where it is there: those of the first held secondary sliver of this index, or where there is none
-/// those of the sliver that its openings give.
+/// The bytes of column j, where it is there: those of the first held secondary sliver of this
+/// index, or where there is none those of the sliver that its openings give.
 pub(crate) fn column_in<H: Hash32>(
     alloc: Global,
     work: &mut Work,
@@ -59,8 +61,10 @@ pub(crate) fn column_in<H: Hash32>(
     payloads: &Payloads,
 ) -> Result<Option<Bytes>, AllocError>
     requires { work.old.f ≡ (metadata_shown m).f }
-    ensures there { IfOk result (λ found. IfSome found (λ bytes. IsColumn H.digest id.now.0 (metadata_shown m.entry) payloads.now j bytes)) }
-    ensures missing { IfOk result (λ found. IfNone found (IsMissing (IsColumn H.digest id.now.0 (metadata_shown m.entry) payloads.now) j)) }
+    ensures there { IfOk result (λ found. IfSome found (λ bytes.
+        IsColumn H.digest id.now.0 (metadata_shown m.entry) payloads.now j bytes)) }
+    ensures missing { IfOk result (λ found. IfNone found (IsMissing
+        (IsColumn H.digest id.now.0 (metadata_shown m.entry) payloads.now) j)) }
     ensures f { work.new.f ≡ work.old.f }
 {
     match sliver_in::<H>(work, id, m, Axis::Secondary, j, payloads) {
@@ -69,8 +73,8 @@ pub(crate) fn column_in<H: Hash32>(
     }
 }
 
-/// Appends the columns from `start` on that are wanted, up to `total` of them, behind the `have` that are there. The answer
-/// is the first that is missing, if one is.
+/// Appends the columns from `start` on that are wanted, up to `total` of them, behind the `have`
+/// that are there. The answer is the first that is missing, if one is.
 pub(crate) fn add_columns<H: Hash32>(
     alloc: Global,
     work: &mut Work,
@@ -87,10 +91,17 @@ pub(crate) fn add_columns<H: Hash32>(
     requires order { have ≤ total }
     requires last { start + total < 2 ^ 16 }
     requires columns { AreColumns (IsColumn H.digest id.now.0 (metadata_shown m) payloads.now)
-        (column_bytes (metadata_shown m).f (symbol_size (metadata_shown m).f (metadata_shown m).length)) start have columns.old.items }
-    ensures missing { IfOk result (λ found. IfSome found (IsFirstMissing (IsColumn H.digest id.now.0 (metadata_shown m.entry) payloads.now) (start + have) (start + total))) }
-    ensures there { IfOk result (λ found. IfNone found (AreColumns (IsColumn H.digest id.now.0 (metadata_shown m.entry) payloads.now)
-        (column_bytes (metadata_shown m.entry).f (symbol_size (metadata_shown m.entry).f (metadata_shown m.entry).length)) start total columns.new.items)) }
+        (column_bytes (metadata_shown m).f
+        (symbol_size (metadata_shown m).f (metadata_shown m).length))
+        start have columns.old.items }
+    ensures missing { IfOk result (λ found. IfSome found (IsFirstMissing
+        (IsColumn H.digest id.now.0 (metadata_shown m.entry) payloads.now)
+        (start + have) (start + total))) }
+    ensures there { IfOk result (λ found.
+        IfNone found (AreColumns (IsColumn H.digest id.now.0 (metadata_shown m.entry) payloads.now)
+        (column_bytes (metadata_shown m.entry).f
+        (symbol_size (metadata_shown m.entry).f (metadata_shown m.entry).length))
+        start total columns.new.items)) }
     ensures f { work.new.f ≡ work.old.f }
 {
     for place in have..total {

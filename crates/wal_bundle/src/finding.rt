@@ -35,9 +35,11 @@ fn member_by<H: Hash32>(
     lengths: &[u32],
 ) -> Result<MemberAnswer, AllocError>
     requires f { work.old.f ≡ (metadata_shown m).f }
-    requires index { HasIndex (IsColumn H.digest id.now.0 (metadata_shown m) payloads.now) (metadata_shown m).f
+    requires index { HasIndex
+        (IsColumn H.digest id.now.0 (metadata_shown m) payloads.now) (metadata_shown m).f
         (symbol_size (metadata_shown m).f (metadata_shown m).length) lengths.now }
-    ensures { IfOk result (Tells (IsColumn H.digest id.now.0 (metadata_shown m.entry) payloads.now) (metadata_shown m.entry).f
+    ensures { IfOk result (Tells (IsColumn H.digest id.now.0 (metadata_shown m.entry) payloads.now)
+        (metadata_shown m.entry).f
         (symbol_size (metadata_shown m.entry).f (metadata_shown m.entry).length) k) }
 {
     let size = column_size(m);
@@ -97,12 +99,13 @@ fn find<H: Hash32>(
 
 /// Member k, counted from 0, of the bundle with this identifier, from what shards sent.
 ///
-/// Payloads that are no frames, or frames of another identifier or kind, are passed over, and so are slivers and openings that
-/// the metadata does not commit. Column j is secondary sliver j: the first held one, or else what its openings give, as in a
-/// recovery. Only the columns of the index and of the member are looked for. The first case that applies is the answer: two
-/// metadata of the identifier differ; there is none; column 0 is missing; it tells of more than `2f` members, a bad index; a
-/// further column of the index is missing; the index is that of no members; it has no member k; a column of the member is
-/// missing; the member's bytes.
+/// Payloads that are no frames, or frames of another identifier or kind, are passed over, and so
+/// are slivers and openings that the metadata does not commit. Column j is secondary sliver j: the
+/// first held one, or else what its openings give, as in a recovery. Only the columns of the index
+/// and of the member are looked for. The first case that applies is the answer: two metadata of the
+/// identifier differ; there is none; column 0 is missing; it tells of more than `2f` members, a bad
+/// index; a further column of the index is missing; the index is that of no members; it has no
+/// member k; a column of the member is missing; the member's bytes.
 pub fn member<H: Hash32>(
     alloc: Global,
     id: &BlobId,
@@ -111,20 +114,31 @@ pub fn member<H: Hash32>(
 ) -> Result<MemberAnswer, AllocError>
     ensures told { IfOk result (IsMember H.digest id.now.0 k payloads.now) }
     // There is no other answer; the texts of a collision are not compared.
-    ensures only { IfOk result (λ answer. (other : MemberAnswer) → IsMember H.digest id.now.0 k payloads.now other → SameMemberAnswer other answer) }
-    // Of a bundle with this identifier the answer is true, or `bundle_collision` gives two texts with one digest.
-    ensures bundle { IfOk result (λ answer. (shape : BlobShape) (members : List (List ℕ)) → IsBundleOf H.digest shape members id.now.0
-        → IsTrueOf members k answer ⊎ ContradictsBundle H.digest shape members id.now.0 k payloads.now) }
-    // Whoever wrote it, other payloads tell the same member, or `member_collision` gives two texts with one digest.
-    ensures one { IfOk result (λ answer. (others : List (List ℕ)) (own bytes : List ℕ) → answer ≡ Member own → IsMember H.digest id.now.0 k others (Member bytes)
+    ensures only { IfOk result (λ answer. (other : MemberAnswer)
+        → IsMember H.digest id.now.0 k payloads.now other → SameMemberAnswer other answer) }
+    // Of a bundle with this identifier the answer is true, or `bundle_collision` gives two texts
+    // with one digest.
+    ensures bundle { IfOk result (λ answer. (shape : BlobShape) (members : List (List ℕ))
+        → IsBundleOf H.digest shape members id.now.0
+        → IsTrueOf members k answer
+        ⊎ ContradictsBundle H.digest shape members id.now.0 k payloads.now) }
+    // Whoever wrote it, other payloads tell the same member, or `member_collision` gives two texts
+    // with one digest.
+    ensures one { IfOk result (λ answer. (others : List (List ℕ)) (own bytes : List ℕ)
+        → answer ≡ Member own → IsMember H.digest id.now.0 k others (Member bytes)
         → (bytes ≡ own) ⊎ AreContraryMembers H.digest id.now.0 k payloads.now others) }
 {
     find::<H>(alloc, id, k, payloads)
 }
 
-/// Payloads tell a member of a bundle if they show its own columns of the index and of this member; no other column is needed.
+/// Payloads tell a member of a bundle if they show its own columns of the index and of this member;
+/// no other column is needed.
 pub fn shown_member_is_told()
-    ensures { (digest : List ℕ → List ℕ) (id : List ℕ) (k : ℕ) (payloads : List (List ℕ)) (m : BlobMetadata) (members : List (List ℕ)) (bytes own e : List ℕ)
-        → IsMetadataIn digest id payloads m → IsBundle m.f members bytes → length bytes ≡ m.length → IsExtended m.f bytes e → slice_get members k ≡ Some own
-        → ShowsMember (IsColumn digest id m payloads) m.f (symbol_size m.f m.length) (lengths_of members) e k → IsMember digest id k payloads (Member own) }
+    ensures { (digest : List ℕ → List ℕ) (id : List ℕ) (k : ℕ) (payloads : List (List ℕ))
+        (m : BlobMetadata) (members : List (List ℕ)) (bytes own e : List ℕ)
+        → IsMetadataIn digest id payloads m → IsBundle m.f members bytes → length bytes ≡ m.length
+        → IsExtended m.f bytes e → slice_get members k ≡ Some own
+        → ShowsMember (IsColumn digest id m payloads) m.f
+        (symbol_size m.f m.length) (lengths_of members) e k
+        → IsMember digest id k payloads (Member own) }
 {}

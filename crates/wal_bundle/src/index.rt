@@ -10,7 +10,8 @@ use std::alloc::{AllocError, Global};
 
 /// Appends the entry of a member: its first column, and its length.
 fn add_entry(text: &mut Vec<u8>, first: u16, length: u32) -> Result<(), AllocError>
-    ensures { OnOk result (text.new.items ≡ text.old.items ++ (number_text w16 first ++ number_text w32 length)) }
+    ensures { OnOk result
+        (text.new.items ≡ text.old.items ++ (number_text w16 first ++ number_text w32 length)) }
 {
     text.extend_from_slice(&first.to_be_bytes())?;
     text.extend_from_slice(&length.to_be_bytes())?;

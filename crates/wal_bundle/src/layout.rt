@@ -59,7 +59,8 @@ pub(crate) fn used_columns(size: u64, lengths: &[u32]) -> u64
     index_columns(size, lengths.len()) + member_columns(size, lengths)
 }
 
-/// Whether the columns that are used are among those of the source block, for symbols of `2 * half` bytes.
+/// Whether the columns that are used are among those of the source block, for symbols of `2 * half`
+/// bytes.
 fn has_room(f: u32, lengths: &[u32], half: u64) -> bool
     requires few { f ≤ 333 }
     requires members { length lengths.now ≤ 666 }
@@ -82,14 +83,16 @@ pub(crate) fn is_bundle_size(f: u32, lengths: &[u32], half: u64) -> bool
     has_room(f, lengths, half) && (half == 1 || !has_room(f, lengths, half - 1))
 }
 
-/// Half of the least even size of a symbol for which there is room, or one more than `most` where that is above `2 * most`.
+/// Half of the least even size of a symbol for which there is room, or one more than `most` where
+/// that is above `2 * most`.
 pub(crate) fn least_half(f: u32, lengths: &[u32], most: u64) -> u64
     requires few { f ≤ 333 }
     requires members { length lengths.now ≤ 666 }
     requires most { most < 2 ^ 31 }
     ensures some { 1 ≤ result }
     ensures least { result ≤ most → IsBundleSize f lengths.now (2 * result) }
-    ensures none { most < result → (t : ℕ) → t % 2 ≡ 0 → 2 ≤ t → ColumnsFit f lengths.now t → 2 * most < t }
+    ensures none { most < result → (t : ℕ) → t % 2 ≡ 0 → 2 ≤ t → ColumnsFit f lengths.now t
+        → 2 * most < t }
 {
     let mut low = 1;
     let mut high = most + 1;

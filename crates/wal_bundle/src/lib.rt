@@ -1,4 +1,5 @@
-//! Bundles: small members in whole columns of one blob, so that a member is read from its secondary slivers.
+//! Bundles: small members in whole columns of one blob, so that a member is read from its secondary
+//! slivers.
 #![tactic(auto)]
 
 mod answer;

@@ -60,7 +60,8 @@ fn lengths_in(alloc: Global, index: &[u8], count: u16) -> Result<Vec<u32>, Alloc
     Ok(lengths)
 }
 
-/// Whether columns begin with the index of members of these lengths, for which twice `half` is the least size of a symbol.
+/// Whether columns begin with the index of members of these lengths, for which twice `half` is the
+/// least size of a symbol.
 fn is_index(
     alloc: Global,
     f: u32,
@@ -74,7 +75,8 @@ fn is_index(
     requires most { half < 2 ^ 32 }
     requires long { index_bytes (length lengths.now) ≤ length columns.now }
     ensures { IfOk result (λ is. IsTrue is ↔ (IsBundleSize f lengths.now (2 * half)
-        × (take (index_bytes (length lengths.now)) columns.now ≡ index_text (column_bytes f (2 * half)) lengths.now))) }
+        × (take (index_bytes (length lengths.now)) columns.now
+        ≡ index_text (column_bytes f (2 * half)) lengths.now))) }
 {
     if !is_bundle_size(f, lengths, half) {
         return Ok(false);
@@ -93,9 +95,13 @@ fn settle_index(
     requires few { count_in columns.now ≤ 2 * (metadata_shown m).f }
     requires long { index_bytes (count_in columns.now) ≤ length columns.now }
     ensures some { IfOk result (λ found. IfSome found (λ lengths.
-        IsIndex (metadata_shown m.entry).f (symbol_size (metadata_shown m.entry).f (metadata_shown m.entry).length) columns.now lengths.items)) }
+        IsIndex (metadata_shown m.entry).f
+        (symbol_size (metadata_shown m.entry).f (metadata_shown m.entry).length)
+        columns.now lengths.items)) }
     ensures none { IfOk result (λ found. IfNone found ((lengths : List ℕ)
-        → IsIndex (metadata_shown m.entry).f (symbol_size (metadata_shown m.entry).f (metadata_shown m.entry).length) columns.now lengths → ⊥)) }
+        → IsIndex (metadata_shown m.entry).f
+        (symbol_size (metadata_shown m.entry).f (metadata_shown m.entry).length) columns.now lengths
+        → ⊥)) }
 {
     let half = u64::from(m.shape().symbol_size()) / 2;
     let lengths = lengths_in(alloc, columns, count_in(columns))?;
@@ -108,7 +114,9 @@ fn settle_index(
 
 /// The bytes of a column.
 pub(crate) fn column_size(m: MetaRef<'_>) -> u64
-    ensures value { result ≡ column_bytes (metadata_shown m.entry).f (symbol_size (metadata_shown m.entry).f (metadata_shown m.entry).length) }
+    ensures value { result
+        ≡ column_bytes (metadata_shown m.entry).f
+        (symbol_size (metadata_shown m.entry).f (metadata_shown m.entry).length) }
     ensures some { 4 ≤ result }
     ensures most { result < 77497472 }
     // The reference shows a metadata.
@@ -128,8 +136,10 @@ fn index_behind<H: Hash32>(
 ) -> Result<IndexAnswer, AllocError>
     requires f { work.old.f ≡ (metadata_shown m).f }
     requires first { IsColumn H.digest id.now.0 (metadata_shown m) payloads.now 0 columns.items }
-    ensures told { IfOk result (TellsIndex (IsColumn H.digest id.now.0 (metadata_shown m.entry) payloads.now)
-        (metadata_shown m.entry).f (symbol_size (metadata_shown m.entry).f (metadata_shown m.entry).length)) }
+    ensures told { IfOk result
+        (TellsIndex (IsColumn H.digest id.now.0 (metadata_shown m.entry) payloads.now)
+        (metadata_shown m.entry).f
+        (symbol_size (metadata_shown m.entry).f (metadata_shown m.entry).length)) }
     ensures f { work.new.f ≡ work.old.f }
 {
     let size = column_size(m);
@@ -156,8 +166,10 @@ pub(crate) fn read_index<H: Hash32>(
     payloads: &Payloads,
 ) -> Result<IndexAnswer, AllocError>
     requires f { work.old.f ≡ (metadata_shown m).f }
-    ensures told { IfOk result (TellsIndex (IsColumn H.digest id.now.0 (metadata_shown m.entry) payloads.now)
-        (metadata_shown m.entry).f (symbol_size (metadata_shown m.entry).f (metadata_shown m.entry).length)) }
+    ensures told { IfOk result
+        (TellsIndex (IsColumn H.digest id.now.0 (metadata_shown m.entry) payloads.now)
+        (metadata_shown m.entry).f
+        (symbol_size (metadata_shown m.entry).f (metadata_shown m.entry).length)) }
     ensures f { work.new.f ≡ work.old.f }
 {
     match column_in::<H>(alloc, work, id, m, 0, payloads)? {

@@ -5,11 +5,13 @@ use Rattle.wal_shape.specs.Spelling.{number_text}
 use Rattle.wal_shape.specs.ProofReading.{axis_of}
 use Rattle.wal_challenge.specs.declared.drawing.Draw.{Draw}
 
--- the text of draw d of a shard, of 69 bytes: the byte 4, the beacon, the identifier, and the shard and d in two bytes each
+-- the text of draw d of a shard, of 69 bytes: the byte 4, the beacon, the identifier, and the shard
+-- and d in two bytes each
 abbrev pub draw_text : List ℕ → List ℕ → ℕ → ℕ → List ℕ
 draw_text beacon id shard d = 4 ∷ (beacon ++ id ++ number_text w16 shard ++ number_text w16 d)
 
--- the draw that a digest stands for: the lowest bit of byte 0 is the axis, and bytes 3 and 4 as a number, modulo n, are the place
+-- the draw that a digest stands for: the lowest bit of byte 0 is the axis, and bytes 3 and 4 as a
+-- number, modulo n, are the place
 abbrev pub draw_in : ℕ → List ℕ → Draw
 draw_in n digits = record { axis = axis_of (slice_index digits 0 % 2); place = from_be_bytes w16 (take 2 (drop 3 digits)) % n }
 

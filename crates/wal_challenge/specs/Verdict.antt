@@ -14,9 +14,10 @@ use Rattle.wal_challenge.specs.declared.checking.AnswerVerdict.TheVariants.{Acce
 use Rattle.wal_challenge.specs.declared.drawing.Draw.{Draw}
 use Rattle.wal_challenge.specs.Answer.{draw_of, drawn_index}
 
--- the claim answers the draw: its target is the sliver of the crossing axis whose index is the drawn place, its cross is the
--- shard's own sliver of the drawn axis, and m commits it
-pub record AnswersDraw (digest : List ℕ → List ℕ) (m : BlobMetadata) (shard : ℕ) (draw : Draw) (claim : Claim) : Type 0 where
+-- the claim answers the draw: its target is the sliver of the crossing axis whose index is the
+-- drawn place, its cross is the shard's own sliver of the drawn axis, and m commits it
+pub record AnswersDraw (digest : List ℕ → List ℕ) (m : BlobMetadata)
+    (shard : ℕ) (draw : Draw) (claim : Claim) : Type 0 where
   pub axis : claim.axis ≡ crossing draw.axis
   pub index : claim.index ≡ draw.place
   pub cross : claim.opening.cross ≡ drawn_index m shard draw
@@ -25,23 +26,28 @@ pub record AnswersDraw (digest : List ℕ → List ℕ) (m : BlobMetadata) (shar
 -- each of the first claims answers its own draw
 abbrev pub FirstAnswer : (List ℕ → List ℕ) → BlobMetadata → List ℕ → ℕ → List Claim → ℕ → Type 0
 FirstAnswer digest m beacon shard claims count =
-    (d : ℕ) (claim : Claim) → d < count → slice_get claims d ≡ Some claim → AnswersDraw digest m shard (draw_of digest m beacon shard d) claim
+    (d : ℕ) (claim : Claim) → d < count → slice_get claims d ≡ Some claim
+    → AnswersDraw digest m shard (draw_of digest m beacon shard d) claim
 
 -- claim d is the first that does not answer its draw
-pub record IsFirstWrong (digest : List ℕ → List ℕ) (m : BlobMetadata) (beacon : List ℕ) (shard : ℕ) (claims : List Claim) (d : ℕ) : Type 0 where
+pub record IsFirstWrong (digest : List ℕ → List ℕ) (m : BlobMetadata)
+    (beacon : List ℕ) (shard : ℕ) (claims : List Claim) (d : ℕ) : Type 0 where
   pub before : FirstAnswer digest m beacon shard claims d
   pub claim : Claim
   pub there : slice_get claims d ≡ Some claim
   pub wrong : AnswersDraw digest m shard (draw_of digest m beacon shard d) claim → ⊥
 
 -- what claims in answer to so many draws come to; of these cases one applies
-abbrev pub AnswersComeTo : (List ℕ → List ℕ) → BlobMetadata → List ℕ → ℕ → ℕ → List Claim → AnswerVerdict → Type 0
+abbrev pub AnswersComeTo : (List ℕ → List ℕ) → BlobMetadata → List ℕ → ℕ → ℕ → List Claim
+    → AnswerVerdict → Type 0
 -- there are k of them, and k is another number
 AnswersComeTo digest m beacon shard count claims (WrongCount k) = (length claims ≡ k) × (k ≢ count)
 -- the first that does not answer its draw is claim d
-AnswersComeTo digest m beacon shard count claims (Wrong d) = (length claims ≡ count) × IsFirstWrong digest m beacon shard claims d
+AnswersComeTo digest m beacon shard count claims (Wrong d) =
+    (length claims ≡ count) × IsFirstWrong digest m beacon shard claims d
 -- each answers its draw
-AnswersComeTo digest m beacon shard count claims Accepted = (length claims ≡ count) × FirstAnswer digest m beacon shard claims count
+AnswersComeTo digest m beacon shard count claims Accepted =
+    (length claims ≡ count) × FirstAnswer digest m beacon shard claims count
 
 -- the claim that an opening is of the target of draw d
 abbrev pub claim_of : (List ℕ → List ℕ) → BlobMetadata → List ℕ → ℕ → ℕ → Opening → Claim
@@ -49,34 +55,47 @@ claim_of digest m beacon shard d o =
     record { axis = crossing (draw_of digest m beacon shard d).axis; index = (draw_of digest m beacon shard d).place; opening = o }
 
 -- the claims that openings are of the targets of draw d and of those after it
-abbrev pub claims_from : (List ℕ → List ℕ) → BlobMetadata → List ℕ → ℕ → ℕ → List Opening → List Claim
+abbrev pub claims_from : (List ℕ → List ℕ) → BlobMetadata → List ℕ → ℕ → ℕ → List Opening
+    → List Claim
 claims_from digest m beacon shard d [] = []
-claims_from digest m beacon shard d (o ∷ openings) = claim_of digest m beacon shard d o ∷ claims_from digest m beacon shard (d + 1) openings
+claims_from digest m beacon shard d (o ∷ openings) =
+    claim_of digest m beacon shard d o ∷ claims_from digest m beacon shard (d + 1) openings
 
 -- the claim's symbol is that of the matrix e at the drawn place of the shard's own row or column
 abbrev pub HasDrawnSymbol : BlobMetadata → List ℕ → ℕ → Draw → Claim → Type 0
 HasDrawnSymbol m e shard draw claim =
-    claim.opening.symbol ≡ region (symbol_size m.f m.length) (line_of draw.axis m.f (symbol_size m.f m.length) e (drawn_index m shard draw)) draw.place
+    claim.opening.symbol
+    ≡ region (symbol_size m.f m.length)
+    (line_of draw.axis m.f (symbol_size m.f m.length) e (drawn_index m shard draw)) draw.place
 
--- the metadata of these bytes commits the claim's opening, whose symbol is not the one that their matrix has there
-pub record IsFalseClaim (digest : List ℕ → List ℕ) (shape : BlobShape) (bytes : List ℕ) (claim : Claim) : Type 0 where
+-- the metadata of these bytes commits the claim's opening, whose symbol is not the one that their
+-- matrix has there
+pub record IsFalseClaim (digest : List ℕ → List ℕ) (shape : BlobShape)
+    (bytes : List ℕ) (claim : Claim) : Type 0 where
   pub matrix : List ℕ
   pub extended : IsExtended shape.f bytes matrix
-  pub holds : HoldsOpening digest (metadata_over digest shape matrix) claim.axis claim.index claim.opening
+  pub holds : HoldsOpening digest (metadata_over digest shape matrix)
+      claim.axis claim.index claim.opening
   pub apart : claim.opening.symbol
-      ≢ region (symbol_size shape.f shape.length) (line_of claim.axis shape.f (symbol_size shape.f shape.length) matrix claim.index) claim.opening.cross
+      ≢ region (symbol_size shape.f shape.length)
+      (line_of claim.axis shape.f (symbol_size shape.f shape.length) matrix claim.index)
+      claim.opening.cross
 
--- left and right are the texts in which the claim's path meets that of the symbol that the matrix of these bytes has there, in the
--- tree of the line that crosses the target
-abbrev pub AreDigestedForClaim : (List ℕ → List ℕ) → BlobShape → List ℕ → Claim → List ℕ → List ℕ → Type 0
+-- left and right are the texts in which the claim's path meets that of the symbol that the matrix
+-- of these bytes has there, in the tree of the line that crosses the target
+abbrev pub AreDigestedForClaim : (List ℕ → List ℕ) → BlobShape → List ℕ → Claim → List ℕ → List ℕ
+    → Type 0
 AreDigestedForClaim digest shape bytes claim left right =
     (e : List ℕ) × IsExtended shape.f bytes e
     × (let s = symbol_size shape.f shape.length in
     let line = line_of (crossing claim.axis) shape.f s e claim.opening.cross in
-    MeetOnPaths digest claim.index claim.opening.symbol claim.opening.path (region s line claim.index) (path_over digest s line claim.index) left right)
+    MeetOnPaths digest claim.index claim.opening.symbol claim.opening.path
+    (region s line claim.index) (path_over digest s line claim.index) left right)
 
--- where m is the metadata of the blob whose matrix is e: each claim shows the drawn symbol of the matrix, or is false
-abbrev pub AreOwnOrFalse : (List ℕ → List ℕ) → BlobMetadata → List ℕ → ℕ → List Claim → List ℕ → List ℕ → Type 0
+-- where m is the metadata of the blob whose matrix is e: each claim shows the drawn symbol of the
+-- matrix, or is false
+abbrev pub AreOwnOrFalse : (List ℕ → List ℕ) → BlobMetadata → List ℕ → ℕ → List Claim → List ℕ
+    → List ℕ → Type 0
 AreOwnOrFalse digest m beacon shard claims blob e =
     (d : ℕ) (claim : Claim) → slice_get claims d ≡ Some claim
     → HasDrawnSymbol m e shard (draw_of digest m beacon shard d) claim

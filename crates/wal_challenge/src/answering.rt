@@ -45,7 +45,8 @@ impl<H: Hash32> Model for Answerer<H> {
 
     ghost view = { λ a. record { size = a.size; row = a.row.symbols; column = a.column.symbols } };
 
-    ghost invariant = { λ a. AreLevels H.digest a.size a.row.symbols a.row.levels × AreLevels H.digest a.size a.column.symbols a.column.levels };
+    ghost invariant = { λ a. AreLevels H.digest a.size a.row.symbols a.row.levels
+        × AreLevels H.digest a.size a.column.symbols a.column.levels };
 }
 
 impl<H: Hash32> Answerer<H> {
@@ -60,7 +61,8 @@ impl<H: Hash32> Answerer<H> {
     ) -> Result<Answerer<H>, AllocError>
         requires f { work.old.f ≡ (metadata_shown m).f }
         requires slivers { HoldsBoth H.digest (metadata_shown m) shard primary.now secondary.now }
-        ensures words { IfOk result (AreWordsOf (metadata_shown m.entry) primary.now secondary.now) }
+        ensures words { IfOk result
+            (AreWordsOf (metadata_shown m.entry) primary.now secondary.now) }
         ensures f { work.new.f ≡ work.old.f }
         // The reference shows a metadata.
         ensures fit { IsMetadata (metadata_shown m.entry) }
@@ -85,8 +87,10 @@ impl<H: Hash32> Answerer<H> {
     ) -> Result<Opening, AllocError>
         requires shard { shard < shard_count (metadata_shown m).f }
         requires place { draw.place < shard_count (metadata_shown m).f }
-        requires words { (primary : List ℕ) × (secondary : List ℕ) × AreWordsOf (metadata_shown m) primary secondary self.now }
-        ensures { IfOk result (λ o. (primary secondary : List ℕ) → AreWordsOf (metadata_shown m.entry) primary secondary self.now
+        requires words { (primary : List ℕ) × (secondary : List ℕ)
+            × AreWordsOf (metadata_shown m) primary secondary self.now }
+        ensures { IfOk result (λ o. (primary secondary : List ℕ)
+            → AreWordsOf (metadata_shown m.entry) primary secondary self.now
             → ShowsDrawn H.digest (metadata_shown m.entry) shard primary secondary draw o) }
     {
         let shape = m.shape();
@@ -108,9 +112,12 @@ fn open_all<H: Hash32>(
     answerer: &Answerer<H>,
 ) -> Result<Vec<Opening>, AllocError>
     requires shard { shard < shard_count (metadata_shown m).f }
-    requires words { (primary : List ℕ) × (secondary : List ℕ) × AreWordsOf (metadata_shown m) primary secondary answerer.now }
-    ensures { IfOk result (λ v. (primary secondary : List ℕ) → AreWordsOf (metadata_shown m.entry) primary secondary answerer.now
-        → AreAnswers H.digest (metadata_shown m.entry) beacon.now shard count primary secondary v.items) }
+    requires words { (primary : List ℕ) × (secondary : List ℕ)
+        × AreWordsOf (metadata_shown m) primary secondary answerer.now }
+    ensures { IfOk result (λ v. (primary secondary : List ℕ)
+        → AreWordsOf (metadata_shown m.entry) primary secondary answerer.now
+        → AreAnswers H.digest (metadata_shown m.entry)
+        beacon.now shard count primary secondary v.items) }
 {
     let id = identify::<H>(m);
     let n = m.shape().n() as u16;
@@ -122,8 +129,9 @@ fn open_all<H: Hash32>(
     Ok(openings)
 }
 
-/// What a shard answers to the first `count` draws of a beacon: for each draw in order the opening of the target that
-/// [`draw`] names by its place and the crossing axis, from the shard's own primary and secondary sliver.
+/// What a shard answers to the first `count` draws of a beacon: for each draw in order the opening
+/// of the target that [`draw`] names by its place and the crossing axis, from the shard's own
+/// primary and secondary sliver.
 pub fn answer<H: Hash32>(
     alloc: Global,
     work: &mut Work,
@@ -139,12 +147,17 @@ pub fn answer<H: Hash32>(
     requires least { 1 ≤ count }
     requires most { count ≤ 1000 }
     requires slivers { HoldsBoth H.digest (metadata_shown m) shard primary.now secondary.now }
-    ensures answers { IfOk result (AreAnswers H.digest (metadata_shown m.entry) beacon.now shard count primary.now secondary.now) }
+    ensures answers { IfOk result (AreAnswers H.digest (metadata_shown m.entry)
+        beacon.now shard count primary.now secondary.now) }
     // There is no other answer.
-    ensures only { IfOk result (λ os. (other : List Opening) → AreAnswers H.digest (metadata_shown m.entry) beacon.now shard count primary.now secondary.now other → other ≡ os) }
+    ensures only { IfOk result (λ os. (other : List Opening)
+        → AreAnswers H.digest (metadata_shown m.entry)
+        beacon.now shard count primary.now secondary.now other
+        → other ≡ os) }
     // Each opening is one of its draw's target, which the metadata commits.
     ensures held { IfOk result (λ os. (d : ℕ) (o : Opening) → slice_get os d ≡ Some o
-        → HoldsOpening H.digest (metadata_shown m.entry) (crossing (draw_of H.digest (metadata_shown m.entry) beacon.now shard d).axis)
+        → HoldsOpening H.digest (metadata_shown m.entry)
+        (crossing (draw_of H.digest (metadata_shown m.entry) beacon.now shard d).axis)
         (draw_of H.digest (metadata_shown m.entry) beacon.now shard d).place o) }
     ensures f { work.new.f ≡ work.old.f }
 {

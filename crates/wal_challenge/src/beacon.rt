@@ -44,9 +44,10 @@ fn axis_in(byte: u8) -> Axis
 
 /// Draw `d` of a shard of `n`, for the blob of this identifier.
 ///
-/// Its digest is that of 69 bytes: `0x04`, the beacon, the identifier, and the shard and `d` in two bytes each, most
-/// significant first. The lowest bit of the digest's first byte is the axis, 0 for primary, and its fourth and fifth byte
-/// are a number whose remainder by `n` is the place. Takes no memory.
+/// Its digest is that of 69 bytes: `0x04`, the beacon, the identifier, and the shard and `d` in two
+/// bytes each, most significant first. The lowest bit of the digest's first byte is the axis, 0 for
+/// primary, and its fourth and fifth byte are a number whose remainder by `n` is the place. Takes
+/// no memory.
 pub fn draw<H: Hash32>(beacon: &Digest, id: &BlobId, n: u16, shard: u16, d: u16) -> Draw
     requires least { 4 ≤ n }
     requires most { n ≤ 1000 }

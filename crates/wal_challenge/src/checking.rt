@@ -22,8 +22,8 @@ use wal_tree::{Digest, Hash32};
 pub enum AnswerVerdict {
     /// There are so many claims, and not as many as draws.
     WrongCount(usize),
-    /// The claim at this place, from 0, is the first that does not answer its draw: its target or its cross is another, or
-    /// it does not hold.
+    /// The claim at this place, from 0, is the first that does not answer its draw: its target or
+    /// its cross is another, or it does not hold.
     Wrong(u16),
     /// Each claim answers its draw.
     Accepted,
@@ -49,8 +49,10 @@ fn first_wrong<H: Hash32>(
 ) -> Option<u16>
     requires shard { shard < shard_count (metadata_shown m).f }
     requires few { length claims.now ≤ 1000 }
-    ensures some { IfSome result (IsFirstWrong H.digest (metadata_shown m.entry) beacon.now shard claims.now) }
-    ensures none { IfNone result (FirstAnswer H.digest (metadata_shown m.entry) beacon.now shard claims.now (length claims.now)) }
+    ensures some { IfSome result
+        (IsFirstWrong H.digest (metadata_shown m.entry) beacon.now shard claims.now) }
+    ensures none { IfNone result (FirstAnswer H.digest (metadata_shown m.entry)
+        beacon.now shard claims.now (length claims.now)) }
 {
     let id = identify::<H>(m);
     let n = m.shape().n() as u16;
@@ -63,10 +65,10 @@ fn first_wrong<H: Hash32>(
     None
 }
 
-/// Checks the claims that a shard answers the first `count` draws of a beacon with, in order, for the blob that the
-/// metadata identifies. A claim answers its draw where its target is the sliver of the crossing axis whose index is the
-/// drawn place, its cross is the index of the shard's own sliver of the drawn axis, and the metadata commits it. Takes no
-/// memory.
+/// Checks the claims that a shard answers the first `count` draws of a beacon with, in order, for
+/// the blob that the metadata identifies. A claim answers its draw where its target is the sliver
+/// of the crossing axis whose index is the drawn place, its cross is the index of the shard's own
+/// sliver of the drawn axis, and the metadata commits it. Takes no memory.
 pub fn check_answer<H: Hash32>(
     m: MetaRef<'_>,
     shard: u16,
@@ -77,11 +79,16 @@ pub fn check_answer<H: Hash32>(
     requires shard { shard < shard_count (metadata_shown m).f }
     requires least { 1 ≤ count }
     requires most { count ≤ 1000 }
-    ensures verdict { AnswersComeTo H.digest (metadata_shown m.entry) beacon.now shard count claims.now result }
+    ensures verdict { AnswersComeTo H.digest (metadata_shown m.entry)
+        beacon.now shard count claims.now result }
     // There is no other verdict.
-    ensures only { (other : AnswerVerdict) → AnswersComeTo H.digest (metadata_shown m.entry) beacon.now shard count claims.now other → other ≡ result }
-    // Of a committed blob, claims that are accepted show what was drawn of its matrix, or `claim_collision` gives two texts.
-    ensures own { result ≡ told.Accepted → (blob matrix : List ℕ) → CommitsMatrix H.digest (metadata_shown m.entry) blob matrix
+    ensures only { (other : AnswerVerdict)
+        → AnswersComeTo H.digest (metadata_shown m.entry) beacon.now shard count claims.now other
+        → other ≡ result }
+    // Of a committed blob, claims that are accepted show what was drawn of its matrix, or
+    // `claim_collision` gives two texts.
+    ensures own { result ≡ told.Accepted → (blob matrix : List ℕ)
+        → CommitsMatrix H.digest (metadata_shown m.entry) blob matrix
         → AreOwnOrFalse H.digest (metadata_shown m.entry) beacon.now shard claims.now blob matrix }
 {
     let claims = claims.as_slice();
@@ -94,11 +101,13 @@ pub fn check_answer<H: Hash32>(
     }
 }
 
-/// What [`answer`](crate::answer) gives is accepted: the openings, each with the target of its draw, are as many as the
-/// draws and answer them. Computes nothing.
+/// What [`answer`](crate::answer) gives is accepted: the openings, each with the target of its
+/// draw, are as many as the draws and answer them. Computes nothing.
 pub fn answers_are_accepted<H: Hash32>()
-    ensures { (m : BlobMetadata) (beacon : List ℕ) (shard count : ℕ) (primary secondary : List ℕ) (openings : List Opening)
+    ensures { (m : BlobMetadata) (beacon : List ℕ) (shard count : ℕ)
+        (primary secondary : List ℕ) (openings : List Opening)
         → IsMetadata m → shard < shard_count m.f → HoldsBoth H.digest m shard primary secondary
         → AreAnswers H.digest m beacon shard count primary secondary openings
-        → AnswersComeTo H.digest m beacon shard count (claims_from H.digest m beacon shard 0 openings) told.Accepted }
+        → AnswersComeTo H.digest m beacon shard count
+        (claims_from H.digest m beacon shard 0 openings) told.Accepted }
 {}

@@ -13,9 +13,9 @@ use wal_matrix::extend;
 use wal_shape::{Claim, Collision, Shape};
 use wal_tree::Hash32;
 
-/// Two texts with one digest, from the bytes of a blob and a claim that its metadata commits and whose symbol is not the
-/// one of its matrix: those of the leaf, or of the lowest node above it, in which the claim's path and the matrix's own
-/// differ under one digest. The blob is extended.
+/// Two texts with one digest, from the bytes of a blob and a claim that its metadata commits and
+/// whose symbol is not the one of its matrix: those of the leaf, or of the lowest node above it, in
+/// which the claim's path and the matrix's own differ under one digest. The blob is extended.
 ///
 /// It fails only for want of memory.
 pub fn claim_collision<H: Hash32>(
@@ -28,15 +28,19 @@ pub fn claim_collision<H: Hash32>(
     requires false_claim { IsFalseClaim H.digest shape.now bytes.now claim.now }
     ensures collision { IfOk result (λ c. IsCollision H.digest c.left c.right) }
     // The left text is on the claim's path, and the right one on that of the blob's own symbol.
-    ensures texts { IfOk result (λ c. AreDigestedForClaim H.digest shape.now bytes.now claim.now c.left c.right) }
+    ensures texts { IfOk result
+        (λ c. AreDigestedForClaim H.digest shape.now bytes.now claim.now c.left c.right) }
 {
     let matrix = extend(alloc, shape, bytes)?;
     let opening = claim.opening.view();
     collide_opening::<H>(alloc, &matrix, claim.axis, claim.index, &opening)
 }
 
-/// A claim that is false of a blob makes it impossible that no two texts of bytes have one digest. Computes nothing.
+/// A claim that is false of a blob makes it impossible that no two texts of bytes have one digest.
+/// Computes nothing.
 pub fn false_claims_collide<H: Hash32>()
-    ensures { (shape : BlobShape) (bytes : List ℕ) (claim : ClaimOf) → IsShape shape.f shape.length → length bytes ≡ shape.length
-        → IsFalseClaim H.digest shape bytes claim → All IsByte claim.opening.symbol → All IsByte claim.opening.path → CanCollide H.digest }
+    ensures { (shape : BlobShape) (bytes : List ℕ) (claim : ClaimOf) → IsShape shape.f shape.length
+        → length bytes ≡ shape.length
+        → IsFalseClaim H.digest shape bytes claim → All IsByte claim.opening.symbol
+        → All IsByte claim.opening.path → CanCollide H.digest }
 {}

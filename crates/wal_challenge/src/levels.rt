@@ -25,7 +25,8 @@ fn leaf_digests<H: Hash32>(
     requires whole { length content.now ≡ length content.now / size * size }
     requires few { length content.now / size ≤ 1000 }
     ensures long { IfOk result (λ v. length v.items ≡ length content.now / size * 32) }
-    ensures leaves { IfOk result (λ v. pieces (length content.now / size) 32 v.items ≡ leaves H.digest (length content.now / size) size content.now) }
+    ensures leaves { IfOk result (λ v. pieces (length content.now / size) 32 v.items
+        ≡ leaves H.digest (length content.now / size) size content.now) }
 {
     let mut digests = vec![in alloc; 0u8; content.len() / size * DIGEST]?;
     H::digest_pieces(0, content, size, &mut digests);
@@ -37,7 +38,8 @@ fn join_pairs<H: Hash32>(alloc: Global, level: &[u8]) -> Result<Vec<u8>, AllocEr
     requires whole { length level.now % 64 ≡ 0 }
     requires few { length level.now ≤ 32000 }
     ensures long { IfOk result (λ v. length v.items ≡ length level.now / 64 * 32) }
-    ensures joined { IfOk result (λ v. pieces (length level.now / 64) 32 v.items ≡ pair_up H.digest (pieces (2 * (length level.now / 64)) 32 level.now)) }
+    ensures joined { IfOk result (λ v. pieces (length level.now / 64) 32 v.items
+        ≡ pair_up H.digest (pieces (2 * (length level.now / 64)) 32 level.now)) }
 {
     let mut above = vec![in alloc; 0u8; level.len() / PAIR * DIGEST]?;
     H::digest_pieces(1, level, PAIR, &mut above);
@@ -63,7 +65,8 @@ fn add_level<H: Hash32>(
     requires whole { length level.items % 32 ≡ 0 }
     requires few { length level.items ≤ 32000 }
     ensures long { IfOk result (λ v. length v.items ≡ (length level.items / 32 + 1) / 2 * 32) }
-    ensures above { IfOk result (λ v. pieces (length v.items / 32) 32 v.items ≡ pair_up H.digest (pieces (length level.items / 32) 32 level.items)) }
+    ensures above { IfOk result (λ v. pieces (length v.items / 32) 32 v.items
+        ≡ pair_up H.digest (pieces (length level.items / 32) 32 level.items)) }
     ensures added { OnOk result (levels.new.items ≡ levels.old.items ++ evened level.items ∷ []) }
 {
     let level = even(level)?;
@@ -72,8 +75,8 @@ fn add_level<H: Hash32>(
     Ok(above)
 }
 
-/// The levels of the tree over the pieces of `size` bytes of a content, from the leaves upwards and without the root. Each
-/// piece is hashed once.
+/// The levels of the tree over the pieces of `size` bytes of a content, from the leaves upwards and
+/// without the root. Each piece is hashed once.
 pub fn levels_over<H: Hash32>(
     alloc: Global,
     content: &[u8],
@@ -102,7 +105,8 @@ fn sibling_in(level: &[u8], place: usize) -> &[u8]
     &level[DIGEST * beside..DIGEST * beside + DIGEST]
 }
 
-/// The path of a place of a content, from the levels of the tree over it: the siblings, one after the other.
+/// The path of a place of a content, from the levels of the tree over it: the siblings, one after
+/// the other.
 pub fn path_in<H: Hash32>(
     alloc: Global,
     levels: &[Bytes],

@@ -1,5 +1,5 @@
-//! Challenges of storage: a shard shows that it holds its slivers by opening symbols of them at places that are drawn from
-//! a beacon.
+//! Challenges of storage: a shard shows that it holds its slivers by opening symbols of them at
+//! places that are drawn from a beacon.
 #![tactic(auto)]
 
 mod answering;

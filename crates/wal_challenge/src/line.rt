@@ -31,9 +31,16 @@ pub fn line_of<H: Hash32>(
     sliver: &[u8],
 ) -> Result<Line, AllocError>
     requires f { work.old.f ≡ (metadata_shown m).f }
-    requires long { length sliver.now ≡ sliver_symbols axis (metadata_shown m).f * symbol_size (metadata_shown m).f (metadata_shown m).length }
-    ensures word { IfOk result (λ l. IsWordOf axis (metadata_shown m.entry).f (symbol_size (metadata_shown m.entry).f (metadata_shown m.entry).length) sliver.now l.symbols) }
-    ensures levels { IfOk result (λ l. AreLevels H.digest (symbol_size (metadata_shown m.entry).f (metadata_shown m.entry).length) l.symbols l.levels) }
+    requires long { length sliver.now
+        ≡ sliver_symbols axis (metadata_shown m).f
+        * symbol_size (metadata_shown m).f (metadata_shown m).length }
+    ensures word { IfOk result
+        (λ l. IsWordOf axis (metadata_shown m.entry).f
+        (symbol_size (metadata_shown m.entry).f (metadata_shown m.entry).length)
+        sliver.now l.symbols) }
+    ensures levels { IfOk result (λ l.
+        AreLevels H.digest (symbol_size (metadata_shown m.entry).f (metadata_shown m.entry).length)
+        l.symbols l.levels) }
     ensures f { work.new.f ≡ work.old.f }
     // The reference shows a metadata.
     ensures fit { IsMetadata (metadata_shown m.entry) }

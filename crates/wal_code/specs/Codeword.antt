@@ -1,4 +1,5 @@
--- Reed-Solomon codewords: the values of a polynomial at the points 0, 1, .., where the point of an index is the index itself.
+-- Reed-Solomon codewords: the values of a polynomial at the points 0, 1, .., where the point of an
+-- index is the index itself.
 use Rattle.std.specs.Prelude.{◌≡◌, ◌≢◌, ℕ, ◌<◌, ◌≤◌, List, [], ◌∷◌, length, slice_index, All, AllPairs, bit_xor, ◌==◌, cond}
 use Rattle.wal_gf.specs.Field.{IsWord, times, inverse, xor_below}
 use Rattle.wal_gf.specs.Polynomial.{evaluate}
@@ -14,17 +15,20 @@ pub record IsCodeword (k n : ℕ) (c : ℕ → ℕ) : Type 0 where
   pub words : All IsWord coefficients
   pub values : (i : ℕ) → i < n → c i ≡ evaluate coefficients i
 
--- out is the codeword of n words that begins with these words, with one coefficient for each of them
+-- out is the codeword of n words that begins with these words, with one coefficient for each of
+-- them
 pub record IsExtension (words : List ℕ) (n : ℕ) (out : List ℕ) : Type 0 where
   pub size : length out ≡ n
   pub codeword : IsCodeword (length words) n (slice_index out)
   pub begins : (i : ℕ) → i < length words → slice_index out i ≡ slice_index words i
 
--- a polynomial with at most as many coefficients as there are known points, which has these values there
+-- a polynomial with at most as many coefficients as there are known points, which has these values
+-- there
 pub record PassesThrough (known values coefficients : List ℕ) : Type 0 where
   pub few : length coefficients ≤ length known
   pub words : All IsWord coefficients
-  pub there : (i : ℕ) → i < length known → evaluate coefficients (slice_index known i) ≡ slice_index values i
+  pub there : (i : ℕ) → i < length known
+      → evaluate coefficients (slice_index known i) ≡ slice_index values i
 
 -- (w + q) / (p + q), or 1 where q is p
 unfoldable pub factor : ℕ → ℕ → ℕ → ℕ

@@ -7,7 +7,8 @@ use Rattle.wal_code.specs.Codeword.{coefficient}
 -- the product of w + q over the known points q other than p
 unfoldable pub product_of_others : List ℕ → ℕ → ℕ → ℕ
 product_of_others [] p w = 1
-product_of_others (q ∷ known) p w = times (cond (p == q) 1 (bit_xor w q)) (product_of_others known p w)
+product_of_others (q ∷ known) p w =
+    times (cond (p == q) 1 (bit_xor w q)) (product_of_others known p w)
 
 -- the word of the element at a place
 abbrev pub element_at : List Gf → ℕ → ℕ
@@ -17,7 +18,8 @@ element_at elements i = (slice_index_or elements i (record { 0 = 0 })).0
 abbrev pub AreScales : List ℕ → List Gf → Type 0
 AreScales known scales =
     (i : ℕ) → i < length known →
-    element_at scales i ≡ inverse (product_of_others known (slice_index known i) (slice_index known i))
+    element_at scales i
+    ≡ inverse (product_of_others known (slice_index known i) (slice_index known i))
 
 -- at each place, the coefficient of the point at w
 abbrev pub AreWeights : List ℕ → ℕ → List Gf → Type 0

@@ -7,13 +7,15 @@ ghost use Rattle.wal_code.specs.Codeword.{Distinct, IsExtension, PassesThrough};
 use crate::weights::{MAX_POINTS, fill_scales, fill_weights, weighted_sum};
 use wal_gf::Gf;
 
-/// Fills the codeword that begins with these words. Its dimension is the number of the words, and it is the only one.
+/// Fills the codeword that begins with these words. Its dimension is the number of the words, and
+/// it is the only one.
 pub fn extend_words(words: &[u16], out: &mut [u16])
     requires some { 1 ≤ length words.now }
     requires room { length words.now ≤ length out.old }
     requires most { length out.old ≤ 1000 }
     ensures extension { IsExtension words.now (length out.old) out.new }
-    ensures only { (other : List ℕ) → IsExtension words.now (length out.old) other → out.new ≡ other }
+    ensures only { (other : List ℕ) → IsExtension words.now (length out.old) other
+        → out.new ≡ other }
 {
     let mut places = [0; MAX_POINTS];
     for (place, point) in places.iter_mut().enumerate() {
@@ -22,8 +24,9 @@ pub fn extend_words(words: &[u16], out: &mut [u16])
     solve_words(&places[..words.len()], words, out);
 }
 
-/// Fills the places from 0 on with the codeword that has these values at the known indices. Its dimension is the number
-/// of the known indices, and it is the only one. A known index may lie beyond the places that are filled.
+/// Fills the places from 0 on with the codeword that has these values at the known indices. Its
+/// dimension is the number of the known indices, and it is the only one. A known index may lie
+/// beyond the places that are filled.
 pub fn solve_words(known: &[u16], values: &[u16], out: &mut [u16])
     requires distinct { Distinct known.now }
     requires some { 1 ≤ length known.now }
@@ -31,8 +34,10 @@ pub fn solve_words(known: &[u16], values: &[u16], out: &mut [u16])
     requires below { All (λ p. p < 1000) known.now }
     requires values { length values.now ≡ length known.now }
     requires room { length out.old ≤ 1000 }
-    ensures solved { (coefficients : List ℕ) × PassesThrough known.now values.now coefficients × ((i : ℕ) → i < length out.new → slice_index out.new i ≡ evaluate coefficients i) }
-    ensures only { (coefficients : List ℕ) → PassesThrough known.now values.now coefficients → (i : ℕ) → i < length out.new → slice_index out.new i ≡ evaluate coefficients i }
+    ensures solved { (coefficients : List ℕ) × PassesThrough known.now values.now coefficients
+        × ((i : ℕ) → i < length out.new → slice_index out.new i ≡ evaluate coefficients i) }
+    ensures only { (coefficients : List ℕ) → PassesThrough known.now values.now coefficients
+        → (i : ℕ) → i < length out.new → slice_index out.new i ≡ evaluate coefficients i }
 {
     let mut scale_room = [Gf(0); MAX_POINTS];
     let mut weight_room = [Gf(0); MAX_POINTS];

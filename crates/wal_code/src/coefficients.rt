@@ -8,7 +8,8 @@ use std::alloc::{AllocError, Global};
 use std::marker::Model;
 use wal_gf::Gf;
 
-/// The coefficient of each known index for each wanted index. Contracts see the two lists of indices.
+/// The coefficient of each known index for each wanted index. Contracts see the two lists of
+/// indices.
 #[derive(Drop)]
 pub struct Coeffs {
     known: Vec<u16>,
@@ -60,7 +61,9 @@ impl Coeffs {
     pub fn at(&self, w: u16, k: u16) -> Gf
         requires wanted { w < length self.now.wanted }
         requires known { k < length self.now.known }
-        ensures value { result.0 ≡ coefficient self.now.known (slice_index self.now.known k) (slice_index self.now.wanted w) }
+        ensures value { result.0
+            ≡ coefficient self.now.known (slice_index self.now.known k)
+            (slice_index self.now.wanted w) }
         ensures meaning { Interpolates self.now.known (slice_index self.now.wanted w) }
     {
         self.table[w as usize * self.known.len() + k as usize]

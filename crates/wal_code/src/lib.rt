@@ -1,6 +1,7 @@
-//! Reed-Solomon codes over the field of words, by evaluation (Reed and Solomon, 1960): the point of an index is the
-//! element whose bits are the index, and a codeword of dimension k has the values of a polynomial of degree below k at
-//! the points from 0 on. Words are filled by Lagrange's coefficients, and no polynomial is made.
+//! Reed-Solomon codes over the field of words, by evaluation (Reed and Solomon, 1960): the point of
+//! an index is the element whose bits are the index, and a codeword of dimension k has the values
+//! of a polynomial of degree below k at the points from 0 on. Words are filled by Lagrange's
+//! coefficients, and no polynomial is made.
 #![tactic(auto)]
 
 mod codewords;

@@ -11,9 +11,10 @@ use wal_gf::Gf;
 /// The most points that a codeword has.
 pub(crate) const MAX_POINTS: usize = 1000;
 
-/// The coefficient of the known index at `place` for the wanted index: the product of (w + q) / (p + q) over the points
-/// q of the other known indices, where p and w are the points of these two (Lagrange's interpolation). A polynomial of
-/// degree below the number of known indices has at w the sum of these coefficients times its values at the known points.
+/// The coefficient of the known index at `place` for the wanted index: the product of (w + q) /
+/// (p + q) over the points q of the other known indices, where p and w are the points of these two
+/// (Lagrange's interpolation). A polynomial of degree below the number of known indices has at w
+/// the sum of these coefficients times its values at the known points.
 pub fn coefficient(known: &[u16], place: u16, wanted: u16) -> Gf
     requires distinct { Distinct known.now }
     requires some { 1 ≤ length known.now }
@@ -53,8 +54,8 @@ pub fn fill_scales(known: &[u16], scales: &mut [Gf])
     }
 }
 
-/// Fills the coefficient of each known point for the wanted point, by four products a point: that over the points
-/// before it, that over the points after it, and its scale.
+/// Fills the coefficient of each known point for the wanted point, by four products a point: that
+/// over the points before it, that over the points after it, and its scale.
 pub fn fill_weights(known: &[u16], scales: &[Gf], wanted: u16, weights: &mut [Gf])
     requires distinct { Distinct known.now }
     requires scales { length scales.now ≡ length known.now }
@@ -73,7 +74,8 @@ pub fn fill_weights(known: &[u16], scales: &[Gf], wanted: u16, weights: &mut [Gf
 /// Fills the product of `wanted + q` over the points q before each place.
 fn fill_products_before(known: &[u16], wanted: u16, products: &mut [Gf])
     requires { length products.old ≡ length known.now }
-    ensures { (i : ℕ) → i < length known.now → element_at products.new i ≡ product_of_all (take i known.now) wanted }
+    ensures { (i : ℕ) → i < length known.now
+        → element_at products.new i ≡ product_of_all (take i known.now) wanted }
 {
     let mut before = Gf(1);
     for (place, point) in known.iter().enumerate() {
@@ -85,7 +87,9 @@ fn fill_products_before(known: &[u16], wanted: u16, products: &mut [Gf])
 /// The sum of the weights times the values.
 pub fn weighted_sum(weights: &[Gf], values: &[u16]) -> u16
     requires { length weights.now ≡ length values.now }
-    ensures { result ≡ xor_below (length values.now) (λ i. times (element_at weights.now i) (slice_index values.now i)) }
+    ensures { result
+        ≡ xor_below (length values.now)
+        (λ i. times (element_at weights.now i) (slice_index values.now i)) }
 {
     let mut sum = 0;
     for (place, value) in values.iter().enumerate() {

@@ -1,5 +1,5 @@
--- The commitments to a blob: its metadata, with a root for each row and column of the extended matrix,
--- and its identifier.
+-- The commitments to a blob: its metadata, with a root for each row and column of the extended
+-- matrix, and its identifier.
 use Rattle.std.specs.Prelude.{◌≡◌, ◌≢◌, ◌⊎◌, ℕ, List, ◌∷◌, ◌++◌, length, map}
 use Rattle.std.specs.List.{range_with_len}
 use Rattle.std.specs.Int.{w16, w64}
@@ -12,8 +12,8 @@ use Rattle.wal_tree.specs.Path.{MeetInTrees}
 use Rattle.wal_tree.specs.Tree.{root_over}
 use Rattle.wal_matrix.specs.Matrix.{IsExtended, row_of, column_of}
 
--- the metadata of a blob of this shape whose extended matrix is e: its numbers, the root over the symbols
--- of each row, and the root over those of each column
+-- the metadata of a blob of this shape whose extended matrix is e: its numbers, the root over the
+-- symbols of each row, and the root over those of each column
 unfoldable pub metadata_over : (List ℕ → List ℕ) → BlobShape → List ℕ → BlobMetadata
 metadata_over digest shape e =
     let n = shard_count shape.f in
@@ -29,7 +29,9 @@ metadata_over digest shape e =
 -- m is the metadata of these bytes, in this format and for f faults
 abbrev pub IsMetadataOf : (List ℕ → List ℕ) → Format → ℕ → List ℕ → BlobMetadata → Type 0
 IsMetadataOf digest format f bytes m =
-    (e : List ℕ) × IsExtended f bytes e × (m ≡ metadata_over digest (record { format = format; f = f; length = length bytes }) e) × IsShape f (length bytes)
+    (e : List ℕ) × IsExtended f bytes e
+    × (m ≡ metadata_over digest (record { format = format; f = f; length = length bytes }) e)
+    × IsShape f (length bytes)
 
 -- for each shard the roots of the two slivers that it holds
 abbrev pub held_pairs : BlobMetadata → List ℕ
@@ -48,19 +50,25 @@ identifier_tag Two = 3
 abbrev pub head_text : Format → ℕ → ℕ → List ℕ
 head_text format f length = format_text format ++ number_text w16 f ++ number_text w64 length
 
--- the text of the identifier of a metadata: what stands before the pairs, and the root over the pairs in their place
+-- the text of the identifier of a metadata: what stands before the pairs, and the root over the
+-- pairs in their place
 abbrev pub identifier_text : (List ℕ → List ℕ) → BlobMetadata → List ℕ
-identifier_text digest m = identifier_tag m.format ∷ (head_text m.format m.f m.length ++ pair_root digest m)
+identifier_text digest m =
+    identifier_tag m.format ∷ (head_text m.format m.f m.length ++ pair_root digest m)
 
 -- the identifier of a metadata
 unfoldable pub identifier_of : (List ℕ → List ℕ) → BlobMetadata → List ℕ
 identifier_of digest m = digest (identifier_text digest m)
 
--- left and right are the texts of the identifiers of a and b, where these differ, and else those that meet in the trees over the pairs
-abbrev pub AreDigestedFor : (List ℕ → List ℕ) → BlobMetadata → BlobMetadata → List ℕ → List ℕ → Type 0
+-- left and right are the texts of the identifiers of a and b, where these differ, and else those
+-- that meet in the trees over the pairs
+abbrev pub AreDigestedFor : (List ℕ → List ℕ) → BlobMetadata → BlobMetadata → List ℕ → List ℕ
+    → Type 0
 AreDigestedFor digest a b left right =
-    ((identifier_text digest a ≢ identifier_text digest b) × (left ≡ identifier_text digest a) × (right ≡ identifier_text digest b))
-    ⊎ ((identifier_text digest a ≡ identifier_text digest b) × MeetInTrees digest 64 (held_pairs a) (held_pairs b) left right)
+    ((identifier_text digest a ≢ identifier_text digest b) × (left ≡ identifier_text digest a)
+    × (right ≡ identifier_text digest b))
+    ⊎ ((identifier_text digest a ≡ identifier_text digest b)
+    × MeetInTrees digest 64 (held_pairs a) (held_pairs b) left right)
 
 -- id commits to the metadata m
 pub record Commits (digest : List ℕ → List ℕ) (id : List ℕ) (m : BlobMetadata) : Type 0 where

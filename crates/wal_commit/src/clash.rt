@@ -12,15 +12,17 @@ use wal_tree::{Hash32, collide_short_lists, root, short_text};
 /// The bytes of a pair of roots.
 const PAIR: u32 = 64;
 
-/// Two texts with one digest, which two metadata of one identifier differ in: what the identifiers digest,
-/// or else, on the way up from the first pair of roots that differs, the lowest leaf or node whose digests
-/// agree. Takes no memory.
+/// Two texts with one digest, which two metadata of one identifier differ in: what the identifiers
+/// digest, or else, on the way up from the first pair of roots that differs, the lowest leaf or
+/// node whose digests agree. Takes no memory.
 pub fn collide_metadata<H: Hash32>(a: MetaRef<'_>, b: MetaRef<'_>) -> MetaClash
     requires differ { metadata_shown a ≢ metadata_shown b }
-    requires one { identifier_of H.digest (metadata_shown a) ≡ identifier_of H.digest (metadata_shown b) }
+    requires one { identifier_of H.digest (metadata_shown a)
+        ≡ identifier_of H.digest (metadata_shown b) }
     ensures collision { IsCollision H.digest result.left result.right }
     // The left text is the first metadata's, and the right one the other's.
-    ensures texts { AreDigestedFor H.digest (metadata_shown a.entry) (metadata_shown b.entry) result.left result.right }
+    ensures texts { AreDigestedFor H.digest (metadata_shown a.entry)
+        (metadata_shown b.entry) result.left result.right }
 {
     let left = identified::<H>(a);
     let right = identified::<H>(b);

@@ -28,7 +28,8 @@ pub fn part_at(bytes: &[u8], size: usize, place: usize) -> &[u8]
 /// The column of this index, in memory.
 fn column_in_memory(alloc: Global, matrix: &Encoded, index: u16) -> Result<Vec<u8>, AllocError>
     requires { index < shards matrix.now }
-    ensures { IfOk result (λ v. v.items ≡ column_of (shards matrix.now) (symbol_bytes matrix.now) matrix.now.cells index) }
+    ensures { IfOk result (λ v. v.items
+        ≡ column_of (shards matrix.now) (symbol_bytes matrix.now) matrix.now.cells index) }
 {
     let size = matrix.shape().n() as usize * matrix.shape().symbol_size() as usize;
     let mut column = vec![in alloc; 0u8; size]?;
@@ -44,7 +45,8 @@ fn line_in_memory(
     index: u16,
 ) -> Result<Vec<u8>, AllocError>
     requires { index < shards matrix.now }
-    ensures { IfOk result (λ v. v.items ≡ line_of axis matrix.now.shape.f (symbol_bytes matrix.now) matrix.now.cells index) }
+    ensures { IfOk result (λ v. v.items
+        ≡ line_of axis matrix.now.shape.f (symbol_bytes matrix.now) matrix.now.cells index) }
 {
     match axis {
         Axis::Primary => Vec::from_slice(alloc, matrix.row(index)),
@@ -52,9 +54,10 @@ fn line_in_memory(
     }
 }
 
-/// Two texts with one digest, from an opening that the metadata over a matrix commits for the line of this axis and index,
-/// and whose symbol is not the line's: those of the leaf, or of the lowest node above it, in which the opening's path and
-/// the path of the matrix's own symbol differ under one digest.
+/// Two texts with one digest, from an opening that the metadata over a matrix commits for the line
+/// of this axis and index, and whose symbol is not the line's: those of the leaf, or of the lowest
+/// node above it, in which the opening's path and the path of the matrix's own symbol differ under
+/// one digest.
 ///
 /// It fails only for want of memory.
 pub fn collide_opening<H: Hash32>(
@@ -65,15 +68,24 @@ pub fn collide_opening<H: Hash32>(
     opening: &OpeningRef<'_>,
 ) -> Result<Collision, AllocError>
     requires shape { IsShape matrix.now.shape.f matrix.now.shape.length }
-    requires long { length matrix.now.cells ≡ shards matrix.now * shards matrix.now * symbol_bytes matrix.now }
-    requires holds { HoldsOpening H.digest (metadata_over H.digest matrix.now.shape matrix.now.cells) axis index (opening_shown opening.now) }
+    requires long { length matrix.now.cells
+        ≡ shards matrix.now * shards matrix.now * symbol_bytes matrix.now }
+    requires holds { HoldsOpening H.digest
+        (metadata_over H.digest matrix.now.shape matrix.now.cells)
+        axis index (opening_shown opening.now) }
     requires apart { opening.now.symbol.now
-        ≢ region (symbol_bytes matrix.now) (line_of axis matrix.now.shape.f (symbol_bytes matrix.now) matrix.now.cells index) opening.now.cross }
+        ≢ region (symbol_bytes matrix.now)
+        (line_of axis matrix.now.shape.f (symbol_bytes matrix.now) matrix.now.cells index)
+        opening.now.cross }
     ensures collision { IfOk result (λ c. IsCollision H.digest c.left c.right) }
-    // The left text is on the opening's path, and the right one on that of the symbol of the line that crosses the target there.
-    ensures texts { let line = line_of (crossing axis) matrix.now.shape.f (symbol_bytes matrix.now) matrix.now.cells opening.now.cross in
+    // The left text is on the opening's path, and the right one on that of the symbol of the line
+    // that crosses the target there.
+    ensures texts { let line =
+        line_of (crossing axis) matrix.now.shape.f
+        (symbol_bytes matrix.now) matrix.now.cells opening.now.cross in
         IfOk result (λ c. MeetOnPaths H.digest index opening.now.symbol.now opening.now.path.now
-        (region (symbol_bytes matrix.now) line index) (path_over H.digest (symbol_bytes matrix.now) line index) c.left c.right) }
+        (region (symbol_bytes matrix.now) line index)
+        (path_over H.digest (symbol_bytes matrix.now) line index) c.left c.right) }
 {
     let line = line_in_memory(alloc, matrix, axis.crossing(), opening.cross)?;
     let size = matrix.shape().symbol_size();

@@ -9,9 +9,9 @@ use wal_matrix::{Work, expand};
 use wal_shape::{Axis, MetaRef};
 use wal_tree::{Hash32, root};
 
-/// Whether this is the sliver of this axis and index that the metadata commits: its symbols are as many
-/// and as long as the shape says, and the root over its codeword's symbols is the committed one (the
-/// Walrus paper, section "Vector commitments"). Takes no memory.
+/// Whether this is the sliver of this axis and index that the metadata commits: its symbols are as
+/// many and as long as the shape says, and the root over its codeword's symbols is the committed
+/// one (the Walrus paper, section "Vector commitments"). Takes no memory.
 pub fn sliver_holds<H: Hash32>(
     work: &mut Work,
     m: MetaRef<'_>,
@@ -20,7 +20,8 @@ pub fn sliver_holds<H: Hash32>(
     sliver: &[u8],
 ) -> bool
     requires { work.old.f ≡ (metadata_shown m).f }
-    ensures holds { IsTrue result ↔ HoldsSliver H.digest (metadata_shown m.entry) axis index sliver.now }
+    ensures holds { IsTrue result
+        ↔ HoldsSliver H.digest (metadata_shown m.entry) axis index sliver.now }
     ensures f { work.new.f ≡ work.old.f }
 {
     let shape = m.shape();

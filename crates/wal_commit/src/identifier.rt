@@ -17,7 +17,8 @@ use wal_matrix::Encoded;
 use wal_shape::{BlobId, Bytes, Format, MetaRef, Metadata, Shape};
 use wal_tree::{Hash32, root};
 
-/// The bytes of f and the blob's length, which stand before the pairs of roots in the spelling of a metadata.
+/// The bytes of f and the blob's length, which stand before the pairs of roots in the spelling of a
+/// metadata.
 const NUMBERS: usize = 10;
 
 /// The bytes of a pair of roots.
@@ -45,7 +46,9 @@ fn version_of(format: Format) -> &'static [u8]
 
 /// The spelling of a metadata in two parts: what stands before the pairs of roots, and the pairs.
 pub(crate) fn split_spelling<'a>(m: MetaRef<'a>) -> (&'a [u8], &'a [u8])
-    ensures head { result.0.now ≡ head_text (metadata_shown m.entry).format (metadata_shown m.entry).f (metadata_shown m.entry).length }
+    ensures head { result.0.now
+        ≡ head_text (metadata_shown m.entry).format
+        (metadata_shown m.entry).f (metadata_shown m.entry).length }
     ensures pairs { result.1.now ≡ held_pairs (metadata_shown m.entry) }
     ensures size { length result.1.now ≡ 64 * shard_count (metadata_shown m.entry).f }
     ensures metadata { IsMetadata (metadata_shown m.entry) }
@@ -72,7 +75,8 @@ pub fn metadata_holds<H: Hash32>(id: &BlobId, m: MetaRef<'_>) -> bool
 
 /// The spelling of the metadata before its roots.
 pub(crate) fn head_of(alloc: Global, shape: &Shape) -> Result<Vec<u8>, AllocError>
-    ensures spelled { IfOk result (λ v. v.items ≡ head_text shape.now.format shape.now.f shape.now.length) }
+    ensures spelled { IfOk result
+        (λ v. v.items ≡ head_text shape.now.format shape.now.f shape.now.length) }
     ensures fit { IsShape shape.now.f shape.now.length }
 {
     let faults = shape.f() as u16;
@@ -97,8 +101,8 @@ pub(crate) fn held_column(shape: &Shape, shard: u16) -> u16
     }
 }
 
-/// Appends the roots of the row and of the column that a shard holds, over the leaf digests of a matrix. The column is
-/// room for the digests of one column.
+/// Appends the roots of the row and of the column that a shard holds, over the leaf digests of a
+/// matrix. The column is room for the digests of one column.
 fn append_pair<H: Hash32>(
     bytes: &mut Vec<u8>,
     shape: &Shape,
@@ -110,7 +114,8 @@ fn append_pair<H: Hash32>(
     requires long { length digests.now ≡ shard_count shape.now.f * shard_count shape.now.f * 32 }
     requires room { length column.old ≡ shard_count shape.now.f * 32 }
     ensures { OnOk result ((e : List ℕ)
-        → AreLeafDigests H.digest (shard_count shape.now.f) (symbol_size shape.now.f shape.now.length) e digests.now
+        → AreLeafDigests H.digest (shard_count shape.now.f)
+        (symbol_size shape.now.f shape.now.length) e digests.now
         → bytes.new.items ≡ bytes.old.items ++ pair_over H.digest shape.now e shard) }
 {
     let held = held_column(shape, shard);
@@ -127,7 +132,8 @@ pub(crate) fn spelling_over<H: Hash32>(
 ) -> Result<Vec<u8>, AllocError>
     requires { length digests.now ≡ shard_count shape.now.f * shard_count shape.now.f * 32 }
     ensures spelled { IfOk result (λ v. (e : List ℕ)
-        → AreLeafDigests H.digest (shard_count shape.now.f) (symbol_size shape.now.f shape.now.length) e digests.now
+        → AreLeafDigests H.digest (shard_count shape.now.f)
+        (symbol_size shape.now.f shape.now.length) e digests.now
         → v.items ≡ metadata_text (metadata_over H.digest shape.now e)) }
     ensures fit { IsShape shape.now.f shape.now.length }
 {
@@ -142,15 +148,16 @@ pub(crate) fn spelling_over<H: Hash32>(
 
 /// The spelling of the metadata of an extended matrix.
 fn spelling_of<H: Hash32>(alloc: Global, e: &Encoded) -> Result<Vec<u8>, AllocError>
-    ensures spelled { IfOk result (λ v. v.items ≡ metadata_text (metadata_over H.digest e.now.shape e.now.cells)) }
+    ensures spelled { IfOk result
+        (λ v. v.items ≡ metadata_text (metadata_over H.digest e.now.shape e.now.cells)) }
     ensures fit { IfOk result (λ v. IsShape e.now.shape.f e.now.shape.length) }
 {
     let digests = leaf_digests::<H>(alloc, e)?;
     spelling_over::<H>(alloc, e.shape(), &digests)
 }
 
-/// The metadata of an extended matrix: its shape, and the root over the symbols of each row and of each
-/// column (the Walrus paper, section "Vector commitments").
+/// The metadata of an extended matrix: its shape, and the root over the symbols of each row and of
+/// each column (the Walrus paper, section "Vector commitments").
 pub fn metadata_of<H: Hash32>(alloc: Global, e: &Encoded) -> Result<Metadata, AllocError>
     ensures { IfOk result (λ m. m ≡ metadata_over H.digest e.now.shape e.now.cells) }
 {
@@ -164,9 +171,11 @@ pub fn metadata_of<H: Hash32>(alloc: Global, e: &Encoded) -> Result<Metadata, Al
 /// The identifier of a blob.
 pub fn blob_id<H: Hash32>(alloc: Global, shape: &Shape, bytes: &[u8]) -> Result<BlobId, AllocError>
     requires { length bytes.now ≡ shape.now.length }
-    ensures identifier { IfOk result (λ id. IsIdentifierOf H.digest shape.now.format shape.now.f bytes.now id.0) }
+    ensures identifier { IfOk result
+        (λ id. IsIdentifierOf H.digest shape.now.format shape.now.f bytes.now id.0) }
     // A blob has one identifier.
-    ensures only { IfOk result (λ id. (other : List ℕ) → IsIdentifierOf H.digest shape.now.format shape.now.f bytes.now other → other ≡ id.0) }
+    ensures only { IfOk result (λ id. (other : List ℕ)
+        → IsIdentifierOf H.digest shape.now.format shape.now.f bytes.now other → other ≡ id.0) }
 {
     let metadata = blob_metadata::<H>(alloc, shape, bytes)?;
     Ok(identify::<H>(metadata.view()))

@@ -1,4 +1,5 @@
-//! The commitments to a blob: its metadata and its identifier, and the slivers and openings that it holds.
+//! The commitments to a blob: its metadata and its identifier, and the slivers and openings that it
+//! holds.
 #![tactic(auto)]
 
 mod clash;

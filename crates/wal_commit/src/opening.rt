@@ -15,11 +15,13 @@ use wal_matrix::{Work, expand};
 use wal_shape::{Axis, MetaRef, OpeningRef};
 use wal_tree::{Digest, Hash32, PathBuf, path, path_holds};
 
-/// Whether this is an opening of the sliver of this axis and index: its cross and the index are below n, its symbol has
-/// the bytes of one, and its path leads from the symbol, at the place `index`, to the committed root of the crossing
-/// sliver (the Walrus paper, section "Vector commitments"). Takes no memory.
+/// Whether this is an opening of the sliver of this axis and index: its cross and the index are
+/// below n, its symbol has the bytes of one, and its path leads from the symbol, at the place
+/// `index`, to the committed root of the crossing sliver (the Walrus paper, section "Vector
+/// commitments"). Takes no memory.
 pub fn opening_holds<H: Hash32>(m: MetaRef<'_>, axis: Axis, index: u16, o: &OpeningRef<'_>) -> bool
-    ensures { IsTrue result ↔ HoldsOpening H.digest (metadata_shown m.entry) axis index (opening_shown o.now) }
+    ensures { IsTrue result
+        ↔ HoldsOpening H.digest (metadata_shown m.entry) axis index (opening_shown o.now) }
 {
     let shape = m.shape();
     let count = shape.n();
@@ -49,9 +51,10 @@ fn digest_of(root: &[u8]) -> Digest
     digest
 }
 
-/// The opening of the target of this axis and index that the crossing sliver of index `cross` gives, which the metadata
-/// must hold: `symbol` is filled with the symbol at the place `index` of the sliver's codeword, and `out` with the sibling
-/// digests of that place. The opening holds. Takes no memory.
+/// The opening of the target of this axis and index that the crossing sliver of index `cross`
+/// gives, which the metadata must hold: `symbol` is filled with the symbol at the place `index` of
+/// the sliver's codeword, and `out` with the sibling digests of that place. The opening holds.
+/// Takes no memory.
 pub fn reveal<H: Hash32>(
     work: &mut Work,
     m: MetaRef<'_>,
@@ -65,7 +68,8 @@ pub fn reveal<H: Hash32>(
     requires f { work.old.f ≡ (metadata_shown m).f }
     requires sliver { HoldsSliver H.digest (metadata_shown m) (crossing axis) cross sliver.now }
     requires index { index < shard_count (metadata_shown m).f }
-    requires symbol { length symbol.old ≡ symbol_size (metadata_shown m).f (metadata_shown m).length }
+    requires symbol { length symbol.old
+        ≡ symbol_size (metadata_shown m).f (metadata_shown m).length }
     ensures opening { IsOpeningOf H.digest (metadata_shown m.entry) axis index sliver.now
         (record { cross = cross; symbol = symbol.new; path = out.new }) }
     ensures holds { HoldsOpening H.digest (metadata_shown m.entry) axis index

@@ -1,4 +1,5 @@
-//! The roots of a blob's metadata in one pass over its extended matrix, of which only a few columns stand at once.
+//! The roots of a blob's metadata in one pass over its extended matrix, of which only a few columns
+//! stand at once.
 
 ghost use Rattle.std.specs.Prelude.{◌≡◌, ℕ, ◌+◌, ◌*◌, ◌/◌, ◌%◌, ◌<◌, ◌≤◌, ◌++◌, List, length, IfOk, OnOk};
 ghost use Rattle.wal_shape.specs.Shape.{IsShape, shard_count, symbol_size};
@@ -17,10 +18,12 @@ use wal_matrix::{Front, copy_column};
 use wal_shape::{Bytes, Metadata, Shape};
 use wal_tree::{Hash32, Stacks, root_of_leaves};
 
-/// A block of columns has about so many bytes in a row where symbols are short: then the work on a row is long.
+/// A block of columns has about so many bytes in a row where symbols are short: then the work on a
+/// row is long.
 const RUN: u32 = 2048;
 
-/// And it has about so many symbols, that few lanes are left empty where the digests of eight are made at a time.
+/// And it has about so many symbols, that few lanes are left empty where the digests of eight are
+/// made at a time.
 const SYMBOLS: u32 = 32;
 
 /// Of so many rows and columns at most, strips of all symbols stay in the cache.
@@ -40,8 +43,8 @@ fn block_width(count: u32, size: u32) -> u32
     (SYMBOLS / count + 1).max(RUN / size).min(count)
 }
 
-/// Takes the column at this place of a block of leaf digests: as the next leaves of the rows' trees, and as a tree of its
-/// own, whose root is appended.
+/// Takes the column at this place of a block of leaf digests: as the next leaves of the rows'
+/// trees, and as a tree of its own, whose root is appended.
 fn add_column<H: Hash32>(
     alloc: Global,
     trees: &mut Stacks,
@@ -57,7 +60,8 @@ fn add_column<H: Hash32>(
     requires digests { length digests.now ≡ count * width * 32 }
     requires place { place < width }
     ensures rows { trees.new.rows ≡ count }
-    ensures seen { OnOk result ((s first : ℕ) (e : List ℕ) → 0 < s → length e ≡ count * count * s → first + width ≤ count
+    ensures seen { OnOk result
+        ((s first : ℕ) (e : List ℕ) → 0 < s → length e ≡ count * count * s → first + width ≤ count
         → AreLeaves H.digest count s e first width digests.now
         → AreSeen H.digest count s e (first + place) trees.old roots.old.items
         → AreSeen H.digest count s e (first + (place + 1)) trees.new roots.new.items) }
@@ -88,7 +92,8 @@ fn add_block<H: Hash32>(
     requires digests { length digests.old ≡ count * width * 32 }
     ensures rows { trees.new.rows ≡ count }
     ensures room { length digests.new ≡ length digests.old }
-    ensures seen { OnOk result ((first : ℕ) (e : List ℕ) → length e ≡ count * count * size → first + width ≤ count
+    ensures seen { OnOk result
+        ((first : ℕ) (e : List ℕ) → length e ≡ count * count * size → first + width ≤ count
         → HasColumns count size e first width block.now
         → AreSeen H.digest count size e first trees.old roots.old.items
         → AreSeen H.digest count size e (first + width) trees.new roots.new.items) }
@@ -118,16 +123,19 @@ fn take_columns<H: Hash32>(
     requires rows { trees.old.rows ≡ shard_count shape.now.f }
     requires some { 1 ≤ width }
     requires columns { first + width ≤ shard_count shape.now.f }
-    requires block { length block.old ≡ shard_count shape.now.f * width * symbol_size shape.now.f shape.now.length }
+    requires block { length block.old
+        ≡ shard_count shape.now.f * width * symbol_size shape.now.f shape.now.length }
     requires digests { length digests.old ≡ shard_count shape.now.f * width * 32 }
     ensures front { front.new ≡ front.old }
     ensures rows { trees.new.rows ≡ shard_count shape.now.f }
     ensures block { length block.new ≡ length block.old }
     ensures digests { length digests.new ≡ length digests.old }
     ensures seen { OnOk result ((e : List ℕ) → IsExtended shape.now.f bytes.now e
-        → AreSeen H.digest (shard_count shape.now.f) (symbol_size shape.now.f shape.now.length) e first
+        → AreSeen H.digest (shard_count shape.now.f)
+        (symbol_size shape.now.f shape.now.length) e first
         trees.old roots.old.items
-        → AreSeen H.digest (shard_count shape.now.f) (symbol_size shape.now.f shape.now.length) e (first + width)
+        → AreSeen H.digest (shard_count shape.now.f)
+        (symbol_size shape.now.f shape.now.length) e (first + width)
         trees.new roots.new.items) }
 {
     front.columns(bytes, first, width, block);
@@ -168,7 +176,8 @@ fn take_blocks<H: Hash32>(
     requires digests { length digests.old ≡ count * most * 32 }
     ensures rows { trees.new.rows ≡ shard_count shape.now.f }
     ensures seen { OnOk result ((e : List ℕ) → IsExtended shape.now.f bytes.now e
-        → AreSeen H.digest (shard_count shape.now.f) (symbol_size shape.now.f shape.now.length) e 0 trees.old roots.old.items
+        → AreSeen H.digest (shard_count shape.now.f)
+        (symbol_size shape.now.f shape.now.length) e 0 trees.old roots.old.items
         → AreSeen H.digest (shard_count shape.now.f) (symbol_size shape.now.f shape.now.length) e
         (shard_count shape.now.f) trees.new roots.new.items) }
 {
@@ -205,7 +214,8 @@ fn take_all<H: Hash32>(
     requires rows { trees.old.rows ≡ shard_count shape.now.f }
     ensures rows { trees.new.rows ≡ shard_count shape.now.f }
     ensures seen { OnOk result ((e : List ℕ) → IsExtended shape.now.f bytes.now e
-        → AreSeen H.digest (shard_count shape.now.f) (symbol_size shape.now.f shape.now.length) e 0 trees.old roots.old.items
+        → AreSeen H.digest (shard_count shape.now.f)
+        (symbol_size shape.now.f shape.now.length) e 0 trees.old roots.old.items
         → AreSeen H.digest (shard_count shape.now.f) (symbol_size shape.now.f shape.now.length) e
         (shard_count shape.now.f) trees.new roots.new.items) }
 {
@@ -243,7 +253,8 @@ fn append_roots<H: Hash32>(
     requires shard { shard < shard_count shape.now.f }
     requires roots { length roots.now ≡ shard_count shape.now.f * 32 }
     ensures { OnOk result ((e : List ℕ)
-        → length e ≡ shard_count shape.now.f * shard_count shape.now.f * symbol_size shape.now.f shape.now.length
+        → length e ≡ shard_count shape.now.f * shard_count shape.now.f
+        * symbol_size shape.now.f shape.now.length
         → AreSeen H.digest (shard_count shape.now.f) (symbol_size shape.now.f shape.now.length) e
         (shard_count shape.now.f) trees.now roots.now
         → bytes.new.items ≡ bytes.old.items ++ pair_over H.digest shape.now e shard) }
@@ -298,7 +309,8 @@ fn spelling_of_blob<H: Hash32>(
     spelling_by_columns::<H>(alloc, shape, bytes)
 }
 
-/// The metadata of a blob. While it is made, a strip of each symbol or a few columns of the extended matrix stand at a time.
+/// The metadata of a blob. While it is made, a strip of each symbol or a few columns of the
+/// extended matrix stand at a time.
 pub(crate) fn blob_metadata<H: Hash32>(
     alloc: Global,
     shape: &Shape,

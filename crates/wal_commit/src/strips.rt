@@ -77,16 +77,19 @@ fn strip_width(count: usize) -> usize
     (CACHED / count / BLOCK).max(1) * BLOCK
 }
 
-/// The leaf digests of the symbols of the blob's extended matrix, row by row. The matrix does not stand at once.
+/// The leaf digests of the symbols of the blob's extended matrix, row by row. The matrix does not
+/// stand at once.
 fn strip_digests<H: Hash32>(
     alloc: Global,
     shape: &Shape,
     bytes: &[u8],
 ) -> Result<Vec<u8>, AllocError>
     requires { length bytes.now ≡ shape.now.length }
-    ensures long { IfOk result (λ v. length v.items ≡ shard_count shape.now.f * shard_count shape.now.f * 32) }
+    ensures long { IfOk result
+        (λ v. length v.items ≡ shard_count shape.now.f * shard_count shape.now.f * 32) }
     ensures digests { IfOk result (λ v. (e : List ℕ) → IsExtended shape.now.f bytes.now e
-        → AreLeafDigests H.digest (shard_count shape.now.f) (symbol_size shape.now.f shape.now.length) e v.items) }
+        → AreLeafDigests H.digest (shard_count shape.now.f)
+        (symbol_size shape.now.f shape.now.length) e v.items) }
 {
     let count = shape.n() as usize * shape.n() as usize;
     let size = shape.symbol_size() as usize;

@@ -27,30 +27,44 @@ Creates f epoch owners faulty room (Ok s) =
     IsFit f epoch × (is_committee (committee_size f) owners faulty ≡ true)
     × (s ≡ record { ledger = record { log = record { f = f; first = epoch; owners = owners; entries = [] }; spare = room }; faulty = faulty })
 Creates f epoch owners faulty room (Err creating.BadFaults) = is_fault_count f ≡ false
-Creates f epoch owners faulty room (Err creating.BadEpoch) = (is_fault_count f ≡ true) × (65535 < epoch)
-Creates f epoch owners faulty room (Err creating.BadCommittee) = IsFit f epoch × (is_committee (committee_size f) owners faulty ≡ false)
-Creates f epoch owners faulty room (Err creating.Memory) = IsFit f epoch × (is_committee (committee_size f) owners faulty ≡ true)
+Creates f epoch owners faulty room (Err creating.BadEpoch) =
+    (is_fault_count f ≡ true) × (65535 < epoch)
+Creates f epoch owners faulty room (Err creating.BadCommittee) =
+    IsFit f epoch × (is_committee (committee_size f) owners faulty ≡ false)
+Creates f epoch owners faulty room (Err creating.Memory) =
+    IsFit f epoch × (is_committee (committee_size f) owners faulty ≡ true)
 
 -- a committee of a ledger's size, and a list of shards that stay
 abbrev pub is_next_committee : Log → List ℕ → List ℕ → List ℕ → Bool
-is_next_committee log owners faulty stays = is_committee (committee_size log.f) owners faulty && is_ascending (committee_size log.f) stays
+is_next_committee log owners faulty stays =
+    is_committee (committee_size log.f) owners faulty && is_ascending (committee_size log.f) stays
 
 -- an epoch that is not the last, and a committee
 pub record MayBegin (log : Log) (owners faulty stays : List ℕ) : Type 0 where
   pub epoch : reading log < 65535
   pub committee : is_next_committee log owners faulty stays ≡ true
 
--- `begin`, by its answer: the state, the next committee's owners and faulty shards, and the shards that stay
-abbrev pub Begins : ServingState → List ℕ → List ℕ → List ℕ → Result MovingState (ServingState × BeginError) → Type 0
+-- `begin`, by its answer: the state, the next committee's owners and faulty shards, and the shards
+-- that stay
+abbrev pub Begins : ServingState → List ℕ → List ℕ → List ℕ
+    → Result MovingState (ServingState × BeginError) → Type 0
 Begins s owners faulty stays (Ok m) =
     MayBegin s.ledger.log owners faulty stays × (0 < s.ledger.spare)
     × (m ≡ record { ledger = takes_in s.ledger (Begin owners); faulty_now = s.faulty; faulty_next = faulty; stays = stays })
-Begins s owners faulty stays (Err (same, beginning.LastEpoch)) = (reading s.ledger.log ≡ 65535) × (same ≡ s)
-Begins s owners faulty stays (Err (same, beginning.BadCommittee)) = (reading s.ledger.log < 65535) × (is_next_committee s.ledger.log owners faulty stays ≡ false) × (same ≡ s)
-Begins s owners faulty stays (Err (same, beginning.NoRoom)) = MayBegin s.ledger.log owners faulty stays × (s.ledger.spare ≡ 0) × (same ≡ s)
+Begins s owners faulty stays (Err (same, beginning.LastEpoch)) =
+    (reading s.ledger.log ≡ 65535) × (same ≡ s)
+Begins s owners faulty stays (Err (same, beginning.BadCommittee)) =
+    (reading s.ledger.log < 65535) × (is_next_committee s.ledger.log owners faulty stays ≡ false)
+    × (same ≡ s)
+Begins s owners faulty stays (Err (same, beginning.NoRoom)) =
+    MayBegin s.ledger.log owners faulty stays × (s.ledger.spare ≡ 0) × (same ≡ s)
 
 -- `finish`, by its answer
 abbrev pub FinishesEpoch : MovingState → Result ServingState (MovingState × FinishError) → Type 0
-FinishesEpoch m (Ok s) = (quorum_size m.ledger.log.f ≤ ready_total m.ledger.log) × (0 < m.ledger.spare) × (s ≡ record { ledger = takes_in m.ledger Finish; faulty = m.faulty_next })
-FinishesEpoch m (Err (same, finishing.Waiting ready)) = (ready ≡ ready_total m.ledger.log) × (ready < quorum_size m.ledger.log.f) × (same ≡ m)
-FinishesEpoch m (Err (same, finishing.NoRoom)) = (quorum_size m.ledger.log.f ≤ ready_total m.ledger.log) × (m.ledger.spare ≡ 0) × (same ≡ m)
+FinishesEpoch m (Ok s) =
+    (quorum_size m.ledger.log.f ≤ ready_total m.ledger.log) × (0 < m.ledger.spare)
+    × (s ≡ record { ledger = takes_in m.ledger Finish; faulty = m.faulty_next })
+FinishesEpoch m (Err (same, finishing.Waiting ready)) =
+    (ready ≡ ready_total m.ledger.log) × (ready < quorum_size m.ledger.log.f) × (same ≡ m)
+FinishesEpoch m (Err (same, finishing.NoRoom)) =
+    (quorum_size m.ledger.log.f ≤ ready_total m.ledger.log) × (m.ledger.spare ≡ 0) × (same ≡ m)

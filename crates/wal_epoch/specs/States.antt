@@ -27,16 +27,20 @@ faulty_of Next s = s.faulty_next
 
 -- whether a shard takes what it holds into the next epoch
 abbrev pub is_carried_in : MovingState → ℕ → Bool
-is_carried_in m shard = is_carried (owners_of Now m.ledger.log) m.faulty_now (owners_of Next m.ledger.log) m.faulty_next m.stays shard
+is_carried_in m shard =
+    is_carried (owners_of Now m.ledger.log) m.faulty_now
+    (owners_of Next m.ledger.log) m.faulty_next m.stays shard
 
--- the ledger serves, the list is of its committee and closed by its owners, and the ledger is lawful
+-- the ledger serves, the list is of its committee and closed by its owners, and the ledger is
+-- lawful
 pub record IsServing (log : Log) (faulty : List ℕ) : Type 0 where
   pub serves : is_moving log ≡ false
   pub faulty_shards : is_ascending (committee_size log.f) faulty ≡ true
   pub closed : is_closed (owners_of Now log) faulty ≡ true
   pub lawful : IsLawful log
 
--- the ledger moves, the lists are of its committees, the faulty ones closed by their owners, and the ledger is lawful
+-- the ledger moves, the lists are of its committees, the faulty ones closed by their owners, and
+-- the ledger is lawful
 pub record IsMoving (log : Log) (now next stays : List ℕ) : Type 0 where
   pub moves : is_moving log ≡ true
   pub now_shards : is_ascending (committee_size log.f) now ≡ true

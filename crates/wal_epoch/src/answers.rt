@@ -7,8 +7,8 @@ pub enum CreateError {
     BadFaults,
     /// The epoch is above 65535.
     BadEpoch,
-    /// The owners are not `3f + 1` nodes below `3f + 1`, or the list of faulty shards does not ascend strictly
-    /// below `3f + 1`, or it lacks a shard of a node of which it has one.
+    /// The owners are not `3f + 1` nodes below `3f + 1`, or the list of faulty shards does not
+    /// ascend strictly below `3f + 1`, or it lacks a shard of a node of which it has one.
     BadCommittee,
     /// There is no memory.
     Memory,
@@ -19,8 +19,8 @@ pub enum CreateError {
 pub enum BeginError {
     /// The epoch is 65535.
     LastEpoch,
-    /// The owners are not `3f + 1` nodes below `3f + 1`, or a list of shards does not ascend strictly below
-    /// `3f + 1`, or the faulty ones lack a shard of a node of which they have one.
+    /// The owners are not `3f + 1` nodes below `3f + 1`, or a list of shards does not ascend
+    /// strictly below `3f + 1`, or the faulty ones lack a shard of a node of which they have one.
     BadCommittee,
     /// No entry fits any more.
     NoRoom,

@@ -1,5 +1,5 @@
-//! The two states of an epoch as types: between two changes one committee serves, and while the epoch
-//! changes there are two.
+//! The two states of an epoch as types: between two changes one committee serves, and while the
+//! epoch changes there are two.
 #![tactic(auto)]
 
 mod answers;

@@ -56,7 +56,8 @@ impl Moving {
     /// Lends the ledger.
     pub fn ledger(&self) -> &Ledger
         ensures value { result.now ≡ self.now.ledger }
-        ensures moves { IsMoving self.now.ledger.log self.now.faulty_now self.now.faulty_next self.now.stays }
+        ensures moves { IsMoving self.now.ledger.log
+            self.now.faulty_now self.now.faulty_next self.now.stays }
         ensures lawful { IsLawful self.now.ledger.log }
     {
         &self.ledger
@@ -81,8 +82,8 @@ impl Moving {
         }
     }
 
-    /// Whether a shard takes what it holds into the next epoch: it stays, is correct in both committees, and has
-    /// the same node in both.
+    /// Whether a shard takes what it holds into the next epoch: it stays, is correct in both
+    /// committees, and has the same node in both.
     pub fn carried(&self, shard: u16) -> bool
         ensures value { result ≡ is_carried_in self.now shard }
         ensures lawful { IsLawful self.now.ledger.log }
@@ -139,8 +140,8 @@ impl Moving {
 
     /// Ends the change: the next committee serves.
     ///
-    /// The first that applies: `Waiting` where fewer than `2f + 1` shards are ready, `NoRoom`, with the same
-    /// state.
+    /// The first that applies: `Waiting` where fewer than `2f + 1` shards are ready, `NoRoom`, with
+    /// the same state.
     pub fn finish(self) -> Result<Serving, (Moving, FinishError)>
         ensures { FinishesEpoch self result }
     {

@@ -38,8 +38,8 @@ impl Model for Serving {
 }
 
 impl Serving {
-    /// An empty ledger with room for so many entries, in this epoch, and its committee: the node that runs each
-    /// shard, and the faulty shards.
+    /// An empty ledger with room for so many entries, in this epoch, and its committee: the node
+    /// that runs each shard, and the faulty shards.
     ///
     /// The first that applies: `BadFaults`, `BadEpoch`, `BadCommittee`, `Memory`.
     pub fn create(

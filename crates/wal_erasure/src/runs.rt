@@ -17,7 +17,8 @@ fn put_product(target: &mut [u8], c: Gf, source: &[u8])
     add_scaled(target, c, source);
 }
 
-/// Puts at each known point the words from `start` on of its region, times the point's factor, and zeros at all others.
+/// Puts at each known point the words from `start` on of its region, times the point's factor, and
+/// zeros at all others.
 pub(crate) fn put_known(
     known: &[u16],
     factors: &[Gf],
@@ -32,7 +33,8 @@ pub(crate) fn put_known(
     requires regions { length known.now * (2 * words) ≤ length regions.now }
     requires within { start + width ≤ words }
     requires strip { length factors.now * (2 * width) ≤ length strip.old }
-    ensures { ArePut words start width known.now (length known.now) factors.now regions.now strip.new }
+    ensures { ArePut words start width known.now
+        (length known.now) factors.now regions.now strip.new }
 {
     strip.fill(0);
     for place in 0..known.len() {
@@ -44,7 +46,8 @@ pub(crate) fn put_known(
     }
 }
 
-/// Makes the words from `start` on of the first regions those of the strip, times the point's factor.
+/// Makes the words from `start` on of the first regions those of the strip, times the point's
+/// factor.
 pub(crate) fn take_wanted(
     strip: &[u8],
     factors: &[Gf],
@@ -90,7 +93,8 @@ pub(crate) fn copy_known(
     requires distinct { Distinct known.now }
     requires sources { length known.now * (2 * words) ≤ length sources.now }
     requires targets { wanted * (2 * words) ≤ length targets.old }
-    ensures { AreCopied words wanted known.now (length known.now) sources.now targets.old targets.new }
+    ensures { AreCopied words wanted known.now
+        (length known.now) sources.now targets.old targets.new }
 {
     for place in 0..known.len() {
         let point = known[place] as usize;

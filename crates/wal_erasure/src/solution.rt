@@ -12,7 +12,8 @@ use crate::runs::{copy_known, put_known, take_wanted};
 use wal_fft::{evaluate, level_of, points, restore, strip_width};
 use wal_gf::Gf;
 
-/// Solves the words from `start` on of the missing regions, as many as the strip has words in a run.
+/// Solves the words from `start` on of the missing regions, as many as the strip has words in a
+/// run.
 fn solve_strip(
     known: &[u16],
     factors: &[Gf],
@@ -35,7 +36,8 @@ fn solve_strip(
     requires targets { length targets.old ≡ wanted * (2 * words) }
     requires within { start + width ≤ words }
     requires strip { length strip.old ≡ 2 ^ level * (2 * width) }
-    ensures { AreSolved words start (start + width) wanted known.now sources.now targets.old targets.new }
+    ensures { AreSolved words start (start + width) wanted
+        known.now sources.now targets.old targets.new }
 {
     put_known(known, factors, sources, words, start, width, strip);
     restore(strip, width, level, 0, points(level));
@@ -79,8 +81,8 @@ fn solve_missing(
     }
 }
 
-/// Fills the first `wanted` regions of the codeword that has these regions at the known places. Its dimension is the
-/// number of the known places. The scratch is room for strips of all regions.
+/// Fills the first `wanted` regions of the codeword that has these regions at the known places. Its
+/// dimension is the number of the known places. The scratch is room for strips of all regions.
 pub fn solve_regions(
     known: &[u16],
     total: u16,
@@ -99,7 +101,8 @@ pub fn solve_regions(
     requires targets { length targets.old ≡ wanted * size }
     requires room { 2048 ≤ length scratch.old }
     ensures { (w : ℕ) → 2 * w < size → (x : ℕ) → x < wanted
-        → word_at (region size targets.new x) w ≡ combination known.now (λ k. word_at (region size sources.now k) w) x }
+        → word_at (region size targets.new x) w
+        ≡ combination known.now (λ k. word_at (region size sources.now k) w) x }
 {
     let wanted = wanted as usize;
     let words = size / 2;

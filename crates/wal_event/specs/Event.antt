@@ -29,7 +29,8 @@ IsEventWithin n (Attest shard id) = shard < n
 IsEventWithin n (Read id replies) = AreRepliesWithin n replies
 IsEventWithin n (Recover at shard axis id replies) = (shard < n) × AreRepliesWithin n replies
 IsEventWithin n (Forget at shard id) = shard < n
-IsEventWithin n (Begin owners faulty stays) = IsTrue (is_committee n owners faulty) × IsTrue (is_ascending n stays)
+IsEventWithin n (Begin owners faulty stays) =
+    IsTrue (is_committee n owners faulty) × IsTrue (is_ascending n stays)
 IsEventWithin n (Ready shard) = shard < n
 IsEventWithin n Finish = Unit
 IsEventWithin n (Certificate id) = Unit

@@ -57,7 +57,8 @@ register_text register.RefusedPast = codes "refused past"
 register_text register.RefusedMoving = codes "refused moving"
 
 abbrev pub write_text : WriteWord → List ℕ
-write_text (write.Stored count bytes) = codes "stored " ++ decimal count ++ codes " bytes " ++ hex_text bytes
+write_text (write.Stored count bytes) =
+    codes "stored " ++ decimal count ++ codes " bytes " ++ hex_text bytes
 
 abbrev pub send_text : SendWord → List ℕ
 send_text send.Absent = codes "absent"
@@ -124,7 +125,8 @@ finish_text (finish.Waiting k) = codes "waiting " ++ decimal k
 finish_text finish.RefusedNotMoving = codes "refused not-moving"
 
 abbrev pub certificate_text : CertificateWord → List ℕ
-certificate_text (certificate.Certified epoch count) = codes "epoch " ++ decimal epoch ++ codes " count " ++ decimal count
+certificate_text (certificate.Certified epoch count) =
+    codes "epoch " ++ decimal epoch ++ codes " count " ++ decimal count
 certificate_text (certificate.Pending k) = codes "pending " ++ decimal k
 
 abbrev pub holders_text : HoldersWord → List ℕ
@@ -135,18 +137,24 @@ abbrev pub line_body : Line → List ℕ
 line_body (Register id word) = codes "register " ++ id_text id ++ codes " " ++ register_text word
 line_body (Write id word) = codes "write " ++ id_text id ++ codes " " ++ write_text word
 line_body (Send shard word) = codes "send " ++ decimal shard ++ codes " " ++ send_text word
-line_body (Ack shard id word) = codes "ack " ++ decimal shard ++ codes " " ++ id_text id ++ codes " " ++ ack_text word
-line_body (Attest shard id word) = codes "attest " ++ decimal shard ++ codes " " ++ id_text id ++ codes " " ++ attest_text word
+line_body (Ack shard id word) =
+    codes "ack " ++ decimal shard ++ codes " " ++ id_text id ++ codes " " ++ ack_text word
+line_body (Attest shard id word) =
+    codes "attest " ++ decimal shard ++ codes " " ++ id_text id ++ codes " " ++ attest_text word
 line_body (Read id word) = codes "read " ++ id_text id ++ codes " " ++ read_text word
 line_body (Recover shard axis id word) =
-    codes "recover " ++ decimal shard ++ codes " " ++ axis_text axis ++ codes " " ++ id_text id ++ codes " " ++ recover_text word
-line_body (Forget shard id word) = codes "forget " ++ decimal shard ++ codes " " ++ id_text id ++ codes " " ++ forget_text word
+    codes "recover " ++ decimal shard ++ codes " " ++ axis_text axis ++ codes " " ++ id_text id
+    ++ codes " " ++ recover_text word
+line_body (Forget shard id word) =
+    codes "forget " ++ decimal shard ++ codes " " ++ id_text id ++ codes " " ++ forget_text word
 line_body (Begin word) = codes "begin " ++ begin_text word
 line_body (Ready shard word) = codes "ready " ++ decimal shard ++ codes " " ++ ready_text word
 line_body (Finish word) = codes "finish " ++ finish_text word
-line_body (Certificate id word) = codes "certificate " ++ id_text id ++ codes " " ++ certificate_text word
+line_body (Certificate id word) =
+    codes "certificate " ++ id_text id ++ codes " " ++ certificate_text word
 line_body (Holders id word) = codes "holders " ++ id_text id ++ codes " " ++ holders_text word
-line_body (Collision left right) = codes "collision " ++ hex_text left ++ codes " " ++ hex_text right
+line_body (Collision left right) =
+    codes "collision " ++ hex_text left ++ codes " " ++ hex_text right
 
 -- a line ends with one newline
 unfoldable pub line_text : Line → List ℕ

@@ -193,7 +193,8 @@ impl Events {
 /// A run of the network that is to be: the first epoch with its committee, and the events.
 #[derive(Debug, Drop)]
 pub struct Schedule {
-    /// The most faulty shards of a committee for which all is safe: the committee has `3f + 1` shards.
+    /// The most faulty shards of a committee for which all is safe: the committee has `3f + 1`
+    /// shards.
     pub f: u32,
     /// The first epoch.
     pub epoch: u32,

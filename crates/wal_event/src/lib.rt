@@ -1,4 +1,5 @@
-//! What happens in a network and what comes of it: events, schedules of events, and the lines of a report, as values.
+//! What happens in a network and what comes of it: events, schedules of events, and the lines of a
+//! report, as values.
 #![tactic(auto)]
 
 mod event;

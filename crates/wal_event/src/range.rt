@@ -71,11 +71,11 @@ pub(crate) fn is_within(event: &Event, n: u32) -> bool
     }
 }
 
-/// Whether the event is in range for a committee of `3f + 1` shards, of which at most f are faulty: f
-/// is from 1 to 333; each shard is below `3f + 1`; lists of shards ascend strictly; owners are one
-/// node for each shard, each below `3f + 1`, and the faulty shards of a new committee are closed by
-/// them; a blob has at most 16,777,216 bytes; `until` is at most 65,536; a reader has at most 4,096
-/// replies.
+/// Whether the event is in range for a committee of `3f + 1` shards, of which at most f are faulty:
+/// f is from 1 to 333; each shard is below `3f + 1`; lists of shards ascend strictly; owners are
+/// one node for each shard, each below `3f + 1`, and the faulty shards of a new committee are
+/// closed by them; a blob has at most 16,777,216 bytes; `until` is at most 65,536; a reader has at
+/// most 4,096 replies.
 pub fn fits(event: &Event, f: u32) -> bool
     ensures exact { IsTrue result ↔ Fits f event.now }
     ensures test { result ≡ event_fits f event.now }

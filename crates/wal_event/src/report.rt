@@ -56,7 +56,8 @@ fn put_id(alloc: Global, line: &mut String, before: &str, id: BlobId) -> Result<
 
 /// Appends bytes in lower-case digits, and a dash where there are none.
 fn put_digits(alloc: Global, line: &mut String, bytes: &[u8]) -> Result<(), AllocError>
-    ensures { OnOk result (string_bytes line.new ≡ string_bytes line.old ++ text.hex_text bytes.now) }
+    ensures { OnOk result
+        (string_bytes line.new ≡ string_bytes line.old ++ text.hex_text bytes.now) }
 {
     match bytes {
         [] => put(line, "-"),
@@ -132,7 +133,9 @@ fn put_saying(
     id: BlobId,
 ) -> Result<(), AllocError>
     ensures { OnOk result
-        (string_bytes line.new ≡ string_bytes line.old ++ (name.now ++ decimal shard ++ codes " " ++ text.id_text id ++ codes " ")) }
+        (string_bytes line.new
+        ≡ string_bytes line.old
+        ++ (name.now ++ decimal shard ++ codes " " ++ text.id_text id ++ codes " ")) }
 {
     put_shard(line, name, shard)?;
     put_id(alloc, line, " ", id)?;
@@ -142,7 +145,8 @@ fn put_saying(
 /// Appends what was asked of a blob: a name, the blob and a space.
 fn put_asking(alloc: Global, line: &mut String, name: &str, id: BlobId) -> Result<(), AllocError>
     ensures { OnOk result
-        (string_bytes line.new ≡ string_bytes line.old ++ (name.now ++ text.id_text id ++ codes " ")) }
+        (string_bytes line.new
+        ≡ string_bytes line.old ++ (name.now ++ text.id_text id ++ codes " ")) }
 {
     put_id(alloc, line, name, id)?;
     put(line, " ")
@@ -150,7 +154,8 @@ fn put_asking(alloc: Global, line: &mut String, name: &str, id: BlobId) -> Resul
 
 /// The word of a registration.
 fn put_registered(line: &mut String, word: RegisterWord) -> Result<(), AllocError>
-    ensures { OnOk result (string_bytes line.new ≡ string_bytes line.old ++ text.register_text word) }
+    ensures { OnOk result
+        (string_bytes line.new ≡ string_bytes line.old ++ text.register_text word) }
 {
     match word {
         RegisterWord::Until(epoch) => put_count(line, "until ", epoch),
@@ -233,7 +238,8 @@ fn put_attest(
     word: AttestWord,
 ) -> Result<(), AllocError>
     ensures { OnOk result
-        (string_bytes line.new ≡ string_bytes line.old ++ text.line_body (kind.Attest shard id word)) }
+        (string_bytes line.new
+        ≡ string_bytes line.old ++ text.line_body (kind.Attest shard id word)) }
 {
     put_saying(alloc, line, "attest ", shard, id)?;
     match word {
@@ -262,7 +268,8 @@ fn put_read(alloc: Global, line: &mut String, id: BlobId, word: &ReadWord) -> Re
 
 /// The word of a recovery.
 fn put_recovered(alloc: Global, line: &mut String, word: &RecoverWord) -> Result<(), AllocError>
-    ensures { OnOk result (string_bytes line.new ≡ string_bytes line.old ++ text.recover_text word.now) }
+    ensures { OnOk result
+        (string_bytes line.new ≡ string_bytes line.old ++ text.recover_text word.now) }
 {
     match word {
         RecoverWord::Absent => put(line, "absent"),
@@ -286,7 +293,8 @@ fn put_recover(
     word: &RecoverWord,
 ) -> Result<(), AllocError>
     ensures { OnOk result
-        (string_bytes line.new ≡ string_bytes line.old ++ text.line_body (kind.Recover shard axis id word.now)) }
+        (string_bytes line.new
+        ≡ string_bytes line.old ++ text.line_body (kind.Recover shard axis id word.now)) }
 {
     put_shard(line, "recover ", shard)?;
     put(line, " ")?;
@@ -304,7 +312,8 @@ fn put_forget(
     word: ForgetWord,
 ) -> Result<(), AllocError>
     ensures { OnOk result
-        (string_bytes line.new ≡ string_bytes line.old ++ text.line_body (kind.Forget shard id word)) }
+        (string_bytes line.new
+        ≡ string_bytes line.old ++ text.line_body (kind.Forget shard id word)) }
 {
     put_saying(alloc, line, "forget ", shard, id)?;
     put(line, forget_name(word))
@@ -364,7 +373,8 @@ fn put_certificate(
     word: CertificateWord,
 ) -> Result<(), AllocError>
     ensures { OnOk result
-        (string_bytes line.new ≡ string_bytes line.old ++ text.line_body (kind.Certificate id word)) }
+        (string_bytes line.new
+        ≡ string_bytes line.old ++ text.line_body (kind.Certificate id word)) }
 {
     put_asking(alloc, line, "certificate ", id)?;
     match word {
@@ -400,7 +410,8 @@ fn put_collision(
     right: &[u8],
 ) -> Result<(), AllocError>
     ensures { OnOk result
-        (string_bytes line.new ≡ string_bytes line.old ++ text.line_body (kind.Collision left.now right.now)) }
+        (string_bytes line.new
+        ≡ string_bytes line.old ++ text.line_body (kind.Collision left.now right.now)) }
 {
     put_bytes(alloc, line, "collision ", left)?;
     put_bytes(alloc, line, " ", right)

@@ -1,19 +1,25 @@
 -- The first of each key among what items give, in order, up to some number.
 use Rattle.std.specs.Prelude.{◌≡◌, ℕ, ◌<◌, List, [], ◌∷◌, ◌++◌, length, map, Contains}
 
--- what an item adds to what was taken before, where `Gives x y` says that item x gives y, and no two have one key
-pub data Adds {X Y : Type 0} (Gives : X → Y → Type 0) (key : Y → ℕ) (most : ℕ) (x : X) (before after : List Y) : Type 0 where
+-- what an item adds to what was taken before, where `Gives x y` says that item x gives y, and no
+-- two have one key
+pub data Adds {X Y : Type 0} (Gives : X → Y → Type 0) (key : Y → ℕ)
+    (most : ℕ) (x : X) (before after : List Y) : Type 0 where
   -- what it gives, where fewer than `most` were taken and its key is new
-  adds : (y : Y) → length before < most → Gives x y → (Contains (map key before) (key y) → ⊥) → after ≡ before ++ y ∷ []
+  adds : (y : Y) → length before < most → Gives x y → (Contains (map key before) (key y) → ⊥)
+      → after ≡ before ++ y ∷ []
       → Adds Gives key most x before after
   -- nothing, else
-  keeps : ((y : Y) → length before < most → Gives x y → Contains (map key before) (key y)) → after ≡ before → Adds Gives key most x before after
+  keeps : ((y : Y) → length before < most → Gives x y → Contains (map key before) (key y))
+      → after ≡ before → Adds Gives key most x before after
 
 -- what is taken from items, one after the other, besides what was taken before
-abbrev pub TakesAfter : {X Y : Type 0} → (X → Y → Type 0) → (Y → ℕ) → ℕ → List Y → List X → List Y → Type 0
+abbrev pub TakesAfter : {X Y : Type 0} → (X → Y → Type 0) → (Y → ℕ) → ℕ → List Y → List X → List Y
+    → Type 0
 TakesAfter Gives key most before [] taken = taken ≡ before
 TakesAfter {X} {Y} Gives key most before (x ∷ items) taken =
-    (after : List Y) × Adds Gives key most x before after × TakesAfter Gives key most after items taken
+    (after : List Y) × Adds Gives key most x before after
+    × TakesAfter Gives key most after items taken
 
 -- what is taken is the first of each key that the items give, in order, up to `most`
 abbrev pub TakesFirst : {X Y : Type 0} → (X → Y → Type 0) → (Y → ℕ) → ℕ → List X → List Y → Type 0

@@ -20,10 +20,13 @@ pub fn symbol_count(shape: &Shape, axis: Axis) -> u16
     }
 }
 
-/// Whether the root over the n symbols of a codeword is the metadata's root of this axis and index. Takes no memory.
+/// Whether the root over the n symbols of a codeword is the metadata's root of this axis and index.
+/// Takes no memory.
 pub fn root_holds<H: Hash32>(m: MetaRef<'_>, axis: Axis, index: u16, word: &[u8]) -> bool
     requires index { index < shard_count (metadata_shown m).f }
-    requires size { length word.now ≡ shard_count (metadata_shown m).f * symbol_size (metadata_shown m).f (metadata_shown m).length }
+    requires size { length word.now
+        ≡ shard_count (metadata_shown m).f
+        * symbol_size (metadata_shown m).f (metadata_shown m).length }
     ensures { IsTrue result ↔ HasRoot H.digest (metadata_shown m.entry) axis index word.now }
 {
     let size = m.shape().symbol_size();

@@ -26,8 +26,8 @@ pub struct Evidence {
 pub enum Verdict {
     /// The blob's bytes.
     Bytes(Bytes),
-    /// The slivers belong to no blob that the metadata commits, or a proof shows that there is none: its writer
-    /// encoded wrongly.
+    /// The slivers belong to no blob that the metadata commits, or a proof shows that there is
+    /// none: its writer encoded wrongly.
     Reject,
 }
 

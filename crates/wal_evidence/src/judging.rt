@@ -46,7 +46,8 @@ fn judge<H: Hash32>(
 ) -> Result<Verdict, AllocError>
     requires { AreHeld H.digest (metadata_shown m) indices.now joined.now }
     ensures judged { IfOk result (Judges H.digest (metadata_shown m.entry) indices.now joined.now) }
-    ensures only { IfOk result (λ verdict. (other : Verdict) → Judges H.digest (metadata_shown m.entry) indices.now joined.now other → other ≡ verdict) }
+    ensures only { IfOk result (λ verdict. (other : Verdict)
+        → Judges H.digest (metadata_shown m.entry) indices.now joined.now other → other ≡ verdict) }
 {
     let shape = m.shape();
     let block = decode_primaries(alloc, &shape, indices, joined)?;
@@ -54,10 +55,11 @@ fn judge<H: Hash32>(
     judge_blob::<H>(alloc, m, blob)
 }
 
-/// The verdict on evidence, from its metadata and basis alone: whoever has them comes to the same one.
+/// The verdict on evidence, from its metadata and basis alone: whoever has them comes to the same
+/// one.
 ///
-/// From slivers the blob is decoded and encoded again (the Walrus paper, "Red Stuff", reading). A proof of bad encoding is
-/// a rejection.
+/// From slivers the blob is decoded and encoded again (the Walrus paper, "Red Stuff", reading). A
+/// proof of bad encoding is a rejection.
 pub fn verdict<H: Hash32>(
     alloc: Global,
     work: &mut Work,
@@ -66,11 +68,14 @@ pub fn verdict<H: Hash32>(
     requires f { work.old.f ≡ e.now.metadata.f }
     requires held { IsHeldBy H.digest e.now.metadata e.now.basis }
     ensures judged { IfOk result (IsJudgedBy H.digest e.now.metadata e.now.basis) }
-    // A committed blob is the verdict, or one of the slivers or openings is not the matrix's though it has the same root.
-    ensures committed { IfOk result (λ verdict. (blob matrix : List ℕ) → CommitsMatrix H.digest e.now.metadata blob matrix
+    // A committed blob is the verdict, or one of the slivers or openings is not the matrix's though
+    // it has the same root.
+    ensures committed { IfOk result
+        (λ verdict. (blob matrix : List ℕ) → CommitsMatrix H.digest e.now.metadata blob matrix
         → (verdict ≡ told.Bytes blob) ⊎ HasFalseSliver H.digest e.now.metadata matrix e.now.basis) }
     // There is no other verdict.
-    ensures only { IfOk result (λ verdict. (other : Verdict) → IsJudgedBy H.digest e.now.metadata e.now.basis other → other ≡ verdict) }
+    ensures only { IfOk result (λ verdict. (other : Verdict)
+        → IsJudgedBy H.digest e.now.metadata e.now.basis other → other ≡ verdict) }
     ensures f { work.new.f ≡ work.old.f }
 {
     let m = e.metadata.view();

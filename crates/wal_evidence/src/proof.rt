@@ -33,11 +33,18 @@ pub enum ProofVerdict {
     Inconsistent,
 }
 
-/// Copies the symbols one after the other, up to the first opening that does not hold, whose place is the answer.
+/// Copies the symbols one after the other, up to the first opening that does not hold, whose place
+/// is the answer.
 fn copy_symbols<H: Hash32>(m: MetaRef<'_>, p: &ProofRef<'_>, symbols: &mut [u8]) -> Option<u16>
-    requires { length symbols.old ≡ length (proof_shown p.now).openings * symbol_size (metadata_shown m).f (metadata_shown m).length }
-    ensures some { IfSome result (λ place. IsFirstBad H.digest (metadata_shown m.entry) (proof_shown p.now) place) }
-    ensures held { IfNone result (All (HoldsOpening H.digest (metadata_shown m.entry) (proof_shown p.now).axis (proof_shown p.now).index) (proof_shown p.now).openings) }
+    requires { length symbols.old
+        ≡ length (proof_shown p.now).openings
+        * symbol_size (metadata_shown m).f (metadata_shown m).length }
+    ensures some { IfSome result
+        (λ place. IsFirstBad H.digest (metadata_shown m.entry) (proof_shown p.now) place) }
+    ensures held { IfNone result (All
+        (HoldsOpening H.digest (metadata_shown m.entry)
+        (proof_shown p.now).axis (proof_shown p.now).index)
+        (proof_shown p.now).openings) }
     ensures copied { IfNone result (symbols.new ≡ symbols_of (proof_shown p.now).openings) }
 {
     let size = m.shape().symbol_size() as usize;
@@ -55,9 +62,14 @@ fn copy_symbols<H: Hash32>(m: MetaRef<'_>, p: &ProofRef<'_>, symbols: &mut [u8])
 /// Loads the symbols, up to the first opening that does not hold, whose place is the answer.
 fn load_symbols<H: Hash32>(work: &mut Work, m: MetaRef<'_>, p: &ProofRef<'_>) -> Option<u16>
     requires f { work.old.f ≡ (metadata_shown m).f }
-    requires count { length (proof_shown p.now).openings ≡ sliver_symbols (proof_shown p.now).axis (metadata_shown m).f }
-    ensures some { IfSome result (λ place. IsFirstBad H.digest (metadata_shown m.entry) (proof_shown p.now) place) }
-    ensures held { IfNone result (All (HoldsOpening H.digest (metadata_shown m.entry) (proof_shown p.now).axis (proof_shown p.now).index) (proof_shown p.now).openings) }
+    requires count { length (proof_shown p.now).openings
+        ≡ sliver_symbols (proof_shown p.now).axis (metadata_shown m).f }
+    ensures some { IfSome result
+        (λ place. IsFirstBad H.digest (metadata_shown m.entry) (proof_shown p.now) place) }
+    ensures held { IfNone result (All
+        (HoldsOpening H.digest (metadata_shown m.entry)
+        (proof_shown p.now).axis (proof_shown p.now).index)
+        (proof_shown p.now).openings) }
     ensures loaded { IfNone result (work.new.loaded ≡ symbols_of (proof_shown p.now).openings) }
     ensures f { work.new.f ≡ work.old.f }
 {
@@ -73,7 +85,8 @@ fn check_openings<H: Hash32>(
     crosses: &[u16],
 ) -> ProofVerdict
     requires f { work.old.f ≡ (metadata_shown m).f }
-    requires count { length (proof_shown p.now).openings ≡ sliver_symbols (proof_shown p.now).axis (metadata_shown m).f }
+    requires count { length (proof_shown p.now).openings
+        ≡ sliver_symbols (proof_shown p.now).axis (metadata_shown m).f }
     requires crosses { crosses.now ≡ crosses_of (proof_shown p.now).openings }
     requires distinct { Distinct crosses.now }
     ensures checks { Checks H.digest (metadata_shown m.entry) (proof_shown p.now) result }
@@ -90,13 +103,14 @@ fn check_openings<H: Hash32>(
     }
 }
 
-/// Checks a proof of bad encoding against the metadata (the Walrus paper, "Red Stuff", proofs of inconsistency). Takes no
-/// memory.
+/// Checks a proof of bad encoding against the metadata (the Walrus paper, "Red Stuff", proofs of
+/// inconsistency). Takes no memory.
 pub fn proof_check<H: Hash32>(work: &mut Work, m: MetaRef<'_>, p: &ProofRef<'_>) -> ProofVerdict
     requires { work.old.f ≡ (metadata_shown m).f }
     ensures checks { Checks H.digest (metadata_shown m.entry) (proof_shown p.now) result }
     // There is no other verdict.
-    ensures only { (other : ProofVerdict) → Checks H.digest (metadata_shown m.entry) (proof_shown p.now) other → other ≡ result }
+    ensures only { (other : ProofVerdict)
+        → Checks H.digest (metadata_shown m.entry) (proof_shown p.now) other → other ≡ result }
     ensures f { work.new.f ≡ work.old.f }
 {
     let count = p.count();

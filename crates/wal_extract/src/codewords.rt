@@ -26,8 +26,9 @@ fn symbol_bytes(f: u32, axis: Axis, long: usize) -> u32
     (long / symbols as usize) as u32
 }
 
-/// Two texts with one digest, from two different slivers of this axis whose codewords have one root: those
-/// of the leaf of the first symbol that differs, or of the lowest node above it, which differ under one digest.
+/// Two texts with one digest, from two different slivers of this axis whose codewords have one
+/// root: those of the leaf of the first symbol that differs, or of the lowest node above it, which
+/// differ under one digest.
 ///
 /// It fails only for want of memory.
 pub fn slivers<H: Hash32>(
@@ -43,7 +44,8 @@ pub fn slivers<H: Hash32>(
     requires one { HaveOneRoot H.digest f axis a.now b.now }
     ensures collision { IfOk result (λ c. IsCollision H.digest c.left c.right) }
     // The left text is the first sliver's, and the right one the other's.
-    ensures texts { IfOk result (λ c. AreDigestedForSlivers H.digest f axis a.now b.now c.left c.right) }
+    ensures texts { IfOk result
+        (λ c. AreDigestedForSlivers H.digest f axis a.now b.now c.left c.right) }
 {
     let size = symbol_bytes(f, axis, a.len());
     let mut work = Work::create(alloc, f)?;
@@ -52,9 +54,10 @@ pub fn slivers<H: Hash32>(
     collide_lists::<H>(alloc, &left, &right, size)
 }
 
-/// Slivers of one axis and index that a metadata commits have one root, whatever their bytes: where they differ,
-/// [`slivers`] gives two texts.
+/// Slivers of one axis and index that a metadata commits have one root, whatever their bytes: where
+/// they differ, [`slivers`] gives two texts.
 pub fn held_slivers_meet<H: Hash32>()
-    ensures { (m : BlobMetadata) (axis : Axis) (index : ℕ) (a b : List ℕ) → IsMetadata m → HoldsSliver H.digest m axis index a
+    ensures { (m : BlobMetadata) (axis : Axis) (index : ℕ) (a b : List ℕ) → IsMetadata m
+        → HoldsSliver H.digest m axis index a
         → HoldsSliver H.digest m axis index b → HaveOneRoot H.digest m.f axis a b }
 {}

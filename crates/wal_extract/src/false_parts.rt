@@ -1,4 +1,5 @@
-//! A sliver or an opening that is not a matrix's own, though it is committed under one root with it.
+//! A sliver or an opening that is not a matrix's own, though it is committed under one root with
+//! it.
 
 ghost use Rattle.std.specs.Prelude.{◌≡◌, ◌≢◌, ℕ, ◌+◌, ◌*◌, ◌<◌, ◌≤◌, IfOk, Some, length, slice_get, slice_index};
 ghost use Rattle.wal_kernel.specs.Region.{region};
@@ -19,10 +20,13 @@ use wal_tree::Hash32;
 
 /// The place of the first of the joined primary slivers that is not the matrix's own.
 fn first_false_sliver(matrix: &Encoded, indices: &[u16], joined: &[u8]) -> usize
-    requires { HaveFalseSliver matrix.now.shape.f (symbol_bytes matrix.now) matrix.now.cells indices.now joined.now }
+    requires { HaveFalseSliver matrix.now.shape.f (symbol_bytes matrix.now)
+        matrix.now.cells indices.now joined.now }
     ensures within { result < length indices.now }
-    ensures apart { region (column_count matrix.now.shape.f * symbol_bytes matrix.now) joined.now result
-        ≢ primary_of matrix.now.shape.f (symbol_bytes matrix.now) matrix.now.cells (slice_index indices.now result) }
+    ensures apart { region
+        (column_count matrix.now.shape.f * symbol_bytes matrix.now) joined.now result
+        ≢ primary_of matrix.now.shape.f (symbol_bytes matrix.now)
+        matrix.now.cells (slice_index indices.now result) }
 {
     let size = matrix.shape().sliver_len(Axis::Primary) as usize;
     for place in 0..indices.len() {
@@ -33,8 +37,8 @@ fn first_false_sliver(matrix: &Encoded, indices: &[u16], joined: &[u8]) -> usize
     unreachable!()
 }
 
-/// Two texts with one digest, from joined primary slivers of which one is not the matrix's own, though each has
-/// one root with it.
+/// Two texts with one digest, from joined primary slivers of which one is not the matrix's own,
+/// though each has one root with it.
 pub fn collide_held<H: Hash32>(
     alloc: Global,
     matrix: &Encoded,
@@ -42,10 +46,14 @@ pub fn collide_held<H: Hash32>(
     joined: &[u8],
 ) -> Result<Collision, AllocError>
     requires shape { IsShape matrix.now.shape.f matrix.now.shape.length }
-    requires apart { HaveFalseSliver matrix.now.shape.f (symbol_bytes matrix.now) matrix.now.cells indices.now joined.now }
-    requires meet { SliversMeet H.digest matrix.now.shape.f (symbol_bytes matrix.now) matrix.now.cells indices.now joined.now }
+    requires apart { HaveFalseSliver matrix.now.shape.f
+        (symbol_bytes matrix.now) matrix.now.cells indices.now joined.now }
+    requires meet { SliversMeet H.digest matrix.now.shape.f
+        (symbol_bytes matrix.now) matrix.now.cells indices.now joined.now }
     ensures collision { IfOk result (λ c. IsCollision H.digest c.left c.right) }
-    ensures texts { IfOk result (λ c. AreDigestedForJoined H.digest matrix.now.shape.f (symbol_bytes matrix.now) matrix.now.cells indices.now joined.now c.left c.right) }
+    ensures texts { IfOk result
+        (λ c. AreDigestedForJoined H.digest matrix.now.shape.f (symbol_bytes matrix.now)
+        matrix.now.cells indices.now joined.now c.left c.right) }
 {
     let place = first_false_sliver(matrix, indices, joined);
     let size = matrix.shape().sliver_len(Axis::Primary) as usize;
@@ -56,10 +64,13 @@ pub fn collide_held<H: Hash32>(
 
 /// The symbol of the line of this axis and index at the place `cross`.
 fn symbol_of(matrix: &Encoded, axis: Axis, index: u16, cross: u16) -> &[u8]
-    requires long { length matrix.now.cells ≡ shards matrix.now * shards matrix.now * symbol_bytes matrix.now }
+    requires long { length matrix.now.cells
+        ≡ shards matrix.now * shards matrix.now * symbol_bytes matrix.now }
     requires index { index < shards matrix.now }
     requires cross { cross < shards matrix.now }
-    ensures { result.now ≡ region (symbol_bytes matrix.now) (line_of axis matrix.now.shape.f (symbol_bytes matrix.now) matrix.now.cells index) cross }
+    ensures { result.now
+        ≡ region (symbol_bytes matrix.now)
+        (line_of axis matrix.now.shape.f (symbol_bytes matrix.now) matrix.now.cells index) cross }
 {
     let size = matrix.shape().symbol_size() as usize;
     match axis {
@@ -70,10 +81,12 @@ fn symbol_of(matrix: &Encoded, axis: Axis, index: u16, cross: u16) -> &[u8]
 
 /// The place of the first opening that has not the symbol of the matrix.
 fn first_false_opening(matrix: &Encoded, p: &ProofRef<'_>) -> u16
-    requires { HaveFalseOpening matrix.now.shape.f (symbol_bytes matrix.now) matrix.now.cells (proof_shown p.now) }
+    requires { HaveFalseOpening matrix.now.shape.f
+        (symbol_bytes matrix.now) matrix.now.cells (proof_shown p.now) }
     ensures within { result < length (proof_shown p.now).openings }
     ensures apart { (o : Opening) → slice_get (proof_shown p.now).openings result ≡ Some o
-        → o.symbol ≢ own_symbol matrix.now.shape.f (symbol_bytes matrix.now) matrix.now.cells (proof_shown p.now) o }
+        → o.symbol ≢ own_symbol matrix.now.shape.f
+        (symbol_bytes matrix.now) matrix.now.cells (proof_shown p.now) o }
 {
     for place in 0..p.count() {
         let opening = p.opening(place);
@@ -84,18 +97,21 @@ fn first_false_opening(matrix: &Encoded, p: &ProofRef<'_>) -> u16
     unreachable!()
 }
 
-/// Two texts with one digest, from openings of one target of which one has not the symbol of the matrix, though the
-/// metadata over the matrix commits each.
+/// Two texts with one digest, from openings of one target of which one has not the symbol of the
+/// matrix, though the metadata over the matrix commits each.
 pub fn collide_openings<H: Hash32>(
     alloc: Global,
     matrix: &Encoded,
     p: &ProofRef<'_>,
 ) -> Result<Collision, AllocError>
     requires shape { IsShape matrix.now.shape.f matrix.now.shape.length }
-    requires apart { HaveFalseOpening matrix.now.shape.f (symbol_bytes matrix.now) matrix.now.cells (proof_shown p.now) }
+    requires apart { HaveFalseOpening matrix.now.shape.f
+        (symbol_bytes matrix.now) matrix.now.cells (proof_shown p.now) }
     requires meet { OpeningsMeet H.digest matrix.now.shape matrix.now.cells (proof_shown p.now) }
     ensures collision { IfOk result (λ c. IsCollision H.digest c.left c.right) }
-    ensures texts { IfOk result (λ c. AreDigestedForOpenings H.digest matrix.now.shape.f (symbol_bytes matrix.now) matrix.now.cells (proof_shown p.now) c.left c.right) }
+    ensures texts { IfOk result
+        (λ c. AreDigestedForOpenings H.digest matrix.now.shape.f
+        (symbol_bytes matrix.now) matrix.now.cells (proof_shown p.now) c.left c.right) }
 {
     let opening = p.opening(first_false_opening(matrix, p));
     collide_opening::<H>(alloc, matrix, p.axis(), p.index(), &opening)

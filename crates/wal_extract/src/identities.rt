@@ -10,8 +10,8 @@ use wal_commit::collide_metadata;
 use wal_shape::{Collision, MetaRef};
 use wal_tree::{Hash32, copy_clash};
 
-/// The two texts with one digest that [`collide_metadata`] gives, from two different metadata of one
-/// identifier.
+/// The two texts with one digest that [`collide_metadata`] gives, from two different metadata of
+/// one identifier.
 ///
 /// It fails only for want of memory.
 pub fn metadatas<H: Hash32>(
@@ -20,10 +20,12 @@ pub fn metadatas<H: Hash32>(
     b: MetaRef<'_>,
 ) -> Result<Collision, AllocError>
     requires differ { metadata_shown a ≢ metadata_shown b }
-    requires one { identifier_of H.digest (metadata_shown a) ≡ identifier_of H.digest (metadata_shown b) }
+    requires one { identifier_of H.digest (metadata_shown a)
+        ≡ identifier_of H.digest (metadata_shown b) }
     ensures collision { IfOk result (λ c. IsCollision H.digest c.left c.right) }
     // The left text is the first metadata's, and the right one the other's.
-    ensures texts { IfOk result (λ c. AreDigestedFor H.digest (metadata_shown a.entry) (metadata_shown b.entry) c.left c.right) }
+    ensures texts { IfOk result (λ c.
+        AreDigestedFor H.digest (metadata_shown a.entry) (metadata_shown b.entry) c.left c.right) }
 {
     copy_clash(alloc, &collide_metadata::<H>(a, b))
 }

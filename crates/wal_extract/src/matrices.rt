@@ -14,9 +14,9 @@ use wal_matrix::{Encoded, extend};
 use wal_shape::{Collision, Shape};
 use wal_tree::{Hash32, collide_lists};
 
-/// Two texts with one digest, from two blobs that differ and have one identifier, each for its shape: the
-/// formats and the numbers of faults need not agree. They are those of the two metadata where these differ,
-/// and else those of the first row of the extended matrices that differs.
+/// Two texts with one digest, from two blobs that differ and have one identifier, each for its
+/// shape: the formats and the numbers of faults need not agree. They are those of the two metadata
+/// where these differ, and else those of the first row of the extended matrices that differs.
 ///
 /// It fails only for want of memory.
 pub fn blobs<H: Hash32>(
@@ -32,7 +32,8 @@ pub fn blobs<H: Hash32>(
     requires one { HaveOneIdentifier H.digest a_shape.now a.now b_shape.now b.now }
     ensures collision { IfOk result (λ c. IsCollision H.digest c.left c.right) }
     // The left text is the first blob's, and the right one the other's.
-    ensures texts { IfOk result (λ c. AreDigestedForBlobs H.digest a_shape.now a.now b_shape.now b.now c.left c.right) }
+    ensures texts { IfOk result
+        (λ c. AreDigestedForBlobs H.digest a_shape.now a.now b_shape.now b.now c.left c.right) }
 {
     let left = extend(alloc, a_shape, a)?;
     let right = extend(alloc, b_shape, b)?;
@@ -50,9 +51,11 @@ fn collide_rows<H: Hash32>(alloc: Global, a: &Encoded, b: &Encoded) -> Result<Co
     requires coded_a { IsCodedMatrix a.now.shape.f (symbol_bytes a.now) a.now.cells }
     requires coded_b { IsCodedMatrix b.now.shape.f (symbol_bytes b.now) b.now.cells }
     requires differ { a.now.cells ≢ b.now.cells }
-    requires one { metadata_over H.digest a.now.shape a.now.cells ≡ metadata_over H.digest b.now.shape b.now.cells }
+    requires one { metadata_over H.digest a.now.shape a.now.cells
+        ≡ metadata_over H.digest b.now.shape b.now.cells }
     ensures collision { IfOk result (λ c. IsCollision H.digest c.left c.right) }
-    ensures texts { IfOk result (λ c. AreDigestedForRows H.digest a.now.shape a.now.cells b.now.cells c.left c.right) }
+    ensures texts { IfOk result
+        (λ c. AreDigestedForRows H.digest a.now.shape a.now.cells b.now.cells c.left c.right) }
 {
     let index = first_row_apart(a, b);
     collide_lists::<H>(alloc, a.row(index), b.row(index), a.shape().symbol_size())

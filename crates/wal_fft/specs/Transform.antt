@@ -1,7 +1,8 @@
--- The additive Fourier transform (Lin, Chung, Han: "Novel polynomial basis and its application to Reed-Solomon erasure
--- codes", 2014). A polynomial is a sum of coefficients times products of skews: t_j is the additive function of degree 2^j
--- whose roots are the points below 2^j, and which is 1 at the point 2^j. The product of the t_j at the bits j of a number
--- is the basis polynomial of that number, and its degree is the number.
+-- The additive Fourier transform (Lin, Chung, Han: "Novel polynomial basis and its application to
+-- Reed-Solomon erasure codes", 2014). A polynomial is a sum of coefficients times products of
+-- skews: t_j is the additive function of degree 2^j whose roots are the points below 2^j, and which
+-- is 1 at the point 2^j. The product of the t_j at the bits j of a number is the basis polynomial
+-- of that number, and its degree is the number.
 use Rattle.std.specs.Prelude.{◌≡◌, ℕ, zero, suc, ◌+◌, ◌*◌, ◌^◌, ◌<◌, ◌≤◌, List, [], ◌∷◌, length, slice_index, bit_xor}
 use Rattle.std.specs.Int.{bit_at}
 use Rattle.wal_gf.specs.Field.{times, xor_below}
@@ -38,24 +39,29 @@ value (suc j) c x = bit_xor (value j c x) (times (skew j x) (value j (λ i. c (2
 abbrev pub lane : ℕ → List ℕ → ℕ → ℕ → ℕ
 lane width bytes w k = word_at bytes (width * k + w)
 
--- At each word place, new has the values at the points from `from` to below `to` among those of this block, of the
--- polynomial whose coefficients old has. Block `index` has the points from index * 2^level on, 2^level of them.
+-- At each word place, new has the values at the points from `from` to below `to` among those of
+-- this block, of the polynomial whose coefficients old has. Block `index` has the points from
+-- index * 2^level on, 2^level of them.
 abbrev pub AreValues : ℕ → ℕ → ℕ → ℕ → ℕ → List ℕ → List ℕ → Type 0
 AreValues width level index from to old new =
-    (w : ℕ) → w < width → (i : ℕ) → i < 2 ^ level → from ≤ index * 2 ^ level + i → index * 2 ^ level + i < to
+    (w : ℕ) → w < width → (i : ℕ) → i < 2 ^ level → from ≤ index * 2 ^ level + i
+    → index * 2 ^ level + i < to
     → lane width new w i ≡ value level (lane width old w) (index * 2 ^ level + i)
 
--- At each word place, new has coefficients of which old has the values at the first `known` points of this block, and
--- from `known` on the coefficients are those that old has.
+-- At each word place, new has coefficients of which old has the values at the first `known` points
+-- of this block, and from `known` on the coefficients are those that old has.
 pub record AreCoefficients (width level index known : ℕ) (old new : List ℕ) : Type 0 where
-  pub values : (w : ℕ) → w < width → (i : ℕ) → i < known → lane width old w i ≡ value level (lane width new w) (index * 2 ^ level + i)
-  pub others : (w : ℕ) → w < width → (i : ℕ) → known ≤ i → i < 2 ^ level → lane width new w i ≡ lane width old w i
+  pub values : (w : ℕ) → w < width → (i : ℕ) → i < known
+      → lane width old w i ≡ value level (lane width new w) (index * 2 ^ level + i)
+  pub others : (w : ℕ) → w < width → (i : ℕ) → known ≤ i → i < 2 ^ level
+      → lane width new w i ≡ lane width old w i
 
 -- f was added to each word from `from` on
 pub record WasAdded (f : ℕ → ℕ) (from : ℕ) (old new : List ℕ) : Type 0 where
   pub long : length new ≡ length old
   pub kept : (p : ℕ) → p < from → word_at new p ≡ word_at old p
-  pub added : (p : ℕ) → from ≤ p → 2 * p + 1 < length old → word_at new p ≡ bit_xor (word_at old p) (f p)
+  pub added : (p : ℕ) → from ≤ p → 2 * p + 1 < length old
+      → word_at new p ≡ bit_xor (word_at old p) (f p)
 
 -- c times each word of the source
 abbrev pub scaled : ℕ → List ℕ → ℕ → ℕ

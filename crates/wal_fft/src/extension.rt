@@ -9,8 +9,8 @@ use crate::levels::{level_of, points};
 use crate::strips::{gather, scatter, strip_width};
 use crate::transform::{evaluate, restore};
 
-/// A size of scratch for so many regions of `size` bytes: 256 bytes of each, and no less than 32 KiB, but no more than the
-/// regions have.
+/// A size of scratch for so many regions of `size` bytes: 256 bytes of each, and no less than 32
+/// KiB, but no more than the regions have.
 pub fn scratch_size(total: u16, size: usize) -> usize
     requires few { total ≤ 1000 }
     ensures { 2048 ≤ result }
@@ -45,8 +45,8 @@ fn extend_strip(
     scatter(strip, words, start, width, known, total, regions);
 }
 
-/// Fills the regions from `known` on, so that the words at each place of the regions are a codeword. It works on a strip
-/// of all regions at a time, in the scratch.
+/// Fills the regions from `known` on, so that the words at each place of the regions are a
+/// codeword. It works on a strip of all regions at a time, in the scratch.
 pub fn extend_regions(known: u16, total: u16, size: usize, buffer: &mut [u8], scratch: &mut [u8])
     requires fewer { known ≤ total }
     requires few { total ≤ 1000 }

@@ -1,6 +1,7 @@
-//! Codewords extended by the additive Fourier transform (Lin, Chung, Han: "Novel polynomial basis and its application to
-//! Reed-Solomon erasure codes", 2014): from the values at the first points the coefficients, and from these the values at
-//! the others, in n log n products where a table of coefficients takes n k.
+//! Codewords extended by the additive Fourier transform (Lin, Chung, Han: "Novel polynomial basis
+//! and its application to Reed-Solomon erasure codes", 2014): from the values at the first points
+//! the coefficients, and from these the values at the others, in n log n products where a table of
+//! coefficients takes n k.
 #![tactic(auto)]
 
 mod extension;

@@ -3,7 +3,8 @@
 ghost use Rattle.std.specs.Prelude.{◌≡◌, ◌+◌, ◌*◌, ◌/◌, ◌≤◌, length, min};
 ghost use Rattle.wal_fft.specs.inside.Strip.{IsGathered, IsScattered};
 
-/// The words that the next strip has of each of so many regions: no more than are left, nor than the scratch has room for.
+/// The words that the next strip has of each of so many regions: no more than are left, nor than
+/// the scratch has room for.
 pub fn strip_width(room: usize, regions: usize, left: usize) -> usize
     requires some { 1 ≤ regions }
     requires few { regions ≤ 1024 }
@@ -19,8 +20,8 @@ pub fn strip_width(room: usize, regions: usize, left: usize) -> usize
     widest.min(left)
 }
 
-/// Copies `width` words from the word `start` on of each of the first `known` regions of `words` words, and fills the
-/// rest of the strip with zeros.
+/// Copies `width` words from the word `start` on of each of the first `known` regions of `words`
+/// words, and fills the rest of the strip with zeros.
 pub(crate) fn gather(
     regions: &[u8],
     words: usize,
@@ -42,7 +43,8 @@ pub(crate) fn gather(
     }
 }
 
-/// Copies the runs of the strip from `known` to below `total` to the words from `start` on of the regions.
+/// Copies the runs of the strip from `known` to below `total` to the words from `start` on of the
+/// regions.
 pub(crate) fn scatter(
     strip: &[u8],
     words: usize,

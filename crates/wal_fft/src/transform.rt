@@ -1,5 +1,5 @@
-//! The transform and its inverse, on runs of words: run k has a word of each of many polynomials, at the same place of
-//! each run.
+//! The transform and its inverse, on runs of words: run k has a word of each of many polynomials,
+//! at the same place of each run.
 
 ghost use Rattle.std.specs.Prelude.{◌≡◌, ◌+◌, ◌-◌, ◌*◌, ◌^◌, ◌<◌, ◌≤◌, length};
 ghost use Rattle.wal_fft.specs.Transform.{AreValues, AreCoefficients};
@@ -8,8 +8,8 @@ use crate::levels::half;
 use crate::skews::skew;
 use crate::sums::{add_product, add_words};
 
-/// Replaces the coefficients of polynomials by their values at the points of a block, those from `from` to below `to`
-/// alone. What the runs at the other points then have is not told.
+/// Replaces the coefficients of polynomials by their values at the points of a block, those from
+/// `from` to below `to` alone. What the runs at the other points then have is not told.
 pub fn evaluate(buffer: &mut [u8], width: usize, level: usize, index: usize, from: usize, to: usize)
     requires long { length buffer.old ≡ 2 ^ level * (2 * width) }
     requires few { level ≤ 10 }
@@ -31,8 +31,9 @@ pub fn evaluate(buffer: &mut [u8], width: usize, level: usize, index: usize, fro
     evaluate(high, width, level - 1, 2 * index + 1, from, to);
 }
 
-/// Replaces the values of polynomials at the first `known` points of a block by their first coefficients, of which the
-/// runs from `known` on have the others. It undoes `evaluate`, where all points are known.
+/// Replaces the values of polynomials at the first `known` points of a block by their first
+/// coefficients, of which the runs from `known` on have the others. It undoes `evaluate`, where all
+/// points are known.
 pub fn restore(buffer: &mut [u8], width: usize, level: usize, index: usize, known: usize)
     requires long { length buffer.old ≡ 2 ^ level * (2 * width) }
     requires few { level ≤ 10 }

@@ -20,7 +20,8 @@ pub data Frame : Type 0 where
   -- an opening, and a proof of bad encoding, of the sliver of this axis and index
   Opening : List ℕ → Axis → ℕ → single.Opening → Frame
   Proof : List ℕ → EncodingProof → Frame
-  -- requests to read a blob's parts, symbols of a sliver, an acknowledgement, an attestation, and to forget
+  -- requests to read a blob's parts, symbols of a sliver, an acknowledgement, an attestation, and
+  -- to forget
   Read : List ℕ → Frame
   Symbol : List ℕ → Axis → ℕ → Frame
   Ack : List ℕ → Frame
@@ -91,14 +92,17 @@ metadata_frame m = metadata_kind m.format ∷ metadata_text m
 abbrev pub target_text : List ℕ → Axis → ℕ → List ℕ
 target_text id axis index = id ++ axis_number axis ∷ [] ++ number_text w16 index
 
--- what stands before a sliver's bytes: the blob's identifier, the axis, the sliver's index and its size
+-- what stands before a sliver's bytes: the blob's identifier, the axis, the sliver's index and its
+-- size
 abbrev pub sliver_front : List ℕ → Axis → ℕ → ℕ → List ℕ
 sliver_front id axis index size = 0x11 ∷ (target_text id axis index ++ number_text w32 size)
 
--- a frame that carries a sliver: the blob's identifier, the axis, the sliver's index, its length and its bytes
+-- a frame that carries a sliver: the blob's identifier, the axis, the sliver's index, its length
+-- and its bytes
 abbrev pub sliver_frame : List ℕ → Axis → ℕ → List ℕ → List ℕ
 sliver_frame id axis index bytes =
-    0x11 ∷ (id ++ axis_number axis ∷ [] ++ number_text w16 index ++ number_text w32 (length bytes) ++ bytes)
+    0x11 ∷ (id ++ axis_number axis ∷ [] ++ number_text w16 index ++ number_text w32 (length bytes)
+    ++ bytes)
 
 -- the one spelling of a frame
 abbrev pub frame_text : Frame → List ℕ
@@ -119,4 +123,5 @@ frame_text (AttestEntry shard id) = 0x42 ∷ (number_text w16 shard ++ id)
 
 -- an envelope: the byte 57, the sender, the length of the payload, and the payload
 abbrev pub envelope : ℕ → List ℕ → List ℕ
-envelope sender payload = 0x57 ∷ (number_text w16 sender ++ number_text w32 (length payload) ++ payload)
+envelope sender payload =
+    0x57 ∷ (number_text w16 sender ++ number_text w32 (length payload) ++ payload)

@@ -7,7 +7,9 @@ use Rattle.wal_frame.specs.Stream.{IsPayload}
 
 -- no whole envelope stands at the front
 abbrev pub BeginsNone : List ℕ → Type 0
-BeginsNone bytes = (sender : ℕ) (payload after : List ℕ) → IsPayload payload → bytes ≡ envelope sender payload ++ after → ⊥
+BeginsNone bytes =
+    (sender : ℕ) (payload after : List ℕ) → IsPayload payload
+    → bytes ≡ envelope sender payload ++ after → ⊥
 
 -- no bytes, or a front of an envelope that is not all there
 abbrev pub IsPart : List ℕ → Type 0
@@ -21,7 +23,8 @@ IsWrong (b ∷ bytes) = b ≡ 0x57 → ⊥
 
 -- the bytes begin so
 abbrev pub BeginsWith : Envelope → List ℕ → Type 0
-BeginsWith (Whole sender payload rest) bytes = IsPayload payload.now × (bytes ≡ envelope sender payload.now ++ rest.now)
+BeginsWith (Whole sender payload rest) bytes =
+    IsPayload payload.now × (bytes ≡ envelope sender payload.now ++ rest.now)
 BeginsWith Part bytes = IsPart bytes
 BeginsWith Wrong bytes = IsWrong bytes
 

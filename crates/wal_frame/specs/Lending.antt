@@ -16,11 +16,14 @@ written_from start old w = written old (take start old ++ (w ++ drop (length w) 
 
 -- a buffer whose last bytes were written to
 abbrev pub written_last : Buffer → ℕ → List ℕ → Buffer
-written_last b size w = record { bytes = written_from (length b.bytes - size) b.bytes w; spare = b.spare }
+written_last b size w =
+    record { bytes = written_from (length b.bytes - size) b.bytes w; spare = b.spare }
 
 -- a buffer with an envelope whose payload is zero bytes
 abbrev pub with_zeros : Buffer → ℕ → ℕ → Buffer
-with_zeros b sender size = appended (appended b (0x57 ∷ (number_text w16 sender ++ number_text w32 size))) (replicate size 0)
+with_zeros b sender size =
+    appended (appended b (0x57 ∷ (number_text w16 sender ++ number_text w32 size)))
+    (replicate size 0)
 
 -- the last bytes that were written are lent
 abbrev pub LendsTail : MutBor Buffer → ℕ → MutBor (List ℕ) → Fml
@@ -28,4 +31,5 @@ LendsTail s size r = Lends out.the_row (Array u8 0) s r (written_last s.now size
 
 -- the buffer ends with an envelope whose payload is what was written
 abbrev pub LendsPayload : MutBor Buffer → ℕ → ℕ → MutBor (List ℕ) → Fml
-LendsPayload s sender size r = Lends out.the_row (Array u8 0) s r (written_last (with_zeros s.now sender size) size)
+LendsPayload s sender size r =
+    Lends out.the_row (Array u8 0) s r (written_last (with_zeros s.now sender size) size)

@@ -139,7 +139,9 @@ proof_at bytes = do
   target ← target_at bytes
   count ← field_at w16 36 1000 target.1
   rest ← bodies_at count.0 38 count.1
-  ended (Proof target.0.id.0 (proof_with target.0.axis target.0.index (openings_in count.0 count.1))) rest
+  ended
+      (Proof target.0.id.0 (proof_with target.0.axis target.0.index (openings_in count.0 count.1)))
+      rest
 
 -- the identifier behind the kind, and nothing else
 unfoldable pub name_at : List ℕ → Result (List ℕ) FrameError

@@ -15,7 +15,8 @@ size_in bytes = from_be_bytes w32 (take 4 (drop 3 bytes))
 
 -- so many bytes as payload, and the bytes after them
 abbrev pub payload_at : ℕ → List ℕ → Option (List ℕ × List ℕ)
-payload_at size bytes = if nat_lt (length bytes) size then None else Some (take size bytes, drop size bytes)
+payload_at size bytes =
+    if nat_lt (length bytes) size then None else Some (take size bytes, drop size bytes)
 
 -- the payload of the envelope that the bytes begin with, and the bytes after the envelope
 unfoldable pub envelope_at : List ℕ → Option (List ℕ × List ℕ)
@@ -29,7 +30,8 @@ behind payloads n (Ok others) = Ok (payloads ++ others)
 behind payloads n (Err place) = Err (n + place)
 
 -- the envelope that stands at the front, and what its followers give
-abbrev pub front_of : Option (List ℕ × List ℕ) → (List ℕ → Result (List (List ℕ)) ℕ) → Result (List (List ℕ)) ℕ
+abbrev pub front_of : Option (List ℕ × List ℕ) → (List ℕ → Result (List (List ℕ)) ℕ)
+    → Result (List (List ℕ)) ℕ
 front_of None others = Err 0
 front_of (Some e) others = behind (e.0 ∷ []) (7 + length e.0) (others e.1)
 
@@ -58,9 +60,11 @@ Splits (Err Memory) stream = ⊤
 abbrev pub IsStream : List (List ℕ) → List ℕ → Type 0
 IsStream [] bytes = bytes ≡ []
 IsStream (payload ∷ payloads) bytes =
-    (sender : ℕ) × (rest : List ℕ) × IsPayload payload × (bytes ≡ envelope sender payload ++ rest) × IsStream payloads rest
+    (sender : ℕ) × (rest : List ℕ) × IsPayload payload × (bytes ≡ envelope sender payload ++ rest)
+    × IsStream payloads rest
 
--- whole envelopes fill exactly the bytes before this place, and others follow that begin with no whole envelope
+-- whole envelopes fill exactly the bytes before this place, and others follow that begin with no
+-- whole envelope
 pub record IsMalformed (place : ℕ) (bytes : List ℕ) : Type 0 where
   pub front : List ℕ
   pub payloads : List (List ℕ)
@@ -69,4 +73,5 @@ pub record IsMalformed (place : ℕ) (bytes : List ℕ) : Type 0 where
   pub size : length front ≡ place
   pub whole : IsStream payloads front
   pub more : rest ≡ [] → ⊥
-  pub unfit : (sender : ℕ) (payload after : List ℕ) → IsPayload payload → rest ≡ envelope sender payload ++ after → ⊥
+  pub unfit : (sender : ℕ) (payload after : List ℕ) → IsPayload payload
+      → rest ≡ envelope sender payload ++ after → ⊥

@@ -165,7 +165,8 @@ impl OutBuf {
     /// Writes what stands before the payload in an envelope.
     pub(crate) fn put_head(&mut self, sender: u16, size: usize)
         requires { 7 + size ≤ self.old.spare }
-        ensures text { self.new ≡ appended self.old (0x57 ∷ (number_text w16 sender ++ number_text w32 size)) }
+        ensures text { self.new
+            ≡ appended self.old (0x57 ∷ (number_text w16 sender ++ number_text w32 size)) }
         ensures room { self.new.spare ≡ self.old.spare - 7 }
         ensures fits { size < 2 ^ 32 }
     {

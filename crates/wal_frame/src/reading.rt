@@ -386,10 +386,10 @@ fn frame_of(bytes: &[u8]) -> Result<FrameRef<'_>, FrameError>
 /// | `40` | register entry | identifier, until (four) |
 /// | `41` `42` | ack entry, attest entry | shard (two), identifier |
 ///
-/// An axis is 0 for primary and 1 for secondary. The first fault from the left is answered; a range is
-/// checked once the field is read, before what it announces. `f` is from 1 to 333, an index or a
-/// shard at most 999, a length or size at most 16,777,216, a number of bodies at most 1000, a code at
-/// most 15, a text's size at most 65, and until at most 65,536.
+/// An axis is 0 for primary and 1 for secondary. The first fault from the left is answered; a range
+/// is checked once the field is read, before what it announces. `f` is from 1 to 333, an index or a
+/// shard at most 999, a length or size at most 16,777,216, a number of bodies at most 1000, a code
+/// at most 15, a text's size at most 65, and until at most 65,536.
 pub fn read_frame(bytes: &[u8]) -> Result<FrameRef<'_>, FrameError>
     // What is read is in the ranges.
     ensures frame { IfOk result (λ frame. IsFrame (frame_shown frame)) }
@@ -398,9 +398,11 @@ pub fn read_frame(bytes: &[u8]) -> Result<FrameRef<'_>, FrameError>
     // What is read is spelled so.
     ensures spelled { IfOk result (λ frame. bytes.now ≡ frame_text (frame_shown frame)) }
     // What is spelled so is read.
-    ensures only { (x : Frame) → IsFrame x → bytes.now ≡ frame_text x → Gives frame_shown result (Ok x) }
+    ensures only { (x : Frame) → IsFrame x → bytes.now ≡ frame_text x
+        → Gives frame_shown result (Ok x) }
     // No spelling begins another: a frame that the bytes begin with is what is read.
-    ensures alone { IfOk result (λ frame. (x : Frame) (rest : List ℕ) → IsFrame x → bytes.now ≡ frame_text x ++ rest
+    ensures alone { IfOk result
+        (λ frame. (x : Frame) (rest : List ℕ) → IsFrame x → bytes.now ≡ frame_text x ++ rest
         → (x ≡ frame_shown frame) × (rest ≡ [])) }
     // Which fault it is.
     ensures exact { Gives frame_shown result (read_of bytes.now) }

@@ -18,8 +18,8 @@ const HEAD_SIZE: usize = 7;
 /// Why a stream was not split.
 #[derive(Clone, Copy, Debug, PartialEq, Eq)]
 pub enum SplitError {
-    /// At this place, which is not the end, no whole envelope begins. Whole envelopes fill the bytes
-    /// before it.
+    /// At this place, which is not the end, no whole envelope begins. Whole envelopes fill the
+    /// bytes before it.
     Malformed(u64),
     /// Memory ran out.
     Memory,
@@ -94,7 +94,8 @@ pub fn split(alloc: Global, stream: &[u8]) -> Result<Payloads, SplitError>
     // Whole envelopes end at this place, and no other follows.
     ensures malformed { IfErr result (λ e. IfMalformed e (λ place. IsMalformed place stream.now)) }
     // Envelopes are split, unless memory ran out.
-    ensures only { (payloads : List (List ℕ)) → IsStream payloads stream.now → Splits result (Ok payloads) }
+    ensures only { (payloads : List (List ℕ)) → IsStream payloads stream.now
+        → Splits result (Ok payloads) }
     // A stream that is malformed is refused, unless memory ran out.
     ensures refused { (place : ℕ) → IsMalformed place stream.now → Splits result (Err place) }
     // Which payloads or which place it is, unless memory ran out.
@@ -103,12 +104,14 @@ pub fn split(alloc: Global, stream: &[u8]) -> Result<Payloads, SplitError>
     payloads_of(alloc, stream)
 }
 
-/// The envelopes of these payloads from this sender, one after the other, as `split` describes them.
+/// The envelopes of these payloads from this sender, one after the other, as `split` describes
+/// them.
 pub fn join(alloc: Global, sender: u16, payloads: &Payloads) -> Result<Bytes, AllocError>
     requires { AllByRecursion IsPayload payloads.now }
     ensures text { IfOk result (λ bytes. bytes ≡ flat_map (envelope sender) payloads.now) }
     // What is written is split again, whatever follows.
-    ensures again { IfOk result (λ bytes. (rest : List ℕ) → stream_of (bytes ++ rest) ≡ behind payloads.now (length bytes) (stream_of rest)) }
+    ensures again { IfOk result (λ bytes. (rest : List ℕ)
+        → stream_of (bytes ++ rest) ≡ behind payloads.now (length bytes) (stream_of rest)) }
 {
     let mut out = Vec::new(alloc);
     for payload in payloads.as_slice() {

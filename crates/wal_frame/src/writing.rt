@@ -63,7 +63,9 @@ fn put_metadata(out: &mut Room, kind: u8, metadata: MetaRef<'_>)
 fn put_sliver(out: &mut Room, id: BlobId, sliver: SliverRef<'_>)
     requires size { length sliver.bytes.now ≤ most_bytes }
     requires room { 40 + length sliver.bytes.now ≤ out.old.spare }
-    ensures { out.new ≡ appended out.old (sliver_frame id.0 sliver.entry.axis sliver.entry.index sliver.entry.bytes.now) }
+    ensures { out.new
+        ≡ appended out.old
+        (sliver_frame id.0 sliver.entry.axis sliver.entry.index sliver.entry.bytes.now) }
 {
     let size = sliver.bytes.len() as u32;
     put_target(out, SLIVER, id, sliver.axis, sliver.index);
@@ -75,7 +77,9 @@ fn put_sliver(out: &mut Room, id: BlobId, sliver: SliverRef<'_>)
 fn put_symbol(out: &mut Room, cross: u16, symbol: &[u8])
     requires size { length symbol.now ≤ most_bytes }
     requires room { 6 + length symbol.now ≤ out.old.spare }
-    ensures text { out.new ≡ appended out.old (number_text w16 cross ++ number_text w32 (length symbol.now) ++ symbol.now) }
+    ensures text { out.new
+        ≡ appended out.old
+        (number_text w16 cross ++ number_text w32 (length symbol.now) ++ symbol.now) }
     ensures room { out.new.spare ≡ out.old.spare - 6 - length symbol.now }
 {
     let size = symbol.len() as u32;
@@ -100,7 +104,9 @@ fn put_body(out: &mut Room, opening: OpeningRef<'_>)
 fn put_opening(out: &mut Room, id: BlobId, axis: Axis, index: u16, opening: OpeningRef<'_>)
     requires opening { IsBody (opening_shown opening) }
     requires room { 43 + length opening.symbol.now + length opening.path.now ≤ out.old.spare }
-    ensures { out.new ≡ appended out.old (0x12 ∷ (target_text id.0 axis index ++ body_text (opening_shown opening.entry))) }
+    ensures { out.new
+        ≡ appended out.old
+        (0x12 ∷ (target_text id.0 axis index ++ body_text (opening_shown opening.entry))) }
 {
     put_target(out, OPENING, id, axis, index);
     put_body(out, opening);
@@ -118,7 +124,8 @@ fn put_proof(out: &mut Room, id: BlobId, body: ProofRef<'_>)
 /// Writes an answer.
 fn put_answer(out: &mut Room, code: u8, a: u32, b: u32)
     requires { 10 ≤ out.old.spare }
-    ensures { out.new ≡ appended out.old (0x30 ∷ (code ∷ [] ++ number_text w32 a ++ number_text w32 b)) }
+    ensures { out.new
+        ≡ appended out.old (0x30 ∷ (code ∷ [] ++ number_text w32 a ++ number_text w32 b)) }
 {
     out.put(&[ANSWER, code]);
     out.put(&a.to_be_bytes());
@@ -141,7 +148,8 @@ fn put_clash(out: &mut Room, left: &[u8], right: &[u8])
     requires left { length left.now ≤ 65 }
     requires right { length right.now ≤ 65 }
     requires room { 3 + length left.now + length right.now ≤ out.old.spare }
-    ensures { out.new ≡ appended out.old (0x31 ∷ (length left.now ∷ left.now ++ length right.now ∷ right.now)) }
+    ensures { out.new
+        ≡ appended out.old (0x31 ∷ (length left.now ∷ left.now ++ length right.now ∷ right.now)) }
 {
     out.put(&[CLASH]);
     put_text(out, left);
@@ -260,7 +268,8 @@ fn sliver_fields(id: &BlobId, axis: Axis, index: u16, size: u32) -> [u8; 40]
 pub fn sliver_head(id: &BlobId, axis: Axis, index: u16, size: u32) -> [u8; 40]
     ensures head { result ≡ sliver_front id.now.0 axis index size }
     // The sliver's bytes behind it are the whole frame.
-    ensures joins { (bytes : List ℕ) → length bytes ≡ size → result ++ bytes ≡ sliver_frame id.now.0 axis index bytes }
+    ensures joins { (bytes : List ℕ) → length bytes ≡ size
+        → result ++ bytes ≡ sliver_frame id.now.0 axis index bytes }
 {
     sliver_fields(id, axis, index, size)
 }
@@ -274,12 +283,15 @@ pub fn write_frame(out: &mut OutBuf, sender: u16, frame: &FrameRef<'_>)
     requires kind { IsLentKind frame.now }
     // There is room.
     requires room { length (envelope sender (frame_text (frame_shown frame.now))) ≤ out.old.spare }
-    ensures written { out.new ≡ appended out.old (envelope sender (frame_text (frame_shown frame.now))) }
+    ensures written { out.new
+        ≡ appended out.old (envelope sender (frame_text (frame_shown frame.now))) }
     // The frame is read again.
     ensures read { read_of (frame_text (frame_shown frame.now)) ≡ Ok (frame_shown frame.now) }
     // Its envelope is split again, whatever follows.
-    ensures again { (rest : List ℕ) → stream_of (envelope sender (frame_text (frame_shown frame.now)) ++ rest)
-        ≡ behind (frame_text (frame_shown frame.now) ∷ []) (length (envelope sender (frame_text (frame_shown frame.now)))) (stream_of rest) }
+    ensures again { (rest : List ℕ)
+        → stream_of (envelope sender (frame_text (frame_shown frame.now)) ++ rest)
+        ≡ behind (frame_text (frame_shown frame.now) ∷ [])
+        (length (envelope sender (frame_text (frame_shown frame.now)))) (stream_of rest) }
 {
     out.put_head(sender, frame_size(frame));
     out.put_frame(frame);

@@ -8,4 +8,5 @@ use Rattle.wal_gateway.specs.Gotten.{IsOnlyAnswer}
 -- with its answer, which is the only one; or memory was wanted, and the list is as it was
 abbrev pub EndsGet : (List ℕ → List ℕ) → Cache → Get → Result GetAnswer AllocError → Cache → Type 0
 EndsGet digest old get result new =
-    MatchResult result (λ answer. AnswersGet digest old get answer new × IsOnlyAnswer digest old get answer new) (λ _. new ≡ old)
+    MatchResult result (λ answer.
+    AnswersGet digest old get answer new × IsOnlyAnswer digest old get answer new) (λ _. new ≡ old)

@@ -1,4 +1,5 @@
--- What a get of a blob's bytes answers over a list of blobs that were checked before, and what it leaves of the list.
+-- What a get of a blob's bytes answers over a list of blobs that were checked before, and what it
+-- leaves of the list.
 use Rattle.std.specs.Prelude.{◌≡◌, ℕ, ◌+◌, List, [], ◌∷◌, length, take, drop, cond, nat_le, Option, MatchOption, true, false}
 use Rattle.std.specs.Map.{lookup, remove_entry}
 use Rattle.wal_shape.specs.declared.metadata.BlobId.{BlobId}
@@ -12,7 +13,8 @@ use Rattle.wal_gateway.specs.declared.answer.Found.TheVariants.{Range, OutOfRang
 use Rattle.wal_gateway.specs.declared.answer.GetAnswer.{GetAnswer}
 use Rattle.wal_gateway.specs.declared.checked.CheckedBlob.{CheckedBlob}
 
--- the pairs of an identifier and the blob that was checked for it, the last used first, and how many there may be
+-- the pairs of an identifier and the blob that was checked for it, the last used first, and how
+-- many there may be
 pub record Cache : Type 0 where
   pub pairs : List (BlobId × CheckedBlob)
   pub capacity : ℕ
@@ -42,7 +44,9 @@ entered cache id blob = record cache { pairs = take cache.capacity ((id, blob) �
 
 -- so many of the bytes from a place on, or how many there are, if they end before
 abbrev pub range_of : ℕ → ℕ → List ℕ → Found
-range_of from size bytes = cond (nat_le (from + size) (length bytes)) (Range (take size (drop from bytes))) (OutOfRange (length bytes))
+range_of from size bytes =
+    cond (nat_le (from + size) (length bytes))
+    (Range (take size (drop from bytes))) (OutOfRange (length bytes))
 
 -- what is found where a read comes to this outcome
 abbrev pub found_of : ℕ → ℕ → Outcome → Found
@@ -54,12 +58,15 @@ found_of from size (read.Collision clash) = Collision clash
 
 -- these bytes as a blob of the metadata
 abbrev pub blob_with : BlobMetadata → List ℕ → CheckedBlob
-blob_with m bytes = record { shape = record { format = m.format; f = m.f; length = m.length }; bytes = bytes }
+blob_with m bytes =
+    record { shape = record { format = m.format; f = m.f; length = m.length }; bytes = bytes }
 
--- what a read with this outcome leaves of the list: the blob enters it, and anything else leaves it as it was
+-- what a read with this outcome leaves of the list: the blob enters it, and anything else leaves it
+-- as it was
 abbrev pub Leaves : (List ℕ → List ℕ) → Cache → Get → Outcome → Cache → Type 0
 Leaves digest old get (read.Bytes bytes) new =
-    (m : BlobMetadata) × IsMetadataIn digest get.id.0 get.payloads m × (new ≡ entered old get.id (blob_with m bytes))
+    (m : BlobMetadata) × IsMetadataIn digest get.id.0 get.payloads m
+    × (new ≡ entered old get.id (blob_with m bytes))
 Leaves digest old get read.Reject new = new ≡ old
 Leaves digest old get (read.Short have need) new = new ≡ old
 Leaves digest old get read.NoMetadata new = new ≡ old
@@ -68,22 +75,27 @@ Leaves digest old get (read.Collision clash) new = new ≡ old
 -- the identifier is in the list: the answer is from that blob, whatever the payloads are
 abbrev pub Hits : Cache → Get → CheckedBlob → GetAnswer → Cache → Type 0
 Hits old get blob answer new =
-    (answer ≡ record { hit = true; found = range_of get.from get.size blob.bytes }) × (new ≡ used old get.id blob)
+    (answer ≡ record { hit = true; found = range_of get.from get.size blob.bytes })
+    × (new ≡ used old get.id blob)
 
 -- it is not: the answer is from what the payloads come to
 abbrev pub Misses : (List ℕ → List ℕ) → Cache → Get → GetAnswer → Cache → Type 0
 Misses digest old get answer new =
     (outcome : Outcome) × IsOutcome digest get.id.0 get.payloads outcome
-    × (answer ≡ record { hit = false; found = found_of get.from get.size outcome }) × Leaves digest old get outcome new
+    × (answer ≡ record { hit = false; found = found_of get.from get.size outcome })
+    × Leaves digest old get outcome new
 
 -- what a get over the list answers, and the list that it leaves
 abbrev pub AnswersGet : (List ℕ → List ℕ) → Cache → Get → GetAnswer → Cache → Type 0
-AnswersGet digest old get answer new = MatchOption (kept_blob old get.id) (Misses digest old get answer new) (λ blob. Hits old get blob answer new)
+AnswersGet digest old get answer new =
+    MatchOption (kept_blob old get.id) (Misses digest old get answer new)
+    (λ blob. Hits old get blob answer new)
 
 -- what gets, one after the other, answer, and the list that the last leaves
 abbrev pub AnswersAll : (List ℕ → List ℕ) → Cache → List Get → List GetAnswer → Cache → Type 0
 AnswersAll digest old [] [] new = new ≡ old
 AnswersAll digest old (get ∷ gets) (answer ∷ answers) new =
-    (between : Cache) × AnswersGet digest old get answer between × AnswersAll digest between gets answers new
+    (between : Cache) × AnswersGet digest old get answer between
+    × AnswersAll digest between gets answers new
 AnswersAll digest old [] (answer ∷ answers) new = ⊥
 AnswersAll digest old (get ∷ gets) [] new = ⊥

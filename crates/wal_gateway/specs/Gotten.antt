@@ -24,9 +24,11 @@ SameAnswers (a ∷ more) [] = ⊥
 -- a get has no other answer, and leaves no other list
 abbrev pub IsOnlyAnswer : (List ℕ → List ℕ) → Cache → Get → GetAnswer → Cache → Type 0
 IsOnlyAnswer digest old get answer new =
-    (other : GetAnswer) (left : Cache) → AnswersGet digest old get other left → SameGetAnswer other answer × (left ≡ new)
+    (other : GetAnswer) (left : Cache) → AnswersGet digest old get other left
+    → SameGetAnswer other answer × (left ≡ new)
 
 -- and so of gets one after the other
 abbrev pub AreOnlyAnswers : (List ℕ → List ℕ) → Cache → List Get → List GetAnswer → Cache → Type 0
 AreOnlyAnswers digest old gets answers new =
-    (others : List GetAnswer) (left : Cache) → AnswersAll digest old gets others left → SameAnswers others answers × (left ≡ new)
+    (others : List GetAnswer) (left : Cache) → AnswersAll digest old gets others left
+    → SameAnswers others answers × (left ≡ new)

@@ -15,14 +15,16 @@ use Rattle.wal_gateway.specs.declared.answer.GetAnswer.{GetAnswer}
 use Rattle.wal_gateway.specs.declared.checked.CheckedBlob.{CheckedBlob}
 use Rattle.wal_gateway.specs.Getting.{Cache, Get, found_of, kept_blob}
 
--- the bytes are as many as the shape says, and the identifier is theirs, in the format and for the faults of the shape
+-- the bytes are as many as the shape says, and the identifier is theirs, in the format and for the
+-- faults of the shape
 pub record IsChecked (digest : List ℕ → List ℕ) (id : BlobId) (blob : CheckedBlob) : Type 0 where
   pub long : length blob.bytes ≡ blob.shape.length
   pub identifier : IsIdentifierOf digest blob.shape.format blob.shape.f blob.bytes id.0
 
 -- each blob of the list has its identifier
 abbrev pub AreChecked : (List ℕ → List ℕ) → List (BlobId × CheckedBlob) → Type 0
-AreChecked digest pairs = (pair : BlobId × CheckedBlob) → Contains pairs pair → IsChecked digest pair.0 pair.1
+AreChecked digest pairs =
+    (pair : BlobId × CheckedBlob) → Contains pairs pair → IsChecked digest pair.0 pair.1
 
 -- besides, no identifier is there twice, and the list is at most as long as it may be
 pub record IsSoundCache (digest : List ℕ → List ℕ) (cache : Cache) : Type 0 where
@@ -32,20 +34,25 @@ pub record IsSoundCache (digest : List ℕ → List ℕ) (cache : Cache) : Type 
   pub short : length cache.pairs ≤ cache.capacity
 
 -- evidence for an identifier in the list that does not lead to the bytes of the blob there
-pub record ContradictsKept (digest : List ℕ → List ℕ) (cache : Cache) (id : BlobId) (e : Evidence) : Type 0 where
+pub record ContradictsKept (digest : List ℕ → List ℕ)
+    (cache : Cache) (id : BlobId) (e : Evidence) : Type 0 where
   pub blob : CheckedBlob
   pub kept : kept_blob cache id ≡ Some blob
   pub evidence : IsEvidence digest id.0 e
   pub other : IsJudgedBy digest e.metadata e.basis (Bytes blob.bytes) → ⊥
 
--- left and right are the texts that the blob in the list under this identifier and the evidence lead to
-abbrev pub AreDigestedForKept : (List ℕ → List ℕ) → Cache → BlobId → Evidence → List ℕ → List ℕ → Type 0
+-- left and right are the texts that the blob in the list under this identifier and the evidence
+-- lead to
+abbrev pub AreDigestedForKept : (List ℕ → List ℕ) → Cache → BlobId → Evidence → List ℕ → List ℕ
+    → Type 0
 AreDigestedForKept digest cache id e left right =
-    (blob : CheckedBlob) × (kept_blob cache id ≡ Some blob) × AreDigestedForEvidence digest blob.shape blob.bytes e left right
+    (blob : CheckedBlob) × (kept_blob cache id ≡ Some blob)
+    × AreDigestedForEvidence digest blob.shape blob.bytes e left right
 
--- what is found is what a read of the payloads alone finds, where that is a verdict; or the read's evidence contradicts the
--- blob in the list
+-- what is found is what a read of the payloads alone finds, where that is a verdict; or the read's
+-- evidence contradicts the blob in the list
 abbrev pub IsFreshOrContrary : (List ℕ → List ℕ) → Cache → Get → GetAnswer → Type 0
 IsFreshOrContrary digest cache get answer =
     (fresh : ReadAnswer) → IsAnswer digest get.id.0 get.payloads fresh → IsVerdict fresh.outcome →
-    (answer.found ≡ found_of get.from get.size fresh.outcome) ⊎ ((e : Evidence) × (fresh.evidence ≡ Some e) × ContradictsKept digest cache get.id e)
+    (answer.found ≡ found_of get.from get.size fresh.outcome)
+    ⊎ ((e : Evidence) × (fresh.evidence ≡ Some e) × ContradictsKept digest cache get.id e)

@@ -1,4 +1,5 @@
--- Requests among payloads: each is a get, with the other payloads since the request before it as what shards sent.
+-- Requests among payloads: each is a get, with the other payloads since the request before it as
+-- what shards sent.
 use Rattle.std.specs.Prelude.{◌≡◌, ℕ, Bool, ◌&&◌, nat_eq, cond, List, [], ◌∷◌, ◌++◌, length, slice_index, slice_range, Option, Some, None}
 use Rattle.std.specs.Option.{option_map_or}
 use Rattle.std.specs.Int.{w32, from_be_bytes}
@@ -31,13 +32,15 @@ get_of replies r = asked r.id r.from r.size replies
 abbrev pub gets_in : List (List ℕ) → List (List ℕ) → List Get
 gets_in replies [] = []
 gets_in replies (payload ∷ payloads) =
-    option_map_or (λ r. get_of replies r ∷ gets_in [] payloads) (request_of payload) (gets_in (replies ++ payload ∷ []) payloads)
+    option_map_or (λ r. get_of replies r ∷ gets_in [] payloads)
+    (request_of payload) (gets_in (replies ++ payload ∷ []) payloads)
 
 -- an empty list that takes so many blobs
 abbrev pub no_blobs : ℕ → Cache
 no_blobs capacity = record { pairs = []; capacity = capacity }
 
--- the first request among payloads: the replies before it, and the payloads behind it, of which the further gets are
+-- the first request among payloads: the replies before it, and the payloads behind it, of which the
+-- further gets are
 pub record IsFirstRequest (payloads : List (List ℕ)) (asks : Asked) : Type 0 where
   pub replies : List (List ℕ)
   pub later : List (List ℕ)

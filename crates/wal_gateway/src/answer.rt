@@ -9,8 +9,8 @@ pub enum Found {
     Range(Bytes),
     /// The blob ends before; this is its length.
     OutOfRange(u32),
-    /// The metadata commits no blob that the held slivers belong to; or too few are held, and a proof shows that the blob was
-    /// badly encoded.
+    /// The metadata commits no blob that the held slivers belong to; or too few are held, and a
+    /// proof shows that the blob was badly encoded.
     Reject,
     /// The number of held primary slivers, and how many are needed.
     Short { have: u32, need: u32 },

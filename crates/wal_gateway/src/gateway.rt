@@ -26,8 +26,8 @@ use wal_reader::{Outcome, ReadAnswer, read};
 use wal_shape::{BlobId, Collision, Payloads};
 use wal_tree::Hash32;
 
-/// Byte ranges of blobs from what shards sent. A blob that was read and checked once is kept, and served from here until
-/// others push it out, the one last whose use is longest ago.
+/// Byte ranges of blobs from what shards sent. A blob that was read and checked once is kept, and
+/// served from here until others push it out, the one last whose use is longest ago.
 #[derive(Drop)]
 pub struct Gateway<H: Hash32> {
     blobs: LruCache<BlobId, CheckedBlob>,
@@ -92,7 +92,8 @@ impl<H: Hash32> Gateway<H> {
         from: u32,
         size: u32,
     ) -> Result<Option<Found>, AllocError>
-        ensures { IfOk result (λ found. found ≡ option_map (λ blob. range_of from size blob.bytes) (kept_blob self.now id.now)) }
+        ensures { IfOk result (λ found. found
+            ≡ option_map (λ blob. range_of from size blob.bytes) (kept_blob self.now id.now)) }
     {
         match self.blobs.peek(id) {
             Some(blob) => Ok(Some(range_in(alloc, blob, from, size)?)),
@@ -111,7 +112,8 @@ impl<H: Hash32> Gateway<H> {
     ) -> Result<Found, AllocError>
         requires new { kept_blob self.old id.now ≡ None }
         requires checked { IsChecked H.digest id.now blob }
-        ensures entered { IfOk result (λ found. (found ≡ range_of from size blob.bytes) × (self.new ≡ entered self.old id.now blob)) }
+        ensures entered { IfOk result (λ found. (found ≡ range_of from size blob.bytes)
+            × (self.new ≡ entered self.old id.now blob)) }
         ensures memory { OnErr result (self.new ≡ self.old) }
     {
         let found = range_in(alloc, &blob, from, size)?;
@@ -127,8 +129,10 @@ impl<H: Hash32> Gateway<H> {
         from: u32,
         size: u32,
     ) -> Result<Option<GetAnswer>, AllocError>
-        ensures hit { IfOk result (λ found. IfSome found (λ answer. (payloads : List (List ℕ)) → EndsGet H.digest self.old (asked id.now from size payloads) (Ok answer) self.new)) }
-        ensures none { IfOk result (λ found. found ≡ None → (kept_blob self.old id.now ≡ None) × (self.new ≡ self.old)) }
+        ensures hit { IfOk result (λ found. IfSome found (λ answer. (payloads : List (List ℕ))
+            → EndsGet H.digest self.old (asked id.now from size payloads) (Ok answer) self.new)) }
+        ensures none { IfOk result
+            (λ found. found ≡ None → (kept_blob self.old id.now ≡ None) × (self.new ≡ self.old)) }
         ensures memory { OnErr result (self.new ≡ self.old) }
     {
         match self.kept_range(alloc, id, from, size)? {
@@ -151,7 +155,8 @@ impl<H: Hash32> Gateway<H> {
     ) -> Result<GetAnswer, AllocError>
         requires none { kept_blob self.old id.now ≡ None }
         requires read { (payloads : List (List ℕ)) × IsAnswer H.digest id.now.0 payloads read }
-        ensures { (payloads : List (List ℕ)) → IsAnswer H.digest id.now.0 payloads read → EndsGet H.digest self.old (asked id.now from size payloads) result self.new }
+        ensures { (payloads : List (List ℕ)) → IsAnswer H.digest id.now.0 payloads read
+            → EndsGet H.digest self.old (asked id.now from size payloads) result self.new }
     {
         let ReadAnswer { outcome, evidence } = read;
         match outcome {
@@ -185,8 +190,8 @@ impl<H: Hash32> Gateway<H> {
         }
     }
 
-    /// A get by the envelopes that shards sent for it, one after the other. No more of them is kept than can matter, and
-    /// nothing on a hit.
+    /// A get by the envelopes that shards sent for it, one after the other. No more of them is kept
+    /// than can matter, and nothing on a hit.
     pub fn get_sent(
         &mut self,
         alloc: Global,
@@ -197,7 +202,8 @@ impl<H: Hash32> Gateway<H> {
     ) -> Result<GetAnswer, AllocError>
         requires few { length sent.now ≤ 134217728 }
         requires stream { (payloads : List (List ℕ)) × IsStream payloads sent.now }
-        ensures { (payloads : List (List ℕ)) → IsStream payloads sent.now → EndsGet H.digest self.old (asked id.now from size payloads) result self.new }
+        ensures { (payloads : List (List ℕ)) → IsStream payloads sent.now
+            → EndsGet H.digest self.old (asked id.now from size payloads) result self.new }
     {
         match self.hit(alloc, id, from, size)? {
             Some(answer) => Ok(answer),
@@ -210,9 +216,10 @@ impl<H: Hash32> Gateway<H> {
 
     /// So many bytes of a blob from a place on, by what shards sent for it.
     ///
-    /// Where the identifier is in the list, the answer is from the blob there, which becomes the one last used, and the
-    /// payloads are not looked at. Else they are read, and a blob that they give enters the list, also where the range is
-    /// not in it; the one that was used before all others goes, where the list is full.
+    /// Where the identifier is in the list, the answer is from the blob there, which becomes the
+    /// one last used, and the payloads are not looked at. Else they are read, and a blob that they
+    /// give enters the list, also where the range is not in it; the one that was used before all
+    /// others goes, where the list is full.
     pub fn get(
         &mut self,
         alloc: Global,
@@ -221,23 +228,34 @@ impl<H: Hash32> Gateway<H> {
         size: u32,
         payloads: &Payloads,
     ) -> Result<GetAnswer, AllocError>
-        ensures answers { IfOk result (λ answer. AnswersGet H.digest self.old (asked id.now from size payloads.now) answer self.new) }
+        ensures answers { IfOk result (λ answer.
+            AnswersGet H.digest self.old (asked id.now from size payloads.now) answer self.new) }
         // There is no other answer; the texts of a collision are not compared.
-        ensures only { IfOk result (λ answer. IsOnlyAnswer H.digest self.old (asked id.now from size payloads.now) answer self.new) }
+        ensures only { IfOk result (λ answer.
+            IsOnlyAnswer H.digest self.old (asked id.now from size payloads.now) answer self.new) }
         ensures hit { IfOk result (λ answer. answer.hit ≡ is_some (kept_blob self.old id.now)) }
         ensures memory { OnErr result (self.new ≡ self.old) }
         // So it goes on with every list of gets that led here.
-        ensures answers_all { (start : Cache) (gets : List Get) (answers : List AnswerOf) → AnswersAll H.digest start gets answers self.old
-            → IfOk result (λ answer. AnswersAll H.digest start (gets ++ asked id.now from size payloads.now ∷ []) (answers ++ answer ∷ []) self.new) }
-        ensures only_all { (start : Cache) (gets : List Get) (answers : List AnswerOf) → AreOnlyAnswers H.digest start gets answers self.old
-            → IfOk result (λ answer. AreOnlyAnswers H.digest start (gets ++ asked id.now from size payloads.now ∷ []) (answers ++ answer ∷ []) self.new) }
-        // Where a read of the payloads is a verdict a hit is as good, or two texts with one digest can be shown.
-        ensures fresh { IfOk result (λ answer. answer.hit ≡ true → IsFreshOrContrary H.digest self.new (asked id.now from size payloads.now) answer) }
+        ensures answers_all { (start : Cache) (gets : List Get) (answers : List AnswerOf)
+            → AnswersAll H.digest start gets answers self.old
+            → IfOk result
+            (λ answer. AnswersAll H.digest start (gets ++ asked id.now from size payloads.now ∷ [])
+            (answers ++ answer ∷ []) self.new) }
+        ensures only_all { (start : Cache) (gets : List Get) (answers : List AnswerOf)
+            → AreOnlyAnswers H.digest start gets answers self.old
+            → IfOk result
+            (λ answer. AreOnlyAnswers H.digest start
+            (gets ++ asked id.now from size payloads.now ∷ []) (answers ++ answer ∷ []) self.new) }
+        // Where a read of the payloads is a verdict a hit is as good, or two texts with one digest
+        // can be shown.
+        ensures fresh { IfOk result (λ answer. answer.hit ≡ true
+            → IsFreshOrContrary H.digest self.new (asked id.now from size payloads.now) answer) }
     {
         self.serve(alloc, id, from, size, payloads)
     }
 
-    /// Two texts with one digest, from the blob in the list and evidence for its identifier that does not lead to its bytes.
+    /// Two texts with one digest, from the blob in the list and evidence for its identifier that
+    /// does not lead to its bytes.
     ///
     /// It fails only for want of memory.
     pub fn collision(
@@ -248,8 +266,10 @@ impl<H: Hash32> Gateway<H> {
     ) -> Result<Collision, AllocError>
         requires { ContradictsKept H.digest self.now id.now e.now }
         ensures collision { IfOk result (λ c. IsCollision H.digest c.left c.right) }
-        // Of two metadata the left text is the kept blob's, and of slivers and openings it is the evidence's.
-        ensures texts { IfOk result (λ c. AreDigestedForKept H.digest self.now id.now e.now c.left c.right) }
+        // Of two metadata the left text is the kept blob's, and of slivers and openings it is the
+        // evidence's.
+        ensures texts { IfOk result
+            (λ c. AreDigestedForKept H.digest self.now id.now e.now c.left c.right) }
     {
         match self.blobs.peek(id) {
             Some(blob) => { blob_and_evidence::<H>(alloc, &blob.shape, blob.bytes.as_slice(), e) }

@@ -13,23 +13,29 @@ ghost use Rattle.wal_gateway.specs.Kept.{ContradictsKept, IsSoundCache};
 
 use wal_tree::Hash32;
 
-/// After any list of gets from an empty list, each blob in the list has its identifier, no identifier is there twice, and
-/// the list is at most as long as it may be.
+/// After any list of gets from an empty list, each blob in the list has its identifier, no
+/// identifier is there twice, and the list is at most as long as it may be.
 pub fn gets_are_sound<H: Hash32>()
-    ensures empty { (capacity : ℕ) → 1 ≤ capacity → IsSoundCache H.digest (record { pairs = []; capacity = capacity }) }
+    ensures empty { (capacity : ℕ) → 1 ≤ capacity
+        → IsSoundCache H.digest (record { pairs = []; capacity = capacity }) }
     ensures kept { (start : Cache) (gets : List Get) (answers : List AnswerOf) (left : Cache)
-        → AnswersAll H.digest start gets answers left → IsSoundCache H.digest start → IsSoundCache H.digest left }
+        → AnswersAll H.digest start gets answers left → IsSoundCache H.digest start
+        → IsSoundCache H.digest left }
 {}
 
-/// Any list of gets has one answer each, and leaves one list; the two texts of a collision are not compared.
+/// Any list of gets has one answer each, and leaves one list; the two texts of a collision are not
+/// compared.
 pub fn gets_have_one_answer<H: Hash32>()
     ensures gets { (start : Cache) (gets : List Get) (answers : List AnswerOf) (left : Cache)
-        → AnswersAll H.digest start gets answers left → AreOnlyAnswers H.digest start gets answers left }
+        → AnswersAll H.digest start gets answers left
+        → AreOnlyAnswers H.digest start gets answers left }
 {}
 
-/// Evidence spelled in bytes that contradicts a blob in a sound list makes it impossible that no two texts of bytes have one
-/// digest.
+/// Evidence spelled in bytes that contradicts a blob in a sound list makes it impossible that no
+/// two texts of bytes have one digest.
 pub fn contrary_evidence_collides<H: Hash32>()
-    ensures { (cache : Cache) (id : BlobId) (e : Evidence) → IsSoundCache H.digest cache → ContradictsKept H.digest cache id e
-        → ((i : ℕ) → slice_index (metadata_text e.metadata) i < 256) → BasisOfBytes e.basis → CanCollide H.digest }
+    ensures { (cache : Cache) (id : BlobId) (e : Evidence) → IsSoundCache H.digest cache
+        → ContradictsKept H.digest cache id e
+        → ((i : ℕ) → slice_index (metadata_text e.metadata) i < 256) → BasisOfBytes e.basis
+        → CanCollide H.digest }
 {}

@@ -13,7 +13,8 @@ use wal_shape::Shape;
 /// The answer where a read gives no bytes.
 pub(crate) fn missed(outcome: Outcome) -> GetAnswer
     requires { (bytes : List ℕ) → outcome ≡ read.Bytes bytes → ⊥ }
-    ensures { (from size : ℕ) → result ≡ record { hit = false; found = found_of from size outcome } }
+    ensures { (from size : ℕ)
+        → result ≡ record { hit = false; found = found_of from size outcome } }
 {
     let found = match outcome {
         Outcome::Bytes(_) => unreachable!(),
@@ -29,7 +30,8 @@ pub(crate) fn missed(outcome: Outcome) -> GetAnswer
 pub(crate) fn shape_in(evidence: &Option<Evidence>) -> Shape
     requires { IsSome evidence.now }
     ensures { (e : EvidenceOf) → evidence.now ≡ Some e
-        → result ≡ record { format = e.metadata.format; f = e.metadata.f; length = e.metadata.length } }
+        → result
+        ≡ record { format = e.metadata.format; f = e.metadata.f; length = e.metadata.length } }
 {
     match evidence {
         Some(e) => e.metadata.view().shape(),

@@ -8,7 +8,8 @@ use crate::checked::CheckedBlob;
 use std::alloc::{AllocError, Global};
 use wal_shape::Bytes;
 
-/// So many bytes from a place on, in memory of their own, or the blob's length where it ends before.
+/// So many bytes from a place on, in memory of their own, or the blob's length where it ends
+/// before.
 pub(crate) fn range_in(
     alloc: Global,
     blob: &CheckedBlob,

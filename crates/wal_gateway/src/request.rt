@@ -16,8 +16,8 @@ pub struct Request {
     pub size: u32,
 }
 
-/// The number of bytes of a request: its first byte, the identifier (32), and the place and the number of the bytes, four
-/// each, most significant byte first.
+/// The number of bytes of a request: its first byte, the identifier (32), and the place and the
+/// number of the bytes, four each, most significant byte first.
 const REQUEST_SIZE: usize = 41;
 
 /// The first byte of a request.
@@ -66,9 +66,12 @@ pub struct Asked<'a> {
 
 /// The first request among the payloads of a stream. Takes no memory.
 pub fn first_request(stream: &[u8]) -> Option<Asked<'_>>
-    ensures some { IfSome result (λ asked. (payloads : List (List ℕ)) → IsStream payloads stream.now → IsFirstRequest payloads asked) }
-    ensures shorter { IfSome result (λ asked. length asked.sent.now + length asked.rest.now < length stream.now) }
-    ensures none { result ≡ None → (payloads : List (List ℕ)) → IsStream payloads stream.now → gets_in [] payloads ≡ [] }
+    ensures some { IfSome result (λ asked. (payloads : List (List ℕ)) → IsStream payloads stream.now
+        → IsFirstRequest payloads asked) }
+    ensures shorter { IfSome result
+        (λ asked. length asked.sent.now + length asked.rest.now < length stream.now) }
+    ensures none { result ≡ None → (payloads : List (List ℕ)) → IsStream payloads stream.now
+        → gets_in [] payloads ≡ [] }
 {
     let mut rest = stream;
     while let Envelope::Whole {

@@ -15,7 +15,8 @@ pub(crate) fn read_sent<H: Hash32>(
     id: &BlobId,
     sent: &[u8],
 ) -> Result<ReadAnswer, AllocError>
-    ensures { IfOk result (λ answer. (payloads : List (List ℕ)) → IsStream payloads sent.now → IsAnswer H.digest id.now.0 payloads answer) }
+    ensures { IfOk result (λ answer. (payloads : List (List ℕ)) → IsStream payloads sent.now
+        → IsAnswer H.digest id.now.0 payloads answer) }
 {
     let mut reader = Reader::<H>::create(alloc, id)?;
     // Of a whole stream that is not too long no other error comes than want of memory.

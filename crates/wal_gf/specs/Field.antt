@@ -1,5 +1,7 @@
--- The field of 65536 elements: polynomials over GF(2) of degree below 16, modulo x^16 + x^12 + x^3 + x + 1.
--- A number stands for the polynomial whose coefficient of x^i is the number's bit i. The sum of two is `bit_xor`.
+-- The field of 65536 elements: polynomials over GF(2) of degree below 16, modulo x^16 + x^12 +
+-- x^3 + x + 1.
+-- A number stands for the polynomial whose coefficient of x^i is the number's bit i. The sum of two
+-- is `bit_xor`.
 use Rattle.std.specs.Prelude.{ℕ, zero, suc, ◌+◌, ◌*◌, ◌^◌, ◌<◌, bit_xor}
 use Rattle.std.specs.Int.{bit_at}
 

@@ -10,13 +10,16 @@ words_of elements = map (λ (g : Gf). g.0) elements
 
 -- the polynomial has the i-th value at the i-th point
 abbrev pub HasValues : List ℕ → List ℕ → List ℕ → Type 0
-HasValues coefficients points values = EachIndex points (λ i. evaluate coefficients (slice_index points i) ≡ slice_index values i)
+HasValues coefficients points values =
+    EachIndex points (λ i. evaluate coefficients (slice_index points i) ≡ slice_index values i)
 
 -- the same polynomial with zeros up to n coefficients
 abbrev pub with_zeros : ℕ → List ℕ → List ℕ
 with_zeros n coefficients = coefficients ++ replicate (n - length coefficients) 0
 
--- a polynomial of degree below the number of points that has these values is this one, but for zeros at its end
+-- a polynomial of degree below the number of points that has these values is this one, but for
+-- zeros at its end
 abbrev pub IsOnlyWithValues : List ℕ → List ℕ → List ℕ → Type 0
 IsOnlyWithValues coefficients points values =
-    (others : List ℕ) → All IsWord others → length others ≤ length points → HasValues others points values → with_zeros (length points) others ≡ coefficients
+    (others : List ℕ) → All IsWord others → length others ≤ length points
+    → HasValues others points values → with_zeros (length points) others ≡ coefficients

@@ -1,4 +1,5 @@
--- The laws of a field, of an operation on words; and what shows that the definitions of Field are the textbook's.
+-- The laws of a field, of an operation on words; and what shows that the definitions of Field are
+-- the textbook's.
 use Rattle.std.specs.Prelude.{◌≡◌, ◌≢◌, ℕ, ◌^◌, ◌<◌, ◌≤◌, List, length, All, AllPairs, bit_xor}
 use Rattle.wal_gf.specs.Field.{IsWord, modulus, product, remainder, times}
 use Rattle.wal_gf.specs.Polynomial.{evaluate}
@@ -21,7 +22,8 @@ HasUnit op unit = (a : ℕ) → IsWord a → op a unit ≡ a
 
 -- the first operation over the second, from the left
 abbrev pub Distributes : (ℕ → ℕ → ℕ) → (ℕ → ℕ → ℕ) → Type 0
-Distributes op over = (a b c : ℕ) → IsWord a → IsWord b → IsWord c → op a (over b c) ≡ over (op a b) (op a c)
+Distributes op over =
+    (a b c : ℕ) → IsWord a → IsWord b → IsWord c → op a (over b c) ≡ over (op a b) (op a c)
 
 -- each word is its own negative
 abbrev pub SumsCancel : Type 0
@@ -29,13 +31,17 @@ SumsCancel = (a : ℕ) → IsWord a → bit_xor a a ≡ 0
 
 -- each word but 0 has an inverse
 abbrev pub HasInverses : (ℕ → ℕ) → Type 0
-HasInverses inverse_of = (a : ℕ) → IsWord a → a ≢ 0 → IsWord (inverse_of a) × (times a (inverse_of a) ≡ 1)
+HasInverses inverse_of =
+    (a : ℕ) → IsWord a → a ≢ 0 → IsWord (inverse_of a) × (times a (inverse_of a) ≡ 1)
 
--- a nonzero polynomial of degree below k has fewer than k roots: one with as many roots as coefficients has no coefficient but 0
+-- a nonzero polynomial of degree below k has fewer than k roots: one with as many roots as
+-- coefficients has no coefficient but 0
 abbrev pub HasFewRoots : Type 0
 HasFewRoots =
-    (coefficients roots : List ℕ) → All IsWord coefficients → All IsWord roots → AllPairs (λ r s. r ≢ s) roots
-    → All (λ r. evaluate coefficients r ≡ 0) roots → length coefficients ≤ length roots → All (λ c. c ≡ 0) coefficients
+    (coefficients roots : List ℕ) → All IsWord coefficients → All IsWord roots
+    → AllPairs (λ r s. r ≢ s) roots
+    → All (λ r. evaluate coefficients r ≡ 0) roots → length coefficients ≤ length roots
+    → All (λ c. c ≡ 0) coefficients
 
 -- r is left where p is divided by the modulus: p is q times the modulus, and r, for some q
 abbrev pub IsLeft : ℕ → ℕ → Type 0
@@ -43,4 +49,5 @@ IsLeft p r = IsWord r × ((q : ℕ) × IsWord q × (bit_xor (product 16 q modulu
 
 -- `remainder` is division with remainder: what it gives is left, and nothing else is
 abbrev pub DividesWithRemainder : Type 0
-DividesWithRemainder = (p : ℕ) → p < 2 ^ 32 → IsLeft p (remainder 16 p) × ((r : ℕ) → IsLeft p r → r ≡ remainder 16 p)
+DividesWithRemainder =
+    (p : ℕ) → p < 2 ^ 32 → IsLeft p (remainder 16 p) × ((r : ℕ) → IsLeft p r → r ≡ remainder 16 p)

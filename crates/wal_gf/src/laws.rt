@@ -37,8 +37,8 @@ pub fn division()
     ensures { DividesWithRemainder }
 {}
 
-/// A nonzero polynomial of degree below k has fewer than k roots. Hence two codewords of dimension k of a Reed-Solomon code
-/// agree at fewer than k places.
+/// A nonzero polynomial of degree below k has fewer than k roots. Hence two codewords of dimension
+/// k of a Reed-Solomon code agree at fewer than k places.
 pub fn roots()
     ensures { HasFewRoots }
 {}

@@ -1,5 +1,6 @@
-//! The field of 65536 elements: polynomials over GF(2) modulo x^16 + x^12 + x^3 + x + 1, which is also the field of the
-//! Parity Volume Set Specification 2.0. Reed-Solomon codes are built on its polynomials.
+//! The field of 65536 elements: polynomials over GF(2) modulo x^16 + x^12 + x^3 + x + 1, which is
+//! also the field of the Parity Volume Set Specification 2.0. Reed-Solomon codes are built on its
+//! polynomials.
 #![tactic(auto)]
 
 ghost use Rattle.std.specs.Prelude.{◌≡◌, ◌≢◌, ℕ, ◌+◌, ◌^◌, ◌<◌, ◌≤◌, bit_xor};
@@ -10,7 +11,8 @@ mod polynomial;
 
 pub use polynomial::Poly;
 
-/// An element of the field. Bit i is the coefficient of x^i in a polynomial over GF(2) of degree below 16.
+/// An element of the field. Bit i is the coefficient of x^i in a polynomial over GF(2) of degree
+/// below 16.
 #[derive(Clone, Copy, PartialEq, Eq, Debug)]
 pub struct Gf(pub u16);
 
@@ -22,8 +24,8 @@ impl Gf {
         Gf(self.0 ^ o.0)
     }
 
-    /// The product, by shift and add: the sum of `o` times x^i for each bit i of this element, and its remainder. Four
-    /// folds bring a degree of at most 30 below 16.
+    /// The product, by shift and add: the sum of `o` times x^i for each bit i of this element, and
+    /// its remainder. Four folds bring a degree of at most 30 below 16.
     pub fn mul(self, o: Gf) -> Gf
         ensures { result.0 ≡ times self.0 o.0 }
     {
@@ -36,7 +38,8 @@ impl Gf {
         Gf(fold(fold(fold(fold(product)))) as u16)
     }
 
-    /// The element whose product with this one is 1. The nonzero elements are a group of order 65535, so it is the power 65534.
+    /// The element whose product with this one is 1. The nonzero elements are a group of order
+    /// 65535, so it is the power 65534.
     pub fn inv(self) -> Gf
         requires { self.0 ≢ 0 }
         ensures { result.0 ≡ inverse self.0 }
@@ -62,8 +65,8 @@ impl Gf {
     }
 }
 
-/// A polynomial with the same remainder and a degree that is less by 4, if it is not below 16: each x^16 is replaced by
-/// x^12 + x^3 + x + 1.
+/// A polynomial with the same remainder and a degree that is less by 4, if it is not below 16: each
+/// x^16 is replaced by x^12 + x^3 + x + 1.
 fn fold(polynomial: u32) -> u32
     ensures same_remainder { remainder 16 result ≡ remainder 16 polynomial }
     ensures shorter { (n : ℕ) → 16 ≤ n → polynomial < 2 ^ (n + 4) → result < 2 ^ n }

@@ -42,16 +42,18 @@ impl Poly {
         value
     }
 
-    /// The polynomial of degree below the number of points that has the i-th value at the i-th point. It has as many
-    /// coefficients as there are points. By Newton's interpolation: each point adds a multiple of the polynomial whose roots
-    /// are the points before it.
+    /// The polynomial of degree below the number of points that has the i-th value at the i-th
+    /// point. It has as many coefficients as there are points. By Newton's interpolation: each
+    /// point adds a multiple of the polynomial whose roots are the points before it.
     pub fn interpolate(alloc: Global, points: &[Gf], values: &[Gf]) -> Result<Poly, AllocError>
         requires same_length { length points.now ≡ length values.now }
         requires distinct { AllPairs (λ p q. p ≢ q) (words_of points.now) }
         ensures words { IfOk result (λ p. All IsWord p) }
         ensures size { IfOk result (λ p. length p ≡ length points.now) }
-        ensures values { IfOk result (λ p. HasValues p (words_of points.now) (words_of values.now)) }
-        ensures only { IfOk result (λ p. IsOnlyWithValues p (words_of points.now) (words_of values.now)) }
+        ensures values { IfOk result
+            (λ p. HasValues p (words_of points.now) (words_of values.now)) }
+        ensures only { IfOk result
+            (λ p. IsOnlyWithValues p (words_of points.now) (words_of values.now)) }
     {
         let mut found = Poly {
             coefficients: Vec::new(alloc),
@@ -79,7 +81,9 @@ impl Poly {
         requires { length other.now ≡ length self.old + 1 }
         ensures words { IfOk result (λ _. All IsWord self.new) }
         ensures size { IfOk result (λ _. length self.new ≡ length other.now) }
-        ensures value { IfOk result (λ _. (x : ℕ) → evaluate self.new x ≡ bit_xor (evaluate self.old x) (times factor.0 (evaluate other.now x))) }
+        ensures value { IfOk result (λ _. (x : ℕ)
+            → evaluate self.new x
+            ≡ bit_xor (evaluate self.old x) (times factor.0 (evaluate other.now x))) }
     {
         self.coefficients.push(Gf(0))?;
         add_scaled(&mut self.coefficients, factor, &other.coefficients);
@@ -90,7 +94,8 @@ impl Poly {
     fn times_root(&self, alloc: Global, root: Gf) -> Result<Poly, AllocError>
         ensures words { IfOk result (λ p. All IsWord p) }
         ensures size { IfOk result (λ p. length p ≡ length self.now + 1) }
-        ensures value { IfOk result (λ p. (x : ℕ) → evaluate p x ≡ times (bit_xor x root.0) (evaluate self.now x)) }
+        ensures value { IfOk result
+            (λ p. (x : ℕ) → evaluate p x ≡ times (bit_xor x root.0) (evaluate self.now x)) }
     {
         let mut coefficients = Vec::with_capacity(alloc, self.coefficients.len() + 1)?;
         coefficients.push(Gf(0))?;
@@ -104,7 +109,9 @@ impl Poly {
 fn slope_at(found: &Poly, vanishing: &Poly, point: Gf, value: Gf) -> Gf
     requires { IsWord point.0 → evaluate vanishing.now point.0 ≢ 0 }
     ensures word { IsWord point.0 }
-    ensures reached { bit_xor (evaluate found.now point.0) (times result.0 (evaluate vanishing.now point.0)) ≡ value.0 }
+    ensures reached { bit_xor (evaluate found.now point.0)
+        (times result.0 (evaluate vanishing.now point.0))
+        ≡ value.0 }
 {
     let missing = found.eval(point).add(value);
     missing.mul(vanishing.eval(point).inv())
@@ -117,7 +124,8 @@ fn add_scaled(target: &mut [Gf], factor: Gf, other: &[Gf])
     requires other_words { All IsWord (words_of other.now) }
     ensures words { All IsWord (words_of target.new) }
     ensures value { (x : ℕ) → evaluate (words_of target.new) x
-        ≡ bit_xor (evaluate (words_of target.old) x) (times factor.0 (evaluate (words_of other.now) x)) }
+        ≡ bit_xor (evaluate (words_of target.old) x)
+        (times factor.0 (evaluate (words_of other.now) x)) }
 {
     for place in 0..other.len() {
         target[place] = target[place].add(factor.mul(other[place]));

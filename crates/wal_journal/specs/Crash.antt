@@ -4,11 +4,13 @@ use Rattle.wal_store.specs.Calls.{Call}
 use Rattle.wal_journal.specs.Record.{Accepts}
 
 -- A crash at any moment since old leaves an image that has P.
-pub record LeavesOnly {D : Type 0} (clock : D → ℕ) (since : D → ℕ → List ℕ → Type 0) (old new : D) (P : List ℕ → Type 0) : Type 0 where
+pub record LeavesOnly {D : Type 0} (clock : D → ℕ) (since : D → ℕ → List ℕ → Type 0)
+    (old new : D) (P : List ℕ → Type 0) : Type 0 where
   pub later : clock old ≤ clock new
   pub each : (image : List ℕ) → since new (clock old) image → P image
   -- for what began earlier
-  pub before : (t : ℕ) (image : List ℕ) → t ≤ clock old → since new t image → since old t image ⊎ P image
+  pub before : (t : ℕ) (image : List ℕ) → t ≤ clock old → since new t image
+      → since old t image ⊎ P image
 
 -- an image accepts these changes, and perhaps more after them
 abbrev pub GoesOnAfter : List Call → List ℕ → Type 0
@@ -16,16 +18,20 @@ GoesOnAfter changes image = (more : List Call) × Accepts image (changes ++ more
 
 -- a crash now leaves an image that does
 abbrev pub Holds : {D : Type 0} → (D → ℕ) → (D → ℕ → List ℕ → Type 0) → D → List Call → Type 0
-Holds clock since disk changes = (image : List ℕ) → since disk (clock disk) image → GoesOnAfter changes image
+Holds clock since disk changes =
+    (image : List ℕ) → since disk (clock disk) image → GoesOnAfter changes image
 
 -- what held stays: each crash since old leaves an image that goes on after the same changes
 abbrev pub Keeps : {D : Type 0} → (D → ℕ) → (D → ℕ → List ℕ → Type 0) → D → D → Type 0
-Keeps clock since old new = (changes : List Call) → Holds clock since old changes → LeavesOnly clock since old new (GoesOnAfter changes)
+Keeps clock since old new =
+    (changes : List Call) → Holds clock since old changes
+    → LeavesOnly clock since old new (GoesOnAfter changes)
 
 -- from each disk to the next, what held stays
 abbrev pub EachKeeps : {D : Type 0} → (D → ℕ) → (D → ℕ → List ℕ → Type 0) → D → List D → Type 0
 EachKeeps clock since first [] = ⊤
-EachKeeps clock since first (next ∷ disks) = Keeps clock since first next × EachKeeps clock since next disks
+EachKeeps clock since first (next ∷ disks) =
+    Keeps clock since first next × EachKeeps clock since next disks
 
 -- the last of some disks, of which the first stands alone
 abbrev pub last_of : {D : Type 0} → D → List D → D

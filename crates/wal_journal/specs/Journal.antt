@@ -28,38 +28,47 @@ abbrev pub tail_of : {D K : Type 0} {d : _} {k : _} → Journal D K d k → ℕ
 tail_of journal = journal.tail
 
 -- the disk after a change, however it ended
-abbrev pub disk_after : {D K : Type 0} {d : _} {k : _} → Result (Journal D K d k) (ChangeRefusal D K d k) → D
+abbrev pub disk_after : {D K : Type 0} {d : _} {k : _}
+    → Result (Journal D K d k) (ChangeRefusal D K d k) → D
 disk_after (Ok journal) = journal.disk
 disk_after (Err (Kept journal why)) = journal.disk
 disk_after (Err (Stopped disk keep)) = disk
 
 -- a change was refused, since its record does not fit on the disk
-abbrev pub IsDiskFull : {D K : Type 0} {d : _} {k : _} → Result (Journal D K d k) (ChangeRefusal D K d k) → Type 0
+abbrev pub IsDiskFull : {D K : Type 0} {d : _} {k : _}
+    → Result (Journal D K d k) (ChangeRefusal D K d k) → Type 0
 IsDiskFull (Ok journal) = ⊥
 IsDiskFull (Err (Kept journal (DiskFull needed free))) = ⊤
 IsDiskFull (Err (Kept journal other)) = ⊥
 IsDiskFull (Err (Stopped disk keep)) = ⊥
 
 -- a change was not refused: it was made, or the disk failed while it was
-abbrev pub IsTried : {D K : Type 0} {d : _} {k : _} → Result (Journal D K d k) (ChangeRefusal D K d k) → Type 0
+abbrev pub IsTried : {D K : Type 0} {d : _} {k : _}
+    → Result (Journal D K d k) (ChangeRefusal D K d k) → Type 0
 IsTried (Ok journal) = ⊤
 IsTried (Err (Kept journal why)) = ⊥
 IsTried (Err (Stopped disk keep)) = ⊤
 
--- a change in flight has not happened, or it has, and a keep of this limit that held this had room for it
+-- a change in flight has not happened, or it has, and a keep of this limit that held this had room
+-- for it
 abbrev pub FitsEitherWay : Option ℕ → Contents → List Call → Call → List ℕ → Type 0
-FitsEitherWay limit held changes c image = Accepts image changes ⊎ (HadRoomForPuts limit held (c ∷ []) × Accepts image (changes ++ c ∷ []))
+FitsEitherWay limit held changes c image =
+    Accepts image changes ⊎ (HadRoomForPuts limit held (c ∷ []) × Accepts image (changes ++ c ∷ []))
 
--- why a put is refused: more bytes are needed than are free on the disk; or, where there are as many, as the keep answers
+-- why a put is refused: more bytes are needed than are free on the disk; or, where there are as
+-- many, as the keep answers
 abbrev pub IsPutWhy : ℕ → ℕ → Option ℕ → Bool → Contents → BlobId → List ℕ → Why → Type 0
-IsPutWhy len tail limit may_want contents id bytes (DiskFull needed free) = (needed ≡ 39 + length bytes) × (free ≡ len - tail - 1) × (free < needed)
+IsPutWhy len tail limit may_want contents id bytes (DiskFull needed free) =
+    (needed ≡ 39 + length bytes) × (free ≡ len - tail - 1) × (free < needed)
 IsPutWhy len tail limit may_want contents id bytes (Full needed free) =
-    (39 + length bytes ≤ len - tail - 1) × IsPutAnswer limit may_want contents id bytes (Err (keeps.Full needed free))
+    (39 + length bytes ≤ len - tail - 1)
+    × IsPutAnswer limit may_want contents id bytes (Err (keeps.Full needed free))
 IsPutWhy len tail limit may_want contents id bytes Memory = 39 + length bytes ≤ len - tail - 1
 
 -- why a drop is refused
 abbrev pub IsDropWhy : ℕ → ℕ → Why → Type 0
-IsDropWhy len tail (DiskFull needed free) = (needed ≡ 39) × (free ≡ len - tail - 1) × (free < needed)
+IsDropWhy len tail (DiskFull needed free) =
+    (needed ≡ 39) × (free ≡ len - tail - 1) × (free < needed)
 IsDropWhy len tail other = ⊥
 
 -- the bytes that the records of changes take on a disk, with the gate behind them
@@ -67,29 +76,45 @@ abbrev pub span : List Call → ℕ
 span [] = 0
 span (c ∷ changes) = length (records (c ∷ changes)) + 1
 
--- More changes were made: they are accepted behind the others, the keep had room for them and holds what they make, and a closed gate of value 0 stands behind the
--- records that were written, and no other byte is.
-pub record Takes {D K : Type 0} {d : _} {k : _} (now : D → List ℕ) (contents : K → Contents) (most : K → Option ℕ) (old : Journal D K d k) (more : List Call) (new : Journal D K d k) : Type 0 where
-  pub accepts : (changes : List Call) → Accepts (now old.disk) changes → Accepts (now new.disk) (changes ++ more)
+-- More changes were made: they are accepted behind the others, the keep had room for them and holds
+-- what they make, and a closed gate of value 0 stands behind the records that were written, and no
+-- other byte is.
+pub record Takes {D K : Type 0} {d : _} {k : _} (now : D → List ℕ)
+    (contents : K → Contents) (most : K → Option ℕ) (old : Journal D K d k)
+    (more : List Call) (new : Journal D K d k) : Type 0 where
+  pub accepts : (changes : List Call) → Accepts (now old.disk) changes
+      → Accepts (now new.disk) (changes ++ more)
   pub room : HadRoomForPuts (most old.keep) (contents old.keep) more
   pub holds : contents new.keep ≡ after_calls (contents old.keep) more
   pub limit : most new.keep ≡ most old.keep
   pub tail : new.tail ≡ old.tail + length (records more)
-  pub gate : (more ≡ [] → get_or (now old.disk) old.tail 0 ≡ 0) → get_or (now new.disk) new.tail 0 ≡ 0
+  pub gate : (more ≡ [] → get_or (now old.disk) old.tail 0 ≡ 0)
+      → get_or (now new.disk) new.tail 0 ≡ 0
   pub size : length (now new.disk) ≡ length (now old.disk)
   pub only : Agrees ((old.tail, span more) ∷ []) (now old.disk) (now new.disk)
 
--- The disk failed: no more bytes may have changed than the records take, the bytes stand for what a crash may leave, and the keep holds what the changes make already.
-pub record Stops {D K : Type 0} {d : _} {k : _} (now : D → List ℕ) (faults : D → ℕ) (contents : K → Contents) (most : K → Option ℕ) (old : Journal D K d k) (more : List Call) (Leaves : List Call → List ℕ → Type 0) (disk : D) (keep : K) : Type 0 where
+-- The disk failed: no more bytes may have changed than the records take, the bytes stand for what a
+-- crash may leave, and the keep holds what the changes make already.
+pub record Stops {D K : Type 0} {d : _} {k : _} (now : D → List ℕ) (faults : D → ℕ)
+    (contents : K → Contents) (most : K → Option ℕ) (old : Journal D K d k) (more : List Call)
+    (Leaves : List Call → List ℕ → Type 0) (disk : D) (keep : K) : Type 0 where
   pub rose : Rose (faults old.disk) (faults disk)
   pub only : Agrees ((old.tail, span more) ∷ []) (now old.disk) (now disk)
   pub leaves : (changes : List Call) → Accepts (now old.disk) changes → Leaves changes (now disk)
   pub holds : contents keep ≡ after_calls (contents old.keep) more
   pub limit : most keep ≡ most old.keep
 
--- How a change ends: it is made; or the journal is as before, for such a reason; or the disk failed.
-abbrev pub EndsChange : {D K : Type 0} {d : _} {k : _} → (D → List ℕ) → (D → ℕ) → (K → Contents) → (K → Option ℕ) → (Why → Type 0) → Call → Journal D K d k → Result (Journal D K d k) (ChangeRefusal D K d k) → Type 0
-EndsChange now faults contents limit is_why c old (Ok journal) = Takes now contents limit old (c ∷ []) journal
+-- How a change ends: it is made; or the journal is as before, for such a reason; or the disk
+-- failed.
+abbrev pub EndsChange : {D K : Type 0} {d : _} {k : _} → (D → List ℕ) → (D → ℕ) → (K → Contents)
+    → (K → Option ℕ) → (Why → Type 0) → Call → Journal D K d k
+    → Result (Journal D K d k) (ChangeRefusal D K d k) → Type 0
+EndsChange now faults contents limit is_why c old (Ok journal) =
+    Takes now contents limit old (c ∷ []) journal
 EndsChange now faults contents limit is_why c old (Err (Kept journal why)) =
-    (journal.disk ≡ old.disk) × (journal.tail ≡ old.tail) × (contents journal.keep ≡ contents old.keep) × (limit journal.keep ≡ limit old.keep) × is_why why
-EndsChange now faults contents limit is_why c old (Err (Stopped disk keep)) = Stops now faults contents limit old (c ∷ []) (λ changes. FitsEitherWay (limit old.keep) (contents old.keep) changes c) disk keep
+    (journal.disk ≡ old.disk) × (journal.tail ≡ old.tail)
+    × (contents journal.keep ≡ contents old.keep) × (limit journal.keep ≡ limit old.keep)
+    × is_why why
+EndsChange now faults contents limit is_why c old (Err (Stopped disk keep)) =
+    Stops now faults contents limit old (c ∷ [])
+    (λ changes. FitsEitherWay (limit old.keep) (contents old.keep) changes c) disk keep

@@ -49,22 +49,27 @@ disk_clock d = length d.steps.items
 abbrev pub kept_at : ℕ → List ℕ → ℕ → List ℕ
 kept_at n past k = take n (drop (k * n) past)
 
--- what a crash since t may have left: what it may leave now, or what it might have left before a step from t on
+-- what a crash since t may have left: what it may leave now, or what it might have left before a
+-- step from t on
 abbrev pub LeftSince : List Step → List ℕ → List ℕ → ℕ → List ℕ → Type 0
 LeftSince steps past bytes t image =
     ((t ≤ length steps) × Agrees (pending_after [] steps) bytes image)
-    ⊎ ((k : ℕ) × (t ≤ k) × (k < length steps) × Agrees (pending_after [] (take k steps)) (kept_at (length bytes) past k) image)
+    ⊎ ((k : ℕ) × (t ≤ k) × (k < length steps)
+    × Agrees (pending_after [] (take k steps)) (kept_at (length bytes) past k) image)
 
 -- what a crash since this moment may have left of a disk in memory
 abbrev pub disk_since : MemDisk → ℕ → List ℕ → Type 0
 disk_since d = LeftSince d.steps.items d.past.items d.bytes.items
 
 -- what might have been left since later might have been left since before
-pub since_earlier : (steps : List Step) (past bytes : List ℕ) (image : List ℕ) (t later : ℕ) → t ≤ later → LeftSince steps past bytes later image → LeftSince steps past bytes t image
+pub since_earlier : (steps : List Step) (past bytes : List ℕ) (image : List ℕ) (t later : ℕ)
+    → t ≤ later → LeftSince steps past bytes later image → LeftSince steps past bytes t image
 since_earlier steps past bytes image t later le (inl now) = inl (omega (arith, le, now.0), now.1)
-since_earlier steps past bytes image t later le (inr before) = inr (before.0, omega (arith, le, before.1), before.2, before.3)
+since_earlier steps past bytes image t later le (inr before) =
+    inr (before.0, omega (arith, le, before.1), before.2, before.3)
 
 -- since now, there is what may be left now
-pub since_now : (steps : List Step) (past bytes : List ℕ) (image : List ℕ) → LeftSince steps past bytes (length steps) image → Agrees (pending_after [] steps) bytes image
+pub since_now : (steps : List Step) (past bytes : List ℕ) (image : List ℕ)
+    → LeftSince steps past bytes (length steps) image → Agrees (pending_after [] steps) bytes image
 since_now steps past bytes image (inl now) = now.1
 since_now steps past bytes image (inr before) = absurd (omega (arith, before.1, before.2))

@@ -11,7 +11,8 @@ use Rattle.wal_journal.specs.declared.open.OpenFault.TheVariants.{DiskFault, Bad
 use Rattle.wal_journal.specs.Record.{spelling, IsWholeRecord, AreWholeRecords, records}
 
 -- the records of these lawful changes end at a place, and the contents are what they make
-pub record ReadTo (now : List ℕ) (tail : ℕ) (contents : Contents) (changes : List Call) : Type 0 where
+pub record ReadTo (now : List ℕ) (tail : ℕ)
+    (contents : Contents) (changes : List Call) : Type 0 where
   pub whole : AreWholeRecords changes
   pub lawful : AreLawful no_contents changes
   pub is : now ≡ records changes ++ drop tail now
@@ -21,10 +22,13 @@ pub record ReadTo (now : List ℕ) (tail : ℕ) (contents : Contents) (changes :
 
 -- no lawful change, with a byte behind it, is spelled here
 abbrev pub IsBad : Contents → List ℕ → Type 0
-IsBad contents bytes = (c : Call) (next : ℕ) (more : List ℕ) → IsWholeRecord c → IsLawfulCall contents c → bytes ≡ spelling c ++ next ∷ more → ⊥
+IsBad contents bytes =
+    (c : Call) (next : ℕ) (more : List ℕ) → IsWholeRecord c → IsLawfulCall contents c
+    → bytes ≡ spelling c ++ next ∷ more → ⊥
 
 -- a lawful put that the keep has no room for, whose record begins here, with a byte behind it
-pub record IsFull (limit : Option ℕ) (may_want : Bool) (contents : Contents) (bytes : List ℕ) (needed free : ℕ) : Type 0 where
+pub record IsFull (limit : Option ℕ) (may_want : Bool)
+    (contents : Contents) (bytes : List ℕ) (needed free : ℕ) : Type 0 where
   pub id : BlobId
   pub part : Part
   pub put : List ℕ
@@ -39,27 +43,39 @@ pub record IsFull (limit : Option ℕ) (may_want : Bool) (contents : Contents) (
 abbrev pub HadRoomForPuts : Option ℕ → Contents → List Call → Type 0
 HadRoomForPuts limit held [] = ⊤
 HadRoomForPuts limit held (Put id part bytes ∷ changes) =
-    HasRoom (free_of limit held) (needed_for held id bytes) × HadRoomForPuts limit (after_call held (Put id part bytes)) changes
-HadRoomForPuts limit held (DropPart id part ∷ changes) = HadRoomForPuts limit (after_call held (DropPart id part)) changes
-HadRoomForPuts limit held (DropId id ∷ changes) = HadRoomForPuts limit (after_call held (DropId id)) changes
+    HasRoom (free_of limit held) (needed_for held id bytes)
+    × HadRoomForPuts limit (after_call held (Put id part bytes)) changes
+HadRoomForPuts limit held (DropPart id part ∷ changes) =
+    HadRoomForPuts limit (after_call held (DropPart id part)) changes
+HadRoomForPuts limit held (DropId id ∷ changes) =
+    HadRoomForPuts limit (after_call held (DropId id)) changes
 
 -- room for changes, and then for more, is room for all of them
 abbrev pub RoomInParts : Type 0
 RoomInParts =
-    (limit : Option ℕ) (held : Contents) (changes more : List Call) → HadRoomForPuts limit held changes → HadRoomForPuts limit (after_calls held changes) more
+    (limit : Option ℕ) (held : Contents) (changes more : List Call)
+    → HadRoomForPuts limit held changes → HadRoomForPuts limit (after_calls held changes) more
     → HadRoomForPuts limit held (changes ++ more)
 
--- how the reading ends: at a closed gate, or at the first record that is bad or finds no room, with what was read before
+-- how the reading ends: at a closed gate, or at the first record that is bad or finds no room, with
+-- what was read before
 abbrev pub Opens : Option ℕ → Bool → List ℕ → Contents → Result ℕ OpenFault → Type 0
 Opens limit may_want now contents (Ok tail) =
-    (changes : List Call) × ReadTo now tail contents changes × (get_or now tail 0 ≢ 1) × HadRoomForPuts limit no_contents changes
-Opens limit may_want now contents (Err DiskFault) = (changes : List Call) × (tail : ℕ) × ReadTo now tail contents changes × HadRoomForPuts limit no_contents changes
-Opens limit may_want now contents (Err (BadRecord at)) =
-    (changes : List Call) × ReadTo now at contents changes × (get_or now at 0 ≡ 1) × IsBad contents (drop (at + 1) now) × HadRoomForPuts limit no_contents changes
-Opens limit may_want now contents (Err (Full needed free)) =
-    (changes : List Call) × (tail : ℕ) × ReadTo now tail contents changes × (get_or now tail 0 ≡ 1) × IsFull limit may_want contents (drop (tail + 1) now) needed free
+    (changes : List Call) × ReadTo now tail contents changes × (get_or now tail 0 ≢ 1)
     × HadRoomForPuts limit no_contents changes
-Opens limit may_want now contents (Err Memory) = (changes : List Call) × (tail : ℕ) × ReadTo now tail contents changes × HadRoomForPuts limit no_contents changes
+Opens limit may_want now contents (Err DiskFault) =
+    (changes : List Call) × (tail : ℕ) × ReadTo now tail contents changes
+    × HadRoomForPuts limit no_contents changes
+Opens limit may_want now contents (Err (BadRecord at)) =
+    (changes : List Call) × ReadTo now at contents changes × (get_or now at 0 ≡ 1)
+    × IsBad contents (drop (at + 1) now) × HadRoomForPuts limit no_contents changes
+Opens limit may_want now contents (Err (Full needed free)) =
+    (changes : List Call) × (tail : ℕ) × ReadTo now tail contents changes × (get_or now tail 0 ≡ 1)
+    × IsFull limit may_want contents (drop (tail + 1) now) needed free
+    × HadRoomForPuts limit no_contents changes
+Opens limit may_want now contents (Err Memory) =
+    (changes : List Call) × (tail : ℕ) × ReadTo now tail contents changes
+    × HadRoomForPuts limit no_contents changes
 
 -- a sync was made: nothing is pending, and the clock is later
 abbrev pub HasSynced : {D : Type 0} → (D → List (ℕ × ℕ)) → (D → ℕ) → D → D → Type 0

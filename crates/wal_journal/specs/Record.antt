@@ -40,7 +40,8 @@ spelling c = fields_text (fields c)
 
 -- an identifier of 32 bytes, and for a put from 1 byte to as many as a blob may have
 abbrev pub IsWholeRecord : Call → Type 0
-IsWholeRecord (Put id part bytes) = (length id.0 ≡ 32) × (1 ≤ length bytes) × (length bytes ≤ most_bytes)
+IsWholeRecord (Put id part bytes) =
+    (length id.0 ≡ 32) × (1 ≤ length bytes) × (length bytes ≤ most_bytes)
 IsWholeRecord (DropPart id part) = length id.0 ≡ 32
 IsWholeRecord (DropId id) = length id.0 ≡ 32
 
@@ -72,4 +73,6 @@ EitherWay changes c image = Accepts image changes ⊎ Accepts image (changes ++ 
 
 -- an image stands for one list of changes at most
 abbrev pub StandsOnce : Type 0
-StandsOnce = (image : List ℕ) (changes others : List Call) → Stands image changes → Stands image others → changes ≡ others
+StandsOnce =
+    (image : List ℕ) (changes others : List Call) → Stands image changes → Stands image others
+    → changes ≡ others

@@ -8,9 +8,9 @@ use wal_port::Failed;
 
 /// A fixed number of bytes that stay over a crash.
 ///
-/// What was written since the last `sync` that answered `Ok` is pending: a crash may leave anything in
-/// these ranges, and leaves every other byte as a read gives it. A disk tells its crashes for its whole
-/// life or never, and every sentence on a crash holds where they are told.
+/// What was written since the last `sync` that answered `Ok` is pending: a crash may leave anything
+/// in these ranges, and leaves every other byte as a read gives it. A disk tells its crashes for
+/// its whole life or never, and every sentence on a crash holds where they are told.
 pub trait Disk {
     // The bytes that a read gives.
     ghost now: { Self → List ℕ };
@@ -27,7 +27,8 @@ pub trait Disk {
     // The moment, as a number that never falls.
     ghost clock: { Self → ℕ };
 
-    // What a crash at some moment whose clock is at least that may have left, within a call or between two.
+    // What a crash at some moment whose clock is at least that may have left, within a call or
+    // between two.
     ghost since: { Self → ℕ → List ℕ → Type 0 };
 
     /// How many bytes it has: at least one, and always as many.

@@ -15,7 +15,8 @@ pub fn format<D: Disk>(disk: D) -> Result<D, D>
     ensures written { IfOk result (λ formatted. D.now formatted ≡ put_at 0 (0 ∷ []) (D.now disk)) }
     ensures settled { D.tells ≡ true → IfOk result (λ formatted. D.pending formatted ≡ []) }
     ensures torn { IfErr result (λ stopped. Agrees ((0, 1) ∷ []) (D.now disk) (D.now stopped)) }
-    // A crash at any moment of the call leaves every byte but the first and those that were pending.
+    // A crash at any moment of the call leaves every byte but the first and those that were
+    // pending.
     ensures any_moment { D.tells ≡ true → LeavesOnly D.clock D.since disk (disk_in result)
         (Agrees ((0, 1) ∷ D.pending disk) (D.now disk)) }
     ensures later { D.faults disk ≤ D.faults (disk_in result) }

@@ -20,15 +20,16 @@ use wal_store::{Keep, KeepError};
 
 /// A keep whose changes are on a disk first.
 ///
-/// The keep holds what the changes make that the disk stands for. After a call that hands the journal
-/// back, nothing on the disk is pending.
+/// The keep holds what the changes make that the disk stands for. After a call that hands the
+/// journal back, nothing on the disk is pending.
 #[derive(Drop)]
 pub struct Journal<D: Disk, K: Keep> {
     pub(crate) disk: D,
     pub(crate) keep: K,
     // Where the closed gate stands, behind the last record.
     pub(crate) tail: u64,
-    ghost stands: { ∥ ((changes : List Call) × IsJournal (D.now disk) tail (K.contents keep) changes) ∥₁ },
+    ghost stands: { ∥
+        ((changes : List Call) × IsJournal (D.now disk) tail (K.contents keep) changes) ∥₁ },
     ghost settled: { D.tells ≡ true → D.pending disk ≡ [] },
     ghost within: { tail < length (D.now disk) },
     ghost fits: { ∥ FitsSome (D.now disk) (K.limit keep) ∥₁ },
@@ -44,7 +45,8 @@ pub enum ChangeRefusal<D: Disk, K: Keep> {
         /// Why.
         why: Why,
     },
-    /// The disk failed. It has to be opened again, over an empty keep: this one no longer speaks for it.
+    /// The disk failed. It has to be opened again, over an empty keep: this one no longer speaks
+    /// for it.
     Stopped {
         /// The disk.
         disk: D,
@@ -108,23 +110,29 @@ impl<D: Disk, K: Keep> Journal<D, K> {
 
         // What has changed, and why it was refused.
         ensures ends { EndsChange D.now D.faults K.contents K.limit
-            (IsPutWhy (length (D.now (disk_of self))) (tail_of self) (K.limit (keep_of self)) K.may_want
+            (IsPutWhy (length (D.now (disk_of self)))
+            (tail_of self) (K.limit (keep_of self)) K.may_want
             (K.contents (keep_of self)) id.now bytes.now)
             (Put id.now part bytes.now) self result }
 
         // Where it was not refused the keep had room.
-        ensures room { IsTried result → HasRoom (free_of (K.limit (keep_of self)) (K.contents (keep_of self)))
+        ensures room { IsTried result
+            → HasRoom (free_of (K.limit (keep_of self)) (K.contents (keep_of self)))
             (needed_for (K.contents (keep_of self)) id.now bytes.now) }
 
-        // A crash at any moment of the call leaves the changes from before it, without this one, or with
-        // it where the keep had room.
-        ensures any_moment { D.tells ≡ true → (changes : List Call) → Accepts (D.now (disk_of self)) changes
+        // A crash at any moment of the call leaves the changes from before it, without this one, or
+        // with it where the keep had room.
+        ensures any_moment { D.tells ≡ true → (changes : List Call)
+            → Accepts (D.now (disk_of self)) changes
             → LeavesOnly D.clock D.since (disk_of self) (disk_after result)
-            (FitsEitherWay (K.limit (keep_of self)) (K.contents (keep_of self)) changes (Put id.now part bytes.now)) }
+            (FitsEitherWay (K.limit (keep_of self))
+            (K.contents (keep_of self)) changes (Put id.now part bytes.now)) }
 
         // After `Ok` each crash leaves an image that goes on after this change.
-        ensures acknowledged { D.tells ≡ true → (changes : List Call) → Accepts (D.now (disk_of self)) changes
-            → IfOk result (λ journal. Holds D.clock D.since (disk_of journal) (changes ++ Put id.now part bytes.now ∷ [])) }
+        ensures acknowledged { D.tells ≡ true → (changes : List Call)
+            → Accepts (D.now (disk_of self)) changes
+            → IfOk result (λ journal.
+            Holds D.clock D.since (disk_of journal) (changes ++ Put id.now part bytes.now ∷ [])) }
 
         // What each crash held before, each crash holds after.
         ensures keeps { D.tells ≡ true → Keeps D.clock D.since (disk_of self) (disk_after result) }
@@ -171,16 +179,21 @@ impl<D: Disk, K: Keep> Journal<D, K> {
 
         // What has changed, and why it was refused.
         ensures ends { EndsChange D.now D.faults K.contents K.limit
-            (IsDropWhy (length (D.now (disk_of self))) (tail_of self)) (DropPart id.now part) self result }
+            (IsDropWhy (length (D.now (disk_of self))) (tail_of self))
+            (DropPart id.now part) self result }
 
-        // A crash at any moment of the call leaves the changes from before it, with this one or without.
-        ensures any_moment { D.tells ≡ true → (changes : List Call) → Accepts (D.now (disk_of self)) changes
+        // A crash at any moment of the call leaves the changes from before it, with this one or
+        // without.
+        ensures any_moment { D.tells ≡ true → (changes : List Call)
+            → Accepts (D.now (disk_of self)) changes
             → LeavesOnly D.clock D.since (disk_of self) (disk_after result)
             (EitherWay changes (DropPart id.now part)) }
 
         // After `Ok` each crash leaves an image that goes on after this change.
-        ensures acknowledged { D.tells ≡ true → (changes : List Call) → Accepts (D.now (disk_of self)) changes
-            → IfOk result (λ journal. Holds D.clock D.since (disk_of journal) (changes ++ DropPart id.now part ∷ [])) }
+        ensures acknowledged { D.tells ≡ true → (changes : List Call)
+            → Accepts (D.now (disk_of self)) changes
+            → IfOk result (λ journal.
+            Holds D.clock D.since (disk_of journal) (changes ++ DropPart id.now part ∷ [])) }
 
         // What each crash held before, each crash holds after.
         ensures keeps { D.tells ≡ true → Keeps D.clock D.since (disk_of self) (disk_after result) }
@@ -213,13 +226,18 @@ impl<D: Disk, K: Keep> Journal<D, K> {
         ensures ends { EndsChange D.now D.faults K.contents K.limit
             (IsDropWhy (length (D.now (disk_of self))) (tail_of self)) (DropId id.now) self result }
 
-        // A crash at any moment of the call leaves the changes from before it, with this one or without.
-        ensures any_moment { D.tells ≡ true → (changes : List Call) → Accepts (D.now (disk_of self)) changes
-            → LeavesOnly D.clock D.since (disk_of self) (disk_after result) (EitherWay changes (DropId id.now)) }
+        // A crash at any moment of the call leaves the changes from before it, with this one or
+        // without.
+        ensures any_moment { D.tells ≡ true → (changes : List Call)
+            → Accepts (D.now (disk_of self)) changes
+            → LeavesOnly D.clock D.since (disk_of self)
+            (disk_after result) (EitherWay changes (DropId id.now)) }
 
         // After `Ok` each crash leaves an image that goes on after this change.
-        ensures acknowledged { D.tells ≡ true → (changes : List Call) → Accepts (D.now (disk_of self)) changes
-            → IfOk result (λ journal. Holds D.clock D.since (disk_of journal) (changes ++ DropId id.now ∷ [])) }
+        ensures acknowledged { D.tells ≡ true → (changes : List Call)
+            → Accepts (D.now (disk_of self)) changes
+            → IfOk result
+            (λ journal. Holds D.clock D.since (disk_of journal) (changes ++ DropId id.now ∷ [])) }
 
         // What each crash held before, each crash holds after.
         ensures keeps { D.tells ≡ true → Keeps D.clock D.since (disk_of self) (disk_after result) }
@@ -243,17 +261,19 @@ impl<D: Disk, K: Keep> Journal<D, K> {
         finish(disk, keep, tail, &drop_id_text(*id))
     }
 
-    /// The keep. It holds what the accepted changes make, an empty one of its limit has room for them, and each crash
-    /// goes on after them.
+    /// The keep. It holds what the accepted changes make, an empty one of its limit has room for
+    /// them, and each crash goes on after them.
     pub fn keep(&self) -> &K
         ensures value { result.now ≡ keep_of self.now }
-        ensures stands { ∥ ((changes : List Call) × IsJournal (D.now (disk_of self.now)) (tail_of self.now)
+        ensures stands { ∥
+            ((changes : List Call) × IsJournal (D.now (disk_of self.now)) (tail_of self.now)
             (K.contents result.now) changes) ∥₁ }
         ensures holds { (changes : List Call) → Accepts (D.now (disk_of self.now)) changes
             → K.contents result.now ≡ after_calls no_contents changes }
         ensures room { (changes : List Call) → Accepts (D.now (disk_of self.now)) changes
             → HadRoomForPuts (K.limit result.now) no_contents changes }
-        ensures acknowledged { D.tells ≡ true → (changes : List Call) → Accepts (D.now (disk_of self.now)) changes
+        ensures acknowledged { D.tells ≡ true → (changes : List Call)
+            → Accepts (D.now (disk_of self.now)) changes
             → Holds D.clock D.since (disk_of self.now) changes }
     {
         &self.keep

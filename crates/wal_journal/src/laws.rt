@@ -1,5 +1,5 @@
-//! What follows of the definitions that the contracts cite. These functions compute nothing: their contracts are
-//! the laws.
+//! What follows of the definitions that the contracts cite. These functions compute nothing: their
+//! contracts are the laws.
 
 ghost use Rattle.std.specs.Prelude.{◌≡◌, ℕ, true, List};
 ghost use Rattle.wal_store.specs.Calls.{Call};
@@ -19,11 +19,12 @@ pub fn room_in_parts()
     ensures { RoomInParts }
 {}
 
-/// What is acknowledged stays. Where each crash of a disk goes on after some changes, so does each crash at any
-/// moment since, over any calls of which each keeps what was held: [`crate::Journal::open`], and every call of a
-/// journal.
+/// What is acknowledged stays. Where each crash of a disk goes on after some changes, so does each
+/// crash at any moment since, over any calls of which each keeps what was held:
+/// [`crate::Journal::open`], and every call of a journal.
 pub fn acknowledged_stays<D: Disk>()
     ensures { D.tells ≡ true → (first : D) (disks : List D) → EachKeeps D.clock D.since first disks
         → (changes : List Call) → Holds D.clock D.since first changes
-        → (image : List ℕ) → D.since (last_of first disks) (D.clock first) image → GoesOnAfter changes image }
+        → (image : List ℕ) → D.since (last_of first disks) (D.clock first) image
+        → GoesOnAfter changes image }
 {}

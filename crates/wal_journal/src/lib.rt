@@ -1,5 +1,5 @@
-//! A journal of what a shard holds: each change is on a disk before it is acknowledged, so that a crash
-//! loses none.
+//! A journal of what a shard holds: each change is on a disk before it is acknowledged, so that a
+//! crash loses none.
 #![tactic(auto)]
 
 mod disk;

@@ -32,7 +32,8 @@ impl Plan {
     // Counts a call, and says whether it fails.
     fn next_fails(&mut self) -> bool
         ensures planned { IsTrue result
-            ↔ (FailsAt self.old.fails.items (self.old.calls + 1) ⊎ (self.old.most ≤ self.old.calls)) }
+            ↔ (FailsAt self.old.fails.items (self.old.calls + 1)
+            ⊎ (self.old.most ≤ self.old.calls)) }
         ensures faults { self.new.faults
             ≡ (if result then count_up self.old.faults else self.old.faults) }
         ensures rose { IsTrue result → Rose self.old.faults self.new.faults }
@@ -81,7 +82,8 @@ fn overwrite(bytes: &mut Vec<u8>, at: usize, text: &[u8])
     bytes[at..at + text.len()].copy_from_slice(text);
 }
 
-/// Bytes in memory, with all that was on the disk before each step. Its room is taken when it is made.
+/// Bytes in memory, with all that was on the disk before each step. Its room is taken when it is
+/// made.
 #[derive(Drop)]
 pub struct MemDisk {
     bytes: Vec<u8>,
@@ -101,8 +103,9 @@ impl MemDisk {
     ghost use Rattle.std.specs.Prelude.{IfOk};
     ghost use Rattle.wal_journal.specs.MemDisk.{disk_bytes, disk_fails, disk_most, disk_calls, disk_faults, disk_pending, disk_clock, most_past};
 
-    /// A disk with these bytes, of which none is pending. The calls whose numbers stand in `fails`, from
-    /// 1 over `read`, `write_at` and `sync` together, fail, and so does each call past the first `calls`.
+    /// A disk with these bytes, of which none is pending. The calls whose numbers stand in `fails`,
+    /// from 1 over `read`, `write_at` and `sync` together, fail, and so does each call past the
+    /// first `calls`.
     pub fn create(
         alloc: Global,
         bytes: Vec<u8>,
@@ -174,7 +177,8 @@ impl Disk for MemDisk {
     ghost earlier = { λ told d image t later le left.
         since_earlier d.steps.items d.past.items d.bytes.items image t later le left };
 
-    ghost only_now = { λ told d image left. since_now d.steps.items d.past.items d.bytes.items image left };
+    ghost only_now = { λ told d image left.
+        since_now d.steps.items d.past.items d.bytes.items image left };
 
     fn len(&self) -> u64
         ensures value { result ≡ length (disk_bytes self.now) }
@@ -185,11 +189,13 @@ impl Disk for MemDisk {
 
     fn read(&mut self, at: u64, into: &mut [u8]) -> Result<(), Failed>
         requires { at + length into.old ≤ length (disk_bytes self.old) }
-        ensures bytes { OnOk result (into.new ≡ take (length into.old) (drop at (disk_bytes self.old))) }
+        ensures bytes { OnOk result
+            (into.new ≡ take (length into.old) (drop at (disk_bytes self.old))) }
         ensures now { disk_bytes self.new ≡ disk_bytes self.old }
         ensures told { true ≡ true → disk_pending self.new ≡ disk_pending self.old }
         ensures time { true ≡ true → Elapses (disk_clock self.old) (disk_clock self.new)
-            (disk_since self.old) (disk_since self.new) (Agrees (disk_pending self.new) (disk_bytes self.new)) }
+            (disk_since self.old) (disk_since self.new)
+            (Agrees (disk_pending self.new) (disk_bytes self.new)) }
         ensures failed { OnErr result (Rose (disk_faults self.old) (disk_faults self.new)) }
         ensures later { disk_faults self.old ≤ disk_faults self.new }
 
@@ -214,14 +220,17 @@ impl Disk for MemDisk {
 
     fn write_at(&mut self, at: u64, bytes: &[u8]) -> Result<(), Failed>
         requires { at + length bytes.now ≤ length (disk_bytes self.old) }
-        ensures written { OnOk result (disk_bytes self.new ≡ put_at at bytes.now (disk_bytes self.old)) }
+        ensures written { OnOk result
+            (disk_bytes self.new ≡ put_at at bytes.now (disk_bytes self.old)) }
         ensures torn { OnErr result
             (Agrees ((at, length bytes.now) ∷ []) (disk_bytes self.old) (disk_bytes self.new)) }
         ensures told { true ≡ true → Writes at (length bytes.now) result
-            (disk_bytes self.old) (disk_bytes self.new) (disk_pending self.old) (disk_pending self.new)
+            (disk_bytes self.old) (disk_bytes self.new)
+            (disk_pending self.old) (disk_pending self.new)
             (disk_clock self.old) (disk_clock self.new) }
         ensures time { true ≡ true → Elapses (disk_clock self.old) (disk_clock self.new)
-            (disk_since self.old) (disk_since self.new) (Agrees (disk_pending self.new) (disk_bytes self.new)) }
+            (disk_since self.old) (disk_since self.new)
+            (Agrees (disk_pending self.new) (disk_bytes self.new)) }
         ensures failed { OnErr result (Rose (disk_faults self.old) (disk_faults self.new)) }
         ensures later { disk_faults self.old ≤ disk_faults self.new }
 
@@ -252,7 +261,8 @@ impl Disk for MemDisk {
         ensures told { true ≡ true → Syncs result (disk_pending self.old) (disk_pending self.new)
             (disk_clock self.old) (disk_clock self.new) }
         ensures time { true ≡ true → Elapses (disk_clock self.old) (disk_clock self.new)
-            (disk_since self.old) (disk_since self.new) (Agrees (disk_pending self.new) (disk_bytes self.new)) }
+            (disk_since self.old) (disk_since self.new)
+            (Agrees (disk_pending self.new) (disk_bytes self.new)) }
         ensures failed { OnErr result (Rose (disk_faults self.old) (disk_faults self.new)) }
         ensures later { disk_faults self.old ≤ disk_faults self.new }
 

@@ -25,7 +25,8 @@ use wal_store::{Keep, KeepError};
 pub enum OpenFault {
     /// A call of the disk failed.
     DiskFault,
-    /// The record at this offset has an open gate, and is no record of a lawful change with a byte behind it.
+    /// The record at this offset has an open gate, and is no record of a lawful change with a byte
+    /// behind it.
     BadRecord(u64),
     /// The keep is full.
     Full {
@@ -84,18 +85,22 @@ impl<D: Disk, K: Keep> Journal<D, K> {
         // What was read, and why no more.
         ensures opening { IsOpening (K.limit keep) K.may_want K.contents (D.now disk) result }
         ensures opened { IfOk result (λ journal. (changes : List Call)
-            × IsJournal (D.now (disk_of journal)) (tail_of journal) (K.contents (keep_of journal)) changes) }
+            × IsJournal (D.now (disk_of journal)) (tail_of journal)
+            (K.contents (keep_of journal)) changes) }
         ensures same { D.now (opened_disk result) ≡ D.now disk }
         ensures limit { K.limit (opened_keep result) ≡ K.limit keep }
 
         // Where the disk accepts some changes the journal is theirs, and no record is bad.
-        ensures gives { (changes : List Call) → Accepts (D.now disk) changes → IfOk result (λ journal.
-            IsJournal (D.now (disk_of journal)) (tail_of journal) (K.contents (keep_of journal)) changes) }
+        ensures gives { (changes : List Call) → Accepts (D.now disk) changes
+            → IfOk result (λ journal.
+            IsJournal (D.now (disk_of journal)) (tail_of journal)
+            (K.contents (keep_of journal)) changes) }
         ensures never_bad { (changes : List Call) → Accepts (D.now disk) changes
             → IfErr result (λ refusal. (at : ℕ) → refusal.why ≡ BadRecord at → ⊥) }
 
         // Where a keep of this limit had room for them, this one has: it is not full.
-        ensures fits { (changes : List Call) → Accepts (D.now disk) changes → HadRoomForPuts (K.limit keep) no_contents changes
+        ensures fits { (changes : List Call) → Accepts (D.now disk) changes
+            → HadRoomForPuts (K.limit keep) no_contents changes
             → IfErr result (λ refusal. (needed free : ℕ) → refusal.why ≡ Full needed free → ⊥) }
 
         ensures failed { IfErr result (λ refusal. refusal.why ≡ DiskFault

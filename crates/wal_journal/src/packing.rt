@@ -88,7 +88,9 @@ fn carried_in<H: Hash32>(payload: &[u8]) -> Option<Carried<'_>>
 
 // Whether a keep takes a part: it is not held, and has as many bytes as a part may have.
 fn is_taken<K: Keep>(keep: &K, carried: &Carried<'_>) -> bool
-    ensures { result ≡ is_lawful (K.contents keep.now) (Put carried.now.id carried.now.part carried.now.bytes.now) }
+    ensures { result
+        ≡ is_lawful (K.contents keep.now)
+        (Put carried.now.id carried.now.part carried.now.bytes.now) }
 {
     keep.size(&carried.id, carried.part).is_none()
         && (!carried.bytes.is_empty() && carried.bytes.len() as u64 <= MOST_BYTES)
@@ -100,9 +102,11 @@ fn pack_payload<H: Hash32, D: Disk, K: Keep>(
     journal: Journal<D, K>,
     payload: &[u8],
 ) -> Result<Journal<D, K>, ChangeRefusal<D, K>>
-    ensures packs { Packs D.now D.faults D.tells D.clock D.since K.contents K.limit K.may_want journal
+    ensures packs { Packs D.now D.faults D.tells D.clock
+        D.since K.contents K.limit K.may_want journal
         (puts_of H.digest (K.contents (keep_of journal)) (payload.now ∷ [])) result }
-    ensures any_moment { D.tells ≡ true → (changes : List Call) → Accepts (D.now (disk_of journal)) changes
+    ensures any_moment { D.tells ≡ true → (changes : List Call)
+        → Accepts (D.now (disk_of journal)) changes
         → LeavesOnly D.clock D.since (disk_of journal) (disk_after result)
         (AcceptsFront (K.limit (keep_of journal)) (K.contents (keep_of journal)) changes
         (puts_of H.digest (K.contents (keep_of journal)) (payload.now ∷ []))) }
@@ -121,31 +125,34 @@ fn pack_payload<H: Hash32, D: Disk, K: Keep>(
     }
 }
 
-/// Puts the part of each frame that carries one, in order, under its identifier: a metadata under the one that it
-/// commits, a sliver and a proof under the one that they name. It passes over a part that is held, and one of no
-/// bytes or of more than 16,777,216, since no keep takes it.
+/// Puts the part of each frame that carries one, in order, under its identifier: a metadata under
+/// the one that it commits, a sliver and a proof under the one that they name. It passes over a
+/// part that is held, and one of no bytes or of more than 16,777,216, since no keep takes it.
 ///
-/// A refusal is that of the first put that is refused. The puts before it are made, and so are those before the one
-/// in which the disk failed.
+/// A refusal is that of the first put that is refused. The puts before it are made, and so are
+/// those before the one in which the disk failed.
 pub fn pack<H: Hash32, D: Disk, K: Keep>(
     alloc: Global,
     journal: Journal<D, K>,
     payloads: &Payloads,
 ) -> Result<Journal<D, K>, ChangeRefusal<D, K>>
-    // Which puts are made, for which the keep had room, and why one is refused. Where the disk failed in one, each
-    // crash leaves an image that goes on after those before it.
-    ensures packs { Packs D.now D.faults D.tells D.clock D.since K.contents K.limit K.may_want journal
+    // Which puts are made, for which the keep had room, and why one is refused. Where the disk
+    // failed in one, each crash leaves an image that goes on after those before it.
+    ensures packs { Packs D.now D.faults D.tells D.clock
+        D.since K.contents K.limit K.may_want journal
         (puts_of H.digest (K.contents (keep_of journal)) payloads.now) result }
 
-    // A crash at any moment of the call leaves the changes from before it, and a front of the puts, for
-    // which the keep had room.
-    ensures any_moment { D.tells ≡ true → (changes : List Call) → Accepts (D.now (disk_of journal)) changes
+    // A crash at any moment of the call leaves the changes from before it, and a front of the puts,
+    // for which the keep had room.
+    ensures any_moment { D.tells ≡ true → (changes : List Call)
+        → Accepts (D.now (disk_of journal)) changes
         → LeavesOnly D.clock D.since (disk_of journal) (disk_after result)
         (AcceptsFront (K.limit (keep_of journal)) (K.contents (keep_of journal)) changes
         (puts_of H.digest (K.contents (keep_of journal)) payloads.now)) }
 
     // After `Ok` each crash leaves an image that goes on after all of them.
-    ensures acknowledged { D.tells ≡ true → (changes : List Call) → Accepts (D.now (disk_of journal)) changes
+    ensures acknowledged { D.tells ≡ true → (changes : List Call)
+        → Accepts (D.now (disk_of journal)) changes
         → IfOk result (λ packed. Holds D.clock D.since (disk_of packed)
         (changes ++ puts_of H.digest (K.contents (keep_of journal)) payloads.now)) }
 

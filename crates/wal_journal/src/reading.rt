@@ -44,7 +44,8 @@ fn take_put<D: Disk, K: Keep>(
     ensures limit { K.limit keep.new ≡ K.limit keep.old }
     ensures now { D.now disk.new ≡ D.now disk.old }
     ensures still { D.tells ≡ true → Still D.now D.pending D.clock D.since disk.old disk.new }
-    ensures failed { IsErrOf result OpenFault.DiskFault → Rose (D.faults disk.old) (D.faults disk.new) }
+    ensures failed { IsErrOf result OpenFault.DiskFault
+        → Rose (D.faults disk.old) (D.faults disk.new) }
     ensures later { D.faults disk.old ≤ D.faults disk.new }
 {
     if is_held(keep, &id, part) {
@@ -76,7 +77,8 @@ fn take_record<D: Disk, K: Keep>(
     ensures limit { K.limit keep.new ≡ K.limit keep.old }
     ensures now { D.now disk.new ≡ D.now disk.old }
     ensures still { D.tells ≡ true → Still D.now D.pending D.clock D.since disk.old disk.new }
-    ensures failed { IsErrOf result OpenFault.DiskFault → Rose (D.faults disk.old) (D.faults disk.new) }
+    ensures failed { IsErrOf result OpenFault.DiskFault
+        → Rose (D.faults disk.old) (D.faults disk.new) }
     ensures later { D.faults disk.old ≤ D.faults disk.new }
 {
     match change {
@@ -92,7 +94,8 @@ fn take_record<D: Disk, K: Keep>(
     }
 }
 
-// Reads the record behind those that end at a place, if its gate is open, and carries out its change.
+// Reads the record behind those that end at a place, if its gate is open, and carries out its
+// change.
 fn read_record<D: Disk, K: Keep>(
     alloc: Global,
     disk: &mut D,
@@ -107,7 +110,8 @@ fn read_record<D: Disk, K: Keep>(
     ensures limit { K.limit keep.new ≡ K.limit keep.old }
     ensures now { D.now disk.new ≡ D.now disk.old }
     ensures still { D.tells ≡ true → Still D.now D.pending D.clock D.since disk.old disk.new }
-    ensures failed { IsErrOf result OpenFault.DiskFault → Rose (D.faults disk.old) (D.faults disk.new) }
+    ensures failed { IsErrOf result OpenFault.DiskFault
+        → Rose (D.faults disk.old) (D.faults disk.new) }
     ensures later { D.faults disk.old ≤ D.faults disk.new }
 {
     if gate_at(disk, tail)? != 1 {
@@ -137,11 +141,13 @@ fn read_records<D: Disk, K: Keep>(
     requires empty { K.contents keep.old ≡ no_contents }
     requires len { len ≡ length (D.now disk.old) }
     requires some { 1 ≤ len }
-    ensures opens { Opens (K.limit keep.old) K.may_want (D.now disk.old) (K.contents keep.new) result }
+    ensures opens { Opens (K.limit keep.old) K.may_want
+        (D.now disk.old) (K.contents keep.new) result }
     ensures limit { K.limit keep.new ≡ K.limit keep.old }
     ensures now { D.now disk.new ≡ D.now disk.old }
     ensures still { D.tells ≡ true → Still D.now D.pending D.clock D.since disk.old disk.new }
-    ensures failed { IsErrOf result OpenFault.DiskFault → Rose (D.faults disk.old) (D.faults disk.new) }
+    ensures failed { IsErrOf result OpenFault.DiskFault
+        → Rose (D.faults disk.old) (D.faults disk.new) }
     ensures later { D.faults disk.old ≤ D.faults disk.new }
 {
     let mut tail = 0;
@@ -160,7 +166,8 @@ pub(crate) fn read_disk<D: Disk, K: Keep>(
     keep: &mut K,
 ) -> Result<u64, OpenFault>
     requires { K.contents keep.old ≡ no_contents }
-    ensures opens { Opens (K.limit keep.old) K.may_want (D.now disk.old) (K.contents keep.new) result }
+    ensures opens { Opens (K.limit keep.old) K.may_want
+        (D.now disk.old) (K.contents keep.new) result }
     ensures limit { K.limit keep.new ≡ K.limit keep.old }
     ensures now { D.now disk.new ≡ D.now disk.old }
     ensures settled { D.tells ≡ true → OnOk result (HasSynced D.pending D.clock disk.old disk.new) }
@@ -168,7 +175,8 @@ pub(crate) fn read_disk<D: Disk, K: Keep>(
     ensures any_moment { D.tells ≡ true → LeavesOnly D.clock D.since disk.old disk.new
         (Agrees (D.pending disk.old) (D.now disk.old)) }
     ensures keeps { D.tells ≡ true → Keeps D.clock D.since disk.old disk.new }
-    ensures failed { IsErrOf result OpenFault.DiskFault → Rose (D.faults disk.old) (D.faults disk.new) }
+    ensures failed { IsErrOf result OpenFault.DiskFault
+        → Rose (D.faults disk.old) (D.faults disk.new) }
     ensures later { D.faults disk.old ≤ D.faults disk.new }
 {
     let len = disk.len();

@@ -118,7 +118,8 @@ pub(crate) fn bytes_at<D: Disk>(
     ensures causes { IfErr result IsReadFault }
     ensures now { D.now disk.new ≡ D.now disk.old }
     ensures still { D.tells ≡ true → Still D.now D.pending D.clock D.since disk.old disk.new }
-    ensures failed { IsErrOf result OpenFault.DiskFault → Rose (D.faults disk.old) (D.faults disk.new) }
+    ensures failed { IsErrOf result OpenFault.DiskFault
+        → Rose (D.faults disk.old) (D.faults disk.new) }
     ensures later { D.faults disk.old ≤ D.faults disk.new }
 {
     let mut bytes = vec![in alloc; 0u8; size as usize]?;

@@ -13,10 +13,13 @@ region size bytes i = take size (drop (size * i) bytes)
 -- new is old plus c times source, word by word
 pub record IsScaledSum (c : ℕ) (old source new : List ℕ) : Type 0 where
   pub same_length : length new ≡ length old
-  pub words : (i : ℕ) → 2 * i + 1 < length old → word_at new i ≡ bit_xor (word_at old i) (times c (word_at source i))
+  pub words : (i : ℕ) → 2 * i + 1 < length old
+      → word_at new i ≡ bit_xor (word_at old i) (times c (word_at source i))
 
 -- new is old plus source, byte by byte and so word by word
 pub record IsSum (old source new : List ℕ) : Type 0 where
   pub same_length : length new ≡ length old
-  pub bytes : (k : ℕ) → k < length old → slice_index new k ≡ bit_xor (slice_index old k) (slice_index source k)
-  pub words : (i : ℕ) → 2 * i + 1 < length old → word_at new i ≡ bit_xor (word_at old i) (word_at source i)
+  pub bytes : (k : ℕ) → k < length old
+      → slice_index new k ≡ bit_xor (slice_index old k) (slice_index source k)
+  pub words : (i : ℕ) → 2 * i + 1 < length old
+      → word_at new i ≡ bit_xor (word_at old i) (word_at source i)

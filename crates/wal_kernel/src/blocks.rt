@@ -22,7 +22,8 @@ pub(crate) fn add_vectors(dst: &mut [u8], src: &[u8]) -> usize
     32 * vectors
 }
 
-/// Adds c times the source by blocks of 32 words; what is left past the whole ones is padded to one more.
+/// Adds c times the source by blocks of 32 words; what is left past the whole ones is padded to one
+/// more.
 pub(crate) fn add_scaled_blocks(dst: &mut [u8], c: Gf, src: &[u8])
     requires { length src.now ≡ length dst.old }
     ensures { IsSumBelow (scaled_byte c.0 src.now) dst.old (length dst.old) dst.new }
@@ -42,7 +43,9 @@ fn add_scaled_rest(dst: &mut [u8], block: usize, tables: &NibbleTables, src: &[u
     requires equal { length src.now ≡ length dst.old }
     requires starts { 64 * block ≤ length dst.old }
     requires ends { length dst.old ≤ 64 * block + 64 }
-    ensures { (c : ℕ) (old : List ℕ) → AreProducts c tables.now → IsSumBelow (scaled_byte c src.now) old (64 * block) dst.old → IsSumBelow (scaled_byte c src.now) old (length dst.old) dst.new }
+    ensures { (c : ℕ) (old : List ℕ) → AreProducts c tables.now
+        → IsSumBelow (scaled_byte c src.now) old (64 * block) dst.old
+        → IsSumBelow (scaled_byte c src.now) old (length dst.old) dst.new }
 {
     let at = 64 * block;
     let words = padded(src, at);
@@ -69,7 +72,9 @@ fn padded(bytes: &[u8], at: usize) -> [u8; 64]
 fn add_scaled_block(dst: &mut [u8], block: usize, tables: &NibbleTables, src: &[u8])
     requires equal { length src.now ≡ length dst.old }
     requires within { 64 * block + 64 ≤ length dst.old }
-    ensures { (c : ℕ) (old : List ℕ) → AreProducts c tables.now → IsSumBelow (scaled_byte c src.now) old (64 * block) dst.old → IsSumBelow (scaled_byte c src.now) old (64 * block + 64) dst.new }
+    ensures { (c : ℕ) (old : List ℕ) → AreProducts c tables.now
+        → IsSumBelow (scaled_byte c src.now) old (64 * block) dst.old
+        → IsSumBelow (scaled_byte c src.now) old (64 * block + 64) dst.new }
 {
     let at = 64 * block;
     let (high, low) = lanes::split(src, at);

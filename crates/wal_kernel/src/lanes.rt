@@ -17,7 +17,8 @@ pub(crate) fn load(bytes: &[u8], at: usize) -> u8x32
 
 /// The high and the low bytes of 32 words.
 ///
-/// Each half of a vector keeps the bytes that come from this half of a load: across the halves shuffles are slow.
+/// Each half of a vector keeps the bytes that come from this half of a load: across the halves
+/// shuffles are slow.
 #[inline(always)]
 pub(crate) fn split(bytes: &[u8], at: usize) -> (u8x32, u8x32)
     requires { at + 64 ≤ length bytes.now }
@@ -30,8 +31,12 @@ pub(crate) fn split(bytes: &[u8], at: usize) -> (u8x32, u8x32)
 /// The high and the low bytes of the words in two vectors.
 #[inline(always)]
 fn high_and_low(first: u8x32, second: u8x32) -> (u8x32, u8x32)
-    ensures high { (bytes : List ℕ) (at : ℕ) → HasLanes 32 first (λ k. slice_index bytes (at + k)) → HasLanes 32 second (λ k. slice_index bytes (at + 32 + k)) → HasLanes 32 result.0 (λ k. slice_index bytes (at + 2 * word_of_lane k)) }
-    ensures low { (bytes : List ℕ) (at : ℕ) → HasLanes 32 first (λ k. slice_index bytes (at + k)) → HasLanes 32 second (λ k. slice_index bytes (at + 32 + k)) → HasLanes 32 result.1 (λ k. slice_index bytes (at + 2 * word_of_lane k + 1)) }
+    ensures high { (bytes : List ℕ) (at : ℕ) → HasLanes 32 first (λ k. slice_index bytes (at + k))
+        → HasLanes 32 second (λ k. slice_index bytes (at + 32 + k))
+        → HasLanes 32 result.0 (λ k. slice_index bytes (at + 2 * word_of_lane k)) }
+    ensures low { (bytes : List ℕ) (at : ℕ) → HasLanes 32 first (λ k. slice_index bytes (at + k))
+        → HasLanes 32 second (λ k. slice_index bytes (at + 32 + k))
+        → HasLanes 32 result.1 (λ k. slice_index bytes (at + 2 * word_of_lane k + 1)) }
 {
     let high = first.shuffle(
         second,
@@ -54,7 +59,8 @@ fn high_and_low(first: u8x32, second: u8x32) -> (u8x32, u8x32)
 #[inline(always)]
 pub(crate) fn add(dst: &mut [u8], at: usize, lanes: u8x32)
     requires { at + 32 ≤ length dst.old }
-    ensures { (f : ℕ → ℕ) (old : List ℕ) → HasLanes 32 lanes (λ k. f (at + k)) → IsSumBelow f old at dst.old → IsSumBelow f old (at + 32) dst.new }
+    ensures { (f : ℕ → ℕ) (old : List ℕ) → HasLanes 32 lanes (λ k. f (at + k))
+        → IsSumBelow f old at dst.old → IsSumBelow f old (at + 32) dst.new }
 {
     (load(dst, at) ^ lanes).copy_to_slice(&mut dst[at..]);
 }
@@ -63,7 +69,9 @@ pub(crate) fn add(dst: &mut [u8], at: usize, lanes: u8x32)
 #[inline(always)]
 pub(crate) fn add_merged(dst: &mut [u8], at: usize, high: u8x32, low: u8x32)
     requires { at + 64 ≤ length dst.old }
-    ensures { (f : ℕ → ℕ) (old : List ℕ) → HasLanes 32 high (λ k. f (at + 2 * word_of_lane k)) → HasLanes 32 low (λ k. f (at + 2 * word_of_lane k + 1)) → IsSumBelow f old at dst.old → IsSumBelow f old (at + 64) dst.new }
+    ensures { (f : ℕ → ℕ) (old : List ℕ) → HasLanes 32 high (λ k. f (at + 2 * word_of_lane k))
+        → HasLanes 32 low (λ k. f (at + 2 * word_of_lane k + 1)) → IsSumBelow f old at dst.old
+        → IsSumBelow f old (at + 64) dst.new }
 {
     let (first, second) = merged(high, low);
     add(dst, at, first);
@@ -73,8 +81,12 @@ pub(crate) fn add_merged(dst: &mut [u8], at: usize, high: u8x32, low: u8x32)
 /// The words of which the high and the low bytes are given, as they stand in a load.
 #[inline(always)]
 fn merged(high: u8x32, low: u8x32) -> (u8x32, u8x32)
-    ensures first { (f : ℕ → ℕ) (at : ℕ) → HasLanes 32 high (λ k. f (at + 2 * word_of_lane k)) → HasLanes 32 low (λ k. f (at + 2 * word_of_lane k + 1)) → HasLanes 32 result.0 (λ k. f (at + k)) }
-    ensures second { (f : ℕ → ℕ) (at : ℕ) → HasLanes 32 high (λ k. f (at + 2 * word_of_lane k)) → HasLanes 32 low (λ k. f (at + 2 * word_of_lane k + 1)) → HasLanes 32 result.1 (λ k. f (at + 32 + k)) }
+    ensures first { (f : ℕ → ℕ) (at : ℕ) → HasLanes 32 high (λ k. f (at + 2 * word_of_lane k))
+        → HasLanes 32 low (λ k. f (at + 2 * word_of_lane k + 1))
+        → HasLanes 32 result.0 (λ k. f (at + k)) }
+    ensures second { (f : ℕ → ℕ) (at : ℕ) → HasLanes 32 high (λ k. f (at + 2 * word_of_lane k))
+        → HasLanes 32 low (λ k. f (at + 2 * word_of_lane k + 1))
+        → HasLanes 32 result.1 (λ k. f (at + 32 + k)) }
 {
     let first = high.shuffle(
         low,
@@ -96,7 +108,9 @@ fn merged(high: u8x32, low: u8x32) -> (u8x32, u8x32)
 /// Lane k is the sum of the values at the bits of k, the first at the lowest bit.
 #[inline(always)]
 pub(crate) fn spanned(at_1: u8, at_2: u8, at_4: u8, at_8: u8) -> u8x32
-    ensures { HasLanes 32 result (λ k. bit_xor (k % 2 * at_1) (bit_xor (k / 2 % 2 * at_2) (bit_xor (k / 4 % 2 * at_4) (k / 8 % 2 * at_8)))) }
+    ensures { HasLanes 32 result
+        (λ k. bit_xor (k % 2 * at_1)
+        (bit_xor (k / 2 % 2 * at_2) (bit_xor (k / 4 % 2 * at_4) (k / 8 % 2 * at_8)))) }
 {
     let lanes_1 = [
         0, 255, 0, 255, 0, 255, 0, 255, 0, 255, 0, 255, 0, 255, 0, 255, 0, 255, 0, 255, 0, 255, 0,
@@ -124,7 +138,8 @@ pub(crate) fn spanned(at_1: u8, at_2: u8, at_4: u8, at_8: u8) -> u8x32
 /// The high bytes of x^4 times the words with these bytes.
 #[inline(always)]
 pub(crate) fn high_times_sixteen(high: u8x32, low: u8x32) -> u8x32
-    ensures { HasLanes 32 result (λ k. high_of_sixteenfold (slice_index high k) (slice_index low k)) }
+    ensures { HasLanes 32 result
+        (λ k. high_of_sixteenfold (slice_index high k) (slice_index low k)) }
 {
     let top = high_nibbles(high);
     sum(
@@ -136,7 +151,8 @@ pub(crate) fn high_times_sixteen(high: u8x32, low: u8x32) -> u8x32
 /// The low bytes of x^4 times the words with these bytes.
 #[inline(always)]
 pub(crate) fn low_times_sixteen(high: u8x32, low: u8x32) -> u8x32
-    ensures { HasLanes 32 result (λ k. low_of_sixteenfold (slice_index high k) (slice_index low k)) }
+    ensures { HasLanes 32 result
+        (λ k. low_of_sixteenfold (slice_index high k) (slice_index low k)) }
 {
     let top = high_nibbles(high);
     sum(
@@ -165,7 +181,8 @@ fn times_power(lanes: u8x32, power: u8) -> u8x32
 /// The entry of the table at the high four bits of each lane.
 #[inline(always)]
 fn by_high(table: u8x32, lanes: u8x32) -> u8x32
-    ensures { (f : ℕ → ℕ) → IsTable f table → HasLanes 32 result (λ k. f (slice_index lanes k / 16)) }
+    ensures { (f : ℕ → ℕ) → IsTable f table
+        → HasLanes 32 result (λ k. f (slice_index lanes k / 16)) }
 {
     table.swizzle_dyn_within::<16>(lanes >> u8x32::splat(4))
 }
@@ -173,7 +190,8 @@ fn by_high(table: u8x32, lanes: u8x32) -> u8x32
 /// The entry of the table at the low four bits of each lane.
 #[inline(always)]
 fn by_low(table: u8x32, lanes: u8x32) -> u8x32
-    ensures { (f : ℕ → ℕ) → IsTable f table → HasLanes 32 result (λ k. f (slice_index lanes k % 16)) }
+    ensures { (f : ℕ → ℕ) → IsTable f table
+        → HasLanes 32 result (λ k. f (slice_index lanes k % 16)) }
 {
     table.swizzle_dyn_within::<16>(lanes & u8x32::splat(15))
 }
@@ -186,7 +204,8 @@ fn sum(a: u8x32, b: u8x32) -> u8x32
     a ^ b
 }
 
-/// The sum of the tables' entries at the four nibbles of each word, the first table's at the highest.
+/// The sum of the tables' entries at the four nibbles of each word, the first table's at the
+/// highest.
 #[inline(always)]
 pub(crate) fn looked_up(
     t3: u8x32,
@@ -196,7 +215,9 @@ pub(crate) fn looked_up(
     high: u8x32,
     low: u8x32,
 ) -> u8x32
-    ensures { (f3 f2 f1 f0 : ℕ → ℕ) → IsTable f3 t3 → IsTable f2 t2 → IsTable f1 t1 → IsTable f0 t0 → HasLanes 32 result (λ k. nibble_sum f3 f2 f1 f0 (slice_index high k) (slice_index low k)) }
+    ensures { (f3 f2 f1 f0 : ℕ → ℕ) → IsTable f3 t3 → IsTable f2 t2 → IsTable f1 t1 → IsTable f0 t0
+        → HasLanes 32 result
+        (λ k. nibble_sum f3 f2 f1 f0 (slice_index high k) (slice_index low k)) }
 {
     sum(
         by_high(t3, high),

@@ -1,5 +1,5 @@
-//! Sums over regions: slices of bytes that are read as words of the field of 65536 elements, each word two
-//! bytes with the most significant first.
+//! Sums over regions: slices of bytes that are read as words of the field of 65536 elements, each
+//! word two bytes with the most significant first.
 #![tactic(auto)]
 
 ghost use Rattle.std.specs.Prelude.{◌≡◌, ◌%◌, length};
@@ -17,8 +17,9 @@ const SHORT: usize = 4;
 
 /// Adds c times each word of the source to the word at the same place of the target.
 ///
-/// The products come from nibble tables by byte shuffles (Plank, Greenan, Miller: "Screaming fast Galois field
-/// arithmetic using Intel SIMD instructions", 2013), but in short regions word by word.
+/// The products come from nibble tables by byte shuffles (Plank, Greenan, Miller: "Screaming fast
+/// Galois field arithmetic using Intel SIMD instructions", 2013), but in short regions word by
+/// word.
 pub fn add_scaled(dst: &mut [u8], c: Gf, src: &[u8])
     requires equal { length src.now ≡ length dst.old }
     requires even { length dst.old % 2 ≡ 0 }

@@ -21,7 +21,8 @@ pub(crate) fn add_scaled(dst: &mut [u8], c: Gf, src: &[u8])
 pub(crate) fn add_from(dst: &mut [u8], src: &[u8], start: usize)
     requires equal { length src.now ≡ length dst.old }
     requires within { start ≤ length dst.old }
-    ensures { (old : List ℕ) → IsSumBelow (λ k. slice_index src.now k) old start dst.old → IsSumBelow (λ k. slice_index src.now k) old (length dst.old) dst.new }
+    ensures { (old : List ℕ) → IsSumBelow (λ k. slice_index src.now k) old start dst.old
+        → IsSumBelow (λ k. slice_index src.now k) old (length dst.old) dst.new }
 {
     for k in start..dst.len() {
         dst[k] ^= src[k];
@@ -39,7 +40,8 @@ fn word(bytes: &[u8], i: usize) -> Gf
 /// Adds to word i.
 fn add_word(dst: &mut [u8], i: usize, word: Gf)
     requires { 2 * i + 1 < length dst.old }
-    ensures { (f : ℕ → ℕ) (old : List ℕ) → f (2 * i) ≡ word.0 / 256 → f (2 * i + 1) ≡ word.0 % 256 → IsSumBelow f old (2 * i) dst.old → IsSumBelow f old (2 * i + 2) dst.new }
+    ensures { (f : ℕ → ℕ) (old : List ℕ) → f (2 * i) ≡ word.0 / 256 → f (2 * i + 1) ≡ word.0 % 256
+        → IsSumBelow f old (2 * i) dst.old → IsSumBelow f old (2 * i + 2) dst.new }
 {
     let [high, low] = word.0.to_be_bytes();
     dst[2 * i] ^= high;

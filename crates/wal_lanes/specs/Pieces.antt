@@ -5,8 +5,10 @@ use Rattle.std.specs.Prelude.{◌≡◌, ℕ, ◌*◌, ◌/◌, ◌<◌, List, �
 abbrev pub text : ℕ → ℕ → List ℕ → ℕ → List ℕ
 text prefix size content place = prefix ∷ take size (drop (place * size) content)
 
--- 32 bytes for each piece of the content, of which the first `count` are the digests of the texts of
--- the first `count` pieces
-pub record AreDigests (digest : List ℕ → List ℕ) (prefix size : ℕ) (content : List ℕ) (count : ℕ) (digests : List ℕ) : Type 0 where
+-- 32 bytes for each piece of the content, of which the first `count` are the digests of the texts
+-- of the first `count` pieces
+pub record AreDigests (digest : List ℕ → List ℕ) (prefix size : ℕ)
+    (content : List ℕ) (count : ℕ) (digests : List ℕ) : Type 0 where
   pub long : length digests ≡ length content / size * 32
-  pub each : (place : ℕ) → place < count → take 32 (drop (place * 32) digests) ≡ digest (text prefix size content place)
+  pub each : (place : ℕ) → place < count
+      → take 32 (drop (place * 32) digests) ≡ digest (text prefix size content place)

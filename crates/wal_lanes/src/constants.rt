@@ -1,4 +1,5 @@
-//! The round constants and the initial hash value of SHA-256 (FIPS 180-4, sections 4.2.2 and 5.3.3).
+//! The round constants and the initial hash value of SHA-256 (FIPS 180-4, sections 4.2.2 and
+//! 5.3.3).
 
 pub(crate) const ROUND_CONSTANTS: [u32; 64] = [
     0x428a_2f98,

@@ -16,14 +16,16 @@ mod words;
 use crate::pieces::{write_each, write_lanes};
 pub use strips::{Pieces, digest_strips};
 
-/// Fewer pieces are hashed one by one. With vectors of eight words two pieces would be enough, with vectors of four words
-/// five are: four take half the time with the first, and a tenth more with the second.
+/// Fewer pieces are hashed one by one. With vectors of eight words two pieces would be enough, with
+/// vectors of four words five are: four take half the time with the first, and a tenth more with
+/// the second.
 const FEW: usize = 4;
 
 /// The SHA-256 digests of equally long pieces of a content, each behind a prefix byte.
 ///
-/// The digests lie in `out` one after the other, 32 bytes each. Takes no memory. The leaves of a tree are such pieces,
-/// behind the prefix 0; so are the nodes of a level, each 64 bytes behind the prefix 1.
+/// The digests lie in `out` one after the other, 32 bytes each. Takes no memory. The leaves of a
+/// tree are such pieces, behind the prefix 0; so are the nodes of a level, each 64 bytes behind the
+/// prefix 1.
 pub fn digest_pieces(prefix: u8, content: &[u8], size: usize, out: &mut [u8])
     requires some { 1 ≤ size }
     requires whole { length content.now ≡ length content.now / size * size }

@@ -50,7 +50,8 @@ pub(crate) fn write_lanes(
     requires few { lanes ≤ 8 }
     requires whole { (first + lanes) * size ≤ length content.now }
     requires room { (first + lanes) * 32 ≤ length out.old }
-    ensures { (done : ℕ) → first ≤ done → AreDigests sha256 prefix size content.now done out.old → AreDigests sha256 prefix size content.now (first + lanes) out.new }
+    ensures { (done : ℕ) → first ≤ done → AreDigests sha256 prefix size content.now done out.old
+        → AreDigests sha256 prefix size content.now (first + lanes) out.new }
 {
     let state = hash_lanes(prefix, pieces(content, size, first, lanes), size, lanes);
     'each_lane: for k in 0..lanes {

@@ -16,7 +16,8 @@ const LANES: usize = 8;
 
 const DIGEST: usize = 32;
 
-/// Pieces of equal length, of which strips can be made: an even number of bytes of all of them at once.
+/// Pieces of equal length, of which strips can be made: an even number of bytes of all of them at
+/// once.
 pub trait Pieces {
     // What is a piece, at this place.
     ghost has: { Self → ℕ → List ℕ → Type 0 };
@@ -37,7 +38,8 @@ pub trait Pieces {
         ensures strip { IsStrip (has self.old) (count self.old) from long strip.new };
 
     // Each piece has so many bytes.
-    ghost sized: { (self : Self) (k : ℕ) (piece : List ℕ) → has self k piece → length piece ≡ size self };
+    ghost sized: { (self : Self) (k : ℕ) (piece : List ℕ) → has self k piece
+        → length piece ≡ size self };
 }
 
 /// Eight texts of which some bytes were taken.
@@ -64,7 +66,8 @@ fn taken(group: Group, strip: &[u8], long: usize) -> Group
     requires whole { long % 64 ≡ 0 }
     requires small { long < 2 ^ 63 }
     requires room { length strip.now ≡ 8 * long }
-    ensures { (k : ℕ) → k < 8 → (prefix seen : ℕ) (piece : List ℕ) → seen % 64 ≡ 0 → seen + long ≤ length piece
+    ensures { (k : ℕ) → k < 8 → (prefix seen : ℕ) (piece : List ℕ) → seen % 64 ≡ 0
+        → seen + long ≤ length piece
         → take long (drop (k * long) strip.now) ≡ take long (drop seen piece)
         → HasTaken prefix piece seen k group → HasTaken prefix piece (seen + long) k result }
 {
@@ -78,7 +81,8 @@ fn taken(group: Group, strip: &[u8], long: usize) -> Group
 fn last_bytes(strip: &[u8], long: usize) -> [u8; 8]
     requires some { 1 ≤ long }
     requires room { length strip.now ≡ 8 * long }
-    ensures { (k : ℕ) → k < 8 → slice_index result k ≡ slice_index strip.now (k * long + (long - 1)) }
+    ensures { (k : ℕ) → k < 8
+        → slice_index result k ≡ slice_index strip.now (k * long + (long - 1)) }
 {
     [
         last_byte(strip, long, 0),
@@ -109,7 +113,8 @@ fn ended(group: Group, seen: usize, strip: &[u8], long: usize) -> State
     requires room { length strip.now ≡ 8 * long }
     ensures { (k : ℕ) → k < 8 → (prefix : ℕ) (piece : List ℕ) → length piece ≡ seen + long
         → take long (drop (k * long) strip.now) ≡ drop seen piece
-        → HasTaken prefix piece seen k group → lane result k ≡ final_hash initial_hash_256 (prefix ∷ piece) }
+        → HasTaken prefix piece seen k group
+        → lane result k ≡ final_hash initial_hash_256 (prefix ∷ piece) }
 {
     let whole = after_whole_blocks(group.state, &group.last, strip, long, LANES);
     after_last_blocks(whole, &group.last, seen, strip, long, LANES)
@@ -122,10 +127,13 @@ fn take_strip(groups: &mut [Group], strip: &[u8], long: usize)
     requires small { long < 2 ^ 63 }
     requires room { length strip.now ≡ 8 * length groups.old * long }
     ensures long { length groups.new ≡ length groups.old }
-    ensures each { (g k : ℕ) → k < 8 → (prefix seen : ℕ) (piece : List ℕ) → seen % 64 ≡ 0 → seen + long ≤ length piece
+    ensures each { (g k : ℕ) → k < 8 → (prefix seen : ℕ) (piece : List ℕ) → seen % 64 ≡ 0
+        → seen + long ≤ length piece
         → take long (drop ((8 * g + k) * long) strip.now) ≡ take long (drop seen piece)
-        → ((group : Group) → slice_get groups.old g ≡ Some group → HasTaken prefix piece seen k group)
-        → (group : Group) → slice_get groups.new g ≡ Some group → HasTaken prefix piece (seen + long) k group }
+        → ((group : Group) → slice_get groups.old g ≡ Some group
+        → HasTaken prefix piece seen k group)
+        → (group : Group) → slice_get groups.new g ≡ Some group
+        → HasTaken prefix piece (seen + long) k group }
 {
     'each: for place in 0..groups.len() {
         groups[place] = taken(
@@ -136,13 +144,16 @@ fn take_strip(groups: &mut [Group], strip: &[u8], long: usize)
     }
 }
 
-// Writes the digests of the texts with these hash values, one after the other, from the place `first` on.
+// Writes the digests of the texts with these hash values, one after the other, from the place
+// `first` on.
 fn write_digests(state: &State, first: usize, lanes: usize, out: &mut [u8])
     requires few { lanes ≤ 8 }
     requires room { (first + lanes) * 32 ≤ length out.old }
     ensures long { length out.new ≡ length out.old }
-    ensures before { (j : ℕ) → j < first → take 32 (drop (j * 32) out.new) ≡ take 32 (drop (j * 32) out.old) }
-    ensures each { (k : ℕ) → k < lanes → take 32 (drop ((first + k) * 32) out.new) ≡ digest_bytes (lane state.now k) 8 }
+    ensures before { (j : ℕ) → j < first
+        → take 32 (drop (j * 32) out.new) ≡ take 32 (drop (j * 32) out.old) }
+    ensures each { (k : ℕ) → k < lanes
+        → take 32 (drop ((first + k) * 32) out.new) ≡ digest_bytes (lane state.now k) 8 }
 {
     'each_lane: for k in 0..lanes {
         put_words(out, (first + k) * DIGEST, &lane_of(state, k));
@@ -158,9 +169,11 @@ fn end_strip(groups: &[Group], seen: usize, strip: &[u8], long: usize, count: us
     requires room_in { length strip.now ≡ 8 * length groups.now * long }
     requires room { length out.old ≡ count * 32 }
     ensures long { length out.new ≡ length out.old }
-    ensures each { (g k : ℕ) → k < 8 → 8 * g + k < count → (prefix : ℕ) (piece : List ℕ) → length piece ≡ seen + long
+    ensures each { (g k : ℕ) → k < 8 → 8 * g + k < count → (prefix : ℕ) (piece : List ℕ)
+        → length piece ≡ seen + long
         → take long (drop ((8 * g + k) * long) strip.now) ≡ drop seen piece
-        → ((group : Group) → slice_get groups.now g ≡ Some group → HasTaken prefix piece seen k group)
+        → ((group : Group) → slice_get groups.now g ≡ Some group
+        → HasTaken prefix piece seen k group)
         → take 32 (drop ((8 * g + k) * 32) out.new) ≡ sha256 (prefix ∷ piece) }
 {
     'each: for place in 0..groups.len() {
@@ -274,9 +287,11 @@ fn strips_before(size: usize, width: usize) -> usize
     (size - 1) / width
 }
 
-/// The SHA-256 digests of pieces, each behind a prefix byte, made a strip of all of them at a time: `width` bytes of each.
+/// The SHA-256 digests of pieces, each behind a prefix byte, made a strip of all of them at a time:
+/// `width` bytes of each.
 ///
-/// Takes memory for one strip, and for the hash values. Where it is not there, nothing is said of `out`.
+/// Takes memory for one strip, and for the hash values. Where it is not there, nothing is said of
+/// `out`.
 pub fn digest_strips<P: Pieces>(
     alloc: Global,
     prefix: u8,

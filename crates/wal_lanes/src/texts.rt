@@ -1,5 +1,5 @@
-//! The digests of at most eight texts: their whole blocks, and the last ones with the padding (FIPS 180-4,
-//! section 5.1.1). Of each text a byte is given, and the piece that follows it.
+//! The digests of at most eight texts: their whole blocks, and the last ones with the padding (FIPS
+//! 180-4, section 5.1.1). Of each text a byte is given, and the piece that follows it.
 
 ghost use Rattle.std.specs.Prelude.{◌≡◌, ℕ, ◌+◌, ◌*◌, ◌/◌, ◌%◌, ◌^◌, ◌<◌, ◌≤◌, ◌∷◌, List, length, take, drop, replicate, slice_index};
 ghost use Rattle.sha2.specs.Sha256.{compress, digest_bytes, final_hash, hash_after, initial_hash_256, padded_message, sha256};
@@ -16,7 +16,8 @@ pub(crate) fn hash_lanes(prefix: u8, pieces: &[u8], size: usize, lanes: usize) -
     requires small { size < 2 ^ 63 }
     requires few { lanes ≤ 8 }
     requires long { length pieces.now ≡ lanes * size }
-    ensures { (k : ℕ) → k < lanes → digest_bytes (lane result k) 8 ≡ sha256 (text prefix size pieces.now k) }
+    ensures { (k : ℕ) → k < lanes
+        → digest_bytes (lane result k) 8 ≡ sha256 (text prefix size pieces.now k) }
 {
     let firsts = [prefix; 8];
     let whole = after_whole_blocks(initial(), &firsts, pieces, size, lanes);
@@ -34,7 +35,9 @@ pub(crate) fn after_whole_blocks(
     requires small { size < 2 ^ 63 }
     requires few { lanes ≤ 8 }
     requires long { length pieces.now ≡ lanes * size }
-    ensures { (k : ℕ) → k < lanes → lane result k ≡ hash_after (lane state k) (text (slice_index firsts.now k) size pieces.now k) ((size + 1) / 64) }
+    ensures { (k : ℕ) → k < lanes
+        → lane result k ≡ hash_after (lane state k)
+        (text (slice_index firsts.now k) size pieces.now k) ((size + 1) / 64) }
 {
     let blocks = (size + 1) / BLOCK;
     if blocks == 0 {
@@ -47,7 +50,8 @@ pub(crate) fn after_whole_blocks(
     after
 }
 
-// The hash values after the first blocks, each of which holds a text's byte and 63 bytes of its piece.
+// The hash values after the first blocks, each of which holds a text's byte and 63 bytes of its
+// piece.
 fn after_first_block(
     state: State,
     firsts: &[u8; 8],
@@ -58,7 +62,9 @@ fn after_first_block(
     requires large { 63 ≤ size }
     requires few { lanes ≤ 8 }
     requires long { length pieces.now ≡ lanes * size }
-    ensures { (k : ℕ) → k < lanes → lane result k ≡ hash_after (lane state k) (text (slice_index firsts.now k) size pieces.now k) 1 }
+    ensures { (k : ℕ) → k < lanes
+        → lane result k
+        ≡ hash_after (lane state k) (text (slice_index firsts.now k) size pieces.now k) 1 }
 {
     let mut fronts = [0; 512];
     'each_first: for k in 0..lanes {
@@ -87,7 +93,8 @@ fn after_block(state: State, pieces: &[u8], size: usize, lanes: usize, place: us
     requires few { lanes ≤ 8 }
     requires long { length pieces.now ≡ lanes * size }
     requires within { place + 64 ≤ size }
-    ensures { (k : ℕ) → k < lanes → lane result k ≡ compress (lane state k) (take 64 (drop (place + k * size) pieces.now)) }
+    ensures { (k : ℕ) → k < lanes
+        → lane result k ≡ compress (lane state k) (take 64 (drop (place + k * size) pieces.now)) }
 {
     if lanes == 8 {
         return compress(state, pieces, place, size);
@@ -103,7 +110,8 @@ fn after_block(state: State, pieces: &[u8], size: usize, lanes: usize, place: us
     compress(state, &copies, 0, BLOCK)
 }
 
-/// The hash values of the texts, from those after their whole blocks. `seen` bytes came before: whole blocks.
+/// The hash values of the texts, from those after their whole blocks. `seen` bytes came before:
+/// whole blocks.
 pub(crate) fn after_last_blocks(
     state: State,
     firsts: &[u8; 8],
@@ -116,7 +124,8 @@ pub(crate) fn after_last_blocks(
     requires small { seen + size < 2 ^ 63 }
     requires few { lanes ≤ 8 }
     requires long { length pieces.now ≡ lanes * size }
-    ensures { (k : ℕ) → k < lanes → (m : List ℕ) → drop seen m ≡ text (slice_index firsts.now k) size pieces.now k
+    ensures { (k : ℕ) → k < lanes → (m : List ℕ)
+        → drop seen m ≡ text (slice_index firsts.now k) size pieces.now k
         → lane state k ≡ hash_after initial_hash_256 (padded_message m) (length m / 64)
         → lane result k ≡ final_hash initial_hash_256 m }
 {
@@ -147,7 +156,8 @@ fn tail_length(size: usize) -> usize
     used + (119 - used) % BLOCK + 9
 }
 
-// Puts the last blocks of a padded text in place of the bytes from `at` on. `seen` bytes of it came before.
+// Puts the last blocks of a padded text in place of the bytes from `at` on. `seen` bytes of it came
+// before.
 fn put_tail(tails: &mut [u8], at: usize, seen: usize, first: u8, piece: &[u8])
     requires edge { seen % 64 ≡ 0 }
     requires small { seen + length piece.now < 2 ^ 63 }
@@ -166,7 +176,8 @@ fn put_tail(tails: &mut [u8], at: usize, seen: usize, first: u8, piece: &[u8])
 // Puts what follows the whole blocks of a text in place of the bytes from `at` on.
 fn put_rest(tails: &mut [u8], at: usize, first: u8, piece: &[u8])
     requires { at + (length piece.now + 1) % 64 ≤ length tails.old }
-    ensures { tails.new ≡ put_at at tails.old (drop ((length piece.now + 1) / 64 * 64) (first ∷ piece.now)) }
+    ensures { tails.new
+        ≡ put_at at tails.old (drop ((length piece.now + 1) / 64 * 64) (first ∷ piece.now)) }
 {
     let whole = (piece.len() + 1) / BLOCK * BLOCK;
     if whole > 0 {

@@ -30,9 +30,13 @@ pub record MayRegister (log : Log) (id : BlobId) (until : ℕ) : Type 0 where
 -- `register`, by its answer: the old ledger, what is asked, the answer, and the new ledger
 abbrev pub Registers : LedgerState → BlobId → ℕ → RegisterAnswer → LedgerState → Type 0
 Registers old id until registering.Past new = (until ≤ writing old.log) × (new ≡ old)
-Registers old id until registering.MovingExtension new = (writing old.log < until) × (is_moving_extension old.log id ≡ true) × (new ≡ old)
-Registers old id until registering.NoRoom new = MayRegister old.log id until × (old.spare ≡ 0) × (new ≡ old)
-Registers old id until (registering.Registered most) new = MayRegister old.log id until × (0 < old.spare) × (new ≡ takes_in old (Register id until)) × (most ≡ until_of new.log id)
+Registers old id until registering.MovingExtension new =
+    (writing old.log < until) × (is_moving_extension old.log id ≡ true) × (new ≡ old)
+Registers old id until registering.NoRoom new =
+    MayRegister old.log id until × (old.spare ≡ 0) × (new ≡ old)
+Registers old id until (registering.Registered most) new =
+    MayRegister old.log id until × (0 < old.spare) × (new ≡ takes_in old (Register id until))
+    × (most ≡ until_of new.log id)
 
 -- a live identifier that outlasts the writing epoch
 pub record IsOpen (log : Log) (id : BlobId) : Type 0 where
@@ -51,16 +55,23 @@ claim_of Denies shard id = Attest shard id
 
 -- the entry is made, and as many shards are now of nodes that said so
 abbrev pub Claimed : Kind → LedgerState → ℕ → BlobId → ℕ → LedgerState → Type 0
-Claimed kind old shard id count new = MayClaim old.log kind shard id × (0 < old.spare) × (new ≡ takes_in old (claim_of kind shard id)) × (count ≡ signer_count new.log id kind (writing new.log))
+Claimed kind old shard id count new =
+    MayClaim old.log kind shard id × (0 < old.spare) × (new ≡ takes_in old (claim_of kind shard id))
+    × (count ≡ signer_count new.log id kind (writing new.log))
 
 -- `ack` and `attest`, by their answer
 abbrev pub Claims : Kind → LedgerState → ℕ → BlobId → ClaimAnswer → LedgerState → Type 0
 Claims kind old shard id claiming.Unregistered new = (is_live old.log id ≡ false) × (new ≡ old)
-Claims kind old shard id claiming.Expires new = (is_live old.log id ≡ true) × (until_of old.log id ≤ writing old.log) × (new ≡ old)
-Claims kind old shard id claiming.Already new = IsOpen old.log id × (signers old.log id kind (writing old.log) shard ≡ true) × (new ≡ old)
-Claims kind old shard id claiming.NoRoom new = MayClaim old.log kind shard id × (old.spare ≡ 0) × (new ≡ old)
-Claims kind old shard id (claiming.Counted count) new = Claimed kind old shard id count new × (count < quorum_size old.log.f)
-Claims kind old shard id (claiming.Quorum count) new = Claimed kind old shard id count new × (quorum_size old.log.f ≤ count)
+Claims kind old shard id claiming.Expires new =
+    (is_live old.log id ≡ true) × (until_of old.log id ≤ writing old.log) × (new ≡ old)
+Claims kind old shard id claiming.Already new =
+    IsOpen old.log id × (signers old.log id kind (writing old.log) shard ≡ true) × (new ≡ old)
+Claims kind old shard id claiming.NoRoom new =
+    MayClaim old.log kind shard id × (old.spare ≡ 0) × (new ≡ old)
+Claims kind old shard id (claiming.Counted count) new =
+    Claimed kind old shard id count new × (count < quorum_size old.log.f)
+Claims kind old shard id (claiming.Quorum count) new =
+    Claimed kind old shard id count new × (quorum_size old.log.f ≤ count)
 
 -- both answers as one
 abbrev pub acked : AckAnswer → ClaimAnswer
@@ -90,8 +101,11 @@ Attests old shard id answer new = Claims Denies old shard id (attested answer) n
 -- `ready`, by its answer
 abbrev pub Readies : LedgerState → ℕ → ReadyAnswer → LedgerState → Type 0
 Readies old shard readying.Already new = (ready_shards old.log shard ≡ true) × (new ≡ old)
-Readies old shard readying.NoRoom new = (ready_shards old.log shard ≡ false) × (old.spare ≡ 0) × (new ≡ old)
-Readies old shard (readying.Counted count) new = (ready_shards old.log shard ≡ false) × (0 < old.spare) × (new ≡ takes_in old (Ready shard)) × (count ≡ ready_total new.log)
+Readies old shard readying.NoRoom new =
+    (ready_shards old.log shard ≡ false) × (old.spare ≡ 0) × (new ≡ old)
+Readies old shard (readying.Counted count) new =
+    (ready_shards old.log shard ≡ false) × (0 < old.spare) × (new ≡ takes_in old (Ready shard))
+    × (count ≡ ready_total new.log)
 
 -- the least epoch in which a quorum acknowledged a live identifier, and how many shards did
 pub record IsCertificate (log : Log) (id : BlobId) (epoch count : ℕ) : Type 0 where

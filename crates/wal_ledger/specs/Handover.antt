@@ -12,7 +12,8 @@ IsMadeIn epoch x = (id : BlobId) → names id x.body ≡ true → x.epoch ≡ ep
 abbrev pub IsMadeSince : ℕ → Entry → Type 0
 IsMadeSince epoch x = is_begin x.body ≡ false → x.epoch ≡ epoch
 
--- what was entered before the last Begin has at most the reading epoch, and what was entered of identifiers since then has the writing epoch
+-- what was entered before the last Begin has at most the reading epoch, and what was entered of
+-- identifiers since then has the writing epoch
 pub record IsDated (log : Log) : Type 0 where
   pub earlier : All (λ x. x.epoch ≤ reading log) (phase log).before
   pub later : All (IsMadeIn (writing log)) (phase log).since

@@ -8,7 +8,8 @@ use Rattle.wal_ledger.specs.Ledger.{Log, phase, phase_in, reading, writing, is_m
 use Rattle.wal_ledger.specs.Within.{IsWithin}
 use Rattle.wal_ledger.specs.Handover.{IsMadeSince, IsDated}
 
--- the shard that says it, where one does, is of the committee of n shards, and owners that are brought are owners of n shards
+-- the shard that says it, where one does, is of the committee of n shards, and owners that are
+-- brought are owners of n shards
 abbrev pub IsOfCommittee : ℕ → Body → Type 0
 IsOfCommittee n (Ack shard id) = shard < n
 IsOfCommittee n (Attest shard id) = shard < n
@@ -18,11 +19,13 @@ IsOfCommittee n _ = ⊤
 
 -- the last Begin brought one more list of owners
 abbrev pub HasBrought : Log → Type 0
-HasBrought log = (next : List ℕ) × ((phase log).brought ≡ (phase_in (phase log).before).brought ++ next ∷ [])
+HasBrought log =
+    (next : List ℕ) × ((phase log).brought ≡ (phase_in (phase log).before).brought ++ next ∷ [])
 
--- a fit number of faults, owners of the first committee, epochs that fit, changes of epochs one after the other, each with its owners,
--- entries of the epochs that have been, none of them beyond the writing epoch, and those after the last Begin all of the writing epoch; while
--- the epoch changes, those before the last Begin of earlier ones; and entries by shards of the committee
+-- a fit number of faults, owners of the first committee, epochs that fit, changes of epochs one
+-- after the other, each with its owners, entries of the epochs that have been, none of them beyond
+-- the writing epoch, and those after the last Begin all of the writing epoch; while the epoch
+-- changes, those before the last Begin of earlier ones; and entries by shards of the committee
 pub record IsLawful (log : Log) : Type 0 where
   pub some_faults : 1 ≤ log.f
   pub few_faults : log.f ≤ 333

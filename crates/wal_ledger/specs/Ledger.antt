@@ -14,14 +14,16 @@ use Rattle.wal_ledger.specs.declared.entry.Kind.{Kind}
 use Rattle.wal_ledger.specs.declared.entry.Kind.TheVariants.{Holds, Denies}
 use Rattle.wal_ledger.specs.Shards.{count_below, committee_size, quorum_size}
 
--- the most faulty shards of a committee, the epoch in which the ledger begins, the node of each shard in it, and the entries
+-- the most faulty shards of a committee, the epoch in which the ledger begins, the node of each
+-- shard in it, and the entries
 pub record Log : Type 0 where
   pub f : ℕ
   pub first : ℕ
   pub owners : List ℕ
   pub entries : List Entry
 
--- how often the epoch was changed, the owners that each Begin brought, the entries before the last Begin, and those from it on
+-- how often the epoch was changed, the owners that each Begin brought, the entries before the last
+-- Begin, and those from it on
 pub record Phase : Type 0 where
   pub finishes : ℕ
   pub brought : List (List ℕ)
@@ -30,13 +32,16 @@ pub record Phase : Type 0 where
 
 -- the phase after one more entry
 abbrev pub phase_after : Body → Entry → Phase → Phase
-phase_after (Begin owners) x p = record p { brought = p.brought ++ owners ∷ []; before = p.before ++ p.since; since = x ∷ [] }
+phase_after (Begin owners) x p =
+    record p { brought = p.brought ++ owners ∷ []; before = p.before ++ p.since; since = x ∷ [] }
 phase_after Finish x p = record p { finishes = p.finishes + 1; since = p.since ++ x ∷ [] }
 phase_after _ x p = record p { since = p.since ++ x ∷ [] }
 
 -- where the changes of epochs stand after these entries
 abbrev pub phase_in : List Entry → Phase
-phase_in entries = fold (λ p x. phase_after x.body x p) (record { finishes = 0; brought = []; before = []; since = [] }) entries
+phase_in entries =
+    fold (λ p x. phase_after x.body x p)
+    (record { finishes = 0; brought = []; before = []; since = [] }) entries
 
 -- where they stand in a ledger
 abbrev pub phase : Log → Phase
@@ -54,7 +59,8 @@ is_moving log = nat_lt (phase log).finishes (length (phase log).brought)
 abbrev pub writing : Log → ℕ
 writing log = reading log + cond (is_moving log) 1 0
 
--- the node of each shard of an epoch's committee: those of the start, and from the k-th Begin for the epoch that is k later
+-- the node of each shard of an epoch's committee: those of the start, and from the k-th Begin for
+-- the epoch that is k later
 abbrev pub owners_at : Log → ℕ → List ℕ
 owners_at log epoch = slice_index_or (log.owners ∷ (phase log).brought) (epoch - log.first) []
 
@@ -134,7 +140,8 @@ is_live log id = nat_lt (reading log) (until_of log id)
 abbrev pub same_node : List ℕ → ℕ → ℕ → Bool
 same_node owners s t = nat_eq (node_of owners s) (node_of owners t)
 
--- whether an entry says, by a shard of this shard's node, that the node holds the blob, or that the blob is invalid
+-- whether an entry says, by a shard of this shard's node, that the node holds the blob, or that the
+-- blob is invalid
 abbrev pub signs_for : List ℕ → Kind → ℕ → Body → Bool
 signs_for owners Holds shard (Ack s id) = same_node owners s shard
 signs_for owners Denies shard (Attest s id) = same_node owners s shard
@@ -142,9 +149,11 @@ signs_for owners _ _ _ = false
 
 -- whether a shard's node has an entry of a kind and an epoch among entries
 abbrev pub is_signer_among : List ℕ → List Entry → Kind → ℕ → ℕ → Bool
-is_signer_among owners entries kind epoch shard = list_any (λ x. nat_eq x.epoch epoch && signs_for owners kind shard x.body) entries
+is_signer_among owners entries kind epoch shard =
+    list_any (λ x. nat_eq x.epoch epoch && signs_for owners kind shard x.body) entries
 
--- the shards whose node has one among an identifier's own entries, as a set: by the owners of that epoch
+-- the shards whose node has one among an identifier's own entries, as a set: by the owners of that
+-- epoch
 abbrev pub signers : Log → BlobId → Kind → ℕ → (ℕ → Bool)
 signers log id kind epoch = is_signer_among (owners_at log epoch) (own_entries log id) kind epoch
 
@@ -172,7 +181,9 @@ pub record IsInvalid (log : Log) (id : BlobId) : Type 0 where
 
 -- the committee that answers for an identifier: the next one, once a quorum of it acknowledged
 abbrev pub home_of : Log → BlobId → Side
-home_of log id = cond (is_moving log && nat_le (quorum_size log.f) (signer_count log id Holds (writing log))) Next Now
+home_of log id =
+    cond (is_moving log && nat_le (quorum_size log.f) (signer_count log id Holds (writing log)))
+    Next Now
 
 -- while the epoch changes: live, certified before the last Begin, and to be kept beyond the change
 pub record MustHold (log : Log) (id : BlobId) : Type 0 where
@@ -186,7 +197,8 @@ abbrev pub readies : List ℕ → ℕ → Body → Bool
 readies owners shard (Ready s) = same_node owners s shard
 readies owners shard _ = false
 
--- the shards of the next committee whose node has said so since the last Begin, as a set, and how many they are
+-- the shards of the next committee whose node has said so since the last Begin, as a set, and how
+-- many they are
 abbrev pub ready_shards : Log → (ℕ → Bool)
 ready_shards log shard = list_any (λ x. readies (owners_of Next log) shard x.body) (phase log).since
 
@@ -209,7 +221,8 @@ live_ids log = filter (is_live log) (registered log.entries)
 
 -- the ledger after one more entry, of the writing epoch
 abbrev pub entered : Log → Body → Log
-entered log body = record log { entries = log.entries ++ record { epoch = writing log; body = body } ∷ [] }
+entered log body =
+    record log { entries = log.entries ++ record { epoch = writing log; body = body } ∷ [] }
 
 -- the ledger in its room: the list, and how many more entries fit
 pub record LedgerState : Type 0 where

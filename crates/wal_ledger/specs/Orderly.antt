@@ -4,12 +4,14 @@ use Rattle.wal_shape.specs.declared.metadata.BlobId.{BlobId}
 use Rattle.wal_ledger.specs.declared.entry.Kind.{Kind}
 use Rattle.wal_ledger.specs.Ledger.{Log, phase, writing, is_moving, cut, own_entries, is_live, signers}
 
--- changes of the epoch come one after the other, each with owners; no entry is of a later epoch than the writing one; and while the
--- epoch changes, what is live and was signed in an earlier epoch was live and signed so before the last Begin, and what was live then
--- still is
+-- changes of the epoch come one after the other, each with owners; no entry is of a later epoch
+-- than the writing one; and while the epoch changes, what is live and was signed in an earlier
+-- epoch was live and signed so before the last Begin, and what was live then still is
 pub record IsOrderly (log : Log) : Type 0 where
   pub turns : length (phase log).brought ≡ (phase log).finishes + cond (is_moving log) 1 0
   pub epochs : (id : BlobId) → All (λ x. x.epoch ≤ writing log) (own_entries log id)
-  pub old : is_moving log ≡ true → (id : BlobId) (kind : Kind) (e s : ℕ) → is_live log id ≡ true → signers log id kind e s ≡ true → e ≢ writing log
+  pub old : is_moving log ≡ true → (id : BlobId) (kind : Kind) (e s : ℕ) → is_live log id ≡ true
+      → signers log id kind e s ≡ true → e ≢ writing log
       → (is_live (cut log) id ≡ true) × (signers (cut log) id kind e s ≡ true)
-  pub lives : is_moving log ≡ true → (id : BlobId) → is_live (cut log) id ≡ true → is_live log id ≡ true
+  pub lives : is_moving log ≡ true → (id : BlobId) → is_live (cut log) id ≡ true
+      → is_live log id ≡ true

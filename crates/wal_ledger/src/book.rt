@@ -20,7 +20,9 @@ impl Model for Book {
 
     ghost view = { λ b. record { entries = b.entries.items; links = b.links.items; spare = b.room - vec_len b.entries } };
 
-    ghost invariant = { λ b. (vec_len b.entries ≤ b.room) × (b.room ≤ vec_capacity b.entries) × (b.room < 2 ^ 32) × (vec_len b.links ≡ vec_len b.entries) × (b.room ≤ vec_capacity b.links) };
+    ghost invariant = { λ b. (vec_len b.entries ≤ b.room) × (b.room ≤ vec_capacity b.entries)
+        × (b.room < 2 ^ 32) × (vec_len b.links ≡ vec_len b.entries)
+        × (b.room ≤ vec_capacity b.links) };
 }
 
 impl Book {

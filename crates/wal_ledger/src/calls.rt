@@ -15,11 +15,13 @@ use crate::ledger::Ledger;
 use wal_shape::{BlobId, Shards};
 
 impl Ledger {
-    /// Enters what a shard of the committee says of a live blob, for the first time for its node in this epoch.
+    /// Enters what a shard of the committee says of a live blob, for the first time for its node in
+    /// this epoch.
     fn enter_claim(&mut self, kind: Kind, shard: u16, id: &BlobId)
         requires shard { shard < committee_size self.old.log.f }
         requires live { is_live self.old.log id.now ≡ true }
-        requires first_time { signers self.old.log id.now kind (writing self.old.log) shard ≡ false }
+        requires first_time { signers self.old.log id.now kind (writing self.old.log) shard
+            ≡ false }
         requires room { 0 < self.old.spare }
         ensures entered { self.new ≡ takes_in self.old (claim_of kind shard id.now) }
         ensures same { SameEpoch self.old.log self.new.log }
@@ -85,8 +87,9 @@ impl Ledger {
 
     /// Registers a blob until an epoch, or extends its registration.
     ///
-    /// The first that applies: `Past` where `until` does not exceed the writing epoch, `MovingExtension`
-    /// where the epoch is changing and the blob is live, `NoRoom`. A refusal changes nothing.
+    /// The first that applies: `Past` where `until` does not exceed the writing epoch,
+    /// `MovingExtension` where the epoch is changing and the blob is live, `NoRoom`. A refusal
+    /// changes nothing.
     pub fn register(&mut self, id: &BlobId, until: u32) -> RegisterAnswer
         ensures answer { Registers self.old id.now until result self.new }
         ensures same { SameEpoch self.old.log self.new.log }
@@ -134,11 +137,12 @@ impl Ledger {
         }
     }
 
-    /// Enters, by a shard of the writing epoch's committee, that its node holds the slivers of a blob for all
-    /// of its shards. Each of them counts.
+    /// Enters, by a shard of the writing epoch's committee, that its node holds the slivers of a
+    /// blob for all of its shards. Each of them counts.
     ///
-    /// The first that applies: `Unregistered` where the blob is not live, `Expires` where it is not kept
-    /// beyond the writing epoch, `Already` where this node acknowledged it in this epoch, `NoRoom`.
+    /// The first that applies: `Unregistered` where the blob is not live, `Expires` where it is not
+    /// kept beyond the writing epoch, `Already` where this node acknowledged it in this epoch,
+    /// `NoRoom`.
     pub fn ack(&mut self, shard: u16, id: &BlobId) -> AckAnswer
         requires { shard < committee_size self.old.log.f }
         ensures answer { Acks self.old shard id.now result self.new }
@@ -155,8 +159,8 @@ impl Ledger {
         }
     }
 
-    /// Enters, by a shard of the writing epoch's committee, that its node has seen a proof that a blob is badly
-    /// encoded. Each of the node's shards counts.
+    /// Enters, by a shard of the writing epoch's committee, that its node has seen a proof that a
+    /// blob is badly encoded. Each of the node's shards counts.
     ///
     /// The refusals are those of `ack`.
     pub fn attest(&mut self, shard: u16, id: &BlobId) -> AttestAnswer
@@ -175,8 +179,8 @@ impl Ledger {
         }
     }
 
-    /// Enters, by a shard of the next committee, that its node holds what it must for all of its shards. Each of
-    /// them counts.
+    /// Enters, by a shard of the next committee, that its node holds what it must for all of its
+    /// shards. Each of them counts.
     ///
     /// The first that applies: `Already` where this node is ready, `NoRoom`.
     pub fn ready(&mut self, shard: u16) -> ReadyAnswer

@@ -52,14 +52,16 @@ impl Model for Ledger {
 
     ghost view = { λ l. record { log = log_of l.f l.first l.owners l.book; spare = l.book.spare } };
 
-    ghost invariant = { λ l. IsKept (log_of l.f l.first l.owners l.book) l.book.spare l.book.links l.epoch l.moving l.reads_at l.writes_at l.table l.ready l.total };
+    ghost invariant = { λ l.
+        IsKept (log_of l.f l.first l.owners l.book) l.book.spare l.book.links
+        l.epoch l.moving l.reads_at l.writes_at l.table l.ready l.total };
 }
 
 impl Ledger {
     ghost use Rattle.wal_ledger.specs.inside.Rows.{IsRow};
 
-    /// An empty ledger that begins to serve in this epoch, by these nodes of the shards of its committee, and
-    /// has room for so many entries.
+    /// An empty ledger that begins to serve in this epoch, by these nodes of the shards of its
+    /// committee, and has room for so many entries.
     pub fn create(
         alloc: Global,
         f: u32,
@@ -180,7 +182,9 @@ impl Ledger {
     /// What is kept of a blob.
     pub(crate) fn row(&self, id: &BlobId) -> Row
         ensures until { result.until ≡ until_of self.now.log id.now }
-        ensures row { (links : List ℕ) × IsRow self.now.log.f (owners_at self.now.log) (own_entries self.now.log id.now) self.now.log.entries links result }
+        ensures row { (links : List ℕ)
+            × IsRow self.now.log.f (owners_at self.now.log)
+            (own_entries self.now.log id.now) self.now.log.entries links result }
     {
         self.table.find(id)
     }
@@ -226,7 +230,8 @@ impl Ledger {
 
     /// The epoch until which a live blob is registered.
     pub fn until(&self, id: &BlobId) -> Option<u32>
-        ensures value { result ≡ cond (is_live self.now.log id.now) (Some (until_of self.now.log id.now)) None }
+        ensures value { result
+            ≡ cond (is_live self.now.log id.now) (Some (until_of self.now.log id.now)) None }
         ensures lawful { IsLawful self.now.log }
     {
         let until = self.row(id).until;
@@ -239,7 +244,9 @@ impl Ledger {
 
     /// How many shards have acknowledged the blob in the writing epoch.
     pub fn acks(&self, id: &BlobId) -> u32
-        ensures value { result ≡ count_below (committee_size self.now.log.f) (acknowledgers self.now.log id.now (writing self.now.log)) }
+        ensures value { result
+            ≡ count_below (committee_size self.now.log.f)
+            (acknowledgers self.now.log id.now (writing self.now.log)) }
         ensures lawful { IsLawful self.now.log }
     {
         self.count(Kind::Holds, id)
@@ -313,7 +320,8 @@ impl Ledger {
     pub fn live_count(&self) -> u32
         ensures value { result ≡ length (live_ids self.now.log) }
         ensures ascends { Ascends (live_ids self.now.log) }
-        ensures complete { (id : BlobId) → is_live self.now.log id ≡ true → Contains (live_ids self.now.log) id }
+        ensures complete { (id : BlobId) → is_live self.now.log id ≡ true
+            → Contains (live_ids self.now.log) id }
         ensures lawful { IsLawful self.now.log }
     {
         self.table.live_len()

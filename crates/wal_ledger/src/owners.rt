@@ -29,7 +29,8 @@ pub(crate) fn node_size(owners: &[u16], shard: u16) -> u32
     size
 }
 
-/// The owners that stand at a link: 0 for the first ones, else one more than the place of a `Begin`.
+/// The owners that stand at a link: 0 for the first ones, else one more than the place of a
+/// `Begin`.
 pub(crate) fn owners_at<'a>(first: &'a Shards, entries: &'a [Entry], link: u32) -> &'a [u16]
     requires { (owners : List ℕ) × StandAt first.now entries.now link owners }
     ensures { (owners : List ℕ) → StandAt first.now entries.now link owners → result.now ≡ owners }

@@ -1,4 +1,5 @@
-//! Rows of what is kept of each blob, where they were put, and the order of the identifiers beside them.
+//! Rows of what is kept of each blob, where they were put, and the order of the identifiers beside
+//! them.
 
 ghost use Rattle.std.specs.Prelude.{◌≡◌, ℕ, ◌+◌, ◌-◌, ◌^◌, ◌<◌, ◌≤◌, List, [], cond, filter, nat_lt, Some, length, slice_get, IfOk, vec_len, vec_capacity, Contains, ◌++◌, ◌∷◌};
 ghost use Rattle.std.specs.List.{insert};
@@ -27,7 +28,8 @@ pub(crate) struct Row {
 impl Row {
     ghost use Rattle.wal_ledger.specs.inside.Rows.{no_row, row_registered, tally_of, with_tally};
 
-    /// The row of a blob that was registered until this epoch, and of which no shard has said a thing.
+    /// The row of a blob that was registered until this epoch, and of which no shard has said a
+    /// thing.
     pub(crate) fn until(until: u32) -> Row
         ensures { result ≡ record no_row { until = until } }
     {
@@ -103,7 +105,10 @@ impl Model for Table {
 
     ghost view = { λ t. record { ids = ids_of t.ids.items t.order.items; rows = map (row_of t.rows.items) t.order.items; live = ids_of t.ids.items t.live.items; spare = t.room - vec_len t.ids } };
 
-    ghost invariant = { λ t. IsTable t.ids.items t.rows.items t.order.items t.live.items × (vec_len t.ids ≤ t.room) × (t.room < 2 ^ 32) × (t.room ≤ vec_capacity t.ids) × (t.room ≤ vec_capacity t.rows) × (t.room ≤ vec_capacity t.order) × (t.room ≤ vec_capacity t.live) };
+    ghost invariant = { λ t. IsTable t.ids.items t.rows.items t.order.items t.live.items
+        × (vec_len t.ids ≤ t.room) × (t.room < 2 ^ 32) × (t.room ≤ vec_capacity t.ids)
+        × (t.room ≤ vec_capacity t.rows) × (t.room ≤ vec_capacity t.order)
+        × (t.room ≤ vec_capacity t.live) };
 }
 
 impl Table {
@@ -111,7 +116,8 @@ impl Table {
 
     /// An empty table with this room.
     pub(crate) fn create(alloc: Global, room: u32) -> Result<Table, AllocError>
-        ensures { IfOk result (λ table. table ≡ record { ids = []; rows = []; live = []; spare = room }) }
+        ensures { IfOk result
+            (λ table. table ≡ record { ids = []; rows = []; live = []; spare = room }) }
     {
         Ok(Table {
             ids: Vec::with_capacity(alloc, room as usize)?,
@@ -151,7 +157,8 @@ impl Table {
     fn keep(&mut self, id: &BlobId, row: Row)
         requires { 0 < self.old.spare }
         ensures ids { self.new.ids ≡ insert_key id_cmp self.old.ids id.now }
-        ensures rows { (q : BlobId) → row_in self.new q ≡ cond (id_eq id.now q) row (row_in self.old q) }
+        ensures rows { (q : BlobId)
+            → row_in self.new q ≡ cond (id_eq id.now q) row (row_in self.old q) }
         ensures live { self.new.live ≡ self.old.live }
         ensures spare { self.old.spare ≤ self.new.spare + 1 }
     {
@@ -181,11 +188,13 @@ impl Table {
         }
     }
 
-    /// Puts the row of an identifier at its place, in place of the one that stands there. The identifier is live.
+    /// Puts the row of an identifier at its place, in place of the one that stands there. The
+    /// identifier is live.
     pub(crate) fn put(&mut self, id: &BlobId, row: Row)
         requires { 0 < self.old.spare }
         ensures ids { self.new.ids ≡ insert_key id_cmp self.old.ids id.now }
-        ensures rows { (q : BlobId) → row_in self.new q ≡ cond (id_eq id.now q) row (row_in self.old q) }
+        ensures rows { (q : BlobId)
+            → row_in self.new q ≡ cond (id_eq id.now q) row (row_in self.old q) }
         ensures live { self.new.live ≡ insert_key id_cmp self.old.live id.now }
         ensures spare { self.old.spare ≤ self.new.spare + 1 }
     {
@@ -197,7 +206,8 @@ impl Table {
     pub(crate) fn set(&mut self, id: &BlobId, row: Row)
         requires { 0 < (row_in self.old id.now).until }
         ensures ids { self.new.ids ≡ self.old.ids }
-        ensures rows { (q : BlobId) → row_in self.new q ≡ cond (id_eq id.now q) row (row_in self.old q) }
+        ensures rows { (q : BlobId)
+            → row_in self.new q ≡ cond (id_eq id.now q) row (row_in self.old q) }
         ensures live { self.new.live ≡ self.old.live }
         ensures spare { self.new.spare ≡ self.old.spare }
     {

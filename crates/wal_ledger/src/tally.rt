@@ -46,7 +46,10 @@ impl Tally {
     /// How many shards signed in the last epoch so far.
     pub(crate) fn count_in(&self, epoch: u32) -> u32
         ensures value { result ≡ cond (nat_eq self.now.epoch epoch) self.now.count 0 }
-        ensures counted { (f first : ℕ) (owners : ℕ → List ℕ) (own : List Entry) (kind : Kind) (entries : List Entry) (links : List ℕ) → IsTally f owners own kind entries links self.now → All (IsWithin first epoch) own → result ≡ count_among f owners own kind epoch }
+        ensures counted { (f first : ℕ) (owners : ℕ → List ℕ) (own : List Entry)
+            (kind : Kind) (entries : List Entry) (links : List ℕ)
+            → IsTally f owners own kind entries links self.now → All (IsWithin first epoch) own
+            → result ≡ count_among f owners own kind epoch }
     {
         if self.epoch == epoch { self.count } else { 0 }
     }
@@ -69,7 +72,10 @@ impl Tally {
         shard: u16,
     ) -> bool
         requires { HasChain entries.now links.now kind self.now.last }
-        ensures { (f first : ℕ) (owns : ℕ → List ℕ) (own : List Entry) → IsTally f owns own kind entries.now links.now self.now → All (IsWithin first epoch) own → owns epoch ≡ owners.now → result ≡ is_signer_among owners.now own kind epoch shard }
+        ensures { (f first : ℕ) (owns : ℕ → List ℕ) (own : List Entry)
+            → IsTally f owns own kind entries.now links.now self.now
+            → All (IsWithin first epoch) own → owns epoch ≡ owners.now
+            → result ≡ is_signer_among owners.now own kind epoch shard }
     {
         if self.epoch != epoch {
             return false;
@@ -89,7 +95,8 @@ impl Tally {
         }
     }
 
-    /// The tally after one more node of so many shards signed in the last epoch so far, by an entry at this place.
+    /// The tally after one more node of so many shards signed in the last epoch so far, by an entry
+    /// at this place.
     pub(crate) fn after(&self, f: u32, epoch: u32, place: u32, size: u32) -> Tally
         requires faults { f ≤ 333 }
         requires few { self.now.count ≤ committee_size f }
@@ -109,8 +116,10 @@ impl Tally {
 
     /// The least epoch in which a quorum signed, and how many shards did.
     pub(crate) fn least_quorum(&self) -> Option<(u32, u32)>
-        ensures some { Tells self.now (λ f owners own kind. IfSome result (λ found. IsLeastQuorum f owners own kind found.0 found.1)) }
-        ensures none { Tells self.now (λ f owners own kind. IfNone result ((e : ℕ) → count_among f owners own kind e < quorum_size f)) }
+        ensures some { Tells self.now (λ f owners own kind.
+            IfSome result (λ found. IsLeastQuorum f owners own kind found.0 found.1)) }
+        ensures none { Tells self.now (λ f owners own kind.
+            IfNone result ((e : ℕ) → count_among f owners own kind e < quorum_size f)) }
     {
         match self.quorum {
             Some(quorum) => Some((quorum.epoch, quorum.count)),
@@ -120,14 +129,16 @@ impl Tally {
 
     /// Whether in some epoch a quorum signed.
     pub(crate) fn has_quorum(&self) -> bool
-        ensures { Tells self.now (λ f owners own kind. IsTrue result ↔ ((e : ℕ) × (quorum_size f ≤ count_among f owners own kind e))) }
+        ensures { Tells self.now (λ f owners own kind. IsTrue result
+            ↔ ((e : ℕ) × (quorum_size f ≤ count_among f owners own kind e))) }
     {
         self.quorum.is_some()
     }
 
     /// Whether in some epoch before this one a quorum signed.
     pub(crate) fn has_quorum_before(&self, epoch: u32) -> bool
-        ensures { Tells self.now (λ f owners own kind. IsTrue result ↔ ((e : ℕ) × ((e < epoch) × (quorum_size f ≤ count_among f owners own kind e)))) }
+        ensures { Tells self.now (λ f owners own kind. IsTrue result
+            ↔ ((e : ℕ) × ((e < epoch) × (quorum_size f ≤ count_among f owners own kind e)))) }
     {
         match self.quorum {
             Some(quorum) => quorum.epoch < epoch,
@@ -146,7 +157,8 @@ fn is_linked(
     shard: u16,
 ) -> bool
     requires { HasChain entries.now links.now kind link }
-    ensures { (shards : List ℕ) → Chain entries.now links.now kind link shards → result ≡ has_neighbour owners.now shards shard }
+    ensures { (shards : List ℕ) → Chain entries.now links.now kind link shards
+        → result ≡ has_neighbour owners.now shards shard }
 {
     let mut next = link as usize;
     while next > 0 {

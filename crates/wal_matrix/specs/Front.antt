@@ -17,7 +17,8 @@ pub record FrontState : Type 0 where
 -- it is that of these bytes
 pub record IsFrontOf (bytes : List ℕ) (front : FrontState) : Type 0 where
   pub long : length bytes ≡ front.shape.length
-  pub kept : AreRedundant front.shape.f (symbol_size front.shape.f front.shape.length) bytes front.kept
+  pub kept : AreRedundant front.shape.f
+      (symbol_size front.shape.f front.shape.length) bytes front.kept
 
 -- the block has `count` columns of the bytes' extended matrix, from column `first` on, row by row
 abbrev pub AreColumns : ℕ → ℕ → List ℕ → ℕ → ℕ → List ℕ → Type 0

@@ -10,8 +10,11 @@ written old w = take (length old) (w ++ drop (length w) old)
 
 -- the tools end with what is left in the buffer
 abbrev pub LendsRoom : MutBor Work → MutBor (List ℕ) → Fml
-LendsRoom s r = Lends the_row (Array u8 0) s r (λ w. record { f = s.now.f; loaded = written s.now.loaded w })
+LendsRoom s r =
+    Lends the_row (Array u8 0) s r (λ w. record { f = s.now.f; loaded = written s.now.loaded w })
 
 -- the tools end with what is left in the buffer of this size
 abbrev pub LendsLoaded : MutBor Work → ℕ → MutBor (List ℕ) → Fml
-LendsLoaded s size r = Lends the_row (Array u8 0) s r (λ w. record { f = s.now.f; loaded = written (replicate size 0) w })
+LendsLoaded s size r =
+    Lends the_row (Array u8 0) s r
+    (λ w. record { f = s.now.f; loaded = written (replicate size 0) w })

@@ -16,15 +16,18 @@ symbol n s e r c = take s (drop ((r * n + c) * s) e)
 -- the bytes of the source block: the blob, and zeros after it
 unfoldable pub padded : ℕ → List ℕ → List ℕ
 padded f bytes =
-    bytes ++ replicate (row_count f * column_count f * symbol_size f (length bytes) - length bytes) 0
+    bytes
+    ++ replicate (row_count f * column_count f * symbol_size f (length bytes) - length bytes) 0
 
--- all rows and columns of e are codewords: at each place of a word within the symbols, the words of a row are a codeword of
--- as many dimensions as the source block has columns, and those of a column one of as many as it has rows
+-- all rows and columns of e are codewords: at each place of a word within the symbols, the words of
+-- a row are a codeword of as many dimensions as the source block has columns, and those of a column
+-- one of as many as it has rows
 pub record IsCodedMatrix (f s : ℕ) (e : List ℕ) : Type 0 where
   pub size : length e ≡ shard_count f * shard_count f * s
   pub fits : (i : ℕ) → i < length e → slice_index e i < 256
   pub rows : (r w : ℕ) → r < shard_count f → 2 * w < s
-      → IsCodeword (column_count f) (shard_count f) (λ c. word_at (symbol (shard_count f) s e r c) w)
+      → IsCodeword (column_count f) (shard_count f)
+      (λ c. word_at (symbol (shard_count f) s e r c) w)
   pub columns : (c w : ℕ) → c < shard_count f → 2 * w < s
       → IsCodeword (row_count f) (shard_count f) (λ r. word_at (symbol (shard_count f) s e r c) w)
 
@@ -58,7 +61,8 @@ column_of n s e j = column_part n s e n j
 unfoldable pub secondary_of : ℕ → ℕ → List ℕ → ℕ → List ℕ
 secondary_of f s e j = column_part (shard_count f) s e (row_count f) j
 
--- the line of an axis and index, with all its symbols: a primary one is a row, and a secondary one a column
+-- the line of an axis and index, with all its symbols: a primary one is a row, and a secondary one
+-- a column
 abbrev pub line_of : Axis → ℕ → ℕ → List ℕ → ℕ → List ℕ
 line_of Primary f s e i = row_of (shard_count f) s e i
 line_of Secondary f s e i = column_of (shard_count f) s e i

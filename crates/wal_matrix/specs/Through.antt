@@ -5,7 +5,8 @@ use Rattle.wal_kernel.specs.Region.{region}
 use Rattle.wal_shape.specs.Shape.{row_count, column_count}
 use Rattle.wal_matrix.specs.Matrix.{IsCodedMatrix, primary_of}
 
--- e is a matrix of codewords in both directions, and its rows at these indices begin with the joined primary slivers
+-- e is a matrix of codewords in both directions, and its rows at these indices begin with the
+-- joined primary slivers
 pub record IsMatrixThrough (f s : ℕ) (indices joined e : List ℕ) : Type 0 where
   pub coded : IsCodedMatrix f s e
   pub begins : (k : ℕ) → k < length indices

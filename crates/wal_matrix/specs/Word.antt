@@ -5,7 +5,8 @@ use Rattle.wal_kernel.specs.Region.{word_at, region}
 use Rattle.wal_shape.specs.declared.axis.Axis.{Axis}
 use Rattle.wal_shape.specs.Shape.{shard_count, sliver_symbols}
 
--- n symbols of s bytes are a codeword of dimension k: at each place of a word within the symbols their words are one
+-- n symbols of s bytes are a codeword of dimension k: at each place of a word within the symbols
+-- their words are one
 pub record AreCoded (k n s : ℕ) (symbols : List ℕ) : Type 0 where
   pub size : length symbols ≡ n * s
   pub fits : (i : ℕ) → i < length symbols → slice_index symbols i < 256
@@ -19,12 +20,16 @@ pub record BeginsCodeword (k n s : ℕ) (first symbols : List ℕ) : Type 0 wher
 -- they are a codeword that has the loaded symbols at the known indices
 pub record PassesCodeword (k n s : ℕ) (known loaded symbols : List ℕ) : Type 0 where
   pub coded : AreCoded k n s symbols
-  pub through : (i : ℕ) → i < length known → region s symbols (slice_index known i) ≡ region s loaded i
+  pub through : (i : ℕ) → i < length known
+      → region s symbols (slice_index known i) ≡ region s loaded i
 
--- the codeword of a sliver, which begins with it: of n symbols, and of as many dimensions as the sliver has symbols
+-- the codeword of a sliver, which begins with it: of n symbols, and of as many dimensions as the
+-- sliver has symbols
 abbrev pub IsWordOf : Axis → ℕ → ℕ → List ℕ → List ℕ → Type 0
-IsWordOf axis f s sliver symbols = BeginsCodeword (sliver_symbols axis f) (shard_count f) s sliver symbols
+IsWordOf axis f s sliver symbols =
+    BeginsCodeword (sliver_symbols axis f) (shard_count f) s sliver symbols
 
 -- the codeword of this axis that has the loaded symbols at the known indices
 abbrev pub IsWordThrough : Axis → ℕ → ℕ → List ℕ → List ℕ → List ℕ → Type 0
-IsWordThrough axis f s known loaded symbols = PassesCodeword (sliver_symbols axis f) (shard_count f) s known loaded symbols
+IsWordThrough axis f s known loaded symbols =
+    PassesCodeword (sliver_symbols axis f) (shard_count f) s known loaded symbols

@@ -1,4 +1,5 @@
-//! The extended matrix of a blob. That of short symbols is made by one extension for both directions, of turned blocks.
+//! The extended matrix of a blob. That of short symbols is made by one extension for both
+//! directions, of turned blocks.
 
 ghost use Rattle.std.specs.Prelude.{◌≡◌, ℕ, ◌+◌, ◌-◌, ◌*◌, ◌%◌, ◌<◌, ◌≤◌, ◌^◌, length, IfOk, slice_index, vec_len};
 ghost use Rattle.wal_shape.specs.Shape.{shard_count, row_count, column_count};
@@ -11,7 +12,8 @@ use std::alloc::{AllocError, Global};
 use wal_fft::{extend_regions, scratch_size};
 use wal_shape::Shape;
 
-/// Symbols of so many bytes are long: a row of them is extended as it lies, and needs not be turned.
+/// Symbols of so many bytes are long: a row of them is extended as it lies, and needs not be
+/// turned.
 const LONG: usize = 256;
 
 /// Turns a block, and extends what were its rows.
@@ -41,8 +43,8 @@ fn turn_and_extend(
     extend_regions(known, total, run, turned, scratch);
 }
 
-/// A block of `lines` rows of `known` symbols, of which each row is extended to `total` symbols, and which is turned:
-/// the result has `total` rows of `lines` symbols.
+/// A block of `lines` rows of `known` symbols, of which each row is extended to `total` symbols,
+/// and which is turned: the result has `total` rows of `lines` symbols.
 fn extended(
     alloc: Global,
     block: &[u8],

@@ -9,8 +9,8 @@ ghost use Rattle.wal_matrix.specs.Columns.{block_of_columns, row_of_columns};
 use crate::transposition::copy_column;
 use std::alloc::{AllocError, Global};
 
-/// Appends a row of a block: symbol `row` of each of the `given` columns, which have `rows` symbols each and lie one after
-/// the other, and zeros up to the end of the row of `width` symbols.
+/// Appends a row of a block: symbol `row` of each of the `given` columns, which have `rows` symbols
+/// each and lie one after the other, and zeros up to the end of the row of `width` symbols.
 fn add_row_of_columns(
     block: &mut Vec<u8>,
     columns: &[u8],
@@ -25,7 +25,8 @@ fn add_row_of_columns(
     requires fewer { given ≤ width }
     requires columns { given * rows * size ≤ length columns.now }
     requires fits { vec_len block.old + width * size < 2 ^ 32 }
-    ensures { OnOk result (block.new.items ≡ block.old.items ++ row_of_columns rows width size columns.now given row) }
+    ensures { OnOk result (block.new.items
+        ≡ block.old.items ++ row_of_columns rows width size columns.now given row) }
 {
     let place = block.len();
     let end = place + given * size;
@@ -34,8 +35,9 @@ fn add_row_of_columns(
     Ok(())
 }
 
-/// The source block for f faults that has these columns: `given` columns of `f + 1` symbols of `size` bytes, which lie one
-/// after the other. Symbol (r, c) of the block is symbol r of column c, and the columns that are not given are zeros.
+/// The source block for f faults that has these columns: `given` columns of `f + 1` symbols of
+/// `size` bytes, which lie one after the other. Symbol (r, c) of the block is symbol r of column c,
+/// and the columns that are not given are zeros.
 pub fn block_of_columns(
     alloc: Global,
     f: u16,
@@ -51,11 +53,14 @@ pub fn block_of_columns(
     ensures long { IfOk result (λ v. vec_len v ≡ row_count f * column_count f * size) }
     ensures block { IfOk result (λ v. v.items ≡ block_of_columns f size columns.now given) }
     ensures symbols { IfOk result (λ v. (r c : ℕ) → r < row_count f → c < given
-        → symbol (column_count f) size v.items r c ≡ region size (region (row_count f * size) columns.now c) r) }
+        → symbol (column_count f) size v.items r c
+        ≡ region size (region (row_count f * size) columns.now c) r) }
     ensures columns { IfOk result (λ v. (c : ℕ) → c < given
-        → column_part (column_count f) size v.items (row_count f) c ≡ region (row_count f * size) columns.now c) }
+        → column_part (column_count f) size v.items (row_count f) c
+        ≡ region (row_count f * size) columns.now c) }
     ensures rest { IfOk result (λ v. (c : ℕ) → given ≤ c → c < column_count f
-        → column_part (column_count f) size v.items (row_count f) c ≡ replicate (row_count f * size) 0) }
+        → column_part (column_count f) size v.items (row_count f) c
+        ≡ replicate (row_count f * size) 0) }
 {
     let rows = f as usize + 1;
     let width = 2 * f as usize + 1;
@@ -69,12 +74,15 @@ pub fn block_of_columns(
 
 /// Each blob has an extended matrix.
 pub fn blobs_have_matrices()
-    ensures { (f : ℕ) (bytes : List ℕ) → f ≤ 333 → ((i : ℕ) → slice_index bytes i < 256) → (e : List ℕ) × IsExtended f bytes e }
+    ensures { (f : ℕ) (bytes : List ℕ) → f ≤ 333 → ((i : ℕ) → slice_index bytes i < 256)
+        → (e : List ℕ) × IsExtended f bytes e }
 {}
 
-/// The first `2f + 1` secondary slivers of a blob's extended matrix are the columns of its source block.
+/// The first `2f + 1` secondary slivers of a blob's extended matrix are the columns of its source
+/// block.
 pub fn columns_are_slivers()
     ensures { (f : ℕ) (bytes e : List ℕ) → IsExtended f bytes e → (j : ℕ) → j < column_count f
         → secondary_of f (symbol_size f (length bytes)) e j
-        ≡ column_part (column_count f) (symbol_size f (length bytes)) (padded f bytes) (row_count f) j }
+        ≡ column_part (column_count f) (symbol_size f (length bytes))
+        (padded f bytes) (row_count f) j }
 {}

@@ -32,7 +32,8 @@ fn first_rows(
     ensures long { IfOk result (λ v. vec_len v ≡ rows * size) }
     ensures bytes { IfOk result (λ v. (i : ℕ) → slice_index v.items i < 256) }
     ensures sums { IfOk result (λ v. (r : ℕ) → r < rows
-        → IsWeightedSum (λ k. coefficient known.now (slice_index known.now k) r) size joined.now rows
+        → IsWeightedSum (λ k. coefficient known.now (slice_index known.now k) r)
+        size joined.now rows
         (region size v.items r)) }
 {
     let mut scratch = vec![in alloc; 0u8; scratch_size(total, size)]?;
@@ -41,11 +42,11 @@ fn first_rows(
     Ok(block)
 }
 
-/// The source block of the one matrix whose rows at these indices begin with the joined primary slivers, one after the
-/// other. Zeros after the blob are part of it.
+/// The source block of the one matrix whose rows at these indices begin with the joined primary
+/// slivers, one after the other. Zeros after the blob are part of it.
 ///
-/// Any `f + 1` rows determine each column, since a polynomial of degree at most f has as many coefficients (Walrus paper,
-/// "Red Stuff").
+/// Any `f + 1` rows determine each column, since a polynomial of degree at most f has as many
+/// coefficients (Walrus paper, "Red Stuff").
 pub fn decode_primaries(
     alloc: Global,
     shape: &Shape,
@@ -58,10 +59,12 @@ pub fn decode_primaries(
     requires size { length joined.now ≡ row_count shape.now.f
         * (column_count shape.now.f * symbol_size shape.now.f shape.now.length) }
     ensures decoded { IfOk result (λ block. (e : List ℕ)
-        × IsMatrixThrough shape.now.f (symbol_size shape.now.f shape.now.length) indices.now joined.now e
+        × IsMatrixThrough shape.now.f
+        (symbol_size shape.now.f shape.now.length) indices.now joined.now e
         × (block ≡ source_of shape.now.f (symbol_size shape.now.f shape.now.length) e)) }
     ensures only { IfOk result (λ block. (e : List ℕ)
-        → IsMatrixThrough shape.now.f (symbol_size shape.now.f shape.now.length) indices.now joined.now e
+        → IsMatrixThrough shape.now.f
+        (symbol_size shape.now.f shape.now.length) indices.now joined.now e
         → source_of shape.now.f (symbol_size shape.now.f shape.now.length) e ≡ block) }
 {
     let total = shape.n() as u16;

@@ -12,8 +12,8 @@ use wal_shape::Shape;
 
 /// A blob's extended matrix (Walrus paper, "Red Stuff").
 ///
-/// It has n rows and n columns of symbols, and lies row by row. The first `f + 1` rows and `2f + 1` columns are the
-/// source block. Contracts see the shape and the bytes.
+/// It has n rows and n columns of symbols, and lies row by row. The first `f + 1` rows and `2f + 1`
+/// columns are the source block. Contracts see the shape and the bytes.
 #[derive(Drop)]
 pub struct Encoded {
     shape: Shape,
@@ -59,7 +59,8 @@ impl Encoded {
     /// The bytes of the matrix, symbol by symbol and row by row.
     pub fn cells(&self) -> &[u8]
         ensures value { result.now ≡ self.now.cells }
-        ensures long { length result.now ≡ shards self.now * shards self.now * symbol_bytes self.now }
+        ensures long { length result.now
+            ≡ shards self.now * shards self.now * symbol_bytes self.now }
     {
         &self.cells
     }
@@ -67,7 +68,8 @@ impl Encoded {
     /// Row i, which is primary sliver i extended to n symbols.
     pub fn row(&self, i: u16) -> &[u8]
         requires { i < shards self.now }
-        ensures value { result.now ≡ row_of (shards self.now) (symbol_bytes self.now) self.now.cells i }
+        ensures value { result.now
+            ≡ row_of (shards self.now) (symbol_bytes self.now) self.now.cells i }
         ensures long { length result.now ≡ shards self.now * symbol_bytes self.now }
     {
         let run = self.shape.n() as usize * self.shape.symbol_size() as usize;
@@ -77,7 +79,8 @@ impl Encoded {
     /// Primary sliver i: the first `2f + 1` symbols of row i.
     pub fn primary(&self, i: u16) -> &[u8]
         requires { i < shards self.now }
-        ensures value { result.now ≡ primary_of self.now.shape.f (symbol_bytes self.now) self.now.cells i }
+        ensures value { result.now
+            ≡ primary_of self.now.shape.f (symbol_bytes self.now) self.now.cells i }
         ensures long { length result.now ≡ column_count self.now.shape.f * symbol_bytes self.now }
     {
         let end = self.shape.cols() as usize * self.shape.symbol_size() as usize;

@@ -12,10 +12,12 @@ use std::marker::Model;
 use wal_fft::{extend_regions, scratch_size};
 use wal_shape::{Axis, MOST_BYTES, Shape};
 
-/// The bytes of each symbol that the scratch is made for. Longer ones are extended in as many strips.
+/// The bytes of each symbol that the scratch is made for. Longer ones are extended in as many
+/// strips.
 const RUN: usize = 2048;
 
-/// A buffer for a codeword for a number of faults, and the scratch in which it is extended and solved.
+/// A buffer for a codeword for a number of faults, and the scratch in which it is extended and
+/// solved.
 #[derive(Drop)]
 pub(crate) struct Expansion {
     f: u16,
@@ -107,7 +109,8 @@ fn fill_word(
     extend_symbols(known, total, size, symbols, scratch);
 }
 
-/// Fills a vector with the codeword that has the loaded symbols at the known indices, within its capacity.
+/// Fills a vector with the codeword that has the loaded symbols at the known indices, within its
+/// capacity.
 fn fill_solved(
     known: &[u16],
     total: u16,
@@ -124,7 +127,8 @@ fn fill_solved(
     requires loaded { length loaded.now ≡ length known.now * size }
     requires room { total * size ≤ vec_capacity symbols.old }
     requires scratch { 2048 ≤ length scratch.old }
-    ensures word { PassesCodeword (length known.now) total size known.now loaded.now symbols.new.items }
+    ensures word { PassesCodeword (length known.now) total
+        size known.now loaded.now symbols.new.items }
     ensures only { (other : List ℕ)
         → PassesCodeword (length known.now) total size known.now loaded.now other
         → other ≡ symbols.new.items }
@@ -173,7 +177,8 @@ impl Expansion {
         requires f { self.old.f ≡ shape.now.f }
         requires distinct { Distinct known.now }
         requires below { All (λ i. i < shard_count shape.now.f) known.now }
-        requires loaded { length loaded.now ≡ length known.now * symbol_size shape.now.f shape.now.length }
+        requires loaded { length loaded.now
+            ≡ length known.now * symbol_size shape.now.f shape.now.length }
         ensures f { self.new.f ≡ self.old.f }
         ensures word { PassesCodeword (length known.now) (shard_count shape.now.f)
             (symbol_size shape.now.f shape.now.length) known.now loaded.now self.new.symbols }

@@ -1,4 +1,5 @@
-//! The columns of a blob's extended matrix, made a few at a time, so that not the whole matrix stands at once.
+//! The columns of a blob's extended matrix, made a few at a time, so that not the whole matrix
+//! stands at once.
 
 ghost use Rattle.std.specs.Prelude.{◌≡◌, ℕ, ◌+◌, ◌-◌, ◌*◌, ◌/◌, ◌%◌, ◌<◌, ◌≤◌, ◌^◌, ◌++◌, List, length, take, drop, IfOk, OnOk, slice_index};
 ghost use Rattle.wal_kernel.specs.Region.{region};
@@ -14,8 +15,8 @@ use std::marker::Model;
 use wal_fft::{extend_regions, scratch_size};
 use wal_shape::Shape;
 
-/// The redundant symbols of the first `f + 1` rows of a blob's extended matrix: with them and the blob's own bytes each
-/// column begins with symbols that are at hand.
+/// The redundant symbols of the first `f + 1` rows of a blob's extended matrix: with them and the
+/// blob's own bytes each column begins with symbols that are at hand.
 #[derive(Drop)]
 pub struct Front {
     shape: Shape,
@@ -38,7 +39,8 @@ impl Model for Front {
 pub(crate) fn put_bytes(bytes: &[u8], start: usize, out: &mut [u8])
     requires place { start + length out.old < 2 ^ 32 }
     ensures long { length out.new ≡ length out.old }
-    ensures bytes { (k : ℕ) → k < length out.old → slice_index out.new k ≡ slice_index bytes.now (start + k) }
+    ensures bytes { (k : ℕ) → k < length out.old
+        → slice_index out.new k ≡ slice_index bytes.now (start + k) }
 {
     let from = start.min(bytes.len());
     let to = (start + out.len()).min(bytes.len());
@@ -65,7 +67,8 @@ fn put_symbol(
     requires column { column < shard_count faults }
     requires room { length out.old ≡ size }
     ensures long { length out.new ≡ size }
-    ensures symbol { (e : List ℕ) → IsExtended faults bytes.now e → out.new ≡ symbol (shard_count faults) size e row column }
+    ensures symbol { (e : List ℕ) → IsExtended faults bytes.now e
+        → out.new ≡ symbol (shard_count faults) size e row column }
 {
     let columns = 2 * faults + 1;
     if column < columns {
@@ -75,7 +78,8 @@ fn put_symbol(
     }
 }
 
-/// Copies the first symbols of `count` columns to the front of a block of these columns, which lies row by row.
+/// Copies the first symbols of `count` columns to the front of a block of these columns, which lies
+/// row by row.
 fn put_columns(
     bytes: &[u8],
     kept: &[u8],
@@ -192,17 +196,19 @@ impl Front {
         })
     }
 
-    /// Fills a block with `count` columns of the extended matrix of the blob with these bytes, from column `first` on. The
-    /// block lies row by row.
+    /// Fills a block with `count` columns of the extended matrix of the blob with these bytes, from
+    /// column `first` on. The block lies row by row.
     pub fn columns(&mut self, bytes: &[u8], first: u16, count: u16, block: &mut [u8])
         requires front { IsFrontOf bytes.now self.old }
         requires some { 1 ≤ count }
         requires columns { first + count ≤ shard_count self.old.shape.f }
         requires room { length block.old
-            ≡ shard_count self.old.shape.f * (count * symbol_size self.old.shape.f self.old.shape.length) }
+            ≡ shard_count self.old.shape.f
+            * (count * symbol_size self.old.shape.f self.old.shape.length) }
         ensures front { self.new ≡ self.old }
         ensures long { length block.new ≡ length block.old }
-        ensures columns { AreColumns self.old.shape.f (symbol_size self.old.shape.f self.old.shape.length)
+        ensures columns { AreColumns self.old.shape.f
+            (symbol_size self.old.shape.f self.old.shape.length)
             bytes.now first count block.new }
     {
         let faults = self.shape.f() as u16;

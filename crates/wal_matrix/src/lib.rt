@@ -1,5 +1,5 @@
-//! The extended matrix of RedStuff (Walrus paper, "Red Stuff"): a blob's symbols, extended along the rows and along the
-//! columns, and the slivers that shards hold.
+//! The extended matrix of RedStuff (Walrus paper, "Red Stuff"): a blob's symbols, extended along
+//! the rows and along the columns, and the slivers that shards hold.
 #![tactic(auto)]
 
 mod blocks;

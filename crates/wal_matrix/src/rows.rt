@@ -10,7 +10,8 @@ ghost use Rattle.wal_matrix.specs.inside.Row.{laid_row, IsRowFrom};
 use std::alloc::{AllocError, Global};
 use wal_fft::{extend_regions, scratch_size};
 
-/// Appends at most `width` bytes of the blob, from `start` on, and zeros to the end of the row of `run` bytes.
+/// Appends at most `width` bytes of the blob, from `start` on, and zeros to the end of the row of
+/// `run` bytes.
 fn lay_row(
     cells: &mut Vec<u8>,
     bytes: &[u8],
@@ -21,7 +22,8 @@ fn lay_row(
     requires room { width ≤ run }
     requires fits { vec_len cells.old + run < 2 ^ 32 }
     requires place { start + width < 2 ^ 32 }
-    ensures { OnOk result (cells.new.items ≡ cells.old.items ++ laid_row start width run bytes.now) }
+    ensures { OnOk result
+        (cells.new.items ≡ cells.old.items ++ laid_row start width run bytes.now) }
 {
     let end = cells.len() + run;
     let from = start.min(bytes.len());
@@ -70,7 +72,8 @@ pub(crate) fn add_row(
     requires scratch { 2048 ≤ length scratch.old }
     ensures long { OnOk result (vec_len cells.new ≡ vec_len cells.old + total * size) }
     ensures kept { OnOk result (take (vec_len cells.old) cells.new.items ≡ cells.old.items) }
-    ensures row { OnOk result (IsRowFrom known total size bytes.now start (drop (vec_len cells.old) cells.new.items)) }
+    ensures row { OnOk result
+        (IsRowFrom known total size bytes.now start (drop (vec_len cells.old) cells.new.items)) }
 {
     let place = cells.len();
     lay_row(
@@ -128,7 +131,8 @@ fn extend_down(rows: u16, total: u16, run: usize, cells: &mut [u8], scratch: &mu
     requires room { length cells.old ≡ total * run }
     requires scratch { 2048 ≤ length scratch.old }
     ensures same { take (rows * run) cells.new ≡ take (rows * run) cells.old }
-    ensures codeword { (w : ℕ) → 2 * w < run → IsCodeword rows total (λ r. word_at (region run cells.new r) w) }
+    ensures codeword { (w : ℕ) → 2 * w < run
+        → IsCodeword rows total (λ r. word_at (region run cells.new r) w) }
     ensures bytes { (i : ℕ) → slice_index cells.new i < 256 }
 {
     extend_regions(rows, total, run, cells, scratch);

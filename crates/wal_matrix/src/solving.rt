@@ -27,7 +27,8 @@ fn add_weighted(target: &mut [u8], weight: Gf, source: &[u8])
     }
 }
 
-/// Makes the target the sum of the sources, each times the coefficient of its known index for the wanted one.
+/// Makes the target the sum of the sources, each times the coefficient of its known index for the
+/// wanted one.
 fn combine_weighted(
     known: &[u16],
     wanted: u16,
@@ -41,7 +42,8 @@ fn combine_weighted(
     requires even { size % 2 ≡ 0 }
     requires from { length sources.now ≡ length known.now * size }
     requires into { length target.old ≡ size }
-    ensures { IsWeightedSum (λ k. coefficient known.now (slice_index known.now k) wanted) size sources.now
+    ensures { IsWeightedSum
+        (λ k. coefficient known.now (slice_index known.now k) wanted) size sources.now
         (length known.now) target.new }
 {
     target.fill(0);
@@ -74,8 +76,8 @@ fn solve_few(known: &[u16], wanted: u16, size: usize, sources: &[u8], targets: &
     }
 }
 
-/// Fills the first `wanted` regions of the codeword that has these regions at the known indices: by coefficients where
-/// these are few, and else by the transform.
+/// Fills the first `wanted` regions of the codeword that has these regions at the known indices: by
+/// coefficients where these are few, and else by the transform.
 pub(crate) fn solve_first(
     known: &[u16],
     total: u16,
@@ -124,7 +126,8 @@ pub(crate) fn solve_symbols(
     requires scratch { 2048 ≤ length scratch.old }
     ensures word { PassesCodeword (length known.now) total size known.now loaded.now symbols.new }
     ensures only { (other : List ℕ)
-        → PassesCodeword (length known.now) total size known.now loaded.now other → other ≡ symbols.new }
+        → PassesCodeword (length known.now) total size known.now loaded.now other
+        → other ≡ symbols.new }
 {
     solve_first(known, total, total, size, loaded, symbols, scratch);
 }

@@ -1,4 +1,5 @@
-//! A blob's extended matrix, made a strip of each symbol at a time, so that neither rows nor columns of it stand whole.
+//! A blob's extended matrix, made a strip of each symbol at a time, so that neither rows nor
+//! columns of it stand whole.
 
 ghost use Rattle.std.specs.Prelude.{◌≡◌, ℕ, ◌+◌, ◌*◌, ◌%◌, ◌<◌, ◌≤◌, ◌^◌, List, length, IfOk};
 ghost use Rattle.wal_shape.specs.Shape.{shard_count, row_count, column_count, symbol_size};
@@ -45,7 +46,8 @@ fn put_sources(
     requires within { from + long ≤ size }
     requires room { column_count faults * long ≤ length cells.old }
     ensures long { length cells.new ≡ length cells.old }
-    ensures sources { AreSources faults size bytes.now row from long (column_count faults) cells.new }
+    ensures sources { AreSources faults size bytes.now row
+        from long (column_count faults) cells.new }
 {
     let columns = 2 * faults + 1;
     for column in 0..columns {
@@ -157,8 +159,8 @@ impl Strips {
         })
     }
 
-    /// Fills a strip: `long` bytes of each symbol of the extended matrix of the blob with these bytes, from `from` on, row
-    /// by row. Takes no memory.
+    /// Fills a strip: `long` bytes of each symbol of the extended matrix of the blob with these
+    /// bytes, from `from` on, row by row. Takes no memory.
     pub fn fill(&mut self, bytes: &[u8], from: usize, long: usize, strip: &mut [u8])
         requires blob { length bytes.now ≡ self.old.length }
         requires some { 2 ≤ long }

@@ -15,8 +15,8 @@ pub(crate) fn region(bytes: &[u8], size: usize, place: usize) -> &[u8]
     &bytes[start..start + size]
 }
 
-/// Copies the first `rows` symbols of one column of a block that lies row by row, with `columns` symbols of `size`
-/// bytes in each row.
+/// Copies the first `rows` symbols of one column of a block that lies row by row, with `columns`
+/// symbols of `size` bytes in each row.
 pub fn copy_column(
     from: &[u8],
     rows: usize,
@@ -37,7 +37,8 @@ pub fn copy_column(
     }
 }
 
-/// Writes a block of rows and columns, which lies row by row, column by column: symbol (r, c) goes to symbol (c, r).
+/// Writes a block of rows and columns, which lies row by row, column by column: symbol (r, c) goes
+/// to symbol (c, r).
 pub(crate) fn transpose(from: &[u8], rows: usize, columns: usize, size: usize, into: &mut [u8])
     requires filled { 0 < size }
     requires some { 0 < columns }

@@ -135,7 +135,8 @@ pub fn codeword_of(
     requires most { size ≤ longest_symbol work.old.f }
     requires long { length sliver.now ≡ sliver_symbols axis work.old.f * size }
     ensures word { IfOk result (λ w. IsWordOf axis work.old.f size sliver.now w.items) }
-    ensures only { IfOk result (λ w. (other : List ℕ) → IsWordOf axis work.old.f size sliver.now other → other ≡ w.items) }
+    ensures only { IfOk result
+        (λ w. (other : List ℕ) → IsWordOf axis work.old.f size sliver.now other → other ≡ w.items) }
     ensures f { work.new.f ≡ work.old.f }
 {
     Vec::from_slice(alloc, expand(work, axis, size, sliver))
@@ -158,8 +159,9 @@ pub fn expand_loaded<'a>(work: &'a mut Work, axis: Axis, symbol_size: u32) -> &'
     work.expansion.symbols()
 }
 
-/// The codeword that has the loaded symbols at the known indices, which are joined in the order of these. It has as many
-/// dimensions as there are known indices. The sliver that it belongs to is its front.
+/// The codeword that has the loaded symbols at the known indices, which are joined in the order of
+/// these. It has as many dimensions as there are known indices. The sliver that it belongs to is
+/// its front.
 pub fn solve<'a>(work: &'a mut Work, shape: &Shape, axis: Axis, known: &[u16]) -> &'a [u8]
     requires f { work.old.f ≡ shape.now.f }
     requires count { length known.now ≡ sliver_symbols axis shape.now.f }
@@ -169,10 +171,12 @@ pub fn solve<'a>(work: &'a mut Work, shape: &Shape, axis: Axis, known: &[u16]) -
         ≡ sliver_symbols axis shape.now.f * symbol_size shape.now.f shape.now.length }
     ensures* kept { sem 𝓛 (follows_so the_row the_row work.entry.ghost_name none (λ _ _. ⊤)
         (λ w. w.f ≡ work.old.f)) }
-    ensures word { IsWordThrough axis shape.now.f (symbol_size shape.now.f shape.now.length) known.now
+    ensures word { IsWordThrough axis shape.now.f
+        (symbol_size shape.now.f shape.now.length) known.now
         work.old.loaded result.now }
     ensures sliver { IsWordOf axis shape.now.f (symbol_size shape.now.f shape.now.length)
-        (take (sliver_symbols axis shape.now.f * symbol_size shape.now.f shape.now.length) result.now)
+        (take (sliver_symbols axis shape.now.f * symbol_size shape.now.f shape.now.length)
+        result.now)
         result.now }
     ensures only { (other : List ℕ)
         → IsWordThrough axis shape.now.f (symbol_size shape.now.f shape.now.length) known.now

@@ -1,5 +1,5 @@
-//! A fixed number of pages in one region of memory. The region is taken when the pool is made, and no
-//! later call takes memory.
+//! A fixed number of pages in one region of memory. The region is taken when the pool is made, and
+//! no later call takes memory.
 #![tactic(auto)]
 
 ghost use Rattle.std.specs.Prelude.{◌≡◌, ℕ, ◌+◌, ◌*◌, ◌≤◌, List, Some, length, replicate, slice_get, slice_set, IfOk, OnErr, IsTrue, count_by, All};
@@ -16,8 +16,8 @@ pub const PAGE_SIZE: usize = 4096;
 #[derive(Clone, Copy, Debug, Drop)]
 pub struct NoPage;
 
-/// The right to a page that was taken. It is spent by [`Pool::give`], and in no other way. Contracts see
-/// the page's number in its pool, from 0.
+/// The right to a page that was taken. It is spent by [`Pool::give`], and in no other way.
+/// Contracts see the page's number in its pool, from 0.
 pub struct Page {
     number: u32,
 }
@@ -37,8 +37,8 @@ impl Page {
     }
 }
 
-/// Pages of 4,096 bytes, each free or taken. Contracts see the list of their states, and each call but
-/// `close` says that a page which is taken has all its bytes.
+/// Pages of 4,096 bytes, each free or taken. Contracts see the list of their states, and each call
+/// but `close` says that a page which is taken has all its bytes.
 ///
 /// The free pages form a list in the region itself: each begins with the number of the next, four
 /// bytes with the most significant first.
@@ -52,7 +52,8 @@ pub struct Pool {
 impl Model for Pool {
     ghost Value = { List PageState };
 
-    ghost view = { λ p. states 4096 p.pages p.region.items (chain 4096 p.region.items p.free p.first) };
+    ghost view = { λ p.
+        states 4096 p.pages p.region.items (chain 4096 p.region.items p.free p.first) };
 
     ghost invariant = { λ p.
         (length p.region.items ≡ 4096 * p.pages)
@@ -63,8 +64,8 @@ impl Model for Pool {
 }
 
 impl Pool {
-    /// A pool of so many pages, all free. Takes one region of 4,096 bytes a page, and nothing else in
-    /// this crate takes memory.
+    /// A pool of so many pages, all free. Takes one region of 4,096 bytes a page, and nothing else
+    /// in this crate takes memory.
     pub fn create(alloc: Global, pages: u32) -> Result<Pool, AllocError>
         requires one { 1 ≤ pages }
         requires most { pages ≤ 262144 }

@@ -11,7 +11,7 @@ slice_left s = s.left.now
 abbrev pub slice_text : SliceSink → List ℕ
 slice_text s = take s.count s.room.now ++ s.beyond.bytes
 
--- what tells the sink from others, and stands before its text: the name of the reference to its room, how many bytes have room, and which
--- stood there first
+-- what tells the sink from others, and stands before its text: the name of the reference to its
+-- room, how many bytes have room, and which stood there first
 abbrev pub slice_mark : SliceSink → List ℕ
 slice_mark s = s.room.ghost_name ∷ length s.room.now ∷ s.first.bytes

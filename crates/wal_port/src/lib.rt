@@ -2,8 +2,9 @@
 //!
 //! A [`Source`] gives bytes and a [`Sink`] takes them, and each may fail at any call. What stands
 //! above is written over these two traits alone. [`MemSource`] and [`MemSink`] stand for them in
-//! tests, with pieces and failures by plan ([`is_next_planned`]). [`StdSource`] and [`StdSink`] put a reader and a writer
-//! of `std` behind them, and [`SliceSource`] and [`SliceSink`] slices of a caller's.
+//! tests, with pieces and failures by plan ([`is_next_planned`]). [`StdSource`] and [`StdSink`] put
+//! a reader and a writer of `std` behind them, and [`SliceSource`] and [`SliceSink`] slices of a
+//! caller's.
 #![tactic(auto)]
 
 mod adapters;

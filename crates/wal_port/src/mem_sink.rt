@@ -26,8 +26,8 @@ impl MemSink {
     ghost use Rattle.wal_port.specs.MemSink.{sink_written, sink_room, sink_piece, sink_fails, sink_calls, sink_faults};
 
     /// A sink that takes `room` bytes in all and at most `piece` of them at a call, and fails at
-    /// the calls whose numbers stand in `fails` and at each call once it is full. The first call has
-    /// the number 1.
+    /// the calls whose numbers stand in `fails` and at each call once it is full. The first call
+    /// has the number 1.
     pub fn create(
         alloc: Global,
         room: u32,

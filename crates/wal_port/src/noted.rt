@@ -5,7 +5,8 @@ ghost use Rattle.std.specs.Borrow.{ftrue};
 
 use std::marker::{Model, PhantomData};
 
-/// A text that stands in clauses alone. It takes no memory, and its methods do nothing when they run.
+/// A text that stands in clauses alone. It takes no memory, and its methods do nothing when they
+/// run.
 #[derive(Drop)]
 pub struct Noted {
     marker: PhantomData<u8>,

@@ -35,7 +35,8 @@ impl Source for SliceSource<'_> {
 
     fn read(&mut self, into: &mut [u8]) -> Result<usize, Failed>
         ensures bound { ReadsAtMost result into.new }
-        ensures bytes { ReadConsumes (Some (slice_left self.old)) (Some (slice_left self.new)) result into.new }
+        ensures bytes { ReadConsumes (Some (slice_left self.old))
+            (Some (slice_left self.new)) result into.new }
         ensures failed { OnErr result (Rose 0 0) }
         ensures later { 0 ≤ 0 }
 
@@ -50,11 +51,13 @@ impl Source for SliceSource<'_> {
     }
 }
 
-/// Room for a text: it takes all bytes, keeps in the room those of its front that have room there, and counts all.
-/// What stands in the room behind the text stays as it was. It does not fail and takes no memory.
+/// Room for a text: it takes all bytes, keeps in the room those of its front that have room there,
+/// and counts all. What stands in the room behind the text stays as it was. It does not fail and
+/// takes no memory.
 ///
-/// As written it tells a mark and then its text. A call that is generic in its sink says of the sink that it leaves
-/// nothing but what was written, and the mark is what shows whoever handed out the room that it is the same one.
+/// As written it tells a mark and then its text. A call that is generic in its sink says of the
+/// sink that it leaves nothing but what was written, and the mark is what shows whoever handed out
+/// the room that it is the same one.
 #[derive(Drop)]
 pub struct SliceSink<'a> {
     room: &'a mut [u8],
@@ -142,7 +145,8 @@ fn kept_of(count: u64, room: usize) -> usize
 // Puts `bytes` at this place.
 fn put_at(room: &mut [u8], start: usize, bytes: &[u8])
     requires { start + length bytes.now ≤ length room.old }
-    ensures { room.new ≡ take start room.old ++ bytes.now ++ drop (start + length bytes.now) room.old }
+    ensures { room.new
+        ≡ take start room.old ++ bytes.now ++ drop (start + length bytes.now) room.old }
 {
     room[start..start + bytes.len()].copy_from_slice(bytes);
 }

@@ -1,4 +1,5 @@
--- What the crates below say of frames, holdings and replies, as far as the steps of the world speak of it.
+-- What the crates below say of frames, holdings and replies, as far as the steps of the world speak
+-- of it.
 use Rattle.std.specs.Prelude.{ℕ, Bool, List, Option}
 use Rattle.wal_shape.specs.declared.metadata.BlobId.{BlobId}
 use Rattle.wal_shape.specs.declared.axis.Axis.{Axis}
@@ -21,7 +22,8 @@ pub record Rules : Type 1 where
   pub IsCollision : List ℕ → List ℕ → Type 0
   -- bytes are a frame that may be put: a metadata, a sliver or a proof
   pub IsPutFrame : List ℕ → Frame → Type 0
-  -- what a put of a frame to a shard answers, by the ledger, the shard's number, and what it holds before and then
+  -- what a put of a frame to a shard answers, by the ledger, the shard's number, and what it holds
+  -- before and then
   pub Puts : Log → ℕ → Contents → Frame → PutAnswer → Contents → Type 0
   -- the identifier of a blob in a format, and the frames that an honest writer sends to each shard
   pub IsMessage : Format → List ℕ → BlobId → (ℕ → List Frame) → Type 0
@@ -37,13 +39,17 @@ pub record Rules : Type 1 where
   pub HasTwoMetadata : BlobId → List (List ℕ) → Type 0
   -- two metadata of a blob among the payloads and what a shard holds differ
   pub ContradictsHeld : BlobId → Parts → List (List ℕ) → Type 0
-  -- what the recovery of the sliver of an axis comes to for a shard, by what it holds before and then
+  -- what the recovery of the sliver of an axis comes to for a shard, by what it holds before and
+  -- then
   pub Recovers : BlobId → ℕ → Axis → Contents → List (List ℕ) → RecoverWord → Contents → Type 0
-  -- what a first completed answer rests on: evidence for the blob with this verdict, or bytes with its identifier
+  -- what a first completed answer rests on: evidence for the blob with this verdict, or bytes with
+  -- its identifier
   pub IsBacked : BlobId → First → Type 0
   -- what a shard holds of a blob is sound
   pub IsSound : BlobId → ℕ → Parts → Type 0
-  -- a shard holds a metadata that the identifier commits, and by it these bytes are its sliver of the axis
+  -- a shard holds a metadata that the identifier commits, and by it these bytes are its sliver of
+  -- the axis
   pub CommitsTo : BlobId → ℕ → Axis → List ℕ → Parts → Type 0
-  -- it holds a metadata that the identifier commits, and a proof that this metadata's blob is badly encoded
+  -- it holds a metadata that the identifier commits, and a proof that this metadata's blob is badly
+  -- encoded
   pub Refutes : BlobId → Parts → Type 0

@@ -35,11 +35,13 @@ is_collision _ = false
 abbrev pub GoesOn : List Line → Type 0
 GoesOn lines = AllByRecursion (λ said. is_collision said ≡ false) lines
 
--- from a state on, events give lines and lead to states, one of each for each event; after a collision no further event is taken
+-- from a state on, events give lines and lead to states, one of each for each event; after a
+-- collision no further event is taken
 abbrev pub Runs : Rules → World → List Event → List World → List Line → Type 0
 Runs r old [] [] [] = Unit {0}
 Runs r old (event ∷ events) (new ∷ states) (said ∷ lines) =
-    Steps r old event said new × cond (is_collision said) ((states ≡ []) × (lines ≡ [])) (Runs r new events states lines)
+    Steps r old event said new
+    × cond (is_collision said) ((states ≡ []) × (lines ≡ [])) (Runs r new events states lines)
 Runs r old _ _ _ = ⊥
 
 -- THE RUN of a schedule: the states after the first one, and the lines

@@ -23,38 +23,51 @@ use Rattle.wal_protocol.specs.Rules.{Rules}
 use Rattle.wal_protocol.specs.Step.{told_by}
 use Rattle.wal_protocol.specs.Run.{first_state}
 
--- the line shows a completed answer for a blob: the bytes or the rejection of a read, or the bytes of an honest write
+-- the line shows a completed answer for a blob: the bytes or the rejection of a read, or the bytes
+-- of an honest write
 abbrev pub Shows : Line → BlobId → Verdict → Type 0
 Shows (line.Read i word) id told = (i ≡ id) × (told_by word ≡ Some told)
-Shows (line.Write i (write_word.Stored count bytes)) id told = (i ≡ id) × (told ≡ verdict.Bytes bytes)
+Shows (line.Write i (write_word.Stored count bytes)) id told =
+    (i ≡ id) × (told ≡ verdict.Bytes bytes)
 Shows _ id told = ⊥
 
 -- AGREE: all completed answers for one blob are the same bytes, or all are rejections
 abbrev pub Agree : List Line → Type 0
-Agree lines = (a b : Line) (id : BlobId) (told other : Verdict) → Contains lines a → Contains lines b → Shows a id told → Shows b id other → told ≡ other
+Agree lines =
+    (a b : Line) (id : BlobId) (told other : Verdict) → Contains lines a → Contains lines b
+    → Shows a id told → Shows b id other → told ≡ other
 
--- what holds of each step of a run: of the state before it, the event, the line, and the state after it
-abbrev pub EachStep : (World → Event → Line → World → Type 0) → World → List Event → List World → List Line → Type 0
-EachStep P old (event ∷ events) (new ∷ states) (said ∷ lines) = P old event said new × EachStep P new events states lines
+-- what holds of each step of a run: of the state before it, the event, the line, and the state
+-- after it
+abbrev pub EachStep : (World → Event → Line → World → Type 0) → World → List Event → List World
+    → List Line → Type 0
+EachStep P old (event ∷ events) (new ∷ states) (said ∷ lines) =
+    P old event said new × EachStep P new events states lines
 EachStep P old _ _ _ = Unit {0}
 
--- COMMITTED: a correct shard that recovered a sliver holds a metadata that the identifier commits, and the root over the sliver's codeword is
--- the one that this metadata lists for the shard (`CommitsTo`: `CommitsSliver` of wal_theorem/specs/Instance, by `HoldsSliver` of wal_commit)
+-- COMMITTED: a correct shard that recovered a sliver holds a metadata that the identifier commits,
+-- and the root over the sliver's codeword is the one that this metadata lists for the shard
+-- (`CommitsTo`: `CommitsSliver` of wal_theorem/specs/Instance, by `HoldsSliver` of wal_commit)
 abbrev pub IsCommitted : Rules → World → Event → Line → World → Type 0
-IsCommitted r old (Recover at shard axis id replies) (line.Recover s a i (recovering.Sliver bytes)) new = r.CommitsTo id shard axis bytes (held (side_of at new) shard id)
+IsCommitted r old (Recover at shard axis id replies)
+    (line.Recover s a i (recovering.Sliver bytes)) new =
+    r.CommitsTo id shard axis bytes (held (side_of at new) shard id)
 IsCommitted r old _ _ new = Unit {0}
 
--- KEPT: while each committee so far has had at most f faulty shards (`few`, which a state of the world carries), more than f correct shards
--- are settled for each certified blob: each holds its metadata and both slivers of its own, or its metadata and a proof against it
+-- KEPT: while each committee so far has had at most f faulty shards (`few`, which a state of the
+-- world carries), more than f correct shards are settled for each certified blob: each holds its
+-- metadata and both slivers of its own, or its metadata and a proof against it
 abbrev pub IsKept : World → Type 0
 IsKept w = w.few ≡ true → (id : BlobId) → IsCertified w.log id → w.log.f + 1 ≤ holders w id
 
--- the replies have the true reply of each correct shard of the home committee, besides any others, in any order; the true reply is the
--- frames that a correct shard then sends of what it holds (`reply_payloads` in Step): its metadata, its primary sliver, its proof
+-- the replies have the true reply of each correct shard of the home committee, besides any others,
+-- in any order; the true reply is the frames that a correct shard then sends of what it holds
+-- (`reply_payloads` in Step): its metadata, its primary sliver, its proof
 abbrev pub Hears : World → BlobId → List Reply → Type 0
 Hears w id replies =
     let home = home_of w.log id in
-    (s : ℕ) → s < committee_size w.log.f → is_correct home w s ≡ true → Contains replies (reply.True home s)
+    (s : ℕ) → s < committee_size w.log.f → is_correct home w s ≡ true
+    → Contains replies (reply.True home s)
 
 -- the line shows bytes, a rejection or a collision
 abbrev pub HasCompleted : Line → Type 0
@@ -63,50 +76,68 @@ HasCompleted (line.Read i reading_of.Reject) = Unit {0}
 HasCompleted (line.Collision left right) = Unit {0}
 HasCompleted _ = ⊥
 
--- COMPLETE: while each committee so far has had at most f faulty shards (`few`), a read of a certified blob that hears its committee completes
+-- COMPLETE: while each committee so far has had at most f faulty shards (`few`), a read of a
+-- certified blob that hears its committee completes
 abbrev pub IsComplete : World → Event → Line → World → Type 0
-IsComplete old (Read id replies) said new = old.few ≡ true → IsCertified old.log id → Hears old id replies → HasCompleted said
+IsComplete old (Read id replies) said new =
+    old.few ≡ true → IsCertified old.log id → Hears old id replies → HasCompleted said
 IsComplete old _ said new = Unit {0}
 
--- more than f correct shards of the writing side hold a metadata that the identifier commits, and a proof that its blob is badly encoded
--- (`Refutes`: `HoldsBadProof` of wal_theorem/specs/Instance, by `IsBadProof` of wal_evidence)
+-- more than f correct shards of the writing side hold a metadata that the identifier commits, and a
+-- proof that its blob is badly encoded (`Refutes`: `HoldsBadProof` of wal_theorem/specs/Instance,
+-- by `IsBadProof` of wal_evidence)
 abbrev pub HasRefuters : Rules → World → BlobId → Type 0
 HasRefuters r w id =
     (refuters : ℕ → Bool) × (w.log.f + 1 ≤ count_below (committee_size w.log.f) refuters)
-    × ((s : ℕ) → s < committee_size w.log.f → refuters s ≡ true → (is_correct (writing_side w) w s ≡ true) × r.Refutes id (held (side_of (writing_side w) w) s id))
+    × ((s : ℕ) → s < committee_size w.log.f → refuters s ≡ true
+    → (is_correct (writing_side w) w s ≡ true)
+    × r.Refutes id (held (side_of (writing_side w) w) s id))
 
--- JUST: while each committee so far has had at most f faulty shards (`few`), what is declared invalid is refuted
+-- JUST: while each committee so far has had at most f faulty shards (`few`), what is declared
+-- invalid is refuted
 abbrev pub IsJust : Rules → World → Event → Line → World → Type 0
-IsJust r old (Attest shard id) (line.Attest s i (attesting.Invalid count)) new = new.few ≡ true → HasRefuters r new id
+IsJust r old (Attest shard id) (line.Attest s i (attesting.Invalid count)) new =
+    new.few ≡ true → HasRefuters r new id
 IsJust r old _ _ new = Unit {0}
 
--- THE SAFE RUN of a schedule: the states after the first one, and the lines. That each run is safe is proved in wal_theorem (`every_run`)
-pub record IsSafe (r : Rules) (schedule : Schedule) (states : List World) (lines : List Line) : Type 0 where
-  -- two reads agree: all completed answers for one blob are the same bytes, or all are rejections; for any number of faulty shards
+-- THE SAFE RUN of a schedule: the states after the first one, and the lines. That each run is safe
+-- is proved in wal_theorem (`every_run`)
+pub record IsSafe (r : Rules) (schedule : Schedule)
+    (states : List World) (lines : List Line) : Type 0 where
+  -- two reads agree: all completed answers for one blob are the same bytes, or all are rejections;
+  -- for any number of faulty shards
   pub agree : Agree lines
-  -- a sliver that a correct shard recovered has the committed root, by a metadata that it holds; for any number of faulty shards
+  -- a sliver that a correct shard recovered has the committed root, by a metadata that it holds;
+  -- for any number of faulty shards
   pub committed : EachStep (IsCommitted r) (first_state schedule) schedule.events states lines
-  -- while no committee so far has had more than f faulty shards, more than f correct shards are settled for each certified blob
+  -- while no committee so far has had more than f faulty shards, more than f correct shards are
+  -- settled for each certified blob
   pub kept : All IsKept (first_state schedule ∷ states)
-  -- while that is so, a read of a certified blob that hears every correct shard of its committee completes, or shows a collision
+  -- while that is so, a read of a certified blob that hears every correct shard of its committee
+  -- completes, or shows a collision
   pub complete : EachStep IsComplete (first_state schedule) schedule.events states lines
-  -- while that is so, a blob that is declared invalid is refuted by more than f correct shards that hold a proof against it
+  -- while that is so, a blob that is declared invalid is refuted by more than f correct shards that
+  -- hold a proof against it
   pub just : EachStep (IsJust r) (first_state schedule) schedule.events states lines
 
--- more than f settled shards of the home committee are heard; to a shard that recovers its sliver each sends its metadata, its symbol of that
--- sliver and its proof (`IsReplyOf` in Step)
+-- more than f settled shards of the home committee are heard; to a shard that recovers its sliver
+-- each sends its metadata, its symbol of that sliver and its proof (`IsReplyOf` in Step)
 abbrev pub HearsSettled : World → BlobId → List Reply → Type 0
 HearsSettled w id replies =
     let home = home_of w.log id in
     (heard : ℕ → Bool) × (w.log.f + 1 ≤ count_below (committee_size w.log.f) heard)
-    × ((s : ℕ) → s < committee_size w.log.f → heard s ≡ true → (is_correct home w s ≡ true) × (settled_in (side_of home w) id s ≡ true) × Contains replies (reply.True home s))
+    × ((s : ℕ) → s < committee_size w.log.f → heard s ≡ true
+    → (is_correct home w s ≡ true) × (settled_in (side_of home w) id s ≡ true)
+    × Contains replies (reply.True home s))
 
 -- a quorum of correct shards, of either side, that hold secondary slivers are heard
 abbrev pub HearsSecondary : World → BlobId → List Reply → Type 0
 HearsSecondary w id replies =
     (heard : ℕ → Bool) × (quorum_size w.log.f ≤ count_below (committee_size w.log.f) heard)
     × ((s : ℕ) → s < committee_size w.log.f → heard s ≡ true
-    → (side : Side) × (is_correct side w s ≡ true) × (is_some (held (side_of side w) s id).secondary ≡ true) × Contains replies (reply.True side s))
+    → (side : Side) × (is_correct side w s ≡ true)
+    × (is_some (held (side_of side w) s id).secondary ≡ true)
+    × Contains replies (reply.True side s))
 
 -- the line shows a sliver, or that it is badly encoded by the replies' symbols, or a collision
 abbrev pub IsDecided : Line → Type 0
@@ -120,11 +151,13 @@ abbrev pub IsSettling : Line → Type 0
 IsSettling (line.Recover s a i recovering.Proof) = Unit {0}
 IsSettling said = IsDecided said
 
--- RECOVERIES COMPLETE: a correct shard that recovers its sliver of a live blob from enough replies gets it, or learns that the blob is
--- badly encoded
+-- RECOVERIES COMPLETE: a correct shard that recovers its sliver of a live blob from enough replies
+-- gets it, or learns that the blob is badly encoded
 abbrev pub IsRecoveryComplete : World → Event → Line → World → Type 0
 IsRecoveryComplete old (Recover at shard Secondary id replies) said new =
-    is_correct at old shard ≡ true → is_live old.log id ≡ true → HearsSettled old id replies → IsSettling said
+    is_correct at old shard ≡ true → is_live old.log id ≡ true → HearsSettled old id replies
+    → IsSettling said
 IsRecoveryComplete old (Recover at shard Primary id replies) said new =
-    is_correct at old shard ≡ true → is_live old.log id ≡ true → HearsSecondary old id replies → IsDecided said
+    is_correct at old shard ≡ true → is_live old.log id ≡ true → HearsSecondary old id replies
+    → IsDecided said
 IsRecoveryComplete old _ said new = Unit {0}

@@ -1,4 +1,5 @@
--- A state of the world: the ledger, what the shards of each committee hold, and the first completed answers.
+-- A state of the world: the ledger, what the shards of each committee hold, and the first completed
+-- answers.
 use Rattle.std.specs.Prelude.{ℕ, Bool, true, cond, not, ◌&&◌, List, [], slice_index_or, slice_set}
 use Rattle.std.specs.FinMap as map
 use Rattle.wal_shape.specs.declared.metadata.BlobId.{BlobId}
@@ -17,8 +18,8 @@ use Rattle.wal_shard.specs.Holding.{settled}
 use Rattle.wal_protocol.specs.declared.first.First.{First}
 use Rattle.wal_protocol.specs.declared.first.First.TheVariants.{Judged, Written}
 
--- one committee: its faulty shards, and what each shard holds, by its number. A faulty shard keeps and says what it likes: nothing
--- stands for it here
+-- one committee: its faulty shards, and what each shard holds, by its number. A faulty shard keeps
+-- and says what it likes: nothing stands for it here
 pub record Committee : Type 0 where
   pub faulty : List ℕ
   pub shards : List Contents
@@ -27,9 +28,10 @@ pub record Committee : Type 0 where
 abbrev pub nobody : Committee
 nobody = record { faulty = []; shards = [] }
 
--- the format in which blobs are written, the ledger, the committee that serves and the next one, which is nobody while the epoch does
--- not change, whether each committee so far has had at most f faulty shards, and the first completed answer for each blob
--- (`few` is the bound on faulty shards under which `IsSafe` promises that blobs are kept, reads complete and only bad blobs are invalid)
+-- the format in which blobs are written, the ledger, the committee that serves and the next one,
+-- which is nobody while the epoch does not change, whether each committee so far has had at most f
+-- faulty shards, and the first completed answer for each blob (`few` is the bound on faulty shards
+-- under which `IsSafe` promises that blobs are kept, reads complete and only bad blobs are invalid)
 pub record World : Type 0 where
   pub format : Format
   pub log : Log
@@ -97,4 +99,5 @@ verdict_of (Written bytes) = Bytes bytes
 
 -- the first completed answers once this one completed: a first one stays
 abbrev pub answered : map.FinMap id_cmp First → BlobId → First → map.FinMap id_cmp First
-answered answers id answer = cond (map.contains_key answers id) answers (map.insert answers id answer)
+answered answers id answer =
+    cond (map.contains_key answers id) answers (map.insert answers id answer)

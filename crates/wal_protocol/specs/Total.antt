@@ -1,5 +1,6 @@
--- What a step of the world needs of the crates below so that every event has one: their answers are there, and what contradicts
--- itself collides. Nothing here says how an answer is found, so 'there' means that it is impossible that there is none.
+-- What a step of the world needs of the crates below so that every event has one: their answers are
+-- there, and what contradicts itself collides. Nothing here says how an answer is found, so 'there'
+-- means that it is impossible that there is none.
 use Rattle.std.specs.Prelude.{ℕ, ◌<◌, List, slice_index, All}
 use Rattle.wal_event.specs.declared.event.Event.{Event}
 use Rattle.wal_event.specs.declared.event.Event.TheVariants.{Write, Send, Read, Recover}

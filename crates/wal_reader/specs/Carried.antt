@@ -27,11 +27,13 @@ opening_for id axis index _ = []
 
 -- the openings of a sliver of this identifier that payloads carry, in order
 abbrev pub openings_in : List ℕ → Axis → ℕ → List (List ℕ) → List single.Opening
-openings_in id axis index payloads = flat_map (λ payload. opening_for id axis index (read_of payload)) payloads
+openings_in id axis index payloads =
+    flat_map (λ payload. opening_for id axis index (read_of payload)) payloads
 
 -- the opening that a frame carries, with its target, where it is one of this identifier
 abbrev pub claim_for : List ℕ → Result Frame FrameError → List Claim
-claim_for id (Ok (Opening i a k o)) = if pointwise nat_eq i id then (record { axis = a; index = k; opening = o }) ∷ [] else []
+claim_for id (Ok (Opening i a k o)) =
+    if pointwise nat_eq i id then (record { axis = a; index = k; opening = o }) ∷ [] else []
 claim_for id _ = []
 
 -- the openings of this identifier that payloads carry, with their targets, in order
@@ -40,7 +42,8 @@ claims_in id payloads = flat_map (λ payload. claim_for id (read_of payload)) pa
 
 -- the opening of a claim, where its target is the sliver of this axis and index
 abbrev pub opening_at : Axis → ℕ → Claim → List single.Opening
-opening_at axis index claim = if same_axis claim.axis axis && nat_eq claim.index index then claim.opening ∷ [] else []
+opening_at axis index claim =
+    if same_axis claim.axis axis && nat_eq claim.index index then claim.opening ∷ [] else []
 
 -- no payload carries anything of this kind
 abbrev pub NoneIn : {X : Type 0} → (List ℕ → X → Type 0) → List (List ℕ) → Type 0
@@ -49,7 +52,8 @@ NoneIn {X} Carries payloads = All (λ payload. (x : X) → Carries payload x →
 -- x is what the first payload carries that carries anything of this kind
 abbrev pub IsFirst : {X : Type 0} → (List ℕ → X → Type 0) → List (List ℕ) → X → Type 0
 IsFirst Carries payloads x =
-    (front : List (List ℕ)) × (payload : List ℕ) × (back : List (List ℕ)) × (payloads ≡ front ++ payload ∷ back) × Carries payload x × NoneIn Carries front
+    (front : List (List ℕ)) × (payload : List ℕ) × (back : List (List ℕ))
+    × (payloads ≡ front ++ payload ∷ back) × Carries payload x × NoneIn Carries front
 
 -- the payload is the frame of a proof of this identifier
 abbrev pub CarriesProof : List ℕ → List ℕ → EncodingProof → Type 0
@@ -64,7 +68,8 @@ abbrev pub IsFirstProof : List ℕ → List (List ℕ) → EncodingProof → Typ
 IsFirstProof id payloads p = IsFirst (CarriesProof id) payloads p
 
 -- the payload is the frame of a proof of this identifier that is bad for m
-abbrev pub CarriesBadProof : (List ℕ → List ℕ) → List ℕ → BlobMetadata → List ℕ → EncodingProof → Type 0
+abbrev pub CarriesBadProof : (List ℕ → List ℕ) → List ℕ → BlobMetadata → List ℕ → EncodingProof
+    → Type 0
 CarriesBadProof digest id m payload p = CarriesProof id payload p × IsBadProof digest m p
 
 -- no payload carries one
@@ -72,18 +77,24 @@ abbrev pub NoBadProof : (List ℕ → List ℕ) → List ℕ → BlobMetadata �
 NoBadProof digest id m payloads = NoneIn (CarriesBadProof digest id m) payloads
 
 -- p is the first one that payloads carry
-abbrev pub IsFirstBadProof : (List ℕ → List ℕ) → List ℕ → BlobMetadata → List (List ℕ) → EncodingProof → Type 0
+abbrev pub IsFirstBadProof : (List ℕ → List ℕ) → List ℕ → BlobMetadata → List (List ℕ)
+    → EncodingProof → Type 0
 IsFirstBadProof digest id m payloads p = IsFirst (CarriesBadProof digest id m) payloads p
 
 -- the payload is the frame of a sliver of this identifier, axis and index that m commits
-abbrev pub CarriesHeldSliver : (List ℕ → List ℕ) → List ℕ → BlobMetadata → Axis → ℕ → List ℕ → List ℕ → Type 0
+abbrev pub CarriesHeldSliver : (List ℕ → List ℕ) → List ℕ → BlobMetadata → Axis → ℕ → List ℕ
+    → List ℕ → Type 0
 CarriesHeldSliver digest id m axis index payload bytes =
     (read_of payload ≡ Ok (Sliver id axis index bytes)) × HoldsSliver digest m axis index bytes
 
 -- no payload carries one
-abbrev pub NoHeldSliver : (List ℕ → List ℕ) → List ℕ → BlobMetadata → Axis → ℕ → List (List ℕ) → Type 0
-NoHeldSliver digest id m axis index payloads = NoneIn (CarriesHeldSliver digest id m axis index) payloads
+abbrev pub NoHeldSliver : (List ℕ → List ℕ) → List ℕ → BlobMetadata → Axis → ℕ → List (List ℕ)
+    → Type 0
+NoHeldSliver digest id m axis index payloads =
+    NoneIn (CarriesHeldSliver digest id m axis index) payloads
 
 -- these are the bytes of the first one that payloads carry
-abbrev pub IsFirstHeldSliver : (List ℕ → List ℕ) → List ℕ → BlobMetadata → Axis → ℕ → List (List ℕ) → List ℕ → Type 0
-IsFirstHeldSliver digest id m axis index payloads bytes = IsFirst (CarriesHeldSliver digest id m axis index) payloads bytes
+abbrev pub IsFirstHeldSliver : (List ℕ → List ℕ) → List ℕ → BlobMetadata → Axis → ℕ → List (List ℕ)
+    → List ℕ → Type 0
+IsFirstHeldSliver digest id m axis index payloads bytes =
+    IsFirst (CarriesHeldSliver digest id m axis index) payloads bytes

@@ -11,10 +11,12 @@ abbrev pub Finds : (List ℕ → List ℕ) → List ℕ → List (List ℕ) → 
 Finds digest id payloads Absent = (m : BlobMetadata) → HasMetadata digest id payloads m → ⊥
 Finds digest id payloads (One m) = IsMetadataIn digest id payloads (metadata_shown m)
 Finds digest id payloads (Two a b) =
-    HasMetadata digest id payloads (metadata_shown a) × HasMetadata digest id payloads (metadata_shown b) × (metadata_shown a ≢ metadata_shown b)
+    HasMetadata digest id payloads (metadata_shown a)
+    × HasMetadata digest id payloads (metadata_shown b) × (metadata_shown a ≢ metadata_shown b)
 
 -- of two that differ, the first one, and the first that differs from it
 abbrev pub AreFirst : (List ℕ → List ℕ) → List ℕ → List (List ℕ) → FoundMetadata → Type 0
 AreFirst digest id payloads Absent = ⊤
 AreFirst digest id payloads (One m) = ⊤
-AreFirst digest id payloads (Two a b) = AreFirstTwo digest id payloads (metadata_shown a) (metadata_shown b)
+AreFirst digest id payloads (Two a b) =
+    AreFirstTwo digest id payloads (metadata_shown a) (metadata_shown b)

@@ -23,13 +23,16 @@ CarriesNoPart id payload =
 -- the parts are the payloads without those that carry neither
 pub data Sifts (id : List ℕ) : List (List ℕ) → List (List ℕ) → Type 0 where
   none : Sifts id [] []
-  kept : (payload : List ℕ) (parts payloads : List (List ℕ)) → (CarriesNoPart id payload → ⊥) → Sifts id parts payloads
+  kept : (payload : List ℕ) (parts payloads : List (List ℕ)) → (CarriesNoPart id payload → ⊥)
+      → Sifts id parts payloads
       → Sifts id (payload ∷ parts) (payload ∷ payloads)
-  dropped : (payload : List ℕ) (parts payloads : List (List ℕ)) → CarriesNoPart id payload → Sifts id parts payloads
+  dropped : (payload : List ℕ) (parts payloads : List (List ℕ)) → CarriesNoPart id payload
+      → Sifts id parts payloads
       → Sifts id parts (payload ∷ payloads)
 
 -- the first bad proof, where there is one
-abbrev pub IsProofFound : (List ℕ → List ℕ) → List ℕ → BlobMetadata → List (List ℕ) → Option EncodingProof → Type 0
+abbrev pub IsProofFound : (List ℕ → List ℕ) → List ℕ → BlobMetadata → List (List ℕ)
+    → Option EncodingProof → Type 0
 IsProofFound digest id m payloads (Some p) = IsFirstBadProof digest id m payloads p
 IsProofFound digest id m payloads None = NoBadProof digest id m payloads
 
@@ -37,23 +40,32 @@ IsProofFound digest id m payloads None = NoBadProof digest id m payloads
 abbrev pub IsEnough : Known → Type 0
 IsEnough k = length k.collected.indices.items ≡ row_count k.metadata.f
 
--- what is kept for a metadata: the first held slivers, and as long as they are too few, the first bad proof
-pub record HasParts (digest : List ℕ → List ℕ) (id : List ℕ) (k : Known) (payloads : List (List ℕ)) : Type 0 where
+-- what is kept for a metadata: the first held slivers, and as long as they are too few, the first
+-- bad proof
+pub record HasParts (digest : List ℕ → List ℕ) (id : List ℕ)
+    (k : Known) (payloads : List (List ℕ)) : Type 0 where
   pub f : k.work.f ≡ k.metadata.f
-  pub slivers : Collects digest id k.metadata payloads k.collected.indices.items k.collected.joined.items
-  pub proof : length k.collected.indices.items < row_count k.metadata.f → IsProofFound digest id k.metadata payloads k.proof
+  pub slivers : Collects digest id k.metadata payloads
+      k.collected.indices.items k.collected.joined.items
+  pub proof : length k.collected.indices.items < row_count k.metadata.f
+      → IsProofFound digest id k.metadata payloads k.proof
 
 -- it is kept for the one metadata that the payloads carry, which is their first
 abbrev pub HasKnown : (List ℕ → List ℕ) → List ℕ → Known → List (List ℕ) → Type 0
-HasKnown digest id k payloads = IsMetadataIn digest id payloads k.metadata × HasParts digest id k payloads × IsFirstMetadata digest id payloads k.metadata
+HasKnown digest id k payloads =
+    IsMetadataIn digest id payloads k.metadata × HasParts digest id k payloads
+    × IsFirstMetadata digest id payloads k.metadata
 
--- what is kept of payloads: the parts as long as there is no metadata; what is held for the one that there is; or two texts
--- of one digest, where there are two that differ: of the first one, and the first that differs from it
+-- what is kept of payloads: the parts as long as there is no metadata; what is held for the one
+-- that there is; or two texts of one digest, where there are two that differ: of the first one, and
+-- the first that differs from it
 abbrev pub HasKept : (List ℕ → List ℕ) → List ℕ → Kept → List (List ℕ) → Type 0
-HasKept digest id (Waiting parts) payloads = ((m : BlobMetadata) → HasMetadata digest id payloads m → ⊥) × Sifts id parts.items payloads
+HasKept digest id (Waiting parts) payloads =
+    ((m : BlobMetadata) → HasMetadata digest id payloads m → ⊥) × Sifts id parts.items payloads
 HasKept digest id (One k) payloads = HasKnown digest id k payloads
 HasKept digest id (Two clash) payloads =
-    (a : BlobMetadata) × (b : BlobMetadata) × AreFirstTwo digest id payloads a b × IsCollision digest clash.left clash.right
+    (a : BlobMetadata) × (b : BlobMetadata) × AreFirstTwo digest id payloads a b
+    × IsCollision digest clash.left clash.right
     × AreDigestedFor digest a b clash.left clash.right
 
 -- enough slivers are held, or two metadata differ

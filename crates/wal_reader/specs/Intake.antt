@@ -5,8 +5,9 @@ use Rattle.wal_frame.specs.Front.{IsPart, IsWrong}
 use Rattle.wal_frame.specs.Stream.{IsPayload, IsStream}
 use Rattle.wal_reader.specs.Heard.{HeardState, HasHeard}
 
--- what was heard of the payloads of whole envelopes, how many bytes were taken, where the envelope begins that is not all there,
--- its bytes, for how many there is room, and how many are missing of one that is read past
+-- what was heard of the payloads of whole envelopes, how many bytes were taken, where the envelope
+-- begins that is not all there, its bytes, for how many there is room, and how many are missing of
+-- one that is read past
 pub record IntakeState : Type 0 where
   pub heard : HeardState
   pub taken : ℕ
@@ -34,20 +35,25 @@ pub record IsWrongAt (place : ℕ) (stream : List ℕ) : Type 0 where
 abbrev pub AreBytes : List ℕ → Type 0
 AreBytes bytes = All (λ b. b < 256) bytes
 
--- with any so many bytes more the part of an envelope is whole, and what was heard is as if its payload had been heard
+-- with any so many bytes more the part of an envelope is whole, and what was heard is as if its
+-- payload had been heard
 abbrev pub ReadsPast : (List ℕ → List ℕ) → List ℕ → HeardState → List (List ℕ) → ℕ → List ℕ → Type 0
 ReadsPast digest id heard payloads missing rest =
     (more : List ℕ) → length more ≡ missing
-    → (sender : ℕ) × (payload : List ℕ) × IsPayload payload × (rest ++ more ≡ envelope sender payload)
+    → (sender : ℕ) × (payload : List ℕ) × IsPayload payload
+    × (rest ++ more ≡ envelope sender payload)
     × (AreBytes more → HasHeard digest id heard (payloads ++ payload ∷ []))
 
 -- the part of an envelope is kept, or it is read past
-pub data KeepsPart (digest : List ℕ → List ℕ) (id : List ℕ) (i : IntakeState) (payloads : List (List ℕ)) (rest : List ℕ) : Type 0 where
+pub data KeepsPart (digest : List ℕ → List ℕ) (id : List ℕ) (i : IntakeState)
+    (payloads : List (List ℕ)) (rest : List ℕ) : Type 0 where
   kept : i.missing ≡ 0 → rest ≡ i.kept → KeepsPart digest id i payloads rest
-  past : 0 < i.missing → i.kept ≡ [] → ReadsPast digest id i.heard payloads i.missing rest → KeepsPart digest id i payloads rest
+  past : 0 < i.missing → i.kept ≡ [] → ReadsPast digest id i.heard payloads i.missing rest
+      → KeepsPart digest id i payloads rest
 
 -- the stream was taken
-pub record StandsAt (digest : List ℕ → List ℕ) (id : List ℕ) (i : IntakeState) (stream : List ℕ) : Type 0 where
+pub record StandsAt (digest : List ℕ → List ℕ) (id : List ℕ)
+    (i : IntakeState) (stream : List ℕ) : Type 0 where
   pub payloads : List (List ℕ)
   pub front : List ℕ
   pub rest : List ℕ

@@ -6,9 +6,11 @@ use Rattle.wal_reader.specs.Outcome.{HasEnough, HasMetadata, IsMetadataIn}
 -- two metadata of the identifier differ
 abbrev pub HasTwo : (List ℕ → List ℕ) → List ℕ → List (List ℕ) → Type 0
 HasTwo digest id payloads =
-    (a : BlobMetadata) × (b : BlobMetadata) × HasMetadata digest id payloads a × HasMetadata digest id payloads b × (a ≢ b)
+    (a : BlobMetadata) × (b : BlobMetadata) × HasMetadata digest id payloads a
+    × HasMetadata digest id payloads b × (a ≢ b)
 
 -- two metadata differ, or there is one with enough slivers
 abbrev pub IsSettled : (List ℕ → List ℕ) → List ℕ → List (List ℕ) → Type 0
 IsSettled digest id payloads =
-    HasTwo digest id payloads ⊎ ((m : BlobMetadata) × IsMetadataIn digest id payloads m × HasEnough digest id m payloads)
+    HasTwo digest id payloads
+    ⊎ ((m : BlobMetadata) × IsMetadataIn digest id payloads m × HasEnough digest id m payloads)

@@ -29,10 +29,15 @@ abbrev pub fault_of : Result (Unit {0}) FeedError → Option FeedError
 fault_of (Ok done) = None
 fault_of (Err e) = Some e
 
--- what comes of a piece that makes this stream: the reader stands for it, and it is right so far; or its cause is there
-abbrev pub Feeds : (List ℕ → List ℕ) → List ℕ → ReaderState → List ℕ → Result (Unit {0}) FeedError → Type 0
-Feeds digest id new stream (Ok done) = StandsFor digest id new stream × (length stream ≤ 134217728) × ((place : ℕ) → IsWrongAt place stream → ⊥)
-Feeds digest id new stream (Err (feed.Malformed place)) = IsWrongAt place stream × (length stream ≤ 134217728)
+-- what comes of a piece that makes this stream: the reader stands for it, and it is right so far;
+-- or its cause is there
+abbrev pub Feeds : (List ℕ → List ℕ) → List ℕ → ReaderState → List ℕ → Result (Unit {0}) FeedError
+    → Type 0
+Feeds digest id new stream (Ok done) =
+    StandsFor digest id new stream × (length stream ≤ 134217728)
+    × ((place : ℕ) → IsWrongAt place stream → ⊥)
+Feeds digest id new stream (Err (feed.Malformed place)) =
+    IsWrongAt place stream × (length stream ≤ 134217728)
 Feeds digest id new stream (Err feed.TooLong) = 134217728 < length stream
 Feeds digest id new stream (Err feed.Memory) = length stream ≤ 134217728
 
@@ -43,14 +48,18 @@ finish_error feed.TooLong = finish.TooLong
 finish_error feed.Memory = finish.Memory
 
 -- it is the answer of a read of the payloads of the whole stream
-pub record IsStreamRead (digest : List ℕ → List ℕ) (id stream : List ℕ) (answer : ReadAnswer) : Type 0 where
+pub record IsStreamRead (digest : List ℕ → List ℕ)
+    (id stream : List ℕ) (answer : ReadAnswer) : Type 0 where
   pub payloads : List (List ℕ)
   pub whole : IsStream payloads stream
   pub is : IsAnswer digest id payloads answer
-  pub enough : (m : BlobMetadata) → IsMetadataIn digest id payloads m → HasEnough digest id m payloads → IsVerdict answer.outcome
+  pub enough : (m : BlobMetadata) → IsMetadataIn digest id payloads m
+      → HasEnough digest id m payloads → IsVerdict answer.outcome
 
--- what comes of the whole stream: an answer, or the place where it is cut, or memory ran out, where it is not cut
-abbrev pub FinishesStream : (List ℕ → List ℕ) → List ℕ → List ℕ → Result ReadAnswer FinishError → Type 0
+-- what comes of the whole stream: an answer, or the place where it is cut, or memory ran out, where
+-- it is not cut
+abbrev pub FinishesStream : (List ℕ → List ℕ) → List ℕ → List ℕ → Result ReadAnswer FinishError
+    → Type 0
 FinishesStream digest id stream (Ok answer) = IsStreamRead digest id stream answer
 FinishesStream digest id stream (Err (finish.Malformed place)) = IsMalformed place stream
 FinishesStream digest id stream (Err finish.TooLong) = ⊥

@@ -12,7 +12,8 @@ use wal_matrix::Work;
 use wal_shape::{BlobId, MetaRef, Payloads, ProofRef};
 use wal_tree::Hash32;
 
-/// The first proof of this identifier that the payloads carry, whatever a check of it says. Takes no memory.
+/// The first proof of this identifier that the payloads carry, whatever a check of it says. Takes
+/// no memory.
 pub fn proof_in<'a>(id: &BlobId, payloads: &'a Payloads) -> Option<ProofRef<'a>>
     ensures first { IfSome result (λ p. IsFirstProof id.now.0 payloads.now (proof_shown p)) }
     ensures proof { IfSome result (λ p. IsProof (proof_shown p)) }
@@ -34,9 +35,11 @@ pub(crate) fn bad_proof_of<'a, H: Hash32>(
     payload: &'a [u8],
 ) -> Option<ProofRef<'a>>
     requires { work.old.f ≡ (metadata_shown m).f }
-    ensures some { IfSome result (λ p. CarriesBadProof H.digest id.now.0 (metadata_shown m.entry) payload.now (proof_shown p)) }
+    ensures some { IfSome result (λ p.
+        CarriesBadProof H.digest id.now.0 (metadata_shown m.entry) payload.now (proof_shown p)) }
     ensures proof { IfSome result (λ p. IsProof (proof_shown p)) }
-    ensures none { IfNone result ((p : EncodingProof) → CarriesBadProof H.digest id.now.0 (metadata_shown m.entry) payload.now p → ⊥) }
+    ensures none { IfNone result ((p : EncodingProof)
+        → CarriesBadProof H.digest id.now.0 (metadata_shown m.entry) payload.now p → ⊥) }
     ensures f { work.new.f ≡ work.old.f }
 {
     match proof_of(id, payload) {
@@ -51,7 +54,8 @@ pub(crate) fn bad_proof_of<'a, H: Hash32>(
     }
 }
 
-/// The first proof of this identifier that the payloads carry and that is bad for the metadata. Takes no memory.
+/// The first proof of this identifier that the payloads carry and that is bad for the metadata.
+/// Takes no memory.
 pub fn bad_proof_in<'a, H: Hash32>(
     work: &mut Work,
     id: &BlobId,
@@ -59,9 +63,11 @@ pub fn bad_proof_in<'a, H: Hash32>(
     payloads: &'a Payloads,
 ) -> Option<ProofRef<'a>>
     requires { work.old.f ≡ (metadata_shown m).f }
-    ensures first { IfSome result (λ p. IsFirstBadProof H.digest id.now.0 (metadata_shown m.entry) payloads.now (proof_shown p)) }
+    ensures first { IfSome result (λ p.
+        IsFirstBadProof H.digest id.now.0 (metadata_shown m.entry) payloads.now (proof_shown p)) }
     ensures proof { IfSome result (λ p. IsProof (proof_shown p)) }
-    ensures none { IfNone result (NoBadProof H.digest id.now.0 (metadata_shown m.entry) payloads.now) }
+    ensures none { IfNone result
+        (NoBadProof H.digest id.now.0 (metadata_shown m.entry) payloads.now) }
     ensures f { work.new.f ≡ work.old.f }
 {
     for payload in payloads.as_slice() {

@@ -26,9 +26,11 @@ pub(crate) fn metadata_of(payload: &[u8]) -> Option<MetaRef<'_>>
 
 /// The sliver of this identifier and axis that the payload carries.
 pub(crate) fn sliver_of<'a>(id: &BlobId, axis: Axis, payload: &'a [u8]) -> Option<SliverRef<'a>>
-    ensures some { IfSome result (λ sliver. read_of payload.now ≡ Ok (Sliver id.now.0 axis sliver.index sliver.bytes.now)) }
+    ensures some { IfSome result
+        (λ sliver. read_of payload.now ≡ Ok (Sliver id.now.0 axis sliver.index sliver.bytes.now)) }
     ensures axis { IfSome result (λ sliver. sliver.axis ≡ axis) }
-    ensures none { IfNone result ((index : ℕ) (bytes : List ℕ) → read_of payload.now ≡ Ok (Sliver id.now.0 axis index bytes) → ⊥) }
+    ensures none { IfNone result ((index : ℕ) (bytes : List ℕ)
+        → read_of payload.now ≡ Ok (Sliver id.now.0 axis index bytes) → ⊥) }
 {
     match read_frame(payload) {
         Ok(FrameRef::Sliver { id: other, sliver }) => {
@@ -87,7 +89,8 @@ pub(crate) fn opening_of<'a>(
     index: u16,
     payload: &'a [u8],
 ) -> Option<OpeningRef<'a>>
-    ensures some { IfSome result (λ o. opening_for id.now.0 axis index (read_of payload.now) ≡ opening_shown o ∷ []) }
+    ensures some { IfSome result
+        (λ o. opening_for id.now.0 axis index (read_of payload.now) ≡ opening_shown o ∷ []) }
     ensures whole { IfSome result (λ o. length o.path.now % 32 ≡ 0) }
     ensures none { IfNone result (opening_for id.now.0 axis index (read_of payload.now) ≡ []) }
 {

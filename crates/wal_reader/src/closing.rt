@@ -56,7 +56,8 @@ fn from_proof<H: Hash32>(
 /// The answer for the one metadata.
 fn answer_one<H: Hash32>(alloc: Global, known: Known) -> Result<ReadAnswer, AllocError>
     requires { (id : List ℕ) × (payloads : List (List ℕ)) × HasKnown H.digest id known payloads }
-    ensures { (id : List ℕ) (payloads : List (List ℕ)) → HasKnown H.digest id known payloads → IfOk result (IsAnswer H.digest id payloads) }
+    ensures { (id : List ℕ) (payloads : List (List ℕ)) → HasKnown H.digest id known payloads
+        → IfOk result (IsAnswer H.digest id payloads) }
 {
     let Known {
         metadata,
@@ -78,7 +79,8 @@ fn answer_one<H: Hash32>(alloc: Global, known: Known) -> Result<ReadAnswer, Allo
 /// The answer for the payloads that this was kept of.
 pub(crate) fn answer_kept<H: Hash32>(alloc: Global, kept: Kept) -> Result<ReadAnswer, AllocError>
     requires { (id : List ℕ) × (payloads : List (List ℕ)) × HasKept H.digest id kept payloads }
-    ensures { (id : List ℕ) (payloads : List (List ℕ)) → HasKept H.digest id kept payloads → IfOk result (IsAnswer H.digest id payloads) }
+    ensures { (id : List ℕ) (payloads : List (List ℕ)) → HasKept H.digest id kept payloads
+        → IfOk result (IsAnswer H.digest id payloads) }
 {
     match kept {
         Kept::Waiting(_) => Ok(without_evidence(Outcome::NoMetadata)),

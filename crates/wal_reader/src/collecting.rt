@@ -28,8 +28,8 @@ fn is_known(indices: &[u16], index: u16) -> bool
     indices.contains(&index)
 }
 
-/// Whether this sliver is to be taken: more are needed, its index is new, and the metadata commits it. The length is looked
-/// at before the bytes, so that no more is done than the sliver is long.
+/// Whether this sliver is to be taken: more are needed, its index is new, and the metadata commits
+/// it. The length is looked at before the bytes, so that no more is done than the sliver is long.
 fn is_wanted<H: Hash32>(
     work: &mut Work,
     m: MetaRef<'_>,
@@ -37,8 +37,11 @@ fn is_wanted<H: Hash32>(
     indices: &[u16],
 ) -> bool
     requires { work.old.f ≡ (metadata_shown m).f }
-    ensures wanted { IsTrue result ↔ ((length indices.now < row_count (metadata_shown m.entry).f) × (Contains indices.now sliver.now.index → ⊥)
-        × HoldsSliver H.digest (metadata_shown m.entry) Primary sliver.now.index sliver.now.bytes.now) }
+    ensures wanted { IsTrue result
+        ↔ ((length indices.now < row_count (metadata_shown m.entry).f)
+        × (Contains indices.now sliver.now.index → ⊥)
+        × HoldsSliver H.digest (metadata_shown m.entry)
+        Primary sliver.now.index sliver.now.bytes.now) }
     ensures f { work.new.f ≡ work.old.f }
 {
     indices.len() <= m.f() as usize
@@ -56,8 +59,11 @@ pub(crate) fn add_sliver<H: Hash32>(
     collected: &mut Collected,
 ) -> Result<(), AllocError>
     requires { work.old.f ≡ (metadata_shown m).f }
-    ensures added { (payloads : List (List ℕ)) → Collects H.digest id.now.0 (metadata_shown m.entry) payloads collected.old.indices.items collected.old.joined.items
-        → OnOk result (Collects H.digest id.now.0 (metadata_shown m.entry) (payloads ++ payload.now ∷ []) collected.new.indices.items collected.new.joined.items) }
+    ensures added { (payloads : List (List ℕ))
+        → Collects H.digest id.now.0 (metadata_shown m.entry) payloads
+        collected.old.indices.items collected.old.joined.items
+        → OnOk result (Collects H.digest id.now.0 (metadata_shown m.entry)
+        (payloads ++ payload.now ∷ []) collected.new.indices.items collected.new.joined.items) }
     ensures f { work.new.f ≡ work.old.f }
 {
     if let Some(sliver) = sliver_of(id, Axis::Primary, payload) {
@@ -69,7 +75,8 @@ pub(crate) fn add_sliver<H: Hash32>(
     Ok(())
 }
 
-/// Collects the held primary slivers, in order, the first of each index, up to as many as are needed.
+/// Collects the held primary slivers, in order, the first of each index, up to as many as are
+/// needed.
 pub(crate) fn collect<H: Hash32>(
     alloc: Global,
     work: &mut Work,
@@ -78,7 +85,9 @@ pub(crate) fn collect<H: Hash32>(
     payloads: &[Bytes],
 ) -> Result<Collected, AllocError>
     requires { work.old.f ≡ (metadata_shown m).f }
-    ensures collects { IfOk result (λ c. Collects H.digest id.now.0 (metadata_shown m.entry) payloads.now c.indices.items c.joined.items) }
+    ensures collects { IfOk result
+        (λ c. Collects H.digest id.now.0 (metadata_shown m.entry)
+        payloads.now c.indices.items c.joined.items) }
     ensures f { work.new.f ≡ work.old.f }
 {
     let need = m.f() as usize + 1;

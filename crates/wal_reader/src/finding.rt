@@ -24,8 +24,10 @@ pub enum FoundMetadata<'a> {
 
 /// The metadata that the payload carries, where the identifier commits it.
 pub(crate) fn committed_in<'a, H: Hash32>(id: &BlobId, payload: &'a [u8]) -> Option<MetaRef<'a>>
-    ensures some { IfSome result (λ m. CarriesMetadata H.digest id.now.0 (metadata_shown m) payload.now) }
-    ensures none { IfNone result ((m : BlobMetadata) → CarriesMetadata H.digest id.now.0 m payload.now → ⊥) }
+    ensures some { IfSome result
+        (λ m. CarriesMetadata H.digest id.now.0 (metadata_shown m) payload.now) }
+    ensures none { IfNone result
+        ((m : BlobMetadata) → CarriesMetadata H.digest id.now.0 m payload.now → ⊥) }
 {
     match metadata_of(payload) {
         Some(m) => {
@@ -45,9 +47,11 @@ pub(crate) fn other_in<'a, H: Hash32>(
     payload: &'a [u8],
     m: MetaRef<'_>,
 ) -> Option<MetaRef<'a>>
-    ensures some { IfSome result (λ other. CarriesMetadata H.digest id.now.0 (metadata_shown other) payload.now) }
+    ensures some { IfSome result
+        (λ other. CarriesMetadata H.digest id.now.0 (metadata_shown other) payload.now) }
     ensures apart { IfSome result (λ other. metadata_shown other ≢ metadata_shown m.entry) }
-    ensures none { IfNone result ((other : BlobMetadata) → CarriesMetadata H.digest id.now.0 other payload.now → other ≡ metadata_shown m.entry) }
+    ensures none { IfNone result ((other : BlobMetadata)
+        → CarriesMetadata H.digest id.now.0 other payload.now → other ≡ metadata_shown m.entry) }
 {
     match metadata_of(payload) {
         Some(other) => {
@@ -63,8 +67,10 @@ pub(crate) fn other_in<'a, H: Hash32>(
 
 /// The first metadata that the identifier commits.
 fn first_metadata<'a, H: Hash32>(id: &BlobId, payloads: &'a [Bytes]) -> Option<MetaRef<'a>>
-    ensures some { IfSome result (λ m. IsFirstMetadata H.digest id.now.0 payloads.now (metadata_shown m)) }
-    ensures none { IfNone result ((m : BlobMetadata) → HasMetadata H.digest id.now.0 payloads.now m → ⊥) }
+    ensures some { IfSome result
+        (λ m. IsFirstMetadata H.digest id.now.0 payloads.now (metadata_shown m)) }
+    ensures none { IfNone result
+        ((m : BlobMetadata) → HasMetadata H.digest id.now.0 payloads.now m → ⊥) }
 {
     for payload in payloads {
         if let Some(m) = committed_in::<H>(id, payload.as_slice()) {
@@ -80,8 +86,11 @@ fn other_metadata<'a, H: Hash32>(
     payloads: &'a [Bytes],
     m: MetaRef<'_>,
 ) -> Option<MetaRef<'a>>
-    ensures some { IfSome result (λ other. IsFirstOther H.digest id.now.0 payloads.now (metadata_shown m.entry) (metadata_shown other)) }
-    ensures none { IfNone result ((other : BlobMetadata) → HasMetadata H.digest id.now.0 payloads.now other → other ≡ metadata_shown m.entry) }
+    ensures some { IfSome result
+        (λ other. IsFirstOther H.digest id.now.0 payloads.now
+        (metadata_shown m.entry) (metadata_shown other)) }
+    ensures none { IfNone result ((other : BlobMetadata)
+        → HasMetadata H.digest id.now.0 payloads.now other → other ≡ metadata_shown m.entry) }
 {
     for payload in payloads {
         if let Some(other) = other_in::<H>(id, payload.as_slice(), m) {
@@ -91,8 +100,8 @@ fn other_metadata<'a, H: Hash32>(
     None
 }
 
-/// The metadata that the identifier commits among the payloads. Payloads that carry others are passed over. Takes no
-/// memory.
+/// The metadata that the identifier commits among the payloads. Payloads that carry others are
+/// passed over. Takes no memory.
 pub fn metadata_in<'a, H: Hash32>(id: &BlobId, payloads: &'a Payloads) -> FoundMetadata<'a>
     ensures found { Finds H.digest id.now.0 payloads.now result }
     // Which two, where there are more.

@@ -46,9 +46,11 @@ impl<H: Hash32> Heard<H> {
         }
     }
 
-    /// Hears one payload more. What cannot matter is dropped. Once this is settled, it takes no memory.
+    /// Hears one payload more. What cannot matter is dropped. Once this is settled, it takes no
+    /// memory.
     pub(crate) fn hear(&mut self, alloc: Global, payload: &[u8]) -> Result<(), AllocError>
-        ensures heard { (id : List ℕ) (payloads : List (List ℕ)) → HasHeard H.digest id self.old payloads
+        ensures heard { (id : List ℕ) (payloads : List (List ℕ))
+            → HasHeard H.digest id self.old payloads
             → OnOk result (HasHeard H.digest id self.new (payloads ++ payload.now ∷ [])) }
         ensures memory { IsSettledState self.old → IsOk result × IsSettledState self.new }
     {
@@ -57,10 +59,12 @@ impl<H: Hash32> Heard<H> {
         Ok(())
     }
 
-    /// Whether no payload changes the answer from now on, but for another metadata of the identifier.
+    /// Whether no payload changes the answer from now on, but for another metadata of the
+    /// identifier.
     pub(crate) fn is_settled(&self) -> bool
         ensures value { IsTrue result ↔ IsSettledState self.now }
-        ensures settled { (id : List ℕ) (payloads : List (List ℕ)) → HasHeard H.digest id self.now payloads
+        ensures settled { (id : List ℕ) (payloads : List (List ℕ))
+            → HasHeard H.digest id self.now payloads
             → (IsTrue result ↔ IsSettled H.digest id payloads) }
     {
         self.kept.is_settled()
@@ -70,7 +74,8 @@ impl<H: Hash32> Heard<H> {
     pub(crate) fn most(&self) -> u64
         ensures least { 64012 ≤ result }
         ensures settled { IsSettledState self.now → result ≡ 64012 }
-        ensures past { (id : List ℕ) (payloads : List (List ℕ)) (payload : List ℕ) → HasHeard H.digest id self.now payloads
+        ensures past { (id : List ℕ) (payloads : List (List ℕ)) (payload : List ℕ)
+            → HasHeard H.digest id self.now payloads
             → All (λ b. b < 256) payload → length payload < 2 ^ 32 → result < length payload
             → HasHeard H.digest id self.now (payloads ++ payload ∷ []) }
     {
@@ -79,7 +84,8 @@ impl<H: Hash32> Heard<H> {
 
     /// The answer that `read` gives for the payloads.
     pub(crate) fn answer(self, alloc: Global) -> Result<ReadAnswer, AllocError>
-        ensures { (id : List ℕ) (payloads : List (List ℕ)) → HasHeard H.digest id self payloads → IfOk result (IsAnswer H.digest id payloads) }
+        ensures { (id : List ℕ) (payloads : List (List ℕ)) → HasHeard H.digest id self payloads
+            → IfOk result (IsAnswer H.digest id payloads) }
     {
         answer_kept::<H>(alloc, self.kept)
     }

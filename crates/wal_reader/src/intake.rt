@@ -80,7 +80,8 @@ fn hear_whole<H: Hash32>(
 
 /// The answer from what was heard.
 fn answer_of<H: Hash32>(alloc: Global, heard: Heard<H>) -> Result<ReadAnswer, FinishError>
-    ensures answer { (id : List ℕ) (payloads : List (List ℕ)) → HasHeard H.digest id heard payloads → IfOk result (IsAnswer H.digest id payloads) }
+    ensures answer { (id : List ℕ) (payloads : List (List ℕ)) → HasHeard H.digest id heard payloads
+        → IfOk result (IsAnswer H.digest id payloads) }
     ensures memory { IfErr result (λ e. e ≡ finish.Memory) }
 {
     match heard.answer(alloc) {
@@ -107,7 +108,9 @@ impl<H: Hash32> Intake<H> {
 
     /// Whether the payload of the envelope that is kept is too long to matter.
     fn is_too_long(&self) -> bool
-        ensures too_long { result ≡ true → (7 ≤ length self.now.kept.items) × CannotMatter H.digest self.now.heard (stream.size_in self.now.kept.items) }
+        ensures too_long { result ≡ true
+            → (7 ≤ length self.now.kept.items)
+            × CannotMatter H.digest self.now.heard (stream.size_in self.now.kept.items) }
         ensures other { result ≡ false → HasRoom (shown self.now) }
     {
         self.kept.len() >= HEAD && u64::from(size_in(&self.kept)) > self.heard.most()
@@ -157,7 +160,8 @@ impl<H: Hash32> Intake<H> {
         requires limit { self.old.taken + length piece.now ≤ 134217728 }
         requires first { slice_index (self.old.kept.items ++ piece.now) 0 ≡ 0x57 }
         requires room { HasRoom (shown self.old) }
-        ensures moves { IfOk result (λ left. Moves H.digest (shown self.old) (shown self.new) piece.now left.now) }
+        ensures moves { IfOk result
+            (λ left. Moves H.digest (shown self.old) (shown self.new) piece.now left.now) }
         ensures memory { IsSettledState self.old.heard → IsOk result }
     {
         let count = lacking(&self.kept).min(piece.len() as u64);
@@ -179,10 +183,12 @@ impl<H: Hash32> Intake<H> {
         requires kept { self.old.missing ≡ 0 }
         requires limit { self.old.taken + 7 + length payload.now ≤ 134217728 }
         requires fits { stream.IsPayload payload.now }
-        ensures takes { OnOk result ((sender : ℕ) → Takes H.digest (shown self.old) (shown self.new) (envelope sender payload.now)) }
+        ensures takes { OnOk result ((sender : ℕ)
+            → Takes H.digest (shown self.old) (shown self.new) (envelope sender payload.now)) }
         ensures count { OnOk result (self.new.taken ≡ self.old.taken + 7 + length payload.now) }
         ensures sound { OnOk result (IsSound (shown self.new)) }
-        ensures memory { IsSettledState self.old.heard → IsOk result × IsSettledState self.new.heard }
+        ensures memory { IsSettledState self.old.heard
+            → IsOk result × IsSettledState self.new.heard }
     {
         self.heard.hear(alloc, payload)?;
         self.taken += 7 + payload.len() as u64;
@@ -197,7 +203,8 @@ impl<H: Hash32> Intake<H> {
         requires kept { self.old.missing ≡ 0 }
         requires some { 0 < length piece.now }
         requires limit { self.old.taken + length piece.now ≤ 134217728 }
-        ensures moves { IfOk result (λ left. Moves H.digest (shown self.old) (shown self.new) piece.now left.now) }
+        ensures moves { IfOk result
+            (λ left. Moves H.digest (shown self.old) (shown self.new) piece.now left.now) }
         ensures refuses { IfErr result (Refuses H.digest (shown self.old) piece.now) }
     {
         match envelope(piece) {
@@ -215,7 +222,8 @@ impl<H: Hash32> Intake<H> {
         requires sound { IsSound (shown self.old) }
         requires some { 0 < length piece.now }
         requires limit { self.old.taken + length piece.now ≤ 134217728 }
-        ensures moves { IfOk result (λ left. Moves H.digest (shown self.old) (shown self.new) piece.now left.now) }
+        ensures moves { IfOk result
+            (λ left. Moves H.digest (shown self.old) (shown self.new) piece.now left.now) }
         ensures refuses { IfErr result (Refuses H.digest (shown self.old) piece.now) }
     {
         if self.missing > 0 {
@@ -252,15 +260,18 @@ impl<H: Hash32> Intake<H> {
     /// Whether no more than another metadata can change the answer.
     pub(crate) fn is_settled(&self) -> bool
         ensures value { IsTrue result ↔ IsSettledState self.now.heard }
-        ensures settled { (id : List ℕ) (stream : List ℕ) → StandsAt H.digest id (shown self.now) stream
-            → (payloads : List (List ℕ)) (front rest : List ℕ) → IsCut payloads front rest stream → (IsTrue result ↔ IsSettled H.digest id payloads) }
+        ensures settled { (id : List ℕ) (stream : List ℕ)
+            → StandsAt H.digest id (shown self.now) stream
+            → (payloads : List (List ℕ)) (front rest : List ℕ) → IsCut payloads front rest stream
+            → (IsTrue result ↔ IsSettled H.digest id payloads) }
     {
         self.heard.is_settled()
     }
 
     /// The answer of `read` over the payloads of the stream that was taken.
     pub(crate) fn finish(self, alloc: Global) -> Result<ReadAnswer, FinishError>
-        ensures finishes { (id : List ℕ) (stream : List ℕ) → StandsAt H.digest id (shown self) stream → FinishesStream H.digest id stream result }
+        ensures finishes { (id : List ℕ) (stream : List ℕ)
+            → StandsAt H.digest id (shown self) stream → FinishesStream H.digest id stream result }
         ensures short { result ≡ Err finish.TooLong → ⊥ }
     {
         let Intake {

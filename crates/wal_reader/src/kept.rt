@@ -56,7 +56,9 @@ fn after_none<H: Hash32>(
     parts: Vec<Bytes>,
     payload: &[u8],
 ) -> Result<Kept, AllocError>
-    ensures { (payloads : List (List ℕ)) → ((m : BlobMetadata) → HasMetadata H.digest id.now.0 payloads m → ⊥) → Sifts id.now.0 parts.items payloads
+    ensures { (payloads : List (List ℕ))
+        → ((m : BlobMetadata) → HasMetadata H.digest id.now.0 payloads m → ⊥)
+        → Sifts id.now.0 parts.items payloads
         → IfOk result (λ k. HasKept H.digest id.now.0 k (payloads ++ payload.now ∷ [])) }
 {
     match committed_in::<H>(id, payload) {

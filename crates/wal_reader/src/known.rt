@@ -12,7 +12,8 @@ use wal_matrix::Work;
 use wal_shape::{Axis, BadProof, BlobId, Bytes, MetaRef, Metadata};
 use wal_tree::Hash32;
 
-/// The metadata, its held primary slivers so far, and as long as these are too few, the first bad proof.
+/// The metadata, its held primary slivers so far, and as long as these are too few, the first bad
+/// proof.
 #[derive(Drop)]
 pub(crate) struct Known {
     pub(crate) metadata: Metadata,
@@ -25,7 +26,8 @@ pub(crate) struct Known {
 fn known_of(alloc: Global, m: MetaRef<'_>) -> Result<Known, AllocError>
     ensures metadata { IfOk result (λ k. k.metadata ≡ metadata_shown m.entry) }
     ensures f { IfOk result (λ k. k.work.f ≡ k.metadata.f) }
-    ensures nothing { IfOk result (λ k. (digest : List ℕ → List ℕ) (id : List ℕ) → HasParts digest id k []) }
+    ensures nothing { IfOk result
+        (λ k. (digest : List ℕ → List ℕ) (id : List ℕ) → HasParts digest id k []) }
 {
     let need = m.f() as usize + 1;
     let size = m.shape().sliver_len(Axis::Primary) as usize;
@@ -51,8 +53,11 @@ pub(crate) fn has_enough(known: &Known) -> bool
 /// Takes the sliver that the payload carries, where it is held and its index is new.
 fn take_sliver<H: Hash32>(id: &BlobId, known: &mut Known, payload: &[u8]) -> Result<(), AllocError>
     requires { known.old.work.f ≡ known.old.metadata.f }
-    ensures added { (payloads : List (List ℕ)) → Collects H.digest id.now.0 known.old.metadata payloads known.old.collected.indices.items known.old.collected.joined.items
-        → OnOk result (Collects H.digest id.now.0 known.old.metadata (payloads ++ payload.now ∷ []) known.new.collected.indices.items known.new.collected.joined.items) }
+    ensures added { (payloads : List (List ℕ))
+        → Collects H.digest id.now.0 known.old.metadata payloads
+        known.old.collected.indices.items known.old.collected.joined.items
+        → OnOk result (Collects H.digest id.now.0 known.old.metadata (payloads ++ payload.now ∷ [])
+        known.new.collected.indices.items known.new.collected.joined.items) }
     ensures metadata { known.new.metadata ≡ known.old.metadata }
     ensures f { known.new.work.f ≡ known.old.work.f }
     ensures proof { known.new.proof ≡ known.old.proof }
@@ -74,8 +79,10 @@ fn take_proof<H: Hash32>(
     payload: &[u8],
 ) -> Result<(), AllocError>
     requires { known.old.work.f ≡ known.old.metadata.f }
-    ensures found { (payloads : List (List ℕ)) → IsProofFound H.digest id.now.0 known.old.metadata payloads known.old.proof
-        → OnOk result (IsProofFound H.digest id.now.0 known.old.metadata (payloads ++ payload.now ∷ []) known.new.proof) }
+    ensures found { (payloads : List (List ℕ))
+        → IsProofFound H.digest id.now.0 known.old.metadata payloads known.old.proof
+        → OnOk result (IsProofFound H.digest id.now.0 known.old.metadata
+        (payloads ++ payload.now ∷ []) known.new.proof) }
     ensures metadata { known.new.metadata ≡ known.old.metadata }
     ensures f { known.new.work.f ≡ known.old.work.f }
     ensures collected { known.new.collected ≡ known.old.collected }
@@ -88,8 +95,8 @@ fn take_proof<H: Hash32>(
     Ok(())
 }
 
-/// Takes what the payload carries for the metadata. Takes no memory once enough slivers are held, and looks at no
-/// payload from then on.
+/// Takes what the payload carries for the metadata. Takes no memory once enough slivers are held,
+/// and looks at no payload from then on.
 pub(crate) fn take_part<H: Hash32>(
     alloc: Global,
     id: &BlobId,
@@ -122,7 +129,8 @@ pub(crate) fn known_from<H: Hash32>(
     parts: &[Bytes],
 ) -> Result<Known, AllocError>
     ensures metadata { IfOk result (λ k. k.metadata ≡ metadata_shown m.entry) }
-    ensures parts { (payloads : List (List ℕ)) → Sifts id.now.0 parts.now payloads → IfOk result (λ k. HasParts H.digest id.now.0 k payloads) }
+    ensures parts { (payloads : List (List ℕ)) → Sifts id.now.0 parts.now payloads
+        → IfOk result (λ k. HasParts H.digest id.now.0 k payloads) }
 {
     let mut known = known_of(alloc, m)?;
     for part in parts {

@@ -27,8 +27,11 @@ fn longest_part(m: MetaRef<'_>) -> u64
 fn longest_beside(known: &Known) -> u64
     ensures least { 64012 ≤ result }
     ensures enough { IsEnough known.now → result ≡ 64012 }
-    ensures past { (digest : List ℕ → List ℕ) (id : List ℕ) (payloads : List (List ℕ)) (payload : List ℕ) → HasKnown digest id known.now payloads
-        → All (λ b. b < 256) payload → result < length payload → HasKnown digest id known.now (payloads ++ payload ∷ []) }
+    ensures past { (digest : List ℕ → List ℕ) (id : List ℕ)
+        (payloads : List (List ℕ)) (payload : List ℕ)
+        → HasKnown digest id known.now payloads
+        → All (λ b. b < 256) payload → result < length payload
+        → HasKnown digest id known.now (payloads ++ payload ∷ []) }
 {
     if has_enough(known) {
         return LONGEST_METADATA;
@@ -40,8 +43,11 @@ fn longest_beside(known: &Known) -> u64
 pub(crate) fn most(kept: &Kept) -> u64
     ensures least { 64012 ≤ result }
     ensures settled { IsSettledKept kept.now → result ≡ 64012 }
-    ensures past { (digest : List ℕ → List ℕ) (id : List ℕ) (payloads : List (List ℕ)) (payload : List ℕ) → HasKept digest id kept.now payloads
-        → All (λ b. b < 256) payload → length payload < 2 ^ 32 → result < length payload → HasKept digest id kept.now (payloads ++ payload ∷ []) }
+    ensures past { (digest : List ℕ → List ℕ) (id : List ℕ)
+        (payloads : List (List ℕ)) (payload : List ℕ)
+        → HasKept digest id kept.now payloads
+        → All (λ b. b < 256) payload → length payload < 2 ^ 32 → result < length payload
+        → HasKept digest id kept.now (payloads ++ payload ∷ []) }
 {
     match kept {
         Kept::Waiting(_) => NO_LIMIT,

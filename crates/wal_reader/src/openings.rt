@@ -34,7 +34,8 @@ fn add_opening(
     payload: &[u8],
     openings: &mut Vec<Opening>,
 ) -> Result<(), AllocError>
-    ensures { OnOk result (openings.new.items ≡ openings.old.items ++ opening_for id.now.0 axis index (read_of payload.now)) }
+    ensures { OnOk result (openings.new.items
+        ≡ openings.old.items ++ opening_for id.now.0 axis index (read_of payload.now)) }
 {
     if let Some(opening) = opening_of(id, axis, index, payload) {
         openings.push(owned(alloc, opening)?)?;
@@ -42,8 +43,8 @@ fn add_opening(
     Ok(())
 }
 
-/// Copies of the openings of the sliver of this identifier, axis and index that the payloads carry, in order. Whether
-/// one holds is not looked at.
+/// Copies of the openings of the sliver of this identifier, axis and index that the payloads carry,
+/// in order. Whether one holds is not looked at.
 pub fn openings_in(
     alloc: Global,
     id: &BlobId,
@@ -67,7 +68,8 @@ fn add_claim(
     payload: &[u8],
     claims: &mut Vec<Claim>,
 ) -> Result<(), AllocError>
-    ensures { OnOk result (claims.new.items ≡ claims.old.items ++ claim_for id.now.0 (read_of payload.now)) }
+    ensures { OnOk result
+        (claims.new.items ≡ claims.old.items ++ claim_for id.now.0 (read_of payload.now)) }
 {
     if let Some(claim) = claim_of(id, payload) {
         claims.push(Claim {
@@ -79,8 +81,8 @@ fn add_claim(
     Ok(())
 }
 
-/// Copies of all openings of this identifier that the payloads carry, with their targets, in order. Whether one holds is
-/// not looked at.
+/// Copies of all openings of this identifier that the payloads carry, with their targets, in order.
+/// Whether one holds is not looked at.
 pub fn claims_in(alloc: Global, id: &BlobId, payloads: &Payloads) -> Result<Claims, AllocError>
     ensures { IfOk result (λ claims. claims ≡ claims_in id.now.0 payloads.now) }
 {
@@ -94,5 +96,6 @@ pub fn claims_in(alloc: Global, id: &BlobId, payloads: &Payloads) -> Result<Clai
 /// The openings of a sliver among payloads are those of the claims whose target it is.
 pub fn openings_are_claims()
     ensures { (id : List ℕ) (axis : Axis) (index : ℕ) (payloads : List (List ℕ))
-        → flat_map (opening_at axis index) (claims_in id payloads) ≡ openings_in id axis index payloads }
+        → flat_map (opening_at axis index) (claims_in id payloads)
+        ≡ openings_in id axis index payloads }
 {}

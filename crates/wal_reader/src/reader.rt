@@ -18,8 +18,9 @@ use wal_tree::Hash32;
 
 /// Reads a blob from a stream of envelopes that comes in pieces, as `read` does from its payloads.
 ///
-/// Once a metadata and as many slivers as are needed are there it is settled: no further piece wants memory, and only
-/// another metadata changes the answer. So it is once two metadata differ, and then nothing does.
+/// Once a metadata and as many slivers as are needed are there it is settled: no further piece
+/// wants memory, and only another metadata changes the answer. So it is once two metadata differ,
+/// and then nothing does.
 #[derive(Drop)]
 pub struct Reader<H: Hash32> {
     intake: Intake<H>,
@@ -54,7 +55,8 @@ impl<H: Hash32> Reader<H> {
     pub fn feed(&mut self, alloc: Global, piece: &[u8]) -> Result<(), FeedError>
         ensures failed { (e : FeedError) → self.old.failed ≡ Some e → result ≡ Err e }
         ensures fault { self.new.failed ≡ fault_of result }
-        ensures feeds { (id : List ℕ) (stream : List ℕ) → StandsFor H.digest id self.old stream → Feeds H.digest id self.new (stream ++ piece.now) result }
+        ensures feeds { (id : List ℕ) (stream : List ℕ) → StandsFor H.digest id self.old stream
+            → Feeds H.digest id self.new (stream ++ piece.now) result }
         ensures memory { IsSettledReader self.old → result ≡ Err feed.Memory → ⊥ }
     {
         if let Some(error) = self.failed {
@@ -73,7 +75,8 @@ impl<H: Hash32> Reader<H> {
     pub fn settled(&self) -> bool
         ensures value { IsTrue result ↔ IsSettledReader self.now }
         ensures settled { (id : List ℕ) (stream : List ℕ) → StandsFor H.digest id self.now stream
-            → (payloads : List (List ℕ)) (front rest : List ℕ) → IsCut payloads front rest stream → (IsTrue result ↔ IsSettled H.digest id payloads) }
+            → (payloads : List (List ℕ)) (front rest : List ℕ) → IsCut payloads front rest stream
+            → (IsTrue result ↔ IsSettled H.digest id payloads) }
     {
         match self.failed {
             Some(_) => false,
@@ -84,7 +87,8 @@ impl<H: Hash32> Reader<H> {
     /// The answer of `read` over the payloads of the stream.
     pub fn finish(self, alloc: Global) -> Result<ReadAnswer, FinishError>
         ensures failed { (e : FeedError) → self.failed ≡ Some e → result ≡ Err (finish_error e) }
-        ensures finishes { (id : List ℕ) (stream : List ℕ) → StandsFor H.digest id self stream → FinishesStream H.digest id stream result }
+        ensures finishes { (id : List ℕ) (stream : List ℕ) → StandsFor H.digest id self stream
+            → FinishesStream H.digest id stream result }
         ensures long { result ≡ Err finish.TooLong → self.failed ≡ Some feed.TooLong }
     {
         let Reader { intake, failed } = self;

@@ -52,7 +52,8 @@ pub(crate) fn judged<H: Hash32>(
     })
 }
 
-/// The answer where too few slivers are held: a rejection by the first bad proof, or the number of slivers.
+/// The answer where too few slivers are held: a rejection by the first bad proof, or the number of
+/// slivers.
 fn unsettled<H: Hash32>(
     alloc: Global,
     work: &mut Work,
@@ -90,7 +91,8 @@ fn settled<H: Hash32>(
 ) -> Result<ReadAnswer, AllocError>
     requires f { work.old.f ≡ (metadata_shown m).f }
     requires metadata { IsMetadataIn H.digest id.now.0 payloads.now (metadata_shown m) }
-    requires collects { Collects H.digest id.now.0 (metadata_shown m) payloads.now collected.indices.items collected.joined.items }
+    requires collects { Collects H.digest id.now.0 (metadata_shown m)
+        payloads.now collected.indices.items collected.joined.items }
     requires enough { row_count (metadata_shown m).f ≤ length collected.indices.items }
     ensures { IfOk result (IsAnswer H.digest id.now.0 payloads.now) }
 {
@@ -143,21 +145,26 @@ fn answer<H: Hash32>(
 
 /// Reads a blob from what shards sent (the Walrus paper, "Red Stuff", reading).
 ///
-/// Payloads that are no frames, or frames of another identifier or kind, are passed over, and so are slivers that the
-/// metadata does not commit and proofs that are not bad for it. The first case that applies over the whole list is the
-/// outcome: two metadata of the identifier differ; there is none; `f + 1` primary slivers of distinct indices hold, and
-/// the first of them are judged; a proof is bad, and the blob is rejected; there are fewer slivers.
+/// Payloads that are no frames, or frames of another identifier or kind, are passed over, and so
+/// are slivers that the metadata does not commit and proofs that are not bad for it. The first case
+/// that applies over the whole list is the outcome: two metadata of the identifier differ; there is
+/// none; `f + 1` primary slivers of distinct indices hold, and the first of them are judged; a
+/// proof is bad, and the blob is rejected; there are fewer slivers.
 pub fn read<H: Hash32>(
     alloc: Global,
     id: &BlobId,
     payloads: &Payloads,
 ) -> Result<ReadAnswer, AllocError>
-    ensures outcome { IfOk result (λ answer. IsOutcome H.digest id.now.0 payloads.now answer.outcome) }
+    ensures outcome { IfOk result
+        (λ answer. IsOutcome H.digest id.now.0 payloads.now answer.outcome) }
     // There is no other outcome; the texts of a collision are not compared.
-    ensures only { IfOk result (λ answer. (other : Outcome) → IsOutcome H.digest id.now.0 payloads.now other → SameOutcome other answer.outcome) }
-    ensures evidence { IfOk result (λ answer. HasEvidence H.digest id.now.0 payloads.now answer.outcome answer.evidence) }
+    ensures only { IfOk result (λ answer. (other : Outcome)
+        → IsOutcome H.digest id.now.0 payloads.now other → SameOutcome other answer.outcome) }
+    ensures evidence { IfOk result
+        (λ answer. HasEvidence H.digest id.now.0 payloads.now answer.outcome answer.evidence) }
     // One metadata and enough slivers lead to a verdict, whatever else the payloads are.
-    ensures enough { IfOk result (λ answer. (m : BlobMetadata) → IsMetadataIn H.digest id.now.0 payloads.now m
+    ensures enough { IfOk result
+        (λ answer. (m : BlobMetadata) → IsMetadataIn H.digest id.now.0 payloads.now m
         → HasEnough H.digest id.now.0 m payloads.now → IsVerdict answer.outcome) }
 {
     answer::<H>(alloc, id, payloads)

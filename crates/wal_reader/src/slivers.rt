@@ -27,7 +27,8 @@ fn is_held<H: Hash32>(
     sliver.index == index && sliver_holds::<H>(work, m, axis, index, sliver.bytes)
 }
 
-/// The sliver of this identifier, axis and index that the payload carries, where the metadata commits it.
+/// The sliver of this identifier, axis and index that the payload carries, where the metadata
+/// commits it.
 fn held_sliver_of<'a, H: Hash32>(
     work: &mut Work,
     id: &BlobId,
@@ -37,10 +38,14 @@ fn held_sliver_of<'a, H: Hash32>(
     payload: &'a [u8],
 ) -> Option<SliverRef<'a>>
     requires { work.old.f ≡ (metadata_shown m).f }
-    ensures some { IfSome result (λ s. CarriesHeldSliver H.digest id.now.0 (metadata_shown m.entry) axis index payload.now s.bytes.now) }
+    ensures some { IfSome result
+        (λ s. CarriesHeldSliver H.digest id.now.0
+        (metadata_shown m.entry) axis index payload.now s.bytes.now) }
     ensures axis { IfSome result (λ s. s.axis ≡ axis) }
     ensures index { IfSome result (λ s. s.index ≡ index) }
-    ensures none { IfNone result ((bytes : List ℕ) → CarriesHeldSliver H.digest id.now.0 (metadata_shown m.entry) axis index payload.now bytes → ⊥) }
+    ensures none { IfNone result ((bytes : List ℕ)
+        → CarriesHeldSliver H.digest id.now.0 (metadata_shown m.entry) axis index payload.now bytes
+        → ⊥) }
     ensures f { work.new.f ≡ work.old.f }
 {
     match sliver_of(id, axis, payload) {
@@ -55,8 +60,8 @@ fn held_sliver_of<'a, H: Hash32>(
     }
 }
 
-/// The first sliver of this identifier, axis and index that the payloads carry and that the metadata commits. Takes no
-/// memory.
+/// The first sliver of this identifier, axis and index that the payloads carry and that the
+/// metadata commits. Takes no memory.
 pub fn sliver_in<'a, H: Hash32>(
     work: &mut Work,
     id: &BlobId,
@@ -66,10 +71,13 @@ pub fn sliver_in<'a, H: Hash32>(
     payloads: &'a Payloads,
 ) -> Option<SliverRef<'a>>
     requires { work.old.f ≡ (metadata_shown m).f }
-    ensures first { IfSome result (λ s. IsFirstHeldSliver H.digest id.now.0 (metadata_shown m.entry) axis index payloads.now s.bytes.now) }
+    ensures first { IfSome result
+        (λ s. IsFirstHeldSliver H.digest id.now.0
+        (metadata_shown m.entry) axis index payloads.now s.bytes.now) }
     ensures axis { IfSome result (λ s. s.axis ≡ axis) }
     ensures index { IfSome result (λ s. s.index ≡ index) }
-    ensures none { IfNone result (NoHeldSliver H.digest id.now.0 (metadata_shown m.entry) axis index payloads.now) }
+    ensures none { IfNone result
+        (NoHeldSliver H.digest id.now.0 (metadata_shown m.entry) axis index payloads.now) }
     ensures f { work.new.f ≡ work.old.f }
 {
     for payload in payloads.as_slice() {

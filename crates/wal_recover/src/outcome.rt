@@ -9,7 +9,8 @@ pub enum Recovered {
     Sliver(Bytes),
     /// The openings that were taken are a proof that the blob's writer encoded wrongly.
     Inconsistent(BadProof),
-    /// The number of openings of distinct crosses that hold, where it is less than a sliver's number of symbols.
+    /// The number of openings of distinct crosses that hold, where it is less than a sliver's
+    /// number of symbols.
     Short(u32),
 }
 

@@ -30,9 +30,11 @@ fn settle<H: Hash32>(
     taken: Vec<Opening>,
 ) -> Result<Recovered, AllocError>
     requires f { work.old.f ≡ (metadata_shown m).f }
-    requires taken { AreTaken (HoldsOpening H.digest (metadata_shown m) axis index) (λ o. o.cross) (sliver_symbols axis (metadata_shown m).f) taken.items }
+    requires taken { AreTaken (HoldsOpening H.digest (metadata_shown m) axis index)
+        (λ o. o.cross) (sliver_symbols axis (metadata_shown m).f) taken.items }
     requires crosses { crosses.now ≡ crosses_of taken.items }
-    ensures comes { IfOk result (TakenComeTo H.digest (metadata_shown m.entry) axis index taken.items) }
+    ensures comes { IfOk result
+        (TakenComeTo H.digest (metadata_shown m.entry) axis index taken.items) }
     ensures f { work.new.f ≡ work.old.f }
 {
     let need = u32::from(symbol_count(&m.shape(), axis));
@@ -53,9 +55,10 @@ fn settle<H: Hash32>(
 
 /// Recovers the sliver of this axis and index (the Walrus paper, "Red Stuff", recovery).
 ///
-/// The first opening of each cross that holds is taken, in order, up to the number of symbols of a sliver. Where there are
-/// fewer, the answer is their number. Where the codeword through them has the metadata's root, it is the sliver; else the
-/// openings that were taken are a proof of bad encoding.
+/// The first opening of each cross that holds is taken, in order, up to the number of symbols of a
+/// sliver. Where there are fewer, the answer is their number. Where the codeword through them has
+/// the metadata's root, it is the sliver; else the openings that were taken are a proof of bad
+/// encoding.
 pub fn recover<H: Hash32>(
     alloc: Global,
     work: &mut Work,
@@ -65,17 +68,25 @@ pub fn recover<H: Hash32>(
     openings: &Openings,
 ) -> Result<Recovery, AllocError>
     requires { work.old.f ≡ (metadata_shown m).f }
-    ensures recovery { IfOk result (λ r. OpeningsComeTo H.digest (metadata_shown m.entry) axis index openings.now r.outcome) }
+    ensures recovery { IfOk result
+        (λ r. OpeningsComeTo H.digest (metadata_shown m.entry) axis index openings.now r.outcome) }
     // There is no other outcome.
-    ensures only { IfOk result (λ r. (other : Recovered) → OpeningsComeTo H.digest (metadata_shown m.entry) axis index openings.now other → other ≡ r.outcome) }
-    ensures taken { IfOk result (λ r. AreCrosses H.digest (metadata_shown m.entry) axis index openings.now r.taken) }
-    ensures count { IfOk result (λ r. IsCount axis (metadata_shown m.entry).f r.outcome (length r.taken)) }
+    ensures only { IfOk result (λ r. (other : Recovered)
+        → OpeningsComeTo H.digest (metadata_shown m.entry) axis index openings.now other
+        → other ≡ r.outcome) }
+    ensures taken { IfOk result
+        (λ r. AreCrosses H.digest (metadata_shown m.entry) axis index openings.now r.taken) }
+    ensures count { IfOk result
+        (λ r. IsCount axis (metadata_shown m.entry).f r.outcome (length r.taken)) }
     // A recovered sliver is the one that the metadata commits.
-    ensures committed { IfOk result (λ r. HasCommittedSliver H.digest (metadata_shown m.entry) axis index r.outcome) }
+    ensures committed { IfOk result
+        (λ r. HasCommittedSliver H.digest (metadata_shown m.entry) axis index r.outcome) }
     ensures f { work.new.f ≡ work.old.f }
-    // Of a committed blob: the sliver is the matrix's own, or another one though the metadata commits both; a proof has
-    // an opening that the metadata commits, though its symbol is not the matrix's.
-    ensures own { IfOk result (λ r. (blob matrix : List ℕ) → CommitsMatrix H.digest (metadata_shown m.entry) blob matrix
+    // Of a committed blob: the sliver is the matrix's own, or another one though the metadata
+    // commits both; a proof has an opening that the metadata commits, though its symbol is not the
+    // matrix's.
+    ensures own { IfOk result
+        (λ r. (blob matrix : List ℕ) → CommitsMatrix H.digest (metadata_shown m.entry) blob matrix
         → IsOwnOrFalse H.digest (metadata_shown m.entry) axis index matrix r.outcome) }
 {
     let most = symbol_count(&m.shape(), axis);

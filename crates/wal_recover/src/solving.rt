@@ -49,7 +49,8 @@ pub(crate) fn solved<H: Hash32>(
     requires f { work.old.f ≡ (metadata_shown m).f }
     requires enough { AreEnough H.digest (metadata_shown m) axis index openings.now }
     requires crosses { crosses.now ≡ crosses_of openings.now }
-    ensures comes { IfOk result (TakenComeTo H.digest (metadata_shown m.entry) axis index openings.now) }
+    ensures comes { IfOk result
+        (TakenComeTo H.digest (metadata_shown m.entry) axis index openings.now) }
     ensures f { work.new.f ≡ work.old.f }
 {
     let shape = m.shape();

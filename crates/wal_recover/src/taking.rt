@@ -23,7 +23,8 @@ struct Collected {
     seen: [bool; MOST_SHARDS],
 }
 
-/// Whether no opening of this cross was seen, and this one holds. Nothing is hashed for a cross that was seen.
+/// Whether no opening of this cross was seen, and this one holds. Nothing is hashed for a cross
+/// that was seen.
 fn is_new<H: Hash32>(
     m: MetaRef<'_>,
     axis: Axis,
@@ -34,7 +35,8 @@ fn is_new<H: Hash32>(
     requires { length seen.now ≡ 1000 }
     ensures new { IsTrue result ↔ ((IsTrue (slice_index_or seen.now opening.now.cross false) → ⊥)
         × HoldsOpening H.digest (metadata_shown m.entry) axis index opening.now) }
-    ensures small { HoldsOpening H.digest (metadata_shown m.entry) axis index opening.now → opening.now.cross < 1000 }
+    ensures small { HoldsOpening H.digest (metadata_shown m.entry) axis index opening.now
+        → opening.now.cross < 1000 }
 {
     let cross = opening.cross;
     u32::from(cross) < m.shape().n()
@@ -53,7 +55,8 @@ fn add_opening<H: Hash32>(
     collected: &mut Collected,
 ) -> Result<(), AllocError>
     requires { Marks collected.old.seen (crosses_of collected.old.taken.items) }
-    ensures added { OnOk result (Adds (GivesOpening H.digest (metadata_shown m.entry) axis index) (λ o. o.cross) most opening.now collected.old.taken.items collected.new.taken.items) }
+    ensures added { OnOk result (Adds (GivesOpening H.digest (metadata_shown m.entry) axis index)
+        (λ o. o.cross) most opening.now collected.old.taken.items collected.new.taken.items) }
     ensures marks { OnOk result (Marks collected.new.seen (crosses_of collected.new.taken.items)) }
 {
     if collected.taken.len() < most as usize
@@ -74,7 +77,8 @@ pub(crate) fn take_openings<H: Hash32>(
     most: u16,
     openings: &[Opening],
 ) -> Result<Vec<Opening>, AllocError>
-    ensures { IfOk result (λ v. Takes H.digest (metadata_shown m.entry) axis index openings.now most v.items) }
+    ensures { IfOk result
+        (λ v. Takes H.digest (metadata_shown m.entry) axis index openings.now most v.items) }
 {
     let mut collected = Collected {
         taken: Vec::new(alloc),

@@ -17,24 +17,32 @@ use Rattle.wal_run.specs.Command.{Command, Recorded, bare, envelopes_of}
 -- the first sliver of this axis that the payloads carry and that m commits for the shard
 abbrev pub IsOwnSliver : (List ℕ → List ℕ) → Audit → Recorded → Axis → List ℕ → Type 0
 IsOwnSliver digest a r axis bytes =
-    IsFirstHeldSliver digest a.id.0 r.metadata axis (held_index r.metadata.format r.metadata.f axis a.shard) r.payloads bytes
+    IsFirstHeldSliver digest a.id.0 r.metadata axis
+    (held_index r.metadata.format r.metadata.f axis a.shard) r.payloads bytes
 
 -- they carry none
 abbrev pub HasNoSliver : (List ℕ → List ℕ) → Audit → Recorded → Axis → Type 0
-HasNoSliver digest a r axis = NoHeldSliver digest a.id.0 r.metadata axis (held_index r.metadata.format r.metadata.f axis a.shard) r.payloads
+HasNoSliver digest a r axis =
+    NoHeldSliver digest a.id.0 r.metadata axis
+    (held_index r.metadata.format r.metadata.f axis a.shard) r.payloads
 
 -- the envelope of an opening from a shard
 abbrev pub claim_envelope : Audit → Claim → List ℕ
-claim_envelope a claim = envelope a.shard (frame_text (Opening a.id.0 claim.axis claim.index claim.opening))
+claim_envelope a claim =
+    envelope a.shard (frame_text (Opening a.id.0 claim.axis claim.index claim.opening))
 
 -- the envelopes of openings, each with the target of its draw
 abbrev pub answer_text : (List ℕ → List ℕ) → Audit → BlobMetadata → List single.Opening → List ℕ
-answer_text digest a m openings = flat_map (claim_envelope a) (claims_from digest m a.beacon a.shard 0 openings)
+answer_text digest a m openings =
+    flat_map (claim_envelope a) (claims_from digest m a.beacon a.shard 0 openings)
 
 -- these are the envelopes of what the shard answers to so many draws from its two slivers
-abbrev pub IsAnswerText : (List ℕ → List ℕ) → Audit → BlobMetadata → List ℕ → List ℕ → ℕ → List ℕ → Type 0
+abbrev pub IsAnswerText : (List ℕ → List ℕ) → Audit → BlobMetadata → List ℕ → List ℕ → ℕ → List ℕ
+    → Type 0
 IsAnswerText digest a m primary secondary count text =
-    (openings : List single.Opening) × AreAnswers digest m a.beacon a.shard count primary secondary openings × (text ≡ answer_text digest a m openings)
+    (openings : List single.Opening)
+    × AreAnswers digest m a.beacon a.shard count primary secondary openings
+    × (text ≡ answer_text digest a m openings)
 
 -- the shard is one of the blob's
 abbrev pub HasShard : Audit → Recorded → Type 0
@@ -47,7 +55,8 @@ LacksShard a r text = (shard_count r.metadata.f ≤ a.shard) × (text ≡ codes 
 -- what the shard answers to so many draws from its first slivers among the payloads
 abbrev pub AnswersDraws : (List ℕ → List ℕ) → Audit → Recorded → ℕ → List ℕ → Type 0
 AnswersDraws digest a r count text =
-    HasShard a r × (primary : List ℕ) × IsOwnSliver digest a r Primary primary × (secondary : List ℕ) × IsOwnSliver digest a r Secondary secondary
+    HasShard a r × (primary : List ℕ) × IsOwnSliver digest a r Primary primary
+    × (secondary : List ℕ) × IsOwnSliver digest a r Secondary secondary
     × IsAnswerText digest a r.metadata primary secondary count text
 
 -- ---- the command: what the shard answers from its slivers
@@ -58,7 +67,8 @@ challenging digest a = record (bare 134217728 (envelopes_of a.id)) {
   -- there is no such shard, or no such sliver of it, of which the primary one is looked for first
   Lacks = λ r text. LacksShard a r text
       ⊎ ((HasShard a r × HasNoSliver digest a r Primary × (text ≡ codes "no primary\n"))
-      ⊎ (HasShard a r × ((primary : List ℕ) × IsOwnSliver digest a r Primary primary) × HasNoSliver digest a r Secondary × (text ≡ codes "no secondary\n")));
+      ⊎ (HasShard a r × ((primary : List ℕ) × IsOwnSliver digest a r Primary primary)
+      × HasNoSliver digest a r Secondary × (text ≡ codes "no secondary\n")));
   -- whole envelopes for the first draws, which are not all
   Leaves = λ r text. (count : ℕ) × (count < a.count) × AnswersDraws digest a r count text;
   -- envelopes for the first draws, the last of which was being written

@@ -21,8 +21,10 @@ verdict_text Inconsistent = codes "inconsistent\n"
 abbrev pub checking : (List ℕ → List ℕ) → BlobId → Command
 checking digest id = record (bare 134217728 (envelopes_of id)) {
   -- that the blob was encoded badly
-  Rejects = λ r text. (p : EncodingProof) × IsFirstProof id.0 r.payloads p × IsBadProof digest r.metadata p × (text ≡ codes "inconsistent\n");
+  Rejects = λ r text. (p : EncodingProof) × IsFirstProof id.0 r.payloads p
+      × IsBadProof digest r.metadata p × (text ≡ codes "inconsistent\n");
   -- there is none, or it shows nothing, for this reason
   Lacks = λ r text. (NoProof id.0 r.payloads × (text ≡ codes "no proof\n"))
-      ⊎ ((p : EncodingProof) × IsFirstProof id.0 r.payloads p × (v : ProofVerdict) × Checks digest r.metadata p v × (v ≢ Inconsistent) × (text ≡ verdict_text v));
+      ⊎ ((p : EncodingProof) × IsFirstProof id.0 r.payloads p × (v : ProofVerdict)
+      × Checks digest r.metadata p v × (v ≢ Inconsistent) × (text ≡ verdict_text v));
 }

@@ -1,4 +1,5 @@
--- A COMMAND: how its input is spelled, and its results by status, each with what it shows and the text that tells it.
+-- A COMMAND: how its input is spelled, and its results by status, each with what it shows and the
+-- text that tells it.
 use Rattle.std.specs.Prelude.{◌≡◌, ◌⊎◌, ℕ, ◌+◌, ◌<◌, ◌≤◌, List, [], ◌++◌, length, codes, Option, IfSome, Ok, Err, ⊤}
 use Rattle.std.specs.Io.KnownBytes.{Consumes, IsAtEnd, Keeps}
 use Rattle.wal_shape.specs.declared.metadata.BlobId.{BlobId}
@@ -47,7 +48,8 @@ Content nothing = ⊤
 abbrev pub Spells : (List ℕ → List ℕ) → (g : Grammar) → List ℕ → Content g → Type 0
 Spells digest bytes input content = content ≡ input
 Spells digest envelopes input payloads = IsStream payloads input
-Spells digest (envelopes_of id) input r = IsStream r.payloads input × IsMetadataIn digest id.0 r.payloads r.metadata
+Spells digest (envelopes_of id) input r =
+    IsStream r.payloads input × IsMetadataIn digest id.0 r.payloads r.metadata
 Spells digest schedule input s = IsRead input (Ok s)
 Spells digest nothing input content = input ≡ []
 
@@ -76,17 +78,20 @@ Misspells nothing input text = ⊥
 -- 4: no payload carries a metadata of the identifier
 abbrev pub HasNone : (List ℕ → List ℕ) → Grammar → List ℕ → List ℕ → Type 0
 HasNone digest (envelopes_of id) input text =
-    (payloads : List (List ℕ)) × IsStream payloads input × ((m : BlobMetadata) → HasMetadata digest id.0 payloads m → ⊥)
+    (payloads : List (List ℕ)) × IsStream payloads input
+    × ((m : BlobMetadata) → HasMetadata digest id.0 payloads m → ⊥)
     × (text ≡ codes "no metadata\n")
 HasNone digest bytes input text = ⊥
 HasNone digest envelopes input text = ⊥
 HasNone digest schedule input text = ⊥
 HasNone digest nothing input text = ⊥
 
--- 10: two metadata of the identifier differ, the first one and the first that differs from it, and each text is digested for its own
+-- 10: two metadata of the identifier differ, the first one and the first that differs from it, and
+-- each text is digested for its own
 abbrev pub HasTwoMetadata : (List ℕ → List ℕ) → Grammar → List ℕ → List ℕ → List ℕ → Type 0
 HasTwoMetadata digest (envelopes_of id) input left right =
-    (payloads : List (List ℕ)) × IsStream payloads input × (a : BlobMetadata) × (b : BlobMetadata) × AreFirstTwo digest id.0 payloads a b
+    (payloads : List (List ℕ)) × IsStream payloads input × (a : BlobMetadata) × (b : BlobMetadata)
+    × AreFirstTwo digest id.0 payloads a b
     × AreDigestedFor digest a b left right
 HasTwoMetadata digest bytes input left right = ⊥
 HasTwoMetadata digest envelopes input left right = ⊥
@@ -110,9 +115,11 @@ pub record Command : Type 1 where
   pub Misreads : Content grammar → List ℕ → Type 0
   -- 10: these two texts have one digest, and this stands before the line that tells them
   pub Collides : Content grammar → List ℕ → List ℕ → List ℕ → Type 0
-  -- 5: what may stand written when memory ran out, but for nothing: by `MayLeave` a front of whatever the result is
+  -- 5: what may stand written when memory ran out, but for nothing: by `MayLeave` a front of
+  -- whatever the result is
   pub Leaves : Content grammar → List ℕ → Type 0
-  -- 7: what it may have been writing when the sink failed before the answer was known: by `MayOwe` a front of it up to a collision
+  -- 7: what it may have been writing when the sink failed before the answer was known: by `MayOwe`
+  -- a front of it up to a collision
   pub Owes : Content grammar → List ℕ → Type 0
 
 -- the most bytes of an input that is a blob, and of a schedule
@@ -136,8 +143,10 @@ bare limit grammar = record {
 -- ---- its result for an input
 
 -- the input spells something of which this is true
-abbrev pub Spelled : (List ℕ → List ℕ) → (c : Command) → List ℕ → (Content c.grammar → Type 0) → Type 0
-Spelled digest c input Is = (content : Content c.grammar) × Spells digest c.grammar input content × Is content
+abbrev pub Spelled : (List ℕ → List ℕ) → (c : Command) → List ℕ → (Content c.grammar → Type 0)
+    → Type 0
+Spelled digest c input Is =
+    (content : Content c.grammar) × Spells digest c.grammar input content × Is content
 
 -- the input comes to an answer with this text
 abbrev pub IsSuccess : (List ℕ → List ℕ) → Command → List ℕ → List ℕ → Type 0
@@ -149,39 +158,48 @@ IsRejection digest c input text = Spelled digest c input (λ content. c.Rejects 
 
 -- the input lacks something that the command needs, and this text says what
 abbrev pub IsLacking : (List ℕ → List ℕ) → Command → List ℕ → List ℕ → Type 0
-IsLacking digest c input text = HasNone digest c.grammar input text ⊎ Spelled digest c input (λ content. c.Lacks content text)
+IsLacking digest c input text =
+    HasNone digest c.grammar input text ⊎ Spelled digest c input (λ content. c.Lacks content text)
 
--- the input is not spelled as the grammar says, or what it spells cannot be read, and this text says where
+-- the input is not spelled as the grammar says, or what it spells cannot be read, and this text
+-- says where
 abbrev pub IsUnreadable : (List ℕ → List ℕ) → Command → List ℕ → List ℕ → Type 0
-IsUnreadable digest c input text = Misspells c.grammar input text ⊎ Spelled digest c input (λ content. c.Misreads content text)
+IsUnreadable digest c input text =
+    Misspells c.grammar input text ⊎ Spelled digest c input (λ content. c.Misreads content text)
 
 -- two texts collide, and this stands before them: nothing where two metadata differ
 abbrev pub ClashesBehind : (List ℕ → List ℕ) → List ℕ → List ℕ → Command → List ℕ → List ℕ → Type 0
 ClashesBehind digest left right c input front =
-    (HasTwoMetadata digest c.grammar input left right × (front ≡ [])) ⊎ Spelled digest c input (λ content. c.Collides content left right front)
+    (HasTwoMetadata digest c.grammar input left right × (front ≡ []))
+    ⊎ Spelled digest c input (λ content. c.Collides content left right front)
 
 -- the text ends with the line of the two texts
-pub record IsClash (digest : List ℕ → List ℕ) (left right : List ℕ) (c : Command) (input text : List ℕ) : Type 0 where
+pub record IsClash (digest : List ℕ → List ℕ) (left right : List ℕ)
+    (c : Command) (input text : List ℕ) : Type 0 where
   pub front : List ℕ
   pub clashes : ClashesBehind digest left right c input front
   pub whole : text ≡ front ++ collision_text left right
 
 -- THE STATUS AND THE TEXT for an input, a row for each status
-pub data IsResult (digest : List ℕ → List ℕ) (c : Command) (input : List ℕ) : ℕ → List ℕ → Type 0 where
+pub data IsResult (digest : List ℕ → List ℕ) (c : Command) (input : List ℕ) : ℕ → List ℕ
+    → Type 0 where
   success : (text : List ℕ) → IsSuccess digest c input text → IsResult digest c input 0 text
   rejection : (text : List ℕ) → IsRejection digest c input text → IsResult digest c input 3 text
   lacking : (text : List ℕ) → IsLacking digest c input text → IsResult digest c input 4 text
   unreadable : (text : List ℕ) → IsUnreadable digest c input text → IsResult digest c input 8 text
-  collision : (left right text : List ℕ) → IsCollision digest left right → IsClash digest left right c input text
+  collision : (left right text : List ℕ) → IsCollision digest left right
+      → IsClash digest left right c input text
       → IsResult digest c input 10 text
 
 -- the text is a front of the other
 abbrev pub IsFrontOf : List ℕ → List ℕ → Type 0
 IsFrontOf text whole = (rest : List ℕ) × (whole ≡ text ++ rest)
 
--- the same up to a collision: where both texts end with one, behind the same front, its two texts are not compared
+-- the same up to a collision: where both texts end with one, behind the same front, its two texts
+-- are not compared
 abbrev pub IsFrontUpToClash : Place → ℕ → List ℕ → List ℕ → Type 0
-IsFrontUpToClash place status text whole = IsFrontOf text whole ⊎ ((status ≡ 10) × SameFront place text whole)
+IsFrontUpToClash place status text whole =
+    IsFrontOf text whole ⊎ ((status ≡ 10) × SameFront place text whole)
 
 -- what it may leave written, which is a front of the result
 abbrev pub MayLeave : (List ℕ → List ℕ) → Command → List ℕ → List ℕ → Type 0
@@ -193,7 +211,8 @@ MayLeave digest c input text =
 abbrev pub MayOwe : (List ℕ → List ℕ) → Command → List ℕ → List ℕ → Type 0
 MayOwe digest c input text =
     Spelled digest c input (λ content. c.Owes content text)
-    × ((status : ℕ) (whole : List ℕ) → IsResult digest c input status whole → IsFrontUpToClash line status text whole)
+    × ((status : ℕ) (whole : List ℕ) → IsResult digest c input status whole
+    → IsFrontUpToClash line status text whole)
 
 -- ---- how its input is taken
 

@@ -20,7 +20,8 @@ shard_text id shape e shard =
 -- the envelope of the metadata from sender 0, and then those of each shard in turn
 abbrev pub all_envelopes : List ℕ → BlobMetadata → BlobShape → List ℕ → List ℕ
 all_envelopes id m shape e =
-    envelope 0 (metadata_frame m) ++ flat_map (shard_text id shape e) (range_with_len 0 (shard_count shape.f))
+    envelope 0 (metadata_frame m)
+    ++ flat_map (shard_text id shape e) (range_with_len 0 (shard_count shape.f))
 
 -- all envelopes of a blob of this shape whose extended matrix is e
 abbrev pub encoded_text : (List ℕ → List ℕ) → BlobShape → List ℕ → List ℕ

@@ -1,4 +1,5 @@
--- The command that answers requests for ranges of blobs, by the replies among the payloads before them.
+-- The command that answers requests for ranges of blobs, by the replies among the payloads before
+-- them.
 use Rattle.std.specs.Prelude.{◌≡◌, ℕ, Bool, true, false, List, [], ◌∷◌, ◌++◌, codes, cond}
 use Rattle.std.specs.List.{AllByRecursion, flat_map}
 use Rattle.wal_shape.specs.declared.text.MetaClash.{MetaClash}
@@ -32,7 +33,8 @@ is_collision (Collision clash) = true
 -- whether the blob was kept, and what was found; a collision is told alone
 abbrev pub answer_text : GetAnswer → List ℕ
 answer_text answer =
-    cond (is_collision answer.found) (found_text answer.found) (cond answer.hit (codes "hit ") (codes "miss ") ++ found_text answer.found)
+    cond (is_collision answer.found) (found_text answer.found)
+    (cond answer.hit (codes "hit ") (codes "miss ") ++ found_text answer.found)
 
 -- the lines of some answers, one after the other
 abbrev pub answers_text : List GetAnswer → List ℕ
@@ -45,10 +47,13 @@ GoOn answers = AllByRecursion (λ answer. is_collision answer.found ≡ false) a
 -- the requests among the payloads are answered so, and none of the answers is a collision
 abbrev pub AnswersRequests : (List ℕ → List ℕ) → ℕ → List (List ℕ) → List GetAnswer → Type 0
 AnswersRequests digest capacity payloads answers =
-    (kept : Cache) × AnswersAll digest (no_blobs capacity) (gets_in [] payloads) answers kept × GoOn answers
+    (kept : Cache) × AnswersAll digest (no_blobs capacity) (gets_in [] payloads) answers kept
+    × GoOn answers
 
--- the first requests among them are, none of the answers is a collision, and these are the gets of the others
-pub record AnswersFirst (digest : List ℕ → List ℕ) (capacity : ℕ) (payloads : List (List ℕ)) (answers : List GetAnswer) (rest : List Get) : Type 0 where
+-- the first requests among them are, none of the answers is a collision, and these are the gets of
+-- the others
+pub record AnswersFirst (digest : List ℕ → List ℕ) (capacity : ℕ)
+    (payloads : List (List ℕ)) (answers : List GetAnswer) (rest : List Get) : Type 0 where
   pub first : List Get
   pub parts : gets_in [] payloads ≡ first ++ rest
   pub kept : Cache
@@ -56,7 +61,8 @@ pub record AnswersFirst (digest : List ℕ → List ℕ) (capacity : ℕ) (paylo
   pub others : GoOn answers
 
 -- the first requests among them are, up to one whose answer is a collision in these texts
-pub record StopsAt (digest : List ℕ → List ℕ) (capacity : ℕ) (payloads : List (List ℕ)) (answers : List GetAnswer) (clash : MetaClash) : Type 0 where
+pub record StopsAt (digest : List ℕ → List ℕ) (capacity : ℕ) (payloads : List (List ℕ))
+    (answers : List GetAnswer) (clash : MetaClash) : Type 0 where
   pub first : List Get
   pub rest : List Get
   pub parts : gets_in [] payloads ≡ first ++ rest
@@ -71,13 +77,17 @@ pub record StopsAt (digest : List ℕ → List ℕ) (capacity : ℕ) (payloads :
 abbrev pub fetching : (List ℕ → List ℕ) → ℕ → Command
 fetching digest capacity = record (bare 134217728 envelopes) {
   -- the answers to all
-  Succeeds = λ payloads text. (answers : List GetAnswer) × AnswersRequests digest capacity payloads answers × (text ≡ answers_text answers);
+  Succeeds = λ payloads text. (answers : List GetAnswer)
+      × AnswersRequests digest capacity payloads answers × (text ≡ answers_text answers);
   -- those up to a collision, which is told behind them
-  Collides = λ payloads left right front. (answers : List GetAnswer) × (clash : MetaClash) × StopsAt digest capacity payloads answers clash
+  Collides = λ payloads left right front. (answers : List GetAnswer) × (clash : MetaClash)
+      × StopsAt digest capacity payloads answers clash
       × (left ≡ clash.left) × (right ≡ clash.right) × (front ≡ answers_text answers);
   -- the whole lines of the first, none of which is a collision, where another request follows
-  Leaves = λ payloads text. (answers : List GetAnswer) × (get : Get) × (rest : List Get) × AnswersFirst digest capacity payloads answers (get ∷ rest)
+  Leaves = λ payloads text. (answers : List GetAnswer) × (get : Get) × (rest : List Get)
+      × AnswersFirst digest capacity payloads answers (get ∷ rest)
       × (text ≡ answers_text answers);
   -- the lines of the first, the last of which was being written
-  Owes = λ payloads text. (answers : List GetAnswer) × (rest : List Get) × AnswersFirst digest capacity payloads answers rest × (text ≡ answers_text answers);
+  Owes = λ payloads text. (answers : List GetAnswer) × (rest : List Get)
+      × AnswersFirst digest capacity payloads answers rest × (text ≡ answers_text answers);
 }

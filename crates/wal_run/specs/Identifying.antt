@@ -8,5 +8,6 @@ use Rattle.wal_run.specs.Command.{Command, bare, bytes, most_input}
 -- the identifier in lower-case digits, and a newline
 abbrev pub identifying : (List ℕ → List ℕ) → ℕ → Format → Command
 identifying digest f format = record (bare most_input bytes) {
-  Succeeds = λ blob text. (id : List ℕ) × IsIdentifierOf digest format f blob id × (text ≡ encode_lower id ++ 10 ∷ []);
+  Succeeds = λ blob text. (id : List ℕ) × IsIdentifierOf digest format f blob id
+      × (text ≡ encode_lower id ++ 10 ∷ []);
 }

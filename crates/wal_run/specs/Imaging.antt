@@ -6,7 +6,8 @@ use Rattle.wal_journal.specs.Packing.{puts_of}
 use Rattle.wal_run.specs.Command.{Command, bare, envelopes}
 use Rattle.wal_run.specs.Lines.{number_text}
 
--- the bytes that the record of a change and the gate behind it need, of which the first gate is there already
+-- the bytes that the record of a change and the gate behind it need, of which the first gate is
+-- there already
 abbrev pub room_of : Call → ℕ
 room_of c = 1 + length (spelling c)
 
@@ -14,11 +15,13 @@ room_of c = 1 + length (spelling c)
 abbrev pub room_behind : ℕ → List Call → ℕ
 room_behind size changes = size - length (records changes) - 1
 
--- changes are recorded behind others, with a closed gate at their end; or what the first needs that does not fit, and what is free
+-- changes are recorded behind others, with a closed gate at their end; or what the first needs that
+-- does not fit, and what is free
 abbrev pub image_from : ℕ → List Call → List Call → Result (List ℕ) (ℕ × ℕ)
 image_from size first [] = Ok (records first ++ 0 ∷ [])
 image_from size first (c ∷ rest) =
-    if nat_lt (room_behind size first) (room_of c) then Err (room_of c, room_behind size first) else image_from size (first ++ c ∷ []) rest
+    if nat_lt (room_behind size first) (room_of c) then Err (room_of c, room_behind size first)
+    else image_from size (first ++ c ∷ []) rest
 
 -- THE IMAGE of changes on a disk of so many bytes, up to and with the closed gate
 abbrev pub image_of : ℕ → List Call → Result (List ℕ) (ℕ × ℕ)
@@ -26,12 +29,14 @@ image_of size changes = image_from size [] changes
 
 -- the bytes that the records need, and those that the image has left
 abbrev pub disk_full_text : ℕ → ℕ → List ℕ
-disk_full_text needed free = codes "disk full needed " ++ decimal needed ++ number_text (codes " free ") free
+disk_full_text needed free =
+    codes "disk full needed " ++ decimal needed ++ number_text (codes " free ") free
 
 -- the puts of the payloads, over nothing
 abbrev pub imaging : (List ℕ → List ℕ) → ℕ → Command
 imaging digest size = record (bare 134217728 envelopes) {
   Succeeds = λ payloads text. image_of size (puts_of digest no_contents payloads) ≡ Ok text;
-  Lacks = λ payloads text. (needed : ℕ) × (free : ℕ) × (image_of size (puts_of digest no_contents payloads) ≡ Err (needed, free))
+  Lacks = λ payloads text. (needed : ℕ) × (free : ℕ)
+      × (image_of size (puts_of digest no_contents payloads) ≡ Err (needed, free))
       × (text ≡ disk_full_text needed free);
 }

@@ -16,4 +16,5 @@ short_text have need = codes "short " ++ decimal have ++ number_text (codes " of
 
 -- two texts with one digest
 abbrev pub collision_text : List ℕ → List ℕ → List ℕ
-collision_text left right = codes "collision " ++ hex_text left ++ codes " " ++ hex_text right ++ codes "\n"
+collision_text left right =
+    codes "collision " ++ hex_text left ++ codes " " ++ hex_text right ++ codes "\n"

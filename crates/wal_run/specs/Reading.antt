@@ -15,9 +15,11 @@ reading digest id = record (bare 134217728 (envelopes_of id)) {
   -- the blob as it is
   Succeeds = λ r text. IsOutcome digest id.0 r.payloads (Bytes text);
   -- a rejection, with its evidence in the payloads
-  Rejects = λ r text. (e : Evidence) × IsOutcome digest id.0 r.payloads Reject × HasEvidence digest id.0 r.payloads Reject (Some e)
+  Rejects = λ r text. (e : Evidence) × IsOutcome digest id.0 r.payloads Reject
+      × HasEvidence digest id.0 r.payloads Reject (Some e)
       × (text ≡ codes "reject\n");
   -- held slivers: there are so many, and no bad proof
-  Lacks = λ r text. (have : ℕ) × HoldsFew digest id.0 r.metadata r.payloads have × NoBadProof digest id.0 r.metadata r.payloads
+  Lacks = λ r text. (have : ℕ) × HoldsFew digest id.0 r.metadata r.payloads have
+      × NoBadProof digest id.0 r.metadata r.payloads
       × (text ≡ short_text have (row_count r.metadata.f));
 }

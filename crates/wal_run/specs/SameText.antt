@@ -8,7 +8,8 @@ use Rattle.wal_words.specs.declared.task.Task.TheVariants.{Whole, Read, Serve, S
 use Rattle.wal_words.specs.Task.{IsTask}
 use Rattle.wal_run.specs.Lines.{collision_text}
 
--- where two texts of one digest are told: in the last line, or in the last frame of this shard, which serves
+-- where two texts of one digest are told: in the last line, or in the last frame of this shard,
+-- which serves
 pub data Place : Type 0 where
   line : Place
   frame : ℕ → Place
@@ -25,7 +26,8 @@ place_of (Whole task) = line
 place_of (Read id) = line
 place_of (Sample number) = line
 
--- this is where the task of these words tells them; where they ask for none, which tells no such texts, any place is
+-- this is where the task of these words tells them; where they ask for none, which tells no such
+-- texts, any place is
 abbrev pub IsPlaceOf : List (List ℕ) → Place → Type 0
 IsPlaceOf words place = (asked : Task) → IsTask words asked → place ≡ place_of asked
 

@@ -26,6 +26,9 @@ SumsUp digest number sum = (s : Schedule) × IsSample digest number s × IsSumme
 -- the summary of the run, or the collision with which it ends; no input is taken
 abbrev pub sampling : (List ℕ → List ℕ) → ℕ → Command
 sampling digest number = record (bare 0 nothing) {
-  Succeeds = λ none text. (s : Summary) × SumsUp digest number (summed.Whole s) × (text ≡ summary_text s);
-  Collides = λ none left right front. SumsUp digest number (summed.Collision (record { left = left; right = right })) × (front ≡ []);
+  Succeeds = λ none text. (s : Summary) × SumsUp digest number (summed.Whole s)
+      × (text ≡ summary_text s);
+  Collides = λ none left right front.
+      SumsUp digest number (summed.Collision (record { left = left; right = right }))
+      × (front ≡ []);
 }

@@ -41,19 +41,24 @@ end_status (Malformed place) = 8
 end_status TooLong = 9
 end_status (Collision clash) = 10
 
--- the status and the text where no fault ended serving: the answers to the whole envelopes of what was taken, which were steps of the
--- world
+-- the status and the text where no fault ended serving: the answers to the whole envelopes of what
+-- was taken, which were steps of the world
 abbrev pub IsServiceResult : (List ℕ → List ℕ) → Service → List ℕ → Type 0 → ℕ → List ℕ → Type 0
 IsServiceResult digest s taken AtEnd status text =
     (frames : List (List ℕ)) × (state : ServedState) × (end : ServeEnd)
-    × Serves (answering digest) (desk_room s.faults) serve_limit (at_start s) taken AtEnd ⊥ ⊥ frames state end
+    × Serves (answering digest) (desk_room s.faults)
+    serve_limit (at_start s) taken AtEnd ⊥ ⊥ frames state end
     × IsReached digest false (desk_room s.faults) serve_limit (at_start s) taken frames state end
     × (status ≡ end_status end) × (text ≡ sent s.shard frames)
 
--- how serving ended, by a fault or without: what was taken, answered and written, and that it was steps of the world
-abbrev pub EndsServing : (List ℕ → List ℕ) → Service → Option (List ℕ) → Option (List ℕ) → Type 0 → Option (List ℕ) → Option (List ℕ) → Type 0 → ℕ → Type 0
+-- how serving ended, by a fault or without: what was taken, answered and written, and that it was
+-- steps of the world
+abbrev pub EndsServing : (List ℕ → List ℕ) → Service → Option (List ℕ) → Option (List ℕ) → Type 0
+    → Option (List ℕ) → Option (List ℕ) → Type 0 → ℕ → Type 0
 EndsServing digest s left after SourceRose old new SinkRose status =
     (state : ServedState) × (end : ServeEnd)
-    × (run : IsServed (answering digest) (desk_room s.faults) serve_limit s.shard (at_start s) state left after SourceRose old new SinkRose end)
-    × IsReached digest false (desk_room s.faults) serve_limit (at_start s) run.taken run.frames state end
+    × (run : IsServed (answering digest) (desk_room s.faults) serve_limit
+    s.shard (at_start s) state left after SourceRose old new SinkRose end)
+    × IsReached digest false (desk_room s.faults)
+    serve_limit (at_start s) run.taken run.frames state end
     × (status ≡ end_status end)

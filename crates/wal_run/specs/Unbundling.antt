@@ -14,6 +14,8 @@ unbundling digest id k = record (bare 134217728 (envelopes_of id)) {
   -- the index is none
   Rejects = λ r text. IsMember digest id.0 k r.payloads BadIndex × (text ≡ codes "bad index\n");
   -- a column that is needed, or a member of this number
-  Lacks = λ r text. ((j : ℕ) × IsMember digest id.0 k r.payloads (Missing j) × (text ≡ number_text (codes "missing column ") j))
-      ⊎ ((count : ℕ) × IsMember digest id.0 k r.payloads (NoMember count) × (text ≡ number_text (codes "no member of ") count));
+  Lacks = λ r text. ((j : ℕ) × IsMember digest id.0 k r.payloads (Missing j)
+      × (text ≡ number_text (codes "missing column ") j))
+      ⊎ ((count : ℕ) × IsMember digest id.0 k r.payloads (NoMember count)
+      × (text ≡ number_text (codes "no member of ") count));
 }

@@ -23,7 +23,8 @@ part_word Proof = codes "proof"
 
 -- an identifier in lower-case digits, a part and its size
 abbrev pub part_line : BlobId → Part → ℕ → List ℕ
-part_line id part size = encode_lower id.0 ++ codes " " ++ part_word part ++ number_text (codes " ") size
+part_line id part size =
+    encode_lower id.0 ++ codes " " ++ part_word part ++ number_text (codes " ") size
 
 -- the line of a part, where it is held
 abbrev pub part_text : BlobId → Part → Option (List ℕ) → List ℕ
@@ -33,21 +34,25 @@ part_text id part (Some content) = part_line id part (length content)
 -- the lines of the parts under an identifier
 abbrev pub holding_text : BlobId → Parts → List ℕ
 holding_text id parts =
-    part_text id Metadata parts.metadata ++ part_text id Primary parts.primary ++ part_text id Secondary parts.secondary ++ part_text id Proof parts.proof
+    part_text id Metadata parts.metadata ++ part_text id Primary parts.primary
+    ++ part_text id Secondary parts.secondary ++ part_text id Proof parts.proof
 
 -- all of them, in the order of the identifiers
 abbrev pub contents_text : Contents → List ℕ
 contents_text contents = flat_map (λ id. holding_text id (parts_at contents id)) (map.keys contents)
 
--- an image of no bytes, or one whose record at this place has an open gate and is no record of a lawful change with a byte behind it
+-- an image of no bytes, or one whose record at this place has an open gate and is no record of a
+-- lawful change with a byte behind it
 abbrev pub IsBrokenAt : List ℕ → ℕ → Type 0
 IsBrokenAt image at =
     ((image ≡ []) × (at ≡ 0))
-    ⊎ ((changes : List Call) × (held : Contents) × ReadTo image at held changes × (get_or image at 0 ≡ 1) × IsBad held (drop (at + 1) image))
+    ⊎ ((changes : List Call) × (held : Contents) × ReadTo image at held changes
+    × (get_or image at 0 ≡ 1) × IsBad held (drop (at + 1) image))
 
 -- what is held after the changes that the image accepts
 abbrev pub unpacking : Command
 unpacking = record (bare 134217728 bytes) {
-  Succeeds = λ image text. (changes : List Call) × Accepts image changes × (text ≡ contents_text (after_calls no_contents changes));
+  Succeeds = λ image text. (changes : List Call) × Accepts image changes
+      × (text ≡ contents_text (after_calls no_contents changes));
   Misreads = λ image text. (at : ℕ) × IsBrokenAt image at × (text ≡ malformed_text at);
 }

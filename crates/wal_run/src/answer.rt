@@ -49,7 +49,8 @@ fn answer_text(answer: &Answer) -> &[u8]
 
 /// Writes the line of a refusal, and gives its status.
 pub fn refuse<K: Sink>(alloc: Global, refusal: &Refusal, sink: &mut K) -> u8
-    ensures performs { Performs (Refused refusal.now) (K.written sink.old) (K.written sink.new) (Rose (K.faults sink.old) (K.faults sink.new)) result }
+    ensures performs { Performs (Refused refusal.now) (K.written sink.old)
+        (K.written sink.new) (Rose (K.faults sink.old) (K.faults sink.new)) result }
     ensures later { K.faults sink.old ≤ K.faults sink.new }
 {
     if let Refusal::Memory = refusal {
@@ -63,7 +64,8 @@ pub fn refuse<K: Sink>(alloc: Global, refusal: &Refusal, sink: &mut K) -> u8
 
 /// Writes what a command has to say, and gives its status.
 pub fn write_answer<K: Sink>(alloc: Global, answer: Result<Answer, Refusal>, sink: &mut K) -> u8
-    ensures performs { Performs (Tells answer) (K.written sink.old) (K.written sink.new) (Rose (K.faults sink.old) (K.faults sink.new)) result }
+    ensures performs { Performs (Tells answer) (K.written sink.old)
+        (K.written sink.new) (Rose (K.faults sink.old) (K.faults sink.new)) result }
     ensures later { K.faults sink.old ≤ K.faults sink.new }
 {
     match answer {

@@ -46,11 +46,16 @@ fn put_answer<H: Hash32, K: Sink>(
 ) -> Result<(), PutError>
     requires id { id.now.0 ≡ identifier_of H.digest (metadata_shown m) }
     requires shard { audit.now.shard < shard_count (metadata_shown m).f }
-    requires words { (primary : List ℕ) × (secondary : List ℕ) × HoldsBoth H.digest (metadata_shown m) audit.now.shard primary secondary
+    requires words { (primary : List ℕ) × (secondary : List ℕ)
+        × HoldsBoth H.digest (metadata_shown m) audit.now.shard primary secondary
         × AreWordsOf (metadata_shown m) primary secondary answerer.now }
-    requires room { 370 + symbol_size (metadata_shown m).f (metadata_shown m).length ≤ out.old.spare + length out.old.bytes }
-    ensures puts { (primary secondary : List ℕ) → AreWordsOf (metadata_shown m.entry) primary secondary answerer.now
-        → PutsPiece (IsAnswer H.digest audit.now (metadata_shown m.entry) primary secondary d) (K.written sink.old) (K.written sink.new) (Rose (K.faults sink.old) (K.faults sink.new)) result }
+    requires room { 370 + symbol_size (metadata_shown m).f (metadata_shown m).length
+        ≤ out.old.spare + length out.old.bytes }
+    ensures puts { (primary secondary : List ℕ)
+        → AreWordsOf (metadata_shown m.entry) primary secondary answerer.now
+        → PutsPiece (IsAnswer H.digest audit.now (metadata_shown m.entry) primary secondary d)
+        (K.written sink.old) (K.written sink.new)
+        (Rose (K.faults sink.old) (K.faults sink.new)) result }
     ensures later { K.faults sink.old ≤ K.faults sink.new }
     ensures buffer { out.new.spare + length out.new.bytes ≡ out.old.spare + length out.old.bytes }
 {
@@ -79,11 +84,16 @@ fn put_answers<H: Hash32, K: Sink>(
     sink: &mut K,
 ) -> u8
     requires shard { audit.now.shard < shard_count (metadata_shown m).f }
-    requires words { (primary : List ℕ) × (secondary : List ℕ) × HoldsBoth H.digest (metadata_shown m) audit.now.shard primary secondary
+    requires words { (primary : List ℕ) × (secondary : List ℕ)
+        × HoldsBoth H.digest (metadata_shown m) audit.now.shard primary secondary
         × AreWordsOf (metadata_shown m) primary secondary answerer.now }
-    requires room { 370 + symbol_size (metadata_shown m).f (metadata_shown m).length ≤ out.old.spare + length out.old.bytes }
-    ensures does { (primary secondary : List ℕ) → AreWordsOf (metadata_shown m.entry) primary secondary answerer.now
-        → DoesAnswer H.digest audit.now (metadata_shown m.entry) primary secondary (K.written sink.old) (K.written sink.new) (Rose (K.faults sink.old) (K.faults sink.new)) result }
+    requires room { 370 + symbol_size (metadata_shown m).f (metadata_shown m).length
+        ≤ out.old.spare + length out.old.bytes }
+    ensures does { (primary secondary : List ℕ)
+        → AreWordsOf (metadata_shown m.entry) primary secondary answerer.now
+        → DoesAnswer H.digest audit.now (metadata_shown m.entry)
+        primary secondary (K.written sink.old) (K.written sink.new)
+        (Rose (K.faults sink.old) (K.faults sink.new)) result }
     ensures later { K.faults sink.old ≤ K.faults sink.new }
 {
     let id = identify::<H>(m);
@@ -112,8 +122,11 @@ fn own_sliver<'a, H: Hash32>(
 ) -> Option<&'a [u8]>
     requires f { work.old.f ≡ (metadata_shown m).f }
     requires shard { audit.now.shard < shard_count (metadata_shown m).f }
-    ensures own { IfSome result (λ bytes. IsOwnSliver H.digest audit.now (recorded payloads.now (metadata_shown m.entry)) axis bytes.now) }
-    ensures none { IfNone result (HasNoSliver H.digest audit.now (recorded payloads.now (metadata_shown m.entry)) axis) }
+    ensures own { IfSome result
+        (λ bytes. IsOwnSliver H.digest audit.now
+        (recorded payloads.now (metadata_shown m.entry)) axis bytes.now) }
+    ensures none { IfNone result
+        (HasNoSliver H.digest audit.now (recorded payloads.now (metadata_shown m.entry)) axis) }
     ensures f { work.new.f ≡ work.old.f }
 {
     let index = m.held(axis, audit.shard);
@@ -133,8 +146,11 @@ fn make_ready<H: Hash32>(
 ) -> Result<Ready<H>, Refusal>
     requires f { work.old.f ≡ (metadata_shown m).f }
     requires shard { audit.now.shard < shard_count (metadata_shown m).f }
-    ensures ready { IfOk result (λ r. IsReady H.digest audit.now (recorded payloads.now (metadata_shown m.entry)) r.answerer r.out) }
-    ensures refusal { IfErr result (λ refusal. Refuses refusal (Told H.digest (challenging H.digest audit.now) (recorded payloads.now (metadata_shown m.entry)))) }
+    ensures ready { IfOk result
+        (λ r. IsReady H.digest audit.now
+        (recorded payloads.now (metadata_shown m.entry)) r.answerer r.out) }
+    ensures refusal { IfErr result (λ refusal. Refuses refusal (Told H.digest
+        (challenging H.digest audit.now) (recorded payloads.now (metadata_shown m.entry)))) }
 {
     let Some(primary) = own_sliver::<H>(work, m, audit, Axis::Primary, payloads) else {
         return Err(Refusal::NoPrimary);
@@ -155,8 +171,11 @@ fn ready_under<H: Hash32>(
     audit: &Audit,
     payloads: &Payloads,
 ) -> Result<Ready<H>, Refusal>
-    ensures ready { IfOk result (λ r. IsReady H.digest audit.now (recorded payloads.now (metadata_shown m.entry)) r.answerer r.out) }
-    ensures refusal { IfErr result (λ refusal. Refuses refusal (Told H.digest (challenging H.digest audit.now) (recorded payloads.now (metadata_shown m.entry)))) }
+    ensures ready { IfOk result
+        (λ r. IsReady H.digest audit.now
+        (recorded payloads.now (metadata_shown m.entry)) r.answerer r.out) }
+    ensures refusal { IfErr result (λ refusal. Refuses refusal (Told H.digest
+        (challenging H.digest audit.now) (recorded payloads.now (metadata_shown m.entry)))) }
 {
     if u32::from(audit.shard) >= m.shape().n() {
         return Err(Refusal::NoShard);
@@ -173,7 +192,9 @@ fn challenge_under<H: Hash32, K: Sink>(
     payloads: &Payloads,
     sink: &mut K,
 ) -> u8
-    ensures does { DoesTold H.digest (challenging H.digest audit.now) (recorded payloads.now (metadata_shown m.entry)) (K.written sink.old) (K.written sink.new) (Rose (K.faults sink.old) (K.faults sink.new)) result }
+    ensures does { DoesTold H.digest (challenging H.digest audit.now)
+        (recorded payloads.now (metadata_shown m.entry)) (K.written sink.old)
+        (K.written sink.new) (Rose (K.faults sink.old) (K.faults sink.new)) result }
     ensures later { K.faults sink.old ≤ K.faults sink.new }
 {
     match ready_under::<H>(alloc, m, audit, payloads) {
@@ -189,7 +210,11 @@ fn challenge_in<H: Hash32, K: Sink>(
     payloads: &Payloads,
     sink: &mut K,
 ) -> u8
-    ensures does { (input : List ℕ) → IsStream payloads.now input → Does (IsResult H.digest (challenging H.digest audit.now) input) (MayLeave H.digest (challenging H.digest audit.now) input) (MayOwe H.digest (challenging H.digest audit.now) input) (K.written sink.old) (K.written sink.new) (Rose (K.faults sink.old) (K.faults sink.new)) result }
+    ensures does { (input : List ℕ) → IsStream payloads.now input
+        → Does (IsResult H.digest (challenging H.digest audit.now) input)
+        (MayLeave H.digest (challenging H.digest audit.now) input)
+        (MayOwe H.digest (challenging H.digest audit.now) input) (K.written sink.old)
+        (K.written sink.new) (Rose (K.faults sink.old) (K.faults sink.new)) result }
     ensures later { K.faults sink.old ≤ K.faults sink.new }
 {
     match metadata_of::<H>(&audit.id, payloads) {
@@ -198,14 +223,18 @@ fn challenge_in<H: Hash32, K: Sink>(
     }
 }
 
-/// Writes what the shard answers to the challenge from the slivers in the envelopes of the stream, or what is lacking.
+/// Writes what the shard answers to the challenge from the slivers in the envelopes of the stream,
+/// or what is lacking.
 pub fn challenge_shard<H: Hash32, K: Sink>(
     alloc: Global,
     audit: &Audit,
     stream: &[u8],
     sink: &mut K,
 ) -> u8
-    ensures does { Does (IsResult H.digest (challenging H.digest audit.now) stream.now) (MayLeave H.digest (challenging H.digest audit.now) stream.now) (MayOwe H.digest (challenging H.digest audit.now) stream.now) (K.written sink.old) (K.written sink.new) (Rose (K.faults sink.old) (K.faults sink.new)) result }
+    ensures does { Does (IsResult H.digest (challenging H.digest audit.now) stream.now)
+        (MayLeave H.digest (challenging H.digest audit.now) stream.now)
+        (MayOwe H.digest (challenging H.digest audit.now) stream.now) (K.written sink.old)
+        (K.written sink.new) (Rose (K.faults sink.old) (K.faults sink.new)) result }
     ensures later { K.faults sink.old ≤ K.faults sink.new }
 {
     match payloads_of(alloc, stream) {

@@ -23,7 +23,8 @@ fn check_under<H: Hash32>(
     payloads: &Payloads,
     m: MetaRef<'_>,
 ) -> Result<Answer, Refusal>
-    ensures { Says result (Told H.digest (checking H.digest id.now) (recorded payloads.now (metadata_shown m.entry))) }
+    ensures { Says result (Told H.digest (checking H.digest id.now)
+        (recorded payloads.now (metadata_shown m.entry))) }
 {
     let Some(proof) = proof_in(id, payloads) else {
         return Err(Refusal::NoProof);
@@ -32,7 +33,8 @@ fn check_under<H: Hash32>(
     Err(Refusal::Checked(proof_check::<H>(&mut work, m, &proof)))
 }
 
-/// The verdict on the first proof of this identifier in the envelopes of the stream, or why there is none.
+/// The verdict on the first proof of this identifier in the envelopes of the stream, or why there
+/// is none.
 pub fn check_proof<H: Hash32>(alloc: Global, id: &BlobId, stream: &[u8]) -> Result<Answer, Refusal>
     ensures { Says result (IsResult H.digest (checking H.digest id.now) stream.now) }
 {

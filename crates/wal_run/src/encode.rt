@@ -40,11 +40,15 @@ fn parcel_of<H: Hash32>(alloc: Global, shape: &Shape, blob: &[u8]) -> Result<Par
     requires { length blob.now ≡ shape.now.length }
     ensures shape { IfOk result (λ p. p.encoded.shape ≡ shape.now) }
     ensures matrix { IfOk result (λ p. IsExtended shape.now.f blob.now p.encoded.cells) }
-    ensures metadata { IfOk result (λ p. p.metadata ≡ metadata_over H.digest shape.now p.encoded.cells) }
+    ensures metadata { IfOk result
+        (λ p. p.metadata ≡ metadata_over H.digest shape.now p.encoded.cells) }
     ensures id { IfOk result (λ p. p.id.0 ≡ identifier_of H.digest p.metadata) }
     ensures fit { IfOk result (λ p. IsMetadata p.metadata) }
-    ensures metadata_room { IfOk result (λ p. 8 + length (metadata_text p.metadata) ≤ p.out.spare + length p.out.bytes) }
-    ensures sliver_room { IfOk result (λ p. 47 + row_count p.encoded.shape.f * min (symbol_bytes p.encoded) 8192 ≤ p.out.spare + length p.out.bytes) }
+    ensures metadata_room { IfOk result
+        (λ p. 8 + length (metadata_text p.metadata) ≤ p.out.spare + length p.out.bytes) }
+    ensures sliver_room { IfOk result
+        (λ p. 47 + row_count p.encoded.shape.f * min (symbol_bytes p.encoded) 8192
+        ≤ p.out.spare + length p.out.bytes) }
 {
     let encoded = extend(alloc, shape, blob)?;
     let metadata = metadata_of::<H>(alloc, &encoded)?;
@@ -63,12 +67,19 @@ fn put_parcel<K: Sink>(sink: &mut K, parcel: &mut Parcel) -> Result<(), WriteFau
     requires faults { parcel.old.metadata.f ≡ parcel.old.encoded.shape.f }
     requires format { parcel.old.metadata.format ≡ parcel.old.encoded.shape.format }
     requires fit { IsShape parcel.old.encoded.shape.f parcel.old.encoded.shape.length }
-    requires whole { length parcel.old.encoded.cells ≡ shards parcel.old.encoded * shards parcel.old.encoded * symbol_bytes parcel.old.encoded }
+    requires whole { length parcel.old.encoded.cells
+        ≡ shards parcel.old.encoded * shards parcel.old.encoded * symbol_bytes parcel.old.encoded }
     requires metadata { IsMetadata parcel.old.metadata }
-    requires metadata_room { 8 + length (metadata_text parcel.old.metadata) ≤ parcel.old.out.spare + length parcel.old.out.bytes }
-    requires sliver_room { 47 + row_count parcel.old.encoded.shape.f * min (symbol_bytes parcel.old.encoded) 8192 ≤ parcel.old.out.spare + length parcel.old.out.bytes }
-    ensures whole { OnOk result (Appends (K.written sink.old) (K.written sink.new) (all_envelopes parcel.old.id.0 parcel.old.metadata parcel.old.encoded.shape parcel.old.encoded.cells)) }
-    ensures part { OnErr result (AppendsPart (K.written sink.old) (K.written sink.new) (all_envelopes parcel.old.id.0 parcel.old.metadata parcel.old.encoded.shape parcel.old.encoded.cells)) }
+    requires metadata_room { 8 + length (metadata_text parcel.old.metadata)
+        ≤ parcel.old.out.spare + length parcel.old.out.bytes }
+    requires sliver_room { 47
+        + row_count parcel.old.encoded.shape.f * min (symbol_bytes parcel.old.encoded) 8192
+        ≤ parcel.old.out.spare + length parcel.old.out.bytes }
+    ensures whole { OnOk result (Appends (K.written sink.old) (K.written sink.new) (all_envelopes
+        parcel.old.id.0 parcel.old.metadata parcel.old.encoded.shape parcel.old.encoded.cells)) }
+    ensures part { OnErr result
+        (AppendsPart (K.written sink.old) (K.written sink.new) (all_envelopes parcel.old.id.0
+        parcel.old.metadata parcel.old.encoded.shape parcel.old.encoded.cells)) }
     ensures fault { OnErr result (Rose (K.faults sink.old) (K.faults sink.new)) }
     ensures later { K.faults sink.old ≤ K.faults sink.new }
 {
@@ -93,7 +104,9 @@ pub fn encode<H: Hash32, K: Sink>(
     requires least { 1 ≤ faults }
     requires most { faults ≤ 333 }
     requires small { length blob.now ≤ most_bytes }
-    ensures performs { Performs (IsResult H.digest (encoding H.digest faults format) blob.now) (K.written sink.old) (K.written sink.new) (Rose (K.faults sink.old) (K.faults sink.new)) result }
+    ensures performs { Performs
+        (IsResult H.digest (encoding H.digest faults format) blob.now) (K.written sink.old)
+        (K.written sink.new) (Rose (K.faults sink.old) (K.faults sink.new)) result }
     ensures later { K.faults sink.old ≤ K.faults sink.new }
 {
     let shape = shape_of(faults, format, blob);

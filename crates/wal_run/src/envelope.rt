@@ -1,5 +1,5 @@
-//! The envelopes in which a blob's metadata and slivers are written: each is made in one buffer, or only its front, where
-//! the bytes of a sliver are written from where they lie.
+//! The envelopes in which a blob's metadata and slivers are written: each is made in one buffer, or
+//! only its front, where the bytes of a sliver are written from where they lie.
 
 ghost use Rattle.std.specs.Prelude.{◌≡◌, ◌≤◌, ◌<◌, ◌+◌, ◌*◌, ◌∷◌, ◌++◌, List, ℕ, length, min, IfOk, OnOk, OnErr};
 ghost use Rattle.std.specs.Int.{w16, w32};
@@ -31,13 +31,14 @@ const FRAME_EXTRA: u32 = 40;
 /// The byte that an envelope begins with.
 const ENVELOPE: u8 = 0x57;
 
-/// Symbols of so many bytes are written from where they lie. Shorter ones of a column are laid one after the other first, so
-/// that not each of them is a write.
+/// Symbols of so many bytes are written from where they lie. Shorter ones of a column are laid one
+/// after the other first, so that not each of them is a write.
 pub const LONG: u32 = 8192;
 
 /// Room for the first symbols of a column where they are short, and no less.
 fn laid_room(shape: &Shape) -> u32
-    ensures value { result ≡ row_count shape.now.f * min (symbol_size shape.now.f shape.now.length) 8192 }
+    ensures value { result
+        ≡ row_count shape.now.f * min (symbol_size shape.now.f shape.now.length) 8192 }
     ensures most { result < 77497472 }
 {
     if shape.symbol_size() < LONG {
@@ -46,10 +47,13 @@ fn laid_room(shape: &Shape) -> u32
     shape.rows() * LONG
 }
 
-/// Room for the envelope of a blob's metadata, and for that of the first symbols of a column where they are short.
+/// Room for the envelope of a blob's metadata, and for that of the first symbols of a column where
+/// they are short.
 pub fn room_for(shape: &Shape, metadata: MetaRef<'_>) -> u32
     ensures metadata { 8 + length (metadata_text (metadata_shown metadata.entry)) ≤ result }
-    ensures sliver { 47 + row_count shape.now.f * min (symbol_size shape.now.f shape.now.length) 8192 ≤ result }
+    ensures sliver { 47
+        + row_count shape.now.f * min (symbol_size shape.now.f shape.now.length) 8192
+        ≤ result }
     // The reference shows a metadata.
     ensures fit { IsMetadata (metadata_shown metadata.entry) }
 {
@@ -68,7 +72,8 @@ pub fn frame_envelope(
     requires frame { IsFrame (frame_shown frame.now) }
     requires kind { IsLentKind frame.now }
     requires room { length (envelope sender (frame_text (frame_shown frame.now))) ≤ room }
-    ensures { IfOk result (λ out. out.bytes ≡ envelope sender (frame_text (frame_shown frame.now))) }
+    ensures { IfOk result
+        (λ out. out.bytes ≡ envelope sender (frame_text (frame_shown frame.now))) }
 {
     let mut out = OutBuf::create(alloc, room)?;
     write_frame(&mut out, sender, frame);
@@ -84,9 +89,12 @@ fn put_frame<K: Sink>(
 ) -> Result<(), WriteFault>
     requires frame { IsFrame (frame_shown frame.now) }
     requires kind { IsLentKind frame.now }
-    requires buffer { length (envelope sender (frame_text (frame_shown frame.now))) ≤ out.old.spare + length out.old.bytes }
-    ensures whole { OnOk result (Appends (K.written sink.old) (K.written sink.new) (envelope sender (frame_text (frame_shown frame.now)))) }
-    ensures part { OnErr result (AppendsPart (K.written sink.old) (K.written sink.new) (envelope sender (frame_text (frame_shown frame.now)))) }
+    requires buffer { length (envelope sender (frame_text (frame_shown frame.now)))
+        ≤ out.old.spare + length out.old.bytes }
+    ensures whole { OnOk result (Appends (K.written sink.old) (K.written sink.new)
+        (envelope sender (frame_text (frame_shown frame.now)))) }
+    ensures part { OnErr result (AppendsPart (K.written sink.old) (K.written sink.new)
+        (envelope sender (frame_text (frame_shown frame.now)))) }
     ensures fault { OnErr result (Rose (K.faults sink.old) (K.faults sink.new)) }
     ensures later { K.faults sink.old ≤ K.faults sink.new }
     ensures buffer { out.new.spare + length out.new.bytes ≡ out.old.spare + length out.old.bytes }
@@ -114,9 +122,12 @@ pub fn put_metadata<K: Sink>(
     metadata: MetaRef<'_>,
 ) -> Result<(), WriteFault>
     requires metadata { IsMetadata (metadata_shown metadata) }
-    requires buffer { 8 + length (metadata_text (metadata_shown metadata)) ≤ out.old.spare + length out.old.bytes }
-    ensures whole { OnOk result (Appends (K.written sink.old) (K.written sink.new) (envelope 0 (metadata_frame (metadata_shown metadata.entry)))) }
-    ensures part { OnErr result (AppendsPart (K.written sink.old) (K.written sink.new) (envelope 0 (metadata_frame (metadata_shown metadata.entry)))) }
+    requires buffer { 8 + length (metadata_text (metadata_shown metadata))
+        ≤ out.old.spare + length out.old.bytes }
+    ensures whole { OnOk result (Appends (K.written sink.old) (K.written sink.new)
+        (envelope 0 (metadata_frame (metadata_shown metadata.entry)))) }
+    ensures part { OnErr result (AppendsPart (K.written sink.old) (K.written sink.new)
+        (envelope 0 (metadata_frame (metadata_shown metadata.entry)))) }
     ensures fault { OnErr result (Rose (K.faults sink.old) (K.faults sink.new)) }
     ensures later { K.faults sink.old ≤ K.faults sink.new }
     ensures buffer { out.new.spare + length out.new.bytes ≡ out.old.spare + length out.old.bytes }
@@ -124,7 +135,8 @@ pub fn put_metadata<K: Sink>(
     put_frame(sink, out, 0, &frame_of(metadata))
 }
 
-/// Puts what an envelope begins with into the emptied buffer: the byte, the sender and the size of the payload.
+/// Puts what an envelope begins with into the emptied buffer: the byte, the sender and the size of
+/// the payload.
 fn begin(out: &mut OutBuf, sender: u16, size: u32)
     requires { 7 ≤ out.old.spare + length out.old.bytes }
     ensures text { out.new.bytes ≡ 0x57 ∷ (number_text w16 sender ++ number_text w32 size) }
@@ -161,9 +173,12 @@ pub fn put_opening<K: Sink>(
 ) -> Result<(), WriteFault>
     requires index { index ≤ 999 }
     requires opening { IsBody (opening_shown opening) }
-    requires buffer { 50 + length opening.symbol.now + length opening.path.now ≤ out.old.spare + length out.old.bytes }
-    ensures whole { OnOk result (Appends (K.written sink.old) (K.written sink.new) (envelope sender (frame_text (Opening id.0 axis index (opening_shown opening.entry))))) }
-    ensures part { OnErr result (AppendsPart (K.written sink.old) (K.written sink.new) (envelope sender (frame_text (Opening id.0 axis index (opening_shown opening.entry))))) }
+    requires buffer { 50 + length opening.symbol.now + length opening.path.now
+        ≤ out.old.spare + length out.old.bytes }
+    ensures whole { OnOk result (Appends (K.written sink.old) (K.written sink.new)
+        (envelope sender (frame_text (Opening id.0 axis index (opening_shown opening.entry))))) }
+    ensures part { OnErr result (AppendsPart (K.written sink.old) (K.written sink.new)
+        (envelope sender (frame_text (Opening id.0 axis index (opening_shown opening.entry))))) }
     ensures fault { OnErr result (Rose (K.faults sink.old) (K.faults sink.new)) }
     ensures later { K.faults sink.old ≤ K.faults sink.new }
     ensures buffer { out.new.spare + length out.new.bytes ≡ out.old.spare + length out.old.bytes }

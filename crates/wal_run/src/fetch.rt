@@ -50,7 +50,8 @@ fn is_clash(found: &Found) -> bool
 
 /// Whether the blob was kept.
 fn add_hit(text: &mut Vec<u8>, hit: bool) -> Result<(), AllocError>
-    ensures { OnOk result (text.new.items ≡ text.old.items ++ cond hit (codes "hit ") (codes "miss ")) }
+    ensures { OnOk result
+        (text.new.items ≡ text.old.items ++ cond hit (codes "hit ") (codes "miss ")) }
 {
     if hit {
         text.extend_from_slice(b"hit ")
@@ -73,7 +74,8 @@ fn answer_line(alloc: Global, answer: &GetAnswer) -> Result<Vec<u8>, AllocError>
 
 /// Writes the line of an answer, in memory of its own.
 fn put_answer<K: Sink>(alloc: Global, answer: &GetAnswer, sink: &mut K) -> Result<(), PutError>
-    ensures puts { PutsPiece (λ t. t ≡ answer_text answer.now) (K.written sink.old) (K.written sink.new) (Rose (K.faults sink.old) (K.faults sink.new)) result }
+    ensures puts { PutsPiece (λ t. t ≡ answer_text answer.now) (K.written sink.old)
+        (K.written sink.new) (Rose (K.faults sink.old) (K.faults sink.new)) result }
     ensures later { K.faults sink.old ≤ K.faults sink.new }
 {
     let line = answer_line(alloc, answer)?;
@@ -81,7 +83,8 @@ fn put_answer<K: Sink>(alloc: Global, answer: &GetAnswer, sink: &mut K) -> Resul
     Ok(())
 }
 
-/// Answers the requests of a stream one after the other, up to a collision, and writes each line before the next.
+/// Answers the requests of a stream one after the other, up to a collision, and writes each line
+/// before the next.
 fn put_answers<H: Hash32, K: Sink>(
     alloc: Global,
     gateway: &mut Gateway<H>,
@@ -90,8 +93,10 @@ fn put_answers<H: Hash32, K: Sink>(
 ) -> u8
     requires few { length stream.now ≤ 134217728 }
     requires stream { (payloads : List (List ℕ)) × IsStream payloads stream.now }
-    ensures does { (capacity : ℕ) → gateway.old ≡ no_blobs capacity → (payloads : List (List ℕ)) → IsStream payloads stream.now
-        → DoesTold H.digest (fetching H.digest capacity) payloads (K.written sink.old) (K.written sink.new) (Rose (K.faults sink.old) (K.faults sink.new)) result }
+    ensures does { (capacity : ℕ) → gateway.old ≡ no_blobs capacity → (payloads : List (List ℕ))
+        → IsStream payloads stream.now
+        → DoesTold H.digest (fetching H.digest capacity) payloads (K.written sink.old)
+        (K.written sink.new) (Rose (K.faults sink.old) (K.faults sink.new)) result }
     ensures later { K.faults sink.old ≤ K.faults sink.new }
 {
     let mut rest = stream;
@@ -120,7 +125,8 @@ fn put_fetched<H: Hash32, K: Sink>(alloc: Global, capacity: u32, stream: &[u8], 
     requires few { length stream.now ≤ 134217728 }
     requires stream { (payloads : List (List ℕ)) × IsStream payloads stream.now }
     ensures does { (payloads : List (List ℕ)) → IsStream payloads stream.now
-        → DoesTold H.digest (fetching H.digest capacity) payloads (K.written sink.old) (K.written sink.new) (Rose (K.faults sink.old) (K.faults sink.new)) result }
+        → DoesTold H.digest (fetching H.digest capacity) payloads (K.written sink.old)
+        (K.written sink.new) (Rose (K.faults sink.old) (K.faults sink.new)) result }
     ensures later { K.faults sink.old ≤ K.faults sink.new }
 {
     match Gateway::<H>::create(alloc, capacity) {
@@ -144,8 +150,9 @@ fn malformed_at(stream: &[u8]) -> Option<u64>
     None
 }
 
-/// Answers the requests for ranges among the envelopes of the stream, with a cache of so many blobs, and writes a line for each.
-/// No payload is copied, but for what a read keeps while it works.
+/// Answers the requests for ranges among the envelopes of the stream, with a cache of so many
+/// blobs, and writes a line for each. No payload is copied, but for what a read keeps while it
+/// works.
 pub fn fetch_ranges<H: Hash32, K: Sink>(
     alloc: Global,
     capacity: u32,
@@ -155,7 +162,10 @@ pub fn fetch_ranges<H: Hash32, K: Sink>(
     requires some { 1 ≤ capacity }
     requires most { capacity ≤ 64 }
     requires few { length stream.now ≤ 134217728 }
-    ensures does { Does (IsResult H.digest (fetching H.digest capacity) stream.now) (MayLeave H.digest (fetching H.digest capacity) stream.now) (MayOwe H.digest (fetching H.digest capacity) stream.now) (K.written sink.old) (K.written sink.new) (Rose (K.faults sink.old) (K.faults sink.new)) result }
+    ensures does { Does (IsResult H.digest (fetching H.digest capacity) stream.now)
+        (MayLeave H.digest (fetching H.digest capacity) stream.now)
+        (MayOwe H.digest (fetching H.digest capacity) stream.now) (K.written sink.old)
+        (K.written sink.new) (Rose (K.faults sink.old) (K.faults sink.new)) result }
     ensures later { K.faults sink.old ≤ K.faults sink.new }
 {
     match malformed_at(stream) {

@@ -1,4 +1,5 @@
-//! What the commands have in common: the shape of their blob, and the one way in which an answer is written.
+//! What the commands have in common: the shape of their blob, and the one way in which an answer is
+//! written.
 
 ghost use Rattle.std.specs.Prelude.{◌≡◌, ◌≤◌, length};
 ghost use Rattle.wal_port.specs.Faults.{Rose};
@@ -12,10 +13,12 @@ use wal_shape::{Format, Shape};
 /// The status of a run whose words ask for nothing.
 pub const USAGE: u8 = 2;
 
-/// The status of a run that found something false: a writer who encoded wrongly, an index that is none, an opening that was not drawn.
+/// The status of a run that found something false: a writer who encoded wrongly, an index that is
+/// none, an opening that was not drawn.
 pub const REJECTED: u8 = 3;
 
-/// The status of a run for which something is lacking, as too little was recorded or there is no room, or whose proof shows nothing.
+/// The status of a run for which something is lacking, as too little was recorded or there is no
+/// room, or whose proof shows nothing.
 pub const SHORT: u8 = 4;
 
 /// The status of a run for which there was no memory.
@@ -27,7 +30,8 @@ pub const SOURCE_FAILED: u8 = 6;
 /// The status of a run whose sink failed.
 pub const SINK_FAILED: u8 = 7;
 
-/// The status of a run whose input is none of its command: no stream of envelopes, no schedule, no image.
+/// The status of a run whose input is none of its command: no stream of envelopes, no schedule, no
+/// image.
 pub const MALFORMED: u8 = 8;
 
 /// The status of a run whose input is longer than its limit.
@@ -79,7 +83,8 @@ pub fn status_of(error: PutError) -> u8
 
 /// Writes the text and gives the status, or that of a sink that failed.
 pub fn finish<K: Sink>(sink: &mut K, text: &[u8], status: u8) -> u8
-    ensures finishes { Finishes (λ t. t ≡ text.now) (K.written sink.old) (K.written sink.new) (Rose (K.faults sink.old) (K.faults sink.new)) status result }
+    ensures finishes { Finishes (λ t. t ≡ text.now) (K.written sink.old)
+        (K.written sink.new) (Rose (K.faults sink.old) (K.faults sink.new)) status result }
     ensures later { K.faults sink.old ≤ K.faults sink.new }
 {
     match put_all(sink, text) {

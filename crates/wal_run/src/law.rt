@@ -10,5 +10,6 @@ use wal_tree::Hash32;
 
 /// Every schedule that an input spells has a run: it is impossible that there is none.
 pub fn spelled_schedule_has_run<H: Hash32>()
-    ensures { (input : List ℕ) (s : Schedule) → IsRead input (Ok s) → Possible (HasRun (rules_of H.digest s.f) s) }
+    ensures { (input : List ℕ) (s : Schedule) → IsRead input (Ok s)
+        → Possible (HasRun (rules_of H.digest s.f) s) }
 {}

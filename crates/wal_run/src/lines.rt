@@ -25,7 +25,8 @@ pub fn add_numbers(
     between: &[u8],
     second: u64,
 ) -> Result<(), AllocError>
-    ensures { OnOk result (text.new.items ≡ text.old.items ++ (prefix.now ++ decimal first ++ number_text between.now second)) }
+    ensures { OnOk result (text.new.items
+        ≡ text.old.items ++ (prefix.now ++ decimal first ++ number_text between.now second)) }
 {
     let mut digits = Buffer::new();
     text.extend_from_slice(prefix)?;

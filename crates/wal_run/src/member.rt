@@ -28,7 +28,8 @@ fn member_answer(answer: MemberAnswer) -> Result<Answer, Refusal>
     }
 }
 
-/// Member k of the bundle with this identifier, or why it is not there, from the envelopes of the stream.
+/// Member k of the bundle with this identifier, or why it is not there, from the envelopes of the
+/// stream.
 pub fn read_member<H: Hash32>(
     alloc: Global,
     id: &BlobId,

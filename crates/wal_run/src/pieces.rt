@@ -20,7 +20,8 @@ const LIMIT: u64 = 134_217_728;
 fn next_piece<S: Source>(source: &mut S, buffer: &mut [u8], taken: u64) -> Result<usize, TakeError>
     requires some { 0 < length buffer.old }
     requires within { taken ≤ 134217728 }
-    ensures gives { GivesPiece (S.left source.old) (S.left source.new) (Rose (S.faults source.old) (S.faults source.new)) taken buffer.new result }
+    ensures gives { GivesPiece (S.left source.old) (S.left source.new)
+        (Rose (S.faults source.old) (S.faults source.new)) taken buffer.new result }
     ensures later { S.faults source.old ≤ S.faults source.new }
 {
     let room = buffer.len().min((LIMIT + 1 - taken) as usize);
@@ -31,14 +32,17 @@ fn next_piece<S: Source>(source: &mut S, buffer: &mut [u8], taken: u64) -> Resul
     Ok(count)
 }
 
-/// Feeds a piece to the reader, unless the stream is malformed at a place before. Gives the place where it is, if it is.
+/// Feeds a piece to the reader, unless the stream is malformed at a place before. Gives the place
+/// where it is, if it is.
 fn feed_piece<H: Hash32>(
     alloc: Global,
     reader: &mut Reader<H>,
     wrong: Option<u64>,
     piece: &[u8],
 ) -> Result<Option<u64>, TakeError>
-    ensures feeds { (id : List ℕ) (stream : List ℕ) → Stands H.digest id reader.old wrong stream → length stream + length piece.now ≤ 134217728 → FeedsOn H.digest id reader.new (stream ++ piece.now) result }
+    ensures feeds { (id : List ℕ) (stream : List ℕ) → Stands H.digest id reader.old wrong stream
+        → length stream + length piece.now ≤ 134217728
+        → FeedsOn H.digest id reader.new (stream ++ piece.now) result }
 {
     match wrong {
         Some(place) => Ok(Some(place)),
@@ -51,7 +55,8 @@ fn feed_piece<H: Hash32>(
     }
 }
 
-/// Takes all pieces of a source and feeds them to the reader. Gives the place where a byte begins no envelope, if there is one.
+/// Takes all pieces of a source and feeds them to the reader. Gives the place where a byte begins
+/// no envelope, if there is one.
 fn feed_pieces<H: Hash32, S: Source>(
     alloc: Global,
     reader: &mut Reader<H>,
@@ -59,7 +64,9 @@ fn feed_pieces<H: Hash32, S: Source>(
     buffer: &mut [u8],
 ) -> Result<Option<u64>, TakeError>
     requires some { 0 < length buffer.old }
-    ensures takes { (id : List ℕ) → StandsFor H.digest id reader.old [] → TakesStream H.digest id (S.left source.old) (S.left source.new) (Rose (S.faults source.old) (S.faults source.new)) reader.new result }
+    ensures takes { (id : List ℕ) → StandsFor H.digest id reader.old []
+        → TakesStream H.digest id (S.left source.old) (S.left source.new)
+        (Rose (S.faults source.old) (S.faults source.new)) reader.new result }
     ensures later { S.faults source.old ≤ S.faults source.new }
 {
     let mut taken = 0;
@@ -74,13 +81,16 @@ fn feed_pieces<H: Hash32, S: Source>(
     }
 }
 
-/// Takes the whole stream of a source, in pieces. Gives the place where a byte begins no envelope, if there is one.
+/// Takes the whole stream of a source, in pieces. Gives the place where a byte begins no envelope,
+/// if there is one.
 pub fn take_stream<H: Hash32, S: Source>(
     alloc: Global,
     reader: &mut Reader<H>,
     source: &mut S,
 ) -> Result<Option<u64>, TakeError>
-    ensures takes { (id : List ℕ) → StandsFor H.digest id reader.old [] → TakesStream H.digest id (S.left source.old) (S.left source.new) (Rose (S.faults source.old) (S.faults source.new)) reader.new result }
+    ensures takes { (id : List ℕ) → StandsFor H.digest id reader.old []
+        → TakesStream H.digest id (S.left source.old) (S.left source.new)
+        (Rose (S.faults source.old) (S.faults source.new)) reader.new result }
     ensures later { S.faults source.old ≤ S.faults source.new }
 {
     let mut buffer = vec![in alloc; 0u8; PIECE]?;
@@ -93,7 +103,8 @@ pub fn finish_stream<H: Hash32>(
     reader: Reader<H>,
     wrong: Option<u64>,
 ) -> Result<ReadAnswer, FinishError>
-    ensures finishes { (id : List ℕ) (stream : List ℕ) → Stands H.digest id reader wrong stream → FinishesStream H.digest id stream result }
+    ensures finishes { (id : List ℕ) (stream : List ℕ) → Stands H.digest id reader wrong stream
+        → FinishesStream H.digest id stream result }
 {
     match wrong {
         Some(place) => Err(FinishError::Malformed(place)),

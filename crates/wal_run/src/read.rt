@@ -36,7 +36,8 @@ fn outcome_answer(outcome: Outcome) -> Result<Answer, Refusal>
 
 /// Why the whole stream has no answer.
 fn refusal_of<H: Hash32>(error: FinishError) -> Refusal
-    ensures { (id : BlobId) (stream : List ℕ) → FinishesStream H.digest id.0 stream (Err error) → Refuses result (IsResult H.digest (reading H.digest id) stream) }
+    ensures { (id : BlobId) (stream : List ℕ) → FinishesStream H.digest id.0 stream (Err error)
+        → Refuses result (IsResult H.digest (reading H.digest id) stream) }
 {
     match error {
         FinishError::Malformed(place) => Refusal::Malformed(place),
@@ -47,7 +48,8 @@ fn refusal_of<H: Hash32>(error: FinishError) -> Refusal
 
 /// What came of the whole stream.
 fn stream_answer<H: Hash32>(answer: Result<ReadAnswer, FinishError>) -> Result<Answer, Refusal>
-    ensures { (id : BlobId) (stream : List ℕ) → FinishesStream H.digest id.0 stream answer → Says result (IsResult H.digest (reading H.digest id) stream) }
+    ensures { (id : BlobId) (stream : List ℕ) → FinishesStream H.digest id.0 stream answer
+        → Says result (IsResult H.digest (reading H.digest id) stream) }
 {
     match answer {
         Ok(answer) => outcome_answer(answer.outcome),
@@ -62,7 +64,8 @@ fn read_with<H: Hash32, S: Source, K: Sink>(
     source: &mut S,
     sink: &mut K,
 ) -> u8
-    ensures ends { (id : BlobId) → StandsFor H.digest id.0 reader [] → (words : List (List ℕ)) → IsTask words (Read id) → Ends H.digest words
+    ensures ends { (id : BlobId) → StandsFor H.digest id.0 reader [] → (words : List (List ℕ))
+        → IsTask words (Read id) → Ends H.digest words
         (seen S.Source source.old source.new K.Sink sink.old sink.new) result }
     ensures later_source { S.faults source.old ≤ S.faults source.new }
     ensures later_sink { K.faults sink.old ≤ K.faults sink.new }
@@ -78,7 +81,8 @@ fn read_with<H: Hash32, S: Source, K: Sink>(
     }
 }
 
-/// Writes the blob of this identifier, or why it is not there, from the envelopes that the source gives.
+/// Writes the blob of this identifier, or why it is not there, from the envelopes that the source
+/// gives.
 pub fn read_stream<H: Hash32, S: Source, K: Sink>(
     alloc: Global,
     id: &BlobId,

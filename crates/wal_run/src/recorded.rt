@@ -26,12 +26,14 @@ pub fn payloads_of(alloc: Global, stream: &[u8]) -> Result<Payloads, Refusal>
     }
 }
 
-/// The one metadata of the identifier that the payloads carry, or why there is none. Takes no memory.
+/// The one metadata of the identifier that the payloads carry, or why there is none. Takes no
+/// memory.
 pub fn metadata_of<'a, H: Hash32>(
     id: &BlobId,
     payloads: &'a Payloads,
 ) -> Result<MetaRef<'a>, Refusal>
-    ensures one { IfOk result (λ m. IsMetadataIn H.digest id.now.0 payloads.now (metadata_shown m)) }
+    ensures one { IfOk result
+        (λ m. IsMetadataIn H.digest id.now.0 payloads.now (metadata_shown m)) }
     ensures refusal { (input : List ℕ) → IsStream payloads.now input
         → IfErr result (λ refusal. Refuses refusal (LacksMetadata H.digest id.now input)) }
 {

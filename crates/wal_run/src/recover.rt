@@ -43,7 +43,8 @@ fn sliver_envelope(
 ) -> Result<OutBuf, AllocError>
     requires index { index ≤ 999 }
     requires size { length bytes.now ≤ most_bytes }
-    ensures { IfOk result (λ out. out.bytes ≡ envelope index (sliver_frame id.0 axis index bytes.now)) }
+    ensures { IfOk result
+        (λ out. out.bytes ≡ envelope index (sliver_frame id.0 axis index bytes.now)) }
 {
     let sliver = SliverRef { axis, index, bytes };
     let room = SLIVER_EXTRA + bytes.len() as u32;
@@ -77,7 +78,8 @@ fn recovered_answer(
     requires index { index ≤ 999 }
     requires fits { Fits recovered.now }
     ensures { (f : ℕ) → need ≡ sliver_symbols axis f
-        → Says result (λ s text. (s ≡ recovered_status recovered.now) × (text ≡ recovered_text id.now.0 f axis index recovered.now)) }
+        → Says result (λ s text. (s ≡ recovered_status recovered.now)
+        × (text ≡ recovered_text id.now.0 f axis index recovered.now)) }
 {
     match recovered {
         Recovered::Sliver(bytes) => {
@@ -101,7 +103,8 @@ fn recovered<H: Hash32>(
     payloads: &Payloads,
     m: MetaRef<'_>,
 ) -> Result<Recovered, AllocError>
-    ensures recovery { IfOk result (OpeningsComeTo H.digest (metadata_shown m.entry) axis index (openings_in id.now.0 axis index payloads.now)) }
+    ensures recovery { IfOk result (OpeningsComeTo H.digest (metadata_shown m.entry)
+        axis index (openings_in id.now.0 axis index payloads.now)) }
     ensures fits { IfOk result Fits }
 {
     let openings = openings_in(alloc, id, axis, index, payloads)?;
@@ -120,15 +123,16 @@ fn recover_under<H: Hash32>(
     m: MetaRef<'_>,
 ) -> Result<Answer, Refusal>
     requires index { index ≤ 999 }
-    ensures { Says result (Told H.digest (recovering H.digest id.now axis index) (recorded payloads.now (metadata_shown m.entry))) }
+    ensures { Says result (Told H.digest (recovering H.digest id.now axis index)
+        (recorded payloads.now (metadata_shown m.entry))) }
 {
     let need = symbol_count(&m.shape(), axis) as u32;
     let outcome = recovered::<H>(alloc, id, axis, index, payloads, m)?;
     recovered_answer(alloc, id, need, axis, index, &outcome)
 }
 
-/// The sliver of this identifier, axis and index, the proof that it was encoded badly, or why neither is there, from
-/// the envelopes of the stream.
+/// The sliver of this identifier, axis and index, the proof that it was encoded badly, or why
+/// neither is there, from the envelopes of the stream.
 pub fn recover_sliver<H: Hash32>(
     alloc: Global,
     id: &BlobId,

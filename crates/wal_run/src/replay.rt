@@ -35,7 +35,11 @@ fn refusal_of(error: ScheduleError) -> Refusal
 /// Writes the lines of a schedule.
 fn put_lines<H: Hash32, K: Sink>(alloc: Global, schedule: &Schedule, sink: &mut K) -> u8
     requires { IsSchedule schedule.now }
-    ensures does { (input : List ℕ) → IsRead input (Ok schedule.now) → Does (IsResult H.digest (replaying H.digest) input) (MayLeave H.digest (replaying H.digest) input) (MayOwe H.digest (replaying H.digest) input) (K.written sink.old) (K.written sink.new) (Rose (K.faults sink.old) (K.faults sink.new)) result }
+    ensures does { (input : List ℕ) → IsRead input (Ok schedule.now)
+        → Does (IsResult H.digest (replaying H.digest) input)
+        (MayLeave H.digest (replaying H.digest) input)
+        (MayOwe H.digest (replaying H.digest) input) (K.written sink.old)
+        (K.written sink.new) (Rose (K.faults sink.old) (K.faults sink.new)) result }
     ensures later { K.faults sink.old ≤ K.faults sink.new }
 {
     match replay::<H, K>(alloc, schedule, sink) {
@@ -48,7 +52,10 @@ fn put_lines<H: Hash32, K: Sink>(alloc: Global, schedule: &Schedule, sink: &mut 
 
 /// Writes the lines of the schedule that the input spells, or why it spells none.
 pub fn replay_schedule<H: Hash32, K: Sink>(alloc: Global, input: &[u8], sink: &mut K) -> u8
-    ensures does { Does (IsResult H.digest (replaying H.digest) input.now) (MayLeave H.digest (replaying H.digest) input.now) (MayOwe H.digest (replaying H.digest) input.now) (K.written sink.old) (K.written sink.new) (Rose (K.faults sink.old) (K.faults sink.new)) result }
+    ensures does { Does (IsResult H.digest (replaying H.digest) input.now)
+        (MayLeave H.digest (replaying H.digest) input.now)
+        (MayOwe H.digest (replaying H.digest) input.now) (K.written sink.old)
+        (K.written sink.new) (Rose (K.faults sink.old) (K.faults sink.new)) result }
     ensures later { K.faults sink.old ≤ K.faults sink.new }
 {
     match read_schedule(alloc, input) {

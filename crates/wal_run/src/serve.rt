@@ -99,7 +99,9 @@ fn serve_pool<H: Hash32, S: Source, K: Sink>(
     requires ledger { opened.state.ledger ≡ (at_start service.now).ledger }
     requires work { opened.work.f ≡ service.now.faults }
     requires desk { opened.desk ≡ service.now.faults }
-    ensures ended { EndsServing H.digest service.now (S.left source.old) (S.left source.new) (Rose (S.faults source.old) (S.faults source.new)) (K.written sink.old) (K.written sink.new) (Rose (K.faults sink.old) (K.faults sink.new)) result }
+    ensures ended { EndsServing H.digest service.now (S.left source.old) (S.left source.new)
+        (Rose (S.faults source.old) (S.faults source.new)) (K.written sink.old)
+        (K.written sink.new) (Rose (K.faults sink.old) (K.faults sink.new)) result }
     ensures later_source { S.faults source.old ≤ S.faults source.new }
     ensures later_sink { K.faults sink.old ≤ K.faults sink.new }
 {

@@ -1,4 +1,5 @@
-//! The slivers of each shard in turn, whose symbols are written from where they lie in the extended matrix.
+//! The slivers of each shard in turn, whose symbols are written from where they lie in the extended
+//! matrix.
 
 ghost use Rattle.std.specs.Prelude.{◌≡◌, ◌≤◌, ◌<◌, ◌+◌, ◌*◌, ◌++◌, length, min, OnOk, OnErr};
 ghost use Rattle.std.specs.Io.KnownBytes.{Appends};
@@ -22,7 +23,8 @@ use wal_shape::{Axis, BlobId, Metadata};
 fn symbol_at(encoded: &Encoded, row: u16, column: u16) -> &[u8]
     requires row { row < shards encoded.now }
     requires column { column < shards encoded.now }
-    ensures value { result.now ≡ symbol (shards encoded.now) (symbol_bytes encoded.now) encoded.now.cells row column }
+    ensures value { result.now
+        ≡ symbol (shards encoded.now) (symbol_bytes encoded.now) encoded.now.cells row column }
     ensures long { length result.now ≡ symbol_bytes encoded.now }
 {
     let size = encoded.shape().symbol_size() as usize;
@@ -34,7 +36,9 @@ fn symbol_at(encoded: &Encoded, row: u16, column: u16) -> &[u8]
 fn lay_column(out: &mut OutBuf, encoded: &Encoded, index: u16)
     requires index { index < shards encoded.now }
     requires room { row_count encoded.now.shape.f * symbol_bytes encoded.now ≤ out.old.spare }
-    ensures { out.new ≡ appended out.old (secondary_of encoded.now.shape.f (symbol_bytes encoded.now) encoded.now.cells index) }
+    ensures { out.new
+        ≡ appended out.old
+        (secondary_of encoded.now.shape.f (symbol_bytes encoded.now) encoded.now.cells index) }
 {
     let rows = encoded.shape().rows() as u16;
     for row in 0..rows {
@@ -45,8 +49,10 @@ fn lay_column(out: &mut OutBuf, encoded: &Encoded, index: u16)
 /// Writes the first symbols of a column in turn.
 fn put_column<K: Sink>(sink: &mut K, encoded: &Encoded, index: u16) -> Result<(), WriteFault>
     requires index { index < shards encoded.now }
-    ensures whole { OnOk result (Appends (K.written sink.old) (K.written sink.new) (secondary_of encoded.now.shape.f (symbol_bytes encoded.now) encoded.now.cells index)) }
-    ensures part { OnErr result (AppendsPart (K.written sink.old) (K.written sink.new) (secondary_of encoded.now.shape.f (symbol_bytes encoded.now) encoded.now.cells index)) }
+    ensures whole { OnOk result (Appends (K.written sink.old) (K.written sink.new)
+        (secondary_of encoded.now.shape.f (symbol_bytes encoded.now) encoded.now.cells index)) }
+    ensures part { OnErr result (AppendsPart (K.written sink.old) (K.written sink.new)
+        (secondary_of encoded.now.shape.f (symbol_bytes encoded.now) encoded.now.cells index)) }
     ensures fault { OnErr result (Rose (K.faults sink.old) (K.faults sink.new)) }
     ensures later { K.faults sink.old ≤ K.faults sink.new }
 {
@@ -65,10 +71,14 @@ fn put_laid<K: Sink>(
     index: u16,
 ) -> Result<(), WriteFault>
     requires index { index < shards encoded.now }
-    requires whole { length encoded.now.cells ≡ shards encoded.now * shards encoded.now * symbol_bytes encoded.now }
+    requires whole { length encoded.now.cells
+        ≡ shards encoded.now * shards encoded.now * symbol_bytes encoded.now }
     requires room { row_count encoded.now.shape.f * symbol_bytes encoded.now ≤ out.old.spare }
-    ensures whole { OnOk result (Appends (K.written sink.old) (K.written sink.new) (out.old.bytes ++ secondary_of encoded.now.shape.f (symbol_bytes encoded.now) encoded.now.cells index)) }
-    ensures part { OnErr result (AppendsPart (K.written sink.old) (K.written sink.new) (out.old.bytes ++ secondary_of encoded.now.shape.f (symbol_bytes encoded.now) encoded.now.cells index)) }
+    ensures whole { OnOk result (Appends (K.written sink.old) (K.written sink.new) (out.old.bytes
+        ++ secondary_of encoded.now.shape.f (symbol_bytes encoded.now) encoded.now.cells index)) }
+    ensures part { OnErr result
+        (AppendsPart (K.written sink.old) (K.written sink.new) (out.old.bytes
+        ++ secondary_of encoded.now.shape.f (symbol_bytes encoded.now) encoded.now.cells index)) }
     ensures fault { OnErr result (Rose (K.faults sink.old) (K.faults sink.new)) }
     ensures later { K.faults sink.old ≤ K.faults sink.new }
     ensures buffer { out.new.spare + length out.new.bytes ≡ out.old.spare + length out.old.bytes }
@@ -85,8 +95,11 @@ fn put_apart<K: Sink>(
     index: u16,
 ) -> Result<(), WriteFault>
     requires index { index < shards encoded.now }
-    ensures whole { OnOk result (Appends (K.written sink.old) (K.written sink.new) (out.now.bytes ++ secondary_of encoded.now.shape.f (symbol_bytes encoded.now) encoded.now.cells index)) }
-    ensures part { OnErr result (AppendsPart (K.written sink.old) (K.written sink.new) (out.now.bytes ++ secondary_of encoded.now.shape.f (symbol_bytes encoded.now) encoded.now.cells index)) }
+    ensures whole { OnOk result (Appends (K.written sink.old) (K.written sink.new) (out.now.bytes
+        ++ secondary_of encoded.now.shape.f (symbol_bytes encoded.now) encoded.now.cells index)) }
+    ensures part { OnErr result
+        (AppendsPart (K.written sink.old) (K.written sink.new) (out.now.bytes
+        ++ secondary_of encoded.now.shape.f (symbol_bytes encoded.now) encoded.now.cells index)) }
     ensures fault { OnErr result (Rose (K.faults sink.old) (K.faults sink.new)) }
     ensures later { K.faults sink.old ≤ K.faults sink.new }
 {
@@ -106,8 +119,12 @@ fn put_primary<K: Sink>(
     requires index { index < shards encoded.now }
     requires fit { IsShape encoded.now.shape.f encoded.now.shape.length }
     requires buffer { 47 ≤ out.old.spare + length out.old.bytes }
-    ensures whole { OnOk result (Appends (K.written sink.old) (K.written sink.new) (envelope shard (sliver_frame id.now.0 Primary index (primary_of encoded.now.shape.f (symbol_bytes encoded.now) encoded.now.cells index)))) }
-    ensures part { OnErr result (AppendsPart (K.written sink.old) (K.written sink.new) (envelope shard (sliver_frame id.now.0 Primary index (primary_of encoded.now.shape.f (symbol_bytes encoded.now) encoded.now.cells index)))) }
+    ensures whole { OnOk result (Appends (K.written sink.old) (K.written sink.new)
+        (envelope shard (sliver_frame id.now.0 Primary index
+        (primary_of encoded.now.shape.f (symbol_bytes encoded.now) encoded.now.cells index)))) }
+    ensures part { OnErr result (AppendsPart (K.written sink.old) (K.written sink.new)
+        (envelope shard (sliver_frame id.now.0 Primary index
+        (primary_of encoded.now.shape.f (symbol_bytes encoded.now) encoded.now.cells index)))) }
     ensures fault { OnErr result (Rose (K.faults sink.old) (K.faults sink.new)) }
     ensures later { K.faults sink.old ≤ K.faults sink.new }
     ensures buffer { out.new.spare + length out.new.bytes ≡ out.old.spare + length out.old.bytes }
@@ -130,10 +147,16 @@ fn put_secondary<K: Sink>(
 ) -> Result<(), WriteFault>
     requires index { index < shards encoded.now }
     requires fit { IsShape encoded.now.shape.f encoded.now.shape.length }
-    requires whole { length encoded.now.cells ≡ shards encoded.now * shards encoded.now * symbol_bytes encoded.now }
-    requires buffer { 47 + row_count encoded.now.shape.f * min (symbol_bytes encoded.now) 8192 ≤ out.old.spare + length out.old.bytes }
-    ensures whole { OnOk result (Appends (K.written sink.old) (K.written sink.new) (envelope shard (sliver_frame id.now.0 Secondary index (secondary_of encoded.now.shape.f (symbol_bytes encoded.now) encoded.now.cells index)))) }
-    ensures part { OnErr result (AppendsPart (K.written sink.old) (K.written sink.new) (envelope shard (sliver_frame id.now.0 Secondary index (secondary_of encoded.now.shape.f (symbol_bytes encoded.now) encoded.now.cells index)))) }
+    requires whole { length encoded.now.cells
+        ≡ shards encoded.now * shards encoded.now * symbol_bytes encoded.now }
+    requires buffer { 47 + row_count encoded.now.shape.f * min (symbol_bytes encoded.now) 8192
+        ≤ out.old.spare + length out.old.bytes }
+    ensures whole { OnOk result (Appends (K.written sink.old) (K.written sink.new)
+        (envelope shard (sliver_frame id.now.0 Secondary index
+        (secondary_of encoded.now.shape.f (symbol_bytes encoded.now) encoded.now.cells index)))) }
+    ensures part { OnErr result (AppendsPart (K.written sink.old) (K.written sink.new)
+        (envelope shard (sliver_frame id.now.0 Secondary index
+        (secondary_of encoded.now.shape.f (symbol_bytes encoded.now) encoded.now.cells index)))) }
     ensures fault { OnErr result (Rose (K.faults sink.old) (K.faults sink.new)) }
     ensures later { K.faults sink.old ≤ K.faults sink.new }
     ensures buffer { out.new.spare + length out.new.bytes ≡ out.old.spare + length out.old.bytes }
@@ -161,10 +184,14 @@ fn put_shard<K: Sink>(
     requires faults { metadata.now.f ≡ encoded.now.shape.f }
     requires format { metadata.now.format ≡ encoded.now.shape.format }
     requires fit { IsShape encoded.now.shape.f encoded.now.shape.length }
-    requires whole { length encoded.now.cells ≡ shards encoded.now * shards encoded.now * symbol_bytes encoded.now }
-    requires buffer { 47 + row_count encoded.now.shape.f * min (symbol_bytes encoded.now) 8192 ≤ out.old.spare + length out.old.bytes }
-    ensures whole { OnOk result (Appends (K.written sink.old) (K.written sink.new) (shard_text id.now.0 encoded.now.shape encoded.now.cells shard)) }
-    ensures part { OnErr result (AppendsPart (K.written sink.old) (K.written sink.new) (shard_text id.now.0 encoded.now.shape encoded.now.cells shard)) }
+    requires whole { length encoded.now.cells
+        ≡ shards encoded.now * shards encoded.now * symbol_bytes encoded.now }
+    requires buffer { 47 + row_count encoded.now.shape.f * min (symbol_bytes encoded.now) 8192
+        ≤ out.old.spare + length out.old.bytes }
+    ensures whole { OnOk result (Appends (K.written sink.old) (K.written sink.new)
+        (shard_text id.now.0 encoded.now.shape encoded.now.cells shard)) }
+    ensures part { OnErr result (AppendsPart (K.written sink.old) (K.written sink.new)
+        (shard_text id.now.0 encoded.now.shape encoded.now.cells shard)) }
     ensures fault { OnErr result (Rose (K.faults sink.old) (K.faults sink.new)) }
     ensures later { K.faults sink.old ≤ K.faults sink.new }
     ensures buffer { out.new.spare + length out.new.bytes ≡ out.old.spare + length out.old.bytes }
@@ -186,10 +213,16 @@ pub fn put_slivers<K: Sink>(
     requires faults { metadata.now.f ≡ encoded.now.shape.f }
     requires format { metadata.now.format ≡ encoded.now.shape.format }
     requires fit { IsShape encoded.now.shape.f encoded.now.shape.length }
-    requires whole { length encoded.now.cells ≡ shards encoded.now * shards encoded.now * symbol_bytes encoded.now }
-    requires buffer { 47 + row_count encoded.now.shape.f * min (symbol_bytes encoded.now) 8192 ≤ out.old.spare + length out.old.bytes }
-    ensures whole { OnOk result (Appends (K.written sink.old) (K.written sink.new) (flat_map (shard_text id.now.0 encoded.now.shape encoded.now.cells) (range_with_len 0 (shard_count encoded.now.shape.f)))) }
-    ensures part { OnErr result (AppendsPart (K.written sink.old) (K.written sink.new) (flat_map (shard_text id.now.0 encoded.now.shape encoded.now.cells) (range_with_len 0 (shard_count encoded.now.shape.f)))) }
+    requires whole { length encoded.now.cells
+        ≡ shards encoded.now * shards encoded.now * symbol_bytes encoded.now }
+    requires buffer { 47 + row_count encoded.now.shape.f * min (symbol_bytes encoded.now) 8192
+        ≤ out.old.spare + length out.old.bytes }
+    ensures whole { OnOk result (Appends (K.written sink.old) (K.written sink.new)
+        (flat_map (shard_text id.now.0 encoded.now.shape encoded.now.cells)
+        (range_with_len 0 (shard_count encoded.now.shape.f)))) }
+    ensures part { OnErr result (AppendsPart (K.written sink.old) (K.written sink.new)
+        (flat_map (shard_text id.now.0 encoded.now.shape encoded.now.cells)
+        (range_with_len 0 (shard_count encoded.now.shape.f)))) }
     ensures fault { OnErr result (Rose (K.faults sink.old) (K.faults sink.new)) }
     ensures later { K.faults sink.old ≤ K.faults sink.new }
     ensures buffer { out.new.spare + length out.new.bytes ≡ out.old.spare + length out.old.bytes }

@@ -86,8 +86,9 @@ pub fn run<H: Hash32, S: Source, K: Sink>(
     // What the status shows, by the table of causes.
     ensures causes { Causes H.digest (map string_bytes words.now.items)
         (seen S.Source source.old source.new K.Sink sink.old sink.new) result }
-    // Where the source tells its bytes, whatever answer they have was told, or a front of it for want
-    // of memory or by a fault; of a collision the two texts are not compared, but what stands before is.
+    // Where the source tells its bytes, whatever answer they have was told, or a front of it for
+    // want of memory or by a fault; of a collision the two texts are not compared, but what stands
+    // before is.
     ensures exact { IsExact H.digest (map string_bytes words.now.items)
         (seen S.Source source.old source.new K.Sink sink.old sink.new) result }
     // And so was the usage, whatever the source has.
@@ -170,7 +171,8 @@ fn perform<H: Hash32, K: Sink>(alloc: Global, task: &WholeTask, input: &[u8], si
     ensures does { Does (IsResult H.digest (whole_command H.digest task.now) input.now)
         (MayLeave H.digest (whole_command H.digest task.now) input.now)
         (MayOwe H.digest (whole_command H.digest task.now) input.now)
-        (K.written sink.old) (K.written sink.new) (Rose (K.faults sink.old) (K.faults sink.new)) result }
+        (K.written sink.old) (K.written sink.new)
+        (Rose (K.faults sink.old) (K.faults sink.new)) result }
     ensures later { K.faults sink.old ≤ K.faults sink.new }
 {
     match task {

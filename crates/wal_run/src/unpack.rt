@@ -48,7 +48,8 @@ fn add_part<K: Keep>(
     id: &BlobId,
     part: Part,
 ) -> Result<(), AllocError>
-    ensures { OnOk result (text.new.items ≡ text.old.items ++ part_text id.now part (part_at (K.contents keep.now) id.now part)) }
+    ensures { OnOk result (text.new.items
+        ≡ text.old.items ++ part_text id.now part (part_at (K.contents keep.now) id.now part)) }
 {
     match keep.size(id, part) {
         Some(size) => add_line(text, id, part, size),
@@ -58,7 +59,8 @@ fn add_part<K: Keep>(
 
 /// Appends the lines of the parts under an identifier.
 fn add_holding<K: Keep>(text: &mut Vec<u8>, keep: &K, id: &BlobId) -> Result<(), AllocError>
-    ensures { OnOk result (text.new.items ≡ text.old.items ++ holding_text id.now (parts_at (K.contents keep.now) id.now)) }
+    ensures { OnOk result (text.new.items
+        ≡ text.old.items ++ holding_text id.now (parts_at (K.contents keep.now) id.now)) }
 {
     add_part(text, keep, id, Part::Metadata)?;
     add_part(text, keep, id, Part::Primary)?;

@@ -20,7 +20,8 @@ use wal_words::Audit;
 
 /// What a verdict on the openings in answer to so many draws says.
 fn verdict_answer(alloc: Global, draws: u16, verdict: AnswerVerdict) -> Result<Answer, Refusal>
-    ensures { Says result (λ s text. (s ≡ verdict_status verdict) × (text ≡ verdict_text draws verdict)) }
+    ensures { Says result
+        (λ s text. (s ≡ verdict_status verdict) × (text ≡ verdict_text draws verdict)) }
 {
     match verdict {
         AnswerVerdict::WrongCount(have) => Err(Refusal::WrongCount { have, draws }),
@@ -41,7 +42,8 @@ fn verify_under<H: Hash32>(
 ) -> Result<Answer, Refusal>
     requires least { 1 ≤ audit.now.count }
     requires most { audit.now.count ≤ 1000 }
-    ensures { Says result (Told H.digest (verifying H.digest audit.now) (recorded payloads.now (metadata_shown m.entry))) }
+    ensures { Says result (Told H.digest (verifying H.digest audit.now)
+        (recorded payloads.now (metadata_shown m.entry))) }
 {
     if u32::from(audit.shard) >= m.shape().n() {
         return Err(Refusal::NoShard);

@@ -50,7 +50,9 @@ replies_at d = do
 
 -- one node for each of n shards, and where the key is missing the shard's own number
 abbrev pub owners_at : ℕ → Data → Option (List ℕ)
-owners_at n d = if is_some (get (codes "owners") d) then list_at (codes "owners") d else Some (range_with_len 0 n)
+owners_at n d =
+    if is_some (get (codes "owners") d) then list_at (codes "owners") d
+    else Some (range_with_len 0 n)
 
 -- how many keys more there are where this one is there
 abbrev pub one_if_has : List ℕ → Data → ℕ
@@ -169,7 +171,8 @@ joined number None rest = Err number
 joined number (Some e) (Ok es) = Ok (e ∷ es)
 joined number (Some e) (Err other) = Err other
 
--- the events that values are, the first of which has this number, or the number of the first value that is none
+-- the events that values are, the first of which has this number, or the number of the first value
+-- that is none
 abbrev pub events_of : ℕ → ℕ → Items → Result (List Event) ℕ
 events_of f number no_items = Ok []
 events_of f number (item d ds) = joined number (event_of f d) (events_of f (number + 1) ds)
@@ -204,7 +207,8 @@ head_of d = do
   format ← format_at d
   owners ← owners_at (shard_count f) d
   faulty ← list_at (codes "faulty") d
-  head ← given (nat_le 1 f && is_committee (shard_count f) owners faulty) (record { f = f; epoch = epoch; format = format; owners = owners; faulty = faulty })
+  head ← given (nat_le 1 f && is_committee (shard_count f) owners faulty)
+      (record { f = f; epoch = epoch; format = format; owners = owners; faulty = faulty })
   with_keys (4 + one_if_has (codes "format") d + one_if_has (codes "owners") d) d head
 
 -- a schedule of its head and its events
@@ -214,7 +218,8 @@ schedule_with h (Err number) = Err (BadEvent number)
 
 -- at most 65,536 events
 abbrev pub with_events : Head → Items → Result Schedule ScheduleError
-with_events h items = if nat_lt 65536 (items_len items) then Err TooMany else schedule_with h (events_of h.f 1 items)
+with_events h items =
+    if nat_lt 65536 (items_len items) then Err TooMany else schedule_with h (events_of h.f 1 items)
 
 -- the head of a schedule, and the values that are to be its events
 abbrev pub parts_of : Data → Option (Head × Items)
@@ -241,5 +246,6 @@ IsRead text (Ok s) = (d : Data) × HasValue text d × (schedule_of d ≡ Ok s)
 IsRead text (Err NotJson) = (d : Data) → HasValue text d → ⊥
 IsRead text (Err BadSchedule) = (d : Data) × HasValue text d × (schedule_of d ≡ Err BadSchedule)
 IsRead text (Err TooMany) = (d : Data) × HasValue text d × (schedule_of d ≡ Err TooMany)
-IsRead text (Err (BadEvent number)) = (d : Data) × HasValue text d × (schedule_of d ≡ Err (BadEvent number))
+IsRead text (Err (BadEvent number)) =
+    (d : Data) × HasValue text d × (schedule_of d ≡ Err (BadEvent number))
 IsRead text (Err Memory) = ⊤

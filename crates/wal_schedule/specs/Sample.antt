@@ -1,4 +1,5 @@
--- The sample: a schedule of one handover, whose faulty shards and whose bytes are drawn from a number.
+-- The sample: a schedule of one handover, whose faulty shards and whose bytes are drawn from a
+-- number.
 use Rattle.std.specs.Prelude.{◌≡◌, ℕ, zero, suc, ◌+◌, ◌*◌, ◌/◌, ◌%◌, ◌^◌, List, [], ◌∷◌, ◌++◌, map}
 use Rattle.std.specs.List.{AllByRecursion, range_with_len, flat_map, remove}
 use Rattle.wal_shape.specs.declared.axis.Axis.{Axis}
@@ -37,8 +38,10 @@ abbrev pub blob_from : ℕ → ℕ → List ℕ
 blob_from x b = b ∷ map (λ k. drawn x k % 256) (range_with_len 1 (8 * b + 7))
 
 -- the first blobs are those that are drawn one after the other, and have their identifiers
-pub record AreBlobs (digest : List ℕ → List ℕ) (x count : ℕ) (blobs : List SampleBlob) : Type 0 where
-  pub bytes : map (λ blob. blob.bytes) blobs ≡ map (λ b. blob_from (state_before x b) b) (range_with_len 0 count)
+pub record AreBlobs (digest : List ℕ → List ℕ) (x count : ℕ)
+    (blobs : List SampleBlob) : Type 0 where
+  pub bytes : map (λ blob. blob.bytes) blobs
+      ≡ map (λ b. blob_from (state_before x b) b) (range_with_len 0 count)
   pub identified : AllByRecursion (λ blob. IsIdentifierOf digest One 2 blob.bytes blob.id.0) blobs
 
 -- the seven shards
@@ -55,7 +58,9 @@ truths = map (λ s. reply.True Now s) everyone
 
 -- a blob is registered, written to all, acknowledged by all and read
 abbrev pub stored_events : SampleBlob → List Event
-stored_events blob = Register blob.id 10 ∷ Write blob.bytes everyone ∷ (map (λ s. Ack s blob.id) everyone ++ Read blob.id truths ∷ [])
+stored_events blob =
+    Register blob.id 10 ∷ Write blob.bytes everyone
+    ∷ (map (λ s. Ack s blob.id) everyone ++ Read blob.id truths ∷ [])
 
 -- a shard of the next committee recovers its slivers of this axis
 abbrev pub recovered_by : Axis → List SampleBlob → ℕ → List Event
@@ -72,18 +77,19 @@ asked_of id = Holders id ∷ Read id truths ∷ []
 abbrev pub asked_events : SampleBlob → List Event
 asked_events blob = asked_of blob.id
 
--- the events before the change of the epoch, and those from its beginning on, with the shard that is faulty
--- then and the one that does not stay
+-- the events before the change of the epoch, and those from its beginning on, with the shard that
+-- is faulty then and the one that does not stay
 abbrev pub earlier_events : List SampleBlob → List Event
 earlier_events blobs = flat_map stored_events blobs
 
 abbrev pub later_events : List SampleBlob → ℕ → ℕ → List Event
 later_events blobs faulty leaving =
     Begin everyone (faulty ∷ []) (everyone_but leaving)
-    ∷ (recovered_events Secondary blobs ++ recovered_events Primary blobs ++ map (λ s. Ready s) everyone ++ Finish ∷ flat_map asked_events blobs)
+    ∷ (recovered_events Secondary blobs ++ recovered_events Primary blobs
+    ++ map (λ s. Ready s) everyone ++ Finish ∷ flat_map asked_events blobs)
 
--- the schedule of these blobs and these three shards: the one that is faulty first, the one that is faulty
--- later, and the one that does not stay
+-- the schedule of these blobs and these three shards: the one that is faulty first, the one that is
+-- faulty later, and the one that does not stay
 abbrev pub sample_with : List SampleBlob → ℕ → ℕ → ℕ → Schedule
 sample_with blobs first later leaving = record {
   f = 2;
@@ -94,9 +100,11 @@ sample_with blobs first later leaving = record {
   events = earlier_events blobs ++ later_events blobs later leaving;
 }
 
--- the schedule is the sample of a number: the first draw is for the faulty shard, then blob after blob is
--- drawn, and the next two draws are for the shards of the change
+-- the schedule is the sample of a number: the first draw is for the faulty shard, then blob after
+-- blob is drawn, and the next two draws are for the shards of the change
 abbrev pub IsSample : (List ℕ → List ℕ) → ℕ → Schedule → Type 0
 IsSample digest number s =
     (blobs : List SampleBlob) × AreBlobs digest (state_after number 1) 32 blobs
-    × (s ≡ sample_with blobs (drawn number 1 % 7) (drawn (state_before (state_after number 1) 32) 1 % 7) (drawn (state_before (state_after number 1) 32) 2 % 7))
+    × (s ≡ sample_with blobs (drawn number 1 % 7)
+    (drawn (state_before (state_after number 1) 32) 1 % 7)
+    (drawn (state_before (state_after number 1) 32) 2 % 7))

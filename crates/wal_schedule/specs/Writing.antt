@@ -1,4 +1,5 @@
--- Schedules as JSON: the value that is written for each. Keys are in the order of their bytes, and digits are lower-case.
+-- Schedules as JSON: the value that is written for each. Keys are in the order of their bytes, and
+-- digits are lower-case.
 use Rattle.std.specs.Prelude.{◌≡◌, ℕ, List, length, map, codes}
 use Rattle.std.specs.List.{AllByRecursion}
 use Rattle.hex.specs.Hex.{IsBytes, encode_lower}
@@ -42,7 +43,9 @@ format_data One = number_data 1
 format_data Two = number_data 2
 
 abbrev pub reply_data : Reply → Data
-reply_data (reply.True side shard) = object (member (codes "at") (side_data side) (member (codes "true") (number_data shard) no_members))
+reply_data (reply.True side shard) =
+    object
+    (member (codes "at") (side_data side) (member (codes "true") (number_data shard) no_members))
 reply_data (reply.Bytes bytes) = object (member (codes "bytes") (bytes_data bytes) no_members)
 
 abbrev pub replies_data : List Reply → Data
@@ -50,24 +53,37 @@ replies_data replies = array (items_of (map reply_data replies))
 
 -- an event of this name that names a blob alone
 abbrev pub about : List ℕ → BlobId → Members → Data
-about name id more = object (member (codes "do") (string name) (member (codes "id") (id_data id) more))
+about name id more =
+    object (member (codes "do") (string name) (member (codes "id") (id_data id) more))
 
 abbrev pub of_shard : ℕ → Members
 of_shard shard = member (codes "shard") (number_data shard) no_members
 
 abbrev pub event_data : Event → Data
-event_data (Register id until) = about (codes "register") id (member (codes "until") (number_data until) no_members)
-event_data (Write blob to) = object (member (codes "blob") (bytes_data blob) (member (codes "do") (string (codes "write")) (member (codes "to") (list_data to) no_members)))
-event_data (Send at shard bytes) = object (member (codes "at") (side_data at) (member (codes "bytes") (bytes_data bytes) (member (codes "do") (string (codes "send")) (of_shard shard))))
+event_data (Register id until) =
+    about (codes "register") id (member (codes "until") (number_data until) no_members)
+event_data (Write blob to) =
+    object (member (codes "blob") (bytes_data blob)
+    (member (codes "do") (string (codes "write")) (member (codes "to") (list_data to) no_members)))
+event_data (Send at shard bytes) =
+    object (member (codes "at") (side_data at) (member (codes "bytes")
+    (bytes_data bytes) (member (codes "do") (string (codes "send")) (of_shard shard))))
 event_data (Ack shard id) = about (codes "ack") id (of_shard shard)
 event_data (Attest shard id) = about (codes "attest") id (of_shard shard)
-event_data (Read id replies) = about (codes "read") id (member (codes "replies") (replies_data replies) no_members)
+event_data (Read id replies) =
+    about (codes "read") id (member (codes "replies") (replies_data replies) no_members)
 event_data (Recover at shard axis id replies) =
-    object (member (codes "at") (side_data at) (member (codes "axis") (axis_data axis) (member (codes "do") (string (codes "recover"))
-    (member (codes "id") (id_data id) (member (codes "replies") (replies_data replies) (of_shard shard))))))
-event_data (Forget at shard id) = object (member (codes "at") (side_data at) (member (codes "do") (string (codes "forget")) (member (codes "id") (id_data id) (of_shard shard))))
+    object (member (codes "at") (side_data at)
+    (member (codes "axis") (axis_data axis) (member (codes "do") (string (codes "recover"))
+    (member (codes "id") (id_data id)
+    (member (codes "replies") (replies_data replies) (of_shard shard))))))
+event_data (Forget at shard id) =
+    object (member (codes "at") (side_data at) (member (codes "do")
+    (string (codes "forget")) (member (codes "id") (id_data id) (of_shard shard))))
 event_data (Begin owners faulty stays) =
-    object (member (codes "do") (string (codes "begin")) (member (codes "faulty") (list_data faulty) (member (codes "owners") (list_data owners) (member (codes "stays") (list_data stays) no_members))))
+    object (member (codes "do") (string (codes "begin"))
+    (member (codes "faulty") (list_data faulty) (member (codes "owners")
+    (list_data owners) (member (codes "stays") (list_data stays) no_members))))
 event_data (Ready shard) = object (member (codes "do") (string (codes "ready")) (of_shard shard))
 event_data Finish = object (member (codes "do") (string (codes "finish")) no_members)
 event_data (Certificate id) = about (codes "certificate") id no_members
@@ -79,8 +95,10 @@ events_data events = array (items_of (map event_data events))
 -- the value that is written for a schedule
 abbrev pub schedule_data : Schedule → Data
 schedule_data s =
-    object (member (codes "epoch") (number_data s.epoch) (member (codes "events") (events_data s.events) (member (codes "f") (number_data s.f)
-    (member (codes "faulty") (list_data s.faulty) (member (codes "format") (format_data s.format) (member (codes "owners") (list_data s.owners) no_members))))))
+    object (member (codes "epoch") (number_data s.epoch)
+    (member (codes "events") (events_data s.events) (member (codes "f") (number_data s.f)
+    (member (codes "faulty") (list_data s.faulty) (member (codes "format")
+    (format_data s.format) (member (codes "owners") (list_data s.owners) no_members))))))
 
 -- an identifier is 32 bytes
 pub record IsId (id : BlobId) : Type 0 where

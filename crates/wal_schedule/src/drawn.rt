@@ -1,4 +1,5 @@
-//! The sample: a schedule of one handover, whose faulty shards and whose bytes are drawn from a number.
+//! The sample: a schedule of one handover, whose faulty shards and whose bytes are drawn from a
+//! number.
 
 ghost use Rattle.std.specs.Prelude.{◌≡◌, ◌+◌, ◌*◌, ◌<◌, ◌≤◌, ◌/◌, ◌%◌, ◌^◌, ◌++◌, ◌∷◌, [], map, length, IfOk, OnOk};
 ghost use Rattle.std.specs.List.{flat_map, range_with_len};
@@ -327,9 +328,9 @@ fn sample_with(
     })
 }
 
-/// The sample of a number: seven shards, of which one is faulty, and one of the next committee, with the
-/// node of each shard its own number; 32 blobs of 8 to 256 bytes, which are stored and read, then recovered
-/// by the next committee, and read again. There are 841 events.
+/// The sample of a number: seven shards, of which one is faulty, and one of the next committee,
+/// with the node of each shard its own number; 32 blobs of 8 to 256 bytes, which are stored and
+/// read, then recovered by the next committee, and read again. There are 841 events.
 ///
 /// Draws are from a state of 64 bits that begins as the number. A draw replaces the state x by
 /// `x * 6364136223846793005 + 1442695040888963407` modulo `2^64` and gives its upper 31 bits.

@@ -166,7 +166,8 @@ pub(crate) fn axis_at(value: &Value) -> Result<Axis, Fault>
 
 /// The list under a key.
 pub(crate) fn items_at<'v>(value: &'v Value, key: &str) -> Result<&'v [Value], Fault>
-    ensures { Gives (λ items. items_view items.now) result (read.items_at key.now (view value.now)) }
+    ensures { Gives (λ items. items_view items.now) result
+        (read.items_at key.now (view value.now)) }
 {
     match field(value, key)?.as_array() {
         Some(items) => Ok(items.as_slice()),

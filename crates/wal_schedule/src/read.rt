@@ -188,7 +188,8 @@ fn events_in(alloc: Global, items: &[Value], f: u32) -> Result<Events, ScheduleE
 
 /// The head and the events' values, or why the value is no schedule.
 fn parts_in(alloc: Global, value: &Value) -> Result<(Head, &[Value]), Fault>
-    ensures read { Gives (λ p. (p.0, items_view p.1.now)) result (grammar.parts_of (view value.now)) }
+    ensures read { Gives (λ p. (p.0, items_view p.1.now))
+        result (grammar.parts_of (view value.now)) }
     ensures range { IfOk result (λ p. IsHead p.0) }
 {
     let head = head_in(alloc, value)?;
@@ -226,11 +227,12 @@ fn schedule_in(alloc: Global, value: &Value) -> Result<Schedule, ScheduleError>
 
 /// Reads a schedule.
 ///
-/// It is a JSON object with the keys `f` (1 to 333), `epoch` (0 to 65,535), `faulty` (the faulty shards,
-/// ascending), `events` (a list of objects), and possibly `format` (1 or 2, and 1 where it is missing)
-/// and `owners` (the node of each of the `3f + 1` shards, and the shard's own number where it is
-/// missing). With a faulty shard every shard of its node is faulty. A key that is repeated has its last
-/// value. Of several causes of a refusal the first in the order of `ScheduleError` is told.
+/// It is a JSON object with the keys `f` (1 to 333), `epoch` (0 to 65,535), `faulty` (the faulty
+/// shards, ascending), `events` (a list of objects), and possibly `format` (1 or 2, and 1 where it
+/// is missing) and `owners` (the node of each of the `3f + 1` shards, and the shard's own number
+/// where it is missing). With a faulty shard every shard of its node is faulty. A key that is
+/// repeated has its last value. Of several causes of a refusal the first in the order of
+/// `ScheduleError` is told.
 pub fn read_schedule(alloc: Global, text: &[u8]) -> Result<Schedule, ScheduleError>
     ensures read { IsRead text.now result }
     ensures range { IfOk result IsSchedule }

@@ -179,7 +179,8 @@ fn put_replies(
     replies: &[Reply],
 ) -> Result<(), AllocError>
     ensures value { OnOk result
-        (IsPut (codes "replies") (json_of.replies_data replies.now) map.old.entries map.new.entries) }
+        (IsPut (codes "replies") (json_of.replies_data replies.now)
+        map.old.entries map.new.entries) }
     ensures bytes { OnOk result (AllByRecursion HasReplyBytes replies.now) }
 {
     let list = replies_value(alloc, replies)?;
@@ -195,7 +196,8 @@ fn put_about(
 ) -> Result<(), AllocError>
     requires { map.old.entries ≡ [] }
     ensures value { OnOk result (members_view map.new.entries
-        ≡ member (codes "do") (string name.now) (member (codes "id") (json_of.id_data id) no_members)) }
+        ≡ member (codes "do") (string name.now)
+        (member (codes "id") (json_of.id_data id) no_members)) }
     ensures bytes { OnOk result (IsId id) }
 {
     put_text(map, alloc, "do", name)?;
@@ -212,7 +214,8 @@ fn put_signed(
 ) -> Result<(), AllocError>
     requires { map.old.entries ≡ [] }
     ensures value { OnOk result
-        (object (members_view map.new.entries) ≡ json_of.about name.now id (json_of.of_shard shard)) }
+        (object (members_view map.new.entries)
+        ≡ json_of.about name.now id (json_of.of_shard shard)) }
     ensures bytes { OnOk result (IsId id) }
 {
     put_about(map, alloc, name, id)?;
@@ -262,7 +265,8 @@ fn put_send(
 ) -> Result<(), AllocError>
     requires { map.old.entries ≡ [] }
     ensures value { OnOk result
-        (object (members_view map.new.entries) ≡ json_of.event_data (kind.Send at shard bytes.now)) }
+        (object (members_view map.new.entries)
+        ≡ json_of.event_data (kind.Send at shard bytes.now)) }
     ensures bytes { OnOk result (HasBytes (kind.Send at shard bytes.now)) }
 {
     put_side(map, alloc, at)?;
@@ -299,7 +303,8 @@ fn put_recover(
 ) -> Result<(), AllocError>
     requires { map.old.entries ≡ [] }
     ensures value { OnOk result
-        (object (members_view map.new.entries) ≡ json_of.event_data (kind.Recover at shard axis id replies.now)) }
+        (object (members_view map.new.entries)
+        ≡ json_of.event_data (kind.Recover at shard axis id replies.now)) }
     ensures bytes { OnOk result (HasBytes (kind.Recover at shard axis id replies.now)) }
 {
     put_about(map, alloc, "recover", id)?;
@@ -337,7 +342,8 @@ fn put_begin(
 ) -> Result<(), AllocError>
     requires { map.old.entries ≡ [] }
     ensures value { OnOk result
-        (object (members_view map.new.entries) ≡ json_of.event_data (kind.Begin owners.now faulty.now stays.now)) }
+        (object (members_view map.new.entries)
+        ≡ json_of.event_data (kind.Begin owners.now faulty.now stays.now)) }
     ensures bytes { OnOk result (HasBytes (kind.Begin owners.now faulty.now stays.now)) }
 {
     put_text(map, alloc, "do", "begin")?;
@@ -452,8 +458,8 @@ fn schedule_value(alloc: Global, schedule: &Schedule) -> Result<Value, AllocErro
 
 /// Writes a schedule as a JSON text, which `read_schedule` reads as the same schedule.
 ///
-/// The keys of an object are in the order of their bytes, there is no space, digits are lower-case, and
-/// `format` and `owners` are always there.
+/// The keys of an object are in the order of their bytes, there is no space, digits are lower-case,
+/// and `format` and `owners` are always there.
 pub fn write_schedule(alloc: Global, schedule: &Schedule) -> Result<String, AllocError>
     requires { IsSchedule schedule.now }
     ensures read { IfOk result (λ text. IsRead (string_bytes text) (Ok schedule.now)) }

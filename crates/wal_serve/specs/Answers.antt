@@ -16,54 +16,85 @@ use Rattle.wal_serve.specs.Requests.{IsPutRequest, Registered, Vouched, Entered,
 
 -- one frame is answered
 abbrev pub IsReplyOutcome : Result Reply MetaClash → List (List ℕ) → Option MetaClash → Type 0
-IsReplyOutcome outcome frames clash = (frames ≡ outcome_text outcome ∷ []) × (clash ≡ clash_in outcome)
+IsReplyOutcome outcome frames clash =
+    (frames ≡ outcome_text outcome ∷ []) × (clash ≡ clash_in outcome)
 
 -- these frames are answered, and then their number
 abbrev pub IsReplied : List (List ℕ) → List (List ℕ) → Option MetaClash → Type 0
-IsReplied payloads frames clash = (frames ≡ payloads ++ reply_text (done (length payloads)) ∷ []) × (clash ≡ None)
+IsReplied payloads frames clash =
+    (frames ≡ payloads ++ reply_text (done (length payloads)) ∷ []) × (clash ≡ None)
 
 -- a metadata, a sliver or a proof is put to the shard
-abbrev pub AnswersPut : (List ℕ → List ℕ) → Bool → Frame → ServedState → List (List ℕ) → Option MetaClash → ServedState → Type 0
+abbrev pub AnswersPut : (List ℕ → List ℕ) → Bool → Frame → ServedState → List (List ℕ)
+    → Option MetaClash → ServedState → Type 0
 AnswersPut digest may_want frame old frames clash new =
-    (outcome : Result Reply MetaClash) × (contents : Contents) × IsPutRequest digest may_want old.shard old.ledger.log frame outcome contents
+    (outcome : Result Reply MetaClash) × (contents : Contents)
+    × IsPutRequest digest may_want old.shard old.ledger.log frame outcome contents
     × IsReplyOutcome outcome frames clash × (new ≡ holding old contents)
 
 -- a request that the ledger answers, by what it makes of the ledger
-abbrev pub AnswersEntry : (Reply → LedgerState → Type 0) → ServedState → List (List ℕ) → Option MetaClash → ServedState → Type 0
+abbrev pub AnswersEntry : (Reply → LedgerState → Type 0) → ServedState → List (List ℕ)
+    → Option MetaClash → ServedState → Type 0
 AnswersEntry Makes old frames clash new =
-    (r : Reply) × (ledger : LedgerState) × Makes r ledger × IsReplyOutcome (Ok r) frames clash × (new ≡ with_ledger old ledger)
+    (r : Reply) × (ledger : LedgerState) × Makes r ledger × IsReplyOutcome (Ok r) frames clash
+    × (new ≡ with_ledger old ledger)
 
 -- a request to forget the slivers of a blob
-abbrev pub AnswersForget : BlobId → ServedState → List (List ℕ) → Option MetaClash → ServedState → Type 0
+abbrev pub AnswersForget : BlobId → ServedState → List (List ℕ) → Option MetaClash → ServedState
+    → Type 0
 AnswersForget id old frames clash new =
-    (r : Reply) × (contents : Contents) × Forgets old.ledger.log old.shard.contents id r contents × IsReplyOutcome (Ok r) frames clash × (new ≡ holding old contents)
+    (r : Reply) × (contents : Contents) × Forgets old.ledger.log old.shard.contents id r contents
+    × IsReplyOutcome (Ok r) frames clash × (new ≡ holding old contents)
 
--- what is answered to each frame: the state before, the frames, the two texts where they end serving, and the state after
-abbrev pub AnswersFrame : (List ℕ → List ℕ) → Bool → Frame → ServedState → List (List ℕ) → Option MetaClash → ServedState → Type 0
-AnswersFrame digest may_want (Metadata m) old frames clash new = AnswersPut digest may_want (Metadata m) old frames clash new
-AnswersFrame digest may_want (Sliver id axis index bytes) old frames clash new = AnswersPut digest may_want (Sliver id axis index bytes) old frames clash new
-AnswersFrame digest may_want (Proof id p) old frames clash new = AnswersPut digest may_want (Proof id p) old frames clash new
+-- what is answered to each frame: the state before, the frames, the two texts where they end
+-- serving, and the state after
+abbrev pub AnswersFrame : (List ℕ → List ℕ) → Bool → Frame → ServedState → List (List ℕ)
+    → Option MetaClash → ServedState → Type 0
+AnswersFrame digest may_want (Metadata m) old frames clash new =
+    AnswersPut digest may_want (Metadata m) old frames clash new
+AnswersFrame digest may_want (Sliver id axis index bytes) old frames clash new =
+    AnswersPut digest may_want (Sliver id axis index bytes) old frames clash new
+AnswersFrame digest may_want (Proof id p) old frames clash new =
+    AnswersPut digest may_want (Proof id p) old frames clash new
 AnswersFrame digest may_want (Read id) old frames clash new =
-    IsReplied (read_reply_of id old.shard.index (parts_at old.shard.contents (named id))) frames clash × (new ≡ old)
+    IsReplied (read_reply_of id old.shard.index (parts_at old.shard.contents (named id)))
+    frames clash
+    × (new ≡ old)
 AnswersFrame digest may_want (Symbol id axis index) old frames clash new =
-    (payloads : List (List ℕ)) × SymbolReplies digest id old.shard.index (parts_at old.shard.contents (named id)) axis index payloads
+    (payloads : List (List ℕ))
+    × SymbolReplies digest id old.shard.index
+    (parts_at old.shard.contents (named id)) axis index payloads
     × IsReplied payloads frames clash × (new ≡ old)
-AnswersFrame digest may_want (Ack id) old frames clash new = AnswersEntry (Vouched Holds old (named id)) old frames clash new
-AnswersFrame digest may_want (Attest id) old frames clash new = AnswersEntry (Vouched Denies old (named id)) old frames clash new
+AnswersFrame digest may_want (Ack id) old frames clash new =
+    AnswersEntry (Vouched Holds old (named id)) old frames clash new
+AnswersFrame digest may_want (Attest id) old frames clash new =
+    AnswersEntry (Vouched Denies old (named id)) old frames clash new
 AnswersFrame digest may_want (Forget id) old frames clash new =
     AnswersForget (named id) old frames clash new
-AnswersFrame digest may_want (RegisterEntry id until) old frames clash new = AnswersEntry (Registered old.ledger (named id) until) old frames clash new
-AnswersFrame digest may_want (AckEntry shard id) old frames clash new = AnswersEntry (Entered Holds old.ledger shard (named id)) old frames clash new
-AnswersFrame digest may_want (AttestEntry shard id) old frames clash new = AnswersEntry (Entered Denies old.ledger shard (named id)) old frames clash new
-AnswersFrame digest may_want (Opening id axis index o) old frames clash new = IsReplyOutcome (Ok no_request) frames clash × (new ≡ old)
-AnswersFrame digest may_want (Answer code a b) old frames clash new = IsReplyOutcome (Ok no_request) frames clash × (new ≡ old)
-AnswersFrame digest may_want (Clash left right) old frames clash new = IsReplyOutcome (Ok no_request) frames clash × (new ≡ old)
+AnswersFrame digest may_want (RegisterEntry id until) old frames clash new =
+    AnswersEntry (Registered old.ledger (named id) until) old frames clash new
+AnswersFrame digest may_want (AckEntry shard id) old frames clash new =
+    AnswersEntry (Entered Holds old.ledger shard (named id)) old frames clash new
+AnswersFrame digest may_want (AttestEntry shard id) old frames clash new =
+    AnswersEntry (Entered Denies old.ledger shard (named id)) old frames clash new
+AnswersFrame digest may_want (Opening id axis index o) old frames clash new =
+    IsReplyOutcome (Ok no_request) frames clash × (new ≡ old)
+AnswersFrame digest may_want (Answer code a b) old frames clash new =
+    IsReplyOutcome (Ok no_request) frames clash × (new ≡ old)
+AnswersFrame digest may_want (Clash left right) old frames clash new =
+    IsReplyOutcome (Ok no_request) frames clash × (new ≡ old)
 
 -- what is answered to what is read in a payload
-abbrev pub AnswersRead : (List ℕ → List ℕ) → Bool → Result Frame FrameError → ServedState → List (List ℕ) → Option MetaClash → ServedState → Type 0
-AnswersRead digest may_want (Ok frame) old frames clash new = AnswersFrame digest may_want frame old frames clash new
-AnswersRead digest may_want (Err fault) old frames clash new = IsReplyOutcome (Ok (malformed fault)) frames clash × (new ≡ old)
+abbrev pub AnswersRead : (List ℕ → List ℕ) → Bool → Result Frame FrameError → ServedState
+    → List (List ℕ) → Option MetaClash → ServedState → Type 0
+AnswersRead digest may_want (Ok frame) old frames clash new =
+    AnswersFrame digest may_want frame old frames clash new
+AnswersRead digest may_want (Err fault) old frames clash new =
+    IsReplyOutcome (Ok (malformed fault)) frames clash × (new ≡ old)
 
--- what is answered to a payload; a keep that may want memory may say so in place of storing or of having no room
-abbrev pub AnswersRequest : (List ℕ → List ℕ) → Bool → ServedState → List ℕ → List (List ℕ) → Option MetaClash → ServedState → Type 0
-AnswersRequest digest may_want old payload frames clash new = AnswersRead digest may_want (read_of payload) old frames clash new
+-- what is answered to a payload; a keep that may want memory may say so in place of storing or of
+-- having no room
+abbrev pub AnswersRequest : (List ℕ → List ℕ) → Bool → ServedState → List ℕ → List (List ℕ)
+    → Option MetaClash → ServedState → Type 0
+AnswersRequest digest may_want old payload frames clash new =
+    AnswersRead digest may_want (read_of payload) old frames clash new

@@ -21,10 +21,13 @@ is_collision _ = false
 
 -- one end; the texts of two collisions are not compared
 abbrev pub SameEnd : ServeEnd → ServeEnd → Type 0
-SameEnd end other = (is_collision end ≡ is_collision other) × (is_collision end ≡ false → end ≡ other)
+SameEnd end other =
+    (is_collision end ≡ is_collision other) × (is_collision end ≡ false → end ≡ other)
 
--- one way to serve: what was taken, how it ended, and what is then are the same; so are the answers, but for the two texts in the last frame of a collision
-pub record SameServing {C : Type 0} (front given : List ℕ) (xs ys : List (List ℕ)) (new then : C) (end other : ServeEnd) : Type 0 where
+-- one way to serve: what was taken, how it ended, and what is then are the same; so are the
+-- answers, but for the two texts in the last frame of a collision
+pub record SameServing {C : Type 0} (front given : List ℕ)
+    (xs ys : List (List ℕ)) (new then : C) (end other : ServeEnd) : Type 0 where
   pub taken : front ≡ given
   pub ends : SameEnd end other
   pub frames : is_collision end ≡ false → xs ≡ ys
@@ -34,8 +37,11 @@ pub record SameServing {C : Type 0} (front given : List ℕ) (xs ys : List (List
 -- these bytes of a source are served in one way, but for faults
 abbrev pub HasOneServing : {C : Type 0} → Table C → ℕ → ℕ → C → List ℕ → Type 0
 HasOneServing {C} Answer room limit fresh input =
-    (taken rest given after : List ℕ) (frames others : List (List ℕ)) (state then : C) (end other : ServeEnd) → input ≡ taken ++ rest → input ≡ given ++ after
-    → Serves Answer room limit fresh taken (rest ≡ []) ⊥ ⊥ frames state end → Serves Answer room limit fresh given (after ≡ []) ⊥ ⊥ others then other
+    (taken rest given after : List ℕ) (frames others : List (List ℕ))
+    (state then : C) (end other : ServeEnd)
+    → input ≡ taken ++ rest → input ≡ given ++ after
+    → Serves Answer room limit fresh taken (rest ≡ []) ⊥ ⊥ frames state end
+    → Serves Answer room limit fresh given (after ≡ []) ⊥ ⊥ others then other
     → SameServing taken given frames others state then end other
 
 -- the same frames, but for the two texts that the last one of a collision shows
@@ -45,5 +51,7 @@ SameFrames xs ys = (xs ≡ ys) ⊎ SameButLast xs ys
 -- bytes that were taken are answered in one way, by whatever serving ended
 abbrev pub AnswersOnce : {C : Type 0} → Table C → ℕ → ℕ → C → Type 0
 AnswersOnce {C} Answer room limit fresh =
-    (taken : List ℕ) (frames others : List (List ℕ)) (state then : C) (end other : ServeEnd) → Serves Answer room limit fresh taken ⊤ ⊤ ⊤ frames state end
-    → Serves Answer room limit fresh taken ⊤ ⊤ ⊤ others then other → SameFrames frames others × (state ≡ then)
+    (taken : List ℕ) (frames others : List (List ℕ)) (state then : C) (end other : ServeEnd)
+    → Serves Answer room limit fresh taken ⊤ ⊤ ⊤ frames state end
+    → Serves Answer room limit fresh taken ⊤ ⊤ ⊤ others then other
+    → SameFrames frames others × (state ≡ then)

@@ -1,4 +1,5 @@
--- Replies: a code and two numbers, and what each answer of the shard and of the ledger is as a reply.
+-- Replies: a code and two numbers, and what each answer of the shard and of the ledger is as a
+-- reply.
 use Rattle.std.specs.Prelude.{◌≡◌, ℕ, List, Option, Some, None, Result, Ok, Err}
 use Rattle.wal_shape.specs.declared.text.MetaClash.{MetaClash}
 use Rattle.wal_frame.specs.declared.frame.FrameError.{FrameError}

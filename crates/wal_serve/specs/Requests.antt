@@ -21,30 +21,42 @@ use Rattle.wal_serve.specs.declared.reply.Reply.{Reply}
 use Rattle.wal_serve.specs.State.{ServedState}
 use Rattle.wal_serve.specs.Reply.{done, refused, no_shard, put_reply, refusal_reply, ack_reply, attest_reply, IsRegisterReply}
 
--- a metadata, a sliver or a proof is put to the shard, and the texts of a collision are the put metadata's and the held one's
-abbrev pub IsPutRequest : (List ℕ → List ℕ) → Bool → ShardState → Log → Frame → Result Reply MetaClash → Contents → Type 0
+-- a metadata, a sliver or a proof is put to the shard, and the texts of a collision are the put
+-- metadata's and the held one's
+abbrev pub IsPutRequest : (List ℕ → List ℕ) → Bool → ShardState → Log → Frame
+    → Result Reply MetaClash → Contents → Type 0
 IsPutRequest digest may_want shard log frame outcome new =
-    (answer : PutAnswer) × PutsOrWants digest may_want (desk shard log) shard.contents frame answer new × (outcome ≡ put_reply answer)
+    (answer : PutAnswer)
+    × PutsOrWants digest may_want (desk shard log) shard.contents frame answer new
+    × (outcome ≡ put_reply answer)
     × ShowsTexts digest shard.contents frame answer
 
 -- a registration is the ledger's
 abbrev pub Registered : LedgerState → BlobId → ℕ → Reply → LedgerState → Type 0
-Registered old id until r new = (answer : RegisterAnswer) × Registers old id until answer new × IsRegisterReply answer r
+Registered old id until r new =
+    (answer : RegisterAnswer) × Registers old id until answer new × IsRegisterReply answer r
 
 -- that a shard holds a blob, or that a blob is badly encoded, is the ledger's
 abbrev pub ClaimEntered : Kind → LedgerState → ℕ → BlobId → Reply → LedgerState → Type 0
-ClaimEntered Holds old shard id r new = (answer : AckAnswer) × Acks old shard id answer new × (r ≡ ack_reply answer)
-ClaimEntered Denies old shard id r new = (answer : AttestAnswer) × Attests old shard id answer new × (r ≡ attest_reply answer)
+ClaimEntered Holds old shard id r new =
+    (answer : AckAnswer) × Acks old shard id answer new × (r ≡ ack_reply answer)
+ClaimEntered Denies old shard id r new =
+    (answer : AttestAnswer) × Attests old shard id answer new × (r ≡ attest_reply answer)
 
 -- the shard acknowledges or attests where what it holds backs that, and then the ledger is asked
-pub data Vouched (kind : Kind) (old : ServedState) (id : BlobId) : Reply → LedgerState → Type 0 where
-  unbacked : (why : AckRefusal) → Vouches kind old.ledger.log old.shard.contents id (Err why) → Vouched kind old id (refusal_reply why) old.ledger
-  asked : (r : Reply) (new : LedgerState) → Vouches kind old.ledger.log old.shard.contents id (Ok tt)
+pub data Vouched (kind : Kind) (old : ServedState) (id : BlobId) : Reply → LedgerState
+    → Type 0 where
+  unbacked : (why : AckRefusal) → Vouches kind old.ledger.log old.shard.contents id (Err why)
+      → Vouched kind old id (refusal_reply why) old.ledger
+  asked : (r : Reply) (new : LedgerState)
+      → Vouches kind old.ledger.log old.shard.contents id (Ok tt)
       → ClaimEntered kind old.ledger old.shard.index id r new → Vouched kind old id r new
 
 -- an entry of a shard of the committee is the ledger's
-pub data Entered (kind : Kind) (old : LedgerState) (shard : ℕ) (id : BlobId) : Reply → LedgerState → Type 0 where
-  of_committee : (r : Reply) (new : LedgerState) → shard < committee_size old.log.f → ClaimEntered kind old shard id r new → Entered kind old shard id r new
+pub data Entered (kind : Kind) (old : LedgerState) (shard : ℕ) (id : BlobId) : Reply → LedgerState
+    → Type 0 where
+  of_committee : (r : Reply) (new : LedgerState) → shard < committee_size old.log.f
+      → ClaimEntered kind old shard id r new → Entered kind old shard id r new
   of_none : (shard < committee_size old.log.f → ⊥) → Entered kind old shard id no_shard old
 
 -- the slivers of a blob go where they may

@@ -6,16 +6,19 @@ use Rattle.wal_commit.specs.Held.{HoldsSliver}
 use Rattle.wal_evidence.specs.BadProof.{IsBadProof}
 use Rattle.wal_frame.specs.Frame.{Frame, Metadata, Sliver, Proof, Read, Symbol, Ack, Attest, Forget, RegisterEntry, AckEntry, AttestEntry}
 
--- the longest payload that is looked at: at least as long as a proof of bad encoding of the longest blob
+-- the longest payload that is looked at: at least as long as a proof of bad encoding of the longest
+-- blob
 abbrev pub desk_room : ℕ → ℕ
 desk_room f = 38 + column_count f * (symbol_size f most_bytes + 327)
 
--- the frames that must have room at a shard of a committee of f: a metadata, of whatever f; a sliver that a metadata of f commits; and a
--- proof that is bad for one
+-- the frames that must have room at a shard of a committee of f: a metadata, of whatever f; a
+-- sliver that a metadata of f commits; and a proof that is bad for one
 abbrev pub MayVerify : (List ℕ → List ℕ) → ℕ → Frame → Type 0
 MayVerify digest f (Metadata m) = ⊤
-MayVerify digest f (Sliver id axis index bytes) = (m : BlobMetadata) × IsMetadata m × (m.f ≡ f) × HoldsSliver digest m axis index bytes
-MayVerify digest f (Proof id q) = (m : BlobMetadata) × IsMetadata m × (m.f ≡ f) × IsBadProof digest m q
+MayVerify digest f (Sliver id axis index bytes) =
+    (m : BlobMetadata) × IsMetadata m × (m.f ≡ f) × HoldsSliver digest m axis index bytes
+MayVerify digest f (Proof id q) =
+    (m : BlobMetadata) × IsMetadata m × (m.f ≡ f) × IsBadProof digest m q
 MayVerify digest f _ = ⊥
 
 -- the requests that carry no part of a blob

@@ -6,7 +6,8 @@ use Rattle.wal_ledger.specs.Ledger.{LedgerState}
 use Rattle.wal_epoch.specs.States.{ServingState}
 use Rattle.wal_shard.specs.State.{ShardState, with_contents}
 
--- the shard: f, its number, what it holds and the limit of its pages; and the ledger: its entries, and for how many more there is room
+-- the shard: f, its number, what it holds and the limit of its pages; and the ledger: its entries,
+-- and for how many more there is room
 pub record ServedState : Type 0 where
   pub shard : ShardState
   pub ledger : LedgerState

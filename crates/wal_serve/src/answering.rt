@@ -20,7 +20,8 @@ impl<H: Hash32, K: Keep> Session<'_, H, K> {
     /// What the shard holds of a blob, and the number of these frames.
     fn answer_read(&mut self, id: &BlobId, out: &mut OutBuf)
         requires room { answer_room self.old.shard.now.f ≤ out.old.spare }
-        ensures answers { Answers (AnswersFrame H.digest K.may_want (Read id.now.0)) self.old out.old None self.new out.new }
+        ensures answers { Answers (AnswersFrame H.digest K.may_want (Read id.now.0))
+            self.old out.old None self.new out.new }
         ensures stays { Stays self.old self.new }
     {
         let count = self.shard.read_reply(self.work, id, out);
@@ -30,7 +31,8 @@ impl<H: Hash32, K: Keep> Session<'_, H, K> {
     /// What the shard holds of use to recover a sliver, and the number of these frames.
     fn answer_symbol(&mut self, id: &BlobId, axis: Axis, index: u16, out: &mut OutBuf)
         requires room { answer_room self.old.shard.now.f ≤ out.old.spare }
-        ensures answers { Answers (AnswersFrame H.digest K.may_want (Symbol id.now.0 axis index)) self.old out.old None self.new out.new }
+        ensures answers { Answers (AnswersFrame H.digest K.may_want (Symbol id.now.0 axis index))
+            self.old out.old None self.new out.new }
         ensures stays { Stays self.old self.new }
     {
         let count = self.shard.symbol_reply(self.work, id, axis, index, out);
@@ -40,7 +42,8 @@ impl<H: Hash32, K: Keep> Session<'_, H, K> {
     /// What is answered to a frame.
     fn answer_frame(&mut self, frame: &FrameRef<'_>, out: &mut OutBuf) -> Option<MetaClash>
         requires room { answer_room self.old.shard.now.f ≤ out.old.spare }
-        ensures answers { Answers (AnswersFrame H.digest K.may_want (frame_shown frame.now)) self.old out.old result self.new out.new }
+        ensures answers { Answers (AnswersFrame H.digest K.may_want (frame_shown frame.now))
+            self.old out.old result self.new out.new }
         ensures stays { Stays self.old self.new }
     {
         let own = self.shard.index();
@@ -79,7 +82,8 @@ impl<H: Hash32, K: Keep> Session<'_, H, K> {
     pub(crate) fn answer(&mut self, payload: &[u8], out: &mut OutBuf) -> Option<MetaClash>
         requires size { length payload.now < 2 ^ 32 }
         requires room { answer_room self.old.shard.now.f ≤ out.old.spare }
-        ensures answers { Answers (AnswersRead H.digest K.may_want (read_of payload.now)) self.old out.old result self.new out.new }
+        ensures answers { Answers (AnswersRead H.digest K.may_want (read_of payload.now))
+            self.old out.old result self.new out.new }
         ensures stays { Stays self.old self.new }
     {
         match read_frame(payload) {

@@ -30,9 +30,12 @@ pub fn desk_room(f: u32) -> u32
     requires few { f ≤ 333 }
     ensures room { result ≡ desk_room f }
     // Every frame that can verify has room.
-    ensures enough { (digest : List ℕ → List ℕ) (x : Frame) → IsFrame x → MayVerify digest f x → length (frame_text x) ≤ result }
-    // A metadata, of whatever f, is shorter, and so is every request that carries no part of a blob.
-    ensures metadata { (m : BlobMetadata) → IsMetadata m → length (frame_text (Metadata m)) < result }
+    ensures enough { (digest : List ℕ → List ℕ) (x : Frame) → IsFrame x → MayVerify digest f x
+        → length (frame_text x) ≤ result }
+    // A metadata, of whatever f, is shorter, and so is every request that carries no part of a
+    // blob.
+    ensures metadata { (m : BlobMetadata) → IsMetadata m
+        → length (frame_text (Metadata m)) < result }
     ensures asks { (x : Frame) → IsFrame x → AsksOnly x → length (frame_text x) < result }
 {
     longest_frame(f)

@@ -44,7 +44,9 @@ fn lack_of(took: Took) -> Option<Lack>
 
 /// The first byte of an envelope.
 fn take_first<S: Source>(source: &mut S, most: u64) -> Result<(), Lack>
-    ensures takes { (got : List ℕ) × TakesFirst (S.left source.old) (S.left source.new) (Rose (S.faults source.old) (S.faults source.new)) most result got }
+    ensures takes { (got : List ℕ)
+        × TakesFirst (S.left source.old) (S.left source.new)
+        (Rose (S.faults source.old) (S.faults source.new)) most result got }
     ensures later { S.faults source.old ≤ S.faults source.new }
 {
     let mut first = [0];
@@ -74,7 +76,9 @@ fn size_of(fields: &[u8]) -> u32
 
 /// The head of an envelope, which says how long its payload is.
 fn take_head<S: Source>(source: &mut S, most: u64) -> Result<u32, Lack>
-    ensures takes { (got : List ℕ) × TakesHead (S.left source.old) (S.left source.new) (Rose (S.faults source.old) (S.faults source.new)) most result got }
+    ensures takes { (got : List ℕ)
+        × TakesHead (S.left source.old) (S.left source.new)
+        (Rose (S.faults source.old) (S.faults source.new)) most result got }
     ensures later { S.faults source.old ≤ S.faults source.new }
 {
     take_first(source, most)?;
@@ -88,7 +92,9 @@ fn take_head<S: Source>(source: &mut S, most: u64) -> Result<u32, Lack>
 /// A payload of this size: into the buffer if there is room for it, else past it.
 fn take_payload<S: Source>(source: &mut S, buffer: &mut Payload, size: u32, most: u64) -> Took
     requires { 0 < buffer.old.room }
-    ensures takes { (got : List ℕ) × Takes (S.left source.old) (S.left source.new) (Rose (S.faults source.old) (S.faults source.new)) size most result got
+    ensures takes { (got : List ℕ)
+        × Takes (S.left source.old) (S.left source.new)
+        (Rose (S.faults source.old) (S.faults source.new)) size most result got
         × (result ≡ Whole → size ≤ buffer.new.room → buffer.new.bytes ≡ got) }
     ensures room { buffer.new.room ≡ buffer.old.room }
     ensures later { S.faults source.old ≤ S.faults source.new }
@@ -100,15 +106,17 @@ fn take_payload<S: Source>(source: &mut S, buffer: &mut Payload, size: u32, most
     }
 }
 
-/// An envelope, of which at most `most` bytes may be taken. The result is the size of its payload, which is in the buffer if
-/// there is room for it.
+/// An envelope, of which at most `most` bytes may be taken. The result is the size of its payload,
+/// which is in the buffer if there is room for it.
 pub(crate) fn take_envelope<S: Source>(
     source: &mut S,
     buffer: &mut Payload,
     most: u64,
 ) -> Result<u32, Lack>
     requires { 0 < buffer.old.room }
-    ensures takes { (got : List ℕ) × TakesEnvelope (S.left source.old) (S.left source.new) (Rose (S.faults source.old) (S.faults source.new)) most buffer.new result got }
+    ensures takes { (got : List ℕ)
+        × TakesEnvelope (S.left source.old) (S.left source.new)
+        (Rose (S.faults source.old) (S.faults source.new)) most buffer.new result got }
     ensures room { buffer.new.room ≡ buffer.old.room }
     ensures later { S.faults source.old ≤ S.faults source.new }
 {

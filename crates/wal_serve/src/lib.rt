@@ -1,5 +1,5 @@
-//! A shard that serves: requests are taken of a source, one envelope after the other, and each is answered
-//! in envelopes from the shard before the next one is taken. All memory is taken before.
+//! A shard that serves: requests are taken of a source, one envelope after the other, and each is
+//! answered in envelopes from the shard before the next one is taken. All memory is taken before.
 #![tactic(auto)]
 
 mod answering;

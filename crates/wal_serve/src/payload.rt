@@ -13,7 +13,8 @@ use wal_port::Source;
 /// The most bytes that are read at once of a payload of which none are kept.
 const PIECE: u32 = 65_536;
 
-/// Memory for a payload, all of which is taken when it is made. Only so much of it is cleared as a payload needed.
+/// Memory for a payload, all of which is taken when it is made. Only so much of it is cleared as a
+/// payload needed.
 #[derive(Drop)]
 pub(crate) struct Payload {
     bytes: Vec<u8>,
@@ -78,7 +79,9 @@ impl Payload {
     /// Takes a payload for which there is room, of which at most `most` bytes may be taken.
     pub(crate) fn fill<S: Source>(&mut self, source: &mut S, size: u32, most: u64) -> Took
         requires { size ≤ self.old.room }
-        ensures takes { (got : List ℕ) × Takes (S.left source.old) (S.left source.new) (Rose (S.faults source.old) (S.faults source.new)) size most result got
+        ensures takes { (got : List ℕ)
+            × Takes (S.left source.old) (S.left source.new)
+            (Rose (S.faults source.old) (S.faults source.new)) size most result got
             × (result ≡ Whole → self.new.bytes ≡ got) }
         ensures room { self.new.room ≡ self.old.room }
         ensures later { S.faults source.old ≤ S.faults source.new }
@@ -90,7 +93,9 @@ impl Payload {
     /// Takes a payload and keeps none of it, of which at most `most` bytes may be taken.
     pub(crate) fn skip<S: Source>(&mut self, source: &mut S, size: u32, most: u64) -> Took
         requires { 0 < self.old.room }
-        ensures takes { (got : List ℕ) × Takes (S.left source.old) (S.left source.new) (Rose (S.faults source.old) (S.faults source.new)) size most result got }
+        ensures takes { (got : List ℕ)
+            × Takes (S.left source.old) (S.left source.new)
+            (Rose (S.faults source.old) (S.faults source.new)) size most result got }
         ensures room { self.new.room ≡ self.old.room }
         ensures later { S.faults source.old ≤ S.faults source.new }
     {

@@ -26,7 +26,8 @@ impl<H: Hash32, K: Keep> Session<'_, H, K> {
     /// A metadata, a sliver or a proof is put to the shard.
     pub(crate) fn put(&mut self, frame: &FrameRef<'_>) -> Result<Reply, MetaClash>
         requires part { CanBePut (frame_shown frame.now) }
-        ensures gives { Gives (AnswersPut H.digest K.may_want (frame_shown frame.now)) self.old result self.new }
+        ensures gives { Gives (AnswersPut H.digest K.may_want (frame_shown frame.now))
+            self.old result self.new }
         ensures stays { Stays self.old self.new }
         ensures code { HasCode result }
         ensures part { CanBePut (frame_shown frame.now) }
@@ -36,7 +37,8 @@ impl<H: Hash32, K: Keep> Session<'_, H, K> {
 
     /// The shard is asked to acknowledge a blob.
     pub(crate) fn acknowledge(&mut self, id: &BlobId) -> Reply
-        ensures gives { Gives (AnswersEntry (Vouched Holds (served self.old) id.now)) self.old (Ok result) self.new }
+        ensures gives { Gives (AnswersEntry (Vouched Holds (served self.old) id.now))
+            self.old (Ok result) self.new }
         ensures stays { Stays self.old self.new }
         ensures code { result.code ≤ 15 }
     {
@@ -48,7 +50,8 @@ impl<H: Hash32, K: Keep> Session<'_, H, K> {
 
     /// The shard is asked to attest that a blob is badly encoded.
     pub(crate) fn attest(&mut self, id: &BlobId) -> Reply
-        ensures gives { Gives (AnswersEntry (Vouched Denies (served self.old) id.now)) self.old (Ok result) self.new }
+        ensures gives { Gives (AnswersEntry (Vouched Denies (served self.old) id.now))
+            self.old (Ok result) self.new }
         ensures stays { Stays self.old self.new }
         ensures code { result.code ≤ 15 }
     {
@@ -72,7 +75,8 @@ impl<H: Hash32, K: Keep> Session<'_, H, K> {
 
     /// A blob is registered.
     pub(crate) fn register(&mut self, id: &BlobId, until: u32) -> Reply
-        ensures gives { Gives (AnswersEntry (Registered (served self.old).ledger id.now until)) self.old (Ok result) self.new }
+        ensures gives { Gives (AnswersEntry (Registered (served self.old).ledger id.now until))
+            self.old (Ok result) self.new }
         ensures stays { Stays self.old self.new }
         ensures code { result.code ≤ 15 }
     {
@@ -91,7 +95,8 @@ impl<H: Hash32, K: Keep> Session<'_, H, K> {
 
     /// A shard's acknowledgement is entered.
     pub(crate) fn enter_ack(&mut self, shard: u16, id: &BlobId) -> Reply
-        ensures gives { Gives (AnswersEntry (Entered Holds (served self.old).ledger shard id.now)) self.old (Ok result) self.new }
+        ensures gives { Gives (AnswersEntry (Entered Holds (served self.old).ledger shard id.now))
+            self.old (Ok result) self.new }
         ensures stays { Stays self.old self.new }
         ensures code { result.code ≤ 15 }
     {
@@ -103,7 +108,8 @@ impl<H: Hash32, K: Keep> Session<'_, H, K> {
 
     /// A shard's attestation is entered.
     pub(crate) fn enter_attest(&mut self, shard: u16, id: &BlobId) -> Reply
-        ensures gives { Gives (AnswersEntry (Entered Denies (served self.old).ledger shard id.now)) self.old (Ok result) self.new }
+        ensures gives { Gives (AnswersEntry (Entered Denies (served self.old).ledger shard id.now))
+            self.old (Ok result) self.new }
         ensures stays { Stays self.old self.new }
         ensures code { result.code ≤ 15 }
     {

@@ -47,7 +47,8 @@ pub enum ServeEnd {
     Malformed(u64),
     /// The input is longer than 1,073,741,824 bytes. The whole envelopes before were answered.
     TooLong,
-    /// A metadata was put beside another one of the same identifier. The last frame shows two texts of one digest.
+    /// A metadata was put beside another one of the same identifier. The last frame shows two texts
+    /// of one digest.
     Collision(MetaClash),
 }
 
@@ -68,7 +69,8 @@ impl<H: Hash32, K: Keep> Session<'_, H, K> {
     /// What is answered to a payload of this size, which is in the buffer if there is room for it.
     fn answer_in(&mut self, buffer: &Payload, size: u32, out: &mut OutBuf) -> Option<MetaClash>
         requires room { answer_room self.old.shard.now.f ≤ out.old.spare }
-        ensures answers { Answers (AnswersInto (AnswersRequest H.digest K.may_want) buffer.now size) self.old out.old result self.new out.new }
+        ensures answers { Answers (AnswersInto (AnswersRequest H.digest K.may_want) buffer.now size)
+            self.old out.old result self.new out.new }
         ensures stays { Stays self.old self.new }
     {
         if size > buffer.room() {
@@ -86,8 +88,11 @@ impl<H: Hash32, K: Keep> Session<'_, H, K> {
         sink: &mut T,
     ) -> Result<Option<MetaClash>, WriteFault>
         requires room { answer_room self.old.shard.now.f ≤ room_in out.old }
-        ensures serves { (clash : Option MetaClash) × (frames : List (List ℕ)) × AnswersInto (AnswersRequest H.digest K.may_want) buffer.now size (served self.old) frames clash (served self.new)
-            × SendsOne (T.written sink.old) (T.written sink.new) (sent self.old.shard.now.index frames) clash result }
+        ensures serves { (clash : Option MetaClash) × (frames : List (List ℕ))
+            × AnswersInto (AnswersRequest H.digest K.may_want) buffer.now
+            size (served self.old) frames clash (served self.new)
+            × SendsOne (T.written sink.old) (T.written sink.new)
+            (sent self.old.shard.now.index frames) clash result }
         ensures fault { OnErr result (Rose (T.faults sink.old) (T.faults sink.new)) }
         ensures later { T.faults sink.old ≤ T.faults sink.new }
         ensures room { room_in out.new ≡ room_in out.old }
@@ -101,7 +106,8 @@ impl<H: Hash32, K: Keep> Session<'_, H, K> {
         }
     }
 
-    /// Serves until the input ends, or serving ends before, where at most so many bytes may be taken.
+    /// Serves until the input ends, or serving ends before, where at most so many bytes may be
+    /// taken.
     fn serve_in<S: Source, T: Sink>(
         &mut self,
         buffer: &mut Payload,
@@ -113,10 +119,14 @@ impl<H: Hash32, K: Keep> Session<'_, H, K> {
         requires some { 0 < buffer.old.room }
         requires room { answer_room self.old.shard.now.f ≤ room_in out.old }
         requires limit { limit < 2 ^ 31 }
-        ensures served { IsServed (AnswersRequest H.digest K.may_want) buffer.old.room limit self.old.shard.now.index (served self.old) (served self.new)
-            (S.left source.old) (S.left source.new) (Rose (S.faults source.old) (S.faults source.new))
-            (T.written sink.old) (T.written sink.new) (Rose (T.faults sink.old) (T.faults sink.new)) result }
-        ensures later { (S.faults source.old ≤ S.faults source.new) × (T.faults sink.old ≤ T.faults sink.new) }
+        ensures served { IsServed (AnswersRequest H.digest K.may_want) buffer.old.room
+            limit self.old.shard.now.index (served self.old) (served self.new)
+            (S.left source.old) (S.left source.new)
+            (Rose (S.faults source.old) (S.faults source.new))
+            (T.written sink.old) (T.written sink.new)
+            (Rose (T.faults sink.old) (T.faults sink.new)) result }
+        ensures later { (S.faults source.old ≤ S.faults source.new)
+            × (T.faults sink.old ≤ T.faults sink.new) }
         ensures payload { buffer.new.room ≡ buffer.old.room }
         ensures room { room_in out.new ≡ room_in out.old }
         ensures stays { Stays self.old self.new }
@@ -136,8 +146,8 @@ impl<H: Hash32, K: Keep> Session<'_, H, K> {
     }
 }
 
-/// Serves: takes envelopes of the source, and answers each before the next one is taken, until the input ends or serving ends
-/// before. Takes no memory, but where the keep does.
+/// Serves: takes envelopes of the source, and answers each before the next one is taken, until the
+/// input ends or serving ends before. Takes no memory, but where the keep does.
 ///
 /// | Request | What is done | Answers |
 /// |---|---|---|
@@ -160,23 +170,37 @@ pub fn serve<H: Hash32, K: Keep, S: Source, T: Sink>(
     requires work { work.old.f ≡ shard.old.f }
     requires desk { desk.old ≡ shard.old.f }
     requires epoch { reading state.old.ledger.log ≡ 0 }
-    requires owners { (s : ℕ) → s < committee_size shard.old.f → node_of (owners_of Now state.old.ledger.log) s ≡ s }
-    // What was taken, answered and written, what the shard and the ledger are then, and how it ended.
-    ensures served { IsServed (AnswersRequest H.digest K.may_want) (desk_room shard.old.f) 1073741824 shard.old.index (state_of shard.old state.old) (state_of shard.new state.new)
+    requires owners { (s : ℕ) → s < committee_size shard.old.f
+        → node_of (owners_of Now state.old.ledger.log) s ≡ s }
+    // What was taken, answered and written, what the shard and the ledger are then, and how it
+    // ended.
+    ensures served { IsServed (AnswersRequest H.digest K.may_want) (desk_room shard.old.f)
+        1073741824 shard.old.index (state_of shard.old state.old) (state_of shard.new state.new)
         (S.left source.old) (S.left source.new) (Rose (S.faults source.old) (S.faults source.new))
-        (T.written sink.old) (T.written sink.new) (Rose (T.faults sink.old) (T.faults sink.new)) result }
-    // Where the source tells its bytes, `Done` is behind a stream, and `Malformed` where the input is.
+        (T.written sink.old) (T.written sink.new)
+        (Rose (T.faults sink.old) (T.faults sink.new)) result }
+    // Where the source tells its bytes, `Done` is behind a stream, and `Malformed` where the input
+    // is.
     ensures ends { EndsAtKnown result (S.left source.old) }
-    // The bytes of a source are served in one way, but for faults and the two texts of a collision, if the keep never wants memory.
-    ensures only { K.may_want ≡ false → (input : List ℕ) → HasOneServing (AnswersRequest H.digest K.may_want) (desk_room shard.old.f) 1073741824 (state_of shard.old state.old) input }
+    // The bytes of a source are served in one way, but for faults and the two texts of a collision,
+    // if the keep never wants memory.
+    ensures only { K.may_want ≡ false → (input : List ℕ)
+        → HasOneServing (AnswersRequest H.digest K.may_want)
+        (desk_room shard.old.f) 1073741824 (state_of shard.old state.old) input }
     // What was taken is answered in one way, by whatever serving ended.
-    ensures once { K.may_want ≡ false → AnswersOnce (AnswersRequest H.digest K.may_want) (desk_room shard.old.f) 1073741824 (state_of shard.old state.old) }
+    ensures once { K.may_want ≡ false
+        → AnswersOnce (AnswersRequest H.digest K.may_want)
+        (desk_room shard.old.f) 1073741824 (state_of shard.old state.old) }
     // Nor is any frame then the answer that there was no memory.
-    ensures never { K.may_want ≡ false → NeverWants (AnswersRequest H.digest K.may_want) (desk_room shard.old.f) 1073741824 (state_of shard.old state.old) }
+    ensures never { K.may_want ≡ false
+        → NeverWants (AnswersRequest H.digest K.may_want)
+        (desk_room shard.old.f) 1073741824 (state_of shard.old state.old) }
     // Serving may go on from here: the epoch is as it was, and so is who runs each shard.
     ensures epoch { reading state.new.ledger.log ≡ 0 }
-    ensures owners { (s : ℕ) → s < committee_size shard.new.f → node_of (owners_of Now state.new.ledger.log) s ≡ s }
-    ensures later { (S.faults source.old ≤ S.faults source.new) × (T.faults sink.old ≤ T.faults sink.new) }
+    ensures owners { (s : ℕ) → s < committee_size shard.new.f
+        → node_of (owners_of Now state.new.ledger.log) s ≡ s }
+    ensures later { (S.faults source.old ≤ S.faults source.new)
+        × (T.faults sink.old ≤ T.faults sink.new) }
     ensures place { SamePlace shard.old shard.new }
     ensures ledger { state.new.ledger.log.f ≡ state.old.ledger.log.f }
     ensures faulty { state.new.faulty ≡ state.old.faulty }

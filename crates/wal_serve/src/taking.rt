@@ -33,7 +33,10 @@ fn is_whole(took: Took) -> bool
 
 /// Takes as many bytes as there is room for.
 fn fill_all<S: Source>(source: &mut S, into: &mut [u8]) -> Took
-    ensures takes { (got : List ℕ) × Takes (S.left source.old) (S.left source.new) (Rose (S.faults source.old) (S.faults source.new)) (length into.new) (length into.new) result got
+    ensures takes { (got : List ℕ)
+        × Takes (S.left source.old) (S.left source.new)
+        (Rose (S.faults source.old) (S.faults source.new))
+        (length into.new) (length into.new) result got
         × (result ≡ Whole → into.new ≡ got) }
     ensures later { S.faults source.old ≤ S.faults source.new }
 {
@@ -50,7 +53,9 @@ fn fill_all<S: Source>(source: &mut S, into: &mut [u8]) -> Took
 
 /// Asks for one byte, where none may be taken.
 fn past<S: Source>(source: &mut S) -> Took
-    ensures takes { (got : List ℕ) × Takes (S.left source.old) (S.left source.new) (Rose (S.faults source.old) (S.faults source.new)) 1 0 result got }
+    ensures takes { (got : List ℕ)
+        × Takes (S.left source.old) (S.left source.new)
+        (Rose (S.faults source.old) (S.faults source.new)) 1 0 result got }
     ensures later { S.faults source.old ≤ S.faults source.new }
 {
     let mut byte = [0];
@@ -63,7 +68,9 @@ fn past<S: Source>(source: &mut S) -> Took
 
 /// Takes as many bytes as there is room for, of which at most `most` may be taken.
 pub(crate) fn fill<S: Source>(source: &mut S, into: &mut [u8], most: u64) -> Took
-    ensures takes { (got : List ℕ) × Takes (S.left source.old) (S.left source.new) (Rose (S.faults source.old) (S.faults source.new)) (length into.new) most result got
+    ensures takes { (got : List ℕ)
+        × Takes (S.left source.old) (S.left source.new)
+        (Rose (S.faults source.old) (S.faults source.new)) (length into.new) most result got
         × (result ≡ Whole → into.new ≡ got) }
     ensures later { S.faults source.old ≤ S.faults source.new }
 {
@@ -77,7 +84,9 @@ pub(crate) fn fill<S: Source>(source: &mut S, into: &mut [u8], most: u64) -> Too
 /// Takes so many bytes and keeps none.
 fn skip_all<S: Source>(source: &mut S, scratch: &mut [u8], size: u64) -> Took
     requires { 0 < length scratch.old }
-    ensures takes { (got : List ℕ) × Takes (S.left source.old) (S.left source.new) (Rose (S.faults source.old) (S.faults source.new)) size size result got }
+    ensures takes { (got : List ℕ)
+        × Takes (S.left source.old) (S.left source.new)
+        (Rose (S.faults source.old) (S.faults source.new)) size size result got }
     ensures later { S.faults source.old ≤ S.faults source.new }
 {
     let mut done = 0;
@@ -95,7 +104,9 @@ fn skip_all<S: Source>(source: &mut S, scratch: &mut [u8], size: u64) -> Took
 /// Takes so many bytes and keeps none, of which at most `most` may be taken.
 pub(crate) fn skip<S: Source>(source: &mut S, scratch: &mut [u8], size: u64, most: u64) -> Took
     requires { 0 < length scratch.old }
-    ensures takes { (got : List ℕ) × Takes (S.left source.old) (S.left source.new) (Rose (S.faults source.old) (S.faults source.new)) size most result got }
+    ensures takes { (got : List ℕ)
+        × Takes (S.left source.old) (S.left source.new)
+        (Rose (S.faults source.old) (S.faults source.new)) size most result got }
     ensures later { S.faults source.old ≤ S.faults source.new }
 {
     if size <= most {

@@ -1,4 +1,5 @@
--- ANSWERS ARE LOCAL: what is answered to a request about an identifier rests on what was given about that identifier alone.
+-- ANSWERS ARE LOCAL: what is answered to a request about an identifier rests on what was given
+-- about that identifier alone.
 use Rattle.std.specs.Prelude.{◌≡◌, ◌≢◌, ℕ, ◌+◌, ◌<◌, ◌≤◌, ◌^◌, Bool, true, false, cond, ◌&&◌, ◌||◌, nat_eq, List, [], ◌∷◌, ◌++◌, length, fold, filter, sum_by, Option, Some, None, IfSome, unwrap_or, Result, Ok, Err, All}
 use Rattle.std.specs.List.{flat_map}
 use Rattle.std.specs.FinMap as map_of
@@ -32,7 +33,8 @@ use Rattle.wal_served.specs.Steps.{TellsWant}
 
 -- ---- what a request is about
 
--- the identifier that a frame is about: of a metadata its own, of what names one that one, and of an answer none
+-- the identifier that a frame is about: of a metadata its own, of what names one that one, and of
+-- an answer none
 abbrev pub about : (List ℕ → List ℕ) → Frame → Option BlobId
 about digest (Metadata m) = Some (put_id digest (Metadata m))
 about digest (Sliver id axis index bytes) = Some (named id)
@@ -60,7 +62,8 @@ regarding digest payload = about_read digest (read_of payload)
 
 -- ---- alike
 
--- two ledgers of one committee in one epoch, with the same entries of an identifier since its last fresh registration
+-- two ledgers of one committee in one epoch, with the same entries of an identifier since its last
+-- fresh registration
 pub record AlikeLedgers (id : BlobId) (one other : Log) : Type 0 where
   pub faults : other.f ≡ one.f
   pub epoch : reading other ≡ reading one
@@ -68,8 +71,8 @@ pub record AlikeLedgers (id : BlobId) (one other : Log) : Type 0 where
   pub owners : (epoch : ℕ) → owners_at other epoch ≡ owners_at one epoch
   pub own : own_entries other id ≡ own_entries one id
 
--- alike at an identifier: the same shard of such ledgers, which holds the same parts under it; what is held under others, what is
--- entered of them, and how much room there is may differ
+-- alike at an identifier: the same shard of such ledgers, which holds the same parts under it; what
+-- is held under others, what is entered of them, and how much room there is may differ
 pub record AlikeAt (id : BlobId) (one other : ServedState) : Type 0 where
   pub faults : other.shard.f ≡ one.shard.f
   pub index : other.shard.index ≡ one.shard.index
@@ -132,41 +135,56 @@ pub record RoomFor (id : BlobId) (s : ServedState) (pages entries : ℕ) : Type 
 
 -- ---- THE FIRST LAW: alike states answer alike, and are alike then
 
--- any two answers of alike states to a payload that regards the identifier, of which neither tells of want of room: the one is an answer
--- of the other state too, which is alike then; and the two are the same, but for the two texts of a collision
+-- any two answers of alike states to a payload that regards the identifier, of which neither tells
+-- of want of room: the one is an answer of the other state too, which is alike then; and the two
+-- are the same, but for the two texts of a collision
 abbrev pub AnswersAlike : (List ℕ → List ℕ) → Type 0
 AnswersAlike digest =
-    (id : BlobId) (one other : ServedState) (payload : List ℕ) (may_want also : Bool) (frames others : List (List ℕ)) (clash second : Option MetaClash) (new then : ServedState)
-    → AlikeAt id one other → regarding digest payload ≡ Some id → AnswersRequest digest may_want one payload frames clash new
-    → AnswersRequest digest also other payload others second then → (TellsWant frames → ⊥) → (TellsWant others → ⊥)
-    → AnswersRequest digest also other payload frames clash then × SameFrames frames others × AlikeAt id new then
+    (id : BlobId) (one other : ServedState) (payload : List ℕ) (may_want also : Bool)
+    (frames others : List (List ℕ)) (clash second : Option MetaClash) (new then : ServedState)
+    → AlikeAt id one other → regarding digest payload ≡ Some id
+    → AnswersRequest digest may_want one payload frames clash new
+    → AnswersRequest digest also other payload others second then → (TellsWant frames → ⊥)
+    → (TellsWant others → ⊥)
+    → AnswersRequest digest also other payload frames clash then × SameFrames frames others
+    × AlikeAt id new then
 
 -- and where there is room for what the answer tells to be taken, there is that answer
 abbrev pub AnswersWithRoom : (List ℕ → List ℕ) → Type 0
 AnswersWithRoom digest =
-    (id : BlobId) (one other : ServedState) (payload : List ℕ) (may_want also : Bool) (frames : List (List ℕ)) (clash : Option MetaClash) (new : ServedState)
-    → AlikeAt id one other → regarding digest payload ≡ Some id → AnswersRequest digest may_want one payload frames clash new → (TellsWant frames → ⊥)
+    (id : BlobId) (one other : ServedState) (payload : List ℕ) (may_want also : Bool)
+    (frames : List (List ℕ)) (clash : Option MetaClash) (new : ServedState)
+    → AlikeAt id one other → regarding digest payload ≡ Some id
+    → AnswersRequest digest may_want one payload frames clash new → (TellsWant frames → ⊥)
     → RoomFor id other (taken_pages payload frames) (taken_entries payload frames)
-    → (then : ServedState) × AnswersRequest digest also other payload frames clash then × AlikeAt id new then
+    → (then : ServedState) × AnswersRequest digest also other payload frames clash then
+    × AlikeAt id new then
 
--- and where the other state tells of want of room and this one does not, this one tells that a part was stored or an entry made
+-- and where the other state tells of want of room and this one does not, this one tells that a part
+-- was stored or an entry made
 abbrev pub WantsForMore : (List ℕ → List ℕ) → Type 0
 WantsForMore digest =
-    (id : BlobId) (one other : ServedState) (payload : List ℕ) (may_want also : Bool) (frames others : List (List ℕ)) (clash second : Option MetaClash) (new then : ServedState)
-    → AlikeAt id one other → regarding digest payload ≡ Some id → AnswersRequest digest may_want one payload frames clash new
-    → AnswersRequest digest also other payload others second then → (TellsWant frames → ⊥) → TellsWant others → tells_entry frames ≡ true
+    (id : BlobId) (one other : ServedState) (payload : List ℕ) (may_want also : Bool)
+    (frames others : List (List ℕ)) (clash second : Option MetaClash) (new then : ServedState)
+    → AlikeAt id one other → regarding digest payload ≡ Some id
+    → AnswersRequest digest may_want one payload frames clash new
+    → AnswersRequest digest also other payload others second then → (TellsWant frames → ⊥)
+    → TellsWant others → tells_entry frames ≡ true
 
 -- ---- THE SECOND LAW: what regards others leaves a state alike
 
 -- a payload that regards another identifier, or none, leaves the state alike at this one
 abbrev pub LeavesAlike : (List ℕ → List ℕ) → Type 0
 LeavesAlike digest =
-    (id : BlobId) (old : ServedState) (payload : List ℕ) (may_want : Bool) (frames : List (List ℕ)) (clash : Option MetaClash) (new : ServedState)
-    → regarding digest payload ≢ Some id → AnswersRequest digest may_want old payload frames clash new → AlikeAt id old new
+    (id : BlobId) (old : ServedState) (payload : List ℕ) (may_want : Bool)
+    (frames : List (List ℕ)) (clash : Option MetaClash) (new : ServedState)
+    → regarding digest payload ≢ Some id
+    → AnswersRequest digest may_want old payload frames clash new → AlikeAt id old new
 
 -- ---- THE THIRD LAW: what was served about others may be left out
 
--- one payload that was served: who sent it, the frames that were answered, and the two texts where they ended serving
+-- one payload that was served: who sent it, the frames that were answered, and the two texts where
+-- they ended serving
 pub record Turn : Type 0 where
   pub sender : ℕ
   pub payload : List ℕ
@@ -174,13 +192,17 @@ pub record Turn : Type 0 where
   pub clash : Option MetaClash
 
 -- all that was served, in order
-abbrev pub turns : (table : Table ServedState) (room : ℕ) (fresh : ServedState) (taken : List ℕ) (frames : List (List ℕ)) (clash : Option MetaClash) (state : ServedState)
+abbrev pub turns : (table : Table ServedState) (room : ℕ) (fresh : ServedState)
+    (taken : List ℕ) (frames : List (List ℕ)) (clash : Option MetaClash) (state : ServedState)
     → Served table room fresh taken frames clash state → List Turn
 turns table room fresh _ _ _ _ none = []
-turns table room fresh _ _ _ _ (more front frames mid before sender payload some clash new fits replies) =
-    turns table room fresh front frames None mid before ++ record { sender = sender; payload = payload; answered = some; clash = clash } ∷ []
+turns table room fresh _ _ _ _
+    (more front frames mid before sender payload some clash new fits replies) =
+    turns table room fresh front frames None mid before
+    ++ record { sender = sender; payload = payload; answered = some; clash = clash } ∷ []
 
--- the envelopes in which it came, the frames that were answered, and the two texts, where the last one ended serving
+-- the envelopes in which it came, the frames that were answered, and the two texts, where the last
+-- one ended serving
 abbrev pub bytes_of : List Turn → List ℕ
 bytes_of all = flat_map (λ t. envelope t.sender t.payload) all
 
@@ -190,10 +212,12 @@ frames_of all = flat_map (λ t. t.answered) all
 abbrev pub clash_of : List Turn → Option MetaClash
 clash_of all = fold (λ (c : Option MetaClash) (t : Turn). t.clash) None all
 
--- a choice of payloads: all that regard the identifier, none that regards another one, and of those that regard none any
+-- a choice of payloads: all that regard the identifier, none that regards another one, and of those
+-- that regard none any
 pub record Chooses (digest : List ℕ → List ℕ) (id : BlobId) (keeps : List ℕ → Bool) : Type 0 where
   pub own : (payload : List ℕ) → regarding digest payload ≡ Some id → keeps payload ≡ true
-  pub no_other : (payload : List ℕ) (other : BlobId) → keeps payload ≡ true → regarding digest payload ≡ Some other → other ≡ id
+  pub no_other : (payload : List ℕ) (other : BlobId) → keeps payload ≡ true
+      → regarding digest payload ≡ Some other → other ≡ id
 
 -- what is left of all that was served
 abbrev pub left_of : (List ℕ → Bool) → List Turn → List Turn
@@ -206,26 +230,38 @@ stored_pages all = sum_by (λ t. taken_pages t.payload t.answered) all
 abbrev pub made_entries : List Turn → ℕ
 made_entries all = sum_by (λ t. taken_entries t.payload t.answered) all
 
--- a state that is alike at the identifier serves what is left, and answers it exactly as before, where there is room for what was
--- stored and entered of it and no answer to it told of want of room
+-- a state that is alike at the identifier serves what is left, and answers it exactly as before,
+-- where there is room for what was stored and entered of it and no answer to it told of want of
+-- room
 abbrev pub ServesWhatIsLeft : (List ℕ → List ℕ) → Type 0
 ServesWhatIsLeft digest =
-    (id : BlobId) (keeps : List ℕ → Bool) (room : ℕ) (may_want also : Bool) (one other : ServedState) (taken : List ℕ) (frames : List (List ℕ)) (clash : Option MetaClash) (state : ServedState)
+    (id : BlobId) (keeps : List ℕ → Bool) (room : ℕ) (may_want also : Bool)
+    (one other : ServedState) (taken : List ℕ) (frames : List (List ℕ))
+    (clash : Option MetaClash) (state : ServedState)
     (served : Served (AnswersRequest digest may_want) room one taken frames clash state)
-    → let left = left_of keeps (turns (AnswersRequest digest may_want) room one taken frames clash state served) in
-    Chooses digest id keeps → AlikeAt id one other → All (λ (t : Turn). TellsWant t.answered → ⊥) left → RoomFor id other (stored_pages left) (made_entries left)
-    → (then : ServedState) × Served (AnswersRequest digest also) room other (bytes_of left) (frames_of left) (clash_of left) then × AlikeAt id state then
+    → let left = left_of keeps
+    (turns (AnswersRequest digest may_want) room one taken frames clash state served) in
+    Chooses digest id keeps → AlikeAt id one other
+    → All (λ (t : Turn). TellsWant t.answered → ⊥) left
+    → RoomFor id other (stored_pages left) (made_entries left)
+    → (then : ServedState)
+    × Served (AnswersRequest digest also) room other
+    (bytes_of left) (frames_of left) (clash_of left) then
+    × AlikeAt id state then
 
 -- ---- THE FOURTH LAW: what a reply to a reader rests on
 
 -- two shards of one number that hold the same of these parts
 pub record SameParts (id : BlobId) (sliver : Axis) (one other : ServedState) : Type 0 where
   pub index : other.shard.index ≡ one.shard.index
-  pub metadata : (parts_at other.shard.contents id).metadata ≡ (parts_at one.shard.contents id).metadata
-  pub sliver_is : part_of (parts_at other.shard.contents id) (sliver_part sliver) ≡ part_of (parts_at one.shard.contents id) (sliver_part sliver)
+  pub metadata : (parts_at other.shard.contents id).metadata
+      ≡ (parts_at one.shard.contents id).metadata
+  pub sliver_is : part_of (parts_at other.shard.contents id) (sliver_part sliver)
+      ≡ part_of (parts_at one.shard.contents id) (sliver_part sliver)
   pub proof : (parts_at other.shard.contents id).proof ≡ (parts_at one.shard.contents id).proof
 
--- the sliver that a request to a reader's question rests on: a read asks for the primary one, and symbols of a sliver come out of the one that crosses it
+-- the sliver that a request to a reader's question rests on: a read asks for the primary one, and
+-- symbols of a sliver come out of the one that crosses it
 abbrev pub RestsOn : Frame → BlobId → Axis → Type 0
 RestsOn (Read name) id sliver = (id ≡ named name) × (sliver ≡ axes.Primary)
 RestsOn (Symbol name axis index) id sliver = (id ≡ named name) × (sliver ≡ crossing axis)
@@ -234,8 +270,10 @@ RestsOn _ id sliver = ⊥
 -- it is answered alike by whatever shard holds the same metadata, that sliver and the same proof
 abbrev pub ReadsRestOn : (List ℕ → List ℕ) → Type 0
 ReadsRestOn digest =
-    (id : BlobId) (sliver : Axis) (one other : ServedState) (payload : List ℕ) (frame : Frame) (may_want also : Bool) (frames : List (List ℕ)) (clash : Option MetaClash) (new : ServedState)
-    → read_of payload ≡ Ok frame → RestsOn frame id sliver → SameParts id sliver one other → AnswersRequest digest may_want one payload frames clash new
+    (id : BlobId) (sliver : Axis) (one other : ServedState) (payload : List ℕ) (frame : Frame)
+    (may_want also : Bool) (frames : List (List ℕ)) (clash : Option MetaClash) (new : ServedState)
+    → read_of payload ≡ Ok frame → RestsOn frame id sliver → SameParts id sliver one other
+    → AnswersRequest digest may_want one payload frames clash new
     → AnswersRequest digest also other payload frames clash other
 
 -- ---- THE FIFTH LAW: entries and parts may be fed in another order
@@ -264,20 +302,26 @@ entry_payloads entries = flat_map (λ x. frame_payload (entry_frame x.body)) ent
 abbrev pub sliver_payload : List ℕ → ℕ → Parts → Axis → List (List ℕ)
 sliver_payload id shard p axis =
     let m = spelled_metadata (unwrap_or p.metadata []) in
-    payload_if (part_of p (sliver_part axis)) (λ bytes. sliver_frame id axis (held_index m.format m.f axis shard) bytes)
+    payload_if (part_of p (sliver_part axis))
+    (λ bytes. sliver_frame id axis (held_index m.format m.f axis shard) bytes)
 
 -- the pages of the parts
 abbrev pub pages_of : Parts → ℕ
 pages_of p = part_cost p.metadata + part_cost p.primary + part_cost p.secondary + part_cost p.proof
 
--- the payloads of the held ones of metadata, primary sliver, secondary sliver and proof, in this order
+-- the payloads of the held ones of metadata, primary sliver, secondary sliver and proof, in this
+-- order
 abbrev pub part_payloads : List ℕ → ℕ → Parts → List (List ℕ)
 part_payloads id shard p =
-    metadata_reply p ++ (sliver_payload id shard p axes.Primary ++ (sliver_payload id shard p axes.Secondary ++ proof_reply id p))
+    metadata_reply p
+    ++ (sliver_payload id shard p axes.Primary
+    ++ (sliver_payload id shard p axes.Secondary ++ proof_reply id p))
 
 -- the entries of an identifier in their order, and then its parts
 abbrev pub kept_payloads : BlobId → ServedState → List (List ℕ)
-kept_payloads id s = entry_payloads (own_entries s.ledger.log id) ++ part_payloads id.0 s.shard.index (parts_at s.shard.contents id)
+kept_payloads id s =
+    entry_payloads (own_entries s.ledger.log id)
+    ++ part_payloads id.0 s.shard.index (parts_at s.shard.contents id)
 
 -- a desk of a committee, with room for every frame that can verify
 pub record IsPlaced (id : BlobId) (room : ℕ) (s : ServedState) : Type 0 where
@@ -290,12 +334,17 @@ pub record IsPlaced (id : BlobId) (room : ℕ) (s : ServedState) : Type 0 where
   pub enough : desk_room s.shard.f ≤ room
   pub fits : room < 2 ^ 32
 
--- a shard that has nothing of the identifier and room for all that another one kept of it: fed with the entries and then the parts
--- that the other one has come to, it is alike to that one
+-- a shard that has nothing of the identifier and room for all that another one kept of it: fed with
+-- the entries and then the parts that the other one has come to, it is alike to that one
 abbrev pub Rebuilds : (List ℕ → List ℕ) → Type 0
 Rebuilds digest =
-    (id : BlobId) (room sender : ℕ) (may_want also : Bool) (one other : ServedState) (taken : List ℕ) (frames : List (List ℕ)) (clash : Option MetaClash) (state : ServedState)
-    → IsPlaced id room one → HasNothing id one → AlikeAt id one other → Served (AnswersRequest digest may_want) room one taken frames clash state
-    → RoomFor id other (pages_of (parts_at state.shard.contents id)) (length (own_entries state.ledger.log id))
+    (id : BlobId) (room sender : ℕ) (may_want also : Bool) (one other : ServedState)
+    (taken : List ℕ) (frames : List (List ℕ)) (clash : Option MetaClash) (state : ServedState)
+    → IsPlaced id room one → HasNothing id one → AlikeAt id one other
+    → Served (AnswersRequest digest may_want) room one taken frames clash state
+    → RoomFor id other (pages_of (parts_at state.shard.contents id))
+    (length (own_entries state.ledger.log id))
     → (answered : List (List ℕ)) × (then : ServedState)
-    × Served (AnswersRequest digest also) room other (flat_map (envelope sender) (kept_payloads id state)) answered None then × AlikeAt id state then
+    × Served (AnswersRequest digest also) room other
+    (flat_map (envelope sender) (kept_payloads id state)) answered None then
+    × AlikeAt id state then

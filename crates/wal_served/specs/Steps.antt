@@ -1,4 +1,5 @@
--- What serving does to a shard and its ledger, as the steps of the world: what each payload is as an event, and what is then.
+-- What serving does to a shard and its ledger, as the steps of the world: what each payload is as
+-- an event, and what is then.
 use Rattle.std.specs.Prelude.{◌≡◌, ◌≢◌, ◌⊎◌, ℕ, ◌-◌, ◌<◌, ◌≤◌, Bool, false, cond, not, nat_eq, nat_lt, List, [], ◌∷◌, ◌++◌, length, take, filter, Option, Some, None, Result, Ok, Err, ⊤}
 use Rattle.std.specs.List.{range_with_len, flat_map, Contains}
 use Rattle.wal_shape.specs.declared.axis.Axis.{Axis}
@@ -51,12 +52,14 @@ others f own = filter (λ s. not (nat_eq s own)) (range_with_len 0 (committee_si
 abbrev pub alone : ℕ → ℕ → Contents → Committee
 alone f own contents = with_contents (empty_committee f (others f own)) own contents
 
--- this world, but with the ledger that is served, and a committee in which the shard that serves is alone correct: the format in which
--- blobs are written and the first completed answers, which no request touches, are those of any world
+-- this world, but with the ledger that is served, and a committee in which the shard that serves is
+-- alone correct: the format in which blobs are written and the first completed answers, which no
+-- request touches, are those of any world
 abbrev pub world_of : World → ServedState → World
 world_of w s = record w { log = s.ledger.log; now = alone s.shard.f s.shard.index s.shard.contents; next = nobody }
 
--- a shard of the ledger's committee, whose epoch isn't changing, and each shard has a node of its own
+-- a shard of the ledger's committee, whose epoch isn't changing, and each shard has a node of its
+-- own
 pub record IsDesk (s : ServedState) : Type 0 where
   pub place : s.shard.index < committee_size s.shard.f
   pub faults : s.ledger.log.f ≡ s.shard.f
@@ -65,7 +68,8 @@ pub record IsDesk (s : ServedState) : Type 0 where
 
 -- ---- what a payload is
 
--- an event of the world, an entry of the very shard that serves, which is none, or nothing that changes anything
+-- an event of the world, an entry of the very shard that serves, which is none, or nothing that
+-- changes anything
 pub data Meaning : Type 0 where
   an_event : Event → Meaning
   own_entry : Meaning
@@ -73,10 +77,13 @@ pub data Meaning : Type 0 where
 
 -- an entry of a shard: of another one of the committee it is an event
 abbrev pub entry_of : ℕ → ℕ → ℕ → Event → Meaning
-entry_of f own shard claim = cond (nat_eq shard own) own_entry (cond (nat_lt shard (committee_size f)) (an_event claim) no_event)
+entry_of f own shard claim =
+    cond (nat_eq shard own) own_entry
+    (cond (nat_lt shard (committee_size f)) (an_event claim) no_event)
 
--- what a frame is to a shard of a committee, by the payload that spells it: what is put is sent to this shard, what is asked of it is
--- its own acknowledgement, attestation or forgetting, and entries are the ledger's
+-- what a frame is to a shard of a committee, by the payload that spells it: what is put is sent to
+-- this shard, what is asked of it is its own acknowledgement, attestation or forgetting, and
+-- entries are the ledger's
 abbrev pub frame_meaning : ℕ → ℕ → List ℕ → Frame → Meaning
 frame_meaning f own payload (Metadata m) = an_event (event.Send Now own payload)
 frame_meaning f own payload (Sliver id axis index bytes) = an_event (event.Send Now own payload)
@@ -86,7 +93,8 @@ frame_meaning f own payload (Attest id) = an_event (event.Attest own (named id))
 frame_meaning f own payload (Forget id) = an_event (event.Forget Now own (named id))
 frame_meaning f own payload (RegisterEntry id until) = an_event (event.Register (named id) until)
 frame_meaning f own payload (AckEntry shard id) = entry_of f own shard (event.Ack shard (named id))
-frame_meaning f own payload (AttestEntry shard id) = entry_of f own shard (event.Attest shard (named id))
+frame_meaning f own payload (AttestEntry shard id) =
+    entry_of f own shard (event.Attest shard (named id))
 frame_meaning f own payload _ = no_event
 
 -- what a payload is, by what was read in it
@@ -104,13 +112,15 @@ meaning f own payload = read_meaning f own payload (read_of payload)
 abbrev pub answer_text : ℕ → ℕ → ℕ → List ℕ
 answer_text code a b = frame_text (Answer code a b)
 
--- the answer to each word of a registration, which tells the resulting `until`; while the epoch does not change none is refused for that
+-- the answer to each word of a registration, which tells the resulting `until`; while the epoch
+-- does not change none is refused for that
 abbrev pub register_frame : RegisterWord → Option Frame
 register_frame (registering.Until most) = Some (Answer 0 most 0)
 register_frame registering.RefusedPast = Some (Answer 15 0 0)
 register_frame registering.RefusedMoving = None
 
--- the answer to each word of what is put; a correct shard of a committee that is there says no other, of a metadata, a sliver or a proof
+-- the answer to each word of what is put; a correct shard of a committee that is there says no
+-- other, of a metadata, a sliver or a proof
 abbrev pub send_frame : SendWord → Option Frame
 send_frame sending.Stored = Some (Answer 0 0 0)
 send_frame sending.Unregistered = Some (Answer 1 0 0)
@@ -146,7 +156,8 @@ forget_frame forgetting.Declined = Some (Answer 5 0 0)
 forget_frame forgetting.Absent = None
 forget_frame forgetting.Ignored = None
 
--- the frame that belongs to a line of a shard that serves: the answer to its word, or the two texts of a collision
+-- the frame that belongs to a line of a shard that serves: the answer to its word, or the two texts
+-- of a collision
 abbrev pub frame_of : Line → Option Frame
 frame_of (of_line.Register id word) = register_frame word
 frame_of (of_line.Send shard word) = send_frame word
@@ -158,17 +169,21 @@ frame_of _ = None
 
 -- the one frame that is answered is the one that belongs to this line
 abbrev pub IsTold : Line → List (List ℕ) → Type 0
-IsTold said frames = (frame : Frame) × (frame_of said ≡ Some frame) × (frames ≡ frame_text frame ∷ [])
+IsTold said frames =
+    (frame : Frame) × (frame_of said ≡ Some frame) × (frames ≡ frame_text frame ∷ [])
 
 -- a line is the collision of the two texts that end serving, and is none where serving goes on
 abbrev pub TellsClash : Option MetaClash → Line → Type 0
 TellsClash None said = is_collision said ≡ false
 TellsClash (Some texts) said = said ≡ of_line.Collision texts.left texts.right
 
--- the world takes a step, whose line is what was answered, and a collision exactly where two texts end serving, of these texts
-pub record TakesStep (digest : List ℕ → List ℕ) (old : ServedState) (e : Event) (frames : List (List ℕ)) (clash : Option MetaClash) (new : ServedState) : Type 0 where
+-- the world takes a step, whose line is what was answered, and a collision exactly where two texts
+-- end serving, of these texts
+pub record TakesStep (digest : List ℕ → List ℕ) (old : ServedState) (e : Event)
+    (frames : List (List ℕ)) (clash : Option MetaClash) (new : ServedState) : Type 0 where
   pub line : Line
-  pub steps : (w : World) → Steps (rules_of digest old.shard.f) (world_of w old) e line (world_of w new)
+  pub steps : (w : World)
+      → Steps (rules_of digest old.shard.f) (world_of w old) e line (world_of w new)
   pub told : IsTold line frames
   pub ends : TellsClash clash line
 
@@ -177,7 +192,8 @@ abbrev pub IsWant : ℕ → Type 0
 IsWant code = (code ≡ 6) ⊎ ((code ≡ 7) ⊎ (code ≡ 10))
 
 -- there was no room, and nothing changed
-pub record LacksRoom (old : ServedState) (frames : List (List ℕ)) (clash : Option MetaClash) (new : ServedState) : Type 0 where
+pub record LacksRoom (old : ServedState) (frames : List (List ℕ))
+    (clash : Option MetaClash) (new : ServedState) : Type 0 where
   pub code : ℕ
   pub a : ℕ
   pub b : ℕ
@@ -186,26 +202,37 @@ pub record LacksRoom (old : ServedState) (frames : List (List ℕ)) (clash : Opt
   pub goes_on : clash ≡ None
   pub same : new ≡ old
 
--- what is done by what a payload is: an event is a step of the world, where there is room; an entry of this very shard leaves the shard
--- as it is; and else nothing changes
-abbrev pub Does : (List ℕ → List ℕ) → ServedState → Meaning → List (List ℕ) → Option MetaClash → ServedState → Type 0
-Does digest old (an_event e) frames clash new = TakesStep digest old e frames clash new ⊎ LacksRoom old frames clash new
+-- what is done by what a payload is: an event is a step of the world, where there is room; an entry
+-- of this very shard leaves the shard as it is; and else nothing changes
+abbrev pub Does : (List ℕ → List ℕ) → ServedState → Meaning → List (List ℕ) → Option MetaClash
+    → ServedState → Type 0
+Does digest old (an_event e) frames clash new =
+    TakesStep digest old e frames clash new ⊎ LacksRoom old frames clash new
 Does digest old own_entry frames clash new = (new.shard ≡ old.shard) × (clash ≡ None)
 Does digest old no_event frames clash new = (new ≡ old) × (clash ≡ None)
 
--- a shard asks for symbols of its sliver by the index that held metadata gives it; where nothing is held any index is one
+-- a shard asks for symbols of its sliver by the index that held metadata gives it; where nothing is
+-- held any index is one
 pub data AsksFor (parts : Parts) (axis : Axis) (index shard : ℕ) : Type 0 where
-  by_metadata : (m : BlobMetadata) → HoldsMetadata parts m → index ≡ held_index m.format m.f axis shard → AsksFor parts axis index shard
+  by_metadata : (m : BlobMetadata) → HoldsMetadata parts m
+      → index ≡ held_index m.format m.f axis shard → AsksFor parts axis index shard
   of_nothing : parts.metadata ≡ None → parts.proof ≡ None → AsksFor parts axis index shard
 
--- what is asked of what is held has the true reply of the world's shard, and then the number of its frames
-abbrev pub RepliesTruly : (List ℕ → List ℕ) → ServedState → Result Frame FrameError → List (List ℕ) → Option MetaClash → Type 0
+-- what is asked of what is held has the true reply of the world's shard, and then the number of its
+-- frames
+abbrev pub RepliesTruly : (List ℕ → List ℕ) → ServedState → Result Frame FrameError → List (List ℕ)
+    → Option MetaClash → Type 0
 RepliesTruly digest old (Ok (Read id)) frames clash =
-    (w : World) → IsReplied (reply_payloads (rules_of digest old.shard.f) (world_of w old) (named id) (said_by.True Now old.shard.index)) frames clash
+    (w : World)
+    → IsReplied
+    (reply_payloads (rules_of digest old.shard.f) (world_of w old)
+    (named id) (said_by.True Now old.shard.index))
+    frames clash
 RepliesTruly digest old (Ok (Symbol id axis index)) frames clash =
     (payloads : List (List ℕ)) × IsReplied payloads frames clash
     × ((w : World) (shard : ℕ) → AsksFor (parts_at old.shard.contents (named id)) axis index shard
-    → IsReplyOf (rules_of digest old.shard.f) (world_of w old) (named id) axis shard (said_by.True Now old.shard.index) payloads)
+    → IsReplyOf (rules_of digest old.shard.f) (world_of w old)
+    (named id) axis shard (said_by.True Now old.shard.index) payloads)
 RepliesTruly digest old _ frames clash = ⊤
 
 -- the answers after which nothing has changed: want of room, and no request
@@ -213,24 +240,30 @@ abbrev pub IsRefused : ℕ → Type 0
 IsRefused code = (code ≡ 9) ⊎ IsWant code
 
 -- WHAT A PAYLOAD DOES that was looked at: it is answered so, and that is this in the world
-pub record Stepped (digest : List ℕ → List ℕ) (may_want : Bool) (old : ServedState) (payload : List ℕ) (frames : List (List ℕ)) (clash : Option MetaClash) (new : ServedState) : Type 0 where
+pub record Stepped (digest : List ℕ → List ℕ) (may_want : Bool)
+    (old : ServedState) (payload : List ℕ) (frames : List (List ℕ))
+    (clash : Option MetaClash) (new : ServedState) : Type 0 where
   pub answers : AnswersRequest digest may_want old payload frames clash new
   pub does : Does digest old (meaning old.shard.f old.shard.index payload) frames clash new
   pub replies : RepliesTruly digest old (read_of payload) frames clash
   pub refused : (code a b : ℕ) → frames ≡ answer_text code a b ∷ [] → IsRefused code → new ≡ old
   pub place : SamePlace old.shard new.shard
 
--- EVERY REQUEST: what the table of requests has for a payload is this, where each shard has a node of its own and the epoch isn't
--- changing, and then both are so again
+-- EVERY REQUEST: what the table of requests has for a payload is this, where each shard has a node
+-- of its own and the epoch isn't changing, and then both are so again
 abbrev pub EveryRequest : (List ℕ → List ℕ) → Type 0
 EveryRequest digest =
-    (may_want : Bool) (old : ServedState) (payload : List ℕ) (frames : List (List ℕ)) (clash : Option MetaClash) (new : ServedState) → IsDesk old → AnswersRequest digest may_want old payload frames clash new
+    (may_want : Bool) (old : ServedState) (payload : List ℕ)
+    (frames : List (List ℕ)) (clash : Option MetaClash) (new : ServedState)
+    → IsDesk old → AnswersRequest digest may_want old payload frames clash new
     → Stepped digest may_want old payload frames clash new × IsDesk new
 
--- WHAT SERVING DOES: the bytes are whole envelopes, and each payload did so in turn, but one that is longer than the room, which is no
--- request, changed nothing
-abbrev pub AreSteps : (List ℕ → List ℕ) → Bool → ℕ → ServedState → List ℕ → List (List ℕ) → Option MetaClash → ServedState → Type 0
-AreSteps digest may_want room fresh taken frames clash state = Served (Stepped digest may_want) room fresh taken frames clash state
+-- WHAT SERVING DOES: the bytes are whole envelopes, and each payload did so in turn, but one that
+-- is longer than the room, which is no request, changed nothing
+abbrev pub AreSteps : (List ℕ → List ℕ) → Bool → ℕ → ServedState → List ℕ → List (List ℕ)
+    → Option MetaClash → ServedState → Type 0
+AreSteps digest may_want room fresh taken frames clash state =
+    Served (Stepped digest may_want) room fresh taken frames clash state
 
 -- ---- as a run of the world
 
@@ -239,10 +272,12 @@ abbrev pub Exchange : Type 0
 Exchange = List ℕ × List (List ℕ)
 
 -- the payloads that were served, in order, each with what was answered to it
-abbrev pub exchanges : (digest : List ℕ → List ℕ) (may_want : Bool) (room : ℕ) (fresh : ServedState) (taken : List ℕ) (frames : List (List ℕ)) (clash : Option MetaClash) (state : ServedState)
+abbrev pub exchanges : (digest : List ℕ → List ℕ) (may_want : Bool) (room : ℕ) (fresh : ServedState)
+    (taken : List ℕ) (frames : List (List ℕ)) (clash : Option MetaClash) (state : ServedState)
     → AreSteps digest may_want room fresh taken frames clash state → List Exchange
 exchanges digest may_want room fresh _ _ _ _ none = []
-exchanges digest may_want room fresh _ _ _ _ (more front frames mid before sender payload some clash new fits replies) =
+exchanges digest may_want room fresh _ _ _ _
+    (more front frames mid before sender payload some clash new fits replies) =
     exchanges digest may_want room fresh front frames None mid before ++ (payload, some) ∷ []
 
 -- the event that a payload is, if it is one, with the frames that were answered
@@ -250,25 +285,34 @@ abbrev pub event_if : Meaning → List (List ℕ) → List (Event × List (List 
 event_if (an_event e) frames = (e, frames) ∷ []
 event_if _ frames = []
 
--- the events of payloads with the frames that were answered to each, in order: one that is longer than the room is none
+-- the events of payloads with the frames that were answered to each, in order: one that is longer
+-- than the room is none
 abbrev pub events_of : ℕ → ℕ → ℕ → List Exchange → List (Event × List (List ℕ))
-events_of room f own all = flat_map (λ a. cond (nat_lt room (length a.0)) [] (event_if (meaning f own a.0) a.1)) all
+events_of room f own all =
+    flat_map (λ a. cond (nat_lt room (length a.0)) [] (event_if (meaning f own a.0) a.1)) all
 
 -- no payload that is looked at is an entry of the very shard that serves
 abbrev pub NoOwnEntry : ℕ → ℕ → ℕ → List Exchange → Type 0
-NoOwnEntry room f own all = (a : Exchange) → Contains all a → length a.0 ≤ room → meaning f own a.0 ≢ own_entry
+NoOwnEntry room f own all =
+    (a : Exchange) → Contains all a → length a.0 ≤ room → meaning f own a.0 ≢ own_entry
 
 -- all that is answered is one frame that tells of want of room
 abbrev pub TellsWant : List (List ℕ) → Type 0
-TellsWant frames = (code : ℕ) × (a : ℕ) × (b : ℕ) × IsWant code × (frames ≡ answer_text code a b ∷ [])
+TellsWant frames =
+    (code : ℕ) × (a : ℕ) × (b : ℕ) × IsWant code × (frames ≡ answer_text code a b ∷ [])
 
--- events in order and their lines: those are left out whose answer tells of want of room, and to each other one its line was answered,
--- which never tells of that
+-- events in order and their lines: those are left out whose answer tells of want of room, and to
+-- each other one its line was answered, which never tells of that
 pub data AreOf : List Event → List Line → List (Event × List (List ℕ)) → Type 0 where
   nothing : AreOf [] [] []
-  with_next : (some : List Event) (lines : List Line) (all : List (Event × List (List ℕ))) (e : Event) (said : Line) (frames : List (List ℕ)) → AreOf some lines all
-      → IsTold said frames → (TellsWant frames → ⊥) → AreOf (some ++ e ∷ []) (lines ++ said ∷ []) (all ++ (e, frames) ∷ [])
-  without_next : (some : List Event) (lines : List Line) (all : List (Event × List (List ℕ))) (e : Event) (frames : List (List ℕ)) → AreOf some lines all
+  with_next : (some : List Event) (lines : List Line) (all : List (Event × List (List ℕ)))
+      (e : Event) (said : Line) (frames : List (List ℕ))
+      → AreOf some lines all
+      → IsTold said frames → (TellsWant frames → ⊥)
+      → AreOf (some ++ e ∷ []) (lines ++ said ∷ []) (all ++ (e, frames) ∷ [])
+  without_next : (some : List Event) (lines : List Line)
+      (all : List (Event × List (List ℕ))) (e : Event) (frames : List (List ℕ))
+      → AreOf some lines all
       → TellsWant frames → AreOf some lines (all ++ (e, frames) ∷ [])
 
 -- the world at the end of a run
@@ -276,14 +320,18 @@ abbrev pub last_world : World → List World → World
 last_world w [] = w
 last_world w (next ∷ states) = last_world next states
 
--- the last line is the collision of the two texts that end serving, and no other is a collision; where serving goes on, none is
+-- the last line is the collision of the two texts that end serving, and no other is a collision;
+-- where serving goes on, none is
 abbrev pub StopsBy : Option MetaClash → List Line → Type 0
 StopsBy None lines = GoesOn lines
-StopsBy (Some texts) lines = (ends : EndsInCollision lines) × (ends.said ≡ of_line.Collision texts.left texts.right)
+StopsBy (Some texts) lines =
+    (ends : EndsInCollision lines) × (ends.said ≡ of_line.Collision texts.left texts.right)
 
--- A RUN OF THE WORLD from one state to the other, of these events in their order but those whose answer tells of want of room, and each
--- of its lines was answered to its event
-pub record IsRunTo (digest : List ℕ → List ℕ) (w : World) (fresh : ServedState) (all : List (Event × List (List ℕ))) (clash : Option MetaClash) (state : ServedState) : Type 0 where
+-- A RUN OF THE WORLD from one state to the other, of these events in their order but those whose
+-- answer tells of want of room, and each of its lines was answered to its event
+pub record IsRunTo (digest : List ℕ → List ℕ) (w : World)
+    (fresh : ServedState) (all : List (Event × List (List ℕ)))
+    (clash : Option MetaClash) (state : ServedState) : Type 0 where
   pub events : List Event
   pub states : List World
   pub lines : List Line
@@ -292,31 +340,43 @@ pub record IsRunTo (digest : List ℕ → List ℕ) (w : World) (fresh : ServedS
   pub ends : last_world (world_of w fresh) states ≡ world_of w state
   pub stops : StopsBy clash lines
 
--- what was served is a run of the events that the payloads are, where none is an entry of the very shard that serves
-abbrev pub IsServedRun : (List ℕ → List ℕ) → ℕ → ServedState → List Exchange → Option MetaClash → ServedState → Type 0
+-- what was served is a run of the events that the payloads are, where none is an entry of the very
+-- shard that serves
+abbrev pub IsServedRun : (List ℕ → List ℕ) → ℕ → ServedState → List Exchange → Option MetaClash
+    → ServedState → Type 0
 IsServedRun digest room fresh all clash state =
     NoOwnEntry room fresh.shard.f fresh.shard.index all
-    → (w : World) → IsRunTo digest w fresh (events_of room fresh.shard.f fresh.shard.index all) clash state
+    → (w : World)
+    → IsRunTo digest w fresh (events_of room fresh.shard.f fresh.shard.index all) clash state
 
--- at each place of what was served, what was served so far is such a run, to the state there: so it is one up to the first entry of the
--- very shard that serves, whatever comes behind
-abbrev pub AreServedRuns : (digest : List ℕ → List ℕ) (may_want : Bool) (room : ℕ) (fresh : ServedState) (taken : List ℕ) (frames : List (List ℕ)) (clash : Option MetaClash) (state : ServedState)
+-- at each place of what was served, what was served so far is such a run, to the state there: so it
+-- is one up to the first entry of the very shard that serves, whatever comes behind
+abbrev pub AreServedRuns : (digest : List ℕ → List ℕ) (may_want : Bool)
+    (room : ℕ) (fresh : ServedState) (taken : List ℕ)
+    (frames : List (List ℕ)) (clash : Option MetaClash) (state : ServedState)
     → AreSteps digest may_want room fresh taken frames clash state → Type 0
 AreServedRuns digest may_want room fresh _ _ _ _ none = IsServedRun digest room fresh [] None fresh
-AreServedRuns digest may_want room fresh _ _ _ _ (more front frames mid before sender payload some clash new fits replies) =
+AreServedRuns digest may_want room fresh _ _ _ _
+    (more front frames mid before sender payload some clash new fits replies) =
     AreServedRuns digest may_want room fresh front frames None mid before
-    × IsServedRun digest room fresh (exchanges digest may_want room fresh front frames None mid before ++ (payload, some) ∷ []) clash new
+    × IsServedRun digest room fresh
+    (exchanges digest may_want room fresh front frames None mid before ++ (payload, some) ∷ [])
+    clash new
 
 -- ---- of all that was taken
 
--- what ended serving are these two texts exactly where its end tells them, but where a write failed, whose end does not tell
+-- what ended serving are these two texts exactly where its end tells them, but where a write
+-- failed, whose end does not tell
 abbrev pub EndsBy : ServeEnd → Option MetaClash → Type 0
 EndsBy (ending.Collision texts) clash = clash ≡ Some texts
 EndsBy ending.WriteFault clash = ⊤
 EndsBy _ clash = clash ≡ None
 
--- serving did so to the whole envelopes at the front of what was taken, behind which no whole one stands within the limit, and ended so
-pub record IsReached (digest : List ℕ → List ℕ) (may_want : Bool) (room limit : ℕ) (fresh : ServedState) (taken : List ℕ) (frames : List (List ℕ)) (state : ServedState) (end : ServeEnd) : Type 0 where
+-- serving did so to the whole envelopes at the front of what was taken, behind which no whole one
+-- stands within the limit, and ended so
+pub record IsReached (digest : List ℕ → List ℕ) (may_want : Bool) (room limit : ℕ)
+    (fresh : ServedState) (taken : List ℕ) (frames : List (List ℕ))
+    (state : ServedState) (end : ServeEnd) : Type 0 where
   pub front : List ℕ
   pub rest : List ℕ
   pub clash : Option MetaClash
@@ -325,11 +385,15 @@ pub record IsReached (digest : List ℕ → List ℕ) (may_want : Bool) (room li
   pub behind : BeginsNone (take (limit - length front) rest)
   pub steps : AreSteps digest may_want room fresh front frames clash state
   pub fronts : AreServedRuns digest may_want room fresh front frames clash state steps
-  pub runs : IsServedRun digest room fresh (exchanges digest may_want room fresh front frames clash state steps) clash state
+  pub runs : IsServedRun digest room fresh
+      (exchanges digest may_want room fresh front frames clash state steps) clash state
 
--- EVERY SERVING: from a state in which each shard has a node of its own and the epoch isn't changing, whatever is taken and however
--- serving ends
+-- EVERY SERVING: from a state in which each shard has a node of its own and the epoch isn't
+-- changing, whatever is taken and however serving ends
 abbrev pub EveryServing : (List ℕ → List ℕ) → Type 0
 EveryServing digest =
-    (may_want : Bool) (room limit : ℕ) (fresh : ServedState) (taken : List ℕ) (frames : List (List ℕ)) (state : ServedState) (end : ServeEnd) → IsDesk fresh
-    → Serves (AnswersRequest digest may_want) room limit fresh taken ⊤ ⊤ ⊤ frames state end → IsReached digest may_want room limit fresh taken frames state end
+    (may_want : Bool) (room limit : ℕ) (fresh : ServedState) (taken : List ℕ)
+    (frames : List (List ℕ)) (state : ServedState) (end : ServeEnd)
+    → IsDesk fresh
+    → Serves (AnswersRequest digest may_want) room limit fresh taken ⊤ ⊤ ⊤ frames state end
+    → IsReached digest may_want room limit fresh taken frames state end

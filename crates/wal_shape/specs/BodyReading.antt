@@ -8,7 +8,8 @@ use Rattle.wal_shape.specs.Shape.{most_bytes}
 use Rattle.wal_shape.specs.Opening.{opening_shown}
 use Rattle.wal_shape.specs.FieldReading.{◌>>=◌, number_at, run_at}
 
--- what a reference shows of the bytes that it was read from: the opening, and the bytes after its body
+-- what a reference shows of the bytes that it was read from: the opening, and the bytes after its
+-- body
 abbrev pub body_seen : List ℕ → BodyRef → Opening × List ℕ
 body_seen bytes b = (opening_shown b.opening, drop b.size bytes)
 

@@ -7,7 +7,8 @@ use Rattle.wal_shape.specs.declared.shape.Format.{Format}
 use Rattle.wal_shape.specs.declared.shape.Format.TheVariants.{One, Two}
 use Rattle.wal_shape.specs.Shape.{IsShape, shard_count}
 
--- the format, the number of faults, the blob's length in bytes, and the root of each sliver of either axis
+-- the format, the number of faults, the blob's length in bytes, and the root of each sliver of
+-- either axis
 pub record BlobMetadata : Type 0 where
   pub format : Format
   pub f : ℕ
@@ -31,8 +32,8 @@ abbrev pub roots_of : Axis → BlobMetadata → List (List ℕ)
 roots_of Primary m = m.primary
 roots_of Secondary m = m.secondary
 
--- the index of the sliver of an axis that a shard holds: the shard's own number, but in format two the secondary
--- slivers are held in the opposite order
+-- the index of the sliver of an axis that a shard holds: the shard's own number, but in format two
+-- the secondary slivers are held in the opposite order
 abbrev pub held_index : Format → ℕ → Axis → ℕ → ℕ
 held_index One f axis shard = shard
 held_index Two f Primary shard = shard

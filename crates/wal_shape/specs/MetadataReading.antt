@@ -39,7 +39,8 @@ metadata_in format bytes = record {
   f = spelled_f bytes;
   length = spelled_length bytes;
   primary = every_root (shard_count (spelled_f bytes)) (pairs_in bytes);
-  secondary = held_order format (every_root (shard_count (spelled_f bytes)) (drop 32 (pairs_in bytes)));
+  secondary =
+      held_order format (every_root (shard_count (spelled_f bytes)) (drop 32 (pairs_in bytes)));
 }
 
 -- the metadata that the bytes spell

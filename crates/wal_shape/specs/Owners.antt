@@ -30,12 +30,16 @@ node_of owners shard = slice_index owners shard
 
 -- whether a list has a shard of the node that runs this one
 abbrev pub has_neighbour : List ℕ → List ℕ → ℕ → Bool
-has_neighbour owners shards shard = list_any (λ s. nat_eq (node_of owners s) (node_of owners shard)) shards
+has_neighbour owners shards shard =
+    list_any (λ s. nat_eq (node_of owners s) (node_of owners shard)) shards
 
 -- a list of shards is closed: with a shard it has every shard of the same node
 abbrev pub is_closed : List ℕ → List ℕ → Bool
-is_closed owners shards = every_below (length owners) (λ shard. not (has_neighbour owners shards shard) || among shards shard)
+is_closed owners shards =
+    every_below (length owners)
+    (λ shard. not (has_neighbour owners shards shard) || among shards shard)
 
 -- the node of each of n shards, and faulty shards, which are all shards of their nodes
 abbrev pub is_committee : ℕ → List ℕ → List ℕ → Bool
-is_committee n owners faulty = are_owners n owners && (is_ascending n faulty && is_closed owners faulty)
+is_committee n owners faulty =
+    are_owners n owners && (is_ascending n faulty && is_closed owners faulty)

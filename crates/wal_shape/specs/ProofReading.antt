@@ -14,7 +14,8 @@ axis_of zero = Primary
 axis_of (suc n) = Secondary
 
 -- an opening that was read, and the others that stand behind it
-abbrev pub with_others : Result (Opening × List ℕ) BodyFault → (List ℕ → List Opening) → List Opening
+abbrev pub with_others : Result (Opening × List ℕ) BodyFault → (List ℕ → List Opening)
+    → List Opening
 with_others (Ok x) others = x.0 ∷ others x.1
 with_others (Err e) others = []
 

@@ -26,18 +26,24 @@ pairs_text [] secondary = []
 pairs_text (p ∷ primary) [] = []
 pairs_text (p ∷ primary) (s ∷ secondary) = p ++ s ++ pairs_text primary secondary
 
--- the format, f in two bytes, the length in eight, and the roots of the two slivers that each shard holds
+-- the format, f in two bytes, the length in eight, and the roots of the two slivers that each shard
+-- holds
 unfoldable pub metadata_text : BlobMetadata → List ℕ
-metadata_text m = format_text m.format ++ number_text w16 m.f ++ number_text w64 m.length ++ pairs_text m.primary (held_order m.format m.secondary)
+metadata_text m =
+    format_text m.format ++ number_text w16 m.f ++ number_text w64 m.length
+    ++ pairs_text m.primary (held_order m.format m.secondary)
 
 -- the number of bytes of the spelling of metadata
 abbrev pub text_size : Format → ℕ → ℕ
 text_size One f = 10 + 64 * shard_count f
 text_size Two f = 11 + 64 * shard_count f
 
--- an opening body: the cross, the symbol behind its size, and the path behind the number of its digests
+-- an opening body: the cross, the symbol behind its size, and the path behind the number of its
+-- digests
 unfoldable pub body_text : Opening → List ℕ
-body_text o = number_text w16 o.cross ++ number_text w32 (length o.symbol) ++ o.symbol ++ number_text w8 (length o.path / 32) ++ o.path
+body_text o =
+    number_text w16 o.cross ++ number_text w32 (length o.symbol) ++ o.symbol
+    ++ number_text w8 (length o.path / 32) ++ o.path
 
 -- the number of an axis
 abbrev pub axis_number : Axis → ℕ
@@ -46,4 +52,6 @@ axis_number Secondary = 1
 
 -- the axis, the index and the number of openings, and each opening's body
 unfoldable pub proof_text : EncodingProof → List ℕ
-proof_text p = number_text w8 (axis_number p.axis) ++ number_text w16 p.index ++ number_text w16 (length p.openings) ++ flat_map body_text p.openings
+proof_text p =
+    number_text w8 (axis_number p.axis) ++ number_text w16 p.index
+    ++ number_text w16 (length p.openings) ++ flat_map body_text p.openings

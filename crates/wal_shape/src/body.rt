@@ -65,7 +65,8 @@ pub(crate) fn split_body(bytes: &[u8]) -> Result<(OpeningRef<'_>, &[u8]), BodyFa
 pub fn read_body(bytes: &[u8]) -> Result<BodyRef<'_>, BodyFault>
     // What is read is an opening in the ranges, and the bytes begin with its body.
     ensures opening { IfOk result (λ b. IsBody (opening_shown b.opening)) }
-    ensures spelled { IfOk result (λ b. bytes.now ≡ body_text (opening_shown b.opening) ++ drop b.size bytes.now) }
+    ensures spelled { IfOk result
+        (λ b. bytes.now ≡ body_text (opening_shown b.opening) ++ drop b.size bytes.now) }
     ensures size { IfOk result (λ b. b.size ≡ length (body_text (opening_shown b.opening))) }
     // A body is read, whatever follows.
     ensures only { (o : Opening) (rest : List ℕ) → IsBody o → bytes.now ≡ body_text o ++ rest

@@ -50,7 +50,8 @@ impl Bytes {
     }
 }
 
-/// The digests of a path in a Merkle tree, 32 bytes each, from the leaf upwards, one after the other.
+/// The digests of a path in a Merkle tree, 32 bytes each, from the leaf upwards, one after the
+/// other.
 #[derive(Debug, Drop)]
 pub struct Path {
     digests: Vec<u8>,

@@ -23,8 +23,8 @@ const ROOT_SIZE: usize = 32;
 /// The number of bytes of `f` and the length, which stand before the roots.
 const HEAD_SIZE: usize = 10;
 
-/// The format, and the bytes behind it. Format two is the byte 2; in format one the first byte is that of `f`,
-/// which is at most 1.
+/// The format, and the bytes behind it. Format two is the byte 2; in format one the first byte is
+/// that of `f`, which is at most 1.
 #[tactic(auto, unfolding(crate::specs::MetadataReading::spelled_format, crate::specs::MetadataReading::behind_format))]
 fn split_format(bytes: &[u8]) -> (Format, &[u8])
     ensures format { result.0 ≡ spelled_format bytes.now }
@@ -78,7 +78,8 @@ fn spells_metadata(bytes: &[u8]) -> bool
     are_numbers_and_roots(behind)
 }
 
-/// Where a root of the pair at this index begins, behind the format: the primary one or the secondary one.
+/// Where a root of the pair at this index begins, behind the format: the primary one or the
+/// secondary one.
 fn root_place(axis: Axis, index: u16) -> usize
     ensures { result ≡ root_place_of axis index }
 {
@@ -102,9 +103,9 @@ fn root_at(bytes: &[u8], place: usize) -> &[u8]
 
 /// Metadata that lie in lent bytes.
 ///
-/// The bytes are `f` (two), the length (eight), and for each shard in turn the root of the primary and
-/// that of the secondary sliver that it holds (32 each), numbers most significant byte first. Format two
-/// has the byte 2 before them.
+/// The bytes are `f` (two), the length (eight), and for each shard in turn the root of the primary
+/// and that of the secondary sliver that it holds (32 each), numbers most significant byte first.
+/// Format two has the byte 2 before them.
 #[derive(Clone, Copy, Debug)]
 pub struct MetaRef<'a> {
     bytes: &'a [u8],
@@ -119,8 +120,10 @@ impl<'a> MetaRef<'a> {
     pub fn new(bytes: &'a [u8]) -> Option<MetaRef<'a>>
         ensures metadata { IfSome result (λ m. IsMetadata (metadata_shown m)) }
         ensures spelled { IfSome result (λ m. metadata_text (metadata_shown m) ≡ bytes.now) }
-        ensures only { (m : BlobMetadata) → IsMetadata m → metadata_text m ≡ bytes.now → IfSome result (λ r. metadata_shown r ≡ m) }
-        ensures none { IfNone result ((m : BlobMetadata) → IsMetadata m → metadata_text m ≡ bytes.now → ⊥) }
+        ensures only { (m : BlobMetadata) → IsMetadata m → metadata_text m ≡ bytes.now
+            → IfSome result (λ r. metadata_shown r ≡ m) }
+        ensures none { IfNone result
+            ((m : BlobMetadata) → IsMetadata m → metadata_text m ≡ bytes.now → ⊥) }
     {
         if spells_metadata(bytes) {
             Some(MetaRef { bytes })
@@ -132,7 +135,8 @@ impl<'a> MetaRef<'a> {
     /// Lends the spelling.
     pub fn bytes(&self) -> &'a [u8]
         ensures spelling { result.now ≡ metadata_text (metadata_shown self.now) }
-        ensures size { length result.now ≡ text_size (metadata_shown self.now).format (metadata_shown self.now).f }
+        ensures size { length result.now
+            ≡ text_size (metadata_shown self.now).format (metadata_shown self.now).f }
         ensures metadata { IsMetadata (metadata_shown self.now) }
     {
         self.bytes
@@ -188,7 +192,8 @@ impl<'a> MetaRef<'a> {
     /// The index of the sliver of this axis that a shard holds.
     pub fn held(&self, axis: Axis, shard: u16) -> u16
         requires { shard < shard_count (metadata_shown self.now).f }
-        ensures value { result ≡ held_index (metadata_shown self.now).format (metadata_shown self.now).f axis shard }
+        ensures value { result
+            ≡ held_index (metadata_shown self.now).format (metadata_shown self.now).f axis shard }
         ensures within { result < shard_count (metadata_shown self.now).f }
     {
         match (self.format(), axis) {
@@ -215,7 +220,8 @@ impl Model for Metadata {
 
     ghost view = { λ m. spelled_metadata m.bytes };
 
-    ghost invariant = { λ m. SpellMetadata m.bytes × (metadata_text (spelled_metadata m.bytes) ≡ m.bytes) };
+    ghost invariant = { λ m. SpellMetadata m.bytes
+        × (metadata_text (spelled_metadata m.bytes) ≡ m.bytes) };
 }
 
 impl Metadata {
@@ -225,8 +231,10 @@ impl Metadata {
     pub fn create(bytes: Bytes) -> Option<Metadata>
         ensures metadata { IfSome result IsMetadata }
         ensures spelled { IfSome result (λ m. metadata_text m ≡ bytes) }
-        ensures only { (m : BlobMetadata) → IsMetadata m → metadata_text m ≡ bytes → result ≡ Some m }
-        ensures none { IfNone result ((m : BlobMetadata) → IsMetadata m → metadata_text m ≡ bytes → ⊥) }
+        ensures only { (m : BlobMetadata) → IsMetadata m → metadata_text m ≡ bytes
+            → result ≡ Some m }
+        ensures none { IfNone result
+            ((m : BlobMetadata) → IsMetadata m → metadata_text m ≡ bytes → ⊥) }
     {
         match MetaRef::new(bytes.as_slice()) {
             Some(_) => Some(Metadata { bytes }),

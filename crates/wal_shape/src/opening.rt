@@ -43,8 +43,8 @@ impl Sliver {
 /// One symbol of the extended matrix with its path to the root of its own sliver.
 #[derive(Debug, Drop)]
 pub struct Opening {
-    /// The index of the crossing sliver, which has the symbol too, and the symbol's place in the target. In format
-    /// two another shard holds the secondary sliver of this index.
+    /// The index of the crossing sliver, which has the symbol too, and the symbol's place in the
+    /// target. In format two another shard holds the secondary sliver of this index.
     pub cross: u16,
     pub symbol: Bytes,
     /// The sibling digests from the leaf upwards.
@@ -54,8 +54,8 @@ pub struct Opening {
 /// An opening whose bytes are lent.
 #[derive(Clone, Copy, Debug)]
 pub struct OpeningRef<'a> {
-    /// The index of the crossing sliver, which has the symbol too, and the symbol's place in the target. In format
-    /// two another shard holds the secondary sliver of this index.
+    /// The index of the crossing sliver, which has the symbol too, and the symbol's place in the
+    /// target. In format two another shard holds the secondary sliver of this index.
     pub cross: u16,
     pub symbol: &'a [u8],
     /// The sibling digests from the leaf upwards, 32 bytes each.

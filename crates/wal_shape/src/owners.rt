@@ -43,7 +43,8 @@ type Flags = [bool; MOST];
 
 /// Raises the flag of a number, where it has one.
 fn raise(flags: &mut Flags, number: u16)
-    ensures { (k : ℕ) → k < 1000 → slice_index_or flags.new k false ≡ (slice_index_or flags.old k false || nat_eq number k) }
+    ensures { (k : ℕ) → k < 1000
+        → slice_index_or flags.new k false ≡ (slice_index_or flags.old k false || nat_eq number k) }
 {
     if usize::from(number) < MOST {
         flags[usize::from(number)] = true;
@@ -80,7 +81,9 @@ pub fn node_of(owners: &[u16], shard: u16) -> u16
 
 /// The flags of the nodes that run these shards.
 fn nodes_of(owners: &[u16], shards: &[u16]) -> Flags
-    ensures { (k : ℕ) → k < 1000 → slice_index_or result k false ≡ list_any (λ shard. nat_eq (node_of owners.now shard) k) shards.now }
+    ensures { (k : ℕ) → k < 1000
+        → slice_index_or result k false
+        ≡ list_any (λ shard. nat_eq (node_of owners.now shard) k) shards.now }
 {
     let mut flags = no_flags();
     for shard in shards {
@@ -102,7 +105,9 @@ fn is_raised(flags: &Flags, number: u16) -> bool
 /// Whether the list has the shard, if it has one of the same node.
 fn has_if_needed(owners: &[u16], shards: &[u16], nodes: &Flags, flags: &Flags, shard: u16) -> bool
     requires below { (shard < 1000) × (node_of owners.now shard < 1000) }
-    requires nodes { (k : ℕ) → k < 1000 → slice_index_or nodes.now k false ≡ list_any (λ s. nat_eq (node_of owners.now s) k) shards.now }
+    requires nodes { (k : ℕ) → k < 1000
+        → slice_index_or nodes.now k false
+        ≡ list_any (λ s. nat_eq (node_of owners.now s) k) shards.now }
     requires flags { (k : ℕ) → k < 1000 → slice_index_or flags.now k false ≡ among shards.now k }
     ensures { result ≡ (not (has_neighbour owners.now shards.now shard) || among shards.now shard) }
 {
@@ -125,8 +130,8 @@ fn is_closed(owners: &[u16], shards: &[u16]) -> bool
     true
 }
 
-/// Whether these are the nodes of `n` shards, each below `n`, and faulty shards, which ascend strictly
-/// and with a shard have every shard of the same node.
+/// Whether these are the nodes of `n` shards, each below `n`, and faulty shards, which ascend
+/// strictly and with a shard have every shard of the same node.
 pub fn is_committee(owners: &Shards, faulty: &Shards, n: u32) -> bool
     requires { n ≤ 1000 }
     ensures { result ≡ is_committee n owners.now faulty.now }

@@ -102,8 +102,9 @@ fn opening_at(bodies: &[u8], count: u16, place: u16) -> OpeningRef<'_>
 
 /// A proof of bad encoding that lies in lent bytes.
 ///
-/// The bytes are the axis (one, 0 for primary and 1 for secondary) and the index (two) of the sliver,
-/// the number of openings (two), and the body of each opening, numbers most significant byte first.
+/// The bytes are the axis (one, 0 for primary and 1 for secondary) and the index (two) of the
+/// sliver, the number of openings (two), and the body of each opening, numbers most significant
+/// byte first.
 #[derive(Clone, Copy, Debug)]
 pub struct ProofRef<'a> {
     head: Head,
@@ -118,8 +119,10 @@ impl<'a> ProofRef<'a> {
     pub fn new(bytes: &'a [u8]) -> Option<ProofRef<'a>>
         ensures proof { IfSome result (λ p. IsProof (proof_shown p)) }
         ensures spelled { IfSome result (λ p. proof_text (proof_shown p) ≡ bytes.now) }
-        ensures only { (p : EncodingProof) → IsProof p → proof_text p ≡ bytes.now → IfSome result (λ r. proof_shown r ≡ p) }
-        ensures none { IfNone result ((p : EncodingProof) → IsProof p → proof_text p ≡ bytes.now → ⊥) }
+        ensures only { (p : EncodingProof) → IsProof p → proof_text p ≡ bytes.now
+            → IfSome result (λ r. proof_shown r ≡ p) }
+        ensures none { IfNone result
+            ((p : EncodingProof) → IsProof p → proof_text p ≡ bytes.now → ⊥) }
     {
         match proof_head(bytes) {
             Some(head) => Some(ProofRef { head, bytes }),
@@ -161,7 +164,8 @@ impl<'a> ProofRef<'a> {
     /// Lends the opening at this place.
     pub fn opening(&self, place: u16) -> OpeningRef<'a>
         requires { place < length (proof_shown self.now).openings }
-        ensures opening { slice_get (proof_shown self.now).openings place ≡ Some (opening_shown result) }
+        ensures opening { slice_get (proof_shown self.now).openings place
+            ≡ Some (opening_shown result) }
         ensures body { IsBody (opening_shown result) }
     {
         let (_, bodies) = self.bytes.split_at(HEAD_SIZE);
@@ -243,7 +247,8 @@ impl BadProof {
         openings: &Openings,
     ) -> Result<BadProof, AllocError>
         requires { IsProof (record { axis = axis; index = index; openings = openings.now }) }
-        ensures { IfOk result (λ p. p ≡ record { axis = axis; index = index; openings = openings.now }) }
+        ensures { IfOk result
+            (λ p. p ≡ record { axis = axis; index = index; openings = openings.now }) }
     {
         let openings = openings.as_slice();
         let head = Head {

@@ -13,8 +13,8 @@ use std::marker::Model;
 pub enum Format {
     /// Shard i holds primary sliver i and secondary sliver i.
     One,
-    /// Shard i of n holds primary sliver i and secondary sliver `n - 1 - i`, and the identifier's text names
-    /// the format.
+    /// Shard i of n holds primary sliver i and secondary sliver `n - 1 - i`, and the identifier's
+    /// text names the format.
     Two,
 }
 
@@ -36,7 +36,8 @@ pub const MOST_BYTES: u64 = 16_777_216;
 /// The numbers that a blob's matrix is laid out by.
 ///
 /// A blob of `length` bytes is stored over `n = 3f + 1` shards, of which at most `f` are faulty. It
-/// fills a source block of `f + 1` rows and `2f + 1` columns of symbols (Walrus paper, "Red Stuff").
+/// fills a source block of `f + 1` rows and `2f + 1` columns of symbols (Walrus paper, "Red
+/// Stuff").
 #[derive(Clone, Copy, Debug)]
 pub struct Shape {
     format: Format,
@@ -59,7 +60,8 @@ impl Model for Shape {
 impl Shape {
     /// The shape of format one for `f` faults and a blob of `length` bytes.
     pub fn new(f: u32, length: u64) -> Result<Shape, ShapeError>
-        ensures ok { IfOk result (λ s. IsShape f length × (s ≡ record { format = One; f = f; length = length })) }
+        ensures ok { IfOk result
+            (λ s. IsShape f length × (s ≡ record { format = One; f = f; length = length })) }
         ensures made { IsShape f length → IsOk result }
         ensures bad_faults { (result ≡ Err BadFaults) ↔ ¬ ((1 ≤ f) × (f ≤ 333)) }
         ensures too_long { (result ≡ Err TooLong) ↔ ((1 ≤ f) × (f ≤ 333) × (most_bytes < length)) }
@@ -146,7 +148,8 @@ impl Shape {
 
     /// The number of bytes of a sliver.
     pub fn sliver_len(&self, axis: Axis) -> u32
-        ensures value { result ≡ sliver_symbols axis self.now.f * symbol_size self.now.f self.now.length }
+        ensures value { result
+            ≡ sliver_symbols axis self.now.f * symbol_size self.now.f self.now.length }
         ensures most { result < 77497472 }
     {
         let symbols = match axis {

@@ -1,4 +1,5 @@
--- What a shard keeps of a recovery: the metadata, and the sliver or the proof. A part that is held stays.
+-- What a shard keeps of a recovery: the metadata, and the sliver or the proof. A part that is held
+-- stays.
 use Rattle.std.specs.Prelude.{◌≡◌, ◌⊎◌, ℕ, cond, is_some, List}
 use Rattle.wal_shape.specs.declared.metadata.BlobId.{BlobId}
 use Rattle.wal_shape.specs.declared.axis.Axis.{Axis}
@@ -12,15 +13,18 @@ use Rattle.wal_shape.specs.Part.{sliver_part}
 
 -- with this part, where it isn't held
 abbrev pub kept : Contents → BlobId → Part → List ℕ → Contents
-kept contents id part bytes = cond (is_some (part_at contents id part)) contents (with_bytes contents id part bytes)
+kept contents id part bytes =
+    cond (is_some (part_at contents id part)) contents (with_bytes contents id part bytes)
 
 -- the metadata and the sliver are kept, each where none is held
 abbrev pub kept_sliver : Contents → BlobId → BlobMetadata → Axis → List ℕ → Contents
-kept_sliver contents id m axis bytes = kept (kept contents id parts.Metadata (metadata_text m)) id (sliver_part axis) bytes
+kept_sliver contents id m axis bytes =
+    kept (kept contents id parts.Metadata (metadata_text m)) id (sliver_part axis) bytes
 
 -- the metadata and the proof are kept, each where none is held
 abbrev pub kept_proof : Contents → BlobId → BlobMetadata → EncodingProof → Contents
-kept_proof contents id m p = kept (kept contents id parts.Metadata (metadata_text m)) id parts.Proof (proof_text p)
+kept_proof contents id m p =
+    kept (kept contents id parts.Metadata (metadata_text m)) id parts.Proof (proof_text p)
 
 -- what is held after want of memory: what was held before, or with the metadata
 abbrev pub IsKeptInPart : Contents → BlobId → BlobMetadata → Contents → Type 0

@@ -10,7 +10,8 @@ use Rattle.wal_commit.specs.Identifier.{Commits}
 use Rattle.wal_shard.specs.Holding.{IsSound, HoldsMetadata}
 use Rattle.wal_shard.specs.Putting.{PutDesk}
 
--- the committee's f, the shard's number, what it holds, and the most pages that all holdings may cost
+-- the committee's f, the shard's number, what it holds, and the most pages that all holdings may
+-- cost
 pub record ShardState : Type 0 where
   pub f : ℕ
   pub index : ℕ
@@ -35,10 +36,12 @@ IsPlace f index = (1 ≤ f) × (f ≤ 333) × (index < shard_count f)
 
 -- what is held under every identifier is sound
 abbrev pub AreSound : (List ℕ → List ℕ) → ℕ → ℕ → Contents → Type 0
-AreSound digest f index contents = (id : BlobId) → IsSound digest f id.0 index (parts_at contents id)
+AreSound digest f index contents =
+    (id : BlobId) → IsSound digest f id.0 index (parts_at contents id)
 
 -- the metadata that is held: of the committee's f, and the identifier commits it
-pub record IsOwnMetadata (digest : List ℕ → List ℕ) (f : ℕ) (id : List ℕ) (p : Parts) (m : BlobMetadata) : Type 0 where
+pub record IsOwnMetadata (digest : List ℕ → List ℕ) (f : ℕ)
+    (id : List ℕ) (p : Parts) (m : BlobMetadata) : Type 0 where
   pub held : HoldsMetadata p m
   pub commits : Commits digest id m
   pub faults : m.f ≡ f

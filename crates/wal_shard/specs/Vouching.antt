@@ -1,4 +1,5 @@
--- What a shard says of an identifier by what it holds: acknowledgements, attestations, readiness; and what it lets go.
+-- What a shard says of an identifier by what it holds: acknowledgements, attestations, readiness;
+-- and what it lets go.
 use Rattle.std.specs.Prelude.{◌≡◌, ◌≤◌, Bool, true, false, Result, Ok, Err}
 use Rattle.std.specs.FinMap as map
 use Rattle.wal_shape.specs.declared.metadata.BlobId.{BlobId}
@@ -22,12 +23,15 @@ backs Denies p = has_proof p
 abbrev pub Vouches : Kind → Log → Contents → BlobId → Result (Unit {0}) AckRefusal → Type 0
 Vouches kind log contents id (Ok done) = IsOpen log id × (backs kind (parts_at contents id) ≡ true)
 Vouches kind log contents id (Err Unregistered) = is_live log id ≡ false
-Vouches kind log contents id (Err Expires) = (is_live log id ≡ true) × (until_of log id ≤ writing log)
-Vouches kind log contents id (Err Declined) = IsOpen log id × (backs kind (parts_at contents id) ≡ false)
+Vouches kind log contents id (Err Expires) =
+    (is_live log id ≡ true) × (until_of log id ≤ writing log)
+Vouches kind log contents id (Err Declined) =
+    IsOpen log id × (backs kind (parts_at contents id) ≡ false)
 
 -- without both slivers of an identifier
 abbrev pub without_slivers : Contents → BlobId → Contents
-without_slivers contents id = without_part (without_part contents id parts.Primary) id parts.Secondary
+without_slivers contents id =
+    without_part (without_part contents id parts.Primary) id parts.Secondary
 
 -- the slivers of an identifier may go: the ledger says that it is invalid, and a proof is held
 pub record MayForget (log : Log) (contents : Contents) (id : BlobId) : Type 0 where

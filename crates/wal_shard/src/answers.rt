@@ -13,7 +13,8 @@ pub enum PutAnswer {
     Unregistered,
     /// No metadata is held that a sliver or a proof could rest on.
     NoMetadata,
-    /// A metadata of another f, a sliver not the shard's or that does not hold, a proof of nothing, or none of these.
+    /// A metadata of another f, a sliver not the shard's or that does not hold, a proof of nothing,
+    /// or none of these.
     Unverified,
     /// Another metadata of the identifier is held: two texts with one digest.
     OtherMetadata(MetaClash),

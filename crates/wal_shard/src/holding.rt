@@ -18,7 +18,8 @@ use wal_tree::Hash32;
 /// The bytes of the longest metadata: 11, and two roots for each of 1000 shards.
 pub(crate) const MOST_METADATA: usize = 64011;
 
-/// Room for the metadata of a committee with f of at most 20, which spares small ones the clearing of more.
+/// Room for the metadata of a committee with f of at most 20, which spares small ones the clearing
+/// of more.
 pub(crate) const SHORT_METADATA: usize = 4096;
 
 /// An expression with room for so many bytes of a metadata.
@@ -84,8 +85,11 @@ impl<H: Hash32, K: Keep> Shard<H, K> {
         requires few { size ≤ 512 }
         requires most { length bytes.now ≤ most_bytes }
         requires within { at + size ≤ length bytes.now }
-        requires same { length (unwrap_or (part_at self.now.contents id.now part) []) ≡ length bytes.now }
-        ensures { IsTrue result ↔ (take size (drop at (unwrap_or (part_at self.now.contents id.now part) [])) ≡ take size (drop at bytes.now)) }
+        requires same { length (unwrap_or (part_at self.now.contents id.now part) [])
+            ≡ length bytes.now }
+        ensures { IsTrue result
+            ↔ (take size (drop at (unwrap_or (part_at self.now.contents id.now part) []))
+            ≡ take size (drop at bytes.now)) }
     {
         let mut room = [0; PIECE];
         let held = &mut room[..size];
@@ -97,9 +101,11 @@ impl<H: Hash32, K: Keep> Shard<H, K> {
     /// Whether a held part of as many bytes is these.
     fn holds_pieces(&self, id: &BlobId, part: Part, bytes: &[u8]) -> bool
         requires held { IsSome (part_at self.now.contents id.now part) }
-        requires size { length (unwrap_or (part_at self.now.contents id.now part) []) ≡ length bytes.now }
+        requires size { length (unwrap_or (part_at self.now.contents id.now part) [])
+            ≡ length bytes.now }
         requires most { length bytes.now ≤ most_bytes }
-        ensures { IsTrue result ↔ (unwrap_or (part_at self.now.contents id.now part) [] ≡ bytes.now) }
+        ensures { IsTrue result
+            ↔ (unwrap_or (part_at self.now.contents id.now part) [] ≡ bytes.now) }
     {
         let mut done = 0;
         'pieces: while done < bytes.len() {
@@ -125,7 +131,8 @@ impl<H: Hash32, K: Keep> Shard<H, K> {
     /// The number of bytes of the metadata that is held under an identifier.
     pub(crate) fn metadata_size(&self, id: &BlobId) -> usize
         requires held { IsSome (part_at self.now.contents id.now parts.Metadata) }
-        ensures size { result ≡ length (unwrap_or (part_at self.now.contents id.now parts.Metadata) []) }
+        ensures size { result
+            ≡ length (unwrap_or (part_at self.now.contents id.now parts.Metadata) []) }
         ensures most { result ≤ 64011 }
     {
         self.sound();
@@ -135,7 +142,8 @@ impl<H: Hash32, K: Keep> Shard<H, K> {
     /// Copies the metadata that is held under an identifier.
     pub(crate) fn copy_metadata(&self, id: &BlobId, room: &mut [u8])
         requires held { IsSome (part_at self.now.contents id.now parts.Metadata) }
-        requires size { length room.old ≡ length (unwrap_or (part_at self.now.contents id.now parts.Metadata) []) }
+        requires size { length room.old
+            ≡ length (unwrap_or (part_at self.now.contents id.now parts.Metadata) []) }
         ensures { room.new ≡ unwrap_or (part_at self.now.contents id.now parts.Metadata) [] }
     {
         self.keep.copy(id, Part::Metadata, 0, room);
@@ -144,8 +152,10 @@ impl<H: Hash32, K: Keep> Shard<H, K> {
     /// The metadata that is held under an identifier, whose bytes these are.
     pub(crate) fn held_metadata<'a>(&self, id: &BlobId, bytes: &'a [u8]) -> MetaRef<'a>
         requires held { IsSome (part_at self.now.contents id.now parts.Metadata) }
-        requires bytes { bytes.now ≡ unwrap_or (part_at self.now.contents id.now parts.Metadata) [] }
-        ensures { IsOwnMetadata H.digest self.now.f id.now.0 (parts_at self.now.contents id.now) (metadata_shown result) }
+        requires bytes { bytes.now
+            ≡ unwrap_or (part_at self.now.contents id.now parts.Metadata) [] }
+        ensures { IsOwnMetadata H.digest self.now.f id.now.0
+            (parts_at self.now.contents id.now) (metadata_shown result) }
     {
         self.sound();
         read_metadata(bytes)
@@ -159,8 +169,10 @@ impl<H: Hash32, K: Keep> Shard<H, K> {
         room: &mut [u8],
     ) -> Result<Metadata, AllocError>
         requires held { IsSome (part_at self.now.contents id.now parts.Metadata) }
-        requires size { length room.old ≡ length (unwrap_or (part_at self.now.contents id.now parts.Metadata) []) }
-        ensures { IfOk result (λ m. IsOwnMetadata H.digest self.now.f id.now.0 (parts_at self.now.contents id.now) m) }
+        requires size { length room.old
+            ≡ length (unwrap_or (part_at self.now.contents id.now parts.Metadata) []) }
+        ensures { IfOk result (λ m.
+            IsOwnMetadata H.digest self.now.f id.now.0 (parts_at self.now.contents id.now) m) }
     {
         self.copy_metadata(id, room);
         Metadata::of(alloc, self.held_metadata(id, room))
@@ -168,8 +180,10 @@ impl<H: Hash32, K: Keep> Shard<H, K> {
 
     /// A copy of the metadata that is held, in memory of its own.
     pub fn metadata(&self, alloc: Global, id: &BlobId) -> Result<Option<Metadata>, AllocError>
-        ensures held { IfOk result (λ o. IfSome o (λ m. IsOwnMetadata H.digest self.now.f id.now.0 (parts_at self.now.contents id.now) m)) }
-        ensures none { IfOk result (λ o. IfNone o (part_at self.now.contents id.now parts.Metadata ≡ None)) }
+        ensures held { IfOk result (λ o. IfSome o (λ m.
+            IsOwnMetadata H.digest self.now.f id.now.0 (parts_at self.now.contents id.now) m)) }
+        ensures none { IfOk result
+            (λ o. IfNone o (part_at self.now.contents id.now parts.Metadata ≡ None)) }
     {
         if !self.has(id, Part::Metadata) {
             return Ok(None);

@@ -46,8 +46,10 @@ impl<H: Hash32, K: Keep> Shard<H, K> {
         requires limit { self.old.limit ≡ None }
         requires some { 1 ≤ length bytes.now }
         requires most { length bytes.now ≤ most_bytes }
-        requires sound { AreSound H.digest self.old.f self.old.index (kept self.old.contents id.now part bytes.now) }
-        ensures kept { OnOk result (self.new.contents ≡ kept self.old.contents id.now part bytes.now) }
+        requires sound { AreSound H.digest self.old.f self.old.index
+            (kept self.old.contents id.now part bytes.now) }
+        ensures kept { OnOk result
+            (self.new.contents ≡ kept self.old.contents id.now part bytes.now) }
         ensures refused { OnErr result (self.new.contents ≡ self.old.contents) }
         ensures place { self.new ≡ with_contents self.old self.new.contents }
     {
@@ -72,7 +74,8 @@ impl<H: Hash32, K: Keep> Shard<H, K> {
     /// Lets the slivers of a blob go that the ledger says is invalid and of which a proof is held.
     pub fn forget(&mut self, ledger: &Ledger, id: &BlobId) -> Result<(), Declined>
         ensures may { OnOk result (MayForget ledger.now.log self.old.contents id.now) }
-        ensures gone { OnOk result (self.new ≡ with_contents self.old (without_slivers self.old.contents id.now)) }
+        ensures gone { OnOk result
+            (self.new ≡ with_contents self.old (without_slivers self.old.contents id.now)) }
         ensures declined { OnErr result (MayForget ledger.now.log self.old.contents id.now → ⊥) }
         ensures stays { OnErr result (self.new ≡ self.old) }
     {
@@ -86,7 +89,8 @@ impl<H: Hash32, K: Keep> Shard<H, K> {
 
     /// Lets everything go that is not live.
     pub fn expire(&mut self, ledger: &Ledger)
-        ensures { self.new ≡ with_contents self.old (without_dead ledger.now.log self.old.contents) }
+        ensures { self.new
+            ≡ with_contents self.old (without_dead ledger.now.log self.old.contents) }
     {
         retain(&mut self.keep, &Live { ledger });
     }
@@ -104,11 +108,17 @@ impl<H: Hash32, K: Keep> Shard<H, K> {
         requires limit { self.old.limit ≡ None }
         requires commits { Commits H.digest id.now.0 (metadata_shown m) }
         requires f { (metadata_shown m).f ≡ self.old.f }
-        requires same { (other : List ℕ) → part_at self.old.contents id.now parts.Metadata ≡ Some other → other ≡ metadata_text (metadata_shown m) }
-        requires holds { HoldsSliver H.digest (metadata_shown m) axis (held_index (metadata_shown m).format (metadata_shown m).f axis self.old.index) bytes.now }
-        ensures kept { OnOk result (self.new.contents ≡ kept_sliver self.old.contents id.now (metadata_shown m.entry) axis bytes.now) }
+        requires same { (other : List ℕ)
+            → part_at self.old.contents id.now parts.Metadata ≡ Some other
+            → other ≡ metadata_text (metadata_shown m) }
+        requires holds { HoldsSliver H.digest (metadata_shown m) axis
+            (held_index (metadata_shown m).format (metadata_shown m).f axis self.old.index)
+            bytes.now }
+        ensures kept { OnOk result (self.new.contents
+            ≡ kept_sliver self.old.contents id.now (metadata_shown m.entry) axis bytes.now) }
         // What is held after want of memory.
-        ensures in_part { OnErr result (IsKeptInPart self.old.contents id.now (metadata_shown m.entry) self.new.contents) }
+        ensures in_part { OnErr result
+            (IsKeptInPart self.old.contents id.now (metadata_shown m.entry) self.new.contents) }
         ensures place { self.new ≡ with_contents self.old self.new.contents }
     {
         self.sound();
@@ -128,12 +138,16 @@ impl<H: Hash32, K: Keep> Shard<H, K> {
         requires limit { self.old.limit ≡ None }
         requires commits { Commits H.digest id.now.0 (metadata_shown m) }
         requires f { (metadata_shown m).f ≡ self.old.f }
-        requires same { (other : List ℕ) → part_at self.old.contents id.now parts.Metadata ≡ Some other → other ≡ metadata_text (metadata_shown m) }
+        requires same { (other : List ℕ)
+            → part_at self.old.contents id.now parts.Metadata ≡ Some other
+            → other ≡ metadata_text (metadata_shown m) }
         requires fit { IsProof (proof_shown p.now) }
         requires bad { IsBadProof H.digest (metadata_shown m) (proof_shown p.now) }
-        ensures kept { OnOk result (self.new.contents ≡ kept_proof self.old.contents id.now (metadata_shown m.entry) (proof_shown p.now)) }
+        ensures kept { OnOk result (self.new.contents
+            ≡ kept_proof self.old.contents id.now (metadata_shown m.entry) (proof_shown p.now)) }
         // What is held after want of memory.
-        ensures in_part { OnErr result (IsKeptInPart self.old.contents id.now (metadata_shown m.entry) self.new.contents) }
+        ensures in_part { OnErr result
+            (IsKeptInPart self.old.contents id.now (metadata_shown m.entry) self.new.contents) }
         ensures place { self.new ≡ with_contents self.old self.new.contents }
     {
         self.sound();

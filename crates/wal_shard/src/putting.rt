@@ -45,8 +45,10 @@ impl<H: Hash32, K: Keep> Shard<H, K> {
         requires absent { part_at self.old.contents id.now part ≡ None }
         requires some { 1 ≤ length bytes.now }
         requires most { length bytes.now ≤ most_bytes }
-        requires sound { IsSound H.digest self.old.f id.now.0 self.old.index (with_part (parts_at self.old.contents id.now) part (Some bytes.now)) }
-        ensures stores { Stores self.old.limit K.may_want self.old.contents id.now part bytes.now result self.new.contents }
+        requires sound { IsSound H.digest self.old.f id.now.0 self.old.index
+            (with_part (parts_at self.old.contents id.now) part (Some bytes.now)) }
+        ensures stores { Stores self.old.limit K.may_want self.old.contents
+            id.now part bytes.now result self.new.contents }
         ensures place { self.new ≡ with_contents self.old self.new.contents }
     {
         match self.keep.put(id, part, bytes) {
@@ -56,14 +58,19 @@ impl<H: Hash32, K: Keep> Shard<H, K> {
         }
     }
 
-    /// Two texts with one digest, of a metadata and the other one that is held, whose size the room has.
+    /// Two texts with one digest, of a metadata and the other one that is held, whose size the room
+    /// has.
     fn clash_in(&self, id: &BlobId, m: MetaRef<'_>, room: &mut [u8]) -> MetaClash
         requires held { IsSome (part_at self.now.contents id.now parts.Metadata) }
-        requires size { length room.old ≡ length (unwrap_or (part_at self.now.contents id.now parts.Metadata) []) }
-        requires other { part_at self.now.contents id.now parts.Metadata ≡ Some (metadata_text (metadata_shown m)) → ⊥ }
+        requires size { length room.old
+            ≡ length (unwrap_or (part_at self.now.contents id.now parts.Metadata) []) }
+        requires other { part_at self.now.contents id.now parts.Metadata
+            ≡ Some (metadata_text (metadata_shown m))
+            → ⊥ }
         requires identifier { id.now.0 ≡ identifier_of H.digest (metadata_shown m) }
         ensures collision { IsCollision H.digest result.left result.right }
-        ensures texts { (held : BlobMetadata) × HoldsMetadata (parts_at self.now.contents id.now) held
+        ensures texts { (held : BlobMetadata)
+            × HoldsMetadata (parts_at self.now.contents id.now) held
             × AreDigestedFor H.digest (metadata_shown m.entry) held result.left result.right }
     {
         self.copy_metadata(id, room);
@@ -75,7 +82,8 @@ impl<H: Hash32, K: Keep> Shard<H, K> {
     fn compare(&self, id: &BlobId, m: MetaRef<'_>) -> PutAnswer
         requires held { IsSome (part_at self.now.contents id.now parts.Metadata) }
         requires identifier { id.now.0 ≡ identifier_of H.digest (metadata_shown m) }
-        ensures { Compares H.digest (part_at self.now.contents id.now parts.Metadata) (metadata_shown m.entry) result }
+        ensures { Compares H.digest (part_at self.now.contents id.now parts.Metadata)
+            (metadata_shown m.entry) result }
     {
         if self.holds_bytes(id, Part::Metadata, m.bytes()) {
             return PutAnswer::Held;
@@ -87,8 +95,10 @@ impl<H: Hash32, K: Keep> Shard<H, K> {
 
     /// Takes a metadata.
     pub(crate) fn put_metadata(&mut self, ledger: &Ledger, m: MetaRef<'_>) -> PutAnswer
-        ensures puts { PutsOrWants H.digest K.may_want (desk self.old ledger.now.log) self.old.contents (Metadata (metadata_shown m.entry)) result self.new.contents }
-        ensures texts { ShowsTexts H.digest self.old.contents (Metadata (metadata_shown m.entry)) result }
+        ensures puts { PutsOrWants H.digest K.may_want (desk self.old ledger.now.log)
+            self.old.contents (Metadata (metadata_shown m.entry)) result self.new.contents }
+        ensures texts { ShowsTexts H.digest self.old.contents
+            (Metadata (metadata_shown m.entry)) result }
         ensures place { self.new ≡ with_contents self.old self.new.contents }
     {
         self.sound();
@@ -105,8 +115,8 @@ impl<H: Hash32, K: Keep> Shard<H, K> {
         self.store(&id, Part::Metadata, m.bytes())
     }
 
-    /// Whether a sliver is the shard's own, and the metadata that is held, whose size the room has, commits it.
-    /// One that is held is not hashed again.
+    /// Whether a sliver is the shard's own, and the metadata that is held, whose size the room has,
+    /// commits it. One that is held is not hashed again.
     fn sliver_verifies_in(
         &self,
         work: &mut Work,
@@ -115,9 +125,12 @@ impl<H: Hash32, K: Keep> Shard<H, K> {
         room: &mut [u8],
     ) -> bool
         requires held { IsSome (part_at self.now.contents id.now parts.Metadata) }
-        requires size { length room.old ≡ length (unwrap_or (part_at self.now.contents id.now parts.Metadata) []) }
+        requires size { length room.old
+            ≡ length (unwrap_or (part_at self.now.contents id.now parts.Metadata) []) }
         requires f { work.old.f ≡ self.now.f }
-        ensures verifies { IsTrue result ↔ Verifies H.digest self.now.f self.now.index (parts_at self.now.contents id.now) (Sliver id.now.0 sliver.now.axis sliver.now.index sliver.now.bytes.now) }
+        ensures verifies { IsTrue result
+            ↔ Verifies H.digest self.now.f self.now.index (parts_at self.now.contents id.now)
+            (Sliver id.now.0 sliver.now.axis sliver.now.index sliver.now.bytes.now) }
         ensures f { work.new.f ≡ work.old.f }
     {
         self.sound();
@@ -133,7 +146,9 @@ impl<H: Hash32, K: Keep> Shard<H, K> {
     fn sliver_verifies(&self, work: &mut Work, id: &BlobId, sliver: &SliverRef<'_>) -> bool
         requires held { IsSome (part_at self.now.contents id.now parts.Metadata) }
         requires f { work.old.f ≡ self.now.f }
-        ensures verifies { IsTrue result ↔ Verifies H.digest self.now.f self.now.index (parts_at self.now.contents id.now) (Sliver id.now.0 sliver.now.axis sliver.now.index sliver.now.bytes.now) }
+        ensures verifies { IsTrue result
+            ↔ Verifies H.digest self.now.f self.now.index (parts_at self.now.contents id.now)
+            (Sliver id.now.0 sliver.now.axis sliver.now.index sliver.now.bytes.now) }
         ensures f { work.new.f ≡ work.old.f }
     {
         let size = self.metadata_size(id);
@@ -149,8 +164,10 @@ impl<H: Hash32, K: Keep> Shard<H, K> {
         sliver: &SliverRef<'_>,
     ) -> PutAnswer
         requires f { work.old.f ≡ self.old.f }
-        ensures puts { PutsOrWants H.digest K.may_want (desk self.old ledger.now.log) self.old.contents
-            (Sliver id.now.0 sliver.now.axis sliver.now.index sliver.now.bytes.now) result self.new.contents }
+        ensures puts { PutsOrWants H.digest K.may_want
+            (desk self.old ledger.now.log) self.old.contents
+            (Sliver id.now.0 sliver.now.axis sliver.now.index sliver.now.bytes.now)
+            result self.new.contents }
         ensures place { self.new ≡ with_contents self.old self.new.contents }
         ensures f { work.new.f ≡ work.old.f }
     {
@@ -171,7 +188,8 @@ impl<H: Hash32, K: Keep> Shard<H, K> {
         self.store(id, part, sliver.bytes)
     }
 
-    /// Whether a proof is bad for the metadata that is held, whose size the room has. One that is held is not checked.
+    /// Whether a proof is bad for the metadata that is held, whose size the room has. One that is
+    /// held is not checked.
     fn proof_verifies_in(
         &self,
         work: &mut Work,
@@ -180,9 +198,12 @@ impl<H: Hash32, K: Keep> Shard<H, K> {
         room: &mut [u8],
     ) -> bool
         requires held { IsSome (part_at self.now.contents id.now parts.Metadata) }
-        requires size { length room.old ≡ length (unwrap_or (part_at self.now.contents id.now parts.Metadata) []) }
+        requires size { length room.old
+            ≡ length (unwrap_or (part_at self.now.contents id.now parts.Metadata) []) }
         requires f { work.old.f ≡ self.now.f }
-        ensures verifies { IsTrue result ↔ Verifies H.digest self.now.f self.now.index (parts_at self.now.contents id.now) (Proof id.now.0 (proof_shown p.now)) }
+        ensures verifies { IsTrue result
+            ↔ Verifies H.digest self.now.f self.now.index
+            (parts_at self.now.contents id.now) (Proof id.now.0 (proof_shown p.now)) }
         ensures f { work.new.f ≡ work.old.f }
     {
         self.sound();
@@ -195,7 +216,9 @@ impl<H: Hash32, K: Keep> Shard<H, K> {
     fn proof_verifies(&self, work: &mut Work, id: &BlobId, p: &ProofRef<'_>) -> bool
         requires held { IsSome (part_at self.now.contents id.now parts.Metadata) }
         requires f { work.old.f ≡ self.now.f }
-        ensures verifies { IsTrue result ↔ Verifies H.digest self.now.f self.now.index (parts_at self.now.contents id.now) (Proof id.now.0 (proof_shown p.now)) }
+        ensures verifies { IsTrue result
+            ↔ Verifies H.digest self.now.f self.now.index
+            (parts_at self.now.contents id.now) (Proof id.now.0 (proof_shown p.now)) }
         ensures f { work.new.f ≡ work.old.f }
     {
         let size = self.metadata_size(id);
@@ -211,7 +234,8 @@ impl<H: Hash32, K: Keep> Shard<H, K> {
         p: &ProofRef<'_>,
     ) -> PutAnswer
         requires f { work.old.f ≡ self.old.f }
-        ensures puts { PutsOrWants H.digest K.may_want (desk self.old ledger.now.log) self.old.contents
+        ensures puts { PutsOrWants H.digest K.may_want
+            (desk self.old ledger.now.log) self.old.contents
             (Proof id.now.0 (proof_shown p.now)) result self.new.contents }
         ensures place { self.new ≡ with_contents self.old self.new.contents }
         ensures f { work.new.f ≡ work.old.f }

@@ -62,8 +62,11 @@ fn append_opening(
     requires index { index ≤ 999 }
     requires body { IsBody (opening_shown opening) }
     requires room { 50 + length opening.symbol.now + length opening.path.now ≤ out.old.spare }
-    ensures written { out.new ≡ appended out.old (envelope shard (frame_text (Opening id.0 axis index (opening_shown opening.entry)))) }
-    ensures room { out.old.spare ≤ out.new.spare + (50 + length opening.entry.symbol.now + length opening.entry.path.now) }
+    ensures written { out.new
+        ≡ appended out.old
+        (envelope shard (frame_text (Opening id.0 axis index (opening_shown opening.entry)))) }
+    ensures room { out.old.spare
+        ≤ out.new.spare + (50 + length opening.entry.symbol.now + length opening.entry.path.now) }
 {
     let frame = FrameRef::Opening {
         id,
@@ -93,7 +96,8 @@ fn write_opening<H: Hash32>(
     requires cross { cross ≤ 999 }
     requires most { size ≤ most_bytes }
     requires room { 370 + size ≤ out.old.spare }
-    ensures written { out.new ≡ appended out.old (envelope shard (frame_text (Opening id.0 axis index
+    ensures written { out.new
+        ≡ appended out.old (envelope shard (frame_text (Opening id.0 axis index
         (record { cross = cross; symbol = region size word.now index; path = path_over H.digest size word.now index })))) }
     ensures room { out.old.spare ≤ out.new.spare + (370 + size) }
 {
@@ -120,12 +124,18 @@ fn put_opening<H: Hash32>(
     out: &mut OutBuf,
 )
     requires f { work.old.f ≡ (metadata_shown m).f }
-    requires sliver { HoldsSliver H.digest (metadata_shown m) (crossing axis) cross work.old.loaded }
+    requires sliver { HoldsSliver H.digest (metadata_shown m)
+        (crossing axis) cross work.old.loaded }
     requires index { index < shard_count (metadata_shown m).f }
-    requires room { 370 + symbol_size (metadata_shown m).f (metadata_shown m).length ≤ out.old.spare }
-    ensures opening { (o : single.Opening) × (o.cross ≡ cross) × IsOpeningOf H.digest (metadata_shown m.entry) axis index work.old.loaded o
-        × (out.new ≡ appended out.old (envelope shard (frame_text (Opening id.now.0 axis index o)))) }
-    ensures room { out.old.spare ≤ out.new.spare + (370 + symbol_size (metadata_shown m.entry).f (metadata_shown m.entry).length) }
+    requires room { 370 + symbol_size (metadata_shown m).f (metadata_shown m).length
+        ≤ out.old.spare }
+    ensures opening { (o : single.Opening) × (o.cross ≡ cross)
+        × IsOpeningOf H.digest (metadata_shown m.entry) axis index work.old.loaded o
+        × (out.new
+        ≡ appended out.old (envelope shard (frame_text (Opening id.now.0 axis index o)))) }
+    ensures room { out.old.spare
+        ≤ out.new.spare
+        + (370 + symbol_size (metadata_shown m.entry).f (metadata_shown m.entry).length) }
     ensures f { work.new.f ≡ work.old.f }
 {
     let size = m.shape().symbol_size();
@@ -137,7 +147,8 @@ impl<H: Hash32, K: Keep> Shard<H, K> {
     /// Fills a payload with its head and the bytes of a part.
     fn fill(&self, id: &BlobId, part: Part, head: &[u8], payload: &mut [u8])
         requires held { IsSome (part_at self.now.contents id.now part) }
-        requires size { length payload.old ≡ length head.now + length (unwrap_or (part_at self.now.contents id.now part) []) }
+        requires size { length payload.old
+            ≡ length head.now + length (unwrap_or (part_at self.now.contents id.now part) []) }
         ensures { payload.new ≡ head.now ++ unwrap_or (part_at self.now.contents id.now part) [] }
     {
         let (front, rest) = payload.split_at_mut(head.len());
@@ -152,7 +163,9 @@ impl<H: Hash32, K: Keep> Shard<H, K> {
         requires head { length head.now ≤ 40 }
         requires most { size ≤ most_bytes }
         requires room { 7 + length head.now + size ≤ out.old.spare }
-        ensures { out.new ≡ appended out.old (envelope self.now.index (head.now ++ unwrap_or (part_at self.now.contents id.now part) [])) }
+        ensures { out.new
+            ≡ appended out.old (envelope self.now.index
+            (head.now ++ unwrap_or (part_at self.now.contents id.now part) [])) }
     {
         let payload = write_payload(out, self.index, head.len() as u32 + size);
         self.fill(id, part, head, payload);
@@ -165,7 +178,9 @@ impl<H: Hash32, K: Keep> Shard<H, K> {
         requires head { length head.now ≤ 40 }
         requires most { size ≤ most_bytes }
         requires room { 7 + length head.now + size ≤ out.old.spare }
-        ensures written { out.new ≡ appended out.old (envelope self.now.index (head.now ++ unwrap_or (part_at self.now.contents id.now part) [])) }
+        ensures written { out.new
+            ≡ appended out.old (envelope self.now.index
+            (head.now ++ unwrap_or (part_at self.now.contents id.now part) [])) }
         ensures room { out.old.spare ≤ out.new.spare + (7 + length head.now + size) }
     {
         self.write_held(id, part, head, size, out);
@@ -175,8 +190,11 @@ impl<H: Hash32, K: Keep> Shard<H, K> {
     #[tactic(auto, unfolding(wal_shape::specs::MetadataReading::spelled_format))]
     fn held_kind(&self, id: &BlobId) -> u8
         requires held { IsSome (part_at self.now.contents id.now parts.Metadata) }
-        requires some { 1 ≤ length (unwrap_or (part_at self.now.contents id.now parts.Metadata) []) }
-        ensures { result ≡ metadata_kind (spelled_format (unwrap_or (part_at self.now.contents id.now parts.Metadata) [])) }
+        requires some { 1
+            ≤ length (unwrap_or (part_at self.now.contents id.now parts.Metadata) []) }
+        ensures { result
+            ≡ metadata_kind
+            (spelled_format (unwrap_or (part_at self.now.contents id.now parts.Metadata) [])) }
     {
         let mut first = [0];
         self.keep.copy(id, Part::Metadata, 0, &mut first);
@@ -186,7 +204,8 @@ impl<H: Hash32, K: Keep> Shard<H, K> {
     /// Appends the metadata, if it is held. The result is the number of frames.
     pub(crate) fn reply_metadata(&self, id: &BlobId, out: &mut OutBuf) -> u32
         requires room { metadata_room self.now.f ≤ out.old.spare }
-        ensures reply { WritesReply self.now.index out.old (metadata_reply (parts_at self.now.contents id.now)) result out.new }
+        ensures reply { WritesReply self.now.index out.old
+            (metadata_reply (parts_at self.now.contents id.now)) result out.new }
         ensures room { out.old.spare ≤ out.new.spare + metadata_room self.now.f }
         ensures most { result ≤ 1 }
     {
@@ -204,7 +223,9 @@ impl<H: Hash32, K: Keep> Shard<H, K> {
     /// Appends the primary sliver, if it is held. The result is the number of frames.
     pub(crate) fn reply_primary(&self, id: &BlobId, out: &mut OutBuf) -> u32
         requires room { sliver_room self.now.f ≤ out.old.spare }
-        ensures reply { WritesReply self.now.index out.old (primary_reply id.now.0 self.now.index (parts_at self.now.contents id.now)) result out.new }
+        ensures reply { WritesReply self.now.index out.old
+            (primary_reply id.now.0 self.now.index (parts_at self.now.contents id.now))
+            result out.new }
         ensures room { out.old.spare ≤ out.new.spare + sliver_room self.now.f }
         ensures most { result ≤ 1 }
     {
@@ -222,7 +243,8 @@ impl<H: Hash32, K: Keep> Shard<H, K> {
     /// Appends the proof, if it is held. The result is the number of frames.
     pub(crate) fn reply_proof(&self, id: &BlobId, out: &mut OutBuf) -> u32
         requires room { proof_room self.now.f ≤ out.old.spare }
-        ensures reply { WritesReply self.now.index out.old (proof_reply id.now.0 (parts_at self.now.contents id.now)) result out.new }
+        ensures reply { WritesReply self.now.index out.old
+            (proof_reply id.now.0 (parts_at self.now.contents id.now)) result out.new }
         ensures room { out.old.spare ≤ out.new.spare + proof_room self.now.f }
         ensures most { result ≤ 1 }
     {
@@ -248,8 +270,8 @@ impl<H: Hash32, K: Keep> Shard<H, K> {
         self.keep.copy(id, part, 0, work.load(size));
     }
 
-    /// Appends the opening of the sliver of this axis and index that the crossing sliver gives, if that is held. The result is
-    /// the number of frames.
+    /// Appends the opening of the sliver of this axis and index that the crossing sliver gives, if
+    /// that is held. The result is the number of frames.
     pub(crate) fn reply_opening(
         &self,
         work: &mut Work,
@@ -260,7 +282,9 @@ impl<H: Hash32, K: Keep> Shard<H, K> {
     ) -> u32
         requires f { work.old.f ≡ self.now.f }
         requires room { sliver_room self.now.f ≤ out.old.spare }
-        ensures reply { (payloads : List (List ℕ)) × OpeningReply H.digest id.now.0 self.now.index (parts_at self.now.contents id.now) axis index payloads
+        ensures reply { (payloads : List (List ℕ))
+            × OpeningReply H.digest id.now.0 self.now.index
+            (parts_at self.now.contents id.now) axis index payloads
             × WritesReply self.now.index out.old payloads result out.new }
         ensures room { out.old.spare ≤ out.new.spare + sliver_room self.now.f }
         ensures f { work.new.f ≡ work.old.f }
@@ -281,7 +305,8 @@ impl<H: Hash32, K: Keep> Shard<H, K> {
         }
     }
 
-    /// Appends the opening that the loaded sliver gives, by way of a room of the held metadata's size.
+    /// Appends the opening that the loaded sliver gives, by way of a room of the held metadata's
+    /// size.
     fn open_loaded_in(
         &self,
         work: &mut Work,
@@ -292,12 +317,16 @@ impl<H: Hash32, K: Keep> Shard<H, K> {
         out: &mut OutBuf,
     )
         requires f { work.old.f ≡ self.now.f }
-        requires loaded { part_of (parts_at self.now.contents id.now) (sliver_part (crossing axis)) ≡ Some work.old.loaded }
+        requires loaded { part_of (parts_at self.now.contents id.now) (sliver_part (crossing axis))
+            ≡ Some work.old.loaded }
         requires index { index < shard_count self.now.f }
         requires held { IsSome (part_at self.now.contents id.now parts.Metadata) }
-        requires size { length metadata.old ≡ length (unwrap_or (part_at self.now.contents id.now parts.Metadata) []) }
+        requires size { length metadata.old
+            ≡ length (unwrap_or (part_at self.now.contents id.now parts.Metadata) []) }
         requires room { sliver_room self.now.f ≤ out.old.spare }
-        ensures reply { (payload : List ℕ) × OpeningReply H.digest id.now.0 self.now.index (parts_at self.now.contents id.now) axis index (payload ∷ [])
+        ensures reply { (payload : List ℕ)
+            × OpeningReply H.digest id.now.0 self.now.index
+            (parts_at self.now.contents id.now) axis index (payload ∷ [])
             × (out.new ≡ appended out.old (envelope self.now.index payload)) }
         ensures room { out.old.spare ≤ out.new.spare + sliver_room self.now.f }
         ensures f { work.new.f ≡ work.old.f }
@@ -312,10 +341,13 @@ impl<H: Hash32, K: Keep> Shard<H, K> {
     /// Appends the opening that the loaded sliver gives.
     fn open_loaded(&self, work: &mut Work, id: &BlobId, axis: Axis, index: u16, out: &mut OutBuf)
         requires f { work.old.f ≡ self.now.f }
-        requires loaded { part_of (parts_at self.now.contents id.now) (sliver_part (crossing axis)) ≡ Some work.old.loaded }
+        requires loaded { part_of (parts_at self.now.contents id.now) (sliver_part (crossing axis))
+            ≡ Some work.old.loaded }
         requires index { index < shard_count self.now.f }
         requires room { sliver_room self.now.f ≤ out.old.spare }
-        ensures reply { (payload : List ℕ) × OpeningReply H.digest id.now.0 self.now.index (parts_at self.now.contents id.now) axis index (payload ∷ [])
+        ensures reply { (payload : List ℕ)
+            × OpeningReply H.digest id.now.0 self.now.index
+            (parts_at self.now.contents id.now) axis index (payload ∷ [])
             × (out.new ≡ appended out.old (envelope self.now.index payload)) }
         ensures room { out.old.spare ≤ out.new.spare + sliver_room self.now.f }
         ensures f { work.new.f ≡ work.old.f }

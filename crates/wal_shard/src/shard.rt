@@ -33,8 +33,8 @@ use wal_tree::Hash32;
 /// A shard of a committee: what it holds, all of which is verified.
 ///
 /// What is held under an identifier is sound: a metadata of the committee's f that the identifier
-/// commits, and only beside one, slivers of the shard's own indices that it commits and a proof that
-/// is bad for it.
+/// commits, and only beside one, slivers of the shard's own indices that it commits and a proof
+/// that is bad for it.
 #[derive(Drop)]
 pub struct Shard<H: Hash32, K: Keep> {
     pub(crate) f: u32,
@@ -51,9 +51,11 @@ impl<H: Hash32, K: Keep> Model for Shard<H, K> {
 
     ghost coded = { shard_code };
 
-    ghost view = { λ s. record { f = s.f; index = s.index; contents = K.contents s.keep; limit = K.limit s.keep } };
+    ghost view = { λ s.
+        record { f = s.f; index = s.index; contents = K.contents s.keep; limit = K.limit s.keep } };
 
-    ghost invariant = { λ s. IsPlace s.f s.index × AreSound H.digest s.f s.index (K.contents s.keep) };
+    ghost invariant = { λ s. IsPlace s.f s.index
+        × AreSound H.digest s.f s.index (K.contents s.keep) };
 }
 
 impl<H: Hash32, K: Keep> Shard<H, K> {
@@ -63,7 +65,8 @@ impl<H: Hash32, K: Keep> Shard<H, K> {
         requires few { f ≤ 333 }
         requires index { index < shard_count f }
         requires empty { K.contents keep ≡ map.empty }
-        ensures { result ≡ record { f = f; index = index; contents = map.empty; limit = K.limit keep } }
+        ensures { result
+            ≡ record { f = f; index = index; contents = map.empty; limit = K.limit keep } }
     {
         Shard {
             f,
@@ -102,7 +105,8 @@ impl<H: Hash32, K: Keep> Shard<H, K> {
     pub fn settled(&self, id: &BlobId) -> bool
         ensures value { result ≡ settled (parts_at self.now.contents id.now) }
         // What is held under the identifier is sound.
-        ensures sound { IsSound H.digest self.now.f id.now.0 self.now.index (parts_at self.now.contents id.now) }
+        ensures sound { IsSound H.digest self.now.f id.now.0
+            self.now.index (parts_at self.now.contents id.now) }
     {
         self.sound();
         self.has(id, Part::Metadata)
@@ -112,7 +116,9 @@ impl<H: Hash32, K: Keep> Shard<H, K> {
 
     /// Whether this metadata is held.
     pub fn holds_metadata(&self, id: &BlobId, m: MetaRef<'_>) -> bool
-        ensures { IsTrue result ↔ (part_at self.now.contents id.now parts.Metadata ≡ Some (metadata_text (metadata_shown m.entry))) }
+        ensures { IsTrue result
+            ↔ (part_at self.now.contents id.now parts.Metadata
+            ≡ Some (metadata_text (metadata_shown m.entry))) }
     {
         self.holds_bytes(id, Part::Metadata, m.bytes())
     }
@@ -151,14 +157,19 @@ impl<H: Hash32, K: Keep> Shard<H, K> {
         }
     }
 
-    /// Takes metadata, a sliver or a proof, if it verifies over what is held. The first case that applies is answered:
-    /// `Unregistered`, `NoMetadata`, `Unverified`, `OtherMetadata`, `Held`, `Full`, `Stored`; a keep that may want memory may have
-    /// `Memory` in place of the last two. A frame that carries no part is `Unverified`, whatever it names.
+    /// Takes metadata, a sliver or a proof, if it verifies over what is held. The first case that
+    /// applies is answered: `Unregistered`, `NoMetadata`, `Unverified`, `OtherMetadata`, `Held`,
+    /// `Full`, `Stored`; a keep that may want memory may have `Memory` in place of the last two. A
+    /// frame that carries no part is `Unverified`, whatever it names.
     pub fn put(&mut self, work: &mut Work, ledger: &Ledger, frame: &FrameRef<'_>) -> PutAnswer
         requires f { work.old.f ≡ self.old.f }
-        ensures puts { CanBePut (frame_shown frame.now) → PutsOrWants H.digest K.may_want (desk self.old ledger.now.log) self.old.contents (frame_shown frame.now) result self.new.contents }
-        ensures unfit { (CanBePut (frame_shown frame.now) → ⊥) → (result ≡ Unverified) × (self.new ≡ self.old) }
-        // The left text of a collision is the put metadata's, and the right one the held metadata's.
+        ensures puts { CanBePut (frame_shown frame.now)
+            → PutsOrWants H.digest K.may_want (desk self.old ledger.now.log)
+            self.old.contents (frame_shown frame.now) result self.new.contents }
+        ensures unfit { (CanBePut (frame_shown frame.now) → ⊥)
+            → (result ≡ Unverified) × (self.new ≡ self.old) }
+        // The left text of a collision is the put metadata's, and the right one the held
+        // metadata's.
         ensures texts { ShowsTexts H.digest self.old.contents (frame_shown frame.now) result }
         ensures place { self.new ≡ with_contents self.old self.new.contents }
         ensures f { work.new.f ≡ work.old.f }
@@ -173,7 +184,9 @@ impl<H: Hash32, K: Keep> Shard<H, K> {
 
     /// Whether a blob is not settled that must be held.
     fn owes(&self, ledger: &Ledger, id: &BlobId) -> bool
-        ensures { IsTrue result ↔ (MustHold ledger.now.log id.now × (settled (parts_at self.now.contents id.now) ≡ false)) }
+        ensures { IsTrue result
+            ↔ (MustHold ledger.now.log id.now
+            × (settled (parts_at self.now.contents id.now) ≡ false)) }
     {
         ledger.must_hold(id) && !self.settled(id)
     }
@@ -191,12 +204,15 @@ impl<H: Hash32, K: Keep> Shard<H, K> {
         true
     }
 
-    /// Appends what is held of metadata, primary sliver and proof, each in an envelope from this shard.
+    /// Appends what is held of metadata, primary sliver and proof, each in an envelope from this
+    /// shard.
     /// The result is their number. Takes no memory.
     pub fn read_reply(&self, work: &mut Work, id: &BlobId, out: &mut OutBuf) -> u32
         requires f { work.old.f ≡ self.now.f }
         requires room { room_of self.now.f ≤ out.old.spare }
-        ensures reply { WritesReply self.now.index out.old (read_reply_of id.now.0 self.now.index (parts_at self.now.contents id.now)) result out.new }
+        ensures reply { WritesReply self.now.index out.old
+            (read_reply_of id.now.0 self.now.index (parts_at self.now.contents id.now))
+            result out.new }
         // No reply is longer.
         ensures room { out.old.spare ≤ out.new.spare + room_of self.now.f }
         ensures f { work.new.f ≡ work.old.f }
@@ -204,8 +220,9 @@ impl<H: Hash32, K: Keep> Shard<H, K> {
         self.reply_metadata(id, out) + self.reply_primary(id, out) + self.reply_proof(id, out)
     }
 
-    /// Appends the metadata that is held, the opening of the sliver of this axis and index that the shard's crossing sliver
-    /// gives, and the proof that is held, each in an envelope from this shard. The result is their number. Takes no memory.
+    /// Appends the metadata that is held, the opening of the sliver of this axis and index that the
+    /// shard's crossing sliver gives, and the proof that is held, each in an envelope from this
+    /// shard. The result is their number. Takes no memory.
     pub fn symbol_reply(
         &self,
         work: &mut Work,
@@ -216,7 +233,9 @@ impl<H: Hash32, K: Keep> Shard<H, K> {
     ) -> u32
         requires f { work.old.f ≡ self.now.f }
         requires room { room_of self.now.f ≤ out.old.spare }
-        ensures reply { (payloads : List (List ℕ)) × SymbolReplies H.digest id.now.0 self.now.index (parts_at self.now.contents id.now) axis index payloads
+        ensures reply { (payloads : List (List ℕ))
+            × SymbolReplies H.digest id.now.0 self.now.index
+            (parts_at self.now.contents id.now) axis index payloads
             × WritesReply self.now.index out.old payloads result out.new }
         // No reply is longer.
         ensures room { out.old.spare ≤ out.new.spare + room_of self.now.f }

@@ -9,9 +9,12 @@ abbrev pub HasRoom : Option ℕ → ℕ → Type 0
 HasRoom None needed = Unit {0}
 HasRoom (Some free) needed = needed ≤ free
 
--- what the answer to a put says of the contents before: full exactly where more is needed than is free
-abbrev pub IsPutAnswer : Option ℕ → Bool → Contents → BlobId → List ℕ → Result (Unit {0}) KeepError → Type 0
-IsPutAnswer limit may_want contents id bytes (Ok done) = HasRoom (free_of limit contents) (needed_for contents id bytes)
+-- what the answer to a put says of the contents before: full exactly where more is needed than is
+-- free
+abbrev pub IsPutAnswer : Option ℕ → Bool → Contents → BlobId → List ℕ → Result (Unit {0}) KeepError
+    → Type 0
+IsPutAnswer limit may_want contents id bytes (Ok done) =
+    HasRoom (free_of limit contents) (needed_for contents id bytes)
 IsPutAnswer limit may_want contents id bytes (Err (Full needed free)) =
     (free_of limit contents ≡ Some free) × (needed ≡ needed_for contents id bytes) × (free < needed)
 IsPutAnswer limit may_want contents id bytes (Err Memory) = may_want ≡ true

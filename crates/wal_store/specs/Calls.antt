@@ -33,9 +33,11 @@ abbrev pub after_calls : Contents → List Call → Contents
 after_calls old [] = old
 after_calls old (call ∷ calls) = after_calls (after_call old call) calls
 
--- a part is put that is not held then, of from 1 byte to as many as a blob may have; what is dropped need not be held
+-- a part is put that is not held then, of from 1 byte to as many as a blob may have; what is
+-- dropped need not be held
 abbrev pub IsLawfulCall : Contents → Call → Type 0
-IsLawfulCall old (Put id part bytes) = (part_at old id part ≡ None) × (1 ≤ length bytes) × (length bytes ≤ most_bytes)
+IsLawfulCall old (Put id part bytes) =
+    (part_at old id part ≡ None) × (1 ≤ length bytes) × (length bytes ≤ most_bytes)
 IsLawfulCall old (DropPart id part) = ⊤
 IsLawfulCall old (DropId id) = ⊤
 
@@ -49,19 +51,24 @@ abbrev pub after_put : Contents → BlobId → Part → List ℕ → PutAnswer �
 after_put old id part bytes (Ok done) = after_call old (Put id part bytes)
 after_put old id part bytes (Err error) = old
 
--- the calls, one after the other, lead from the old contents to the new ones, and the puts among them have these answers
+-- the calls, one after the other, lead from the old contents to the new ones, and the puts among
+-- them have these answers
 abbrev pub RunsTo : Option ℕ → Bool → Contents → List Call → List PutAnswer → Contents → Type 0
 RunsTo limit may_want old [] [] new = new ≡ old
 RunsTo limit may_want old [] (answer ∷ answers) new = ⊥
 RunsTo limit may_want old (Put id part bytes ∷ calls) [] new = ⊥
 RunsTo limit may_want old (Put id part bytes ∷ calls) (answer ∷ answers) new =
-    IsPutAnswer limit may_want old id bytes answer × RunsTo limit may_want (after_put old id part bytes answer) calls answers new
-RunsTo limit may_want old (drop ∷ calls) answers new = RunsTo limit may_want (after_call old drop) calls answers new
+    IsPutAnswer limit may_want old id bytes answer
+    × RunsTo limit may_want (after_put old id part bytes answer) calls answers new
+RunsTo limit may_want old (drop ∷ calls) answers new =
+    RunsTo limit may_want (after_call old drop) calls answers new
 
--- after any run that led to the old contents, the call leads on to the new ones, and adds these answers
+-- after any run that led to the old contents, the call leads on to the new ones, and adds these
+-- answers
 abbrev pub Continues : Option ℕ → Bool → Contents → Call → List PutAnswer → Contents → Type 0
 Continues limit may_want old call more new =
-    (first : Contents) (calls : List Call) (answers : List PutAnswer) → RunsTo limit may_want first calls answers old
+    (first : Contents) (calls : List Call) (answers : List PutAnswer)
+    → RunsTo limit may_want first calls answers old
     → RunsTo limit may_want first (calls ++ call ∷ []) (answers ++ more) new
 
 -- no put found memory short
@@ -71,14 +78,18 @@ NoneWants answers = All (λ answer. answer ≢ Err Memory) answers
 -- two answers to one put are equal where neither is want of memory
 abbrev pub PutsAgree : Type 0
 PutsAgree =
-    (limit : Option ℕ) (may_want may_want' : Bool) (contents : Contents) (id : BlobId) (bytes : List ℕ) (answer answer' : PutAnswer)
-    → IsPutAnswer limit may_want contents id bytes answer → IsPutAnswer limit may_want' contents id bytes answer'
+    (limit : Option ℕ) (may_want may_want' : Bool) (contents : Contents)
+    (id : BlobId) (bytes : List ℕ) (answer answer' : PutAnswer)
+    → IsPutAnswer limit may_want contents id bytes answer
+    → IsPutAnswer limit may_want' contents id bytes answer'
     → answer ≢ Err Memory → answer' ≢ Err Memory → answer ≡ answer'
 
--- two runs of the same calls from the same contents have equal answers and end with the same contents, where no put found memory short
+-- two runs of the same calls from the same contents have equal answers and end with the same
+-- contents, where no put found memory short
 abbrev pub RunsAgree : Type 0
 RunsAgree =
-    (limit : Option ℕ) (may_want may_want' : Bool) (old new new' : Contents) (calls : List Call) (answers answers' : List PutAnswer)
+    (limit : Option ℕ) (may_want may_want' : Bool) (old new new' : Contents)
+    (calls : List Call) (answers answers' : List PutAnswer)
     → RunsTo limit may_want old calls answers new → RunsTo limit may_want' old calls answers' new'
     → NoneWants answers → NoneWants answers' → (answers ≡ answers') × (new ≡ new')
 
@@ -93,8 +104,10 @@ abbrev pub WantsNext : List PutAnswer → Type 0
 WantsNext [] = ⊥
 WantsNext (answer ∷ answers) = answer ≡ Err Memory
 
--- two runs of the same calls give the same answers and reach the same contents, up to their end or to a put at which one of them found memory short
-pub record GoTogether (limit : Option ℕ) (left right : Bool) (old : Contents) (calls : List Call) (lefts rights : List PutAnswer) (left_end right_end : Contents) : Type 0 where
+-- two runs of the same calls give the same answers and reach the same contents, up to their end or
+-- to a put at which one of them found memory short
+pub record GoTogether (limit : Option ℕ) (left right : Bool) (old : Contents) (calls : List Call)
+    (lefts rights : List PutAnswer) (left_end right_end : Contents) : Type 0 where
   -- the calls and the answers so far, and those that follow
   pub first : List Call
   pub rest : List Call
@@ -116,20 +129,26 @@ pub record GoTogether (limit : Option ℕ) (left right : Bool) (old : Contents) 
 -- any two runs of the same calls from the same contents do
 abbrev pub RunsTogether : Type 0
 RunsTogether =
-    (limit : Option ℕ) (left right : Bool) (old left_end right_end : Contents) (calls : List Call) (lefts rights : List PutAnswer)
+    (limit : Option ℕ) (left right : Bool) (old left_end right_end : Contents)
+    (calls : List Call) (lefts rights : List PutAnswer)
     → RunsTo limit left old calls lefts left_end → RunsTo limit right old calls rights right_end
     → GoTogether limit left right old calls lefts rights left_end right_end
 
 -- where each put stores, a run ends with what its calls make
 abbrev pub EndsAfterCalls : Type 0
 EndsAfterCalls =
-    (limit : Option ℕ) (may_want : Bool) (old new : Contents) (calls : List Call) (answers : List PutAnswer)
+    (limit : Option ℕ) (may_want : Bool) (old new : Contents)
+    (calls : List Call) (answers : List PutAnswer)
     → RunsTo limit may_want old calls answers new → All IsOk answers → new ≡ after_calls old calls
 
 -- calls in two parts: the second begins with what the first leaves
 abbrev pub CallsInParts : Type 0
-CallsInParts = (old : Contents) (first more : List Call) → after_calls old (first ++ more) ≡ after_calls (after_calls old first) more
+CallsInParts =
+    (old : Contents) (first more : List Call)
+    → after_calls old (first ++ more) ≡ after_calls (after_calls old first) more
 
 -- and so is whether they are lawful
 abbrev pub LawfulInParts : Type 0
-LawfulInParts = (old : Contents) (first more : List Call) → AreLawful old (first ++ more) ↔ (AreLawful old first × AreLawful (after_calls old first) more)
+LawfulInParts =
+    (old : Contents) (first more : List Call)
+    → AreLawful old (first ++ more) ↔ (AreLawful old first × AreLawful (after_calls old first) more)

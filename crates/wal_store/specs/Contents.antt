@@ -20,11 +20,13 @@ part_at contents id part = part_of (parts_at contents id) part
 
 -- with these bytes for a part
 abbrev pub with_bytes : Contents → BlobId → Part → List ℕ → Contents
-with_bytes contents id part bytes = map.insert contents id (with_part (parts_at contents id) part (Some bytes))
+with_bytes contents id part bytes =
+    map.insert contents id (with_part (parts_at contents id) part (Some bytes))
 
 -- these parts of an identifier, which is gone where they are none
 abbrev pub with_parts : Contents → BlobId → Parts → Contents
-with_parts contents id parts = if is_empty parts then map.remove contents id else map.insert contents id parts
+with_parts contents id parts =
+    if is_empty parts then map.remove contents id else map.insert contents id parts
 
 -- without a part
 abbrev pub without_part : Contents → BlobId → Part → Contents
@@ -40,7 +42,8 @@ free_of limit contents = option_map (λ most. most - cost contents) limit
 
 -- the pages that one more part takes
 abbrev pub needed_for : Contents → BlobId → List ℕ → ℕ
-needed_for contents id bytes = (if map.contains_key contents id then 0 else 1) + pages_for (length bytes)
+needed_for contents id bytes =
+    (if map.contains_key contents id then 0 else 1) + pages_for (length bytes)
 
 -- contents and a limit in pages
 pub record StoreState : Type 0 where

@@ -8,8 +8,11 @@ copies bytes at (size ∷ sizes) = take size (drop at bytes) ++ copies bytes (at
 
 -- they are one copy of all the ranges
 abbrev pub CopiesJoin : Type 0
-CopiesJoin = (bytes : List ℕ) (at : ℕ) (sizes : List ℕ) → copies bytes at sizes ≡ take (sum sizes) (drop at bytes)
+CopiesJoin =
+    (bytes : List ℕ) (at : ℕ) (sizes : List ℕ)
+    → copies bytes at sizes ≡ take (sum sizes) (drop at bytes)
 
 -- from the front on, and of as many bytes as there are, they are all the bytes
 abbrev pub CopiesMakeAll : Type 0
-CopiesMakeAll = (bytes : List ℕ) (sizes : List ℕ) → sum sizes ≡ length bytes → copies bytes 0 sizes ≡ bytes
+CopiesMakeAll =
+    (bytes : List ℕ) (sizes : List ℕ) → sum sizes ≡ length bytes → copies bytes 0 sizes ≡ bytes

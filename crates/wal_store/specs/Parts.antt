@@ -34,7 +34,9 @@ is_absent (Some bytes) = false
 
 -- no part is held
 abbrev pub is_empty : Parts → Bool
-is_empty parts = is_absent parts.metadata && is_absent parts.primary && is_absent parts.secondary && is_absent parts.proof
+is_empty parts =
+    is_absent parts.metadata && is_absent parts.primary && is_absent parts.secondary
+    && is_absent parts.proof
 
 -- the pages that so many bytes fill, the last one perhaps in part
 unfoldable pub pages_for : ℕ → ℕ
@@ -46,7 +48,9 @@ part_cost (Some bytes) = pages_for (length bytes)
 
 -- a holding costs one page, and the pages of its parts
 abbrev pub cost_of : Parts → ℕ
-cost_of parts = 1 + part_cost parts.metadata + part_cost parts.primary + part_cost parts.secondary + part_cost parts.proof
+cost_of parts =
+    1 + part_cost parts.metadata + part_cost parts.primary + part_cost parts.secondary
+    + part_cost parts.proof
 
 -- a part has from 1 byte to as many as a blob may have
 abbrev pub is_fit : Option (List ℕ) → Bool

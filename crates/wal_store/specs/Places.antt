@@ -15,14 +15,17 @@ ClosesPlace =
 -- the identifiers below its place stay where they are
 abbrev pub KeepsBelow : Type 0
 KeepsBelow =
-    (contents : Contents) (id : BlobId) (place below : ℕ) → slice_get (map.keys contents) place ≡ Some id → below < place
+    (contents : Contents) (id : BlobId) (place below : ℕ)
+    → slice_get (map.keys contents) place ≡ Some id → below < place
     → slice_get (map.keys (map.remove contents id)) below ≡ slice_get (map.keys contents) below
 
 -- and those above it move down by one place
 abbrev pub MovesDown : Type 0
 MovesDown =
-    (contents : Contents) (id : BlobId) (place above : ℕ) → slice_get (map.keys contents) place ≡ Some id → place ≤ above
-    → slice_get (map.keys (map.remove contents id)) above ≡ slice_get (map.keys contents) (above + 1)
+    (contents : Contents) (id : BlobId) (place above : ℕ)
+    → slice_get (map.keys contents) place ≡ Some id → place ≤ above
+    → slice_get (map.keys (map.remove contents id)) above
+    ≡ slice_get (map.keys contents) (above + 1)
 
 -- whether an identifier stands past another one; where there is no other, each does
 abbrev pub is_past : Option BlobId → BlobId → Bool

@@ -21,7 +21,8 @@ impl Model for Chains {
 
     ghost view = { λ c. record { states = c.shelf; next = c.next.items } };
 
-    ghost invariant = { λ c. (length c.next.items ≡ length c.shelf) × (length c.shelf ≤ 262144) × AreWhole 4096 c.shelf };
+    ghost invariant = { λ c. (length c.next.items ≡ length c.shelf) × (length c.shelf ≤ 262144)
+        × AreWhole 4096 c.shelf };
 }
 
 impl Chains {

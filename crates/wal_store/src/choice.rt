@@ -20,7 +20,8 @@ pub trait Choice {
 
 /// Lets all identifiers go that are not chosen.
 pub fn retain<K: Keep, C: Choice>(keep: &mut K, choice: &C)
-    ensures retained { K.contents keep.new ≡ map.retain_keys (K.contents keep.old) (C.chooses choice.now) }
+    ensures retained { K.contents keep.new
+        ≡ map.retain_keys (K.contents keep.old) (C.chooses choice.now) }
     ensures limit { K.limit keep.new ≡ K.limit keep.old }
 {
     let mut last = None;
@@ -37,7 +38,9 @@ pub fn retain<K: Keep, C: Choice>(keep: &mut K, choice: &C)
 
 /// Lets an identifier go that is not chosen.
 fn drop_unchosen<K: Keep, C: Choice>(keep: &mut K, choice: &C, id: &BlobId)
-    ensures kept { K.contents keep.new ≡ (if C.chooses choice.now id.now then K.contents keep.old else map.remove (K.contents keep.old) id.now) }
+    ensures kept { K.contents keep.new
+        ≡ (if C.chooses choice.now id.now then K.contents keep.old
+        else map.remove (K.contents keep.old) id.now) }
     ensures limit { K.limit keep.new ≡ K.limit keep.old }
 {
     if !choice.is_chosen(id) {

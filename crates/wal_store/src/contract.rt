@@ -47,11 +47,12 @@ pub trait Keep {
         ensures stored { OnOk result
             (contents self.new ≡ with_bytes (contents self.old) id.now part bytes.now) }
         ensures refused { OnErr result (contents self.new ≡ contents self.old) }
-        ensures answer { IsPutAnswer (limit self.old) may_want (contents self.old) id.now bytes.now result }
+        ensures answer { IsPutAnswer (limit self.old) may_want
+            (contents self.old) id.now bytes.now result }
         ensures limit { limit self.new ≡ limit self.old };
 
-    /// The number of bytes of a part, where it is held. An identifier has a holding exactly where a part
-    /// is held under it.
+    /// The number of bytes of a part, where it is held. An identifier has a holding exactly where a
+    /// part is held under it.
     fn size(&self, id: &BlobId, part: Part) -> Option<u32>
         ensures value { result ≡ option_map length (part_at (contents self.now) id.now part) }
         ensures there { map.contains_key (contents self.now) id.now
@@ -64,7 +65,8 @@ pub trait Keep {
         requires range { at + length out.old
             ≤ length (unwrap_or (part_at (contents self.now) id.now part) []) }
         ensures { out.new
-            ≡ take (length out.old) (drop at (unwrap_or (part_at (contents self.now) id.now part) [])) };
+            ≡ take (length out.old)
+            (drop at (unwrap_or (part_at (contents self.now) id.now part) [])) };
 
     /// Lets a part go. What is not held stays so.
     fn drop_part(&mut self, id: &BlobId, part: Part)
@@ -87,8 +89,8 @@ pub trait Keep {
         ensures value { slice_get (map.keys (contents self.now)) place ≡ Some result }
         ensures kept { is_empty (parts_at (contents self.now) result) ≡ false };
 
-    /// The first identifier past this one, in ascending order of their bytes, or the first of all. So one
-    /// pass over a keep asks for each identifier once, and may let it go.
+    /// The first identifier past this one, in ascending order of their bytes, or the first of all.
+    /// So one pass over a keep asks for each identifier once, and may let it go.
     fn next_id(&self, last: Option<BlobId>) -> Option<BlobId>
         ensures value { result ≡ next_id (contents self.now) last }
         ensures kept { IfSome result (λ id. is_empty (parts_at (contents self.now) id) ≡ false) };

@@ -42,7 +42,8 @@ fn row_for(chains: &mut Chains, rows: &mut OrderedRows, id: &BlobId) -> usize
     ensures place { slice_get (ids_of rows.new.items) result ≡ Some id.now }
     ensures parts { parts_in (entries_of chains.new rows.new.items) id.now
         ≡ parts_in (entries_of chains.old rows.old.items) id.now }
-    ensures entries { (p : Parts) → insert_entry id_cmp (entries_of chains.new rows.new.items) id.now p
+    ensures entries { (p : Parts)
+        → insert_entry id_cmp (entries_of chains.new rows.new.items) id.now p
         ≡ insert_entry id_cmp (entries_of chains.old rows.old.items) id.now p }
     ensures pages { all_pages chains.new rows.new.items ≡ all_pages chains.old rows.old.items }
     ensures room { rows.old.room ≤ rows.new.room }
@@ -83,7 +84,8 @@ pub fn put_part(chains: &mut Chains, rows: &mut OrderedRows, id: &BlobId, part: 
 pub fn size_of(chains: &Chains, rows: &OrderedRows, id: &BlobId, part: Part) -> Option<u32>
     requires { Owns chains.now rows.now.items }
     ensures value { result
-        ≡ option_map length (part_of (parts_in (entries_of chains.now rows.now.items) id.now) part) }
+        ≡ option_map length
+        (part_of (parts_in (entries_of chains.now rows.now.items) id.now) part) }
     ensures range { IfSome result (λ n. (1 ≤ n) × (n ≤ most_bytes)) }
 {
     match rows.place(id) {

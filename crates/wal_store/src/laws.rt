@@ -1,9 +1,9 @@
 //! What follows of any two keeps from the contract of [`Keep`], each law proved of the definitions
 //! that the contract cites.
 //!
-//! [`one_put`], [`any_calls`], [`calls_in_parts`], [`copies_in_turn`] and [`places_after_drop`] compute
-//! nothing: their contracts are the laws. The other functions are the calls of a keep, with a contract that speaks of
-//! runs.
+//! [`one_put`], [`any_calls`], [`calls_in_parts`], [`copies_in_turn`] and [`places_after_drop`]
+//! compute nothing: their contracts are the laws. The other functions are the calls of a keep, with
+//! a contract that speaks of runs.
 
 ghost use Rattle.std.specs.Prelude.{◌≡◌, ◌≢◌, ◌≤◌, None, Err, false, [], ◌∷◌, length};
 ghost use Rattle.wal_shape.specs.Shape.{most_bytes};
@@ -17,40 +17,44 @@ use crate::contract::{Keep, KeepError};
 use crate::pool_keep::PoolKeep;
 use wal_shape::{BlobId, Part};
 
-/// Two keeps with one limit and one content give one answer to a put, unless one of them wants memory.
+/// Two keeps with one limit and one content give one answer to a put, unless one of them wants
+/// memory.
 pub fn one_put()
     ensures { PutsAgree }
 {}
 
-/// The same of any list of calls: two keeps that begin with the same contents under one limit answer
-/// alike, and hold the same after. The other calls answer by what is held, so they agree too.
+/// The same of any list of calls: two keeps that begin with the same contents under one limit
+/// answer alike, and hold the same after. The other calls answer by what is held, so they agree
+/// too.
 ///
 /// So a `MapKeep` with a limit stands for a `PoolKeep` of as many pages as long as it finds memory:
-/// the pool never wants any. Up to the first put that finds memory short they answer alike in any case.
+/// the pool never wants any. Up to the first put that finds memory short they answer alike in any
+/// case.
 pub fn any_calls()
     ensures agree { RunsAgree }
     ensures together { RunsTogether }
     ensures never { NeverWants }
 {}
 
-/// A list of calls as a change of what is held: a run in which each put stores ends with it, and calls
-/// in two parts are those of the first part and then those of the second, as is what makes them lawful.
+/// A list of calls as a change of what is held: a run in which each put stores ends with it, and
+/// calls in two parts are those of the first part and then those of the second, as is what makes
+/// them lawful.
 pub fn calls_in_parts()
     ensures ends { EndsAfterCalls }
     ensures parts { CallsInParts }
     ensures lawful { LawfulInParts }
 {}
 
-/// What [`Keep::copy`] gives for a range, then for the one after it, and so on, put one after another, is
-/// what one call gives for all of them; and it is the part, where they begin at its front and have as
-/// many bytes as [`Keep::size`] says.
+/// What [`Keep::copy`] gives for a range, then for the one after it, and so on, put one after
+/// another, is what one call gives for all of them; and it is the part, where they begin at its
+/// front and have as many bytes as [`Keep::size`] says.
 pub fn copies_in_turn()
     ensures join { CopiesJoin }
     ensures all { CopiesMakeAll }
 {}
 
-/// After an identifier went, those at lower places stand where they stood, and each of the others has
-/// the place below its own. So one pass from the last place to the first can drop as it goes.
+/// After an identifier went, those at lower places stand where they stood, and each of the others
+/// has the place below its own. So one pass from the last place to the first can drop as it goes.
 pub fn places_after_drop()
     ensures closes { ClosesPlace }
     ensures below { KeepsBelow }

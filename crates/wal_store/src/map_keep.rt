@@ -154,7 +154,8 @@ impl Keep for MapKeep {
 
 /// The number of bytes of a part.
 fn size_under(holdings: &Holdings, id: &BlobId, part: Part) -> Option<u32>
-    ensures value { result ≡ option_map length (part_of (parts_in holdings.now.entries id.now) part) }
+    ensures value { result
+        ≡ option_map length (part_of (parts_in holdings.now.entries id.now) part) }
     ensures range { IfSome result (λ n. (1 ≤ n) × (n ≤ most_bytes)) }
 {
     match holdings.get(id) {
@@ -211,7 +212,8 @@ fn key_past(holdings: &Holdings, last: Option<BlobId>) -> Option<BlobId>
 
 /// Lets a holding go.
 fn forget(holdings: &mut Holdings, id: &BlobId)
-    ensures gone { holdings.new.entries ≡ remove_entry (is_at (id_cmp id.now)) holdings.old.entries }
+    ensures gone { holdings.new.entries
+        ≡ remove_entry (is_at (id_cmp id.now)) holdings.old.entries }
     ensures ordered { IsOrdered id_cmp holdings.new }
     ensures fewer { length holdings.new.entries ≤ length holdings.old.entries }
 {
@@ -245,7 +247,8 @@ fn room(budget: Option<Budget>, needed: u32) -> Result<(), KeepError>
 /// The budget after holdings went that cost so many pages, and others came.
 fn recharged(budget: Option<Budget>, gone: u32, more: u32) -> Option<Budget>
     requires { ForSome budget (λ b. (gone ≤ b.used) × (b.used - gone + more ≤ b.limit)) }
-    ensures { result ≡ option_map {T = Budget} (λ b. record b { used = b.used - gone + more }) budget }
+    ensures { result
+        ≡ option_map {T = Budget} (λ b. record b { used = b.used - gone + more }) budget }
 {
     match budget {
         Some(Budget { limit, used }) => Some(Budget {

@@ -77,7 +77,8 @@ impl OrderedRows {
     /// The place of an identifier, or where it belongs.
     pub fn place(&self, id: &BlobId) -> Result<usize, usize>
         requires { IsStrictlySortedBy id_cmp (ids_of self.now.items) }
-        ensures found { IfOk result (λ place. slice_get (ids_of self.now.items) place ≡ Some id.now) }
+        ensures found { IfOk result
+            (λ place. slice_get (ids_of self.now.items) place ≡ Some id.now) }
         ensures within { IfOk result (λ place. place < length self.now.items) }
         ensures gap { IfErr result (IsGap id.now (ids_of self.now.items)) }
     {
@@ -155,7 +156,8 @@ fn compare(slots: &[Row], number: u32, id: &BlobId) -> Ordering
 /// The place of an identifier among the rows with these numbers, or where it belongs.
 fn place_in(slots: &[Row], numbers: &[u32], id: &BlobId) -> Result<usize, usize>
     requires { IsStrictlySortedBy id_cmp (ids_of (rows_at slots.now numbers.now)) }
-    ensures found { IfOk result (λ place. slice_get (ids_of (rows_at slots.now numbers.now)) place ≡ Some id.now) }
+    ensures found { IfOk result
+        (λ place. slice_get (ids_of (rows_at slots.now numbers.now)) place ≡ Some id.now) }
     ensures gap { IfErr result (IsGap id.now (ids_of (rows_at slots.now numbers.now))) }
 {
     numbers.binary_search_by(|number| compare(slots, *number, id))

@@ -15,8 +15,8 @@ use wal_shape::{BlobId, Part};
 /// A keep over a fixed number of pages. It takes all of its memory when it is made.
 ///
 /// A holding costs a page of its own, and a part stands in a chain of pages that are full of its
-/// bytes, the last one perhaps in part. The rows stay where they were written, and the order of their
-/// identifiers is a list of numbers.
+/// bytes, the last one perhaps in part. The rows stay where they were written, and the order of
+/// their identifiers is a list of numbers.
 pub struct PoolKeep {
     chains: Chains,
     rows: OrderedRows,

@@ -50,8 +50,10 @@ abbrev pub IsPutFrame : List ℕ → Frame → Type 0
 IsPutFrame bytes frame = (read_of bytes ≡ Ok frame) × CanBePut frame
 
 -- a frame that has a spelling is put to a shard, without a limit of pages
-abbrev pub PutsFrame : (List ℕ → List ℕ) → ℕ → Log → ℕ → Contents → Frame → PutAnswer → Contents → Type 0
-PutsFrame digest f log shard old frame answer new = IsFrame frame × Puts digest (desk_of f shard None log) old frame answer new
+abbrev pub PutsFrame : (List ℕ → List ℕ) → ℕ → Log → ℕ → Contents → Frame → PutAnswer → Contents
+    → Type 0
+PutsFrame digest f log shard old frame answer new =
+    IsFrame frame × Puts digest (desk_of f shard None log) old frame answer new
 
 -- ---- honest writes
 
@@ -72,12 +74,15 @@ has_frames frames parts = list_all (has_frame parts) frames
 
 -- ---- reads
 
--- what a shard replies to one that recovers its sliver of an axis: symbols of the sliver that its own metadata says, and nothing where
--- it holds none
-pub data SymbolReply (digest : List ℕ → List ℕ) (id : BlobId) (helper : ℕ) (parts : Parts) (axis : Axis) (shard : ℕ) : List (List ℕ) → Type 0 where
+-- what a shard replies to one that recovers its sliver of an axis: symbols of the sliver that its
+-- own metadata says, and nothing where it holds none
+pub data SymbolReply (digest : List ℕ → List ℕ) (id : BlobId) (helper : ℕ)
+    (parts : Parts) (axis : Axis) (shard : ℕ) : List (List ℕ)
+    → Type 0 where
   silent : parts.metadata ≡ None → SymbolReply digest id helper parts axis shard []
   replies : (m : BlobMetadata) (payloads : List (List ℕ)) → HoldsMetadata parts m
-      → SymbolReplies digest id.0 helper parts axis (held_index m.format m.f axis shard) payloads → SymbolReply digest id helper parts axis shard payloads
+      → SymbolReplies digest id.0 helper parts axis (held_index m.format m.f axis shard) payloads
+      → SymbolReply digest id helper parts axis shard payloads
 
 -- the outcome that a word tells
 abbrev pub outcome_told : ReadWord → Outcome
@@ -87,54 +92,66 @@ outcome_told (reading.Short have need) = outcome.Short have need
 outcome_told reading.NoMetadata = outcome.NoMetadata
 
 -- a read of payloads comes to this word, with this evidence
-abbrev pub ReadsTo : (List ℕ → List ℕ) → BlobId → List (List ℕ) → ReadWord → Option Evidence → Type 0
+abbrev pub ReadsTo : (List ℕ → List ℕ) → BlobId → List (List ℕ) → ReadWord → Option Evidence
+    → Type 0
 ReadsTo digest id payloads word evidence =
-    IsOutcome digest id.0 payloads (outcome_told word) × HasEvidence digest id.0 payloads (outcome_told word) evidence
+    IsOutcome digest id.0 payloads (outcome_told word)
+    × HasEvidence digest id.0 payloads (outcome_told word) evidence
 
 -- ---- recoveries
 
--- m is a metadata of the identifier among the payloads, or what a shard holds as the blob's metadata
+-- m is a metadata of the identifier among the payloads, or what a shard holds as the blob's
+-- metadata
 abbrev pub Knows : (List ℕ → List ℕ) → BlobId → Parts → List (List ℕ) → BlobMetadata → Type 0
 Knows digest id parts payloads m = HasMetadata digest id.0 payloads m ⊎ HoldsMetadata parts m
 
 -- two of them differ
 abbrev pub KnowsTwo : (List ℕ → List ℕ) → BlobId → Parts → List (List ℕ) → Type 0
 KnowsTwo digest id parts payloads =
-    (a : BlobMetadata) × (b : BlobMetadata) × Knows digest id parts payloads a × Knows digest id parts payloads b × (a ≢ b)
+    (a : BlobMetadata) × (b : BlobMetadata) × Knows digest id parts payloads a
+    × Knows digest id parts payloads b × (a ≢ b)
 
 -- m is the only one, and has the committee's f
-pub record IsKnown (digest : List ℕ → List ℕ) (f : ℕ) (id : BlobId) (parts : Parts) (payloads : List (List ℕ)) (m : BlobMetadata) : Type 0 where
+pub record IsKnown (digest : List ℕ → List ℕ) (f : ℕ) (id : BlobId)
+    (parts : Parts) (payloads : List (List ℕ)) (m : BlobMetadata) : Type 0 where
   pub known : Knows digest id parts payloads m
   pub only : (other : BlobMetadata) → Knows digest id parts payloads other → other ≡ m
   pub faults : m.f ≡ f
 
 -- what all openings of the shard's own sliver come to by this metadata
-abbrev pub OwnOpeningsComeTo : (List ℕ → List ℕ) → BlobId → ℕ → Axis → List (List ℕ) → BlobMetadata → Recovered → Type 0
+abbrev pub OwnOpeningsComeTo : (List ℕ → List ℕ) → BlobId → ℕ → Axis → List (List ℕ) → BlobMetadata
+    → Recovered → Type 0
 OwnOpeningsComeTo digest id shard axis payloads m found =
-    let index = held_index m.format m.f axis shard in OpeningsComeTo digest m axis index (openings_in id.0 axis index payloads) found
+    let index = held_index m.format m.f axis shard in
+    OpeningsComeTo digest m axis index (openings_in id.0 axis index payloads) found
 
 -- what a recovery comes to, and what the shard holds then: a part that is held stays
-abbrev pub RecoversTo : (List ℕ → List ℕ) → ℕ → BlobId → ℕ → Axis → Contents → List (List ℕ) → RecoverWord → Contents → Type 0
+abbrev pub RecoversTo : (List ℕ → List ℕ) → ℕ → BlobId → ℕ → Axis → Contents → List (List ℕ)
+    → RecoverWord → Contents → Type 0
 -- no metadata is known that has the committee's f
 RecoversTo digest f id shard axis old payloads recovering.NoMetadata new =
     ((m : BlobMetadata) → Knows digest id (parts_at old id) payloads m → m.f ≢ f) × (new ≡ old)
 -- the openings give the sliver
 RecoversTo digest f id shard axis old payloads (recovering.Sliver bytes) new =
-    (m : BlobMetadata) × IsKnown digest f id (parts_at old id) payloads m × OwnOpeningsComeTo digest id shard axis payloads m (recovered.Sliver bytes)
+    (m : BlobMetadata) × IsKnown digest f id (parts_at old id) payloads m
+    × OwnOpeningsComeTo digest id shard axis payloads m (recovered.Sliver bytes)
     × (new ≡ kept_sliver old id m axis bytes)
 -- they are a proof of bad encoding
 RecoversTo digest f id shard axis old payloads recovering.Inconsistent new =
     (m : BlobMetadata) × IsKnown digest f id (parts_at old id) payloads m × (p : EncodingProof)
-    × OwnOpeningsComeTo digest id shard axis payloads m (recovered.Inconsistent p) × (new ≡ kept_proof old id m p)
+    × OwnOpeningsComeTo digest id shard axis payloads m (recovered.Inconsistent p)
+    × (new ≡ kept_proof old id m p)
 -- they are too few, and the first bad proof among the payloads is taken
 RecoversTo digest f id shard axis old payloads recovering.Proof new =
     (m : BlobMetadata) × IsKnown digest f id (parts_at old id) payloads m × (have : ℕ)
-    × OwnOpeningsComeTo digest id shard axis payloads m (recovered.Short have) × (p : EncodingProof) × IsFirstBadProof digest id.0 m payloads p
+    × OwnOpeningsComeTo digest id shard axis payloads m (recovered.Short have) × (p : EncodingProof)
+    × IsFirstBadProof digest id.0 m payloads p
     × (new ≡ kept_proof old id m p)
 -- they are too few, and there is none
 RecoversTo digest f id shard axis old payloads (recovering.Short have need) new =
     (m : BlobMetadata) × IsKnown digest f id (parts_at old id) payloads m
-    × OwnOpeningsComeTo digest id shard axis payloads m (recovered.Short have) × NoBadProof digest id.0 m payloads × (need ≡ sliver_symbols axis m.f) × (new ≡ old)
+    × OwnOpeningsComeTo digest id shard axis payloads m (recovered.Short have)
+    × NoBadProof digest id.0 m payloads × (need ≡ sliver_symbols axis m.f) × (new ≡ old)
 -- all else is no recovery
 RecoversTo digest f id shard axis old payloads _ new = ⊥
 
@@ -142,23 +159,28 @@ RecoversTo digest f id shard axis old payloads _ new = ⊥
 
 -- evidence for the identifier has this verdict, or the bytes have that identifier in a format
 abbrev pub IsBackedBy : (List ℕ → List ℕ) → ℕ → BlobId → First → Type 0
-IsBackedBy digest f id (Judged evidence verdict) = IsEvidence digest id.0 evidence × IsJudgedBy digest evidence.metadata evidence.basis verdict
-IsBackedBy digest f id (Written bytes) = (format : Format) × IsIdentifierOf digest format f bytes id.0
+IsBackedBy digest f id (Judged evidence verdict) =
+    IsEvidence digest id.0 evidence × IsJudgedBy digest evidence.metadata evidence.basis verdict
+IsBackedBy digest f id (Written bytes) =
+    (format : Format) × IsIdentifierOf digest format f bytes id.0
 
 -- a metadata is held that the identifier commits
-pub record HoldsCommitted (digest : List ℕ → List ℕ) (id : BlobId) (parts : Parts) (m : BlobMetadata) : Type 0 where
+pub record HoldsCommitted (digest : List ℕ → List ℕ) (id : BlobId)
+    (parts : Parts) (m : BlobMetadata) : Type 0 where
   pub held : HoldsMetadata parts m
   pub committed : Commits digest id.0 m
 
 -- and by it these bytes are the shard's sliver of the axis
 abbrev pub CommitsSliver : (List ℕ → List ℕ) → BlobId → ℕ → Axis → List ℕ → Parts → Type 0
 CommitsSliver digest id shard axis bytes parts =
-    (m : BlobMetadata) × HoldsCommitted digest id parts m × HoldsSliver digest m axis (held_index m.format m.f axis shard) bytes
+    (m : BlobMetadata) × HoldsCommitted digest id parts m
+    × HoldsSliver digest m axis (held_index m.format m.f axis shard) bytes
 
 -- and a proof that its blob is badly encoded
 abbrev pub HoldsBadProof : (List ℕ → List ℕ) → BlobId → Parts → Type 0
 HoldsBadProof digest id parts =
-    (m : BlobMetadata) × HoldsCommitted digest id parts m × (p : EncodingProof) × (parts.proof ≡ Some (proof_text p)) × IsBadProof digest m p
+    (m : BlobMetadata) × HoldsCommitted digest id parts m × (p : EncodingProof)
+    × (parts.proof ≡ Some (proof_text p)) × IsBadProof digest m p
 
 -- THE RULES, for a digest and a number of faults
 abbrev pub rules_of : (List ℕ → List ℕ) → ℕ → Rules

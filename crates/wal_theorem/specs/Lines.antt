@@ -8,13 +8,16 @@ use Rattle.wal_protocol.specs.Safe.{EachStep, IsSafe, IsRecoveryComplete}
 use Rattle.wal_theorem.specs.Instance.{rules_of}
 
 -- THE LINES OF A SAFE RUN of a schedule
-pub record AreLines (digest : List ℕ → List ℕ) (schedule : Schedule) (lines : List Line) : Type 0 where
+pub record AreLines (digest : List ℕ → List ℕ)
+    (schedule : Schedule) (lines : List Line) : Type 0 where
   -- the states of the world after each event
   pub states : List World
-  -- they are the lines and states of a run of all its events, up to a collision, by the rules of this code (`Steps` says what an event does)
+  -- they are the lines and states of a run of all its events, up to a collision, by the rules of
+  -- this code (`Steps` says what an event does)
   pub run : IsRun (rules_of digest schedule.f) schedule states lines
-  -- it is safe: two reads agree, and what is recovered has the committed root; while no committee has more than f faulty shards, what is
-  -- certified is kept, reads complete, and only what is badly encoded is declared invalid
+  -- it is safe: two reads agree, and what is recovered has the committed root; while no committee
+  -- has more than f faulty shards, what is certified is kept, reads complete, and only what is
+  -- badly encoded is declared invalid
   pub safe : IsSafe (rules_of digest schedule.f) schedule states lines
   -- its recoveries complete
   pub recovered : EachStep IsRecoveryComplete (first_state schedule) schedule.events states lines
@@ -24,7 +27,8 @@ abbrev pub front_of : Schedule → ℕ → Schedule
 front_of s count = record s { events = take count s.events }
 
 -- the lines of a schedule's first events
-pub record AreFirstLines (digest : List ℕ → List ℕ) (schedule : Schedule) (lines : List Line) : Type 0 where
+pub record AreFirstLines (digest : List ℕ → List ℕ)
+    (schedule : Schedule) (lines : List Line) : Type 0 where
   pub count : ℕ
   pub some : count ≤ length schedule.events
   pub of_front : AreLines digest (front_of schedule count) lines

@@ -24,10 +24,13 @@ BasisOfBytes (Proof p) = AreBytes (proof_text p)
 
 -- the metadata and the proof of a read's evidence are spelled in bytes
 abbrev pub FirstOfBytes : First → Type 0
-FirstOfBytes (Judged evidence verdict) = AreBytes (metadata_text evidence.metadata) × BasisOfBytes evidence.basis
+FirstOfBytes (Judged evidence verdict) =
+    AreBytes (metadata_text evidence.metadata) × BasisOfBytes evidence.basis
 FirstOfBytes (Written bytes) = Unit {0}
 
--- all that is held is bytes, and so are the metadata and the proofs that first completed answers rest on
+-- all that is held is bytes, and so are the metadata and the proofs that first completed answers
+-- rest on
 pub record WorldOfBytes (w : World) : Type 0 where
   pub parts : (side : Side) (s : ℕ) (id : BlobId) → IsOfBytes (held (side_of side w) s id)
-  pub answers : (id : BlobId) (answer : First) → map.get w.answers id ≡ Some answer → FirstOfBytes answer
+  pub answers : (id : BlobId) (answer : First) → map.get w.answers id ≡ Some answer
+      → FirstOfBytes answer

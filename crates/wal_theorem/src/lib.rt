@@ -1,5 +1,5 @@
-//! The theorem over every schedule: the rules of frames, blobs, holdings, reads and recoveries have the laws that
-//! the model's safety rests on.
+//! The theorem over every schedule: the rules of frames, blobs, holdings, reads and recoveries have
+//! the laws that the model's safety rests on.
 #![tactic(auto)]
 
 mod laws;

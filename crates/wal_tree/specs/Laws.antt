@@ -24,13 +24,15 @@ byte_at-byte (suc i) n = omega arith
 All-bytes_high_first : (count n : ℕ) → All IsByte (bytes_high_first count n)
 All-bytes_high_first zero n = All-nil IsByte
 All-bytes_high_first (suc count) n =
-    All-cons IsByte (byte_at count n) (bytes_high_first count n) (byte_at-byte count n) (All-bytes_high_first count n)
+    All-cons IsByte (byte_at count n) (bytes_high_first count n)
+    (byte_at-byte count n) (All-bytes_high_first count n)
 
 All-digest_bytes : (h : List ℕ) (n : ℕ) → All IsByte (digest_bytes h n)
 unfolding digest_bytes
 All-digest_bytes h zero = All-nil IsByte
 All-digest_bytes h (suc n) =
-    All-append IsByte (digest_bytes h n) (to_be_bytes w32 (slice_index h n)) (All-digest_bytes h n) (All-bytes_high_first 4 (slice_index h n))
+    All-append IsByte (digest_bytes h n) (to_be_bytes w32 (slice_index h n))
+    (All-digest_bytes h n) (All-bytes_high_first 4 (slice_index h n))
 
 pub sha256_bytes : (text : List ℕ) → All IsByte text → All IsByte (sha256 text)
 unfolding sha256
@@ -40,13 +42,16 @@ chosen : (b : Bool) (x : ℕ) → IsByte x → IsByte (if b then x else 0)
 chosen true x byte = byte
 chosen false x byte = omega arith
 
-lane_sum-byte : (lane position : ℕ) (text : List ℕ) → All IsByte text → lane_sum lane position text < 2 ^ 8
+lane_sum-byte : (lane position : ℕ) (text : List ℕ) → All IsByte text
+    → lane_sum lane position text < 2 ^ 8
 lane_sum-byte lane position [] bytes = omega arith
 lane_sum-byte lane position (x ∷ xs) bytes =
     xor_of_8 (if position % 32 == lane then x else 0) (lane_sum lane (position + 1) xs)
-    (chosen (position % 32 == lane) x (All-head IsByte x xs bytes)) (lane_sum-byte lane (position + 1) xs (All-tail IsByte x xs bytes))
+    (chosen (position % 32 == lane) x (All-head IsByte x xs bytes))
+    (lane_sum-byte lane (position + 1) xs (All-tail IsByte x xs bytes))
 
 pub toy32_bytes : (text : List ℕ) → All IsByte text → All IsByte (toy32 text)
 unfolding toy32
 toy32_bytes text bytes =
-    All-map IsByte (λ (lane : ℕ). lane_sum lane 0 text) (range_with_len 0 32) (λ k d within. lane_sum-byte _ 0 text bytes)
+    All-map IsByte (λ (lane : ℕ). lane_sum lane 0 text)
+    (range_with_len 0 32) (λ k d within. lane_sum-byte _ 0 text bytes)

@@ -36,24 +36,28 @@ path_within digest (suc levels) place (a ∷ (b ∷ more)) =
 unfoldable pub path_of : (List ℕ → List ℕ) → List (List ℕ) → ℕ → List (List ℕ)
 path_of digest entries place = path_within digest (length entries) place entries
 
--- the bytes of the path from the piece at this place to the root over a content of whole pieces of `size`
--- bytes
+-- the bytes of the path from the piece at this place to the root over a content of whole pieces of
+-- `size` bytes
 abbrev pub path_over : (List ℕ → List ℕ) → ℕ → List ℕ → ℕ → List ℕ
-path_over digest size content place = concat (path_of digest (leaves digest (length content / size) size content) place)
+path_over digest size content place =
+    concat (path_of digest (leaves digest (length content / size) size content) place)
 
 -- the entry that these siblings lead to from the entry at this place
 abbrev pub folded : (List ℕ → List ℕ) → ℕ → List ℕ → List (List ℕ) → List ℕ
 folded digest place entry [] = entry
-folded digest place entry (sibling ∷ more) = folded digest (place / 2) (parent digest place entry sibling) more
+folded digest place entry (sibling ∷ more) =
+    folded digest (place / 2) (parent digest place entry sibling) more
 
 -- the bytes of a path lead from the leaf with this content, at this place of `count`, to the root
-pub record IsPathTo (digest : List ℕ → List ℕ) (root : List ℕ) (count place : ℕ) (content path : List ℕ) : Type 0 where
+pub record IsPathTo (digest : List ℕ → List ℕ) (root : List ℕ)
+    (count place : ℕ) (content path : List ℕ) : Type 0 where
   pub within : place < count
   pub long : length path ≡ 32 * height count
   pub leads : folded digest place (leaf digest content) (pieces (height count) 32 path) ≡ root
 
 -- paths lead from these two leaves, at one place of `count`, to one root
-pub record LeadToOneRoot (digest : List ℕ → List ℕ) (count place : ℕ) (leaf_a path_a leaf_b path_b : List ℕ) : Type 0 where
+pub record LeadToOneRoot (digest : List ℕ → List ℕ) (count place : ℕ)
+    (leaf_a path_a leaf_b path_b : List ℕ) : Type 0 where
   pub root : List ℕ
   pub left : IsPathTo digest root count place leaf_a path_a
   pub right : IsPathTo digest root count place leaf_b path_b
@@ -62,24 +66,31 @@ pub record LeadToOneRoot (digest : List ℕ → List ℕ) (count place : ℕ) (l
 
 -- the text whose digest is the parent of the entry at this place and its sibling
 abbrev pub parent_text : ℕ → List ℕ → List ℕ → List ℕ
-parent_text place entry sibling = 1 ∷ (if place % 2 == 0 then entry ++ sibling else sibling ++ entry)
+parent_text place entry sibling =
+    1 ∷ (if place % 2 == 0 then entry ++ sibling else sibling ++ entry)
 
--- of the texts that are digested on the ways up from x and y, at one place and along these siblings, left and right are those of
--- the lowest level at which the digests agree
-abbrev pub MeetAbove : (List ℕ → List ℕ) → ℕ → List ℕ → List (List ℕ) → List ℕ → List (List ℕ) → List ℕ → List ℕ → Type 0
+-- of the texts that are digested on the ways up from x and y, at one place and along these
+-- siblings, left and right are those of the lowest level at which the digests agree
+abbrev pub MeetAbove : (List ℕ → List ℕ) → ℕ → List ℕ → List (List ℕ) → List ℕ → List (List ℕ)
+    → List ℕ → List ℕ → Type 0
 MeetAbove digest place x (s ∷ more_x) y (t ∷ more_y) left right =
     ((digest x ≡ digest y) × (left ≡ x) × (right ≡ y))
     ⊎ ((digest x ≢ digest y)
-    × MeetAbove digest (place / 2) (parent_text place (digest x) s) more_x (parent_text place (digest y) t) more_y left right)
-MeetAbove digest place x siblings_x y siblings_y left right = (digest x ≡ digest y) × (left ≡ x) × (right ≡ y)
+    × MeetAbove digest (place / 2) (parent_text place (digest x) s)
+    more_x (parent_text place (digest y) t) more_y left right)
+MeetAbove digest place x siblings_x y siblings_y left right =
+    (digest x ≡ digest y) × (left ≡ x) × (right ≡ y)
 
--- left and right are the texts of two leaves with these contents, at one place, where their digests agree, and else those of the
--- lowest level of their paths at which the digests agree
-abbrev pub MeetOnPaths : (List ℕ → List ℕ) → ℕ → List ℕ → List ℕ → List ℕ → List ℕ → List ℕ → List ℕ → Type 0
+-- left and right are the texts of two leaves with these contents, at one place, where their digests
+-- agree, and else those of the lowest level of their paths at which the digests agree
+abbrev pub MeetOnPaths : (List ℕ → List ℕ) → ℕ → List ℕ → List ℕ → List ℕ → List ℕ → List ℕ → List ℕ
+    → Type 0
 MeetOnPaths digest place content_a path_a content_b path_b left right =
-    MeetAbove digest place (0 ∷ content_a) (pieces (length path_a / 32) 32 path_a) (0 ∷ content_b) (pieces (length path_b / 32) 32 path_b) left right
+    MeetAbove digest place (0 ∷ content_a) (pieces (length path_a / 32) 32 path_a)
+    (0 ∷ content_b) (pieces (length path_b / 32) 32 path_b) left right
 
--- left and right are the texts in which the paths of the first piece of `size` bytes that differs in two contents meet
+-- left and right are the texts in which the paths of the first piece of `size` bytes that differs
+-- in two contents meet
 abbrev pub MeetInTrees : (List ℕ → List ℕ) → ℕ → List ℕ → List ℕ → List ℕ → List ℕ → Type 0
 MeetInTrees digest size a b left right =
     (place : ℕ) × (place < length a / size) × (take (place * size) a ≡ take (place * size) b)

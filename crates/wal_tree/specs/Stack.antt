@@ -12,7 +12,8 @@ entries (Some a) = a ∷ []
 abbrev pub climb : (List ℕ → List ℕ) → List (Option (List ℕ)) → List (List ℕ) → List ℕ
 climb digest [] coming = root_of digest coming
 climb digest (w ∷ []) coming = root_of digest (entries w ++ coming)
-climb digest (w ∷ (v ∷ more)) coming = climb digest (v ∷ more) (pair_up digest (entries w ++ coming))
+climb digest (w ∷ (v ∷ more)) coming =
+    climb digest (v ∷ more) (pair_up digest (entries w ++ coming))
 
 -- the stack after one more entry, which moves up while its place is taken, as a carry does
 abbrev pub pushed : (List ℕ → List ℕ) → List (Option (List ℕ)) → List ℕ → List (Option (List ℕ))

@@ -1,5 +1,5 @@
--- The stacks of many trees that take their leaves at the same time, one tree for each row: the entries of a level lie in
--- one column, 32 bytes for each row.
+-- The stacks of many trees that take their leaves at the same time, one tree for each row: the
+-- entries of a level lie in one column, 32 bytes for each row.
 use Rattle.std.specs.Prelude.{◌≡◌, ℕ, zero, suc, ◌*◌, List, [], ◌∷◌, ◌++◌, Option, Some, None, drop, map, take}
 use Rattle.wal_tree.specs.Tree.{root_of}
 use Rattle.wal_tree.specs.Stack.{climb}
@@ -34,4 +34,5 @@ HaveLost old new = (count : ℕ) × (new ≡ emptied count old)
 
 -- the stack stands for these entries: with whatever is still to come it has their root
 abbrev pub StandsFor : (List ℕ → List ℕ) → List (Option (List ℕ)) → List (List ℕ) → Type 0
-StandsFor digest stack entries = (coming : List (List ℕ)) → climb digest stack coming ≡ root_of digest (entries ++ coming)
+StandsFor digest stack entries =
+    (coming : List (List ℕ)) → climb digest stack coming ≡ root_of digest (entries ++ coming)

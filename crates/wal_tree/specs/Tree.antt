@@ -1,4 +1,5 @@
--- A binary hash tree over the pieces of a text: its leaves, its levels and its root, over any digest.
+-- A binary hash tree over the pieces of a text: its leaves, its levels and its root, over any
+-- digest.
 use Rattle.std.specs.Prelude.{ℕ, zero, suc, ◌/◌, List, [], ◌∷◌, ◌++◌, length, map, take, drop, replicate}
 
 -- the digest of a leaf with this content
@@ -13,8 +14,8 @@ node digest left right = digest (1 ∷ (left ++ right))
 abbrev pub empty_entry : List ℕ
 empty_entry = replicate 32 0
 
--- the level above these entries: neighbours are paired, the last one of an odd number with the empty
--- entry
+-- the level above these entries: neighbours are paired, the last one of an odd number with the
+-- empty entry
 abbrev pub pair_up : (List ℕ → List ℕ) → List (List ℕ) → List (List ℕ)
 pair_up digest [] = []
 pair_up digest (a ∷ []) = node digest a empty_entry ∷ []

@@ -16,9 +16,9 @@ use wal_shape::{Bytes, Collision, MetaClash, ShortText};
 /// The bytes of a digest.
 const DIGEST: usize = 32;
 
-/// Two texts with one digest, from two different leaves whose paths lead from one place of `count` to
-/// one root: the texts of the leaves, `0x00` and the content, or else those of the lowest nodes above
-/// them whose digests agree.
+/// Two texts with one digest, from two different leaves whose paths lead from one place of `count`
+/// to one root: the texts of the leaves, `0x00` and the content, or else those of the lowest nodes
+/// above them whose digests agree.
 ///
 /// It fails only for want of memory.
 pub fn collide_paths<H: Hash32>(
@@ -34,7 +34,8 @@ pub fn collide_paths<H: Hash32>(
     requires one { LeadToOneRoot H.digest count place leaf_a.now path_a.now leaf_b.now path_b.now }
     requires differ { leaf_a.now ≢ leaf_b.now }
     ensures collision { IfOk result (λ c. IsCollision H.digest c.left c.right) }
-    ensures texts { IfOk result (λ c. MeetOnPaths H.digest place leaf_a.now path_a.now leaf_b.now path_b.now c.left c.right) }
+    ensures texts { IfOk result (λ c.
+        MeetOnPaths H.digest place leaf_a.now path_a.now leaf_b.now path_b.now c.left c.right) }
 {
     let entry_a = leaf_digest::<H>(leaf_a);
     let entry_b = leaf_digest::<H>(leaf_b);
@@ -49,8 +50,8 @@ pub fn collide_paths<H: Hash32>(
     )
 }
 
-/// Two texts with one digest, from two different contents of whole pieces of `size` bytes that have one
-/// length and one root: those that [`collide_paths`] gives at the first piece that differs.
+/// Two texts with one digest, from two different contents of whole pieces of `size` bytes that have
+/// one length and one root: those that [`collide_paths`] gives at the first piece that differs.
 ///
 /// It fails only for want of memory.
 pub fn collide_lists<H: Hash32>(
@@ -115,8 +116,8 @@ pub fn collide_short_lists<H: Hash32>(a: &[u8], b: &[u8], size: u32) -> MetaClas
     collide_nodes::<H>(place, entry_a, entry_b, path_a.bytes(), path_b.bytes())
 }
 
-// The texts of the lowest nodes with one digest above two different entries of one place, whose siblings
-// lead to one root.
+// The texts of the lowest nodes with one digest above two different entries of one place, whose
+// siblings lead to one root.
 fn collide_nodes<H: Hash32>(
     place: u16,
     entry_a: Digest,
@@ -132,7 +133,8 @@ fn collide_nodes<H: Hash32>(
     ensures collision { IsCollision H.digest result.left result.right }
     // From any two texts of which these are the digests.
     ensures texts { (x y : List ℕ) → H.digest x ≡ entry_a → H.digest y ≡ entry_b
-        → MeetAbove H.digest place x (pieces (length path_a.now / 32) 32 path_a.now) y (pieces (length path_b.now / 32) 32 path_b.now) result.left result.right }
+        → MeetAbove H.digest place x (pieces (length path_a.now / 32) 32 path_a.now)
+        y (pieces (length path_b.now / 32) 32 path_b.now) result.left result.right }
 {
     let (sibling_a, rest_a) = path_a.split_at(DIGEST);
     let (sibling_b, rest_b) = path_b.split_at(DIGEST);
@@ -177,7 +179,8 @@ fn first_apart(a: &[u8], b: &[u8], size: u32) -> u16
     requires differ { a.now ≢ b.now }
     ensures place { result < length a.now / size }
     ensures first { take (result * size) a.now ≡ take (result * size) b.now }
-    ensures apart { take size (drop (result * size) a.now) ≢ take size (drop (result * size) b.now) }
+    ensures apart { take size (drop (result * size) a.now)
+        ≢ take size (drop (result * size) b.now) }
 {
     for place in 0..count_of(a, size) {
         if piece_at(a, size, place) != piece_at(b, size, place) {

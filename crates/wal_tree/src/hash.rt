@@ -22,7 +22,8 @@ pub trait Hash32 {
     fn hash3(a: &[u8], b: &[u8], c: &[u8]) -> Digest
         ensures { result ≡ digest (a.now ++ b.now ++ c.now) };
 
-    /// The digests of equally long pieces of a content, each behind a prefix byte, one after the other.
+    /// The digests of equally long pieces of a content, each behind a prefix byte, one after the
+    /// other.
     fn digest_pieces(prefix: u8, content: &[u8], size: usize, out: &mut [u8])
         requires some { 1 ≤ size }
         requires whole { length content.now ≡ length content.now / size * size }
@@ -36,8 +37,9 @@ pub trait Hash32 {
         }
     }
 
-    /// The digests of pieces that come strip by strip, each behind a prefix byte, one after the other. A strip has at most
-    /// `width` bytes of each. Where memory is wanted, nothing is said of `out`.
+    /// The digests of pieces that come strip by strip, each behind a prefix byte, one after the
+    /// other. A strip has at most `width` bytes of each. Where memory is wanted, nothing is said of
+    /// `out`.
     fn digest_strips<P: Pieces>(
         alloc: Global,
         prefix: u8,
@@ -58,7 +60,8 @@ pub trait Hash32 {
         requires small { size < 2 ^ 31 }
         requires room { length out.old ≡ count * 32 }
         ensures same { pieces.new ≡ pieces.old }
-        ensures digests { OnOk result (AreDigestsOf digest prefix (P.has pieces.old) count out.new) }
+        ensures digests { OnOk result
+            (AreDigestsOf digest prefix (P.has pieces.old) count out.new) }
     {
         // One strip of all: another digest takes the pieces whole.
         let mut whole = vec![in alloc; 0u8; count * size]?;
@@ -135,7 +138,8 @@ impl Hash32 for Toy32 {
 // lane the next text begins.
 fn add_to_lanes(sums: &mut Digest, start: usize, text: &[u8]) -> usize
     requires { start < 32 }
-    ensures lanes { (k : ℕ) → k < 32 → slice_index sums.new k ≡ bit_xor (slice_index sums.old k) (lane_sum k start text.now) }
+    ensures lanes { (k : ℕ) → k < 32
+        → slice_index sums.new k ≡ bit_xor (slice_index sums.old k) (lane_sum k start text.now) }
     ensures next { result ≡ (start + length text.now) % 32 }
 {
     for (index, byte) in text.iter().enumerate() {

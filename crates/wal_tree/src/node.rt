@@ -6,7 +6,8 @@ use crate::hash::{Digest, Hash32};
 /// The entry that completes a level of odd length.
 pub const EMPTY: Digest = [0; 32];
 
-/// The digest of the leaf with this content: that of `0x00` and the content (RFC 6962, section 2.1).
+/// The digest of the leaf with this content: that of `0x00` and the content (RFC 6962, section
+/// 2.1).
 pub fn leaf_digest<H: Hash32>(content: &[u8]) -> Digest
     ensures { result ≡ leaf H.digest content.now }
 {

@@ -7,8 +7,8 @@ use crate::parts::put;
 use crate::stack::Stack;
 use crate::upwards::{put_leaves, root_above};
 
-// A tree with fewer leaves is made one leaf after the other: so few do not fill the lanes of a digest of
-// many.
+// A tree with fewer leaves is made one leaf after the other: so few do not fill the lanes of a
+// digest of many.
 const FEW: usize = 4;
 
 // A tree of at most so many leaves is made in little room, which is soon cleared.
@@ -24,12 +24,13 @@ const LARGE_LEVEL: usize = 32_000;
 
 const LARGE_ABOVE: usize = 16_000;
 
-/// The root of the tree whose leaves are the pieces of `size` bytes of the content, level by level and
-/// with no memory.
+/// The root of the tree whose leaves are the pieces of `size` bytes of the content, level by level
+/// and with no memory.
 ///
-/// A leaf has the digest of `0x00` and its piece, an inner node that of `0x01` and its two children.
-/// A level of odd length above one is completed with one entry of 32 zero bytes, and the root of one
-/// leaf is that leaf's digest. The tree is that of Merkle, "A Digital Signature Based on a
+/// A leaf has the digest of `0x00` and its piece, an inner node that of `0x01` and its two
+/// children.
+/// A level of odd length above one is completed with one entry of 32 zero bytes, and the root of
+/// one leaf is that leaf's digest. The tree is that of Merkle, "A Digital Signature Based on a
 /// Conventional Encryption Function" (1987), with the prefixes of RFC 6962, section 2.1.
 pub fn root<H: Hash32>(content: &[u8], size: u32) -> Digest
     requires piece { 1 ≤ size }
@@ -85,8 +86,8 @@ fn root_in_room<H: Hash32, const LEVEL: usize, const ABOVE: usize>(
     root_above::<H>(&mut level, &mut above, content.len() / size)
 }
 
-/// The root of the tree over these leaf digests, which lie one after the other, 32 bytes each: the tree
-/// that [`root`] describes, level by level and with no memory.
+/// The root of the tree over these leaf digests, which lie one after the other, 32 bytes each: the
+/// tree that [`root`] describes, level by level and with no memory.
 pub fn root_of_leaves<H: Hash32>(digests: &[u8]) -> Digest
     requires whole { length digests.now % 32 ≡ 0 }
     requires some { 32 ≤ length digests.now }

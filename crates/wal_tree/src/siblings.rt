@@ -17,7 +17,8 @@ pub fn path<H: Hash32>(content: &[u8], size: u32, place: u16, out: &mut PathBuf)
     requires within { length content.now ≤ 1000 * size }
     requires place { place < length content.now / size }
     ensures siblings { out.new ≡ path_over H.digest size content.now place }
-    ensures holds { IsPathTo H.digest (root_over H.digest size content.now) (length content.now / size) place (take size (drop (place * size) content.now)) out.new }
+    ensures holds { IsPathTo H.digest (root_over H.digest size content.now)
+        (length content.now / size) place (take size (drop (place * size) content.now)) out.new }
 {
     out.clear();
     let size = size as usize;
@@ -32,13 +33,14 @@ pub fn path<H: Hash32>(content: &[u8], size: u32, place: u16, out: &mut PathBuf)
     }
 }
 
-// The entry at this index of a level, or the empty entry past its end. It computes what stands below
-// the entry and no more.
+// The entry at this index of a level, or the empty entry past its end. It computes what stands
+// below the entry and no more.
 fn entry<H: Hash32>(content: &[u8], size: usize, level: usize, index: usize) -> Digest
     requires piece { 1 ≤ size }
     requires within { length content.now / size ≤ 1000 }
     ensures { let count = length content.now / size in
-        result ≡ slice_index_or (level_above H.digest level (leaves H.digest count size content.now)) index empty_entry }
+        result ≡ slice_index_or
+        (level_above H.digest level (leaves H.digest count size content.now)) index empty_entry }
 {
     if index >= width_above(content.len() / size, level) {
         return EMPTY;

@@ -1,4 +1,5 @@
-//! Many trees of one shape, built at once while their leaves come in order, a column of leaves at a time.
+//! Many trees of one shape, built at once while their leaves come in order, a column of leaves at a
+//! time.
 
 ghost use Rattle.std.specs.Prelude.{◌≡◌, ℕ, ◌+◌, ◌*◌, ◌<◌, ◌≤◌, [], ◌∷◌, ◌++◌, List, None, All, IfOk, OnOk, OnErr, length, map, slice_index_or, take, drop};
 ghost use Rattle.wal_lanes.specs.inside.Lanes.{put_at};
@@ -14,8 +15,8 @@ use crate::stack::{above, last};
 use std::alloc::{AllocError, Global};
 use std::marker::Model;
 
-/// The trees of many rows, each as the stack of the entries that are still to be joined: one column for each level, lowest
-/// first, with the entries of all rows.
+/// The trees of many rows, each as the stack of the entries that are still to be joined: one column
+/// for each level, lowest first, with the entries of all rows.
 #[derive(Drop)]
 pub struct Stacks {
     rows: usize,
@@ -31,7 +32,8 @@ impl Model for Stacks {
 
     ghost view = { λ s. record { rows = s.rows; levels = map column_bytes s.levels.items } };
 
-    ghost invariant = { λ s. (s.rows ≤ 1000) × All (HasRows s.rows) (map column_bytes s.levels.items) };
+    ghost invariant = { λ s. (s.rows ≤ 1000)
+        × All (HasRows s.rows) (map column_bytes s.levels.items) };
 }
 
 impl Stacks {
@@ -39,7 +41,8 @@ impl Stacks {
     pub fn new(alloc: Global, rows: u16) -> Stacks
         requires few { rows ≤ 1000 }
         ensures rows { result.rows ≡ rows }
-        ensures empty { (digest : List ℕ → List ℕ) (r : ℕ) → StandsFor digest (row_stack r result.levels) [] }
+        ensures empty { (digest : List ℕ → List ℕ) (r : ℕ)
+            → StandsFor digest (row_stack r result.levels) [] }
     {
         Stacks {
             rows: rows as usize,
@@ -47,14 +50,15 @@ impl Stacks {
         }
     }
 
-    /// Takes the digests of the next leaf of each row. After want of memory some of the lowest levels are lost, and the
-    /// trees stand for nothing any more.
+    /// Takes the digests of the next leaf of each row. After want of memory some of the lowest
+    /// levels are lost, and the trees stand for nothing any more.
     pub fn push<H: Hash32>(&mut self, alloc: Global, column: Vec<u8>) -> Result<(), AllocError>
         requires long { length column.items ≡ self.old.rows * 32 }
         ensures rows { self.new.rows ≡ self.old.rows }
         ensures pushed { OnOk result ((r : ℕ) (entries : List (List ℕ)) → r < self.old.rows
             → StandsFor H.digest (row_stack r self.old.levels) entries
-            → StandsFor H.digest (row_stack r self.new.levels) (entries ++ entry_of r column.items ∷ [])) }
+            → StandsFor H.digest (row_stack r self.new.levels)
+            (entries ++ entry_of r column.items ∷ [])) }
         ensures lost { OnErr result (HaveLost self.old.levels self.new.levels) }
     {
         carry::<H>(alloc, self.rows, &mut self.levels, column)
@@ -63,7 +67,9 @@ impl Stacks {
     /// The root over the leaves of a row that have come.
     pub fn root<H: Hash32>(&self, row: u16) -> Digest
         requires row { row < self.now.rows }
-        ensures { (entries : List (List ℕ)) → StandsFor H.digest (row_stack row self.now.levels) entries → result ≡ root_of H.digest entries }
+        ensures { (entries : List (List ℕ))
+            → StandsFor H.digest (row_stack row self.now.levels) entries
+            → result ≡ root_of H.digest entries }
     {
         fold_columns::<H>(&self.levels, self.rows, row as usize)
     }
@@ -81,8 +87,11 @@ fn carry<H: Hash32>(
     requires levels { All (HasRows rows) (map column_bytes levels.old.items) }
     ensures levels { All (HasRows rows) (map column_bytes levels.new.items) }
     ensures pushed { OnOk result ((r : ℕ) → r < rows
-        → row_stack r (map column_bytes levels.new.items) ≡ pushed H.digest (row_stack r (map column_bytes levels.old.items)) (entry_of r column.items)) }
-    ensures lost { OnErr result (HaveLost (map column_bytes levels.old.items) (map column_bytes levels.new.items)) }
+        → row_stack r (map column_bytes levels.new.items)
+        ≡ pushed H.digest (row_stack r (map column_bytes levels.old.items))
+        (entry_of r column.items)) }
+    ensures lost { OnErr result
+        (HaveLost (map column_bytes levels.old.items) (map column_bytes levels.new.items)) }
 {
     let mut entry = column;
     for level in 0..levels.len() {
@@ -126,7 +135,8 @@ fn interleave(left: &[u8], right: &[u8], rows: usize, pairs: &mut [u8])
     requires right { length right.now ≡ rows * 32 }
     requires room { length pairs.old ≡ rows * 64 }
     ensures room { length pairs.new ≡ rows * 64 }
-    ensures pairs { (r : ℕ) → r < rows → take 64 (drop (r * 64) pairs.new) ≡ entry_of r left.now ++ entry_of r right.now }
+    ensures pairs { (r : ℕ) → r < rows
+        → take 64 (drop (r * 64) pairs.new) ≡ entry_of r left.now ++ entry_of r right.now }
 {
     for row in 0..rows {
         put_pair(left, right, row, pairs);
@@ -138,7 +148,8 @@ fn put_pair(left: &[u8], right: &[u8], row: usize, pairs: &mut [u8])
     requires left { row * 32 + 32 ≤ length left.now }
     requires right { row * 32 + 32 ≤ length right.now }
     requires room { row * 64 + 64 ≤ length pairs.old }
-    ensures { pairs.new ≡ put_at (row * 64) pairs.old (entry_of row left.now ++ entry_of row right.now) }
+    ensures { pairs.new
+        ≡ put_at (row * 64) pairs.old (entry_of row left.now ++ entry_of row right.now) }
 {
     put(pairs, row * 64, piece_at(left, 32, row));
     put(pairs, row * 64 + 32, piece_at(right, 32, row));

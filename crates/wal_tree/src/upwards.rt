@@ -11,7 +11,9 @@ fn complete(level: &mut [u8], width: usize) -> usize
     requires room { (width + 1) / 2 * 64 ≤ length level.old }
     ensures pairs { result ≡ (width + 1) / 2 }
     ensures room { length level.new ≡ length level.old }
-    ensures same { (digest : List ℕ → List ℕ) → pair_up digest (pieces (2 * result) 32 level.new) ≡ pair_up digest (pieces width 32 level.old) }
+    ensures same { (digest : List ℕ → List ℕ)
+        → pair_up digest (pieces (2 * result) 32 level.new)
+        ≡ pair_up digest (pieces width 32 level.old) }
 {
     if width % 2 == 0 {
         return width / 2;
@@ -25,7 +27,8 @@ fn join_pairs<H: Hash32>(level: &[u8], above: &mut [u8], pairs: usize)
     requires level { length level.now ≡ pairs * 64 }
     requires above { length above.old ≡ pairs * 32 }
     ensures room { length above.new ≡ pairs * 32 }
-    ensures joined { pieces pairs 32 above.new ≡ pair_up H.digest (pieces (2 * pairs) 32 level.now) }
+    ensures joined { pieces pairs 32 above.new
+        ≡ pair_up H.digest (pieces (2 * pairs) 32 level.now) }
 {
     H::digest_pieces(1, level, 64, above);
 }
@@ -47,8 +50,8 @@ fn go_up<H: Hash32>(level: &mut [u8], room: &mut [u8], width: usize) -> usize
     pairs
 }
 
-/// The root over the entries that a level begins with. It changes them, and needs room for the level
-/// above.
+/// The root over the entries that a level begins with. It changes them, and needs room for the
+/// level above.
 pub fn root_above<H: Hash32>(level: &mut [u8], room: &mut [u8], count: usize) -> Digest
     requires some { 1 ≤ count }
     requires few { count ≤ 1000 }
@@ -79,7 +82,8 @@ pub fn put_leaves<H: Hash32>(content: &[u8], size: usize, level: &mut [u8])
     requires whole { length content.now ≡ length content.now / size * size }
     requires room { length content.now / size * 32 ≤ length level.old }
     ensures room { length level.new ≡ length level.old }
-    ensures leaves { pieces (length content.now / size) 32 level.new ≡ leaves H.digest (length content.now / size) size content.now }
+    ensures leaves { pieces (length content.now / size) 32 level.new
+        ≡ leaves H.digest (length content.now / size) size content.now }
 {
     let front = &mut level[..content.len() / size * 32];
     H::digest_pieces(0, content, size, front);

@@ -19,7 +19,8 @@ abbrev pub program : App
 program =
     with_rule (with_rule (with_rule (with_rule
     (on_top (λ s. record s { no_binary_name = true }) (new_app (codes "walrus")))
-    values_rule) (option_rule (codes "blobs"))) (option_rule (codes "pages"))) (option_rule (codes "format"))
+    values_rule) (option_rule (codes "blobs"))) (option_rule (codes "pages")))
+    (option_rule (codes "format"))
 
 -- the values, in order
 abbrev pub values_in : List Text → List Text

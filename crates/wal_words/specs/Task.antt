@@ -45,26 +45,43 @@ pub record IsAudit (word place beacon amount : List ℕ) (audit : Audit) : Type 
 
 -- the values ask for this task, which takes what it wants of the options: a row for each command
 pub data IsRow (options : Options) : List (List ℕ) → Task → Type 0 where
-  identify : (word : List ℕ) (f : ℕ) → IsNumber 1 333 word f → IsRow options (codes "id" ∷ word ∷ []) (Whole (Identify f options.format))
-  encode : (word : List ℕ) (f : ℕ) → IsNumber 1 333 word f → IsRow options (codes "encode" ∷ word ∷ []) (Whole (Encode f options.format))
-  read : (word : List ℕ) (id : BlobId) → IsIdentifier word id.0 → IsRow options (codes "read" ∷ word ∷ []) (Read id)
-  recover : (word direction place : List ℕ) (id : BlobId) (axis : Axis) (index : ℕ) → IsIdentifier word id.0 → IsAxis direction axis
-      → IsNumber 0 999 place index → IsRow options (codes "recover" ∷ word ∷ direction ∷ place ∷ []) (Whole (Recover id axis index))
-  check : (word : List ℕ) (id : BlobId) → IsIdentifier word id.0 → IsRow options (codes "check" ∷ word ∷ []) (Whole (Check id))
-  serve : (word place : List ℕ) (f shard : ℕ) → IsNumber 1 333 word f → IsNumber 0 (3 * f) place shard
-      → IsRow options (codes "serve" ∷ word ∷ place ∷ []) (Serve (record { faults = f; shard = shard; blobs = options.blobs; pages = options.pages }))
+  identify : (word : List ℕ) (f : ℕ) → IsNumber 1 333 word f
+      → IsRow options (codes "id" ∷ word ∷ []) (Whole (Identify f options.format))
+  encode : (word : List ℕ) (f : ℕ) → IsNumber 1 333 word f
+      → IsRow options (codes "encode" ∷ word ∷ []) (Whole (Encode f options.format))
+  read : (word : List ℕ) (id : BlobId) → IsIdentifier word id.0
+      → IsRow options (codes "read" ∷ word ∷ []) (Read id)
+  recover : (word direction place : List ℕ) (id : BlobId) (axis : Axis) (index : ℕ)
+      → IsIdentifier word id.0 → IsAxis direction axis
+      → IsNumber 0 999 place index
+      → IsRow options (codes "recover" ∷ word ∷ direction ∷ place ∷ [])
+      (Whole (Recover id axis index))
+  check : (word : List ℕ) (id : BlobId) → IsIdentifier word id.0
+      → IsRow options (codes "check" ∷ word ∷ []) (Whole (Check id))
+  serve : (word place : List ℕ) (f shard : ℕ) → IsNumber 1 333 word f
+      → IsNumber 0 (3 * f) place shard
+      → IsRow options (codes "serve" ∷ word ∷ place ∷ [])
+      (Serve (record { faults = f; shard = shard; blobs = options.blobs; pages = options.pages }))
   replay : IsRow options (codes "replay" ∷ []) (Whole Replay)
-  sample : (word : List ℕ) (number : ℕ) → IsNumber 0 18446744073709551615 word number → IsRow options (codes "sample" ∷ word ∷ []) (Sample number)
-  image : (word : List ℕ) (size : ℕ) → IsNumber 1 134217728 word size → IsRow options (codes "image" ∷ word ∷ []) (Whole (Image size))
+  sample : (word : List ℕ) (number : ℕ) → IsNumber 0 18446744073709551615 word number
+      → IsRow options (codes "sample" ∷ word ∷ []) (Sample number)
+  image : (word : List ℕ) (size : ℕ) → IsNumber 1 134217728 word size
+      → IsRow options (codes "image" ∷ word ∷ []) (Whole (Image size))
   unpack : IsRow options (codes "unpack" ∷ []) (Whole Unpack)
-  bundle : (word : List ℕ) (f : ℕ) → IsNumber 1 333 word f → IsRow options (codes "bundle" ∷ word ∷ []) (Whole (Bundle f))
-  member : (word place : List ℕ) (id : BlobId) (number : ℕ) → IsIdentifier word id.0 → IsNumber 0 65535 place number
+  bundle : (word : List ℕ) (f : ℕ) → IsNumber 1 333 word f
+      → IsRow options (codes "bundle" ∷ word ∷ []) (Whole (Bundle f))
+  member : (word place : List ℕ) (id : BlobId) (number : ℕ) → IsIdentifier word id.0
+      → IsNumber 0 65535 place number
       → IsRow options (codes "member" ∷ word ∷ place ∷ []) (Whole (Member id number))
-  challenge : (word place beacon amount : List ℕ) (audit : Audit) → IsAudit word place beacon amount audit
-      → IsRow options (codes "challenge" ∷ word ∷ place ∷ beacon ∷ amount ∷ []) (Whole (Challenge audit))
-  verify : (word place beacon amount : List ℕ) (audit : Audit) → IsAudit word place beacon amount audit
+  challenge : (word place beacon amount : List ℕ) (audit : Audit)
+      → IsAudit word place beacon amount audit
+      → IsRow options (codes "challenge" ∷ word ∷ place ∷ beacon ∷ amount ∷ [])
+      (Whole (Challenge audit))
+  verify : (word place beacon amount : List ℕ) (audit : Audit)
+      → IsAudit word place beacon amount audit
       → IsRow options (codes "verify" ∷ word ∷ place ∷ beacon ∷ amount ∷ []) (Whole (Verify audit))
-  gateway : (word : List ℕ) (capacity : ℕ) → IsNumber 1 64 word capacity → IsRow options (codes "gateway" ∷ word ∷ []) (Whole (Gateway capacity))
+  gateway : (word : List ℕ) (capacity : ℕ) → IsNumber 1 64 word capacity
+      → IsRow options (codes "gateway" ∷ word ∷ []) (Whole (Gateway capacity))
 
 -- an option's number, in its range where it is given
 abbrev pub HasNumber : ℕ → ℕ → ℕ → Option (List ℕ) → ℕ → Type 0
@@ -76,14 +93,16 @@ abbrev pub HasFormat : Option (List ℕ) → Format → Type 0
 HasFormat None format = format ≡ One
 HasFormat (Some word) format = IsFormat word format
 
--- the options that are given, each in its range: 1,024 blobs, 16,384 pages and the first format where they are not
+-- the options that are given, each in its range: 1,024 blobs, 16,384 pages and the first format
+-- where they are not
 pub record HasOptions (blobs pages format : Option (List ℕ)) (options : Options) : Type 0 where
   pub blob_count : HasNumber 1024 1 65536 blobs options.blobs
   pub page_count : HasNumber 16384 1 262144 pages options.pages
   pub identifier_format : HasFormat format options.format
 
 -- the values ask for this task, with options that are in range
-pub record Asks (values : List (List ℕ)) (blobs pages format : Option (List ℕ)) (task : Task) : Type 0 where
+pub record Asks (values : List (List ℕ))
+    (blobs pages format : Option (List ℕ)) (task : Task) : Type 0 where
   pub options : Options
   pub has_options : HasOptions blobs pages format options
   pub row : IsRow options values task
@@ -91,7 +110,8 @@ pub record Asks (values : List (List ℕ)) (blobs pages format : Option (List �
 -- clap finds no fault in the words, and its values and options ask for this task
 pub record IsTask (words : List (List ℕ)) (task : Task) : Type 0 where
   pub accepted : fault_of program words ≡ []
-  pub asks : Asks (values_in words) (option_in (codes "blobs") words) (option_in (codes "pages") words) (option_in (codes "format") words) task
+  pub asks : Asks (values_in words) (option_in (codes "blobs") words)
+      (option_in (codes "pages") words) (option_in (codes "format") words) task
 
 -- the words ask for nothing
 abbrev pub NoTask : List (List ℕ) → Type 0

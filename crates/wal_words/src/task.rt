@@ -51,13 +51,15 @@ pub enum WholeTask {
     Identify(u32, Format),
     /// Write the metadata and all slivers of the blob that is read.
     Encode(u32, Format),
-    /// Write the sliver of this axis and index, or a proof that it was encoded badly, from openings.
+    /// Write the sliver of this axis and index, or a proof that it was encoded badly, from
+    /// openings.
     Recover(BlobId, Axis, u16),
     /// Say what the first proof of this identifier shows.
     Check(BlobId),
     /// Write the report of the schedule that is read.
     Replay,
-    /// Write the image of a disk of this many bytes, with the envelopes that are read as its records.
+    /// Write the image of a disk of this many bytes, with the envelopes that are read as its
+    /// records.
     Image(u32),
     /// Write a line for each part that the image of a disk has, which is read.
     Unpack,
@@ -96,8 +98,10 @@ pub(crate) struct Options {
 
 /// The number of an option, where it is in its range.
 fn option_number(given: Option<&str>, missing: u32, least: u32, most: u32) -> Option<u32>
-    ensures found { IfSome result (λ n. HasNumber missing least most (option_map (λ w. w.now) given.entry) n) }
-    ensures none { IfNone result ((n : ℕ) → HasNumber missing least most (option_map (λ w. w.now) given.entry) n → ⊥) }
+    ensures found { IfSome result
+        (λ n. HasNumber missing least most (option_map (λ w. w.now) given.entry) n) }
+    ensures none { IfNone result
+        ((n : ℕ) → HasNumber missing least most (option_map (λ w. w.now) given.entry) n → ⊥) }
 {
     match given {
         None => Some(missing),
@@ -107,8 +111,10 @@ fn option_number(given: Option<&str>, missing: u32, least: u32, most: u32) -> Op
 
 /// The format of an option.
 fn option_format(given: Option<&str>) -> Option<Format>
-    ensures found { IfSome result (λ format. HasFormat (option_map (λ w. w.now) given.entry) format) }
-    ensures none { IfNone result ((format : Format) → HasFormat (option_map (λ w. w.now) given.entry) format → ⊥) }
+    ensures found { IfSome result
+        (λ format. HasFormat (option_map (λ w. w.now) given.entry) format) }
+    ensures none { IfNone result
+        ((format : Format) → HasFormat (option_map (λ w. w.now) given.entry) format → ⊥) }
 {
     match given {
         None => Some(Format::One),
@@ -118,8 +124,14 @@ fn option_format(given: Option<&str>) -> Option<Format>
 
 /// The options, where each is in its range.
 fn options_of(matches: &ArgMatches<'_>) -> Option<Options>
-    ensures found { IfSome result (HasOptions (first_value (found_of matches.now) (codes "blobs")) (first_value (found_of matches.now) (codes "pages")) (first_value (found_of matches.now) (codes "format"))) }
-    ensures none { IfNone result ((o : Options) → HasOptions (first_value (found_of matches.now) (codes "blobs")) (first_value (found_of matches.now) (codes "pages")) (first_value (found_of matches.now) (codes "format")) o → ⊥) }
+    ensures found { IfSome result (HasOptions (first_value (found_of matches.now) (codes "blobs"))
+        (first_value (found_of matches.now) (codes "pages"))
+        (first_value (found_of matches.now) (codes "format"))) }
+    ensures none { IfNone result ((o : Options)
+        → HasOptions (first_value (found_of matches.now) (codes "blobs"))
+        (first_value (found_of matches.now) (codes "pages"))
+        (first_value (found_of matches.now) (codes "format")) o
+        → ⊥) }
 {
     let blobs = option_number(matches.get_str("blobs"), 1024, 1, 65_536)?;
     let pages = option_number(matches.get_str("pages"), 16_384, 1, 262_144)?;
@@ -146,7 +158,8 @@ fn single_task(command: &str, options: &Options) -> Option<Task>
 /// The task of two values.
 fn pair_task(command: &str, value: &str, options: &Options) -> Option<Task>
     ensures found { IfSome result (λ t. IsRow options.now (command.now ∷ value.now ∷ []) t) }
-    ensures none { IfNone result ((t : Task) → IsRow options.now (command.now ∷ value.now ∷ []) t → ⊥) }
+    ensures none { IfNone result
+        ((t : Task) → IsRow options.now (command.now ∷ value.now ∷ []) t → ⊥) }
 {
     match command {
         "id" => Some(Task::Whole(WholeTask::Identify(read_small(value, 1, 333)?, options.format))),
@@ -166,8 +179,10 @@ fn pair_task(command: &str, value: &str, options: &Options) -> Option<Task>
 
 /// The task of three values.
 fn triple_task(command: &str, first: &str, second: &str, options: &Options) -> Option<Task>
-    ensures found { IfSome result (λ t. IsRow options.now (command.now ∷ first.now ∷ second.now ∷ []) t) }
-    ensures none { IfNone result ((t : Task) → IsRow options.now (command.now ∷ first.now ∷ second.now ∷ []) t → ⊥) }
+    ensures found { IfSome result
+        (λ t. IsRow options.now (command.now ∷ first.now ∷ second.now ∷ []) t) }
+    ensures none { IfNone result
+        ((t : Task) → IsRow options.now (command.now ∷ first.now ∷ second.now ∷ []) t → ⊥) }
 {
     match command {
         "serve" => serve_task(first, second, options),
@@ -178,8 +193,10 @@ fn triple_task(command: &str, first: &str, second: &str, options: &Options) -> O
 
 /// The task of a shard that serves.
 fn serve_task(first: &str, second: &str, options: &Options) -> Option<Task>
-    ensures found { IfSome result (λ t. IsRow options.now (codes "serve" ∷ first.now ∷ second.now ∷ []) t) }
-    ensures none { IfNone result ((t : Task) → IsRow options.now (codes "serve" ∷ first.now ∷ second.now ∷ []) t → ⊥) }
+    ensures found { IfSome result
+        (λ t. IsRow options.now (codes "serve" ∷ first.now ∷ second.now ∷ []) t) }
+    ensures none { IfNone result
+        ((t : Task) → IsRow options.now (codes "serve" ∷ first.now ∷ second.now ∷ []) t → ⊥) }
 {
     let faults = read_small(first, 1, 333)?;
     let shard = read_short(second, 0, 3 * faults as u16)?;
@@ -193,8 +210,10 @@ fn serve_task(first: &str, second: &str, options: &Options) -> Option<Task>
 
 /// The task of a bundle's member.
 fn member_task(first: &str, second: &str, options: &Options) -> Option<Task>
-    ensures found { IfSome result (λ t. IsRow options.now (codes "member" ∷ first.now ∷ second.now ∷ []) t) }
-    ensures none { IfNone result ((t : Task) → IsRow options.now (codes "member" ∷ first.now ∷ second.now ∷ []) t → ⊥) }
+    ensures found { IfSome result
+        (λ t. IsRow options.now (codes "member" ∷ first.now ∷ second.now ∷ []) t) }
+    ensures none { IfNone result
+        ((t : Task) → IsRow options.now (codes "member" ∷ first.now ∷ second.now ∷ []) t → ⊥) }
 {
     let id = read_identifier(first)?;
     let number = read_short(second, 0, u16::MAX)?;
@@ -209,8 +228,10 @@ fn quadruple_task(
     third: &str,
     options: &Options,
 ) -> Option<Task>
-    ensures found { IfSome result (λ t. IsRow options.now (command.now ∷ first.now ∷ second.now ∷ third.now ∷ []) t) }
-    ensures none { IfNone result ((t : Task) → IsRow options.now (command.now ∷ first.now ∷ second.now ∷ third.now ∷ []) t → ⊥) }
+    ensures found { IfSome result
+        (λ t. IsRow options.now (command.now ∷ first.now ∷ second.now ∷ third.now ∷ []) t) }
+    ensures none { IfNone result ((t : Task)
+        → IsRow options.now (command.now ∷ first.now ∷ second.now ∷ third.now ∷ []) t → ⊥) }
 {
     if command != "recover" {
         return None;
@@ -224,7 +245,8 @@ fn quadruple_task(
 /// The storage challenge that the four values name.
 fn read_audit(first: &str, second: &str, third: &str, fourth: &str) -> Option<Audit>
     ensures found { IfSome result (IsAudit first.now second.now third.now fourth.now) }
-    ensures none { IfNone result ((a : Audit) → IsAudit first.now second.now third.now fourth.now a → ⊥) }
+    ensures none { IfNone result
+        ((a : Audit) → IsAudit first.now second.now third.now fourth.now a → ⊥) }
 {
     let id = read_identifier(first)?;
     let shard = read_short(second, 0, 999)?;
@@ -247,8 +269,11 @@ fn quintuple_task(
     fourth: &str,
     options: &Options,
 ) -> Option<Task>
-    ensures found { IfSome result (λ t. IsRow options.now (command.now ∷ first.now ∷ second.now ∷ third.now ∷ fourth.now ∷ []) t) }
-    ensures none { IfNone result ((t : Task) → IsRow options.now (command.now ∷ first.now ∷ second.now ∷ third.now ∷ fourth.now ∷ []) t → ⊥) }
+    ensures found { IfSome result (λ t.
+        IsRow options.now (command.now ∷ first.now ∷ second.now ∷ third.now ∷ fourth.now ∷ []) t) }
+    ensures none { IfNone result ((t : Task)
+        → IsRow options.now (command.now ∷ first.now ∷ second.now ∷ third.now ∷ fourth.now ∷ []) t
+        → ⊥) }
 {
     match command {
         "challenge" => Some(Task::Whole(WholeTask::Challenge(read_audit(
@@ -262,7 +287,8 @@ fn quintuple_task(
 /// The task that the values ask for.
 fn task_of(values: &[&str], options: &Options) -> Option<Task>
     ensures found { IfSome result (λ t. IsRow options.now (map (λ v. v.now) values.now) t) }
-    ensures none { IfNone result ((t : Task) → IsRow options.now (map (λ v. v.now) values.now) t → ⊥) }
+    ensures none { IfNone result
+        ((t : Task) → IsRow options.now (map (λ v. v.now) values.now) t → ⊥) }
 {
     match values {
         [command] => single_task(command, options),
@@ -286,12 +312,14 @@ fn task_in(matches: &ArgMatches<'_>) -> Option<Task>
     task_of(values, &options)
 }
 
-/// The task that the words ask for, the program's own name left out: `None` where they ask for nothing.
+/// The task that the words ask for, the program's own name left out: `None` where they ask for
+/// nothing.
 pub fn read_task(alloc: Global, words: &Vec<String>) -> Result<Option<Task>, AllocError>
     ensures found { IfOk result (λ o. IfSome o (λ t. IsTask (map string_bytes words.now.items) t)) }
     ensures none { IfOk result (λ o. IfNone o (NoTask (map string_bytes words.now.items))) }
     // Words ask for one task.
-    ensures only { IfOk result (λ o. IfSome o (λ t. (other : Task) → IsTask (map string_bytes words.now.items) other → other ≡ t)) }
+    ensures only { IfOk result (λ o. IfSome o (λ t. (other : Task)
+        → IsTask (map string_bytes words.now.items) other → other ≡ t)) }
 {
     let command = command(alloc)?;
     match command.try_get_matches_from(words.as_slice()) {

@@ -13,12 +13,21 @@ use Rattle.wal_world.specs.declared.run.ReplayError.{ReplayError}
 use Rattle.wal_world.specs.declared.run.ReplayError.TheVariants as failing
 
 -- how a replay ends, by what was appended to the sink
-abbrev pub Replays : (List ℕ → List ℕ) → Schedule → Option (List ℕ) → Option (List ℕ) → Type 0 → Result ReplayEnd ReplayError → Type 0
+abbrev pub Replays : (List ℕ → List ℕ) → Schedule → Option (List ℕ) → Option (List ℕ) → Type 0
+    → Result ReplayEnd ReplayError → Type 0
 -- the lines of the schedule, none of which is a collision
-Replays digest schedule old new SinkRose (Ok ending.Whole) = (lines : List Line) × AreLines digest schedule lines × GoesOn lines × Appends old new (report_of lines)
+Replays digest schedule old new SinkRose (Ok ending.Whole) =
+    (lines : List Line) × AreLines digest schedule lines × GoesOn lines
+    × Appends old new (report_of lines)
 -- its lines up to a collision
-Replays digest schedule old new SinkRose (Ok ending.Collision) = (lines : List Line) × AreLines digest schedule lines × EndsInCollision lines × Appends old new (report_of lines)
+Replays digest schedule old new SinkRose (Ok ending.Collision) =
+    (lines : List Line) × AreLines digest schedule lines × EndsInCollision lines
+    × Appends old new (report_of lines)
 -- the lines of its first events
-Replays digest schedule old new SinkRose (Err failing.Memory) = (lines : List Line) × AreFirstLines digest schedule lines × GoesOn lines × IsUnfinished schedule lines × Appends old new (report_of lines)
+Replays digest schedule old new SinkRose (Err failing.Memory) =
+    (lines : List Line) × AreFirstLines digest schedule lines × GoesOn lines
+    × IsUnfinished schedule lines × Appends old new (report_of lines)
 -- a part of them
-Replays digest schedule old new SinkRose (Err failing.WriteFault) = (lines : List Line) × AreFirstLines digest schedule lines × SinkRose × AppendsPart old new (report_of lines)
+Replays digest schedule old new SinkRose (Err failing.WriteFault) =
+    (lines : List Line) × AreFirstLines digest schedule lines × SinkRose
+    × AppendsPart old new (report_of lines)

@@ -70,7 +70,8 @@ fn shape_for<H: Hash32>(
     requires few { f ≤ 333 }
     requires identifier { (format : Format) × IsIdentifierOf H.digest format f blob.now id.now.0 }
     ensures fits { IfOk result (λ shape. length blob.now ≡ shape.length) }
-    ensures identifier { IfOk result (λ shape. IsIdentifierOf H.digest shape.format shape.f blob.now id.now.0) }
+    ensures identifier { IfOk result
+        (λ shape. IsIdentifierOf H.digest shape.format shape.f blob.now id.now.0) }
 {
     let one = shape_of(f, Format::One, blob);
     if blob_id::<H>(alloc, &one, blob)? == *id {
@@ -156,7 +157,8 @@ fn collide<H: Hash32>(
     }
 }
 
-/// Compares a completed answer with the first one. The result is two texts with one digest where they give different ones.
+/// Compares a completed answer with the first one. The result is two texts with one digest where
+/// they give different ones.
 pub(crate) fn compare<H: Hash32>(
     alloc: Global,
     f: u32,
@@ -169,7 +171,8 @@ pub(crate) fn compare<H: Hash32>(
     requires one { IsBackedBy H.digest f id.now first.now }
     requires other { IsBackedBy H.digest f id.now answer.now }
     ensures same { IfOk result (λ o. IfNone o (verdict_of first.now ≡ verdict_of answer.now)) }
-    ensures collides { IfOk result (λ o. IfSome o (λ c. IsCollision H.digest c.left c.right × (verdict_of first.now ≢ verdict_of answer.now))) }
+    ensures collides { IfOk result (λ o. IfSome o (λ c. IsCollision H.digest c.left c.right
+        × (verdict_of first.now ≢ verdict_of answer.now))) }
 {
     if agree(first, answer) {
         return Ok(None);

@@ -135,9 +135,11 @@ fn take_moving(books: &mut Option<Books>) -> Moving
 pub(crate) fn begin_in(books: &mut Option<Books>, committee: Committee) -> Result<(), BeginError>
     requires books { AreBooks books.old }
     requires serving { is_moving (ledger_of books.old).log ≡ false }
-    ensures begun { OnOk result (IsBegun books.old committee.owners committee.faulty committee.stays books.new) }
+    ensures begun { OnOk result
+        (IsBegun books.old committee.owners committee.faulty committee.stays books.new) }
     ensures refused { OnErr result (books.new ≡ books.old) }
-    ensures error { IfErr result (IsBeginError (ledger_of books.old) committee.owners committee.faulty committee.stays) }
+    ensures error { IfErr result
+        (IsBeginError (ledger_of books.old) committee.owners committee.faulty committee.stays) }
 {
     match take_serving(books).begin(committee) {
         Ok(moving) => {

@@ -24,7 +24,8 @@ use wal_tree::Hash32;
 
 /// The word of an acknowledgement, by what came of it.
 fn acked(said: Said) -> AckWord
-    ensures { (old new : World) (shard : ℕ) (id : BlobId) → Says Holds old shard id said new → AckStep old shard id result new }
+    ensures { (old new : World) (shard : ℕ) (id : BlobId) → Says Holds old shard id said new
+        → AckStep old shard id result new }
 {
     match said {
         Said::Unregistered => AckWord::Unregistered,
@@ -38,7 +39,8 @@ fn acked(said: Said) -> AckWord
 
 /// The word of an attestation, by what came of it.
 fn attested(said: Said) -> AttestWord
-    ensures { (old new : World) (shard : ℕ) (id : BlobId) → Says Denies old shard id said new → AttestStep old shard id result new }
+    ensures { (old new : World) (shard : ℕ) (id : BlobId) → Says Denies old shard id said new
+        → AttestStep old shard id result new }
 {
     match said {
         Said::Unregistered => AttestWord::Unregistered,
@@ -55,7 +57,8 @@ impl<H: Hash32> Network<H> {
     fn open(&self, id: &BlobId) -> Result<(), Said>
         requires { IsNetwork self.now }
         ensures open { IfOk result (λ _. IsOpen (world_of self.now).log id.now) }
-        ensures closed { IfErr result (λ said. (kind : Kind) (shard : ℕ) → Says kind (world_of self.now) shard id.now said (world_of self.now)) }
+        ensures closed { IfErr result (λ said. (kind : Kind) (shard : ℕ)
+            → Says kind (world_of self.now) shard id.now said (world_of self.now)) }
     {
         let ledger = self.ledger();
         match ledger.until(id) {
@@ -87,7 +90,9 @@ impl<H: Hash32> Network<H> {
         requires network { IsNetwork self.now }
         requires open { IsOpen (world_of self.now).log id.now }
         requires shard { shard < committee_size (world_of self.now).log.f }
-        ensures { result ≡ backs kind (held (side_of (writing_side (world_of self.now)) (world_of self.now)) shard id.now) }
+        ensures { result
+            ≡ backs kind
+            (held (side_of (writing_side (world_of self.now)) (world_of self.now)) shard id.now) }
     {
         let ledger = self.ledger();
         let keeper = self.shard(self.writing_side(), shard);
@@ -97,8 +102,8 @@ impl<H: Hash32> Network<H> {
         }
     }
 
-    /// Whether the node of a shard may say so of an open blob: the shard is faulty, or each shard of the node
-    /// holds what backs it.
+    /// Whether the node of a shard may say so of an open blob: the shard is faulty, or each shard
+    /// of the node holds what backs it.
     fn may_post(&self, kind: Kind, shard: u16, id: &BlobId) -> bool
         requires network { IsNetwork self.now }
         requires open { IsOpen (world_of self.now).log id.now }

@@ -34,7 +34,8 @@ fn empty_shards<H: Hash32>(alloc: Global, f: u32) -> Result<Vec<Shard<H, MapKeep
     Ok(shards)
 }
 
-/// The shards of a committee, each of which holds nothing, and the tables and the buffer of the calls on them.
+/// The shards of a committee, each of which holds nothing, and the tables and the buffer of the
+/// calls on them.
 fn empty_rooms<H: Hash32>(
     alloc: Global,
     f: u32,
@@ -53,8 +54,8 @@ fn empty_rooms<H: Hash32>(
 }
 
 impl<H: Hash32> Network<H> {
-    /// A network with this ledger, in which nothing is held, and whether the committee has at most f faulty
-    /// shards.
+    /// A network with this ledger, in which nothing is held, and whether the committee has at most
+    /// f faulty shards.
     fn with_books(
         alloc: Global,
         format: Format,
@@ -82,8 +83,8 @@ impl<H: Hash32> Network<H> {
         })
     }
 
-    /// A network in its first state, in this epoch: its committee by the node that runs each shard and the faulty
-    /// shards, and room for so many entries of the ledger.
+    /// A network in its first state, in this epoch: its committee by the node that runs each shard
+    /// and the faulty shards, and room for so many entries of the ledger.
     ///
     /// The first that applies: `BadFaults`, `BadEpoch`, `BadCommittee`, `Memory`.
     pub(crate) fn create(

@@ -20,9 +20,11 @@ impl<H: Hash32> Network<H> {
     #[tactic(auto, using(crate::proofs::Entering::entered_is, crate::proofs::Entering::entered_world))]
     fn enter_registration(&mut self, id: &BlobId, until: u32) -> RegisterAnswer
         requires { IsNetwork self.old }
-        ensures answer { Registers (ledger_of self.old.books) id.now until result (ledger_of self.new.books) }
+        ensures answer { Registers (ledger_of self.old.books)
+            id.now until result (ledger_of self.new.books) }
         ensures network { IsNetwork self.new }
-        ensures world { world_of self.new ≡ record (world_of self.old) { log = (ledger_of self.new.books).log } }
+        ensures world { world_of self.new
+            ≡ record (world_of self.old) { log = (ledger_of self.new.books).log } }
     {
         register_in(&mut self.books, id, until)
     }

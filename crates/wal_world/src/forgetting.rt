@@ -21,7 +21,9 @@ impl<H: Hash32> Network<H> {
         requires network { IsNetwork self.old }
         requires present { is_present at (world_of self.old) ≡ true }
         requires shard { shard < committee_size (world_of self.old).log.f }
-        ensures { (contents : Contents) × LetsGo (world_of self.old).log (contents_of (side_of at (world_of self.old)) shard) id.now result contents
+        ensures { (contents : Contents)
+            × LetsGo (world_of self.old).log
+            (contents_of (side_of at (world_of self.old)) shard) id.now result contents
             × Places at self.old shard contents self.new }
     {
         let ledger = ledger_in(&self.books);

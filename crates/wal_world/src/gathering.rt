@@ -49,21 +49,28 @@ impl<H: Hash32> Network<H> {
         requires network { IsNetwork self.now }
         requires present { is_present side (world_of self.now) ≡ true }
         requires shard { shard < committee_size (world_of self.now).log.f }
-        ensures held { IfOk result (λ o. IfSome o (λ m. IsOwnMetadata H.digest (world_of self.now).log.f id.now.0 (held (side_of side (world_of self.now)) shard id.now) m)) }
-        ensures none { IfOk result (λ o. IfNone o ((held (side_of side (world_of self.now)) shard id.now).metadata ≡ None)) }
+        ensures held { IfOk result (λ o.
+            IfSome o (λ m. IsOwnMetadata H.digest (world_of self.now).log.f
+            id.now.0 (held (side_of side (world_of self.now)) shard id.now) m)) }
+        ensures none { IfOk result (λ o.
+            IfNone o ((held (side_of side (world_of self.now)) shard id.now).metadata ≡ None)) }
     {
         self.shard(side, shard).metadata(alloc, id)
     }
 
-    /// Writes what a shard of a side replies to one that recovers the sliver of this axis and index.
+    /// Writes what a shard of a side replies to one that recovers the sliver of this axis and
+    /// index.
     fn write_symbols(&mut self, side: Side, shard: u16, id: &BlobId, axis: Axis, index: u16)
         requires network { IsNetwork self.old }
         requires present { is_present side (world_of self.old) ≡ true }
         requires shard { shard < committee_size (world_of self.old).log.f }
         ensures like { IsLike self.old self.new }
-        ensures written { (payloads : List (List ℕ)) × SymbolReplies H.digest id.now.0 shard (held (side_of side (world_of self.old)) shard id.now) axis index payloads
+        ensures written { (payloads : List (List ℕ))
+            × SymbolReplies H.digest id.now.0 shard
+            (held (side_of side (world_of self.old)) shard id.now) axis index payloads
             × (self.new.buffer.bytes ≡ flat_map (envelope shard) payloads) }
-        ensures room { self.old.buffer.spare ≤ self.new.buffer.spare + length self.new.buffer.bytes }
+        ensures room { self.old.buffer.spare
+            ≤ self.new.buffer.spare + length self.new.buffer.bytes }
     {
         let place = usize::from(shard);
         let members = self.sides.of(side);
@@ -85,7 +92,8 @@ impl<H: Hash32> Network<H> {
         requires shard { shard < committee_size (world_of self.old).log.f }
         ensures network { IsNetwork self.new }
         ensures like { IsLike self.old self.new }
-        ensures payloads { IfOk result (SymbolReplies H.digest id.now.0 shard (held (side_of side (world_of self.old)) shard id.now) axis index) }
+        ensures payloads { IfOk result (SymbolReplies H.digest id.now.0 shard
+            (held (side_of side (world_of self.old)) shard id.now) axis index) }
     {
         self.write_symbols(side, shard, id, axis, index);
         take_payloads(alloc, &mut self.buffer)
@@ -107,7 +115,8 @@ impl<H: Hash32> Network<H> {
         requires shard { shard < committee_size (world_of self.old).log.f }
         ensures network { IsNetwork self.new }
         ensures like { IsLike self.old self.new }
-        ensures payloads { IfOk result (SymbolReply H.digest id.now helper (held (side_of side (world_of self.old)) helper id.now) axis shard) }
+        ensures payloads { IfOk result (SymbolReply H.digest id.now helper
+            (held (side_of side (world_of self.old)) helper id.now) axis shard) }
     {
         match self.own_metadata(alloc, side, helper, id) {
             Ok(Some(m)) => {
@@ -132,7 +141,8 @@ impl<H: Hash32> Network<H> {
         requires shard { shard < committee_size (world_of self.old).log.f }
         ensures network { IsNetwork self.new }
         ensures like { IsLike self.old self.new }
-        ensures payloads { IfOk result (IsReplyOf (rules_of H.digest (world_of self.old).log.f) (world_of self.old) id.now axis shard reply.now) }
+        ensures payloads { IfOk result (IsReplyOf (rules_of H.digest (world_of self.old).log.f)
+            (world_of self.old) id.now axis shard reply.now) }
     {
         match reply {
             Reply::True {
@@ -159,11 +169,13 @@ impl<H: Hash32> Network<H> {
         replies: &[Reply],
     ) -> Result<Payloads, AllocError>
         requires network { IsNetwork self.old }
-        requires replies { event.AreRepliesWithin (committee_size (world_of self.old).log.f) replies.now }
+        requires replies { event.AreRepliesWithin
+            (committee_size (world_of self.old).log.f) replies.now }
         requires shard { shard < committee_size (world_of self.old).log.f }
         ensures network { IsNetwork self.new }
         ensures like { IsLike self.old self.new }
-        ensures payloads { IfOk result (AreReplies (rules_of H.digest (world_of self.old).log.f) (world_of self.old) id.now axis shard replies.now) }
+        ensures payloads { IfOk result (AreReplies (rules_of H.digest (world_of self.old).log.f)
+            (world_of self.old) id.now axis shard replies.now) }
     {
         let mut payloads = Vec::new(alloc);
         for reply in replies {

@@ -42,7 +42,8 @@ fn committee_of(
     faulty: &Shards,
     stays: &Shards,
 ) -> Result<Committee, AllocError>
-    ensures { IfOk result (λ made. made ≡ record { owners = owners.now; faulty = faulty.now; stays = stays.now }) }
+    ensures { IfOk result
+        (λ made. made ≡ record { owners = owners.now; faulty = faulty.now; stays = stays.now }) }
 {
     Ok(Committee {
         owners: owners.duplicate(alloc)?,
@@ -65,7 +66,9 @@ impl<H: Hash32> Network<H> {
     fn carries(&self, committee: &Committee, shard: u16) -> bool
         requires network { IsNetwork self.now }
         requires shard { shard < committee_size (world_of self.now).log.f }
-        ensures { result ≡ is_carried_over (world_of self.now) committee.now.owners committee.now.faulty committee.now.stays shard }
+        ensures { result
+            ≡ is_carried_over (world_of self.now) committee.now.owners
+            committee.now.faulty committee.now.stays shard }
     {
         if !among(&committee.stays, shard) || self.faulty(Side::Now, shard) {
             return false;
@@ -84,7 +87,11 @@ impl<H: Hash32> Network<H> {
         requires network { IsNetwork self.now }
         requires shard { shard < committee_size (world_of self.now).log.f }
         ensures { IfOk result (λ made. made ≡ shard_with (world_of self.now).log.f
-            (λ s. cond (is_carried_over (world_of self.now) committee.now.owners committee.now.faulty committee.now.stays s) (contents_of (side_of Now (world_of self.now)) s) finmap.empty) shard) }
+            (λ s. cond
+            (is_carried_over (world_of self.now) committee.now.owners
+            committee.now.faulty committee.now.stays s)
+            (contents_of (side_of Now (world_of self.now)) s) finmap.empty)
+            shard) }
     {
         if self.carries(committee, shard) {
             self.shard(Side::Now, shard).duplicate(alloc)
@@ -101,7 +108,10 @@ impl<H: Hash32> Network<H> {
     ) -> Result<Vec<Shard<H, MapKeep>>, AllocError>
         requires { IsNetwork self.now }
         ensures { IfOk result (λ made. made.items ≡ shards_with (world_of self.now).log.f
-            (λ s. cond (is_carried_over (world_of self.now) committee.now.owners committee.now.faulty committee.now.stays s) (contents_of (side_of Now (world_of self.now)) s) finmap.empty)) }
+            (λ s. cond
+            (is_carried_over (world_of self.now) committee.now.owners
+            committee.now.faulty committee.now.stays s)
+            (contents_of (side_of Now (world_of self.now)) s) finmap.empty)) }
     {
         let size = self.size();
         let mut shards = Vec::with_capacity(alloc, usize::from(size))?;
@@ -111,7 +121,8 @@ impl<H: Hash32> Network<H> {
         Ok(shards)
     }
 
-    /// Whether each committee, with one more that has these faulty shards, has at most f faulty shards.
+    /// Whether each committee, with one more that has these faulty shards, has at most f faulty
+    /// shards.
     fn few_with(&self, faulty: &Shards) -> bool
         requires { IsNetwork self.now }
         ensures { result ≡ (self.now.few && nat_le (length faulty.now) (world_of self.now).log.f) }
@@ -122,12 +133,18 @@ impl<H: Hash32> Network<H> {
     /// Enters that the epoch begins to change, to a committee with these shards.
     fn enter_begin(&mut self, committee: Committee, shards: Vec<Shard<H, MapKeep>>)
         requires network { IsNetwork self.old }
-        requires may { MayBegin (world_of self.old).log committee.owners committee.faulty committee.stays }
+        requires may { MayBegin (world_of self.old).log
+            committee.owners committee.faulty committee.stays }
         requires serving { is_moving (world_of self.old).log ≡ false }
         requires room { 0 < spare_of self.old }
         requires shards { shards.items ≡ shards_with (world_of self.old).log.f
-            (λ s. cond (is_carried_over (world_of self.old) committee.owners committee.faulty committee.stays s) (contents_of (side_of Now (world_of self.old)) s) finmap.empty) }
-        ensures step { BeginStep (world_of self.old) committee.owners committee.faulty committee.stays (BeginWord.Epoch (reading (world_of self.old).log + 1)) (world_of self.new) }
+            (λ s. cond
+            (is_carried_over (world_of self.old)
+            committee.owners committee.faulty committee.stays s)
+            (contents_of (side_of Now (world_of self.old)) s) finmap.empty) }
+        ensures step { BeginStep (world_of self.old) committee.owners committee.faulty
+            committee.stays (BeginWord.Epoch (reading (world_of self.old).log + 1))
+            (world_of self.new) }
         ensures network { IsNetwork self.new }
         ensures spare { spare_of self.old ≤ spare_of self.new + 1 }
         ensures capacity { capacity_of self.new ≡ capacity_of self.old }
@@ -141,8 +158,8 @@ impl<H: Hash32> Network<H> {
         self.sides.next = Members { shards };
     }
 
-    /// The epoch begins to change, to a next committee with these owners and faulty shards, in which these
-    /// shards stay.
+    /// The epoch begins to change, to a next committee with these owners and faulty shards, in
+    /// which these shards stay.
     ///
     /// A refusal of memory changes nothing.
     pub(crate) fn begin(
@@ -154,9 +171,13 @@ impl<H: Hash32> Network<H> {
     ) -> Result<BeginWord, AllocError>
         requires network { IsNetwork self.old }
         requires room { 0 < spare_of self.old }
-        requires committee { IsTrue (is_committee (committee_size (world_of self.old).log.f) owners.now faulty.now) }
-        requires stays { IsTrue (is_ascending (committee_size (world_of self.old).log.f) stays.now) }
-        ensures step { IfOk result (λ word. BeginStep (world_of self.old) owners.now faulty.now stays.now word (world_of self.new)) }
+        requires committee { IsTrue
+            (is_committee (committee_size (world_of self.old).log.f) owners.now faulty.now) }
+        requires stays { IsTrue
+            (is_ascending (committee_size (world_of self.old).log.f) stays.now) }
+        ensures step { IfOk result
+            (λ word. BeginStep (world_of self.old) owners.now
+            faulty.now stays.now word (world_of self.new)) }
         ensures network { IsNetwork self.new }
         ensures spare { spare_of self.old ≤ spare_of self.new + 1 }
         ensures capacity { capacity_of self.new ≡ capacity_of self.old }
@@ -184,8 +205,8 @@ impl<H: Hash32> Network<H> {
         self.shard(Side::Next, shard).ready(self.ledger())
     }
 
-    /// Whether the node of a shard may say that it is ready: the shard is faulty, or each shard of the node
-    /// holds all that it must.
+    /// Whether the node of a shard may say that it is ready: the shard is faulty, or each shard of
+    /// the node holds all that it must.
     fn may_be_ready(&self, shard: u16) -> bool
         requires network { IsNetwork self.now }
         requires moving { is_moving (world_of self.now).log ≡ true }
@@ -243,11 +264,12 @@ impl<H: Hash32> Network<H> {
         self.enter_ready(shard)
     }
 
-    /// The next committee, of which the books say that it serves, takes the place of the one before it, and
-    /// drops what is no longer live.
+    /// The next committee, of which the books say that it serves, takes the place of the one before
+    /// it, and drops what is no longer live.
     fn follow(&mut self, alloc: Global)
         requires { AreBooks self.old.books }
-        ensures now { self.new.sides.serving.shards.items ≡ map (dropped (ledger_of self.old.books).log) self.old.sides.next.shards.items }
+        ensures now { self.new.sides.serving.shards.items
+            ≡ map (dropped (ledger_of self.old.books).log) self.old.sides.next.shards.items }
         ensures next { self.new.sides.next.shards.items ≡ [] }
         ensures rest { self.new ≡ record self.old { sides = self.new.sides } }
     {

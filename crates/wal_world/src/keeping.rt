@@ -36,12 +36,17 @@ impl<H: Hash32> Network<H> {
         requires shard { shard < committee_size (world_of self.old).log.f }
         requires f { (metadata_shown m).f ≡ (world_of self.old).log.f }
         requires commits { Commits H.digest id.now.0 (metadata_shown m) }
-        requires same { (other : List ℕ) → (parts_at (contents_of (side_of side (world_of self.old)) shard) id.now).metadata ≡ Some other → other ≡ metadata_text (metadata_shown m) }
-        requires holds { HoldsSliver H.digest (metadata_shown m) axis (held_index (metadata_shown m).format (metadata_shown m).f axis shard) bytes.now }
+        requires same { (other : List ℕ)
+            → (parts_at (contents_of (side_of side (world_of self.old)) shard) id.now).metadata
+            ≡ Some other
+            → other ≡ metadata_text (metadata_shown m) }
+        requires holds { HoldsSliver H.digest (metadata_shown m) axis
+            (held_index (metadata_shown m).format (metadata_shown m).f axis shard) bytes.now }
         ensures network { IsNetwork self.new }
         ensures books { self.new.books ≡ self.old.books }
         ensures keeps { OnOk result (world_of self.new ≡ keeps (world_of self.old) side shard
-            (kept_sliver (contents_of (side_of side (world_of self.old)) shard) id.now (metadata_shown m.entry) axis bytes.now)) }
+            (kept_sliver (contents_of (side_of side (world_of self.old)) shard)
+            id.now (metadata_shown m.entry) axis bytes.now)) }
     {
         self.sides
             .of_mut(side)
@@ -62,13 +67,17 @@ impl<H: Hash32> Network<H> {
         requires shard { shard < committee_size (world_of self.old).log.f }
         requires f { (metadata_shown m).f ≡ (world_of self.old).log.f }
         requires commits { Commits H.digest id.now.0 (metadata_shown m) }
-        requires same { (other : List ℕ) → (parts_at (contents_of (side_of side (world_of self.old)) shard) id.now).metadata ≡ Some other → other ≡ metadata_text (metadata_shown m) }
+        requires same { (other : List ℕ)
+            → (parts_at (contents_of (side_of side (world_of self.old)) shard) id.now).metadata
+            ≡ Some other
+            → other ≡ metadata_text (metadata_shown m) }
         requires fit { IsProof (proof_shown p.now) }
         requires bad { IsBadProof H.digest (metadata_shown m) (proof_shown p.now) }
         ensures network { IsNetwork self.new }
         ensures books { self.new.books ≡ self.old.books }
         ensures keeps { OnOk result (world_of self.new ≡ keeps (world_of self.old) side shard
-            (kept_proof (contents_of (side_of side (world_of self.old)) shard) id.now (metadata_shown m.entry) (proof_shown p.now))) }
+            (kept_proof (contents_of (side_of side (world_of self.old)) shard)
+            id.now (metadata_shown m.entry) (proof_shown p.now))) }
     {
         self.sides.of_mut(side).keep_proof(shard, id, m, p)
     }

@@ -52,7 +52,9 @@ fn known_beside<H: Hash32>(
     requires own { IfSome own (λ m. Commits H.digest id.now.0 m) }
     requires one { IsMetadataIn H.digest id.now.0 payloads.now (metadata_shown m) }
     requires commits { Commits H.digest id.now.0 (metadata_shown m) }
-    ensures { IfOk result (λ known. (f : ℕ) (parts : Parts) → IsHeldMetadata H.digest f id.now.0 parts own → AreKnown H.digest id.now parts payloads.now known) }
+    ensures { IfOk result
+        (λ known. (f : ℕ) (parts : Parts) → IsHeldMetadata H.digest f id.now.0 parts own
+        → AreKnown H.digest id.now parts payloads.now known) }
 {
     match own {
         Some(own) => {
@@ -74,7 +76,9 @@ pub(crate) fn known_in<H: Hash32>(
     payloads: &Payloads,
 ) -> Result<Known, AllocError>
     requires own { IfSome own (λ m. Commits H.digest id.now.0 m) }
-    ensures { IfOk result (λ known. (f : ℕ) (parts : Parts) → IsHeldMetadata H.digest f id.now.0 parts own → AreKnown H.digest id.now parts payloads.now known) }
+    ensures { IfOk result
+        (λ known. (f : ℕ) (parts : Parts) → IsHeldMetadata H.digest f id.now.0 parts own
+        → AreKnown H.digest id.now parts payloads.now known) }
 {
     match metadata_in::<H>(id, payloads) {
         FoundMetadata::Absent => match own {

@@ -1,4 +1,5 @@
-//! The world of a schedule: what all shards hold, what the ledger says, and what is read, event by event.
+//! The world of a schedule: what all shards hold, what the ledger says, and what is read, event by
+//! event.
 #![tactic(auto)]
 
 mod answering;

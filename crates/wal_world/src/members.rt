@@ -81,8 +81,10 @@ impl<H: Hash32> Members<H> {
         requires part { CanBePut (frame_shown frame.now) }
         requires f { work.old.f ≡ ledger.now.log.f }
         ensures puts { (contents : Contents)
-            × PutsOrWants H.digest true (desk_of ledger.now.log.f shard None ledger.now.log) (contents_at self.old.shards.items shard) (frame_shown frame.now) result contents
-            × (self.new.shards.items ≡ placed ledger.now.log.f self.old.shards.items shard contents) }
+            × PutsOrWants H.digest true (desk_of ledger.now.log.f shard None ledger.now.log)
+            (contents_at self.old.shards.items shard) (frame_shown frame.now) result contents
+            × (self.new.shards.items
+            ≡ placed ledger.now.log.f self.old.shards.items shard contents) }
         ensures f { work.new.f ≡ work.old.f }
     {
         self.shards[usize::from(shard)].put(work, ledger, frame)
@@ -97,8 +99,10 @@ impl<H: Hash32> Members<H> {
     ) -> Result<(), Declined>
         requires shards { AreShards ledger.now.log.f self.old.shards.items }
         requires shard { shard < length self.old.shards.items }
-        ensures { (contents : Contents) × LetsGo ledger.now.log (contents_at self.old.shards.items shard) id.now result contents
-            × (self.new.shards.items ≡ placed ledger.now.log.f self.old.shards.items shard contents) }
+        ensures { (contents : Contents)
+            × LetsGo ledger.now.log (contents_at self.old.shards.items shard) id.now result contents
+            × (self.new.shards.items
+            ≡ placed ledger.now.log.f self.old.shards.items shard contents) }
     {
         self.shards[usize::from(shard)].forget(ledger, id)
     }
@@ -115,11 +119,17 @@ impl<H: Hash32> Members<H> {
         requires shards { AreShards (metadata_shown m).f self.old.shards.items }
         requires shard { shard < length self.old.shards.items }
         requires commits { Commits H.digest id.now.0 (metadata_shown m) }
-        requires same { (other : List ℕ) → (parts_at (contents_at self.old.shards.items shard) id.now).metadata ≡ Some other → other ≡ metadata_text (metadata_shown m) }
-        requires holds { HoldsSliver H.digest (metadata_shown m) axis (held_index (metadata_shown m).format (metadata_shown m).f axis shard) bytes.now }
+        requires same { (other : List ℕ)
+            → (parts_at (contents_at self.old.shards.items shard) id.now).metadata ≡ Some other
+            → other ≡ metadata_text (metadata_shown m) }
+        requires holds { HoldsSliver H.digest (metadata_shown m) axis
+            (held_index (metadata_shown m).format (metadata_shown m).f axis shard) bytes.now }
         ensures { (contents : Contents)
-            × OnOk result (contents ≡ kept_sliver (contents_at self.old.shards.items shard) id.now (metadata_shown m.entry) axis bytes.now)
-            × (self.new.shards.items ≡ placed (metadata_shown m.entry).f self.old.shards.items shard contents) }
+            × OnOk result
+            (contents ≡ kept_sliver (contents_at self.old.shards.items shard)
+            id.now (metadata_shown m.entry) axis bytes.now)
+            × (self.new.shards.items
+            ≡ placed (metadata_shown m.entry).f self.old.shards.items shard contents) }
     {
         self.shards[usize::from(shard)].keep_sliver(id, m, axis, bytes)
     }
@@ -135,12 +145,17 @@ impl<H: Hash32> Members<H> {
         requires shards { AreShards (metadata_shown m).f self.old.shards.items }
         requires shard { shard < length self.old.shards.items }
         requires commits { Commits H.digest id.now.0 (metadata_shown m) }
-        requires same { (other : List ℕ) → (parts_at (contents_at self.old.shards.items shard) id.now).metadata ≡ Some other → other ≡ metadata_text (metadata_shown m) }
+        requires same { (other : List ℕ)
+            → (parts_at (contents_at self.old.shards.items shard) id.now).metadata ≡ Some other
+            → other ≡ metadata_text (metadata_shown m) }
         requires fit { IsProof (proof_shown p.now) }
         requires bad { IsBadProof H.digest (metadata_shown m) (proof_shown p.now) }
         ensures { (contents : Contents)
-            × OnOk result (contents ≡ kept_proof (contents_at self.old.shards.items shard) id.now (metadata_shown m.entry) (proof_shown p.now))
-            × (self.new.shards.items ≡ placed (metadata_shown m.entry).f self.old.shards.items shard contents) }
+            × OnOk result
+            (contents ≡ kept_proof (contents_at self.old.shards.items shard)
+            id.now (metadata_shown m.entry) (proof_shown p.now))
+            × (self.new.shards.items
+            ≡ placed (metadata_shown m.entry).f self.old.shards.items shard contents) }
     {
         self.shards[usize::from(shard)].keep_proof(id, m, p)
     }

@@ -1,4 +1,5 @@
-//! The network: the ledger, what the shards of each committee hold, and the first completed answers.
+//! The network: the ledger, what the shards of each committee hold, and the first completed
+//! answers.
 
 ghost use Rattle.std.specs.Prelude.{◌≡◌, ◌<◌, ◌≤◌, true};
 ghost use Rattle.wal_ledger.specs.Shards.{committee_size};

@@ -32,8 +32,10 @@ use wal_tree::Hash32;
 
 /// Takes the payloads out of the envelopes of a buffer, which is empty then.
 pub(crate) fn take_payloads(alloc: Global, buffer: &mut OutBuf) -> Result<Payloads, AllocError>
-    requires { (sender : ℕ) × (payloads : List (List ℕ)) × (buffer.old.bytes ≡ flat_map (envelope sender) payloads) }
-    ensures payloads { IfOk result (λ got. (sender : ℕ) (payloads : List (List ℕ)) → buffer.old.bytes ≡ flat_map (envelope sender) payloads → got ≡ payloads) }
+    requires { (sender : ℕ) × (payloads : List (List ℕ))
+        × (buffer.old.bytes ≡ flat_map (envelope sender) payloads) }
+    ensures payloads { IfOk result (λ got. (sender : ℕ) (payloads : List (List ℕ))
+        → buffer.old.bytes ≡ flat_map (envelope sender) payloads → got ≡ payloads) }
     ensures empty { buffer.new.bytes ≡ [] }
     ensures room { buffer.old.spare ≤ buffer.new.spare }
     ensures spare { buffer.new.spare ≡ buffer.old.spare + length buffer.old.bytes }
@@ -66,8 +68,11 @@ impl<H: Hash32> Network<H> {
         requires present { is_present side (world_of self.old) ≡ true }
         requires shard { shard < committee_size (world_of self.old).log.f }
         ensures like { IsLike self.old self.new }
-        ensures written { self.new.buffer.bytes ≡ flat_map (envelope shard) (read_reply_of id.now.0 shard (held (side_of side (world_of self.old)) shard id.now)) }
-        ensures room { self.old.buffer.spare ≤ self.new.buffer.spare + length self.new.buffer.bytes }
+        ensures written { self.new.buffer.bytes
+            ≡ flat_map (envelope shard)
+            (read_reply_of id.now.0 shard (held (side_of side (world_of self.old)) shard id.now)) }
+        ensures room { self.old.buffer.spare
+            ≤ self.new.buffer.spare + length self.new.buffer.bytes }
     {
         let place = usize::from(shard);
         let members = self.sides.of(side);
@@ -87,7 +92,8 @@ impl<H: Hash32> Network<H> {
         requires shard { shard < committee_size (world_of self.old).log.f }
         ensures network { IsNetwork self.new }
         ensures like { IsLike self.old self.new }
-        ensures payloads { IfOk result (λ payloads. payloads ≡ read_reply_of id.now.0 shard (held (side_of side (world_of self.old)) shard id.now)) }
+        ensures payloads { IfOk result (λ payloads. payloads
+            ≡ read_reply_of id.now.0 shard (held (side_of side (world_of self.old)) shard id.now)) }
     {
         self.write_reply(side, shard, id);
         take_payloads(alloc, &mut self.buffer)
@@ -106,7 +112,8 @@ impl<H: Hash32> Network<H> {
         ensures network { IsNetwork self.new }
         ensures like { IsLike self.old self.new }
         ensures payloads { OnOk result (payloads.new.items ≡ payloads.old.items
-            ++ reply_payloads (rules_of H.digest (world_of self.old).log.f) (world_of self.old) id.now reply.now) }
+            ++ reply_payloads (rules_of H.digest (world_of self.old).log.f)
+            (world_of self.old) id.now reply.now) }
     {
         match reply {
             Reply::True { side, shard } => {
@@ -135,7 +142,9 @@ impl<H: Hash32> Network<H> {
         requires replies { AreRepliesWithin (committee_size (world_of self.old).log.f) replies.now }
         ensures network { IsNetwork self.new }
         ensures like { IsLike self.old self.new }
-        ensures payloads { IfOk result (λ payloads. payloads ≡ read_payloads (rules_of H.digest (world_of self.old).log.f) (world_of self.old) id.now replies.now) }
+        ensures payloads { IfOk result (λ payloads. payloads
+            ≡ read_payloads (rules_of H.digest (world_of self.old).log.f)
+            (world_of self.old) id.now replies.now) }
     {
         let mut payloads = Vec::new(alloc);
         for reply in replies {
@@ -144,8 +153,8 @@ impl<H: Hash32> Network<H> {
         Ok(Payloads::from_vec(payloads))
     }
 
-    /// Compares a completed answer with the first one, which it is where there is none. The result is two texts with one
-    /// digest where the first one gives another one.
+    /// Compares a completed answer with the first one, which it is where there is none. The result
+    /// is two texts with one digest where the first one gives another one.
     pub(crate) fn complete(
         &mut self,
         alloc: Global,
@@ -157,7 +166,8 @@ impl<H: Hash32> Network<H> {
         requires answer { IsBackedBy H.digest (world_of self.old).log.f id.now answer }
         ensures network { OnOk result (IsNetwork self.new) }
         ensures books { OnOk result (self.new.books ≡ self.old.books) }
-        ensures compared { IfOk result (λ clash. IsCompared H.digest (world_of self.old) id.now answer clash (world_of self.new)) }
+        ensures compared { IfOk result (λ clash.
+            IsCompared H.digest (world_of self.old) id.now answer clash (world_of self.new)) }
     {
         let f = self.f();
         if let Some(first) = self.answers.get(id) {
@@ -187,7 +197,8 @@ impl<H: Hash32> Network<H> {
         requires answer { IsBackedBy H.digest (world_of self.old).log.f id.now answer }
         ensures network { OnOk result (IsNetwork self.new) }
         ensures books { OnOk result (self.new.books ≡ self.old.books) }
-        ensures word { IfOk result (IsTold H.digest (world_of self.old) id.now answer word (world_of self.new)) }
+        ensures word { IfOk result
+            (IsTold H.digest (world_of self.old) id.now answer word (world_of self.new)) }
     {
         match self.complete(alloc, id, answer) {
             Ok(Some(clash)) => Ok(Taken::Collision(clash)),
@@ -210,7 +221,8 @@ impl<H: Hash32> Network<H> {
         requires judged { IsJudgedBy H.digest e.metadata e.basis (told.Bytes bytes) }
         ensures network { OnOk result (IsNetwork self.new) }
         ensures books { OnOk result (self.new.books ≡ self.old.books) }
-        ensures word { IfOk result (IsTold H.digest (world_of self.old) id.now (Judged e (told.Bytes bytes)) (reading.Bytes bytes) (world_of self.new)) }
+        ensures word { IfOk result (IsTold H.digest (world_of self.old) id.now
+            (Judged e (told.Bytes bytes)) (reading.Bytes bytes) (world_of self.new)) }
     {
         let copy = bytes.duplicate(alloc)?;
         let answer = First::Judged(e, Verdict::Bytes(copy));
@@ -228,12 +240,16 @@ impl<H: Hash32> Network<H> {
         requires network { IsNetwork self.old }
         requires backed { AreBacked H.digest (world_of self.old) }
         requires outcome { IsOutcome H.digest id.now.0 payloads.now answer.outcome }
-        requires evidence { HasEvidence H.digest id.now.0 payloads.now answer.outcome answer.evidence }
+        requires evidence { HasEvidence H.digest id.now.0
+            payloads.now answer.outcome answer.evidence }
         ensures network { OnOk result (IsNetwork self.new) }
         ensures books { OnOk result (self.new.books ≡ self.old.books) }
         ensures word { IfOk result (IsTaken H.digest
-            (λ word. ReadsOn (rules_of H.digest (world_of self.old).log.f) (world_of self.old) id.now payloads.now word (world_of self.new))
-            (CollidesOn (rules_of H.digest (world_of self.old).log.f) (world_of self.old) id.now payloads.now × (world_of self.new ≡ world_of self.old))) }
+            (λ word. ReadsOn (rules_of H.digest (world_of self.old).log.f)
+            (world_of self.old) id.now payloads.now word (world_of self.new))
+            (CollidesOn (rules_of H.digest (world_of self.old).log.f)
+            (world_of self.old) id.now payloads.now
+            × (world_of self.new ≡ world_of self.old))) }
     {
         match (answer.outcome, answer.evidence) {
             (Outcome::Bytes(bytes), Some(e)) => self.read_bytes(alloc, id, e, bytes),
@@ -261,8 +277,11 @@ impl<H: Hash32> Network<H> {
         ensures network { OnOk result (IsNetwork self.new) }
         ensures books { OnOk result (self.new.books ≡ self.old.books) }
         ensures step { IfOk result (IsTaken H.digest
-            (λ word. ReadStep (rules_of H.digest (world_of self.old).log.f) (world_of self.old) id.now replies.now word (world_of self.new))
-            (ReadCollides (rules_of H.digest (world_of self.old).log.f) (world_of self.old) id.now replies.now × (world_of self.new ≡ world_of self.old))) }
+            (λ word. ReadStep (rules_of H.digest (world_of self.old).log.f)
+            (world_of self.old) id.now replies.now word (world_of self.new))
+            (ReadCollides (rules_of H.digest (world_of self.old).log.f)
+            (world_of self.old) id.now replies.now
+            × (world_of self.new ≡ world_of self.old))) }
     {
         let payloads = self.gather(alloc, id, replies)?;
         let answer = read::<H>(alloc, id, &payloads)?;

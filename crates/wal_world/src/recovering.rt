@@ -43,7 +43,8 @@ impl<H: Hash32> Network<H> {
         requires network { IsNetwork self.now }
         requires present { is_present side (world_of self.now) ≡ true }
         requires shard { shard < committee_size (world_of self.now).log.f }
-        ensures { IfOk result (AreKnown H.digest id.now (held (side_of side (world_of self.now)) shard id.now) payloads.now) }
+        ensures { IfOk result (AreKnown H.digest id.now
+            (held (side_of side (world_of self.now)) shard id.now) payloads.now) }
     {
         let own = self.own_metadata(alloc, side, shard, id)?;
         known_in::<H>(alloc, id, own, payloads)
@@ -64,7 +65,8 @@ impl<H: Hash32> Network<H> {
         requires f { (metadata_shown m).f ≡ (world_of self.old).log.f }
         ensures network { IsNetwork self.new }
         ensures like { IsLike self.old self.new }
-        ensures comes { IfOk result (OwnOpeningsComeTo H.digest id.now shard axis payloads.now (metadata_shown m.entry)) }
+        ensures comes { IfOk result
+            (OwnOpeningsComeTo H.digest id.now shard axis payloads.now (metadata_shown m.entry)) }
         ensures committed { IfOk result (HasCommittedSliver H.digest (metadata_shown m.entry) axis
             (held_index (metadata_shown m.entry).format (metadata_shown m.entry).f axis shard)) }
     {
@@ -85,9 +87,12 @@ impl<H: Hash32> Network<H> {
         requires f { (metadata_shown m).f ≡ (world_of self.old).log.f }
         ensures network { IsNetwork self.new }
         ensures like { IsLike self.old self.new }
-        ensures first { IfSome result (λ p. IsFirstBadProof H.digest id.now.0 (metadata_shown m.entry) payloads.now (proof_shown p)) }
+        ensures first { IfSome result
+            (λ p. IsFirstBadProof H.digest id.now.0
+            (metadata_shown m.entry) payloads.now (proof_shown p)) }
         ensures proof { IfSome result (λ p. IsProof (proof_shown p)) }
-        ensures none { IfNone result (NoBadProof H.digest id.now.0 (metadata_shown m.entry) payloads.now) }
+        ensures none { IfNone result
+            (NoBadProof H.digest id.now.0 (metadata_shown m.entry) payloads.now) }
     {
         bad_proof_in::<H>(&mut self.work, id, m, payloads)
     }
@@ -107,11 +112,15 @@ impl<H: Hash32> Network<H> {
         requires present { is_present side (world_of self.old) ≡ true }
         requires shard { shard < committee_size (world_of self.old).log.f }
         requires f { (metadata_shown m).f ≡ (world_of self.old).log.f }
-        requires only { IsOnly H.digest id.now (held (side_of side (world_of self.old)) shard id.now) payloads.now (metadata_shown m) }
-        requires comes { OwnOpeningsComeTo H.digest id.now shard axis payloads.now (metadata_shown m) (Short have) }
+        requires only { IsOnly H.digest id.now
+            (held (side_of side (world_of self.old)) shard id.now) payloads.now (metadata_shown m) }
+        requires comes { OwnOpeningsComeTo H.digest id.now shard
+            axis payloads.now (metadata_shown m) (Short have) }
         ensures network { OnOk result (IsNetwork self.new) }
         ensures books { OnOk result (self.new.books ≡ self.old.books) }
-        ensures word { IfOk result (λ word. RecoversInWorld H.digest (world_of self.old) side shard axis id.now payloads.now word (world_of self.new)) }
+        ensures word { IfOk result
+            (λ word. RecoversInWorld H.digest (world_of self.old) side
+            shard axis id.now payloads.now word (world_of self.new)) }
     {
         let need = u32::from(symbol_count(&m.shape(), axis));
         match self.bad_proof(id, m, payloads) {
@@ -138,13 +147,17 @@ impl<H: Hash32> Network<H> {
         requires present { is_present side (world_of self.old) ≡ true }
         requires shard { shard < committee_size (world_of self.old).log.f }
         requires f { (metadata_shown m).f ≡ (world_of self.old).log.f }
-        requires only { IsOnly H.digest id.now (held (side_of side (world_of self.old)) shard id.now) payloads.now (metadata_shown m) }
-        requires comes { OwnOpeningsComeTo H.digest id.now shard axis payloads.now (metadata_shown m) found }
+        requires only { IsOnly H.digest id.now
+            (held (side_of side (world_of self.old)) shard id.now) payloads.now (metadata_shown m) }
+        requires comes { OwnOpeningsComeTo H.digest id.now
+            shard axis payloads.now (metadata_shown m) found }
         requires committed { HasCommittedSliver H.digest (metadata_shown m) axis
             (held_index (metadata_shown m).format (metadata_shown m).f axis shard) found }
         ensures network { OnOk result (IsNetwork self.new) }
         ensures books { OnOk result (self.new.books ≡ self.old.books) }
-        ensures word { IfOk result (λ word. RecoversInWorld H.digest (world_of self.old) side shard axis id.now payloads.now word (world_of self.new)) }
+        ensures word { IfOk result
+            (λ word. RecoversInWorld H.digest (world_of self.old) side
+            shard axis id.now payloads.now word (world_of self.new)) }
     {
         match found {
             Recovered::Sliver(bytes) => {
@@ -177,10 +190,13 @@ impl<H: Hash32> Network<H> {
         requires network { IsNetwork self.old }
         requires present { is_present side (world_of self.old) ≡ true }
         requires shard { shard < committee_size (world_of self.old).log.f }
-        requires only { IsOnly H.digest id.now (held (side_of side (world_of self.old)) shard id.now) payloads.now m.now }
+        requires only { IsOnly H.digest id.now
+            (held (side_of side (world_of self.old)) shard id.now) payloads.now m.now }
         ensures network { OnOk result (IsNetwork self.new) }
         ensures books { OnOk result (self.new.books ≡ self.old.books) }
-        ensures word { IfOk result (λ word. RecoversInWorld H.digest (world_of self.old) side shard axis id.now payloads.now word (world_of self.new)) }
+        ensures word { IfOk result
+            (λ word. RecoversInWorld H.digest (world_of self.old) side
+            shard axis id.now payloads.now word (world_of self.new)) }
     {
         let m = m.view();
         if m.f() != self.f() {
@@ -206,9 +222,14 @@ impl<H: Hash32> Network<H> {
         ensures network { OnOk result (IsNetwork self.new) }
         ensures books { OnOk result (self.new.books ≡ self.old.books) }
         ensures word { IfOk result (IsTaken H.digest
-            (λ word. RecoversInWorld H.digest (world_of self.old) side shard axis id.now payloads.now word (world_of self.new)
-            × (KnowsTwo H.digest id.now (held (side_of side (world_of self.old)) shard id.now) payloads.now → ⊥))
-            (KnowsTwo H.digest id.now (held (side_of side (world_of self.old)) shard id.now) payloads.now × (world_of self.new ≡ world_of self.old))) }
+            (λ word. RecoversInWorld H.digest (world_of self.old) side
+            shard axis id.now payloads.now word (world_of self.new)
+            × (KnowsTwo H.digest id.now
+            (held (side_of side (world_of self.old)) shard id.now) payloads.now
+            → ⊥))
+            (KnowsTwo H.digest id.now
+            (held (side_of side (world_of self.old)) shard id.now) payloads.now
+            × (world_of self.new ≡ world_of self.old))) }
     {
         match self.known(alloc, side, shard, id, payloads)? {
             Known::Absent => Ok(Taken::Word(RecoverWord::NoMetadata)),
@@ -232,12 +253,16 @@ impl<H: Hash32> Network<H> {
     ) -> Result<Taken<RecoverWord>, AllocError>
         requires network { IsNetwork self.old }
         requires shard { shard < committee_size (world_of self.old).log.f }
-        requires replies { event.AreRepliesWithin (committee_size (world_of self.old).log.f) replies.now }
+        requires replies { event.AreRepliesWithin
+            (committee_size (world_of self.old).log.f) replies.now }
         ensures network { OnOk result (IsNetwork self.new) }
         ensures books { OnOk result (self.new.books ≡ self.old.books) }
         ensures step { IfOk result (IsTaken H.digest
-            (λ word. RecoverStep (rules_of H.digest (world_of self.old).log.f) (world_of self.old) side shard axis id.now replies.now word (world_of self.new))
-            (RecoverCollides (rules_of H.digest (world_of self.old).log.f) (world_of self.old) side shard axis id.now replies.now × (world_of self.new ≡ world_of self.old))) }
+            (λ word. RecoverStep (rules_of H.digest (world_of self.old).log.f)
+            (world_of self.old) side shard axis id.now replies.now word (world_of self.new))
+            (RecoverCollides (rules_of H.digest (world_of self.old).log.f)
+            (world_of self.old) side shard axis id.now replies.now
+            × (world_of self.new ≡ world_of self.old))) }
     {
         if !self.present(side) {
             return Ok(Taken::Word(RecoverWord::Absent));

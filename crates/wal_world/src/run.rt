@@ -91,7 +91,9 @@ fn take_event<H: Hash32, K: Sink>(
     requires goes_on { world.old.ended ≡ false }
     requires fits { IsEventWithin (committee_size world.old.state.log.f) event.now }
     requires room { 0 < world.old.room }
-    ensures takes { Takes (rules_of H.digest world.old.state.log.f) world.old.state event.now world.new.state (K.written sink.old) (K.written sink.new) (Rose (K.faults sink.old) (K.faults sink.new)) result }
+    ensures takes { Takes (rules_of H.digest world.old.state.log.f) world.old.state
+        event.now world.new.state (K.written sink.old) (K.written sink.new)
+        (Rose (K.faults sink.old) (K.faults sink.new)) result }
     ensures f { OnOk result (world.new.state.log.f ≡ world.old.state.log.f) }
     ensures room { OnOk result (world.old.room ≤ world.new.room + 1) }
     ensures ended { IfOk result (λ stops. world.new.ended ≡ stops) }
@@ -103,8 +105,8 @@ fn take_event<H: Hash32, K: Sink>(
     Ok(is_collision(&line))
 }
 
-/// Takes the events of a schedule from its first state on, and writes the line of each as it comes. After a line that is
-/// a collision no further event is taken.
+/// Takes the events of a schedule from its first state on, and writes the line of each as it comes.
+/// After a line that is a collision no further event is taken.
 fn take_events<H: Hash32, K: Sink>(
     alloc: Global,
     world: &mut World<H>,
@@ -115,7 +117,8 @@ fn take_events<H: Hash32, K: Sink>(
     requires goes_on { world.old.ended ≡ false }
     requires first { world.old.state ≡ first_state schedule.now }
     requires room { world.old.room ≡ length schedule.now.events }
-    ensures replays { Replays H.digest schedule.now (K.written sink.old) (K.written sink.new) (Rose (K.faults sink.old) (K.faults sink.new)) result }
+    ensures replays { Replays H.digest schedule.now (K.written sink.old)
+        (K.written sink.new) (Rose (K.faults sink.old) (K.faults sink.new)) result }
     ensures later { K.faults sink.old ≤ K.faults sink.new }
 {
     for event in schedule.events.as_slice() {
@@ -126,10 +129,11 @@ fn take_events<H: Hash32, K: Sink>(
     Ok(ReplayEnd::Whole)
 }
 
-/// Runs a schedule from its first state, and writes the line of each event as it comes. After a line
-/// that is a collision no further event is taken.
+/// Runs a schedule from its first state, and writes the line of each event as it comes. After a
+/// line that is a collision no further event is taken.
 ///
-/// `WriteFault` comes only where the sink's count of faults rose, and `Memory` where memory ran out.
+/// `WriteFault` comes only where the sink's count of faults rose, and `Memory` where memory ran
+/// out.
 /// What was written then is a front of the report.
 pub fn replay<H: Hash32, K: Sink>(
     alloc: Global,
@@ -137,7 +141,8 @@ pub fn replay<H: Hash32, K: Sink>(
     sink: &mut K,
 ) -> Result<ReplayEnd, ReplayError>
     requires { IsSchedule schedule.now }
-    ensures replays { Replays H.digest schedule.now (K.written sink.old) (K.written sink.new) (Rose (K.faults sink.old) (K.faults sink.new)) result }
+    ensures replays { Replays H.digest schedule.now (K.written sink.old)
+        (K.written sink.new) (Rose (K.faults sink.old) (K.faults sink.new)) result }
     ensures later { K.faults sink.old ≤ K.faults sink.new }
 {
     let mut world = world_before::<H>(alloc, schedule)?;

@@ -78,7 +78,9 @@ impl<H: Hash32> Network<H> {
         requires part { CanBePut (frame_shown frame.now) }
         requires frame { IsFrame (frame_shown frame.now) }
         ensures puts { IfOk result (λ answer. (contents : Contents)
-            × PutsFrame H.digest (world_of self.old).log.f (world_of self.old).log shard (contents_of (side_of at (world_of self.old)) shard) (frame_shown frame.now) answer contents
+            × PutsFrame H.digest (world_of self.old).log.f (world_of self.old).log
+            shard (contents_of (side_of at (world_of self.old)) shard)
+            (frame_shown frame.now) answer contents
             × Places at self.old shard contents self.new) }
         ensures answered { IfOk result IsAnswered }
     {
@@ -106,8 +108,10 @@ impl<H: Hash32> Network<H> {
         ensures network { OnOk result (IsNetwork self.new) }
         ensures books { OnOk result (self.new.books ≡ self.old.books) }
         ensures step { IfOk result (IsTaken H.digest
-            (λ word. SendStep (rules_of H.digest (world_of self.old).log.f) (world_of self.old) at shard bytes.now word (world_of self.new))
-            (SendCollides (rules_of H.digest (world_of self.old).log.f) (world_of self.old) at shard bytes.now (world_of self.new))) }
+            (λ word. SendStep (rules_of H.digest (world_of self.old).log.f)
+            (world_of self.old) at shard bytes.now word (world_of self.new))
+            (SendCollides (rules_of H.digest (world_of self.old).log.f)
+            (world_of self.old) at shard bytes.now (world_of self.new))) }
     {
         if !self.present(at) {
             return Ok(Taken::Word(SendWord::Absent));

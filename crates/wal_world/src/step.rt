@@ -26,7 +26,9 @@ impl<H: Hash32> Network<H> {
         requires length { length blob.now ≤ most_bytes }
         requires shards { IsTrue (is_ascending (committee_size (world_of self.old).log.f) to.now) }
         ensures network { OnOk result (IsNetwork self.new) }
-        ensures step { IfOk result (λ line. Steps (rules_of H.digest (world_of self.old).log.f) (world_of self.old) (event.Write blob.now to.now) line (world_of self.new)) }
+        ensures step { IfOk result
+            (λ line. Steps (rules_of H.digest (world_of self.old).log.f)
+            (world_of self.old) (event.Write blob.now to.now) line (world_of self.new)) }
         ensures books { OnOk result (self.new.books ≡ self.old.books) }
     {
         let bytes = blob.duplicate(alloc)?;
@@ -53,7 +55,9 @@ impl<H: Hash32> Network<H> {
         requires network { IsNetwork self.old }
         requires shard { shard < committee_size (world_of self.old).log.f }
         ensures network { OnOk result (IsNetwork self.new) }
-        ensures step { IfOk result (λ line. Steps (rules_of H.digest (world_of self.old).log.f) (world_of self.old) (event.Send at shard bytes.now) line (world_of self.new)) }
+        ensures step { IfOk result
+            (λ line. Steps (rules_of H.digest (world_of self.old).log.f)
+            (world_of self.old) (event.Send at shard bytes.now) line (world_of self.new)) }
         ensures books { OnOk result (self.new.books ≡ self.old.books) }
     {
         match self.send(alloc, at, shard, bytes)? {
@@ -73,7 +77,9 @@ impl<H: Hash32> Network<H> {
         requires facts { Facts (rules_of H.digest (world_of self.old).log.f) (world_of self.old) }
         requires replies { AreRepliesWithin (committee_size (world_of self.old).log.f) replies.now }
         ensures network { OnOk result (IsNetwork self.new) }
-        ensures step { IfOk result (λ line. Steps (rules_of H.digest (world_of self.old).log.f) (world_of self.old) (event.Read id.now replies.now) line (world_of self.new)) }
+        ensures step { IfOk result
+            (λ line. Steps (rules_of H.digest (world_of self.old).log.f)
+            (world_of self.old) (event.Read id.now replies.now) line (world_of self.new)) }
         ensures books { OnOk result (self.new.books ≡ self.old.books) }
     {
         match self.read(alloc, id, replies)? {
@@ -96,7 +102,9 @@ impl<H: Hash32> Network<H> {
         requires shard { shard < committee_size (world_of self.old).log.f }
         requires replies { AreRepliesWithin (committee_size (world_of self.old).log.f) replies.now }
         ensures network { OnOk result (IsNetwork self.new) }
-        ensures step { IfOk result (λ line. Steps (rules_of H.digest (world_of self.old).log.f) (world_of self.old) (event.Recover at shard axis id.now replies.now) line (world_of self.new)) }
+        ensures step { IfOk result
+            (λ line. Steps (rules_of H.digest (world_of self.old).log.f) (world_of self.old)
+            (event.Recover at shard axis id.now replies.now) line (world_of self.new)) }
         ensures books { OnOk result (self.new.books ≡ self.old.books) }
     {
         match self.recover(alloc, at, shard, axis, id, replies)? {
@@ -117,7 +125,9 @@ impl<H: Hash32> Network<H> {
         requires fits { IsEventWithin (committee_size (world_of self.old).log.f) event.now }
         requires room { 0 < spare_of self.old }
         ensures network { OnOk result (IsNetwork self.new) }
-        ensures step { IfOk result (λ line. Steps (rules_of H.digest (world_of self.old).log.f) (world_of self.old) event.now line (world_of self.new)) }
+        ensures step { IfOk result
+            (λ line. Steps (rules_of H.digest (world_of self.old).log.f)
+            (world_of self.old) event.now line (world_of self.new)) }
         ensures spare { OnOk result (spare_of self.old ≤ spare_of self.new + 1) }
         ensures capacity { OnOk result (capacity_of self.new ≡ capacity_of self.old) }
     {

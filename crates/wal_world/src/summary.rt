@@ -55,7 +55,8 @@ fn tally_event<H: Hash32>(
     requires events { tally.old.events < 65536 }
     requires reads { tally.old.reads < 65536 }
     requires recovered { tally.old.recovered < 65536 }
-    ensures tallied { IfOk result (IsTallied (rules_of H.digest world.old.state.log.f) world.old.state event.now world.new.state tally.old tally.new) }
+    ensures tallied { IfOk result (IsTallied (rules_of H.digest world.old.state.log.f)
+        world.old.state event.now world.new.state tally.old tally.new) }
     ensures f { OnOk result (world.new.state.log.f ≡ world.old.state.log.f) }
     ensures room { OnOk result (world.old.room ≤ world.new.room + 1) }
     ensures ended { IfOk result (λ o. world.new.ended ≡ is_some o) }
@@ -65,8 +66,8 @@ fn tally_event<H: Hash32>(
     Ok(collision_of(line))
 }
 
-/// Takes the events of a schedule from its first state on, and sums up their lines. After a line that is a collision no
-/// further event is taken.
+/// Takes the events of a schedule from its first state on, and sums up their lines. After a line
+/// that is a collision no further event is taken.
 fn sum_events<H: Hash32>(
     alloc: Global,
     world: &mut World<H>,

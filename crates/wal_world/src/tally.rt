@@ -116,7 +116,8 @@ fn lesser(least: Option<u32>, other: Option<u32>) -> Option<u32>
 
 /// Puts an identifier among others, where there is one.
 fn put_id(ids: &mut BTreeSet<BlobId>, id: Option<BlobId>) -> Result<(), AllocError>
-    ensures { (seen : List BlobId) → IsFromIterResult id_cmp seen ids.old → OnOk result (IsFromIterResult id_cmp (seen ++ option_to_list id) ids.new) }
+    ensures { (seen : List BlobId) → IsFromIterResult id_cmp seen ids.old
+        → OnOk result (IsFromIterResult id_cmp (seen ++ option_to_list id) ids.new) }
 {
     match id {
         Some(id) => {

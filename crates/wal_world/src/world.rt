@@ -57,9 +57,9 @@ pub(crate) fn is_collision(line: &Line) -> bool
 }
 
 impl<H: Hash32> World<H> {
-    /// The first state in this epoch: no blob is registered and nothing is held. `owners` is the node
-    /// that runs each of the `3f + 1` shards, and `faulty` lists the faulty ones. There is room for
-    /// `room` entries of the ledger.
+    /// The first state in this epoch: no blob is registered and nothing is held. `owners` is the
+    /// node that runs each of the `3f + 1` shards, and `faulty` lists the faulty ones. There is
+    /// room for `room` entries of the ledger.
     ///
     /// The first that applies: `BadFaults`, `BadEpoch`, `BadCommittee`, `Memory`.
     pub fn create(
@@ -94,13 +94,18 @@ impl<H: Hash32> World<H> {
     /// After `AllocError` every later step answers it too, whatever the event.
     pub fn step(&mut self, alloc: Global, event: &Event) -> Result<Line, AllocError>
         requires goes_on { self.old.ended ≡ false }
-        requires fits { self.old.dead ≡ false → IsEventWithin (committee_size self.old.state.log.f) event.now }
+        requires fits { self.old.dead ≡ false
+            → IsEventWithin (committee_size self.old.state.log.f) event.now }
         requires room { self.old.dead ≡ false → 0 < self.old.room }
-        ensures step { IfOk result (λ line. Steps (rules_of H.digest self.old.state.log.f) self.old.state event.now line self.new.state) }
+        ensures step { IfOk result
+            (λ line. Steps (rules_of H.digest self.old.state.log.f)
+            self.old.state event.now line self.new.state) }
         ensures f { OnOk result (self.new.state.log.f ≡ self.old.state.log.f) }
-        ensures facts { OnOk result (Facts (rules_of H.digest self.new.state.log.f) self.new.state) }
+        ensures facts { OnOk result
+            (Facts (rules_of H.digest self.new.state.log.f) self.new.state) }
         ensures room { OnOk result (self.old.room ≤ self.new.room + 1) }
-        ensures capacity { OnOk result (self.new.room + length self.new.state.log.entries ≡ self.old.room + length self.old.state.log.entries) }
+        ensures capacity { OnOk result (self.new.room + length self.new.state.log.entries
+            ≡ self.old.room + length self.old.state.log.entries) }
         ensures ended { IfOk result (λ line. self.new.ended ≡ is_collision line) }
         ensures alive { OnOk result (self.new.dead ≡ false) }
         ensures dies { OnErr result (self.new.dead ≡ true) }

@@ -70,14 +70,16 @@ fn clash_told(alloc: Global, answer: PutAnswer) -> Result<Option<Collision>, All
 
 /// Whether a shard holds slivers of both axes.
 fn holds_slivers<H: Hash32>(holder: &Shard<H, MapKeep>, id: &BlobId) -> bool
-    ensures { result ≡ (is_some (part_at holder.now.contents id.now parts.Primary) && is_some (part_at holder.now.contents id.now parts.Secondary)) }
+    ensures { result
+        ≡ (is_some (part_at holder.now.contents id.now parts.Primary)
+        && is_some (part_at holder.now.contents id.now parts.Secondary)) }
 {
     holder.holds_sliver(id, Axis::Primary) && holder.holds_sliver(id, Axis::Secondary)
 }
 
 impl<H: Hash32> Network<H> {
-    /// Puts the frame that these bytes spell to a shard of a side. The result is two texts with one digest where the
-    /// shard holds another metadata.
+    /// Puts the frame that these bytes spell to a shard of a side. The result is two texts with one
+    /// digest where the shard holds another metadata.
     fn put_text(
         &mut self,
         alloc: Global,
@@ -91,7 +93,9 @@ impl<H: Hash32> Network<H> {
         requires spells { SpellsPart bytes.now }
         ensures network { OnOk result (IsNetwork self.new) }
         ensures books { OnOk result (self.new.books ≡ self.old.books) }
-        ensures puts { IfOk result (λ clash. PutsTo H.digest (world_of self.old) at ((shard, frame_in bytes.now) ∷ []) clash (world_of self.new)) }
+        ensures puts { IfOk result
+            (λ clash. PutsTo H.digest (world_of self.old) at
+            ((shard, frame_in bytes.now) ∷ []) clash (world_of self.new)) }
     {
         let frame = frame_of(bytes);
         match self.put_at(at, shard, &frame) {
@@ -100,7 +104,8 @@ impl<H: Hash32> Network<H> {
         }
     }
 
-    /// Puts the frames that these texts spell to a shard of a side, up to the first that finds another metadata held.
+    /// Puts the frames that these texts spell to a shard of a side, up to the first that finds
+    /// another metadata held.
     fn put_texts(
         &mut self,
         alloc: Global,
@@ -114,7 +119,9 @@ impl<H: Hash32> Network<H> {
         requires spell { AllByRecursion SpellsPart texts.now }
         ensures network { OnOk result (IsNetwork self.new) }
         ensures books { OnOk result (self.new.books ≡ self.old.books) }
-        ensures puts { IfOk result (λ clash. PutsTo H.digest (world_of self.old) at (letters_in shard texts.now) clash (world_of self.new)) }
+        ensures puts { IfOk result
+            (λ clash. PutsTo H.digest (world_of self.old) at
+            (letters_in shard texts.now) clash (world_of self.new)) }
     {
         for text in texts {
             if let Some(clash) = self.put_text(alloc, at, shard, text.as_slice())? {
@@ -140,7 +147,9 @@ impl<H: Hash32> Network<H> {
         ensures network { OnOk result (IsNetwork self.new) }
         ensures books { OnOk result (self.new.books ≡ self.old.books) }
         ensures puts { IfOk result (λ clash. PutsTo H.digest (world_of self.old) at
-            (cond (is_correct at (world_of self.old) shard) (addressed shard (messages_of write.now shard)) []) clash (world_of self.new)) }
+            (cond (is_correct at (world_of self.old) shard)
+            (addressed shard (messages_of write.now shard)) [])
+            clash (world_of self.new)) }
     {
         if !self.correct(at, shard) {
             return Ok(None);
@@ -160,12 +169,14 @@ impl<H: Hash32> Network<H> {
         requires network { IsNetwork self.old }
         requires present { is_present at (world_of self.old) ≡ true }
         requires to { AllByRecursion (λ s. s < committee_size (world_of self.old).log.f) to.now }
-        requires parts { (shard : ℕ) → shard < committee_size (world_of self.old).log.f → AreParts write.now shard }
+        requires parts { (shard : ℕ) → shard < committee_size (world_of self.old).log.f
+            → AreParts write.now shard }
         requires faults { write.now.metadata.f ≡ (world_of self.old).log.f }
         ensures network { OnOk result (IsNetwork self.new) }
         ensures books { OnOk result (self.new.books ≡ self.old.books) }
         ensures puts { IfOk result (λ clash. PutsTo H.digest (world_of self.old) at
-            (letters (world_of self.old) at (messages_of write.now) to.now) clash (world_of self.new)) }
+            (letters (world_of self.old) at (messages_of write.now) to.now)
+            clash (world_of self.new)) }
     {
         for shard in to {
             if let Some(clash) = self.put_message(alloc, at, *shard, write)? {
@@ -181,7 +192,8 @@ impl<H: Hash32> Network<H> {
         requires present { is_present at (world_of self.now) ≡ true }
         requires shard { shard < committee_size (world_of self.now).log.f }
         ensures { result ≡ (is_correct at (world_of self.now) shard
-            && has_frames (messages_of write.now shard) (held (side_of at (world_of self.now)) shard write.now.id)) }
+            && has_frames (messages_of write.now shard)
+            (held (side_of at (world_of self.now)) shard write.now.id)) }
     {
         if !self.correct(at, shard) {
             return false;
@@ -197,7 +209,9 @@ impl<H: Hash32> Network<H> {
         requires present { is_present at (world_of self.now) ≡ true }
         requires to { AllByRecursion (λ s. s < committee_size (world_of self.now).log.f) to.now }
         requires few { length to.now ≤ 1000 }
-        ensures { result ≡ stored_at (rules_of H.digest (world_of self.now).log.f) (world_of self.now) at (messages_of write.now) to.now write.now.id }
+        ensures { result
+            ≡ stored_at (rules_of H.digest (world_of self.now).log.f)
+            (world_of self.now) at (messages_of write.now) to.now write.now.id }
     {
         let mut count = 0;
         for shard in to {
@@ -212,7 +226,8 @@ impl<H: Hash32> Network<H> {
     fn start(&self, alloc: Global, blob: &[u8]) -> Result<Write<H>, AllocError>
         requires network { IsNetwork self.now }
         requires long { length blob.now ≤ most_bytes }
-        ensures { IfOk result (IsStarted H.digest (world_of self.now).log.f (world_of self.now).format blob.now) }
+        ensures { IfOk result
+            (IsStarted H.digest (world_of self.now).log.f (world_of self.now).format blob.now) }
     {
         match Write::<H>::start(alloc, self.f(), self.format, blob) {
             Ok(write) => Ok(write),
@@ -233,12 +248,15 @@ impl<H: Hash32> Network<H> {
         requires backed { AreBacked H.digest (world_of self.old) }
         requires long { length blob.now ≤ most_bytes }
         requires shards { IsTrue (is_ascending (committee_size (world_of self.old).log.f) to.now) }
-        requires started { IsStarted H.digest (world_of self.old).log.f (world_of self.old).format blob.now write.now }
+        requires started { IsStarted H.digest (world_of self.old).log.f
+            (world_of self.old).format blob.now write.now }
         ensures network { OnOk result (IsNetwork self.new) }
         ensures books { OnOk result (self.new.books ≡ self.old.books) }
         ensures step { IfOk result (IsTaken H.digest
-            (λ s. WriteStep (rules_of H.digest (world_of self.old).log.f) (world_of self.old) blob.now to.now s.id s.count (world_of self.new))
-            (WriteCollides (rules_of H.digest (world_of self.old).log.f) (world_of self.old) blob.now to.now (world_of self.new))) }
+            (λ s. WriteStep (rules_of H.digest (world_of self.old).log.f)
+            (world_of self.old) blob.now to.now s.id s.count (world_of self.new))
+            (WriteCollides (rules_of H.digest (world_of self.old).log.f)
+            (world_of self.old) blob.now to.now (world_of self.new))) }
     {
         let at = self.writing_side();
         if let Some(clash) = self.put_messages(alloc, at, write, to)? {
@@ -267,8 +285,10 @@ impl<H: Hash32> Network<H> {
         ensures network { OnOk result (IsNetwork self.new) }
         ensures books { OnOk result (self.new.books ≡ self.old.books) }
         ensures step { IfOk result (IsTaken H.digest
-            (λ s. WriteStep (rules_of H.digest (world_of self.old).log.f) (world_of self.old) blob.now to.now s.id s.count (world_of self.new))
-            (WriteCollides (rules_of H.digest (world_of self.old).log.f) (world_of self.old) blob.now to.now (world_of self.new))) }
+            (λ s. WriteStep (rules_of H.digest (world_of self.old).log.f)
+            (world_of self.old) blob.now to.now s.id s.count (world_of self.new))
+            (WriteCollides (rules_of H.digest (world_of self.old).log.f)
+            (world_of self.old) blob.now to.now (world_of self.new))) }
     {
         let write = self.start(alloc, blob)?;
         let written = self.finish_write(alloc, &write, blob, to);

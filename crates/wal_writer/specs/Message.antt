@@ -13,20 +13,24 @@ use Rattle.wal_frame.specs.Frame.{Frame, Metadata, Sliver}
 -- the frame of the sliver of an axis that a shard holds
 abbrev pub sliver_for : BlobMetadata → List ℕ → List ℕ → Axis → ℕ → Frame
 sliver_for m id e axis shard =
-    let index = held_index m.format m.f axis shard in Sliver id axis index (sliver_of axis m.f (symbol_size m.f m.length) e index)
+    let index = held_index m.format m.f axis shard in
+    Sliver id axis index (sliver_of axis m.f (symbol_size m.f m.length) e index)
 
 -- an honest writer's frames for a shard: the metadata, and the two slivers that it holds
 abbrev pub message_to : BlobMetadata → List ℕ → List ℕ → ℕ → List Frame
-message_to m id e shard = Metadata m ∷ sliver_for m id e Primary shard ∷ sliver_for m id e Secondary shard ∷ []
+message_to m id e shard =
+    Metadata m ∷ sliver_for m id e Primary shard ∷ sliver_for m id e Secondary shard ∷ []
 
 -- the identifier of a blob, and those frames
-pub record IsMessageOf (digest : List ℕ → List ℕ) (f : ℕ) (format : Format) (blob : List ℕ) (id : BlobId) (message : ℕ → List Frame) : Type 0 where
+pub record IsMessageOf (digest : List ℕ → List ℕ) (f : ℕ) (format : Format)
+    (blob : List ℕ) (id : BlobId) (message : ℕ → List Frame) : Type 0 where
   pub metadata : BlobMetadata
   pub is_metadata : IsMetadataOf digest format f blob metadata
   pub identifier : id.0 ≡ identifier_of digest metadata
   pub frames : message ≡ message_to metadata id.0 is_metadata.0
 
--- what a writer has made of a blob: its identifier, its metadata, and the bytes of its extended matrix, row by row
+-- what a writer has made of a blob: its identifier, its metadata, and the bytes of its extended
+-- matrix, row by row
 pub record Written : Type 0 where
   pub id : BlobId
   pub metadata : BlobMetadata

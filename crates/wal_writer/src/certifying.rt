@@ -14,7 +14,9 @@ pub fn certificate(id: &BlobId, ledger: &Ledger) -> Result<Certificate, Pending>
     ensures id { IfOk result (λ c. c.id ≡ id.now) }
     ensures certified { IfOk result (λ c. IsCertificate ledger.now.log id.now c.epoch c.count) }
     ensures pending { IfErr result (λ _. IsCertified ledger.now.log id.now → ⊥) }
-    ensures count { IfErr result (λ p. p.0 ≡ count_below (committee_size ledger.now.log.f) (acknowledgers ledger.now.log id.now (writing ledger.now.log))) }
+    ensures count { IfErr result
+        (λ p. p.0 ≡ count_below (committee_size ledger.now.log.f)
+        (acknowledgers ledger.now.log id.now (writing ledger.now.log))) }
 {
     match ledger.certificate(id) {
         Some((epoch, count)) => Ok(Certificate {

@@ -62,12 +62,15 @@ impl<H: Hash32> Model for Write<H> {
 
     ghost view = { λ w. record { id = w.id; metadata = w.metadata; cells = w.encoded.cells } };
 
-    ghost invariant = { λ w. IsWritten H.digest w.encoded.shape (record { id = w.id; metadata = w.metadata; cells = w.encoded.cells }) };
+    ghost invariant = { λ w.
+        IsWritten H.digest w.encoded.shape
+        (record { id = w.id; metadata = w.metadata; cells = w.encoded.cells }) };
 }
 
 /// The shape of a blob.
 fn shape_of(f: u32, format: Format, length: u64) -> Result<Shape, StartError>
-    ensures shape { IfOk result (λ s. (s ≡ record { format = format; f = f; length = length }) × IsShape f length) }
+    ensures shape { IfOk result
+        (λ s. (s ≡ record { format = format; f = f; length = length }) × IsShape f length) }
     ensures bad_faults { (result ≡ Err BadFaults) ↔ ¬ ((1 ≤ f) × (f ≤ 333)) }
     ensures too_long { (result ≡ Err TooLong) ↔ ((1 ≤ f) × (f ≤ 333) × (most_bytes < length)) }
 {
@@ -94,26 +97,29 @@ fn lent_metadata<'a>(m: MetaRef<'a>) -> FrameRef<'a>
 fn sliver_text(alloc: Global, id: BlobId, sliver: SliverRef<'_>) -> Result<Bytes, AllocError>
     requires index { sliver.index ≤ 999 }
     requires size { length sliver.bytes.now ≤ most_bytes }
-    ensures text { IfOk result (λ text. text ≡ frame_text (sliver_of_blob id.0 sliver.entry.axis sliver.entry.index sliver.entry.bytes.now)) }
+    ensures text { IfOk result (λ text. text ≡ frame_text (sliver_of_blob
+        id.0 sliver.entry.axis sliver.entry.index sliver.entry.bytes.now)) }
     ensures fits { IfOk result IsPayload }
 {
     frame_bytes(alloc, &FrameRef::Sliver { id, sliver })
 }
 
 impl<H: Hash32> Write<H> {
-    /// Begins to write a blob among `3f + 1` shards, of which at most `f` are faulty: its extended matrix, its
-    /// metadata and its identifier.
+    /// Begins to write a blob among `3f + 1` shards, of which at most `f` are faulty: its extended
+    /// matrix, its metadata and its identifier.
     pub fn start(
         alloc: Global,
         f: u32,
         format: Format,
         bytes: &[u8],
     ) -> Result<Write<H>, StartError>
-        ensures message { IfOk result (λ w. IsMessageOf H.digest f format bytes.now w.id (messages_of w)) }
+        ensures message { IfOk result
+            (λ w. IsMessageOf H.digest f format bytes.now w.id (messages_of w)) }
         ensures metadata { IfOk result (λ w. IsMetadataOf H.digest format f bytes.now w.metadata) }
         ensures faults { IfOk result (λ w. w.metadata.f ≡ f) }
         ensures bad_faults { (result ≡ Err BadFaults) ↔ ¬ ((1 ≤ f) × (f ≤ 333)) }
-        ensures too_long { (result ≡ Err TooLong) ↔ ((1 ≤ f) × (f ≤ 333) × (most_bytes < length bytes.now)) }
+        ensures too_long { (result ≡ Err TooLong)
+            ↔ ((1 ≤ f) × (f ≤ 333) × (most_bytes < length bytes.now)) }
     {
         let shape = shape_of(f, format, bytes.len() as u64)?;
         let encoded = extend(alloc, &shape, bytes)?;
@@ -143,10 +149,12 @@ impl<H: Hash32> Write<H> {
         &self.metadata
     }
 
-    /// The frames for a shard: the metadata, and the primary and the secondary sliver that the shard holds.
+    /// The frames for a shard: the metadata, and the primary and the secondary sliver that the
+    /// shard holds.
     pub fn message(&self, alloc: Global, shard: u16) -> Result<Payloads, AllocError>
         requires { shard < shard_count self.now.metadata.f }
-        ensures frames { IfOk result (λ payloads. payloads ≡ map frame_text (messages_of self.now shard)) }
+        ensures frames { IfOk result
+            (λ payloads. payloads ≡ map frame_text (messages_of self.now shard)) }
         // They fit in envelopes.
         ensures fit { IfOk result (λ payloads. AllByRecursion IsPayload payloads) }
     {
@@ -160,7 +168,8 @@ impl<H: Hash32> Write<H> {
     /// The frame of the metadata.
     #[tactic(auto, using(crate::proofs::Messages::metadata_payload))]
     fn metadata_text(&self, alloc: Global) -> Result<Bytes, AllocError>
-        ensures text { IfOk result (λ text. text ≡ frame_text (metadata_of_blob self.now.metadata)) }
+        ensures text { IfOk result
+            (λ text. text ≡ frame_text (metadata_of_blob self.now.metadata)) }
         ensures fits { IfOk result IsPayload }
     {
         frame_bytes(alloc, &lent_metadata(self.metadata.view()))
@@ -169,7 +178,8 @@ impl<H: Hash32> Write<H> {
     /// The frame of the primary sliver that a shard holds.
     fn primary_text(&self, alloc: Global, shard: u16) -> Result<Bytes, AllocError>
         requires { shard < shard_count self.now.metadata.f }
-        ensures text { IfOk result (λ text. text ≡ frame_text (sliver_for self.now.metadata self.now.id.0 self.now.cells Primary shard)) }
+        ensures text { IfOk result (λ text. text ≡ frame_text (sliver_for
+            self.now.metadata self.now.id.0 self.now.cells Primary shard)) }
         ensures fits { IfOk result IsPayload }
     {
         let index = self.metadata.view().held(Axis::Primary, shard);
@@ -184,7 +194,8 @@ impl<H: Hash32> Write<H> {
     /// The frame of the secondary sliver that a shard holds.
     fn secondary_text(&self, alloc: Global, shard: u16) -> Result<Bytes, AllocError>
         requires { shard < shard_count self.now.metadata.f }
-        ensures text { IfOk result (λ text. text ≡ frame_text (sliver_for self.now.metadata self.now.id.0 self.now.cells Secondary shard)) }
+        ensures text { IfOk result (λ text. text ≡ frame_text (sliver_for
+            self.now.metadata self.now.id.0 self.now.cells Secondary shard)) }
         ensures fits { IfOk result IsPayload }
     {
         let index = self.metadata.view().held(Axis::Secondary, shard);

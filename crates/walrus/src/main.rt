@@ -10,7 +10,8 @@ use wal_tree::Sha;
 /// The status of a run whose words the runtime does not give.
 const NO_WORDS: u8 = 11;
 
-/// The words of the command line without the program's own name, or the status where they are not there.
+/// The words of the command line without the program's own name, or the status where they are not
+/// there.
 fn words_of(rt: &HostRuntime) -> Result<Vec<String>, u8> {
     let given = match env::args(rt) {
         Ok(given) => given,

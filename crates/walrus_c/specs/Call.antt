@@ -1,4 +1,5 @@
--- WHAT A CALL OF THE LIBRARY RETURNS: what a run of the words over the input comes to, and what stands in the room.
+-- WHAT A CALL OF THE LIBRARY RETURNS: what a run of the words over the input comes to, and what
+-- stands in the room.
 use Rattle.std.specs.Prelude.{◌≡◌, ◌⊎◌, ℕ, ◌-◌, ◌^◌, ◌<◌, ◌≤◌, min, List, ◌++◌, length, take, drop, Some, Ok}
 use Rattle.wal_port.specs.Faults.{Rose}
 use Rattle.wal_event.specs.declared.event.Schedule.{Schedule}
@@ -13,8 +14,8 @@ use Rattle.wal_run.specs.Causes.{Causes, HasOneAnswer, IsExact}
 use Rattle.wal_run.specs.Replaying.{IsReport}
 use Rattle.walrus_c.specs.Words.{AreWords, AreNoWords}
 
--- what a run sees that begins with this input and ends with this rest of it, and writes this text behind what stood in its sink; its
--- source and its sink have no fault, so both counts stay at 0
+-- what a run sees that begins with this input and ends with this rest of it, and writes this text
+-- behind what stood in its sink; its source and its sink have no fault, so both counts stay at 0
 abbrev pub around : List ℕ → List ℕ → List ℕ → List ℕ → Around
 around input rest before text = record {
   left = Some input;
@@ -26,14 +27,17 @@ around input rest before text = record {
 }
 
 -- the run of these words over this input ends with this status, and the text is what it writes
-pub record Comes (digest : List ℕ → List ℕ) (words : List (List ℕ)) (input : List ℕ) (status : ℕ) (text : List ℕ) : Type 0 where
+pub record Comes (digest : List ℕ → List ℕ) (words : List (List ℕ))
+    (input : List ℕ) (status : ℕ) (text : List ℕ) : Type 0 where
   -- what is left of the input, and what stood in the sink, whatever it is
   pub rest : List ℕ
   pub before : List ℕ
   -- what was taken and written, and why the run ended
   pub ends : Ends digest words (around input rest before text) status
-  -- THE HEADLINE: the text is the report of a safe run of the schedule, whatever faulty shards and writers send
-  pub headline : (s : Schedule) → IsTask words (Whole Replay) → length input ≤ most_input → IsRead input (Ok s) → IsReport digest s status text
+  -- THE HEADLINE: the text is the report of a safe run of the schedule, whatever faulty shards and
+  -- writers send
+  pub headline : (s : Schedule) → IsTask words (Whole Replay) → length input ≤ most_input
+      → IsRead input (Ok s) → IsReport digest s status text
   -- what the status shows, by the table of causes
   pub causes : Causes digest words (around input rest before text) status
   -- whatever answer the words and the input have was told, or a front of it for want of memory
@@ -45,8 +49,8 @@ pub record Comes (digest : List ℕ → List ℕ) (words : List (List ℕ)) (inp
   -- the words and an input have at most one answer
   pub only : HasOneAnswer digest words
 
--- the text has its front in the room, and what stood in the room behind it stands there still; the numbers say how much of the text is
--- there, and how much there is of it
+-- the text has its front in the room, and what stood in the room behind it stands there still; the
+-- numbers say how much of the text is there, and how much there is of it
 pub record IsFilled (room new text : List ℕ) (written needed : ℕ) : Type 0 where
   pub front : new ≡ take (length room) text ++ drop (length text) room
   pub written_is : written ≡ min (length text) (length room)
@@ -59,16 +63,26 @@ pub record IsUntouched (room new : List ℕ) (written needed : ℕ) : Type 0 whe
   pub needed_is : needed ≡ 0
 
 -- THE TABLE: what the call returns, by its status
-pub data Returns (digest : List ℕ → List ℕ) (text_of_words input room new : List ℕ) (written needed : ℕ) : ℕ → Type 0 where
+pub data Returns (digest : List ℕ → List ℕ)
+    (text_of_words input room new : List ℕ) (written needed : ℕ) : ℕ
+    → Type 0 where
   -- the status of the run, whose whole text is in the room
-  answered : (words : List (List ℕ)) → AreWords words text_of_words → (status : ℕ) (text : List ℕ) → Comes digest words input status text
-      → IsFilled room new text written needed → length text ≤ length room → Returns digest text_of_words input room new written needed status
+  answered : (words : List (List ℕ)) → AreWords words text_of_words → (status : ℕ) (text : List ℕ)
+      → Comes digest words input status text
+      → IsFilled room new text written needed → length text ≤ length room
+      → Returns digest text_of_words input room new written needed status
   -- 7: the text has more bytes than there is room for
-  no_room : (words : List (List ℕ)) → AreWords words text_of_words → (status : ℕ) (text : List ℕ) → Comes digest words input status text
-      → (status ≡ 5 → ⊥) → IsFilled room new text written needed → length room < length text → Returns digest text_of_words input room new written needed 7
+  no_room : (words : List (List ℕ)) → AreWords words text_of_words → (status : ℕ) (text : List ℕ)
+      → Comes digest words input status text
+      → (status ≡ 5 → ⊥) → IsFilled room new text written needed → length room < length text
+      → Returns digest text_of_words input room new written needed 7
   -- 5: memory ran out in the run, whose text is then a front of the answer, or before it
-  no_memory : (words : List (List ℕ)) → AreWords words text_of_words → (text : List ℕ) → Comes digest words input 5 text
-      → IsFilled room new text written needed → Returns digest text_of_words input room new written needed 5
-  no_memory_for_words : IsUntouched room new written needed → Returns digest text_of_words input room new written needed 5
+  no_memory : (words : List (List ℕ)) → AreWords words text_of_words → (text : List ℕ)
+      → Comes digest words input 5 text
+      → IsFilled room new text written needed
+      → Returns digest text_of_words input room new written needed 5
+  no_memory_for_words : IsUntouched room new written needed
+      → Returns digest text_of_words input room new written needed 5
   -- 11: the words are none
-  no_words : AreNoWords text_of_words → IsUntouched room new written needed → Returns digest text_of_words input room new written needed 11
+  no_words : AreNoWords text_of_words → IsUntouched room new written needed
+      → Returns digest text_of_words input room new written needed 11

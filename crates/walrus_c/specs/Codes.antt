@@ -2,22 +2,24 @@
 use Rattle.std.specs.Prelude.{ℕ, List, [], ◌∷◌, codes, ◌&&◌, ◌==◌, nat_eq, if◌then◌else◌}
 use Rattle.std.specs.List.{starts_with}
 
--- a number, its status, and the words with which the text begins; no words where the text may be any
+-- a number, its status, and the words with which the text begins; no words where the text may be
+-- any
 abbrev pub Row : Type 0
 Row = ℕ × ℕ × List ℕ
 
 -- the number of the first row of this status whose words are a prefix of the text, or 0
 abbrev pub first_code : List Row → ℕ → List ℕ → ℕ
 first_code [] status text = 0
-first_code (row ∷ rows) status text = if row.1 == status && starts_with nat_eq text row.2 then row.0 else first_code rows status text
+first_code (row ∷ rows) status text =
+    if row.1 == status && starts_with nat_eq text row.2 then row.0 else first_code rows status text
 
 -- THE TABLE, a row for each refusal; a number is never given to another one
 unfoldable pub refusals : List Row
 refusals =
     -- the usage
     (201, 2, codes "usage: ")
-    -- something is false: the blob was badly encoded, the proof shows so, the blob is no bundle, an opening is not the one that was drawn,
-    -- and the envelope of the proof that `recover` writes
+    -- something is false: the blob was badly encoded, the proof shows so, the blob is no bundle, an
+    -- opening is not the one that was drawn, and the envelope of the proof that `recover` writes
     ∷ (301, 3, codes "reject\n")
     ∷ (302, 3, codes "inconsistent\n")
     ∷ (303, 3, codes "bad index\n")

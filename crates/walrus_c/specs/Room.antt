@@ -1,4 +1,5 @@
--- THE ROOM of a call: so many bytes suffice for whatever text a run of the words writes, by the task and by how many bytes the input has.
+-- THE ROOM of a call: so many bytes suffice for whatever text a run of the words writes, by the
+-- task and by how many bytes the input has.
 use Rattle.std.specs.Prelude.{◌≡◌, ℕ, ◌*◌, ◌+◌, ◌-◌, ◌/◌, ◌^◌, ◌<◌, ◌≤◌, min, max, List, length}
 use Rattle.wal_shape.specs.Shape.{cell_count, most_bytes}
 use Rattle.wal_words.specs.declared.task.Task.{Task}
@@ -25,34 +26,40 @@ no_memory_told = 2 ^ 64 - 2
 abbrev pub name_line : ℕ
 name_line = 65
 
--- the most bytes of a line of a verdict, a refusal or two texts that collide, each of which has at most 65 bytes
+-- the most bytes of a line of a verdict, a refusal or two texts that collide, each of which has at
+-- most 65 bytes
 abbrev pub one_line : ℕ
 one_line = 272
 
--- the most bytes of the envelope of a proof of bad encoding, with 667 openings whose symbols have no more bytes than the longest blob;
--- that of a sliver has fewer
+-- the most bytes of the envelope of a proof of bad encoding, with 667 openings whose symbols have
+-- no more bytes than the longest blob; that of a sliver has fewer
 abbrev pub recovered_most : ℕ
 recovered_most = 45 + 667 * 327 + most_bytes
 
--- the most bytes of an image, and of envelopes that are read at once: of more only a line is written
+-- the most bytes of an image, and of envelopes that are read at once: of more only a line is
+-- written
 abbrev pub most_taken : ℕ
 most_taken = 134217728
 
--- the most bytes of a member, whose columns are some of those of a source block: each of its symbols is filled but for less than a word
+-- the most bytes of a member, whose columns are some of those of a source block: each of its
+-- symbols is filled but for less than a word
 abbrev pub member_most : ℕ
 member_most = most_bytes + 2 * cell_count 333
 
--- the most bytes of the envelope of an opening, with a path of ten digests and a symbol: five of its size stand in the two slivers that are
--- read, and 2,796,204 bytes are the symbol of the longest blob at one fault
+-- the most bytes of the envelope of an opening, with a path of ten digests and a symbol: five of
+-- its size stand in the two slivers that are read, and 2,796,204 bytes are the symbol of the
+-- longest blob at one fault
 abbrev pub opening_most : ℕ → ℕ
 opening_most count = 50 + 320 + min (count / 5) 2796204
 
--- the most bytes of a blob that is read from so many bytes, and of the line that says why there is none
+-- the most bytes of a blob that is read from so many bytes, and of the line that says why there is
+-- none
 abbrev pub read_most : ℕ → ℕ
 read_most count = max (min count most_bytes) one_line
 
--- the most bytes of the lines of a gateway that took so many bytes: no request has fewer than 48 in its envelope, and a line has 34 besides two
--- digits for each byte of a blob, which is no longer than what was taken; besides, one line that says where the stream breaks, or two texts that
+-- the most bytes of the lines of a gateway that took so many bytes: no request has fewer than 48 in
+-- its envelope, and a line has 34 besides two digits for each byte of a blob, which is no longer
+-- than what was taken; besides, one line that says where the stream breaks, or two texts that
 -- collide
 abbrev pub fetched_most : ℕ → ℕ
 fetched_most taken = one_line + (34 + 2 * min taken most_bytes) * (taken / 48)
@@ -61,14 +68,16 @@ fetched_most taken = one_line + (34 + 2 * min taken most_bytes) * (taken / 48)
 abbrev pub two_texts : ℕ
 two_texts = 140
 
--- the most bytes of what a shard answers that took so many bytes: 17 to each envelope, none of which has fewer than seven; to each request for
--- parts of a blob, none of which has fewer than 40, besides what it holds of the blob, which is no more than what was taken, nor than its
--- longest reply, and where it opens a sliver at most 323 more; and two texts that collide at the end
+-- the most bytes of what a shard answers that took so many bytes: 17 to each envelope, none of
+-- which has fewer than seven; to each request for parts of a blob, none of which has fewer than 40,
+-- besides what it holds of the blob, which is no more than what was taken, nor than its longest
+-- reply, and where it opens a sliver at most 323 more; and two texts that collide at the end
 abbrev pub served_most : ℕ → ℕ → ℕ
-served_most f taken = two_texts + 17 * (taken / 7) + (323 + min taken (shard.room_of f)) * (taken / 40)
+served_most f taken =
+    two_texts + 17 * (taken / 7) + (323 + min taken (shard.room_of f)) * (taken / 40)
 
--- by the command of a task that takes its whole input at once, and how many bytes the input has; none for a replay, as the two texts of a
--- collision that ends one are of no certain length
+-- by the command of a task that takes its whole input at once, and how many bytes the input has;
+-- none for a replay, as the two texts of a collision that ends one are of no certain length
 abbrev pub whole_room : WholeTask → ℕ → ℕ
 whole_room (Identify f format) count = name_line
 whole_room (Encode f format) count = encoded_bytes f format (min count most_bytes)
@@ -93,17 +102,20 @@ room_of (Sample number) count = none_given
 -- the room that is told for the words of a text, and an input of so many bytes
 pub data IsRoom (text_of_words : List ℕ) (count : ℕ) : ℕ → Type 0 where
   -- that of the task for which they ask
-  asked : (words : List (List ℕ)) → AreWords words text_of_words → (task : Task) → IsTask words task → IsRoom text_of_words count (room_of task count)
+  asked : (words : List (List ℕ)) → AreWords words text_of_words → (task : Task) → IsTask words task
+      → IsRoom text_of_words count (room_of task count)
   -- the usage's bytes, where they ask for nothing
-  nothing_asked : (words : List (List ℕ)) → AreWords words text_of_words → NoTask words → IsRoom text_of_words count (length usage_text)
+  nothing_asked : (words : List (List ℕ)) → AreWords words text_of_words → NoTask words
+      → IsRoom text_of_words count (length usage_text)
   -- none, where the text is no words
   no_words : AreNoWords text_of_words → IsRoom text_of_words count none_given
   -- want of memory, where that ran out while they were read; it is no room, and no 'none'
   no_memory : IsRoom text_of_words count no_memory_told
 
--- where a room is given, it suffices: whatever input of so many bytes the words are run over, and however the run ends, its text has no
--- more bytes
+-- where a room is given, it suffices: whatever input of so many bytes the words are run over, and
+-- however the run ends, its text has no more bytes
 abbrev pub Suffices : (List ℕ → List ℕ) → List ℕ → ℕ → ℕ → Type 0
 Suffices digest text_of_words count room =
-    room < no_memory_told → (words : List (List ℕ)) → AreWords words text_of_words → (input : List ℕ) → length input ≡ count → (status : ℕ) (text : List ℕ)
+    room < no_memory_told → (words : List (List ℕ)) → AreWords words text_of_words
+    → (input : List ℕ) → length input ≡ count → (status : ℕ) (text : List ℕ)
     → Comes digest words input status text → length text ≤ room

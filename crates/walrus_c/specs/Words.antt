@@ -9,7 +9,9 @@ HasNoZero (byte ∷ rest) = (0 < byte) × HasNoZero rest
 -- the text is these words: each is UTF-8, has no zero byte, and has one behind it
 abbrev pub AreWords : List (List ℕ) → List ℕ → Type 0
 AreWords [] text = text ≡ []
-AreWords (word ∷ words) text = IsUtf8 word × HasNoZero word × ((rest : List ℕ) × (text ≡ word ++ 0 ∷ rest) × AreWords words rest)
+AreWords (word ∷ words) text =
+    IsUtf8 word × HasNoZero word
+    × ((rest : List ℕ) × (text ≡ word ++ 0 ∷ rest) × AreWords words rest)
 
 -- the text is no list of words
 abbrev pub AreNoWords : List ℕ → Type 0

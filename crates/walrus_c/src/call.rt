@@ -18,7 +18,8 @@ pub struct Ended {
 
 /// Does what the words ask for, and keeps the front of the text in the room.
 pub fn run_over(alloc: Global, words: &Vec<String>, input: &[u8], room: &mut [u8]) -> Ended
-    ensures { Ran sha256 (map string_bytes words.now.items) input.now room.old room.new result.status result.count }
+    ensures { Ran sha256 (map string_bytes words.now.items)
+        input.now room.old room.new result.status result.count }
 {
     let mut source = SliceSource::create(input);
     let mut sink = SliceSink::create(room);

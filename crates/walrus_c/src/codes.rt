@@ -8,7 +8,8 @@ use wal_run::{
     COLLISION, MALFORMED, NO_MEMORY, REJECTED, SHORT, SINK_FAILED, SOURCE_FAILED, TOO_LONG, USAGE,
 };
 
-/// For each refusal its number, its status, and the words with which its text begins; none where the text may be any.
+/// For each refusal its number, its status, and the words with which its text begins; none where
+/// the text may be any.
 const REFUSALS: [(u32, u8, &[u8]); 34] = [
     (201, USAGE, b"usage: "),
     (301, REJECTED, b"reject\n"),
@@ -48,7 +49,8 @@ const REFUSALS: [(u32, u8, &[u8]); 34] = [
 
 // The number of the first row of this status whose words are a prefix of the text, or 0.
 fn first_code(mut rows: &[(u32, u8, &[u8])], status: u8, text: &[u8]) -> u32
-    ensures { result ≡ first_code (map (λ row. (row.0, row.1, row.2.now)) rows.entry.now) status text.now }
+    ensures { result
+        ≡ first_code (map (λ row. (row.0, row.1, row.2.now)) rows.entry.now) status text.now }
 {
     while let [row, rest @ ..] = rows {
         if row.1 == status && text.starts_with(row.2) {

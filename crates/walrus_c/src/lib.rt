@@ -19,10 +19,12 @@ use room::{room_for, untold};
 use std::alloc::Global;
 use words::words_of;
 
-/// Does what the words ask for, with `input` as the input, and keeps the front of the text in `output`.
+/// Does what the words ask for, with `input` as the input, and keeps the front of the text in
+/// `output`.
 ///
-/// Each word has a zero byte behind it. `written` is how many bytes of `output` are the text's, and `needed` how many
-/// the whole text has; at status 5 that is the text so far, to which memory ran out.
+/// Each word has a zero byte behind it. `written` is how many bytes of `output` are the text's, and
+/// `needed` how many the whole text has; at status 5 that is the text so far, to which memory ran
+/// out.
 #[unsafe(no_mangle)]
 pub extern "C" fn walrus_run(
     alloc: Global,
@@ -32,7 +34,8 @@ pub extern "C" fn walrus_run(
     written: &mut u64,
     needed: &mut u64,
 ) -> u8
-    ensures { Returns sha256 words.now input.now output.old output.new written.new needed.new result }
+    ensures { Returns sha256 words.now input.now output.old
+        output.new written.new needed.new result }
 {
     *written = 0;
     *needed = 0;
@@ -48,8 +51,8 @@ pub extern "C" fn walrus_run(
     }
 }
 
-/// How many bytes of output suffice for the words and any input of `input_len` bytes, all ones where none is given, or one
-/// less where memory ran out before the words were read.
+/// How many bytes of output suffice for the words and any input of `input_len` bytes, all ones
+/// where none is given, or one less where memory ran out before the words were read.
 #[unsafe(no_mangle)]
 pub extern "C" fn walrus_room(alloc: Global, words: &[u8], input_len: u64) -> u64
     // The table, by the words' task.
@@ -63,13 +66,14 @@ pub extern "C" fn walrus_room(alloc: Global, words: &[u8], input_len: u64) -> u6
     }
 }
 
-/// Which refusal a call of `walrus_run` reported, by its status and the text that it wrote: a number of the table, or 0 if it
-/// reported none.
+/// Which refusal a call of `walrus_run` reported, by its status and the text that it wrote: a
+/// number of the table, or 0 if it reported none.
 #[unsafe(no_mangle)]
 pub extern "C" fn walrus_code(status: u8, output: &[u8]) -> u32
     // The table.
     ensures exact { result ≡ code_of status output.now }
-    // Whatever words and input the run had that wrote this with this status: unless that is 0, the code shows why.
+    // Whatever words and input the run had that wrote this with this status: unless that is 0, the
+    // code shows why.
     ensures why { ShowsWhy sha256 status output.now result }
 {
     code_of(status, output)

@@ -57,7 +57,8 @@ const MOST_SERVED: u64 = 1_073_741_824;
 /// The most bytes of two texts that collide, in an envelope.
 const TWO_TEXTS: u64 = 140;
 
-/// The bytes of an envelope without a payload, of an answer in one, and of a request for parts in one.
+/// The bytes of an envelope without a payload, of an answer in one, and of a request for parts in
+/// one.
 const LEAST_ENVELOPE: u64 = 7;
 
 const ANSWER: u64 = 17;
@@ -152,7 +153,8 @@ fn served_room(faults: u32, count: u64) -> u64
 
 // That of all envelopes of a blob of so many bytes.
 fn encoded_room(faults: u32, format: Format, length: u64) -> u64
-    ensures { (1 ≤ faults) × (faults ≤ 333) → length ≤ most_bytes → result ≡ encoded_bytes faults format length }
+    ensures { (1 ≤ faults) × (faults ≤ 333) → length ≤ most_bytes
+        → result ≡ encoded_bytes faults format length }
 {
     match Shape::new(faults, length) {
         Ok(shape) => {

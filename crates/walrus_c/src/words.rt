@@ -13,7 +13,8 @@ pub const NO_WORDS: u8 = 11;
 /// The words of the text, or the status that tells why there are none.
 pub fn words_of(alloc: Global, text: &[u8]) -> Result<Vec<String>, u8>
     ensures words { IfOk result (λ words. AreWords (map string_bytes words.items) text.now) }
-    ensures refused { IfErr result (λ status. (status ≡ 5) ⊎ ((status ≡ 11) × AreNoWords text.now)) }
+    ensures refused { IfErr result
+        (λ status. (status ≡ 5) ⊎ ((status ≡ 11) × AreNoWords text.now)) }
 {
     let mut words = Vec::new(alloc);
     let mut word = Vec::new(alloc);
@@ -37,7 +38,8 @@ fn take_byte(alloc: Global, words: &mut Vec<String>, word: &mut Vec<u8>, byte: u
         → ReadSoFar (map string_bytes words.old.items) word.old.items (byte ∷ left) text
         → ReadSoFar (map string_bytes words.new.items) word.new.items left text) }
     ensures refused { IfErr result (λ status. (status ≡ 5) ⊎ ((status ≡ 11) × ((left text : List ℕ)
-        → ReadSoFar (map string_bytes words.old.items) word.old.items (byte ∷ left) text → AreNoWords text))) }
+        → ReadSoFar (map string_bytes words.old.items) word.old.items (byte ∷ left) text
+        → AreNoWords text))) }
 {
     if byte == 0 {
         return match add_word(alloc, words, word) {
@@ -56,9 +58,11 @@ fn take_byte(alloc: Global, words: &mut Vec<String>, word: &mut Vec<u8>, byte: u
 
 // Puts one more word behind the others.
 fn add_word(alloc: Global, words: &mut Vec<String>, word: &[u8]) -> Result<(), u8>
-    ensures added { OnOk result ((map string_bytes words.new.items ≡ map string_bytes words.old.items ++ word.now ∷ [])
+    ensures added { OnOk result
+        ((map string_bytes words.new.items ≡ map string_bytes words.old.items ++ word.now ∷ [])
         × IsUtf8 word.now) }
-    ensures refused { IfErr result (λ status. (status ≡ 5) ⊎ ((status ≡ 11) × (IsUtf8 word.now → ⊥))) }
+    ensures refused { IfErr result
+        (λ status. (status ≡ 5) ⊎ ((status ≡ 11) × (IsUtf8 word.now → ⊥))) }
 {
     let Ok(text) = std::str::from_utf8(word) else {
         return Err(NO_WORDS);

@@ -11,4 +11,5 @@ pub record IsTable (known wanted : List ℕ) (table : List Gf) : Type 0 where
   pub wanted_below : All (λ p. p < 1000) wanted
   pub size : length table ≡ length wanted * length known
   pub entries : (w k : ℕ) → w < length wanted → k < length known →
-      element_at table (w * length known + k) ≡ coefficient known (slice_index known k) (slice_index wanted w)
+      element_at table (w * length known + k)
+      ≡ coefficient known (slice_index known k) (slice_index wanted w)

@@ -11,4 +11,5 @@ abbrev pub pair_over : (List ℕ → List ℕ) → BlobShape → List ℕ → �
 pair_over digest shape e shard =
     let n = shard_count shape.f in
     let s = symbol_size shape.f shape.length in
-    root_over digest s (row_of n s e shard) ++ root_over digest s (column_of n s e (held_index shape.format shape.f Secondary shard))
+    root_over digest s (row_of n s e shard)
+    ++ root_over digest s (column_of n s e (held_index shape.format shape.f Secondary shard))

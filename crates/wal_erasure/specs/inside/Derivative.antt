@@ -29,4 +29,5 @@ quotient (suc j) c e x =
 -- at each word place, new has the coefficients of the derivative of the polynomial that old has
 abbrev pub AreDerived : ℕ → ℕ → List ℕ → List ℕ → Type 0
 AreDerived width level old new =
-    (w : ℕ) → w < width → (x : ℕ) → value level (lane width new w) x ≡ quotient level (lane width old w) x x
+    (w : ℕ) → w < width → (x : ℕ)
+    → value level (lane width new w) x ≡ quotient level (lane width old w) x x

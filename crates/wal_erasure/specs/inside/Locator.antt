@@ -12,7 +12,8 @@ is_known (q ∷ known) x = cond (eqb q x) true (is_known known x)
 -- the product of x + q over the points q below n that are not known
 unfoldable pub locator : List ℕ → ℕ → ℕ → ℕ
 locator known zero x = 1
-locator known (suc n) x = cond (is_known known n) (locator known n x) (times (bit_xor x n) (locator known n x))
+locator known (suc n) x =
+    cond (is_known known n) (locator known n x) (times (bit_xor x n) (locator known n x))
 
 -- that over the missing points other than x
 abbrev pub others : List ℕ → ℕ → ℕ → ℕ
@@ -22,7 +23,9 @@ others known n x = locator (x ∷ known) n x
 abbrev pub AreMarks : List ℕ → ℕ → List Bool → Type 0
 AreMarks known n marks = (q : ℕ) → q < n → slice_index_or marks q false ≡ is_known known q
 
--- at each known point below n the product over the missing points, and at each missing one the inverse of that over the others
+-- at each known point below n the product over the missing points, and at each missing one the
+-- inverse of that over the others
 abbrev pub AreFactors : List ℕ → ℕ → ℕ → List Gf → Type 0
 AreFactors known n end factors =
-    (x : ℕ) → x < end → element_at factors x ≡ cond (is_known known x) (others known n x) (inverse (others known n x))
+    (x : ℕ) → x < end
+    → element_at factors x ≡ cond (is_known known x) (others known n x) (inverse (others known n x))

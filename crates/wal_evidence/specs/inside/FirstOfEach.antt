@@ -3,7 +3,8 @@ use Rattle.std.specs.Prelude.{ℕ, ◌≤◌, List, length, map, All}
 use Rattle.wal_code.specs.Codeword.{Distinct}
 
 -- at most so many, of distinct keys, and of each this is so
-pub record AreTaken {Y : Type 0} (Is : Y → Type 0) (key : Y → ℕ) (most : ℕ) (taken : List Y) : Type 0 where
+pub record AreTaken {Y : Type 0} (Is : Y → Type 0)
+    (key : Y → ℕ) (most : ℕ) (taken : List Y) : Type 0 where
   pub few : length taken ≤ most
   pub distinct : Distinct (map key taken)
   pub each : All Is taken

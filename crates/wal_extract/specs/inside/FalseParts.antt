@@ -1,4 +1,5 @@
--- Slivers and openings that are not a matrix's own, though they are committed under one root with these.
+-- Slivers and openings that are not a matrix's own, though they are committed under one root with
+-- these.
 use Rattle.std.specs.Prelude.{◌≡◌, ◌≢◌, ℕ, ◌*◌, ◌<◌, List, All, Some, length, slice_get, slice_index}
 use Rattle.wal_kernel.specs.Region.{region}
 use Rattle.wal_shape.specs.declared.axis.Axis.TheVariants.{Primary}
@@ -16,12 +17,15 @@ pub record HaveFalseSliver (f s : ℕ) (e indices joined : List ℕ) : Type 0 wh
   pub long : length joined ≡ length indices * (column_count f * s)
   pub place : ℕ
   pub within : place < length indices
-  pub apart : region (column_count f * s) joined place ≢ primary_of f s e (slice_index indices place)
+  pub apart : region (column_count f * s) joined place
+      ≢ primary_of f s e (slice_index indices place)
 
 -- each of them has one root with that of the matrix
-pub record SliversMeet (digest : List ℕ → List ℕ) (f s : ℕ) (e indices joined : List ℕ) : Type 0 where
+pub record SliversMeet (digest : List ℕ → List ℕ) (f s : ℕ)
+    (e indices joined : List ℕ) : Type 0 where
   pub each : (k : ℕ) → k < length indices
-      → HaveOneRoot digest f Primary (region (column_count f * s) joined k) (primary_of f s e (slice_index indices k))
+      → HaveOneRoot digest f Primary (region (column_count f * s) joined k)
+      (primary_of f s e (slice_index indices k))
 
 -- the symbol of the matrix for an opening of this target
 abbrev pub own_symbol : ℕ → ℕ → List ℕ → EncodingProof → Opening → List ℕ
@@ -38,5 +42,7 @@ pub record HaveFalseOpening (f s : ℕ) (e : List ℕ) (p : EncodingProof) : Typ
   pub apart : opening.symbol ≢ own_symbol f s e p opening
 
 -- the metadata over the matrix commits each of them
-pub record OpeningsMeet (digest : List ℕ → List ℕ) (shape : BlobShape) (e : List ℕ) (p : EncodingProof) : Type 0 where
-  pub each : (k : ℕ) (o : Opening) → slice_get p.openings k ≡ Some o → HoldsOpening digest (metadata_over digest shape e) p.axis p.index o
+pub record OpeningsMeet (digest : List ℕ → List ℕ) (shape : BlobShape)
+    (e : List ℕ) (p : EncodingProof) : Type 0 where
+  pub each : (k : ℕ) (o : Opening) → slice_get p.openings k ≡ Some o
+      → HoldsOpening digest (metadata_over digest shape e) p.axis p.index o

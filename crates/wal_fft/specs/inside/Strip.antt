@@ -4,20 +4,25 @@ use Rattle.wal_code.specs.Codeword.{IsCodeword}
 use Rattle.wal_kernel.specs.Region.{word_at}
 use Rattle.wal_fft.specs.Transform.{lane}
 
--- the first `known` runs of the strip are the words from `start` on of the regions of `words` words, and the others are zeros
+-- the first `known` runs of the strip are the words from `start` on of the regions of `words`
+-- words, and the others are zeros
 pub record IsGathered (words start width known : ℕ) (regions strip : List ℕ) : Type 0 where
-  pub copied : (w : ℕ) → w < width → (i : ℕ) → i < known → lane width strip w i ≡ word_at regions (words * i + (start + w))
+  pub copied : (w : ℕ) → w < width → (i : ℕ) → i < known
+      → lane width strip w i ≡ word_at regions (words * i + (start + w))
   pub zeros : (w : ℕ) → w < width → (i : ℕ) → known ≤ i → lane width strip w i ≡ 0
 
--- the regions from `known` to below `total` have the strip's words from `start` on, and neither the words before them nor the
--- first regions changed
+-- the regions from `known` to below `total` have the strip's words from `start` on, and neither the
+-- words before them nor the first regions changed
 pub record IsScattered (words start width known total : ℕ) (strip old new : List ℕ) : Type 0 where
-  pub copied : (w : ℕ) → w < width → (i : ℕ) → known ≤ i → i < total → word_at new (words * i + (start + w)) ≡ lane width strip w i
+  pub copied : (w : ℕ) → w < width → (i : ℕ) → known ≤ i → i < total
+      → word_at new (words * i + (start + w)) ≡ lane width strip w i
   pub first : (k : ℕ) → k < known * (2 * words) → slice_index new k ≡ slice_index old k
   pub before : (i p : ℕ) → p < start → word_at new (words * i + p) ≡ word_at old (words * i + p)
 
--- the words from `start` to below `end` of the regions are codewords, and neither the words before them nor the first regions changed
+-- the words from `start` to below `end` of the regions are codewords, and neither the words before
+-- them nor the first regions changed
 pub record IsExtendedStrip (words start end known total : ℕ) (old new : List ℕ) : Type 0 where
-  pub codewords : (p : ℕ) → start ≤ p → p < end → IsCodeword known total (λ i. word_at new (words * i + p))
+  pub codewords : (p : ℕ) → start ≤ p → p < end
+      → IsCodeword known total (λ i. word_at new (words * i + p))
   pub first : (k : ℕ) → k < known * (2 * words) → slice_index new k ≡ slice_index old k
   pub before : (i p : ℕ) → p < start → word_at new (words * i + p) ≡ word_at old (words * i + p)

@@ -4,4 +4,6 @@ use Rattle.wal_journal.specs.Disk.{Agrees, put_at}
 
 -- what was there but for the bytes behind the gate, or what is there with them but for the gate
 abbrev pub BeforeGate : ℕ → List ℕ → List ℕ → List ℕ → Type 0
-BeforeGate tail text old image = Agrees ((tail + 1, length text) ∷ []) old image ⊎ Agrees ((tail, 1) ∷ []) (put_at (tail + 1) text old) image
+BeforeGate tail text old image =
+    Agrees ((tail + 1, length text) ∷ []) old image
+    ⊎ Agrees ((tail, 1) ∷ []) (put_at (tail + 1) text old) image

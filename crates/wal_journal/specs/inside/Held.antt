@@ -6,7 +6,8 @@ use Rattle.wal_journal.specs.Record.{spelling, IsWholeRecord, records, Accepts}
 use Rattle.wal_journal.specs.Reading.{HadRoomForPuts}
 
 -- a change that is ready to be written behind those that are accepted
-pub record IsReady (now : List ℕ) (tail : ℕ) (text : List ℕ) (changes : List Call) (c : Call) : Type 0 where
+pub record IsReady (now : List ℕ) (tail : ℕ) (text : List ℕ)
+    (changes : List Call) (c : Call) : Type 0 where
   pub accepts : Accepts now changes
   pub at : length (records changes) ≡ tail
   pub whole : IsWholeRecord c
@@ -16,12 +17,17 @@ pub record IsReady (now : List ℕ) (tail : ℕ) (text : List ℕ) (changes : Li
 
 -- some change is ready, and the keep holds what it makes
 abbrev pub WithOne : List ℕ → ℕ → List ℕ → Contents → Type 0
-WithOne now tail text contents = (changes : List Call) × (c : Call) × IsReady now tail text changes c × (contents ≡ after_calls no_contents (changes ++ c ∷ []))
+WithOne now tail text contents =
+    (changes : List Call) × (c : Call) × IsReady now tail text changes c
+    × (contents ≡ after_calls no_contents (changes ++ c ∷ []))
 
 -- the disk accepts some changes, and an empty keep of this limit has room for them
 abbrev pub FitsSome : List ℕ → Option ℕ → Type 0
-FitsSome now limit = (changes : List Call) × Accepts now changes × HadRoomForPuts limit no_contents changes
+FitsSome now limit =
+    (changes : List Call) × Accepts now changes × HadRoomForPuts limit no_contents changes
 
 -- some change is ready, and an empty keep of this limit has room for it behind those before it
 abbrev pub FitsWithOne : List ℕ → ℕ → List ℕ → Option ℕ → Type 0
-FitsWithOne now tail text limit = (changes : List Call) × (c : Call) × IsReady now tail text changes c × HadRoomForPuts limit no_contents (changes ++ c ∷ [])
+FitsWithOne now tail text limit =
+    (changes : List Call) × (c : Call) × IsReady now tail text changes c
+    × HadRoomForPuts limit no_contents (changes ++ c ∷ [])

@@ -26,8 +26,11 @@ pub record HasHead (h : Head) (c : Call) : Type 0 where
 
 -- the head is of this kind of change
 abbrev pub IsHead : Head → Change → Type 0
-IsHead h (read.Put id part size) = (h.kind ≡ 1) × (h.id ≡ id) × (h.part ≡ part_byte part) × (h.size ≡ size) × (1 ≤ size) × (size ≤ most_bytes)
-IsHead h (read.DropPart id part) = (h.kind ≡ 2) × (h.id ≡ id) × (h.part ≡ part_byte part) × (h.size ≡ 0)
+IsHead h (read.Put id part size) =
+    (h.kind ≡ 1) × (h.id ≡ id) × (h.part ≡ part_byte part) × (h.size ≡ size) × (1 ≤ size)
+    × (size ≤ most_bytes)
+IsHead h (read.DropPart id part) =
+    (h.kind ≡ 2) × (h.id ≡ id) × (h.part ≡ part_byte part) × (h.size ≡ 0)
 IsHead h (read.DropId id) = (h.kind ≡ 3) × (h.id ≡ id) × (h.part ≡ 0) × (h.size ≡ 0)
 
 -- a record that is carried out
@@ -48,15 +51,21 @@ IsReadFault (Full needed free) = ⊥
 IsReadFault Memory = ⊤
 
 -- one step of the reading
-abbrev pub Steps : Option ℕ → Bool → List ℕ → ℕ → Contents → Contents → Result (Option ℕ) OpenFault → Type 0
-Steps limit may_want now tail old new (Ok (Some next)) = (n : IsNext now tail next old new) × HadRoomForPuts limit old (n.change ∷ [])
+abbrev pub Steps : Option ℕ → Bool → List ℕ → ℕ → Contents → Contents → Result (Option ℕ) OpenFault
+    → Type 0
+Steps limit may_want now tail old new (Ok (Some next)) =
+    (n : IsNext now tail next old new) × HadRoomForPuts limit old (n.change ∷ [])
 Steps limit may_want now tail old new (Ok None) = (get_or now tail 0 ≢ 1) × (new ≡ old)
 Steps limit may_want now tail old new (Err DiskFault) = new ≡ old
-Steps limit may_want now tail old new (Err (BadRecord at)) = (at ≡ tail) × (get_or now tail 0 ≡ 1) × IsBad old (drop (tail + 1) now) × (new ≡ old)
-Steps limit may_want now tail old new (Err (Full needed free)) = (get_or now tail 0 ≡ 1) × IsFull limit may_want old (drop (tail + 1) now) needed free × (new ≡ old)
+Steps limit may_want now tail old new (Err (BadRecord at)) =
+    (at ≡ tail) × (get_or now tail 0 ≡ 1) × IsBad old (drop (tail + 1) now) × (new ≡ old)
+Steps limit may_want now tail old new (Err (Full needed free)) =
+    (get_or now tail 0 ≡ 1) × IsFull limit may_want old (drop (tail + 1) now) needed free
+    × (new ≡ old)
 Steps limit may_want now tail old new (Err Memory) = new ≡ old
 
 -- nothing more is pending, and a crash leaves what it might have left before
-pub record Still {D : Type 0} (now : D → List ℕ) (pending : D → List (ℕ × ℕ)) (clock : D → ℕ) (since : D → ℕ → List ℕ → Type 0) (old new : D) : Type 0 where
+pub record Still {D : Type 0} (now : D → List ℕ) (pending : D → List (ℕ × ℕ))
+    (clock : D → ℕ) (since : D → ℕ → List ℕ → Type 0) (old new : D) : Type 0 where
   pub same : pending new ≡ pending old
   pub run : LeavesOnly clock since old new (Agrees (pending old) (now old))

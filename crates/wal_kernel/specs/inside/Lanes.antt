@@ -25,18 +25,24 @@ pub record AreProducts (c : ℕ) (tables : NibbleTables) : Type 0 where
   pub nibble2 : AreMultiples (times c 256) tables.nibble2
   pub nibble3 : AreMultiples (times c 4096) tables.nibble3
 
--- the bytes of x^4 times the word of two bytes: its top four bits go out, and come back times x^12 + x^3 + x + 1
+-- the bytes of x^4 times the word of two bytes: its top four bits go out, and come back times
+-- x^12 + x^3 + x + 1
 abbrev pub high_of_sixteenfold : ℕ → ℕ → ℕ
-high_of_sixteenfold high low = bit_xor (high * 2 ^ 4 % 256) (bit_xor (low / 16) (high / 16 * 2 ^ 4 % 256))
+high_of_sixteenfold high low =
+    bit_xor (high * 2 ^ 4 % 256) (bit_xor (low / 16) (high / 16 * 2 ^ 4 % 256))
 
 abbrev pub low_of_sixteenfold : ℕ → ℕ → ℕ
-low_of_sixteenfold high low = bit_xor (low * 2 ^ 4 % 256) (bit_xor (high / 16 * 2 ^ 3 % 256) (bit_xor (high / 16 * 2 ^ 1 % 256) (high / 16)))
+low_of_sixteenfold high low =
+    bit_xor (low * 2 ^ 4 % 256)
+    (bit_xor (high / 16 * 2 ^ 3 % 256) (bit_xor (high / 16 * 2 ^ 1 % 256) (high / 16)))
 
--- the sum of one value of each function, at the four nibbles of the word that two bytes are, the highest first
+-- the sum of one value of each function, at the four nibbles of the word that two bytes are, the
+-- highest first
 abbrev pub nibble_sum : (ℕ → ℕ) → (ℕ → ℕ) → (ℕ → ℕ) → (ℕ → ℕ) → ℕ → ℕ → ℕ
 nibble_sum f3 f2 f1 f0 high low =
     bit_xor (f3 (high / 16)) (bit_xor (f2 (high % 16)) (bit_xor (f1 (low / 16)) (f0 (low % 16))))
 
--- the word of a block of 32 that stands at lane k: of the four runs of eight words, the two in the middle change places
+-- the word of a block of 32 that stands at lane k: of the four runs of eight words, the two in the
+-- middle change places
 abbrev pub word_of_lane : ℕ → ℕ
 word_of_lane k = k % 8 + 16 * (k / 8 % 2) + 8 * (k / 16)

@@ -18,8 +18,8 @@ lane s k =
 abbrev pub words_of : List (List ℕ) → ℕ → List ℕ
 words_of w k = map (λ (v : List ℕ). slice_index v k) w
 
--- the last one or two blocks of a padded message, of which `seen` bytes came before these, in whole blocks:
--- what follows the whole blocks
+-- the last one or two blocks of a padded message, of which `seen` bytes came before these, in whole
+-- blocks: what follows the whole blocks
 abbrev pub last_blocks : ℕ → List ℕ → List ℕ
 last_blocks seen m = drop (length m / 64 * 64) (m ++ padding (seen + length m))
 

@@ -4,10 +4,11 @@ use Rattle.sha2.specs.Sha256.{hash_after, initial_hash_256, padded_message}
 use Rattle.wal_lanes.specs.declared.strips.Group.{Group}
 use Rattle.wal_lanes.specs.inside.Lanes.{lane}
 
--- lane k of the group has taken `seen` bytes of the piece: its hash value is that after the text's blocks up to the
--- last of these bytes, which begins the next block
+-- lane k of the group has taken `seen` bytes of the piece: its hash value is that after the text's
+-- blocks up to the last of these bytes, which begins the next block
 pub record HasTaken (prefix : ℕ) (piece : List ℕ) (seen k : ℕ) (group : Group) : Type 0 where
-  pub hash : lane group.state k ≡ hash_after initial_hash_256 (padded_message (prefix ∷ piece)) (seen / 64)
+  pub hash : lane group.state k
+      ≡ hash_after initial_hash_256 (padded_message (prefix ∷ piece)) (seen / 64)
   pub next : drop seen (prefix ∷ piece) ≡ slice_index group.last k ∷ drop seen piece
 
 -- the lanes of the groups, eight each, have taken `seen` bytes of the pieces, one each

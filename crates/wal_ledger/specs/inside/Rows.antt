@@ -32,7 +32,9 @@ no_row = record { until = 0; holds = no_tally; denies = no_tally }
 
 -- the row after a registration in a reading epoch
 abbrev pub row_registered : ℕ → ℕ → Row → Row
-row_registered epoch until row = cond (nat_le row.until epoch) (record no_row { until = until }) (record row { until = max row.until until })
+row_registered epoch until row =
+    cond (nat_le row.until epoch) (record no_row { until = until })
+    (record row { until = max row.until until })
 
 -- the tally of one kind
 abbrev pub tally_of : Kind → Row → Tally
@@ -50,7 +52,8 @@ pub record Rows : Type 0 where
   pub live : List BlobId
   pub spare : ℕ
 
--- the identifier that was put in as the one of this number, and its row; beyond all of them zeros, and the row of nothing
+-- the identifier that was put in as the one of this number, and its row; beyond all of them zeros,
+-- and the row of nothing
 abbrev pub id_of : List BlobId → ℕ → BlobId
 id_of ids number = slice_index_or ids number (record { 0 = replicate 32 0 })
 
@@ -89,6 +92,7 @@ abbrev pub living : ℕ → Rows → List BlobId
 living epoch table = filter (λ id. nat_lt epoch (row_in table id).until) table.ids
 
 -- a row tells what an identifier's own entries do
-pub record IsRow (f : ℕ) (owners : ℕ → List ℕ) (own entries : List Entry) (links : List ℕ) (row : Row) : Type 0 where
+pub record IsRow (f : ℕ) (owners : ℕ → List ℕ) (own entries : List Entry)
+    (links : List ℕ) (row : Row) : Type 0 where
   pub until : row.until ≡ until_among own
   pub tallies : (kind : Kind) → IsTally f owners own kind entries links (tally_of kind row)

@@ -1,4 +1,5 @@
--- What nodes say of one identifier in one way, counted by their shards, and links between their entries.
+-- What nodes say of one identifier in one way, counted by their shards, and links between their
+-- entries.
 use Rattle.std.specs.Prelude.{◌≡◌, ℕ, ◌+◌, ◌<◌, ◌≤◌, Bool, true, false, cond, nat_eq, nat_le, List, [], ◌∷◌, ◌++◌, length, All, Option, Some, None, slice_get}
 use Rattle.wal_ledger.specs.declared.entry.Entry.{Entry}
 use Rattle.wal_ledger.specs.declared.entry.Body.{Body}
@@ -19,8 +20,10 @@ signs Holds shard (Ack s id) = nat_eq s shard
 signs Denies shard (Attest s id) = nat_eq s shard
 signs _ _ _ = false
 
--- a link is one more than the place of an entry by which a shard signs, and that place has a link to one before it
-pub record IsLinked (entries : List Entry) (links : List ℕ) (kind : Kind) (link shard before : ℕ) : Type 0 where
+-- a link is one more than the place of an entry by which a shard signs, and that place has a link
+-- to one before it
+pub record IsLinked (entries : List Entry) (links : List ℕ)
+    (kind : Kind) (link shard before : ℕ) : Type 0 where
   pub place : ℕ
   pub entry : Entry
   pub follows : link ≡ place + 1
@@ -32,7 +35,9 @@ pub record IsLinked (entries : List Entry) (links : List ℕ) (kind : Kind) (lin
 -- the shards that sign by the entries from a link on, down the links; the link 0 ends the chain
 abbrev pub Chain : List Entry → List ℕ → Kind → ℕ → List ℕ → Type 0
 Chain entries links kind link [] = link ≡ 0
-Chain entries links kind link (shard ∷ shards) = (before : ℕ) × (IsLinked entries links kind link shard before × Chain entries links kind before shards)
+Chain entries links kind link (shard ∷ shards) =
+    (before : ℕ)
+    × (IsLinked entries links kind link shard before × Chain entries links kind before shards)
 
 -- a link leads down to the end
 abbrev pub HasChain : List Entry → List ℕ → Kind → ℕ → Type 0
@@ -43,12 +48,16 @@ abbrev pub HasLeast : ℕ → (ℕ → List ℕ) → List Entry → Kind → Opt
 HasLeast f owners own kind None = (e : ℕ) → count_among f owners own kind e < quorum_size f
 HasLeast f owners own kind (Some q) = IsLeastQuorum f owners own kind q.epoch q.count
 
--- a tally is right for own entries and the owners of each epoch: its epoch is the last in which some node signed (0 where none did),
--- its count is how many shards these nodes run, and its link leads to each of their entries
-pub record IsTally (f : ℕ) (owners : ℕ → List ℕ) (own : List Entry) (kind : Kind) (entries : List Entry) (links : List ℕ) (t : Tally) : Type 0 where
+-- a tally is right for own entries and the owners of each epoch: its epoch is the last in which
+-- some node signed (0 where none did), its count is how many shards these nodes run, and its link
+-- leads to each of their entries
+pub record IsTally (f : ℕ) (owners : ℕ → List ℕ) (own : List Entry) (kind : Kind)
+    (entries : List Entry) (links : List ℕ) (t : Tally) : Type 0 where
   pub shards : List ℕ
   pub chain : Chain entries links kind t.last shards
-  pub members : (s : ℕ) → has_neighbour (owners t.epoch) shards s ≡ is_signer_among (owners t.epoch) own kind t.epoch s
+  pub members : (s : ℕ)
+      → has_neighbour (owners t.epoch) shards s
+      ≡ is_signer_among (owners t.epoch) own kind t.epoch s
   pub counted : t.count ≡ count_among f owners own kind t.epoch
   pub idle : t.count ≡ 0 → t.epoch ≡ 0
   pub later : (e s : ℕ) → t.epoch < e → is_signer_among (owners e) own kind e s ≡ false
@@ -56,7 +65,10 @@ pub record IsTally (f : ℕ) (owners : ℕ → List ℕ) (own : List Entry) (kin
 
 -- what a tally tells of whatever it is right for
 abbrev pub Tells : Tally → (ℕ → (ℕ → List ℕ) → List Entry → Kind → Type 0) → Type 0
-Tells t Fact = (f : ℕ) (owners : ℕ → List ℕ) (own : List Entry) (kind : Kind) (entries : List Entry) (links : List ℕ) → IsTally f owners own kind entries links t → Fact f owners own kind
+Tells t Fact =
+    (f : ℕ) (owners : ℕ → List ℕ) (own : List Entry)
+    (kind : Kind) (entries : List Entry) (links : List ℕ)
+    → IsTally f owners own kind entries links t → Fact f owners own kind
 
 -- the tally of nothing
 abbrev pub no_tally : Tally
@@ -68,10 +80,13 @@ link_in epoch t = cond (nat_eq t.epoch epoch) t.last 0
 
 -- the least quorum after a count of the last epoch
 abbrev pub quorum_after : ℕ → ℕ → ℕ → Option Quorum → Option Quorum
-quorum_after f epoch count None = cond (nat_le (quorum_size f) count) (Some (record { epoch = epoch; count = count })) None
-quorum_after f epoch count (Some q) = Some (cond (nat_eq q.epoch epoch) (record { epoch = epoch; count = count }) q)
+quorum_after f epoch count None =
+    cond (nat_le (quorum_size f) count) (Some (record { epoch = epoch; count = count })) None
+quorum_after f epoch count (Some q) =
+    Some (cond (nat_eq q.epoch epoch) (record { epoch = epoch; count = count }) q)
 
--- the tally after one more node of so many shards signed, in the last epoch so far, by an entry at a place
+-- the tally after one more node of so many shards signed, in the last epoch so far, by an entry at
+-- a place
 abbrev pub tally_after : ℕ → ℕ → ℕ → ℕ → Tally → Tally
 tally_after f epoch place size t =
     let count = cond (nat_eq t.epoch epoch) t.count 0 + size in
@@ -81,17 +96,24 @@ tally_after f epoch place size t =
 abbrev pub node_size : ℕ → List ℕ → ℕ → ℕ
 node_size f owners shard = count_below (committee_size f) (same_node owners shard)
 
--- an entry by which a shard of a committee signs, for the first time for its node in its epoch, which is the last so far
-pub record IsFirstClaim (f first : ℕ) (owners : List ℕ) (own : List Entry) (kind : Kind) (shard : ℕ) (x : Entry) : Type 0 where
+-- an entry by which a shard of a committee signs, for the first time for its node in its epoch,
+-- which is the last so far
+pub record IsFirstClaim (f first : ℕ) (owners : List ℕ) (own : List Entry)
+    (kind : Kind) (shard : ℕ) (x : Entry) : Type 0 where
   pub below : shard < committee_size f
   pub signed : signs kind shard x.body ≡ true
   pub first_time : is_signer_among owners own kind x.epoch shard ≡ false
   pub latest : All (IsWithin first x.epoch) own
 
--- one tally is right where another was, after one more first claim in an epoch by a node of so many shards, entered at a place with its link
+-- one tally is right where another was, after one more first claim in an epoch by a node of so many
+-- shards, entered at a place with its link
 abbrev pub Grows : ℕ → ℕ → ℕ → ℕ → Tally → Tally → Type 0
 Grows f epoch place size old new =
-    (first shard : ℕ) (owners : ℕ → List ℕ) (own : List Entry) (kind : Kind) (entries : List Entry) (links : List ℕ) (x : Entry)
-    → IsTally f owners own kind entries links old → IsFirstClaim f first (owners x.epoch) own kind shard x → x.epoch ≡ epoch → size ≡ node_size f (owners epoch) shard
+    (first shard : ℕ) (owners : ℕ → List ℕ) (own : List Entry)
+    (kind : Kind) (entries : List Entry) (links : List ℕ) (x : Entry)
+    → IsTally f owners own kind entries links old
+    → IsFirstClaim f first (owners x.epoch) own kind shard x → x.epoch ≡ epoch
+    → size ≡ node_size f (owners epoch) shard
     → length entries ≡ place → length links ≡ place
-    → IsTally f owners (own ++ x ∷ []) kind (entries ++ x ∷ []) (links ++ link_in epoch old ∷ []) new
+    → IsTally f owners (own ++ x ∷ []) kind
+    (entries ++ x ∷ []) (links ++ link_in epoch old ∷ []) new

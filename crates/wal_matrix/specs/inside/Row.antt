@@ -8,7 +8,10 @@ unfoldable pub laid_row : ℕ → ℕ → ℕ → List ℕ → List ℕ
 laid_row start width run bytes =
     take width (drop start bytes) ++ replicate (run - length (take width (drop start bytes))) 0
 
--- a row of `total` symbols: the codeword that begins with the bytes of the blob from `start` on, and zeros after them
-pub record IsRowFrom (known total size : ℕ) (bytes : List ℕ) (start : ℕ) (row : List ℕ) : Type 0 where
+-- a row of `total` symbols: the codeword that begins with the bytes of the blob from `start` on,
+-- and zeros after them
+pub record IsRowFrom (known total size : ℕ) (bytes : List ℕ)
+    (start : ℕ) (row : List ℕ) : Type 0 where
   pub begins : (k : ℕ) → k < known * size → slice_index row k ≡ slice_index bytes (start + k)
-  pub codeword : (w : ℕ) → 2 * w < size → IsCodeword known total (λ c. word_at (region size row c) w)
+  pub codeword : (w : ℕ) → 2 * w < size
+      → IsCodeword known total (λ c. word_at (region size row c) w)

@@ -8,7 +8,8 @@ use Rattle.wal_matrix.specs.Matrix.{symbol, IsExtended}
 abbrev pub AreSources : ℕ → ℕ → List ℕ → ℕ → ℕ → ℕ → ℕ → List ℕ → Type 0
 AreSources f s bytes row from long done cells =
     (c k : ℕ) → c < done → k < long
-    → slice_index (region long cells c) k ≡ slice_index bytes ((row * column_count f + c) * s + from + k)
+    → slice_index (region long cells c) k
+    ≡ slice_index bytes ((row * column_count f + c) * s + from + k)
 
 -- the runs are the strips of the symbols of this row of the bytes' extended matrix
 abbrev pub IsRowStrip : ℕ → ℕ → List ℕ → ℕ → ℕ → ℕ → List ℕ → Type 0

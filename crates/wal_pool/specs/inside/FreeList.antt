@@ -27,7 +27,8 @@ is_free_list pages (k ∷ ks) = nat_lt k pages && not (has k ks) && is_free_list
 
 -- the state of a page, where these pages are free
 abbrev pub state_of : ℕ → List ℕ → List ℕ → ℕ → PageState
-state_of size region free number = if has number free then Free else Taken (page_of size region number)
+state_of size region free number =
+    if has number free then Free else Taken (page_of size region number)
 
 -- the states of the pages, where these are free
 unfoldable pub states : ℕ → ℕ → List ℕ → List ℕ → List PageState

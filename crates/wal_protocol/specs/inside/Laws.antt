@@ -23,7 +23,8 @@ use Rattle.wal_protocol.specs.Step.{told_by}
 
 -- each part that was held is held, with the same bytes
 abbrev pub IsAbove : Parts → Parts → Type 0
-IsAbove old new = (p : Part) (bytes : List ℕ) → part_of old p ≡ Some bytes → part_of new p ≡ Some bytes
+IsAbove old new =
+    (p : Part) (bytes : List ℕ) → part_of old p ≡ Some bytes → part_of new p ≡ Some bytes
 
 abbrev pub AreAbove : Contents → Contents → Type 0
 AreAbove old new = (id : BlobId) → IsAbove (parts_at old id) (parts_at new id)
@@ -41,13 +42,15 @@ abbrev pub AreAmong : List (List ℕ) → List (List ℕ) → Type 0
 AreAmong some payloads = (x : List ℕ) → Contains some x → Contains payloads x
 
 -- a shard that is sound and settled replied to a reader
-pub record RepliedTo (r : Rules) (id : BlobId) (payloads : List (List ℕ)) (shard : ℕ) (parts : Parts) : Type 0 where
+pub record RepliedTo (r : Rules) (id : BlobId) (payloads : List (List ℕ))
+    (shard : ℕ) (parts : Parts) : Type 0 where
   pub sound : r.IsSound id shard parts
   pub settles : settled parts ≡ true
   pub replied : AreAmong (r.read_reply id shard parts) payloads
 
 -- a shard that is sound replied to one that recovers its sliver of an axis
-pub record Helped (r : Rules) (id : BlobId) (axis : Axis) (shard : ℕ) (payloads : List (List ℕ)) (helper : ℕ) (parts : Parts) : Type 0 where
+pub record Helped (r : Rules) (id : BlobId) (axis : Axis) (shard : ℕ)
+    (payloads : List (List ℕ)) (helper : ℕ) (parts : Parts) : Type 0 where
   pub sound : r.IsSound id helper parts
   pub reply : List (List ℕ)
   pub symbols : r.IsSymbolReply id helper parts axis shard reply
@@ -67,39 +70,62 @@ IsSettledBy word = IsDecidedBy word
 pub record Laws (r : Rules) : Type 0 where
   -- nothing is sound, and so stays what a put, a recovery or forgetting leave
   pub nothing_sound : (id : BlobId) (shard : ℕ) → r.IsSound id shard no_parts
-  pub put_sound : (log : Log) (shard : ℕ) (old new : Contents) (frame : Frame) (answer : PutAnswer) → r.Puts log shard old frame answer new
+  pub put_sound : (log : Log) (shard : ℕ) (old new : Contents) (frame : Frame) (answer : PutAnswer)
+      → r.Puts log shard old frame answer new
       → AllSound r shard old → AllSound r shard new
-  pub recover_sound : (id : BlobId) (shard : ℕ) (axis : Axis) (old new : Contents) (payloads : List (List ℕ)) (word : RecoverWord)
-      → r.Recovers id shard axis old payloads word new → (r.ContradictsHeld id (parts_at old id) payloads → ⊥) → AllSound r shard old → AllSound r shard new
-  pub forget_sound : (id : BlobId) (shard : ℕ) (parts : Parts) → r.IsSound id shard parts → r.IsSound id shard (forgotten parts)
+  pub recover_sound : (id : BlobId) (shard : ℕ) (axis : Axis)
+      (old new : Contents) (payloads : List (List ℕ)) (word : RecoverWord)
+      → r.Recovers id shard axis old payloads word new
+      → (r.ContradictsHeld id (parts_at old id) payloads → ⊥) → AllSound r shard old
+      → AllSound r shard new
+  pub forget_sound : (id : BlobId) (shard : ℕ) (parts : Parts) → r.IsSound id shard parts
+      → r.IsSound id shard (forgotten parts)
   -- a put and a recovery leave what was held
-  pub put_adds : (log : Log) (shard : ℕ) (old new : Contents) (frame : Frame) (answer : PutAnswer) → r.Puts log shard old frame answer new → AreAbove old new
-  pub recover_adds : (id : BlobId) (shard : ℕ) (axis : Axis) (old new : Contents) (payloads : List (List ℕ)) (word : RecoverWord)
+  pub put_adds : (log : Log) (shard : ℕ) (old new : Contents) (frame : Frame) (answer : PutAnswer)
+      → r.Puts log shard old frame answer new → AreAbove old new
+  pub recover_adds : (id : BlobId) (shard : ℕ) (axis : Axis)
+      (old new : Contents) (payloads : List (List ℕ)) (word : RecoverWord)
       → r.Recovers id shard axis old payloads word new → AreAbove old new
   -- a recovered sliver is committed
-  pub recover_commits : (id : BlobId) (shard : ℕ) (axis : Axis) (old new : Contents) (payloads : List (List ℕ)) (bytes : List ℕ)
-      → r.Recovers id shard axis old payloads (recovering.Sliver bytes) new → (r.ContradictsHeld id (parts_at old id) payloads → ⊥) → AllSound r shard old
+  pub recover_commits : (id : BlobId) (shard : ℕ) (axis : Axis)
+      (old new : Contents) (payloads : List (List ℕ)) (bytes : List ℕ)
+      → r.Recovers id shard axis old payloads (recovering.Sliver bytes) new
+      → (r.ContradictsHeld id (parts_at old id) payloads → ⊥) → AllSound r shard old
       → r.CommitsTo id shard axis bytes (parts_at new id)
   -- a sound holding with a proof refutes the blob
-  pub refutes : (id : BlobId) (shard : ℕ) (parts : Parts) → r.IsSound id shard parts → has_proof parts ≡ true → r.Refutes id parts
+  pub refutes : (id : BlobId) (shard : ℕ) (parts : Parts) → r.IsSound id shard parts
+      → has_proof parts ≡ true → r.Refutes id parts
   -- completed reads and honest writes rest on something
-  pub read_backed : (id : BlobId) (payloads : List (List ℕ)) (word : ReadWord) (evidence : Evidence) (told : Verdict) → r.Reads id payloads word (Some evidence) → told_by word ≡ Some told
+  pub read_backed : (id : BlobId) (payloads : List (List ℕ))
+      (word : ReadWord) (evidence : Evidence) (told : Verdict)
+      → r.Reads id payloads word (Some evidence) → told_by word ≡ Some told
       → r.IsBacked id (Judged evidence told)
-  pub write_backed : (format : Format) (blob : List ℕ) (id : BlobId) (message : ℕ → List Frame) → r.IsMessage format blob id message → r.IsBacked id (Written blob)
+  pub write_backed : (format : Format) (blob : List ℕ) (id : BlobId) (message : ℕ → List Frame)
+      → r.IsMessage format blob id message → r.IsBacked id (Written blob)
   -- a read that has the replies of more than f settled shards completes
-  pub read_completes : (id : BlobId) (payloads : List (List ℕ)) (word : ReadWord) (evidence : Option Evidence) (heard : ℕ → Bool)
+  pub read_completes : (id : BlobId) (payloads : List (List ℕ))
+      (word : ReadWord) (evidence : Option Evidence) (heard : ℕ → Bool)
       → r.f + 1 ≤ count_below (committee_size r.f) heard
-      → ((s : ℕ) → s < committee_size r.f → heard s ≡ true → (parts : Parts) × RepliedTo r id payloads s parts)
+      → ((s : ℕ) → s < committee_size r.f → heard s ≡ true
+      → (parts : Parts) × RepliedTo r id payloads s parts)
       → r.Reads id payloads word evidence → (told : Verdict) × (told_by word ≡ Some told)
   -- a recovery of a secondary sliver that has the replies of more than f settled shards ends well
-  pub secondary_recovers : (id : BlobId) (shard : ℕ) (old new : Contents) (payloads : List (List ℕ)) (word : RecoverWord) (heard : ℕ → Bool)
+  pub secondary_recovers : (id : BlobId) (shard : ℕ) (old new : Contents)
+      (payloads : List (List ℕ)) (word : RecoverWord) (heard : ℕ → Bool)
       → r.f + 1 ≤ count_below (committee_size r.f) heard
-      → ((s : ℕ) → s < committee_size r.f → heard s ≡ true → (parts : Parts) × (settled parts ≡ true) × Helped r id Secondary shard payloads s parts)
-      → shard < committee_size r.f → AllSound r shard old → (r.ContradictsHeld id (parts_at old id) payloads → ⊥)
+      → ((s : ℕ) → s < committee_size r.f → heard s ≡ true
+      → (parts : Parts) × (settled parts ≡ true) × Helped r id Secondary shard payloads s parts)
+      → shard < committee_size r.f → AllSound r shard old
+      → (r.ContradictsHeld id (parts_at old id) payloads → ⊥)
       → r.Recovers id shard Secondary old payloads word new → IsSettledBy word
-  -- one of a primary sliver that has the replies of a quorum of shards with secondary slivers is decided
-  pub primary_recovers : (id : BlobId) (shard : ℕ) (old new : Contents) (payloads : List (List ℕ)) (word : RecoverWord) (heard : ℕ → Bool)
+  -- one of a primary sliver that has the replies of a quorum of shards with secondary slivers is
+  -- decided
+  pub primary_recovers : (id : BlobId) (shard : ℕ) (old new : Contents)
+      (payloads : List (List ℕ)) (word : RecoverWord) (heard : ℕ → Bool)
       → quorum_size r.f ≤ count_below (committee_size r.f) heard
-      → ((s : ℕ) → s < committee_size r.f → heard s ≡ true → (parts : Parts) × (is_some parts.secondary ≡ true) × Helped r id Primary shard payloads s parts)
-      → shard < committee_size r.f → AllSound r shard old → (r.ContradictsHeld id (parts_at old id) payloads → ⊥)
+      → ((s : ℕ) → s < committee_size r.f → heard s ≡ true
+      → (parts : Parts) × (is_some parts.secondary ≡ true)
+      × Helped r id Primary shard payloads s parts)
+      → shard < committee_size r.f → AllSound r shard old
+      → (r.ContradictsHeld id (parts_at old id) payloads → ⊥)
       → r.Recovers id shard Primary old payloads word new → IsDecidedBy word

@@ -12,8 +12,11 @@ use Rattle.wal_protocol.specs.Step.{Declines, SaidBefore, ClaimStep}
 
 abbrev pub Says : Kind → World → ℕ → BlobId → Said → World → Type 0
 Says kind old shard id Unregistered new = (is_live old.log id ≡ false) × (new ≡ old)
-Says kind old shard id Expires new = (is_live old.log id ≡ true) × (until_of old.log id ≤ writing old.log) × (new ≡ old)
+Says kind old shard id Expires new =
+    (is_live old.log id ≡ true) × (until_of old.log id ≤ writing old.log) × (new ≡ old)
 Says kind old shard id Declined new = IsOpen old.log id × Declines old kind shard id × (new ≡ old)
 Says kind old shard id Already new = SaidBefore old kind shard id × (new ≡ old)
-Says kind old shard id (Counted count) new = ClaimStep old kind shard id count new × (count < quorum_size old.log.f)
-Says kind old shard id (Quorum count) new = ClaimStep old kind shard id count new × (quorum_size old.log.f ≤ count)
+Says kind old shard id (Counted count) new =
+    ClaimStep old kind shard id count new × (count < quorum_size old.log.f)
+Says kind old shard id (Quorum count) new =
+    ClaimStep old kind shard id count new × (quorum_size old.log.f ≤ count)

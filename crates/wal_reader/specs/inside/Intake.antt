@@ -14,13 +14,16 @@ shown i = record { heard = i.heard; taken = i.taken; place = i.place; kept = i.k
 
 -- these bytes were taken behind each stream
 abbrev pub Takes : (List ℕ → List ℕ) → IntakeState → IntakeState → List ℕ → Type 0
-Takes digest old new bytes = (id : List ℕ) (stream : List ℕ) → StandsAt digest id old stream → StandsAt digest id new (stream ++ bytes)
+Takes digest old new bytes =
+    (id : List ℕ) (stream : List ℕ) → StandsAt digest id old stream
+    → StandsAt digest id new (stream ++ bytes)
 
 -- the bytes are no whole envelope, but the front of one
 abbrev pub IsUnfinished : List ℕ → Type 0
 IsUnfinished bytes = (envelope_at bytes ≡ None) × IsPart bytes
 
--- there is room for the longest metadata, no more bytes were taken than may be, no whole envelope is kept, and none that is read past
+-- there is room for the longest metadata, no more bytes were taken than may be, no whole envelope
+-- is kept, and none that is read past
 pub record IsSound (i : IntakeState) : Type 0 where
   pub room : 64019 ≤ i.room
   pub limit : i.taken ≤ 134217728
@@ -31,19 +34,25 @@ pub record IsSound (i : IntakeState) : Type 0 where
 abbrev pub IsLacking : List ℕ → ℕ → Type 0
 IsLacking bytes missing =
     (more : List ℕ) → length more ≡ missing
-    → (sender : ℕ) × (payload : List ℕ) × IsPayload payload × (bytes ++ more ≡ envelope sender payload) × (length payload ≡ size_in bytes)
+    → (sender : ℕ) × (payload : List ℕ) × IsPayload payload
+    × (bytes ++ more ≡ envelope sender payload) × (length payload ≡ size_in bytes)
     × (AreBytes more → AreBytes payload)
 
 -- a payload of this size changes nothing
 abbrev pub CannotMatter : (List ℕ → List ℕ) → HeardState → ℕ → Type 0
 CannotMatter digest heard size =
-    (id : List ℕ) (payloads : List (List ℕ)) (payload : List ℕ) → HasHeard digest id heard payloads → AreBytes payload → IsPayload payload → length payload ≡ size → HasHeard digest id heard (payloads ++ payload ∷ [])
+    (id : List ℕ) (payloads : List (List ℕ)) (payload : List ℕ) → HasHeard digest id heard payloads
+    → AreBytes payload → IsPayload payload → length payload ≡ size
+    → HasHeard digest id heard (payloads ++ payload ∷ [])
 
--- the bytes are a whole envelope whose payload was heard, with whatever follows it, or they are the front of one
+-- the bytes are a whole envelope whose payload was heard, with whatever follows it, or they are the
+-- front of one
 abbrev pub Hears : (List ℕ → List ℕ) → List ℕ → HeardState → HeardState → Bool → Type 0
 Hears digest bytes old new true =
-    (sender : ℕ) × (payload : List ℕ) × (after : List ℕ) × IsPayload payload × (bytes ≡ envelope sender payload ++ after)
-    × ((id : List ℕ) (payloads : List (List ℕ)) → HasHeard digest id old payloads → HasHeard digest id new (payloads ++ payload ∷ []))
+    (sender : ℕ) × (payload : List ℕ) × (after : List ℕ) × IsPayload payload
+    × (bytes ≡ envelope sender payload ++ after)
+    × ((id : List ℕ) (payloads : List (List ℕ)) → HasHeard digest id old payloads
+    → HasHeard digest id new (payloads ++ payload ∷ []))
 Hears digest bytes old new false = (new ≡ old) × IsUnfinished bytes
 
 -- of a metadata that is kept there is room for all
@@ -51,7 +60,8 @@ abbrev pub HasRoom : IntakeState → Type 0
 HasRoom i = IsSettledState i.heard → 7 ≤ length i.kept → size_in i.kept ≤ 64012
 
 -- some bytes of a piece were taken, and these are left
-pub record Moves (digest : List ℕ → List ℕ) (old new : IntakeState) (piece left : List ℕ) : Type 0 where
+pub record Moves (digest : List ℕ → List ℕ)
+    (old new : IntakeState) (piece left : List ℕ) : Type 0 where
   pub bytes : List ℕ
   pub parts : piece ≡ bytes ++ left
   pub some : 0 < length bytes
@@ -62,6 +72,8 @@ pub record Moves (digest : List ℕ → List ℕ) (old new : IntakeState) (piece
 
 -- why bytes are refused behind each stream
 abbrev pub Refuses : (List ℕ → List ℕ) → IntakeState → List ℕ → FeedError → Type 0
-Refuses digest old piece (Malformed place) = (id : List ℕ) (stream : List ℕ) → StandsAt digest id old stream → IsWrongAt place (stream ++ piece)
+Refuses digest old piece (Malformed place) =
+    (id : List ℕ) (stream : List ℕ) → StandsAt digest id old stream
+    → IsWrongAt place (stream ++ piece)
 Refuses digest old piece TooLong = 134217728 < old.taken + length piece
 Refuses digest old piece Memory = IsSettledState old.heard → ⊥

@@ -3,6 +3,7 @@ use Rattle.std.specs.Prelude.{ℕ, ◌+◌, ◌*◌}
 use Rattle.wal_shape.specs.Shape.{column_count, symbol_size}
 use Rattle.wal_shape.specs.Metadata.{BlobMetadata}
 
--- the frame of a bad proof by as many openings as a primary sliver has symbols, each with the longest path
+-- the frame of a bad proof by as many openings as a primary sliver has symbols, each with the
+-- longest path
 abbrev pub longest_part : BlobMetadata → ℕ
 longest_part m = 38 + column_count m.f * (symbol_size m.f m.length + 327)

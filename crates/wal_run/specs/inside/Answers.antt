@@ -23,7 +23,8 @@ answer_text (Proof envelope) = envelope.bytes
 
 -- what is written of a refusal: nothing where memory ran out
 abbrev pub Refused : Refusal → ℕ → List ℕ → Type 0
-Refused refusal s text = (refusal ≢ Memory) × (s ≡ refusal_status refusal) × (text ≡ refusal_text refusal)
+Refused refusal s text =
+    (refusal ≢ Memory) × (s ≡ refusal_status refusal) × (text ≡ refusal_text refusal)
 
 -- what is written of what a command has to say
 abbrev pub Tells : Result Answer Refusal → ℕ → List ℕ → Type 0
@@ -43,6 +44,7 @@ Says (Err refusal) Is = Refuses refusal Is
 abbrev pub IsBroken : List ℕ → ℕ → List ℕ → Type 0
 IsBroken input s text = (s ≡ 8) × BreaksAt input text
 
--- its payloads carry no metadata of the identifier, or two that differ: what every command tells that asks for one
+-- its payloads carry no metadata of the identifier, or two that differ: what every command tells
+-- that asks for one
 abbrev pub LacksMetadata : (List ℕ → List ℕ) → BlobId → List ℕ → ℕ → List ℕ → Type 0
 LacksMetadata digest id input s text = IsResult digest (bare 0 (envelopes_of id)) input s text

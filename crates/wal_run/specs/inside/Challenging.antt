@@ -13,20 +13,26 @@ use Rattle.wal_run.specs.Command.{Recorded}
 use Rattle.wal_run.specs.inside.Writing.{Does}
 
 -- the envelope of what the shard answers to draw d
-abbrev pub IsAnswer : (List ℕ → List ℕ) → Audit → BlobMetadata → List ℕ → List ℕ → ℕ → List ℕ → Type 0
+abbrev pub IsAnswer : (List ℕ → List ℕ) → Audit → BlobMetadata → List ℕ → List ℕ → ℕ → List ℕ
+    → Type 0
 IsAnswer digest a m primary secondary d piece =
-    (o : Opening) × ShowsDrawn digest m a.shard primary secondary (draw_of digest m a.beacon a.shard d) o
+    (o : Opening)
+    × ShowsDrawn digest m a.shard primary secondary (draw_of digest m a.beacon a.shard d) o
     × (piece ≡ claim_envelope a (claim_of digest m a.beacon a.shard d o))
 
 -- how the answer of the shard is written
-abbrev pub DoesAnswer : (List ℕ → List ℕ) → Audit → BlobMetadata → List ℕ → List ℕ → Option (List ℕ) → Option (List ℕ) → Type 0 → ℕ → Type 0
+abbrev pub DoesAnswer : (List ℕ → List ℕ) → Audit → BlobMetadata → List ℕ → List ℕ → Option (List ℕ)
+    → Option (List ℕ) → Type 0 → ℕ → Type 0
 DoesAnswer digest a m primary secondary old new SinkRose status =
     Does (λ s text. (s ≡ 0) × IsAnswerText digest a m primary secondary a.count text)
     (λ text. (count : ℕ) × (count < a.count) × IsAnswerText digest a m primary secondary count text)
-    (λ text. (count : ℕ) × (count ≤ a.count) × IsAnswerText digest a m primary secondary count text) old new SinkRose status
+    (λ text. (count : ℕ) × (count ≤ a.count) × IsAnswerText digest a m primary secondary count text)
+    old new SinkRose status
 
--- the words of the shard's first slivers among the payloads, and a buffer with room for the envelope of an opening
-pub record IsReady (digest : List ℕ → List ℕ) (a : Audit) (r : Recorded) (words : OwnWords) (out : Buffer) : Type 0 where
+-- the words of the shard's first slivers among the payloads, and a buffer with room for the
+-- envelope of an opening
+pub record IsReady (digest : List ℕ → List ℕ) (a : Audit)
+    (r : Recorded) (words : OwnWords) (out : Buffer) : Type 0 where
   pub shard : HasShard a r
   pub primary : List ℕ
   pub primary_own : IsOwnSliver digest a r Primary primary

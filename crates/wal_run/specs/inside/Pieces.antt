@@ -6,13 +6,16 @@ use Rattle.wal_port.specs.declared.transfers.TakeError.TheVariants.{ReadFault, T
 use Rattle.wal_reader.specs.Intake.{IsWrongAt}
 use Rattle.wal_reader.specs.Standing.{ReaderState, StandsFor}
 
--- what comes of asking for a piece behind so many bytes: the first bytes of the buffer, none only at the end; or a read failed, which
--- loses nothing; or the one byte that is too many was there
-abbrev pub GivesPiece : Option (List ℕ) → Option (List ℕ) → Type 0 → ℕ → List ℕ → Result ℕ TakeError → Type 0
+-- what comes of asking for a piece behind so many bytes: the first bytes of the buffer, none only
+-- at the end; or a read failed, which loses nothing; or the one byte that is too many was there
+abbrev pub GivesPiece : Option (List ℕ) → Option (List ℕ) → Type 0 → ℕ → List ℕ → Result ℕ TakeError
+    → Type 0
 GivesPiece left after Rose taken buffer (Ok count) =
-    (count ≤ length buffer) × Consumes left after (take count buffer) × (taken + count ≤ 134217728) × (count ≡ 0 → IsAtEnd after)
+    (count ≤ length buffer) × Consumes left after (take count buffer) × (taken + count ≤ 134217728)
+    × (count ≡ 0 → IsAtEnd after)
 GivesPiece left after Rose taken buffer (Err ReadFault) = Keeps left after × Rose
-GivesPiece left after Rose taken buffer (Err TooLong) = (got : List ℕ) × Consumes left after got × (taken + length got ≡ 134217729)
+GivesPiece left after Rose taken buffer (Err TooLong) =
+    (got : List ℕ) × Consumes left after got × (taken + length got ≡ 134217729)
 GivesPiece left after Rose taken buffer (Err Memory) = ⊥
 
 -- the reader stands for the stream, or a byte of it begins no envelope, at this place
@@ -21,7 +24,8 @@ Stands digest id r None stream = StandsFor digest id r stream
 Stands digest id r (Some place) stream = IsWrongAt place stream
 
 -- what comes of a piece more that makes this stream
-abbrev pub FeedsOn : (List ℕ → List ℕ) → List ℕ → ReaderState → List ℕ → Result (Option ℕ) TakeError → Type 0
+abbrev pub FeedsOn : (List ℕ → List ℕ) → List ℕ → ReaderState → List ℕ → Result (Option ℕ) TakeError
+    → Type 0
 FeedsOn digest id r stream (Ok wrong) = Stands digest id r wrong stream
 FeedsOn digest id r stream (Err e) = e ≡ Memory
 
@@ -29,11 +33,14 @@ FeedsOn digest id r stream (Err e) = e ≡ Memory
 abbrev pub TakesFew : Option (List ℕ) → Option (List ℕ) → Type 0
 TakesFew left after = (taken : List ℕ) × Consumes left after taken × (length taken ≤ 134217728)
 
--- what comes of taking a stream: it was taken whole, and the reader stands for it; or a read failed; or it has one byte too many; or
--- memory ran out
-abbrev pub TakesStream : (List ℕ → List ℕ) → List ℕ → Option (List ℕ) → Option (List ℕ) → Type 0 → ReaderState → Result (Option ℕ) TakeError → Type 0
+-- what comes of taking a stream: it was taken whole, and the reader stands for it; or a read
+-- failed; or it has one byte too many; or memory ran out
+abbrev pub TakesStream : (List ℕ → List ℕ) → List ℕ → Option (List ℕ) → Option (List ℕ) → Type 0
+    → ReaderState → Result (Option ℕ) TakeError → Type 0
 TakesStream digest id left after Rose r (Ok wrong) =
-    (stream : List ℕ) × Consumes left after stream × IsAtEnd after × (length stream ≤ 134217728) × Stands digest id r wrong stream
+    (stream : List ℕ) × Consumes left after stream × IsAtEnd after × (length stream ≤ 134217728)
+    × Stands digest id r wrong stream
 TakesStream digest id left after Rose r (Err ReadFault) = TakesFew left after × Rose
-TakesStream digest id left after Rose r (Err TooLong) = (taken : List ℕ) × Consumes left after taken × (length taken ≡ 134217729)
+TakesStream digest id left after Rose r (Err TooLong) =
+    (taken : List ℕ) × Consumes left after taken × (length taken ≡ 134217729)
 TakesStream digest id left after Rose r (Err Memory) = TakesFew left after

@@ -14,7 +14,8 @@ recovered_status (Sliver bytes) = 0
 recovered_status (Inconsistent p) = 3
 recovered_status (Short count) = 4
 
--- from the sender of the index the envelope of the sliver, or of the proof that it was encoded badly
+-- from the sender of the index the envelope of the sliver, or of the proof that it was encoded
+-- badly
 abbrev pub recovered_text : List ℕ → ℕ → Axis → ℕ → Recovered → List ℕ
 recovered_text id f axis index (Sliver bytes) = envelope index (sliver_frame id axis index bytes)
 recovered_text id f axis index (Inconsistent p) = envelope index (frame_text (Proof id p))

@@ -44,7 +44,8 @@ refusal_text NoShard = codes "no shard\n"
 refusal_text NoPrimary = codes "no primary\n"
 refusal_text NoSecondary = codes "no secondary\n"
 refusal_text (Short have need) = short_text have need
-refusal_text (WrongCount have draws) = codes "wrong count " ++ decimal have ++ number_text (codes " of ") draws
+refusal_text (WrongCount have draws) =
+    codes "wrong count " ++ decimal have ++ number_text (codes " of ") draws
 refusal_text (MissingColumn j) = number_text (codes "missing column ") j
 refusal_text (NoMember count) = number_text (codes "no member of ") count
 refusal_text TooManyMembers = codes "too many members\n"

@@ -8,34 +8,51 @@ use Rattle.wal_run.specs.declared.finish.PutError.TheVariants.{Memory, WriteFaul
 use Rattle.wal_run.specs.inside.Command.{Told}
 
 -- how the writing of a text ends, where nothing but the text, the status and the sink matters
-pub data Finishes (IsText : List ℕ → Type 0) (old new : Option (List ℕ)) (SinkRose : Type 0) (success : ℕ) : ℕ → Type 0 where
+pub data Finishes (IsText : List ℕ → Type 0)
+    (old new : Option (List ℕ)) (SinkRose : Type 0) (success : ℕ) : ℕ
+    → Type 0 where
   -- the whole text was written
-  written : (text : List ℕ) → IsText text → Appends old new text → Finishes IsText old new SinkRose success success
+  written : (text : List ℕ) → IsText text → Appends old new text
+      → Finishes IsText old new SinkRose success success
   -- the sink failed, and a prefix of the text was written
   cut : (text : List ℕ) → IsText text → SinkRose → AppendsPart old new text
       → Finishes IsText old new SinkRose success 7
 
--- how a task ends whose input was taken: memory ran out and nothing was written, or the writing of its
--- result ended
-pub data Performs (HasResult : ℕ → List ℕ → Type 0) (old new : Option (List ℕ)) (SinkRose : Type 0) : ℕ → Type 0 where
+-- how a task ends whose input was taken: memory ran out and nothing was written, or the writing of
+-- its result ended
+pub data Performs (HasResult : ℕ → List ℕ → Type 0)
+    (old new : Option (List ℕ)) (SinkRose : Type 0) : ℕ
+    → Type 0 where
   out_of_memory : Keeps old new → Performs HasResult old new SinkRose 5
-  finished : (success status : ℕ) → Finishes (HasResult success) old new SinkRose success status → Performs HasResult old new SinkRose status
+  finished : (success status : ℕ) → Finishes (HasResult success) old new SinkRose success status
+      → Performs HasResult old new SinkRose status
 
 -- the same of a task that writes while it works: it may also break off
-pub data Does (HasResult : ℕ → List ℕ → Type 0) (IsLeft IsOwed : List ℕ → Type 0) (old new : Option (List ℕ)) (SinkRose : Type 0) : ℕ → Type 0 where
-  performed : (status : ℕ) → Performs HasResult old new SinkRose status → Does HasResult IsLeft IsOwed old new SinkRose status
-  wanted_memory : (text : List ℕ) → IsLeft text → Appends old new text → Does HasResult IsLeft IsOwed old new SinkRose 5
-  lost_sink : (text : List ℕ) → IsOwed text → SinkRose → AppendsPart old new text → Does HasResult IsLeft IsOwed old new SinkRose 7
+pub data Does (HasResult : ℕ → List ℕ → Type 0) (IsLeft IsOwed : List ℕ → Type 0)
+    (old new : Option (List ℕ)) (SinkRose : Type 0) : ℕ
+    → Type 0 where
+  performed : (status : ℕ) → Performs HasResult old new SinkRose status
+      → Does HasResult IsLeft IsOwed old new SinkRose status
+  wanted_memory : (text : List ℕ) → IsLeft text → Appends old new text
+      → Does HasResult IsLeft IsOwed old new SinkRose 5
+  lost_sink : (text : List ℕ) → IsOwed text → SinkRose → AppendsPart old new text
+      → Does HasResult IsLeft IsOwed old new SinkRose 7
 
 -- the same by what the input spells
-abbrev pub DoesTold : (List ℕ → List ℕ) → (c : Command) → Content c.grammar → Option (List ℕ) → Option (List ℕ) → Type 0 → ℕ → Type 0
-DoesTold digest c content old new SinkRose status = Does (Told digest c content) (c.Leaves content) (c.Owes content) old new SinkRose status
+abbrev pub DoesTold : (List ℕ → List ℕ) → (c : Command) → Content c.grammar → Option (List ℕ)
+    → Option (List ℕ) → Type 0 → ℕ → Type 0
+DoesTold digest c content old new SinkRose status =
+    Does (Told digest c content) (c.Leaves content) (c.Owes content) old new SinkRose status
 
--- what comes of writing the next piece of a text: all of it, or a front where the sink failed, or nothing where there was no memory for it
-abbrev pub PutsPiece : (List ℕ → Type 0) → Option (List ℕ) → Option (List ℕ) → Type 0 → Result (Unit {0}) PutError → Type 0
-PutsPiece IsPiece old new SinkRose (Ok done) = (piece : List ℕ) × IsPiece piece × Appends old new piece
+-- what comes of writing the next piece of a text: all of it, or a front where the sink failed, or
+-- nothing where there was no memory for it
+abbrev pub PutsPiece : (List ℕ → Type 0) → Option (List ℕ) → Option (List ℕ) → Type 0
+    → Result (Unit {0}) PutError → Type 0
+PutsPiece IsPiece old new SinkRose (Ok done) =
+    (piece : List ℕ) × IsPiece piece × Appends old new piece
 PutsPiece IsPiece old new SinkRose (Err Memory) = Keeps old new
-PutsPiece IsPiece old new SinkRose (Err WriteFault) = (piece : List ℕ) × IsPiece piece × SinkRose × AppendsPart old new piece
+PutsPiece IsPiece old new SinkRose (Err WriteFault) =
+    (piece : List ℕ) × IsPiece piece × SinkRose × AppendsPart old new piece
 
 -- the status where a piece was not written whole
 abbrev pub put_status : PutError → ℕ

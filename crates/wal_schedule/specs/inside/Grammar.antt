@@ -26,7 +26,8 @@ abbrev pub head_with : ℕ → ℕ → Format → Data → Option Head
 head_with f epoch format d = do
   owners ← owners_at (shard_count f) d
   faulty ← list_at (codes "faulty") d
-  head ← given (nat_le 1 f && is_committee (shard_count f) owners faulty) (record { f = f; epoch = epoch; format = format; owners = owners; faulty = faulty })
+  head ← given (nat_le 1 f && is_committee (shard_count f) owners faulty)
+      (record { f = f; epoch = epoch; format = format; owners = owners; faulty = faulty })
   with_keys (4 + one_if_has (codes "format") d + one_if_has (codes "owners") d) d head
 
 -- events, and those of the rest

@@ -4,8 +4,10 @@ use Rattle.wal_shape.specs.declared.text.MetaClash.{MetaClash}
 use Rattle.wal_serve.specs.Serving.{Table}
 use Rattle.wal_serve.specs.Determined.{SameButLast}
 
--- one answer: both stop serving or neither does, and what is then is the same; so are the frames, but for the two texts in the last one of a collision
-pub record SameAnswer {C : Type 0} (xs ys : List (List ℕ)) (clash second : Option MetaClash) (new then : C) : Type 0 where
+-- one answer: both stop serving or neither does, and what is then is the same; so are the frames,
+-- but for the two texts in the last one of a collision
+pub record SameAnswer {C : Type 0} (xs ys : List (List ℕ))
+    (clash second : Option MetaClash) (new then : C) : Type 0 where
   pub stops : is_some clash ≡ is_some second
   pub frames : is_some clash ≡ false → xs ≡ ys
   pub last : is_some clash ≡ true → SameButLast xs ys
@@ -14,5 +16,7 @@ pub record SameAnswer {C : Type 0} (xs ys : List (List ℕ)) (clash second : Opt
 -- a table that has one answer to each payload
 abbrev pub IsSingle : {C : Type 0} → Table C → Type 0
 IsSingle {C} Answer =
-    (old : C) (payload : List ℕ) (frames others : List (List ℕ)) (clash second : Option MetaClash) (new then : C) → Answer old payload frames clash new → Answer old payload others second then
+    (old : C) (payload : List ℕ) (frames others : List (List ℕ))
+    (clash second : Option MetaClash) (new then : C)
+    → Answer old payload frames clash new → Answer old payload others second then
     → SameAnswer frames others clash second new then

@@ -12,14 +12,20 @@ use Rattle.wal_serve.specs.declared.envelopes.Lack.{Lack}
 use Rattle.wal_serve.specs.declared.envelopes.Lack.TheVariants.{Nothing, Wrong, Cut, TooLong, Failed}
 use Rattle.wal_serve.specs.inside.Payload.{PayloadRoom}
 
--- why no whole envelope was taken, of which at most `most` bytes may be taken, and the bytes that the source lost: there were none;
--- the first one begins no envelope; the source ended in an envelope; it had one byte more than may be taken; or a read failed
-pub data Lacks (left after : Option (List ℕ)) (Rose : Type 0) (most : ℕ) : Lack → List ℕ → Type 0 where
+-- why no whole envelope was taken, of which at most `most` bytes may be taken, and the bytes that
+-- the source lost: there were none; the first one begins no envelope; the source ended in an
+-- envelope; it had one byte more than may be taken; or a read failed
+pub data Lacks (left after : Option (List ℕ)) (Rose : Type 0) (most : ℕ) : Lack → List ℕ
+    → Type 0 where
   nothing : Consumes left after [] → IsAtEnd after → Lacks left after Rose most Nothing []
-  wrong : (b : ℕ) → Consumes left after (b ∷ []) → (b ≡ 0x57 → ⊥) → 1 ≤ most → Lacks left after Rose most Wrong (b ∷ [])
-  cut : (got : List ℕ) → Consumes left after got → IsPart got → 0 < length got → length got ≤ most → IsAtEnd after → Lacks left after Rose most Cut got
-  too_long : (got : List ℕ) (b : ℕ) → Consumes left after (got ++ b ∷ []) → IsPart got → length got ≡ most → Lacks left after Rose most TooLong (got ++ b ∷ [])
-  failed : (got : List ℕ) → Consumes left after got → IsPart got → length got ≤ most → Rose → Lacks left after Rose most Failed got
+  wrong : (b : ℕ) → Consumes left after (b ∷ []) → (b ≡ 0x57 → ⊥) → 1 ≤ most
+      → Lacks left after Rose most Wrong (b ∷ [])
+  cut : (got : List ℕ) → Consumes left after got → IsPart got → 0 < length got → length got ≤ most
+      → IsAtEnd after → Lacks left after Rose most Cut got
+  too_long : (got : List ℕ) (b : ℕ) → Consumes left after (got ++ b ∷ []) → IsPart got
+      → length got ≡ most → Lacks left after Rose most TooLong (got ++ b ∷ [])
+  failed : (got : List ℕ) → Consumes left after got → IsPart got → length got ≤ most → Rose
+      → Lacks left after Rose most Failed got
 
 -- what ends an envelope where its bytes were not taken whole behind the first one
 abbrev pub lack_of : Took → Option Lack
@@ -29,8 +35,10 @@ lack_of took.TooLong = Some TooLong
 lack_of took.Failed = Some Failed
 
 -- the first byte of an envelope, or none
-abbrev pub TakesFirst : Option (List ℕ) → Option (List ℕ) → Type 0 → ℕ → Result (Unit {0}) Lack → List ℕ → Type 0
-TakesFirst left after Rose most (Ok done) got = (got ≡ 0x57 ∷ []) × Consumes left after got × (1 ≤ most)
+abbrev pub TakesFirst : Option (List ℕ) → Option (List ℕ) → Type 0 → ℕ → Result (Unit {0}) Lack
+    → List ℕ → Type 0
+TakesFirst left after Rose most (Ok done) got =
+    (got ≡ 0x57 ∷ []) × Consumes left after got × (1 ≤ most)
 TakesFirst left after Rose most (Err lack) got = Lacks left after Rose most lack got
 
 -- what stands before a payload of this size
@@ -40,8 +48,10 @@ pub record IsHead (size : ℕ) (got : List ℕ) : Type 0 where
   pub text : got ≡ 0x57 ∷ (number_text w16 sender ++ number_text w32 size)
 
 -- the head of an envelope, or no whole envelope
-abbrev pub TakesHead : Option (List ℕ) → Option (List ℕ) → Type 0 → ℕ → Result ℕ Lack → List ℕ → Type 0
-TakesHead left after Rose most (Ok size) got = IsHead size got × Consumes left after got × (length got ≤ most)
+abbrev pub TakesHead : Option (List ℕ) → Option (List ℕ) → Type 0 → ℕ → Result ℕ Lack → List ℕ
+    → Type 0
+TakesHead left after Rose most (Ok size) got =
+    IsHead size got × Consumes left after got × (length got ≤ most)
 TakesHead left after Rose most (Err lack) got = Lacks left after Rose most lack got
 
 -- an envelope whose payload has this size, and is in the buffer if the buffer has room for it
@@ -54,6 +64,8 @@ pub record IsEnvelope (size : ℕ) (buffer : PayloadRoom) (got : List ℕ) : Typ
   pub kept : size ≤ buffer.room → buffer.bytes ≡ payload
 
 -- an envelope, or none
-abbrev pub TakesEnvelope : Option (List ℕ) → Option (List ℕ) → Type 0 → ℕ → PayloadRoom → Result ℕ Lack → List ℕ → Type 0
-TakesEnvelope left after Rose most buffer (Ok size) got = IsEnvelope size buffer got × Consumes left after got × (length got ≤ most)
+abbrev pub TakesEnvelope : Option (List ℕ) → Option (List ℕ) → Type 0 → ℕ → PayloadRoom
+    → Result ℕ Lack → List ℕ → Type 0
+TakesEnvelope left after Rose most buffer (Ok size) got =
+    IsEnvelope size buffer got × Consumes left after got × (length got ≤ most)
 TakesEnvelope left after Rose most buffer (Err lack) got = Lacks left after Rose most lack got

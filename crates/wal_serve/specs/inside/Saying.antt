@@ -11,4 +11,5 @@ pub record Says (own : ℕ) (old : Buffer) (frames : List (List ℕ)) (new : Buf
 
 -- these frames were, and then their number
 abbrev pub SaysReplied : ℕ → Buffer → List (List ℕ) → Buffer → Type 0
-SaysReplied own old payloads new = Says own old (payloads ++ reply_text (done (length payloads)) ∷ []) new
+SaysReplied own old payloads new =
+    Says own old (payloads ++ reply_text (done (length payloads)) ∷ []) new

@@ -19,12 +19,14 @@ StopsWith None frames = ⊤
 StopsWith (Some clash) frames = frames ≡ clash_text clash ∷ []
 
 -- an answer was written whole, and the result is what ends serving; or a write failed
-abbrev pub SendsOne : Option (List ℕ) → Option (List ℕ) → List ℕ → Option MetaClash → Result (Option MetaClash) port.WriteFault → Type 0
+abbrev pub SendsOne : Option (List ℕ) → Option (List ℕ) → List ℕ → Option MetaClash
+    → Result (Option MetaClash) port.WriteFault → Type 0
 SendsOne old new text clash (Ok end) = (end ≡ clash) × Appends old new text
 SendsOne old new text clash (Err fault) = AppendsPart old new text
 
 -- serving so far: whole envelopes, each answered, and what was taken and written
-pub record IsServing {C : Type 0} (Answer : Table C) (room own : ℕ) (fresh state : C) (left after old new : Option (List ℕ)) (taken : ℕ) : Type 0 where
+pub record IsServing {C : Type 0} (Answer : Table C) (room own : ℕ) (fresh state : C)
+    (left after old new : Option (List ℕ)) (taken : ℕ) : Type 0 where
   pub front : List ℕ
   pub frames : List (List ℕ)
   pub served : Served Answer room fresh front frames None state
@@ -41,10 +43,14 @@ end_without lack.TooLong place = TooLong
 end_without lack.Failed place = ReadFault
 
 -- what is answered to a payload of this size, which is in the buffer if the buffer has room for it
-abbrev pub RepliesInto : {C : Type 0} → Table C → PayloadRoom → ℕ → C → List (List ℕ) → Option MetaClash → C → Type 0
+abbrev pub RepliesInto : {C : Type 0} → Table C → PayloadRoom → ℕ → C → List (List ℕ)
+    → Option MetaClash → C → Type 0
 RepliesInto Answer buffer size old frames clash new =
-    (payload : List ℕ) → length payload ≡ size → (size ≤ buffer.room → buffer.bytes ≡ payload) → Replies Answer buffer.room old payload frames clash new
+    (payload : List ℕ) → length payload ≡ size → (size ≤ buffer.room → buffer.bytes ≡ payload)
+    → Replies Answer buffer.room old payload frames clash new
 
 -- the same, and where two texts end serving, their frame is the only one
-abbrev pub AnswersInto : {C : Type 0} → Table C → PayloadRoom → ℕ → C → List (List ℕ) → Option MetaClash → C → Type 0
-AnswersInto Answer buffer size old frames clash new = RepliesInto Answer buffer size old frames clash new × StopsWith clash frames
+abbrev pub AnswersInto : {C : Type 0} → Table C → PayloadRoom → ℕ → C → List (List ℕ)
+    → Option MetaClash → C → Type 0
+AnswersInto Answer buffer size old frames clash new =
+    RepliesInto Answer buffer size old frames clash new × StopsWith clash frames

@@ -10,7 +10,8 @@ use Rattle.wal_serve.specs.State.{ServedState, SamePlace, state_of}
 use Rattle.wal_serve.specs.Reply.{outcome_text, clash_in}
 use Rattle.wal_serve.specs.inside.Saying.{Says}
 
--- what is answered to one payload: the state before, the frames, the two texts where they end serving, and the state after
+-- what is answered to one payload: the state before, the frames, the two texts where they end
+-- serving, and the state after
 abbrev pub Row : Type 1
 Row = ServedState → List (List ℕ) → Option MetaClash → ServedState → Type 0
 
@@ -21,13 +22,17 @@ module _ {H K : Type 0} {h : hash.Ghosts H} {k : keep.Ghosts K} where
 
   -- one frame is answered so, with this outcome
   abbrev pub Gives : Row → Session H K h k → Result Reply MetaClash → Session H K h k → Type 0
-  Gives Answer old outcome new = Answer (served old) (outcome_text outcome ∷ []) (clash_in outcome) (served new)
+  Gives Answer old outcome new =
+      Answer (served old) (outcome_text outcome ∷ []) (clash_in outcome) (served new)
 
   -- frames are answered so, and written in envelopes from the shard
-  abbrev pub Answers : Row → Session H K h k → Buffer → Option MetaClash → Session H K h k → Buffer → Type 0
-  Answers Answer old out clash new then = (frames : List (List ℕ)) × Answer (served old) frames clash (served new) × Says old.shard.now.index out frames then
+  abbrev pub Answers : Row → Session H K h k → Buffer → Option MetaClash → Session H K h k → Buffer
+      → Type 0
+  Answers Answer old out clash new then = (frames : List (List ℕ))
+      × Answer (served old) frames clash (served new) × Says old.shard.now.index out frames then
 
-  -- the session is over the same shard, ledger and memory; the shard keeps its place, and the faulty shards are the same
+  -- the session is over the same shard, ledger and memory; the shard keeps its place, and the
+  -- faulty shards are the same
   pub record Stays (old new : Session H K h k) : Type 0 where
     pub shard : new.shard.ghost_name ≡ old.shard.ghost_name
     pub state : new.state.ghost_name ≡ old.state.ghost_name

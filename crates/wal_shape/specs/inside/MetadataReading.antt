@@ -12,7 +12,9 @@ root_place_of Secondary pair = 42 + 64 * pair
 
 -- the numbers are fit, and all pairs of roots are there and nothing else
 abbrev pub AreNumbersAndRoots : List ℕ → Type 0
-AreNumbersAndRoots bytes = IsShape (spelled_f bytes) (spelled_length bytes) × (length bytes ≡ 10 + 64 * shard_count (spelled_f bytes))
+AreNumbersAndRoots bytes =
+    IsShape (spelled_f bytes) (spelled_length bytes)
+    × (length bytes ≡ 10 + 64 * shard_count (spelled_f bytes))
 
 -- the bytes spell a metadata
 abbrev pub SpellMetadata : List ℕ → Type 0

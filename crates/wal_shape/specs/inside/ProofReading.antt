@@ -18,7 +18,8 @@ head_at bytes = do
   Ok (record { axis = axis_of axis.0; index = index.0; count = count.0 }, count.1)
 
 -- what stands behind an opening that was read
-abbrev pub behind : Result (Opening × List ℕ) BodyFault → (List ℕ → Option (List ℕ)) → Option (List ℕ)
+abbrev pub behind : Result (Opening × List ℕ) BodyFault → (List ℕ → Option (List ℕ))
+    → Option (List ℕ)
 behind (Ok x) others = others x.1
 behind (Err e) others = None
 
@@ -29,7 +30,9 @@ bodies_end (suc n) bytes = behind (body_at bytes) (bodies_end n)
 
 -- bytes with this head spell a proof: its numbers are fit, all bodies are there and nothing else
 abbrev pub SpellProof : Head → List ℕ → Type 0
-SpellProof head bytes = (head.index ≤ 999) × (head.count ≤ 1000) × (bodies_end head.count (drop 5 bytes) ≡ Some []) × (proof_text (proof_of head bytes) ≡ bytes)
+SpellProof head bytes =
+    (head.index ≤ 999) × (head.count ≤ 1000) × (bodies_end head.count (drop 5 bytes) ≡ Some [])
+    × (proof_text (proof_of head bytes) ≡ bytes)
 
 -- the head, if nothing is left behind the last body
 abbrev pub ended : Head → Option (List ℕ) → Option Head

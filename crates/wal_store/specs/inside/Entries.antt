@@ -40,11 +40,15 @@ needed_in entries id size = (if is_some (found_in entries id) then 0 else 1) + p
 
 -- these parts of an identifier, which is gone where they are none
 abbrev pub changed_in : Entries → BlobId → Parts → Entries
-changed_in entries id parts = if is_empty parts then remove_entry (is_at (id_cmp id)) entries else insert_entry id_cmp entries id parts
+changed_in entries id parts =
+    if is_empty parts then remove_entry (is_at (id_cmp id)) entries
+    else insert_entry id_cmp entries id parts
 
 -- the pages that a part frees when it goes
 abbrev pub freed_in : Entries → BlobId → Part → ℕ
-freed_in entries id part = if is_empty (with_part (parts_in entries id) part None) then cost_at entries id else part_cost (part_of (parts_in entries id) part)
+freed_in entries id part =
+    if is_empty (with_part (parts_in entries id) part None) then cost_at entries id
+    else part_cost (part_of (parts_in entries id) part)
 
 -- where there is a limit, the use of it is known, and it holds
 abbrev pub InBudget : Option Budget → ℕ → Type 0
@@ -53,7 +57,8 @@ InBudget budget cost = ForSome budget (λ b. (b.used ≡ cost) × (b.used ≤ b.
 -- whether so many pages are free
 abbrev pub room_answer : Option Budget → ℕ → Result (Unit {0}) KeepError
 room_answer None needed = Ok tt
-room_answer (Some b) needed = if nat_lt (b.limit - b.used) needed then Err (Full needed (b.limit - b.used)) else Ok tt
+room_answer (Some b) needed =
+    if nat_lt (b.limit - b.used) needed then Err (Full needed (b.limit - b.used)) else Ok tt
 
 -- where a range of those past it begins
 abbrev pub past_bound : Option BlobId → Bound BlobId

@@ -28,7 +28,8 @@ with_slot row Secondary slot = record row { secondary = slot }
 with_slot row Proof slot = record row { proof = slot }
 
 abbrev pub no_slots : BlobId → ℕ → Row
-no_slots id home = record { id = id; home = home; metadata = None; primary = None; secondary = None; proof = None }
+no_slots id home =
+    record { id = id; home = home; metadata = None; primary = None; secondary = None; proof = None }
 
 -- the pages of a part
 abbrev pub slot_links : List ℕ → Option Slot → List ℕ
@@ -42,7 +43,8 @@ slot_cost (Some slot) = pages_for slot.size
 
 -- the bytes of a part
 abbrev pub content : Linked → Slot → List ℕ
-content linked slot = take slot.size (joined linked.states (links linked.next (pages_for slot.size) slot.first))
+content linked slot =
+    take slot.size (joined linked.states (links linked.next (pages_for slot.size) slot.first))
 
 abbrev pub part_in : Linked → Option Slot → Option (List ℕ)
 part_in linked slot = option_map (content linked) slot
@@ -65,7 +67,8 @@ entries_of linked rows = map (λ r. (r.id, parts_of linked r)) rows
 -- how often a row uses a page
 abbrev pub row_uses : List ℕ → ℕ → Row → ℕ
 row_uses next k row =
-    uses k (row.home ∷ []) + uses k (slot_links next row.metadata) + uses k (slot_links next row.primary)
+    uses k (row.home ∷ []) + uses k (slot_links next row.metadata)
+    + uses k (slot_links next row.primary)
     + uses k (slot_links next row.secondary) + uses k (slot_links next row.proof)
 
 abbrev pub rows_use : List ℕ → ℕ → List Row → ℕ
@@ -76,11 +79,13 @@ rows_use next k (r ∷ rs) = row_uses next k r + rows_use next k rs
 abbrev pub is_sized : Option Slot → Option (List ℕ) → Bool
 is_sized None bytes = true
 is_sized (Some slot) None = false
-is_sized (Some slot) (Some bytes) = nat_eq (length bytes) slot.size && nat_lt 0 slot.size && nat_le slot.size most_bytes
+is_sized (Some slot) (Some bytes) =
+    nat_eq (length bytes) slot.size && nat_lt 0 slot.size && nat_le slot.size most_bytes
 
 abbrev pub are_sized : Row → Parts → Bool
 are_sized row parts =
-    is_sized row.metadata parts.metadata && is_sized row.primary parts.primary && is_sized row.secondary parts.secondary && is_sized row.proof parts.proof
+    is_sized row.metadata parts.metadata && is_sized row.primary parts.primary
+    && is_sized row.secondary parts.secondary && is_sized row.proof parts.proof
 
 -- the parts of a row have their sizes
 abbrev pub IsSized : Linked → Row → Type 0
@@ -100,8 +105,10 @@ pub record Owns (linked : Linked) (rows : List Row) : Type 0 where
 -- an identifier is past those below a place, and before those from it on
 pub record IsGap (id : BlobId) (ids : List BlobId) (place : ℕ) : Type 0 where
   pub within : place ≤ length ids
-  pub before : (j : ℕ) (other : BlobId) → j < place → slice_get ids j ≡ Some other → id_cmp id other ≡ Greater
-  pub after : (j : ℕ) (other : BlobId) → place ≤ j → slice_get ids j ≡ Some other → id_cmp id other ≡ Less
+  pub before : (j : ℕ) (other : BlobId) → j < place → slice_get ids j ≡ Some other
+      → id_cmp id other ≡ Greater
+  pub after : (j : ℕ) (other : BlobId) → place ≤ j → slice_get ids j ≡ Some other
+      → id_cmp id other ≡ Less
 
 abbrev pub no_slot : Option Slot → Bool
 no_slot None = true
@@ -109,4 +116,5 @@ no_slot (Some slot) = false
 
 -- the row has no part
 abbrev pub is_bare : Row → Bool
-is_bare row = no_slot row.metadata && no_slot row.primary && no_slot row.secondary && no_slot row.proof
+is_bare row =
+    no_slot row.metadata && no_slot row.primary && no_slot row.secondary && no_slot row.proof

@@ -8,5 +8,6 @@ use Rattle.wal_words.specs.Task.{Asks}
 -- what clap found asks for this task
 abbrev pub FoundAsks : Found → Task → Type 0
 FoundAsks found task =
-    Asks (unwrap_or (option_map raw_values (matched_of found (codes "words"))) []) (first_value found (codes "blobs"))
+    Asks (unwrap_or (option_map raw_values (matched_of found (codes "words"))) [])
+    (first_value found (codes "blobs"))
     (first_value found (codes "pages")) (first_value found (codes "format")) task

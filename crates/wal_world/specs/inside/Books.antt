@@ -38,7 +38,8 @@ books_with (Some (Moving m)) ledger = Some (Moving (record m { ledger = ledger }
 books_with None ledger = None
 
 -- the epoch began to change, to a committee with these owners and faulty shards
-pub record IsBegun (old : Option Books) (owners faulty stays : List ℕ) (new : Option Books) : Type 0 where
+pub record IsBegun (old : Option Books) (owners faulty stays : List ℕ)
+    (new : Option Books) : Type 0 where
   pub may : MayBegin (ledger_of old).log owners faulty stays
   pub room : 0 < (ledger_of old).spare
   pub books : new ≡ Some (Moving (record { ledger = takes_in (ledger_of old) (entry.Begin owners); faulty_now = faulty_on Now old; faulty_next = faulty; stays = stays }))
@@ -47,17 +48,22 @@ pub record IsBegun (old : Option Books) (owners faulty stays : List ℕ) (new : 
 -- why it did not
 abbrev pub IsBeginError : LedgerState → List ℕ → List ℕ → List ℕ → BeginError → Type 0
 IsBeginError ledger owners faulty stays beginning.LastEpoch = reading ledger.log ≡ 65535
-IsBeginError ledger owners faulty stays beginning.BadCommittee = (reading ledger.log < 65535) × (is_next_committee ledger.log owners faulty stays ≡ false)
-IsBeginError ledger owners faulty stays beginning.NoRoom = MayBegin ledger.log owners faulty stays × (ledger.spare ≡ 0)
+IsBeginError ledger owners faulty stays beginning.BadCommittee =
+    (reading ledger.log < 65535) × (is_next_committee ledger.log owners faulty stays ≡ false)
+IsBeginError ledger owners faulty stays beginning.NoRoom =
+    MayBegin ledger.log owners faulty stays × (ledger.spare ≡ 0)
 
 -- the change of the epoch ended: the next committee serves
 pub record IsFinished (old new : Option Books) : Type 0 where
   pub quorum : quorum_size (ledger_of old).log.f ≤ ready_total (ledger_of old).log
   pub room : 0 < (ledger_of old).spare
-  pub books : new ≡ Some (Serving (record { ledger = takes_in (ledger_of old) entry.Finish; faulty = faulty_on Next old }))
+  pub books : new ≡ Some (Serving
+      (record { ledger = takes_in (ledger_of old) entry.Finish; faulty = faulty_on Next old }))
   pub serving : is_moving (ledger_of new).log ≡ false
 
 -- why it did not
 abbrev pub IsFinishError : LedgerState → FinishError → Type 0
-IsFinishError ledger (finishing.Waiting ready) = (ready ≡ ready_total ledger.log) × (ready < quorum_size ledger.log.f)
-IsFinishError ledger finishing.NoRoom = (quorum_size ledger.log.f ≤ ready_total ledger.log) × (ledger.spare ≡ 0)
+IsFinishError ledger (finishing.Waiting ready) =
+    (ready ≡ ready_total ledger.log) × (ready < quorum_size ledger.log.f)
+IsFinishError ledger finishing.NoRoom =
+    (quorum_size ledger.log.f ≤ ready_total ledger.log) × (ledger.spare ≡ 0)

@@ -19,13 +19,15 @@ state_with format s few =
     record { format = format; log = s.ledger.log; now = empty_committee s.ledger.log.f s.faulty; next = nobody; few = few; answers = finmap.empty }
 
 -- a network with this ledger, in which nothing is held or completed
-pub record IsFresh {H : Type 0} (format : Format) (s : ServingState) (few : Bool) (n : Network H) : Type 0 where
+pub record IsFresh {H : Type 0} (format : Format)
+    (s : ServingState) (few : Bool) (n : Network H) : Type 0 where
   pub network : IsNetwork n
   pub world : world_of n ≡ state_with format s few
   pub spare : spare_of n ≡ s.ledger.spare
 
 -- a network in the first state, with room for so many entries
-pub record IsFirst {H : Type 0} (f epoch : ℕ) (format : Format) (owners faulty : List ℕ) (room : ℕ) (n : Network H) : Type 0 where
+pub record IsFirst {H : Type 0} (f epoch : ℕ) (format : Format)
+    (owners faulty : List ℕ) (room : ℕ) (n : Network H) : Type 0 where
   pub fit : IsFit f epoch
   pub committee : is_committee (committee_size f) owners faulty ≡ true
   pub network : IsNetwork n
@@ -33,6 +35,9 @@ pub record IsFirst {H : Type 0} (f epoch : ℕ) (format : Format) (owners faulty
   pub spare : spare_of n ≡ room
 
 -- the network, or a refusal, by the epoch's rule
-abbrev pub CreatesNetwork : {H : Type 0} → ℕ → ℕ → Format → List ℕ → List ℕ → ℕ → Result (Network H) CreateError → Type 0
-CreatesNetwork f epoch format owners faulty room (Ok n) = IsFirst f epoch format owners faulty room n
-CreatesNetwork f epoch format owners faulty room (Err error) = Creates f epoch owners faulty room (Err error)
+abbrev pub CreatesNetwork : {H : Type 0} → ℕ → ℕ → Format → List ℕ → List ℕ → ℕ
+    → Result (Network H) CreateError → Type 0
+CreatesNetwork f epoch format owners faulty room (Ok n) =
+    IsFirst f epoch format owners faulty room n
+CreatesNetwork f epoch format owners faulty room (Err error) =
+    Creates f epoch owners faulty room (Err error)

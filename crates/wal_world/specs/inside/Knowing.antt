@@ -22,7 +22,8 @@ IsHeldMetadata digest f id p None = p.metadata ≡ None
 IsHeldMetadata digest f id p (Some m) = IsOwnMetadata digest f id p m
 
 -- m is the only one that is known, and the identifier commits it; where a shard holds one, it is m
-pub record IsOnly (digest : List ℕ → List ℕ) (id : BlobId) (parts : Parts) (payloads : List (List ℕ)) (m : BlobMetadata) : Type 0 where
+pub record IsOnly (digest : List ℕ → List ℕ) (id : BlobId) (parts : Parts)
+    (payloads : List (List ℕ)) (m : BlobMetadata) : Type 0 where
   pub known : Knows digest id parts payloads m
   pub only : (other : BlobMetadata) → Knows digest id parts payloads other → other ≡ m
   pub commits : Commits digest id.0 m
@@ -32,10 +33,14 @@ pub record IsOnly (digest : List ℕ → List ℕ) (id : BlobId) (parts : Parts)
 abbrev pub AreKnown : (List ℕ → List ℕ) → BlobId → Parts → List (List ℕ) → Known → Type 0
 AreKnown digest id parts payloads Absent = (m : BlobMetadata) → Knows digest id parts payloads m → ⊥
 AreKnown digest id parts payloads (One m) = IsOnly digest id parts payloads m
-AreKnown digest id parts payloads (Two c) = KnowsTwo digest id parts payloads × IsCollision digest c.left c.right
+AreKnown digest id parts payloads (Two c) =
+    KnowsTwo digest id parts payloads × IsCollision digest c.left c.right
 
 -- a recovery from these payloads comes to this word, and the shard keeps what it found
-abbrev pub RecoversInWorld : (List ℕ → List ℕ) → World → Side → ℕ → Axis → BlobId → List (List ℕ) → RecoverWord → World → Type 0
+abbrev pub RecoversInWorld : (List ℕ → List ℕ) → World → Side → ℕ → Axis → BlobId → List (List ℕ)
+    → RecoverWord → World → Type 0
 RecoversInWorld digest old side shard axis id payloads word new =
-    (contents : Contents) × RecoversTo digest old.log.f id shard axis (contents_of (side_of side old) shard) payloads word contents
+    (contents : Contents)
+    × RecoversTo digest old.log.f id shard axis
+    (contents_of (side_of side old) shard) payloads word contents
     × (new ≡ keeps old side shard contents)

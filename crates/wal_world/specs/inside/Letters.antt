@@ -50,24 +50,30 @@ TellsClash putting.NoMetadata None = ⊤
 TellsClash putting.Unverified None = ⊤
 TellsClash _ _ = ⊥
 
--- puts of frames to shards of a side, up to the first that finds another metadata held: then two texts have one digest
-pub record PutsTo (digest : List ℕ → List ℕ) (old : World) (side : Side) (letters : List (ℕ × Frame)) (clash : Option Collision) (new : World) : Type 0 where
+-- puts of frames to shards of a side, up to the first that finds another metadata held: then two
+-- texts have one digest
+pub record PutsTo (digest : List ℕ → List ℕ) (old : World) (side : Side)
+    (letters : List (ℕ × Frame)) (clash : Option Collision) (new : World) : Type 0 where
   pub mid : Committee
-  pub puts : PutsEach (rules_of digest old.log.f) old.log (side_of side old) letters (is_some clash) mid
+  pub puts : PutsEach (rules_of digest old.log.f) old.log
+      (side_of side old) letters (is_some clash) mid
   pub state : new ≡ with_side side old mid
   pub collides : IfSome clash (λ c. IsCollision digest c.left c.right)
 
 -- what the puts of the letters from here come to is what those of all of them come to from there
-abbrev pub Continues : (List ℕ → List ℕ) → World → List (ℕ × Frame) → Side → World → List (ℕ × Frame) → Type 0
+abbrev pub Continues : (List ℕ → List ℕ) → World → List (ℕ × Frame) → Side → World
+    → List (ℕ × Frame) → Type 0
 Continues digest old letters side here rest =
-    (clash : Option Collision) (new : World) → PutsTo digest here side rest clash new → PutsTo digest old side letters clash new
+    (clash : Option Collision) (new : World) → PutsTo digest here side rest clash new
+    → PutsTo digest old side letters clash new
 
 -- all that is sent to a shard has a spelling
 abbrev pub AreParts : Written → ℕ → Type 0
 AreParts w shard = AllByRecursion IsFrame (messages_of w shard)
 
 -- what a writer has made of a blob, for so many faults of a committee
-pub record IsStarted (digest : List ℕ → List ℕ) (f : ℕ) (format : Format) (blob : List ℕ) (w : Written) : Type 0 where
+pub record IsStarted (digest : List ℕ → List ℕ) (f : ℕ)
+    (format : Format) (blob : List ℕ) (w : Written) : Type 0 where
   pub few : f ≤ 333
   pub faults : w.metadata.f ≡ f
   pub message : IsMessageOf digest f format blob w.id (messages_of w)

@@ -20,5 +20,6 @@ with_members Next s m = record s { next = m }
 
 -- both sides end with what was left of the shards that one of them lent
 module _ (H : RattleType) (G : Ghosts H.Denot) where
-  abbrev pub LendsSide : Side → MutBor (the_row H G).Denot → MutBor (members.the_row H G).Denot → Fml
+  abbrev pub LendsSide : Side → MutBor (the_row H G).Denot → MutBor (members.the_row H G).Denot
+      → Fml
   LendsSide side s r = Lends (the_row H G) (members.the_row H G) s r (with_members side s.now)

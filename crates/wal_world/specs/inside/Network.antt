@@ -27,7 +27,8 @@ abbrev pub world_of : {H : Type 0} → Network H → World
 world_of n = record {
   format = n.format;
   log = (ledger_of n.books).log;
-  now = record { faulty = faulty_on Now n.books; shards = contents_in n.sides.serving.shards.items };
+  now =
+      record { faulty = faulty_on Now n.books; shards = contents_in n.sides.serving.shards.items };
   next = record { faulty = faulty_on Next n.books; shards = contents_in n.sides.next.shards.items };
   few = n.few;
   answers = from_sorted n.answers.entries;
@@ -45,7 +46,8 @@ pub record IsShardAt (f index : ℕ) (s : ShardState) : Type 0 where
 -- the shards of a committee
 pub record AreShards (f : ℕ) (shards : List ShardState) : Type 0 where
   pub count : length shards ≡ committee_size f
-  pub each : (i : ℕ) (d : ShardState) → i < committee_size f → IsShardAt f i (slice_index_or shards i d)
+  pub each : (i : ℕ) (d : ShardState) → i < committee_size f
+      → IsShardAt f i (slice_index_or shards i d)
 
 -- those of the next committee: none while one serves
 abbrev pub AreNext : Option Books → List ShardState → Type 0
@@ -63,7 +65,8 @@ pub record IsNetwork {H : Type 0} (n : Network H) : Type 0 where
   pub room : room_of (ledger_of n.books).log.f ≤ n.buffer.spare
 
 -- the shard of a side that has this number
-pub record IsShardOf {H : Type 0} (side : Side) (n : Network H) (number : ℕ) (s : ShardState) : Type 0 where
+pub record IsShardOf {H : Type 0} (side : Side) (n : Network H)
+    (number : ℕ) (s : ShardState) : Type 0 where
   pub contents : s.contents ≡ contents_of (side_of side (world_of n)) number
   pub f : s.f ≡ (world_of n).log.f
   pub index : s.index ≡ number

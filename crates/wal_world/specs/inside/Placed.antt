@@ -19,22 +19,26 @@ contents_at shards place = slice_index_or (contents_in shards) place map.empty
 
 -- the shards of f once the one at a place holds this
 abbrev pub placed : ℕ → List ShardState → ℕ → Contents → List ShardState
-placed f shards place contents = slice_set shards place (record { f = f; index = place; contents = contents; limit = None })
+placed f shards place contents =
+    slice_set shards place (record { f = f; index = place; contents = contents; limit = None })
 
 -- the side that a side is not
 abbrev pub opposite : Side → Side
 opposite Now = Next
 opposite Next = Now
 
--- the shard of a side holds this from now on; all else of the network stays, but for what its tables and buffers have in them
-pub record Places {H : Type 0} (side : Side) (old : Network H) (shard : ℕ) (contents : Contents) (new : Network H) : Type 0 where
+-- the shard of a side holds this from now on; all else of the network stays, but for what its
+-- tables and buffers have in them
+pub record Places {H : Type 0} (side : Side) (old : Network H)
+    (shard : ℕ) (contents : Contents) (new : Network H) : Type 0 where
   pub format : new.format ≡ old.format
   pub books : new.books ≡ old.books
   pub few : new.few ≡ old.few
   pub answers : new.answers ≡ old.answers
   pub buffer : new.buffer ≡ old.buffer
   pub work : new.work.f ≡ old.work.f
-  pub shards : shards_of side new ≡ placed (ledger_of old.books).log.f (shards_of side old) shard contents
+  pub shards : shards_of side new
+      ≡ placed (ledger_of old.books).log.f (shards_of side old) shard contents
   pub others : shards_of (opposite side) new ≡ shards_of (opposite side) old
 
 -- what a shard holds once it was to forget a blob, by its answer

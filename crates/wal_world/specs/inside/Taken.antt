@@ -26,5 +26,6 @@ Tells putting.Held (taken.Word sending.Held) = ⊤
 Tells putting.Unregistered (taken.Word sending.Unregistered) = ⊤
 Tells putting.NoMetadata (taken.Word sending.NoMetadata) = ⊤
 Tells putting.Unverified (taken.Word sending.Unverified) = ⊤
-Tells (putting.OtherMetadata clash) (taken.Collision c) = (c.left ≡ clash.left) × (c.right ≡ clash.right)
+Tells (putting.OtherMetadata clash) (taken.Collision c) =
+    (c.left ≡ clash.left) × (c.right ≡ clash.right)
 Tells _ _ = ⊥

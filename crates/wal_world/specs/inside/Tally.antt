@@ -24,7 +24,8 @@ pub record IsTally (lines : List Line) (t : Tally) : Type 0 where
 
 -- one more line was counted
 abbrev pub Counts : Line → Tally → Tally → Type 0
-Counts said before after = (lines : List Line) → IsTally lines before → IsTally (lines ++ said ∷ []) after
+Counts said before after =
+    (lines : List Line) → IsTally lines before → IsTally (lines ++ said ∷ []) after
 
 -- the two texts of a line that is a collision
 abbrev pub collision_in : Line → Option Collision
@@ -32,7 +33,8 @@ collision_in (line.Collision left right) = Some (record { left = left; right = r
 collision_in _ = None
 
 -- an event was taken, and its line counted
-pub record IsTallied (r : Rules) (old : World) (event : Event) (new : World) (before after : Tally) (o : Option Collision) : Type 0 where
+pub record IsTallied (r : Rules) (old : World) (event : Event) (new : World)
+    (before after : Tally) (o : Option Collision) : Type 0 where
   pub said : Line
   pub step : Steps r old event said new
   pub counts : Counts said before after

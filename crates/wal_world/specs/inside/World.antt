@@ -20,26 +20,31 @@ use Rattle.wal_world.specs.declared.network.Network.{Network}
 use Rattle.wal_world.specs.World.{WorldState}
 
 -- unless it is dead, its network is whole, and the state has all facts
-pub record IsWorld {H : Type 0} (digest : List ℕ → List ℕ) (n : Network H) (dead : Bool) : Type 0 where
+pub record IsWorld {H : Type 0} (digest : List ℕ → List ℕ)
+    (n : Network H) (dead : Bool) : Type 0 where
   pub network : dead ≡ false → IsNetwork n
   pub most : dead ≡ false → (world_of n).log.f ≤ 333
   pub facts : dead ≡ false → Facts (rules_of digest (world_of n).log.f) (world_of n)
 
 -- a ledger's log is stored as the ledger in which no more entries fit
 abbrev log_code : Coded Log
-log_code = code_by LedgerState ledger.the_row.coded (λ l. record { log = l; spare = 0 }) (λ s. s.log) (λ _. refl)
+log_code =
+    code_by LedgerState ledger.the_row.coded
+    (λ l. record { log = l; spare = 0 }) (λ s. s.log) (λ _. refl)
 
 -- a committee is stored as the pair of its lists
 abbrev committee_code : Coded Committee
 committee_code =
-    code_by (List ℕ × List Contents) (coded× (coded_list coded_ℕ) (coded_list (finmap.code id_code parts_code)))
+    code_by (List ℕ × List Contents)
+    (coded× (coded_list coded_ℕ) (coded_list (finmap.code id_code parts_code)))
     (λ c. (c.faulty, c.shards)) (λ t. record { faulty = t.0; shards = t.1 }) (λ _. refl)
 
 -- a state is stored as the tuple of its parts
 abbrev state_code : Coded World
 state_code =
     code_by (Format × (Log × (Committee × (Committee × (Bool × finmap.FinMap id_cmp First)))))
-    (coded× format.the_row.coded (coded× log_code (coded× committee_code (coded× committee_code (coded× coded_bool (finmap.code id_code first.the_row.coded))))))
+    (coded× format.the_row.coded (coded× log_code (coded× committee_code
+    (coded× committee_code (coded× coded_bool (finmap.code id_code first.the_row.coded))))))
     (λ w. (w.format, (w.log, (w.now, (w.next, (w.few, w.answers))))))
     (λ t. record { format = t.0; log = t.1.0; now = t.1.1.0; next = t.1.1.1.0; few = t.1.1.1.1.0; answers = t.1.1.1.1.1 })
     (λ _. refl)
@@ -47,5 +52,7 @@ state_code =
 -- what callers see of a world is stored as the tuple of its parts
 abbrev pub world_code : Coded WorldState
 world_code =
-    code_by (World × (ℕ × (Bool × Bool))) (coded× state_code (coded× coded_ℕ (coded× coded_bool coded_bool)))
-    (λ w. (w.state, (w.room, (w.dead, w.ended)))) (λ t. record { state = t.0; room = t.1.0; dead = t.1.1.0; ended = t.1.1.1 }) (λ _. refl)
+    code_by (World × (ℕ × (Bool × Bool)))
+    (coded× state_code (coded× coded_ℕ (coded× coded_bool coded_bool)))
+    (λ w. (w.state, (w.room, (w.dead, w.ended))))
+    (λ t. record { state = t.0; room = t.1.0; dead = t.1.1.0; ended = t.1.1.1 }) (λ _. refl)

@@ -5,5 +5,7 @@ use Rattle.walrus_c.specs.Words.{HasNoZero, AreWords}
 -- of the text these words were read, and the front of the next one, and this is left
 pub record ReadSoFar (words : List (List ℕ)) (word left text : List ℕ) : Type 0 where
   pub quiet : HasNoZero word
-  pub goes_on : (rest : List (List ℕ)) → AreWords rest (word ++ left) → AreWords (words ++ rest) text
-  pub only : (all : List (List ℕ)) → AreWords all text → (rest : List (List ℕ)) × AreWords rest (word ++ left)
+  pub goes_on : (rest : List (List ℕ)) → AreWords rest (word ++ left)
+      → AreWords (words ++ rest) text
+  pub only : (all : List (List ℕ)) → AreWords all text
+      → (rest : List (List ℕ)) × AreWords rest (word ++ left)
