@@ -177,10 +177,10 @@ slope-polynomial (suc j) e few =
     let before = slope-polynomial j e (omega arith) in
     let some = pow_pos j in
     let p = IsPolynomial-times words (2 ^ j - 1 + suc (2 ^ j)) IsPoint
-        (λ x. words.times (polynomial.value words before.0 x) (step_of j e x))
-        (element_of (scale j))
-        (product_of words (2 ^ j - 1) (suc (2 ^ j)) IsPoint (step_of j e) (step-polynomial j e (omega arith)) before.0
-        (omega (arith, before.1))) in (
+    (λ x. words.times (polynomial.value words before.0 x) (step_of j e x))
+    (element_of (scale j))
+    (product_of words (2 ^ j - 1) (suc (2 ^ j)) IsPoint (step_of j e) (step-polynomial j e (omega arith)) before.0
+    (omega (arith, before.1))) in (
       p.0,
       omega (arith, p.1, pow-suc 2 j),
       λ x point.
@@ -226,14 +226,14 @@ quotient-polynomial (suc j) c e few low =
     let l : Element → Element = λ x. words.times (polynomial.value words slopes.0 x) (function (value j h) x) in
     let first = quotient-polynomial j c e (omega arith) low in
     let second = IsPolynomial-times words (2 ^ j - 1) IsPoint (function (quotient j h e)) (element_of (skew j e))
-        (quotient-polynomial j h e (omega arith) lowh) in
+    (quotient-polynomial j h e (omega arith) lowh) in
     let third = product_of words (2 ^ j - 1) (2 ^ j) IsPoint (function (value j h))
-        (value-polynomial j (2 ^ j) h (omega arith) lowh (λ i over within. absurd (omega arith))) slopes.0
-        (omega (arith, slopes.1)) in
+    (value-polynomial j (2 ^ j) h (omega arith) lowh (λ i over within. absurd (omega arith))) slopes.0
+    (omega (arith, slopes.1)) in
     let p = IsPolynomial-plus words n IsPoint (λ x. words.plus (f x) (g x)) l
-        (IsPolynomial-plus words n IsPoint f g (first.0, omega (arith, first.1, pow-suc 2 j), first.2)
-        (second.0, omega (arith, second.1, pow-suc 2 j), second.2))
-        (third.0, omega (arith, third.1, pow-suc 2 j), third.2) in (
+    (IsPolynomial-plus words n IsPoint f g (first.0, omega (arith, first.1, pow-suc 2 j), first.2)
+    (second.0, omega (arith, second.1, pow-suc 2 j), second.2))
+    (third.0, omega (arith, third.1, pow-suc 2 j), third.2) in (
       p.0,
       p.1,
       λ x point.

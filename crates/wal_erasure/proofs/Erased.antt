@@ -165,7 +165,7 @@ module _ (known : List ℕ) (level : ℕ) (given c : ℕ → ℕ) (h : IsErasure
         let all = counted known n h.distinct h.below in
         let less = count-suc known n e e_below missing in
         let p = product_of words a b IsPoint s
-            (from_codeword (length known) (combination known given) whole_codeword) l.0 l.1 in (
+        (from_codeword (length known) (combination known given) whole_codeword) l.0 l.1 in (
           p.0,
           omega (arith, all, less, p.1),
           λ x point.

@@ -232,12 +232,16 @@ locator-polynomial known zero far =
 locator-polynomial known (suc n) far =
     let before = locator-polynomial known n (omega arith) in
     elim (either (is_known known n)) [
-      | inl taken ↦
-          (before.0, omega (arith, before.1, count-known known n taken),
-          λ x point. before.2 x point ∙ ap element_of (sym (locator-known known n x.0 taken)))
+      | inl taken ↦ (
+        before.0,
+        omega (arith, before.1, count-known known n taken),
+        λ x point. before.2 x point ∙ ap element_of (sym (locator-known known n x.0 taken)),
+      )
       | inr free ↦
           let p = IsPolynomial-line words (suc (missing_count known n)) IsPoint (function (locator known n))
-              (element_of n) before in
-          (p.0, omega (arith, p.1, count-missing known n free),
-          λ x point. p.2 x point ∙ locator_line known n x (omega arith) free)
+          (element_of n) before in (
+            p.0,
+            omega (arith, p.1, count-missing known n free),
+            λ x point. p.2 x point ∙ locator_line known n x (omega arith) free,
+          )
     ]

@@ -34,16 +34,16 @@ first-number x point =
 pub skew-polynomial : (j : ℕ) → j < 10 → IsPolynomial words (suc (2 ^ j)) IsPoint (function (skew j))
 skew-polynomial zero few =
     let p = IsPolynomial-line words 1 IsPoint (λ x. words.unit) words.nothing
-        (IsPolynomial-constant words 0 IsPoint words.unit) in
+    (IsPolynomial-constant words 0 IsPoint words.unit) in
     (p.0, p.1, λ x point. p.2 x point ∙ first-number x point)
 skew-polynomial (suc j) few =
     let before = skew-polynomial j (omega arith) in
     let other : Element → Element = λ x. words.plus (function (skew j) x) words.unit in
     let more = IsPolynomial-plus words (suc (2 ^ j)) IsPoint (function (skew j)) (λ x. words.unit) before
-        (IsPolynomial-constant words (2 ^ j) IsPoint words.unit) in
+    (IsPolynomial-constant words (2 ^ j) IsPoint words.unit) in
     let p = IsPolynomial-times words (2 ^ j + suc (2 ^ j)) IsPoint
-        (λ x. words.times (polynomial.value words before.0 x) (other x))
-        (element_of (scale j)) (product_of words (2 ^ j) (suc (2 ^ j)) IsPoint other more before.0 before.1) in (
+    (λ x. words.times (polynomial.value words before.0 x) (other x))
+    (element_of (scale j)) (product_of words (2 ^ j) (suc (2 ^ j)) IsPoint other more before.0 before.1) in (
       p.0,
       omega (arith, p.1, pow-suc 2 j),
       λ x point.
@@ -93,7 +93,7 @@ value-polynomial (suc j) k c few low none =
     elim (cases_lt k (2 ^ j)) [
       | inl below ↦
           let p = value-polynomial j k c (omega arith) low
-              (λ i from within. none i from (omega (arith, pow-suc 2 j))) in (
+          (λ i from within. none i from (omega (arith, pow-suc 2 j))) in (
             p.0,
             p.1,
             λ x point.
@@ -106,11 +106,11 @@ value-polynomial (suc j) k c few low none =
           let row = skew-polynomial j (omega arith) in
           let lower = value-polynomial j (2 ^ j) c (omega arith) low (λ i over within. absurd (omega arith)) in
           let upper = value-polynomial j (k - 2 ^ j) h (omega arith) (λ i. low (2 ^ j + i))
-              (λ i over within. none (2 ^ j + i) (omega arith) (omega (arith, pow-suc 2 j))) in
+          (λ i over within. none (2 ^ j + i) (omega arith) (omega (arith, pow-suc 2 j))) in
           let product = product_of words (2 ^ j) (k - 2 ^ j) IsPoint (function (value j h)) upper row.0 row.1 in
           let p = IsPolynomial-plus words k IsPoint (function (value j c))
-              (λ x. words.times (polynomial.value words row.0 x) (function (value j h) x))
-              (lower.0, omega (arith, lower.1), lower.2) (product.0, omega (arith, product.1), product.2) in (
+          (λ x. words.times (polynomial.value words row.0 x) (function (value j h) x))
+          (lower.0, omega (arith, lower.1), lower.2) (product.0, omega (arith, product.1), product.2) in (
             p.0,
             p.1,
             λ x point.

@@ -26,8 +26,8 @@ module _ {K : Type 0} (F : Field K) where
   product_of (suc a) b P g h (c ∷ cs) few =
       let lower = IsPolynomial-times F b P g c h in
       let higher = IsPolynomial-line F (a + b) P (λ x. times (value F cs x) (g x)) nothing
-          (product_of a b P g h cs (omega arith)) in
+      (product_of a b P g h cs (omega arith)) in
       let sum = IsPolynomial-plus F (suc a + b) P (λ x. times c (g x))
-          (λ x. times (plus x nothing) (times (value F cs x) (g x)))
-          (lower.0, omega (arith, lower.1), lower.2) (higher.0, omega (arith, higher.1), higher.2) in
+      (λ x. times (plus x nothing) (times (value F cs x) (g x)))
+      (lower.0, omega (arith, lower.1), lower.2) (higher.0, omega (arith, higher.1), higher.2) in
       (sum.0, sum.1, λ x p. sum.2 x p ∙ split_product c x (value F cs x) (g x))
