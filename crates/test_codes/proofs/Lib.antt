@@ -1,1 +1,2 @@
 mod Symbols
+mod Common

@@ -1,9 +1,5 @@
 -- Columns that are added one after the other.
-use Rattle.std.proofs.Common.{◌≡◌, ℕ, ◌+◌, ◌-◌, ◌*◌, ◌<◌, ◌≤◌, List, [], ◌++◌, length, refl, ap, ◌∙◌, arith, length-append, below_more}
-use Rattle.wal_kernel.specs.Region.{region}
-use Rattle.wal_matrix.proofs.Places.{run_fits}
-use Rattle.wal_matrix.proofs.Runs.{run_at_end, run_in_front}
-use Rattle.wal_bundle.specs.Columns.{AreColumns, IsFirstMissing, IsMissing}
+use Rattle.wal_bundle.proofs.Common.{◌≡◌, ℕ, ◌+◌, ◌-◌, ◌*◌, ◌<◌, ◌≤◌, List, [], ◌++◌, length, refl, ap, ◌∙◌, arith, length-append, below_more, region, run_fits, run_at_end, run_in_front, AreColumns, IsFirstMissing, IsMissing}
 
 module _ (Column : ℕ → List ℕ → Type 0) (size : ℕ) where
   -- none yet

@@ -1,12 +1,6 @@
 -- Columns that are the same wherever both are there tell the same.
-use Rattle.std.proofs.Common.{◌≡◌, ℕ, ◌+◌, ◌*◌, ◌^◌, ◌<◌, ◌≤◌, List, length, take, get_or, sym, ap, ◌∙◌, arith}
-use Rattle.std.proofs.lemmas.List.{take-take}
-use Rattle.wal_kernel.specs.Region.{region}
-use Rattle.wal_shape.specs.Shape.{cell_count}
+use Rattle.wal_bundle.proofs.Common.{◌≡◌, ℕ, ◌+◌, ◌*◌, ◌^◌, ◌<◌, ◌≤◌, List, length, take, get_or, sym, ap, ◌∙◌, arith, take-take, region, cell_count, column_bytes, AreColumns, HasBadIndex, HasIndex, HasMember, of_many, of_none, count_in}
 use Rattle.wal_matrix.proofs.WordTables.{same_by_regions}
-use Rattle.wal_bundle.specs.Layout.{column_bytes}
-use Rattle.wal_bundle.specs.Columns.{AreColumns}
-use Rattle.wal_bundle.specs.Member.{HasBadIndex, HasIndex, HasMember, of_many, of_none, count_in}
 use Rattle.wal_bundle.proofs.IndexTexts.{index_count, one_index}
 use Rattle.wal_bundle.proofs.Room.{index_some, size_positive, size_some}
 

@@ -1,8 +1,5 @@
 -- What the columns of the index tell, by the numbers that they were read with.
-use Rattle.std.proofs.Common.{◌≡◌, ℕ, ◌+◌, ◌*◌, ◌<◌, ◌≤◌, List, add-zero, zero-add, length, get_or, ◌∙◌, arith}
-use Rattle.wal_bundle.specs.Layout.{column_bytes, columns_for, first_column, index_bytes, index_columns}
-use Rattle.wal_bundle.specs.Columns.{AreColumns, IsFirstMissing}
-use Rattle.wal_bundle.specs.Member.{HasBadIndex, HasIndex, IsIndex, MissesColumn, count_in, of_index, of_member, of_none}
+use Rattle.wal_bundle.proofs.Common.{◌≡◌, ℕ, ◌+◌, ◌*◌, ◌<◌, ◌≤◌, List, add-zero, zero-add, length, get_or, ◌∙◌, arith, column_bytes, columns_for, first_column, index_bytes, index_columns, AreColumns, IsFirstMissing, HasBadIndex, HasIndex, IsIndex, MissesColumn, count_in, of_index, of_member, of_none}
 use Rattle.wal_bundle.proofs.Agreement.{same_count}
 use Rattle.wal_bundle.proofs.IndexTexts.{index_count}
 use Rattle.wal_bundle.proofs.Room.{columns_for-room, index_some, member_within, size_positive, size_some}

@@ -1,9 +1,7 @@
 -- Members have one bundle, or one reason why there is none.
-use Rattle.std.proofs.Common.{◌≢◌, Result, IfOk, ◌≡◌, ℕ, ◌*◌, List, length, Ok, Err, sym, ap, ◌∙◌, arith}
-use Rattle.wal_shape.specs.Shape.{cell_count, symbol_size}
+use Rattle.wal_bundle.proofs.Common.{◌≢◌, Result, IfOk, ◌≡◌, ℕ, ◌*◌, List, length, Ok, Err, sym, ap, ◌∙◌, arith, cell_count, symbol_size, Bundles, IsBundle, IsBundleSize, bundle_text, lengths_of}
 use Rattle.wal_bundle.specs.declared.answer.BundleError.{BundleError}
 use Rattle.wal_bundle.specs.declared.answer.BundleError.TheVariants.{Memory, TooLong}
-use Rattle.wal_bundle.specs.Layout.{Bundles, IsBundle, IsBundleSize, bundle_text, lengths_of}
 use Rattle.wal_bundle.proofs.HonestColumns.{bundle_long, bundle_symbols}
 use Rattle.wal_bundle.proofs.Least.{one_size}
 

@@ -1,17 +1,10 @@
 -- Answers on a member that contradict the bundle or each other go against a digest that tells all texts apart.
-use Rattle.std.proofs.Common.{◌≡◌, ℕ, List, All, sym, ◌∙◌}
-use Rattle.wal_shape.specs.declared.axis.Axis.TheVariants.{Secondary}
-use Rattle.wal_shape.specs.Shape.{BlobShape}
+use Rattle.wal_bundle.proofs.Common.{◌≡◌, ℕ, List, All, sym, ◌∙◌, Secondary, BlobShape, metadata_over, honest_sliver, IsDigest, bytes_of_all, one_metadata, one_sliver, one_to_one, AreContraryMembers, ContradictsBundle}
 use Rattle.wal_tree.specs.Collision.{CanCollide}
 use Rattle.wal_tree.specs.Digests.{IsByte}
 use Rattle.wal_matrix.proofs.Codewords.{AreBytes}
-use Rattle.wal_commit.specs.Identifier.{metadata_over}
-use Rattle.wal_commit.proofs.HonestOpenings.{honest_sliver}
 use Rattle.wal_commit.proofs.MetadataBytes.{honest_bytes}
-use Rattle.wal_commit.proofs.OneDigest.{IsDigest, bytes_of_all, one_metadata, one_sliver}
-use Rattle.wal_evidence.proofs.SameOrNot.{one_to_one}
 use Rattle.wal_reader.proofs.PayloadBytes.{metadata_carried}
-use Rattle.wal_bundle.specs.Contradictions.{AreContraryMembers, ContradictsBundle}
 use Rattle.wal_bundle.proofs.OneColumn.{column_held}
 use Rattle.wal_bundle.proofs.Truths.{contradicting_plain, not_contrary, plain_true, shape_in}
 

@@ -1,13 +1,5 @@
 -- The columns of the index and of the members, one after the other.
-use Rattle.std.proofs.Common.{◌≡◌, ℕ, ◌+◌, ◌-◌, ◌*◌, ◌<◌, ◌≤◌, List, [], ◌∷◌, ◌++◌, zero, suc, length, take, drop, get_or, replicate, refl, sym, arith, length-append}
-use Rattle.std.specs.List.{flat_map}
-use Rattle.std.proofs.lemmas.List.{append_assoc, length-map, length-replicate, take_all, take_at, get_or-map, take-map}
-use Rattle.std.proofs.Math.Seq.{drop-append-add}
-use Rattle.std.proofs.Math.Nat.{mul-le-mul_right}
-use Rattle.wal_kernel.specs.Region.{region}
-use Rattle.wal_matrix.proofs.Places.{run_fits}
-use Rattle.wal_matrix.proofs.Runs.{part_of_part}
-use Rattle.wal_bundle.specs.Layout.{columns_for, columns_text, first_column, index_columns, index_text, lengths_of, member_columns, used_columns, whole_columns}
+use Rattle.wal_bundle.proofs.Common.{◌≡◌, ℕ, ◌+◌, ◌-◌, ◌*◌, ◌<◌, ◌≤◌, List, [], ◌∷◌, ◌++◌, zero, suc, length, take, drop, get_or, replicate, refl, sym, arith, length-append, flat_map, append_assoc, length-map, length-replicate, take_all, take_at, get_or-map, take-map, drop-append-add, mul-le-mul_right, region, run_fits, part_of_part, columns_for, columns_text, first_column, index_columns, index_text, lengths_of, member_columns, used_columns, whole_columns}
 use Rattle.wal_bundle.proofs.IndexTexts.{index_long}
 use Rattle.wal_bundle.proofs.Room.{columns_for-room, member_columns-cons, member_within}
 

@@ -1,28 +1,13 @@
 -- What is found in payloads: columns, and lengths.
-use Rattle.std.proofs.Common.{◌≡◌, ℕ, ◌*◌, ◌/◌, ◌≤◌, List, length, refl, sym, ap, ◌∙◌, arith, inl, inr, Option, Some, None, IfNone}
-use Rattle.std.proofs.Math.Nat.{mul-le-mul_left}
-use Rattle.wal_shape.specs.declared.axis.Axis.TheVariants.{Secondary}
+use Rattle.wal_bundle.proofs.Common.{◌≡◌, ℕ, ◌*◌, ◌/◌, ◌≤◌, List, length, refl, sym, ap, ◌∙◌, arith, inl, inr, Option, Some, None, IfNone, mul-le-mul_left, Secondary, BlobShape, IsShape, row_count, shard_count, symbol_size, BlobMetadata, metadata_shown, symbol_size-least, IsCodedMatrix, IsExtended, identifier_of, metadata_over, identifier_over, CarriesHeldSliver, NoHeldSliver, openings_in, IsMetadataIn, first_not_none, IsBundle, column_bytes, IsColumn, IsMissing, IsOwnColumn, AgreeBelow, ContradictsBundle, IsBundleOf}
 use Rattle.wal_shape.specs.declared.opening.Opening.{Opening}
-use Rattle.wal_shape.specs.Shape.{BlobShape, IsShape, row_count, shard_count, symbol_size}
-use Rattle.wal_shape.specs.Metadata.{BlobMetadata}
-use Rattle.wal_shape.specs.MetaRef.{metadata_shown}
 use Rattle.wal_shape.specs.declared.metadata.MetaRef.{MetaRef}
-use Rattle.wal_shape.proofs.ShapeLaws.{symbol_size-least}
-use Rattle.wal_matrix.specs.Matrix.{IsCodedMatrix, IsExtended}
-use Rattle.wal_commit.specs.Identifier.{identifier_of, metadata_over}
-use Rattle.wal_extract.proofs.OneIdentifier.{identifier_over}
-use Rattle.wal_reader.specs.Carried.{CarriesHeldSliver, NoHeldSliver, openings_in}
 use Rattle.wal_reader.specs.Found.{Finds}
-use Rattle.wal_reader.specs.Outcome.{IsMetadataIn}
 use Rattle.wal_reader.specs.declared.finding.FoundMetadata.{FoundMetadata}
 use Rattle.wal_reader.specs.declared.finding.FoundMetadata.TheVariants.{Absent, One, Two}
-use Rattle.wal_reader.proofs.FirstOnes.{first_not_none}
 use Rattle.wal_recover.specs.Recovery.{OpeningsComeTo}
 use Rattle.wal_recover.specs.declared.outcome.Recovered.{Recovered}
 use Rattle.wal_recover.specs.declared.outcome.Recovered.TheVariants.{Sliver}
-use Rattle.wal_bundle.specs.Layout.{IsBundle, column_bytes}
-use Rattle.wal_bundle.specs.Columns.{IsColumn, IsMissing, IsOwnColumn}
-use Rattle.wal_bundle.specs.Contradictions.{AgreeBelow, ContradictsBundle, IsBundleOf}
 use Rattle.wal_bundle.proofs.Bundled.{one_bundle}
 use Rattle.wal_bundle.proofs.Truths.{contradicting_plain, plain_true}
 

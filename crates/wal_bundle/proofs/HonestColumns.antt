@@ -1,15 +1,6 @@
 -- The columns of a bundle tell its members.
-use Rattle.std.proofs.Common.{◌≡◌, ℕ, ◌+◌, ◌-◌, ◌*◌, ◌<◌, ◌≤◌, List, [], length, take, drop, get_or, sym, ◌∙◌, arith, length-drop}
-use Rattle.std.proofs.lemmas.List.{length-map, length-take-le, append-nil}
-use Rattle.std.proofs.Math.Nat.{mul-le-mul_left, mul-le-mul_right}
-use Rattle.wal_kernel.specs.Region.{region}
-use Rattle.wal_shape.specs.Shape.{cell_count, column_count, row_count, symbol_size, most_bytes}
-use Rattle.wal_shape.proofs.ShapeLaws.{symbol_size-filled}
-use Rattle.wal_matrix.specs.Matrix.{IsExtended, padded, secondary_of}
+use Rattle.wal_bundle.proofs.Common.{◌≡◌, ℕ, ◌+◌, ◌-◌, ◌*◌, ◌<◌, ◌≤◌, List, [], length, take, drop, get_or, sym, ◌∙◌, arith, length-drop, length-map, length-take-le, append-nil, mul-le-mul_left, mul-le-mul_right, region, cell_count, column_count, row_count, symbol_size, most_bytes, symbol_size-filled, IsExtended, padded, secondary_of, ColumnsFit, IsBundle, IsBundleSize, bundle_text, column_bytes, columns_for, columns_text, first_column, index_columns, index_text, lengths_of, used_columns, whole_columns, AreColumns, IsOwnColumn, HasIndex, HasMember}
 use Rattle.wal_matrix.proofs.ColumnLaws.{block_column, block_long, secondary_of_blob}
-use Rattle.wal_bundle.specs.Layout.{ColumnsFit, IsBundle, IsBundleSize, bundle_text, column_bytes, columns_for, columns_text, first_column, index_columns, index_text, lengths_of, used_columns, whole_columns}
-use Rattle.wal_bundle.specs.Columns.{AreColumns, IsOwnColumn}
-use Rattle.wal_bundle.specs.Member.{HasIndex, HasMember}
 use Rattle.wal_bundle.proofs.IndexTexts.{index_long}
 use Rattle.wal_bundle.proofs.Room.{member_within, size_positive}
 use Rattle.wal_bundle.proofs.ColumnTexts.{column_of_part, index_part, length_of, member_part, text_long, whole_front}

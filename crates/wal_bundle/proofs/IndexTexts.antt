@@ -1,17 +1,6 @@
 -- The text of an index tells the number and the lengths of the members.
-use Rattle.std.proofs.Common.{◌≡◌, ℕ, ◌+◌, ◌*◌, ◌^◌, ◌<◌, ◌≤◌, List, ◌++◌, zero-add, length, take, drop, map, get_or, refl, sym, ap, ◌∙◌, arith, length-append}
-use Rattle.std.specs.Int.{w16, w32, from_be_bytes}
-use Rattle.std.specs.List.{range_with_len}
-use Rattle.std.proofs.lemmas.List.{append_assoc, take-take, ext_get_or, length-map}
-use Rattle.std.proofs.lemmas.List.FromFn.{get_or-map-range_with_len, length-range_with_len}
-use Rattle.std.proofs.Math.Seq.{drop-append-add}
-use Rattle.wal_shape.specs.Shape.{cell_count}
-use Rattle.wal_shape.specs.Spelling.{number_text}
+use Rattle.wal_bundle.proofs.Common.{◌≡◌, ℕ, ◌+◌, ◌*◌, ◌^◌, ◌<◌, ◌≤◌, List, ◌++◌, zero-add, length, take, drop, map, get_or, refl, sym, ap, ◌∙◌, arith, length-append, w16, w32, from_be_bytes, range_with_len, append_assoc, take-take, ext_get_or, length-map, get_or-map-range_with_len, length-range_with_len, drop-append-add, cell_count, number_text, length-pieces, part_of_part, pieces_more, piece_at, column_bytes, entries_text, entry_text, first_column, index_bytes, index_text, IsIndex, count_in, spelled_length, spelled_lengths}
 use Rattle.wal_shape.proofs.Numbers.{wide16, wide32}
-use Rattle.wal_matrix.proofs.Runs.{length-pieces, part_of_part, pieces_more, piece_at}
-use Rattle.wal_bundle.specs.Layout.{column_bytes, entries_text, entry_text, first_column, index_bytes, index_text}
-use Rattle.wal_bundle.specs.Member.{IsIndex, count_in}
-use Rattle.wal_bundle.specs.inside.Reading.{spelled_length, spelled_lengths}
 use Rattle.wal_bundle.proofs.Room.{length_within}
 
 -- an entry has six bytes

@@ -1,11 +1,5 @@
 -- The least size of a symbol, by halves.
-use Rattle.std.proofs.Common.{◌≡◌, ℕ, ◌+◌, ◌*◌, ◌/◌, ◌%◌, ◌<◌, ◌≤◌, List, zero, suc, get_or, length, arith, inl, inr}
-use Rattle.std.proofs.lemmas.Bool.{cases_lt}
-use Rattle.std.specs.List.{sum_by}
-use Rattle.std.proofs.lemmas.List.Sums.{get_or-le-sum_by, sum_by-le}
-use Rattle.std.proofs.Math.Nat.{mul-le-mul_left, mul-le-mul_right}
-use Rattle.wal_shape.specs.Shape.{cell_count, column_count}
-use Rattle.wal_bundle.specs.Layout.{ColumnsFit, IsBundleSize, column_bytes, columns_for, index_bytes, member_columns, used_columns}
+use Rattle.wal_bundle.proofs.Common.{◌≡◌, ℕ, ◌+◌, ◌*◌, ◌/◌, ◌%◌, ◌<◌, ◌≤◌, List, zero, suc, get_or, length, arith, inl, inr, cases_lt, sum_by, get_or-le-sum_by, sum_by-le, mul-le-mul_left, mul-le-mul_right, cell_count, column_count, ColumnsFit, IsBundleSize, column_bytes, columns_for, index_bytes, member_columns, used_columns}
 use Rattle.wal_bundle.proofs.Room.{columns_for-close, length_within, room_more}
 
 module _ (f : ℕ) (lengths : List ℕ) where

@@ -13,3 +13,4 @@ pub mod Bundled
 pub mod Found
 pub mod Behind
 mod Collides
+mod Common

@@ -1,18 +1,12 @@
 -- A column is one list of bytes, and the sliver that the metadata commits.
-use Rattle.std.proofs.Common.{◌≡◌, ℕ, List, Ok, Result, inl, inr}
+use Rattle.wal_bundle.proofs.Common.{◌≡◌, ℕ, List, Ok, Result, inl, inr, Secondary, IsShape, BlobMetadata, CarriesHeldSliver, first_not_none, one_first, IsColumn}
 use Rattle.wal_shape.specs.declared.axis.Axis.{Axis}
-use Rattle.wal_shape.specs.declared.axis.Axis.TheVariants.{Secondary}
-use Rattle.wal_shape.specs.Shape.{IsShape}
-use Rattle.wal_shape.specs.Metadata.{BlobMetadata}
 use Rattle.wal_frame.specs.Frame.{Frame, Sliver}
 use Rattle.wal_frame.specs.Reading.{read_of}
 use Rattle.wal_frame.specs.declared.frame.FrameError.{FrameError}
 use Rattle.wal_commit.specs.Held.{HoldsSliver}
-use Rattle.wal_reader.specs.Carried.{CarriesHeldSliver}
-use Rattle.wal_reader.proofs.FirstOnes.{first_not_none, one_first}
 use Rattle.wal_recover.specs.declared.outcome.Recovered.TheVariants as told
 use Rattle.wal_recover.proofs.OneRecovery.{committed, one_recovery}
-use Rattle.wal_bundle.specs.Columns.{IsColumn}
 
 one_sliver : (read : Result Frame FrameError) (id : List ℕ) (axis : Axis) (j : ℕ) (x y : List ℕ) → read ≡ Ok (Sliver id axis j x) → read ≡ Ok (Sliver id axis j y) → x ≡ y
 one_sliver read id axis j x y is_x is_y = cc

@@ -1,12 +1,5 @@
 -- Columns tell one thing of a member.
-use Rattle.std.proofs.Common.{◌≡◌, ℕ, ◌+◌, ◌*◌, ◌^◌, ◌<◌, ◌≤◌, List, length, get_or, refl, sym, ap, ◌∙◌, arith, inl, inr}
-use Rattle.std.proofs.lemmas.Bool.{cases_lt}
-use Rattle.wal_shape.specs.Shape.{cell_count}
-use Rattle.wal_bundle.specs.declared.answer.MemberAnswer.{MemberAnswer}
-use Rattle.wal_bundle.specs.declared.answer.MemberAnswer.TheVariants.{BadIndex, Member, Missing, NoMember}
-use Rattle.wal_bundle.specs.Layout.{column_bytes, columns_for, first_column, index_columns}
-use Rattle.wal_bundle.specs.Columns.{AreColumns, IsFirstMissing}
-use Rattle.wal_bundle.specs.Member.{HasBadIndex, HasIndex, HasMember, MissesColumn, Tells, of_index, of_many, of_member, of_none, of_start, count_in}
+use Rattle.wal_bundle.proofs.Common.{◌≡◌, ℕ, ◌+◌, ◌*◌, ◌^◌, ◌<◌, ◌≤◌, List, length, get_or, refl, sym, ap, ◌∙◌, arith, inl, inr, cases_lt, cell_count, MemberAnswer, BadIndex, Member, Missing, NoMember, column_bytes, columns_for, first_column, index_columns, AreColumns, IsFirstMissing, HasBadIndex, HasIndex, HasMember, MissesColumn, Tells, of_index, of_many, of_member, of_none, of_start, count_in}
 use Rattle.wal_bundle.proofs.Added.{column_at}
 use Rattle.wal_bundle.proofs.Agreement.{column_zero, not_bad, same_lengths, same_told}
 

@@ -1,10 +1,6 @@
 -- Columns that bytes need: they have room for the bytes, and in longer columns these need no more.
-use Rattle.std.proofs.Common.{◌≡◌, ℕ, ◌+◌, ◌*◌, ◌<◌, ◌≤◌, List, ◌∷◌, length, take, get_or, arith}
-use Rattle.std.proofs.Math.Nat.{mul-le-mul_left, mul-le-mul_right}
+use Rattle.wal_bundle.proofs.Common.{◌≡◌, ℕ, ◌+◌, ◌*◌, ◌<◌, ◌≤◌, List, ◌∷◌, length, take, get_or, arith, mul-le-mul_left, mul-le-mul_right, sum_by-cons, sum_by-le-sum_by, sum_by_more, sum_by_more_le, cell_count, column_count, row_count, ColumnsFit, column_bytes, columns_for, first_column, index_bytes, index_columns, member_columns, used_columns}
 use Rattle.std.proofs.lemmas.Grind.{div_ceil_times}
-use Rattle.std.proofs.lemmas.List.Sums.{sum_by-cons, sum_by-le-sum_by, sum_by_more, sum_by_more_le}
-use Rattle.wal_shape.specs.Shape.{cell_count, column_count, row_count}
-use Rattle.wal_bundle.specs.Layout.{ColumnsFit, column_bytes, columns_for, first_column, index_bytes, index_columns, member_columns, used_columns}
 
 -- a column has two bytes and more
 pub size_some : (f s : ℕ) → 2 ≤ s → 2 ≤ column_bytes f s

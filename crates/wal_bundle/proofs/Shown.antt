@@ -1,14 +1,5 @@
 -- A bundle's own columns, where payloads show those of the index and of a member, tell the member.
-use Rattle.std.proofs.Common.{◌≡◌, ℕ, ◌+◌, ◌*◌, ◌<◌, ◌≤◌, List, [], Some, zero-add, length, get_or, slice_get}
-use Rattle.std.proofs.lemmas.Option.{get_or_from_slice_get, slice_get_within}
-use Rattle.wal_shape.specs.Shape.{symbol_size}
-use Rattle.wal_shape.specs.Metadata.{BlobMetadata}
-use Rattle.wal_matrix.specs.Matrix.{IsExtended, secondary_of}
-use Rattle.wal_reader.specs.Outcome.{IsMetadataIn}
-use Rattle.wal_bundle.specs.declared.answer.MemberAnswer.TheVariants.{Member}
-use Rattle.wal_bundle.specs.Layout.{IsBundle, IsBundleSize, bundle_text, lengths_of}
-use Rattle.wal_bundle.specs.Columns.{AreColumns, IsColumn, IsOwnColumn}
-use Rattle.wal_bundle.specs.Member.{HasIndex, HasMember, IsMember, ShowsMember}
+use Rattle.wal_bundle.proofs.Common.{◌≡◌, ℕ, ◌+◌, ◌*◌, ◌<◌, ◌≤◌, List, [], Some, zero-add, length, get_or, slice_get, get_or_from_slice_get, slice_get_within, symbol_size, BlobMetadata, IsExtended, secondary_of, IsMetadataIn, Member, IsBundle, IsBundleSize, bundle_text, lengths_of, AreColumns, IsColumn, IsOwnColumn, HasIndex, HasMember, IsMember, ShowsMember}
 use Rattle.wal_bundle.proofs.HonestColumns.{bundle_size, own_index, own_member}
 
 columns_shown : (Column : ℕ → List ℕ → Type 0) (f s : ℕ) (e : List ℕ) (size from count : ℕ) (bytes : List ℕ)

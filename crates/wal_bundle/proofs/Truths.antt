@@ -1,23 +1,6 @@
 -- Payloads tell one thing of a member, and of a bundle's members what is so, unless a column is not its own.
-use Rattle.std.proofs.Common.{◌≡◌, ◌⊎◌, ℕ, ◌*◌, ◌^◌, ◌<◌, ◌≤◌, List, [], Option, Some, None, length, slice_get, refl, sym, ap, ◌∙◌, arith, inl, inr, ⊎_elim}
-use Rattle.std.proofs.lemmas.List.{length-map}
-use Rattle.std.proofs.lemmas.Option.{slice_get-get_or}
-use Rattle.std.proofs.Math.Nat.{mul-le-mul_right}
-use Rattle.wal_shape.specs.Shape.{BlobShape, IsShape, cell_count, shard_count, symbol_size}
-use Rattle.wal_shape.specs.Metadata.{BlobMetadata}
-use Rattle.wal_shape.proofs.ShapeLaws.{matrix_bytes-bound, symbol_size-least}
-use Rattle.wal_matrix.specs.Matrix.{IsExtended}
-use Rattle.wal_commit.specs.Identifier.{metadata_over}
-use Rattle.wal_evidence.proofs.SameOrNot.{same_or_not}
-use Rattle.wal_reader.specs.Outcome.{HasMetadata, IsMetadataIn}
-use Rattle.wal_reader.proofs.FirstOnes.{first_two}
+use Rattle.wal_bundle.proofs.Common.{◌≡◌, ◌⊎◌, ℕ, ◌*◌, ◌^◌, ◌<◌, ◌≤◌, List, [], Option, Some, None, length, slice_get, refl, sym, ap, ◌∙◌, arith, inl, inr, ⊎_elim, length-map, slice_get-get_or, mul-le-mul_right, BlobShape, IsShape, cell_count, shard_count, symbol_size, BlobMetadata, matrix_bytes-bound, symbol_size-least, IsExtended, metadata_over, same_or_not, HasMetadata, IsMetadataIn, first_two, MemberAnswer, BadIndex, Collision, Member, NoMember, NoMetadata, IsBundleSize, bundle_text, lengths_of, IsColumn, IsOwnColumn, AgreeBelow, AreContraryMembers, ContradictsBundle, IsBundleOf, IsTrueOf, SameMemberAnswer, HasIndex, IsMember, Tells}
 use Rattle.wal_reader.proofs.OneOutcome.{not_two}
-use Rattle.wal_bundle.specs.declared.answer.MemberAnswer.{MemberAnswer}
-use Rattle.wal_bundle.specs.declared.answer.MemberAnswer.TheVariants.{BadIndex, Collision, Member, NoMember, NoMetadata}
-use Rattle.wal_bundle.specs.Layout.{IsBundleSize, bundle_text, lengths_of}
-use Rattle.wal_bundle.specs.Columns.{IsColumn, IsOwnColumn}
-use Rattle.wal_bundle.specs.Contradictions.{AgreeBelow, AreContraryMembers, ContradictsBundle, IsBundleOf, IsTrueOf, SameMemberAnswer}
-use Rattle.wal_bundle.specs.Member.{HasIndex, IsMember, Tells}
 use Rattle.wal_bundle.proofs.Agreement.{not_bad, same_lengths, same_told}
 use Rattle.wal_bundle.proofs.HonestColumns.{bundle_size, own_index, own_member}
 use Rattle.wal_bundle.proofs.OneColumn.{column_held, one_column}

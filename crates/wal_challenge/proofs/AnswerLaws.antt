@@ -1,21 +1,9 @@
 -- What a shard answers to a draw is one opening, and it holds.
-use Rattle.std.proofs.Common.{◌≡◌, ℕ, ◌+◌, ◌<◌, ◌≤◌, List, [], ◌∷◌, ◌++◌, length, length-append, Some, Result, Ok, Err, IfOk, slice_get, refl, sym, ap, subst, ◌∙◌, arith}
+use Rattle.wal_challenge.proofs.Common.{◌≡◌, ℕ, ◌+◌, ◌<◌, ◌≤◌, List, [], ◌∷◌, ◌++◌, length, length-append, Some, Result, Ok, Err, IfOk, slice_get, refl, sym, ap, subst, ◌∙◌, arith, slice_get_within, region, Axis, Opening, crossing, shard_count, symbol_size, BlobMetadata, held_index, path_over, HoldsOpening, HoldsSliver, identifier_of, honest_opening, one_opening, Draw, AreAnswers, AreWordsOf, HoldsBoth, OwnWords, ShowsDrawn, among, draw_of, drawn_index}
 use Rattle.std.proofs.Math.Nat.{mod-lt}
-use Rattle.std.proofs.lemmas.Option.{slice_get_within}
-use Rattle.wal_kernel.specs.Region.{region}
-use Rattle.wal_shape.specs.declared.axis.Axis.{Axis}
 use Rattle.wal_shape.specs.declared.axis.Axis.TheVariants.{Primary, Secondary}
-use Rattle.wal_shape.specs.declared.opening.Opening.{Opening}
-use Rattle.wal_shape.specs.Shape.{crossing, shard_count, symbol_size}
-use Rattle.wal_shape.specs.Metadata.{BlobMetadata, held_index}
-use Rattle.wal_tree.specs.Path.{path_over}
 use Rattle.wal_matrix.specs.Word.{IsWordOf}
-use Rattle.wal_commit.specs.Held.{HoldsOpening, HoldsSliver}
-use Rattle.wal_commit.specs.Identifier.{identifier_of}
-use Rattle.wal_commit.proofs.HonestOpenings.{honest_opening, one_opening}
-use Rattle.wal_challenge.specs.declared.drawing.Draw.{Draw}
 use Rattle.wal_challenge.specs.Draw.{draw_in, draw_text, drawn}
-use Rattle.wal_challenge.specs.Answer.{AreAnswers, AreWordsOf, HoldsBoth, OwnWords, ShowsDrawn, among, draw_of, drawn_index}
 use Rattle.wal_challenge.proofs.Lists.{each_more, one_list}
 
 -- what is a fact on both is one on either

@@ -1,22 +1,9 @@
 -- A claim that is false of a blob goes against a digest that tells all texts apart.
-use Rattle.std.proofs.Common.{◌≡◌, ℕ, ◌*◌, ◌≤◌, List, length, All, refl, sym, ap}
-use Rattle.wal_kernel.specs.Region.{region}
-use Rattle.wal_shape.specs.declared.claim.Claim.{Claim}
-use Rattle.wal_shape.specs.declared.opening.Opening.{Opening}
-use Rattle.wal_shape.specs.Shape.{BlobShape, crossing, symbol_size}
-use Rattle.wal_shape.specs.Metadata.{BlobMetadata}
+use Rattle.wal_challenge.proofs.Common.{◌≡◌, ℕ, ◌*◌, ◌≤◌, List, length, All, refl, sym, ap, region, Claim, Opening, BlobShape, crossing, symbol_size, BlobMetadata, path_over, line_of, line_is_word, metadata_over, committed_matrix, committed_opening, IsDigest, bytes_of_all, one_symbol, path_bytes, one_to_one, IsFalseClaim}
 use Rattle.wal_tree.specs.Collision.{CanCollide}
 use Rattle.wal_tree.specs.Digests.{IsByte}
-use Rattle.wal_tree.specs.Path.{path_over}
-use Rattle.wal_matrix.specs.Matrix.{line_of}
 use Rattle.wal_matrix.proofs.Codewords.{bytes_of_part}
 use Rattle.wal_matrix.proofs.MatrixLaws.{bytes_within}
-use Rattle.wal_matrix.proofs.Words.{line_is_word}
-use Rattle.wal_commit.specs.Identifier.{metadata_over}
-use Rattle.wal_commit.proofs.HonestOpenings.{committed_matrix, committed_opening}
-use Rattle.wal_commit.proofs.OneDigest.{IsDigest, bytes_of_all, one_symbol, path_bytes}
-use Rattle.wal_evidence.proofs.SameOrNot.{one_to_one}
-use Rattle.wal_challenge.specs.Verdict.{IsFalseClaim}
 
 pub false_collides : (digest : List ℕ → List ℕ) → IsDigest digest → (shape : BlobShape) (bytes : List ℕ) (claim : Claim) → shape.f ≤ 333 → length bytes ≡ shape.length
     → IsFalseClaim digest shape bytes claim → All IsByte claim.opening.symbol → All IsByte claim.opening.path → CanCollide digest

@@ -1,18 +1,8 @@
 -- The levels of a tree as they are made, and the path that is copied from them.
-use Rattle.std.proofs.Common.{◌≡◌, ℕ, suc, ◌+◌, ◌*◌, ◌/◌, ◌%◌, ◌<◌, ◌≤◌, List, [], ◌∷◌, ◌++◌, length, take, drop, replicate, get_or, refl, sym, ap, subst, ◌∙◌, arith, ⊎_elim, length-append, append_assoc, append-nil}
-use Rattle.std.specs.List.{concat}
-use Rattle.std.proofs.lemmas.Bool.{cases_lt}
-use Rattle.std.proofs.lemmas.List.{drop-append-le, get_or_past, take-append-le, length-drop, length-replicate}
-use Rattle.std.proofs.lemmas.Option.{slice_get_read}
+use Rattle.wal_challenge.proofs.Common.{◌≡◌, ℕ, suc, ◌+◌, ◌*◌, ◌/◌, ◌%◌, ◌<◌, ◌≤◌, List, [], ◌∷◌, ◌++◌, length, take, drop, replicate, get_or, refl, sym, ap, subst, ◌∙◌, arith, ⊎_elim, length-append, append_assoc, append-nil, concat, cases_lt, drop-append-le, get_or_past, take-append-le, length-drop, length-replicate, slice_get_read, beside, path_of, path_over, empty_entry, leaves, pair_up, pieces, level_above, length-pieces, pair_up-odd, pieces-append, pieces-more, length-pair_up-half, level_above-next, path_of-end, path_of-step, FirstLevels, IsLevel, evened}
 use Rattle.std.proofs.Math.Seq.{drop-append_seam}
-use Rattle.wal_tree.specs.Path.{beside, path_of, path_over}
-use Rattle.wal_tree.specs.Tree.{empty_entry, leaves, pair_up, pieces}
-use Rattle.wal_tree.specs.inside.Tree.{level_above}
 use Rattle.wal_tree.proofs.Leaves.{get_or-pieces}
-use Rattle.wal_tree.proofs.LevelPairs.{length-pieces, pair_up-odd, pieces-append, pieces-more}
-use Rattle.wal_tree.proofs.Paths.{length-pair_up-half, level_above-next, path_of-end, path_of-step}
 use Rattle.wal_tree.proofs.Sizes.{All-leaves, All-path_of, length-concat}
-use Rattle.wal_challenge.specs.inside.Levels.{FirstLevels, IsLevel, evened}
 use Rattle.wal_challenge.proofs.Lists.{each_more}
 
 -- an even number of entries is left as it is

@@ -3,3 +3,4 @@ pub mod LevelLaws
 pub mod AnswerLaws
 pub mod VerdictLaws
 pub mod Collides
+mod Common

@@ -1,25 +1,7 @@
 -- What claims come to is one verdict; and what an accepted claim shows.
-use Rattle.std.proofs.Common.{◌≡◌, ◌≢◌, ℕ, zero, suc, ◌+◌, ◌*◌, ◌<◌, List, [], ◌∷◌, length, Some, slice_get, refl, sym, ap, subst, ◌∙◌, arith, inl, inr, ⊎_elim}
-use Rattle.std.proofs.lemmas.Bool.{cases_lt}
-use Rattle.std.proofs.lemmas.Option.{slice_get_within}
-use Rattle.wal_kernel.specs.Region.{region}
-use Rattle.wal_shape.specs.declared.axis.Axis.{Axis}
-use Rattle.wal_shape.specs.declared.claim.Claim.{Claim}
-use Rattle.wal_shape.specs.declared.opening.Opening.{Opening}
-use Rattle.wal_shape.specs.Shape.{crossing, shard_count, symbol_size}
-use Rattle.wal_shape.specs.Metadata.{BlobMetadata, IsMetadata}
-use Rattle.wal_matrix.specs.Matrix.{line_of}
-use Rattle.wal_matrix.proofs.Words.{lines_cross}
-use Rattle.wal_commit.specs.Held.{HoldsOpening}
-use Rattle.wal_commit.specs.Identifier.{metadata_over}
-use Rattle.wal_commit.proofs.HonestOpenings.{committed_matrix}
+use Rattle.wal_challenge.proofs.Common.{◌≡◌, ◌≢◌, ℕ, zero, suc, ◌+◌, ◌*◌, ◌<◌, List, [], ◌∷◌, length, Some, slice_get, refl, sym, ap, subst, ◌∙◌, arith, inl, inr, ⊎_elim, cases_lt, slice_get_within, region, Axis, Claim, Opening, crossing, shard_count, symbol_size, BlobMetadata, IsMetadata, line_of, lines_cross, HoldsOpening, metadata_over, committed_matrix, same_or_not, Accepted, Wrong, WrongCount, Draw, AreAnswers, HoldsBoth, draw_of, drawn_index, AnswersDraw, AreOwnOrFalse, AnswersComeTo, FirstAnswer, HasDrawnSymbol, IsFalseClaim, IsFirstWrong, claim_of, claims_from}
 use Rattle.wal_evidence.specs.Evidence.{CommitsMatrix}
-use Rattle.wal_evidence.proofs.SameOrNot.{same_or_not}
 use Rattle.wal_challenge.specs.declared.checking.AnswerVerdict.{AnswerVerdict}
-use Rattle.wal_challenge.specs.declared.checking.AnswerVerdict.TheVariants.{Accepted, Wrong, WrongCount}
-use Rattle.wal_challenge.specs.declared.drawing.Draw.{Draw}
-use Rattle.wal_challenge.specs.Answer.{AreAnswers, HoldsBoth, draw_of, drawn_index}
-use Rattle.wal_challenge.specs.Verdict.{AnswersDraw, AreOwnOrFalse, AnswersComeTo, FirstAnswer, HasDrawnSymbol, IsFalseClaim, IsFirstWrong, claim_of, claims_from}
 use Rattle.wal_challenge.proofs.AnswerLaws.{answer_holds}
 
 module _ (digest : List ℕ → List ℕ) (m : BlobMetadata) (beacon : List ℕ) (shard : ℕ) where

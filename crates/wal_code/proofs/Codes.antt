@@ -1,17 +1,8 @@
 -- Codewords: when two are the same, how sums of coefficients make them, and tables of them in both directions.
-use Rattle.std.proofs.Common.{◌≡◌, ◌∙◌, sym, ap, ℕ, zero, suc, ◌<◌, ◌≤◌, List, [], ◌∷◌, length, get_or, slice_index, slice_index_or, map, arith}
-use Rattle.std.specs.List.{AllByRecursion, range_with_len}
-use Rattle.std.proofs.lemmas.List.{length-map, ext_get_or}
-use Rattle.std.proofs.lemmas.Grind.{get_or_default_zero}
-use Rattle.std.proofs.lemmas.List.Elements.{recursion_from_All, All-from_recursion}
+use Rattle.wal_code.proofs.Common.{◌≡◌, ◌∙◌, sym, ap, ℕ, zero, suc, ◌<◌, ◌≤◌, List, [], ◌∷◌, length, get_or, slice_index, slice_index_or, map, arith, AllByRecursion, range_with_len, length-map, ext_get_or, get_or_default_zero, recursion_from_All, All-from_recursion, IsWord, evaluate, value, IsPolynomial, polynomial_unique, Element, words, element_of, elements_of, numbers_of, numbers_of-words, element_of-word, element-path, value-evaluate, Distinct, PassesThrough, IsCodeword, IsExtension, combination}
 use Rattle.std.proofs.lemmas.List.FromFn.{length-range_with_len, get_or-range_with_len, get_or-map-range_with_len, length-map-range_with_len}
-use Rattle.wal_gf.specs.Field.{IsWord}
-use Rattle.wal_gf.specs.Polynomial.{evaluate}
-use Rattle.wal_gf.proofs.Polynomials.{value, IsPolynomial, polynomial_unique}
 use Rattle.wal_gf.proofs.Roots as roots
 use Rattle.wal_gf.proofs.TwoWays as tables
-use Rattle.wal_gf.proofs.Instance.{Element, words, element_of, elements_of, numbers_of, numbers_of-words, element_of-word, element-path, value-evaluate}
-use Rattle.wal_code.specs.Codeword.{Distinct, PassesThrough, IsCodeword, IsExtension, combination}
 use Rattle.wal_code.proofs.Evaluation.{combination-same, evaluate-number, evaluate-lt, solution}
 use Rattle.wal_code.proofs.Points.{words_of}
 

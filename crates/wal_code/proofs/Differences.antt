@@ -1,14 +1,6 @@
 -- Products of differences, over the points before a place, after it, and other than its own.
-use Rattle.std.proofs.Common.{◌≡◌, ◌≢◌, ◌∙◌, sym, ℕ, zero, suc, ◌+◌, ◌<◌, ◌≤◌, List, [], ◌∷◌, ◌++◌, length, get_or, take, drop, refl, arith, lit<, Bool, true, false, cond, eqb, eq-eqb, bit_xor, add-one, drop-cons, drop_of_length-le}
-use Rattle.std.proofs.lemmas.Bool.{ne_eqb}
+use Rattle.wal_code.proofs.Common.{◌≡◌, ◌≢◌, ◌∙◌, sym, ℕ, zero, suc, ◌+◌, ◌<◌, ◌≤◌, List, [], ◌∷◌, ◌++◌, length, get_or, take, drop, refl, arith, lit<, Bool, true, false, cond, eqb, eq-eqb, bit_xor, add-one, drop-cons, drop_of_length-le, ne_eqb, AllByRecursion, IsWord, times, xor-lt, Apart, times-lt, times_assoc, times-one, one-times, product_of_others, product_of_all}
 use Rattle.std.proofs.Math.Seq.{take-suc}
-use Rattle.std.specs.List.{AllByRecursion}
-use Rattle.wal_gf.specs.Field.{IsWord, times}
-use Rattle.wal_gf.proofs.Instance.{xor-lt}
-use Rattle.wal_gf.proofs.Polynomials.{Apart}
-use Rattle.wal_gf.proofs.Products.{times-lt, times_assoc, times-one, one-times}
-use Rattle.wal_code.specs.Weights.{product_of_others}
-use Rattle.wal_code.specs.inside.Weights.{product_of_all}
 use Rattle.wal_code.proofs.Points.{point_at}
 
 -- what one point gives to the product over the others

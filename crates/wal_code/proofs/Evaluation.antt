@@ -1,19 +1,8 @@
 -- The coefficients give a polynomial's values, and any values at distinct points are those of a polynomial.
-use Rattle.std.proofs.Common.{◌≡◌, ◌≢◌, ◌∙◌, sym, ap, subst, ℕ, zero, suc, ◌<◌, List, [], ◌∷◌, length, get_or, refl, arith, eqb, cond, eq-eqb, inl, inr}
-use Rattle.std.specs.Prelude.{All}
-use Rattle.std.specs.List.{AllByRecursion}
-use Rattle.std.proofs.lemmas.Bool.{ne_eqb}
-use Rattle.std.proofs.lemmas.List.{length-map}
-use Rattle.std.proofs.lemmas.List.Elements.{recursion_from_All, All-from_recursion}
-use Rattle.wal_gf.specs.Field.{IsWord, times, xor_below}
-use Rattle.wal_gf.specs.Polynomial.{evaluate}
+use Rattle.wal_code.proofs.Common.{◌≡◌, ◌≢◌, ◌∙◌, sym, ap, subst, ℕ, zero, suc, ◌<◌, List, [], ◌∷◌, length, get_or, refl, arith, eqb, cond, eq-eqb, inl, inr, All, AllByRecursion, ne_eqb, length-map, recursion_from_All, All-from_recursion, IsWord, times, xor_below, evaluate, value, Apart, IsPolynomial, through, through-polynomial, through-known, Among, interpolation, Element, words, element_of, elements_of, numbers_of, numbers_of-elements, numbers_of-words, element_of-word, value-evaluate, Distinct, PassesThrough, coefficient, combination, Interpolates}
 use Rattle.wal_gf.proofs.Sums.{sum_over}
-use Rattle.wal_gf.proofs.Polynomials.{value, Apart, IsPolynomial}
-use Rattle.wal_gf.proofs.Lagrange.{through, through-polynomial, through-known, Among, interpolation}
 use Rattle.wal_gf.proofs.Lagrange as lagrange
 use Rattle.wal_gf.proofs.Roots as roots
-use Rattle.wal_gf.proofs.Instance.{Element, words, element_of, elements_of, numbers_of, numbers_of-elements, numbers_of-words, element_of-word, value-evaluate}
-use Rattle.wal_code.specs.Codeword.{Distinct, PassesThrough, coefficient, combination, Interpolates}
 use Rattle.wal_code.proofs.Points.{apart, point_at}
 use Rattle.wal_code.proofs.Totals.{xor_below-first, xor_below-same}
 use Rattle.wal_code.proofs.Words.{coefficient-number}

@@ -1,5 +1,5 @@
 -- A coefficient of interpolation as a fraction: a product of differences over another.
-use Rattle.std.proofs.Common.{◌≡◌, ◌≢◌, ◌∙◌, sym, List, [], ◌∷◌, refl, Bool, true, false, cond, inl, inr}
+use Rattle.wal_code.proofs.Common.{◌≡◌, ◌≢◌, ◌∙◌, sym, List, [], ◌∷◌, refl, Bool, true, false, cond, inl, inr}
 use Rattle.wal_gf.proofs.Algebra.{Field, unit-times, times_left_comm, no_divisors, equal_or_not, same_of_sum, same-other}
 use Rattle.wal_gf.proofs.Lagrange.{factor, coefficient}
 

@@ -6,3 +6,4 @@ pub mod Points
 pub mod Tables
 pub mod Totals
 pub mod Words
+mod Common

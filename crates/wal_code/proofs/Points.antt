@@ -1,10 +1,5 @@
 -- Lists of points, between their facts by index and by recursion.
-use Rattle.std.proofs.Common.{◌≢◌, ℕ, zero, suc, ◌<◌, List, [], ◌∷◌, length, get_or, arith}
-use Rattle.std.specs.List.{AllByRecursion}
-use Rattle.std.proofs.lemmas.List.Elements.{recursion_from_All}
-use Rattle.wal_gf.specs.Field.{IsWord}
-use Rattle.wal_gf.proofs.Polynomials.{Apart}
-use Rattle.wal_code.specs.Codeword.{Distinct}
+use Rattle.wal_code.proofs.Common.{◌≢◌, ℕ, zero, suc, ◌<◌, List, [], ◌∷◌, length, get_or, arith, AllByRecursion, recursion_from_All, IsWord, Apart, Distinct}
 
 -- distinct points are apart
 pub apart : (known : List ℕ) → Distinct known → Apart known

@@ -1,12 +1,6 @@
 -- Rows of weights: what they sum to, and how a table grows by them.
-use Rattle.std.proofs.Common.{◌≡◌, ◌∙◌, ap, ℕ, List, ◌+◌, ◌*◌, ◌<◌, ◌≤◌, ◌++◌, length, get_or, slice_index, arith, length-append, inl, inr}
-use Rattle.std.specs.Prelude.{All}
-use Rattle.std.proofs.lemmas.List.{get_or_append_left, get_or-append-add}
+use Rattle.wal_code.proofs.Common.{◌≡◌, ◌∙◌, ap, ℕ, List, ◌+◌, ◌*◌, ◌<◌, ◌≤◌, ◌++◌, length, get_or, slice_index, arith, length-append, inl, inr, All, get_or_append_left, get_or-append-add, times, xor_below, Gf, Distinct, coefficient, combination, Interpolates, element_at, AreWeights}
 use Rattle.std.proofs.Math.Nat.{mul-le-mul_right, eq-or-lt_of_le}
-use Rattle.wal_gf.specs.Field.{times, xor_below}
-use Rattle.wal_gf.specs.declared.Gf.{Gf}
-use Rattle.wal_code.specs.Codeword.{Distinct, coefficient, combination, Interpolates}
-use Rattle.wal_code.specs.Weights.{element_at, AreWeights}
 use Rattle.wal_code.specs.inside.Table.{IsTable}
 use Rattle.wal_code.proofs.Evaluation.{interpolates}
 use Rattle.wal_code.proofs.Points.{words_of}

@@ -1,7 +1,6 @@
 -- Sums below a bound, from their last term and from their first.
-use Rattle.std.proofs.Common.{◌≡◌, ◌∙◌, sym, ℕ, zero, suc, ◌+◌, ◌<◌, refl, arith, add-one, bit_xor}
+use Rattle.wal_code.proofs.Common.{◌≡◌, ◌∙◌, sym, ℕ, zero, suc, ◌+◌, ◌<◌, refl, arith, add-one, bit_xor, xor_below}
 use Rattle.std.specs.Int.Bits.{xor_assoc, xor_zero_l, xor_zero_r}
-use Rattle.wal_gf.specs.Field.{xor_below}
 
 pub xor_below-more : (n : ℕ) (f : ℕ → ℕ) → xor_below (n + 1) f ≡ bit_xor (xor_below n f) (f n)
 unfolding xor_below

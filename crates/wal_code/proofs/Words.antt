@@ -1,12 +1,6 @@
 -- What holds over a field, read at the field of words: coefficients, sums and products of differences.
-use Rattle.std.proofs.Common.{◌≡◌, ◌≢◌, ◌∙◌, sym, ap, ap₂, ℕ, ◌+◌, ◌<◌, List, [], ◌∷◌, length, get_or, take, drop, refl, arith, lit<, Bool, true, false, cond, eqb, bit_xor}
-use Rattle.std.specs.List.{AllByRecursion}
-use Rattle.wal_gf.specs.Field.{IsWord, times, inverse}
+use Rattle.wal_code.proofs.Common.{◌≡◌, ◌≢◌, ◌∙◌, sym, ap, ap₂, ℕ, ◌+◌, ◌<◌, List, [], ◌∷◌, length, get_or, take, drop, refl, arith, lit<, Bool, true, false, cond, eqb, bit_xor, AllByRecursion, IsWord, times, inverse, Element, words, element_of, elements_of, element_of-word, element-path, Distinct, factor, coefficient, product_of_others, product_of_all}
 use Rattle.wal_gf.proofs.Lagrange as lagrange
-use Rattle.wal_gf.proofs.Instance.{Element, words, element_of, elements_of, element_of-word, element-path}
-use Rattle.wal_code.specs.Codeword.{Distinct, factor, coefficient}
-use Rattle.wal_code.specs.Weights.{product_of_others}
-use Rattle.wal_code.specs.inside.Weights.{product_of_all}
 use Rattle.wal_code.proofs.Differences.{product_of_others-split}
 use Rattle.wal_code.proofs.Points.{apart, point_at}
 use Rattle.wal_code.proofs.Fractions.{difference, others, others-own, coefficient-fraction}

@@ -1,13 +1,5 @@
 -- Openings that hold have a spelling.
-use Rattle.std.proofs.Common.{ℕ, ◌≤◌, List, arith}
-use Rattle.wal_shape.specs.declared.axis.Axis.{Axis}
-use Rattle.wal_shape.specs.declared.opening.Opening.{Opening}
-use Rattle.wal_shape.specs.Opening.{IsBody}
-use Rattle.wal_shape.specs.Shape.{IsShape, shard_count, symbol_size, most_bytes}
-use Rattle.wal_shape.specs.Metadata.{BlobMetadata, IsMetadata}
-use Rattle.wal_shape.proofs.ShapeLaws.{symbol_size-least}
-use Rattle.wal_tree.proofs.Paths.{height-le}
-use Rattle.wal_commit.specs.Held.{HoldsOpening}
+use Rattle.wal_commit.proofs.Common.{ℕ, ◌≤◌, List, arith, Axis, Opening, IsBody, IsShape, shard_count, symbol_size, most_bytes, BlobMetadata, IsMetadata, symbol_size-least, height-le, HoldsOpening}
 
 -- no symbol is longer than the largest blob
 pub symbol_short : (f length : ℕ) → length ≤ most_bytes → symbol_size f length ≤ most_bytes

@@ -1,14 +1,5 @@
 -- Where the texts of two metadata part.
-use Rattle.std.proofs.Common.{◌≡◌, ◌≢◌, ℕ, ◌+◌, ◌^◌, ◌<◌, List, ◌++◌, length, get_or, take, drop, refl, ap, ap₂, sym, ◌∙◌, arith}
-use Rattle.std.specs.Int.{w16, from_be_bytes}
-use Rattle.wal_shape.specs.declared.shape.Format.{Format}
-use Rattle.wal_shape.specs.declared.shape.Format.TheVariants.{One, Two}
-use Rattle.wal_shape.specs.Metadata.{BlobMetadata, IsMetadata}
-use Rattle.wal_shape.specs.Spelling.{format_text}
-use Rattle.wal_shape.proofs.MetadataLaws.{metadata_text-injective}
-use Rattle.wal_shape.proofs.Numbers.{wide16}
-use Rattle.wal_tree.proofs.Collisions.{append_back, append_front}
-use Rattle.wal_commit.specs.Identifier.{head_text, held_pairs, identifier_of, identifier_tag, identifier_text, pair_root}
+use Rattle.wal_commit.proofs.Common.{◌≡◌, ◌≢◌, ℕ, ◌+◌, ◌^◌, ◌<◌, List, ◌++◌, length, get_or, take, drop, refl, ap, ap₂, sym, ◌∙◌, arith, w16, from_be_bytes, Format, One, Two, BlobMetadata, IsMetadata, format_text, metadata_text-injective, wide16, append_back, append_front, head_text, held_pairs, identifier_of, identifier_tag, identifier_text, pair_root}
 use Rattle.wal_commit.proofs.Commitments.{metadata_text-parts, length-head}
 
 -- ---- what an identifier digests

@@ -1,27 +1,6 @@
 -- The roots of a matrix whose columns come one after the other.
-use Rattle.std.proofs.Common.{◌≡◌, ℕ, ◌+◌, ◌*◌, ◌/◌, ◌<◌, ◌≤◌, List, [], ◌∷◌, ◌++◌, length, map, take, drop, sym, ap, ap₂, subst, ◌∙◌, arith}
-use Rattle.std.specs.List.{range_with_len}
-use Rattle.std.proofs.Math.Nat.{mul_comm, mul-div_left}
-use Rattle.std.proofs.lemmas.Nat.{mul-add-lt}
-use Rattle.std.proofs.lemmas.List.{ext_get_or}
-use Rattle.std.proofs.lemmas.List.FromFn.{get_or-map-range_with_len, length-map-range_with_len, map-range_with_len_more}
-use Rattle.wal_lanes.specs.Pieces.{AreDigests}
-use Rattle.wal_tree.specs.Stacks.{StacksState, StandsFor, entry_of, row_stack}
-use Rattle.wal_tree.specs.Tree.{empty_entry, leaf, leaves, pieces, root_of, root_over}
-use Rattle.wal_tree.proofs.Paths.{get_or-leaves, length-leaves}
-use Rattle.wal_tree.proofs.Sizes.{length-root_over}
-use Rattle.wal_shape.specs.declared.axis.Axis.TheVariants.{Secondary}
-use Rattle.wal_shape.specs.Shape.{BlobShape, shard_count, symbol_size}
-use Rattle.wal_shape.specs.Metadata.{BlobMetadata, held_index}
-use Rattle.wal_matrix.specs.Matrix.{column_of, column_part, row_of, symbol}
-use Rattle.wal_matrix.proofs.MatrixLaws.{extended_unique}
-use Rattle.wal_matrix.proofs.Runs.{length-pieces, piece_at}
-use Rattle.wal_matrix.proofs.Slivers.{column_long, column_part_long, column_part-symbol, row_long, row_of-symbol}
+use Rattle.wal_commit.proofs.Common.{◌≡◌, ℕ, ◌+◌, ◌*◌, ◌/◌, ◌<◌, ◌≤◌, List, [], ◌∷◌, ◌++◌, length, map, take, drop, sym, ap, ap₂, subst, ◌∙◌, arith, range_with_len, mul_comm, mul-div_left, mul-add-lt, ext_get_or, get_or-map-range_with_len, length-map-range_with_len, map-range_with_len_more, AreDigests, StacksState, StandsFor, entry_of, row_stack, empty_entry, leaf, leaves, pieces, root_of, root_over, get_or-leaves, length-leaves, length-root_over, Secondary, BlobShape, shard_count, symbol_size, BlobMetadata, held_index, column_of, column_part, row_of, symbol, extended_unique, length-pieces, piece_at, column_long, column_part_long, column_part-symbol, row_long, row_of-symbol, Format, IsMetadataOf, metadata_over, pair_over, AreLeaves, AreSeen, HasColumns, row_leaves}
 use Rattle.wal_matrix.proofs.Symbols.{column_symbol}
-use Rattle.wal_shape.specs.declared.shape.Format.{Format}
-use Rattle.wal_commit.specs.Identifier.{IsMetadataOf, metadata_over}
-use Rattle.wal_commit.specs.inside.Identifier.{pair_over}
-use Rattle.wal_commit.specs.inside.Seen.{AreLeaves, AreSeen, HasColumns, row_leaves}
 use Rattle.wal_commit.proofs.Commitments.{flat_map-more}
 use Rattle.wal_commit.proofs.LeafTables.{column_of-symbol, root_of-digests}
 

@@ -1,21 +1,5 @@
 -- The spelling of a metadata in its two parts, and the pairs of roots one after the other.
-use Rattle.std.proofs.Common.{◌≡◌, ℕ, ◌+◌, ◌-◌, ◌*◌, ◌<◌, ◌≤◌, List, [], ◌∷◌, ◌++◌, length, length-append, get_or, map, take, drop, reverse, refl, sym, subst, ◌∙◌, ap, append_assoc, arith}
-use Rattle.std.proofs.lemmas.List.FromFn.{length-map-range_with_len, get_or-map-range_with_len}
-use Rattle.std.proofs.lemmas.List.{take_at, drop_at, length-reverse, get_or-reverse, same_lists}
-use Rattle.std.specs.List.{AllByRecursion, flat_map, range_with_len}
-use Rattle.wal_shape.specs.declared.axis.Axis.TheVariants.{Secondary}
-use Rattle.wal_shape.specs.declared.shape.Format.{Format}
-use Rattle.wal_shape.specs.declared.shape.Format.TheVariants.{One, Two}
-use Rattle.wal_shape.specs.Shape.{BlobShape, IsShape, shard_count, symbol_size}
-use Rattle.wal_shape.specs.Metadata.{BlobMetadata, IsMetadata, held_index, held_order}
-use Rattle.wal_shape.specs.Spelling.{format_text, pairs_text, metadata_text, text_size}
-use Rattle.wal_shape.proofs.MetadataLaws.{length-metadata_text}
-use Rattle.wal_tree.specs.Tree.{root_over}
-use Rattle.wal_tree.proofs.Sizes.{length-root_over}
-use Rattle.wal_matrix.specs.Matrix.{row_of, column_of}
-use Rattle.wal_matrix.proofs.Runs.{pieces_more}
-use Rattle.wal_commit.specs.Identifier.{IsMetadataOf, head_text, held_pairs, metadata_over}
-use Rattle.wal_commit.specs.inside.Identifier.{pair_over}
+use Rattle.wal_commit.proofs.Common.{◌≡◌, ℕ, ◌+◌, ◌-◌, ◌*◌, ◌<◌, ◌≤◌, List, [], ◌∷◌, ◌++◌, length, length-append, get_or, map, take, drop, reverse, refl, sym, subst, ◌∙◌, ap, append_assoc, arith, length-map-range_with_len, get_or-map-range_with_len, take_at, drop_at, length-reverse, get_or-reverse, same_lists, AllByRecursion, flat_map, range_with_len, Secondary, Format, One, Two, BlobShape, IsShape, shard_count, symbol_size, BlobMetadata, IsMetadata, held_index, held_order, format_text, pairs_text, metadata_text, text_size, length-metadata_text, root_over, length-root_over, row_of, column_of, pieces_more, IsMetadataOf, head_text, held_pairs, metadata_over, pair_over}
 
 pub metadata_text-parts : (m : BlobMetadata) → metadata_text m ≡ head_text m.format m.f m.length ++ held_pairs m
 unfolding metadata_text

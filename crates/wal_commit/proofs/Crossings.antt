@@ -1,17 +1,5 @@
 -- The symbol of an opening and the own symbol of a matrix, under the root of one line.
-use Rattle.std.proofs.Common.{◌≡◌, ◌≢◌, ℕ, ◌+◌, ◌*◌, ◌/◌, ◌<◌, ◌≤◌, List, length, sym, ap, subst, ◌∙◌, arith}
-use Rattle.std.proofs.Math.Nat.{mul-div_left, mul-le-mul_right}
-use Rattle.wal_kernel.specs.Region.{region}
-use Rattle.wal_shape.specs.declared.axis.Axis.{Axis}
-use Rattle.wal_shape.specs.declared.opening.Opening.{Opening}
-use Rattle.wal_shape.specs.Shape.{BlobShape, crossing, shard_count, symbol_size}
-use Rattle.wal_tree.specs.Path.{IsPathTo, LeadToOneRoot, MeetOnPaths, path_over}
-use Rattle.wal_tree.specs.Tree.{root_over}
-use Rattle.wal_matrix.specs.Matrix.{line_of}
-use Rattle.wal_matrix.proofs.Places.{run_fits}
-use Rattle.wal_matrix.proofs.Words.{line_long, lines_cross}
-use Rattle.wal_commit.specs.Held.{HoldsOpening}
-use Rattle.wal_commit.specs.Identifier.{metadata_over}
+use Rattle.wal_commit.proofs.Common.{◌≡◌, ◌≢◌, ℕ, ◌+◌, ◌*◌, ◌/◌, ◌<◌, ◌≤◌, List, length, sym, ap, subst, ◌∙◌, arith, mul-div_left, mul-le-mul_right, region, Axis, Opening, BlobShape, crossing, shard_count, symbol_size, IsPathTo, LeadToOneRoot, MeetOnPaths, path_over, root_over, line_of, run_fits, line_long, lines_cross, HoldsOpening, metadata_over}
 use Rattle.wal_commit.proofs.HonestOpenings.{path_to_symbol, root_of_line}
 
 -- as many pieces as there are shards are a content that a tree takes

@@ -1,9 +1,6 @@
 -- A sliver's symbols are those for which the tools have room.
-use Rattle.std.proofs.Common.{◌≡◌, ℕ, ◌+◌, ◌*◌, ◌%◌, ◌<◌, ◌≤◌, ap₂, arith}
-use Rattle.std.proofs.Math.Nat.{mul-mod_left, mul-le-mul_left}
-use Rattle.wal_shape.specs.Shape.{column_count, most_bytes, symbol_size}
+use Rattle.wal_commit.proofs.Common.{◌≡◌, ℕ, ◌+◌, ◌*◌, ◌%◌, ◌<◌, ◌≤◌, ap₂, arith, mul-mod_left, mul-le-mul_left, column_count, most_bytes, symbol_size, run_fits}
 use Rattle.wal_matrix.specs.Tools.{longest_symbol, longest_sliver}
-use Rattle.wal_matrix.proofs.Places.{run_fits}
 use Rattle.wal_matrix.proofs.ToolsLaws.{symbol_size-longest, one_word-fits}
 
 pub symbols_fit : (size f length kept : ℕ) → size ≡ symbol_size f length → kept ≡ f → length ≤ most_bytes → size ≤ longest_symbol kept

@@ -1,26 +1,8 @@
 -- The slivers and the openings that an honest writer hands out hold, and a held sliver has one codeword.
-use Rattle.std.proofs.Common.{◌≡◌, ℕ, ◌*◌, ◌/◌, ◌<◌, ◌≤◌, List, length, map, slice_get, Some, option_map, refl, sym, ap, subst, ◌∙◌, arith}
-use Rattle.std.specs.List.{range_with_len}
-use Rattle.std.proofs.Math.Nat.{mul_comm, mul-div_left}
+use Rattle.wal_commit.proofs.Common.{◌≡◌, ℕ, ◌*◌, ◌/◌, ◌<◌, ◌≤◌, List, length, map, slice_get, Some, option_map, refl, sym, ap, subst, ◌∙◌, arith, range_with_len, mul_comm, mul-div_left, get_or-range_with_len, length-range_with_len, region, Axis, Primary, Secondary, Opening, BlobShape, shard_count, symbol_size, crossing, BlobMetadata, roots_of, symbol_size-least, root_over, IsPathTo, path_over, IsCodedMatrix, IsExtended, row_of, column_of, line_of, sliver_of, run_fits, region_long, line_is_word, lines_cross, sliver_long, word_unique, HoldsSliver, HoldsOpening, IsOpeningOf, metadata_over}
 use Rattle.std.proofs.lemmas.Option.{slice_get-map, slice_get_read}
-use Rattle.std.proofs.lemmas.List.FromFn.{get_or-range_with_len, length-range_with_len}
-use Rattle.wal_kernel.specs.Region.{region}
-use Rattle.wal_shape.specs.declared.axis.Axis.{Axis}
-use Rattle.wal_shape.specs.declared.axis.Axis.TheVariants.{Primary, Secondary}
-use Rattle.wal_shape.specs.declared.opening.Opening.{Opening}
-use Rattle.wal_shape.specs.Shape.{BlobShape, shard_count, symbol_size, crossing}
-use Rattle.wal_shape.specs.Metadata.{BlobMetadata, roots_of}
-use Rattle.wal_shape.proofs.ShapeLaws.{symbol_size-least}
-use Rattle.wal_tree.specs.Tree.{root_over}
-use Rattle.wal_tree.specs.Path.{IsPathTo, path_over}
 use Rattle.wal_tree.proofs.Honest.{IsPathTo-path_of}
-use Rattle.wal_matrix.specs.Matrix.{IsCodedMatrix, IsExtended, row_of, column_of, line_of, sliver_of}
 use Rattle.wal_matrix.specs.Word.{IsWordOf}
-use Rattle.wal_matrix.proofs.Places.{run_fits}
-use Rattle.wal_matrix.proofs.Runs.{region_long}
-use Rattle.wal_matrix.proofs.Words.{line_is_word, lines_cross, sliver_long, word_unique}
-use Rattle.wal_commit.specs.Held.{HoldsSliver, HoldsOpening, IsOpeningOf}
-use Rattle.wal_commit.specs.Identifier.{metadata_over}
 
 -- the value of a function at a number, in the list of its values
 pub value_at : (f : ℕ → List ℕ) (n i : ℕ) → i < n → slice_get (map f (range_with_len 0 n)) i ≡ Some (f i)

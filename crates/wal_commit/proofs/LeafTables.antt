@@ -1,17 +1,6 @@
 -- The leaf digests of a matrix, gathered along its rows and its columns.
-use Rattle.std.proofs.Common.{◌≡◌, ℕ, ◌+◌, ◌-◌, ◌*◌, ◌/◌, ◌<◌, ◌≤◌, List, ◌++◌, length, take, drop, sym, ap, ap₂, append_assoc, ◌∙◌, arith}
-use Rattle.std.proofs.Math.Nat.{mul-div_left}
-use Rattle.std.proofs.lemmas.Nat.{mul-add-lt}
-use Rattle.wal_tree.specs.Tree.{leaf, leaves, pieces, root_of, root_over}
-use Rattle.wal_lanes.specs.Pieces.{AreDigests}
+use Rattle.wal_commit.proofs.Common.{◌≡◌, ℕ, ◌+◌, ◌-◌, ◌*◌, ◌/◌, ◌<◌, ◌≤◌, List, ◌++◌, length, take, drop, sym, ap, ap₂, append_assoc, ◌∙◌, arith, mul-div_left, mul-add-lt, leaf, leaves, pieces, root_of, root_over, AreDigests, symbol, row_of, column_of, row_of-symbol, row_fits, row_long, column_is, column_long, column_part-symbol, Secondary, BlobShape, shard_count, symbol_size, held_index, pair_over, AreLeafDigests}
 use Rattle.wal_tree.proofs.Leaves.{pieces-leaves}
-use Rattle.wal_matrix.specs.Matrix.{symbol, row_of, column_of}
-use Rattle.wal_matrix.proofs.Slivers.{row_of-symbol, row_fits, row_long, column_is, column_long, column_part-symbol}
-use Rattle.wal_shape.specs.declared.axis.Axis.TheVariants.{Secondary}
-use Rattle.wal_shape.specs.Shape.{BlobShape, shard_count, symbol_size}
-use Rattle.wal_shape.specs.Metadata.{held_index}
-use Rattle.wal_commit.specs.inside.Identifier.{pair_over}
-use Rattle.wal_commit.specs.inside.Leaves.{AreLeafDigests}
 
 -- so many pieces of a size are whole pieces
 pub whole_pieces : (count s size long : ℕ) → 0 < s → size ≡ s → long ≡ count * s → long ≡ long / size * size

@@ -9,3 +9,4 @@ pub mod Crossings
 pub mod Symbols
 pub mod OneDigest
 pub mod MetadataBytes
+mod Common

@@ -1,22 +1,6 @@
 -- The spelling of a blob's metadata is bytes.
-use Rattle.std.proofs.Common.{ℕ, zero, suc, ◌*◌, List, [], ◌∷◌, ◌++◌, length, sym, subst, arith}
-use Rattle.std.specs.Int.{w8, w16, w32, w64}
-use Rattle.std.specs.List.{flat_map, range_with_len}
+use Rattle.wal_commit.proofs.Common.{ℕ, zero, suc, ◌*◌, List, [], ◌∷◌, ◌++◌, length, sym, subst, arith, w8, w16, w32, w64, flat_map, range_with_len, Secondary, Format, One, Two, BlobShape, shard_count, symbol_size, BlobMetadata, held_index, number_text, metadata_text, root_over, row_of, column_of, AreBytes, bytes_of_part, bytes_within, row_is, bytes_joined, bytes_of_column, IsMetadataOf, head_text, metadata_over, pair_over}
 use Rattle.std.proofs.lemmas.List.Concat.{flat_map-cons}
-use Rattle.wal_shape.specs.declared.axis.Axis.TheVariants.{Secondary}
-use Rattle.wal_shape.specs.declared.shape.Format.{Format}
-use Rattle.wal_shape.specs.declared.shape.Format.TheVariants.{One, Two}
-use Rattle.wal_shape.specs.Shape.{BlobShape, shard_count, symbol_size}
-use Rattle.wal_shape.specs.Metadata.{BlobMetadata, held_index}
-use Rattle.wal_shape.specs.Spelling.{number_text, metadata_text}
-use Rattle.wal_tree.specs.Tree.{root_over}
-use Rattle.wal_matrix.specs.Matrix.{row_of, column_of}
-use Rattle.wal_matrix.proofs.Codewords.{AreBytes, bytes_of_part}
-use Rattle.wal_matrix.proofs.MatrixLaws.{bytes_within}
-use Rattle.wal_matrix.proofs.Slivers.{row_is}
-use Rattle.wal_matrix.proofs.Words.{bytes_joined, bytes_of_column}
-use Rattle.wal_commit.specs.Identifier.{IsMetadataOf, head_text, metadata_over}
-use Rattle.wal_commit.specs.inside.Identifier.{pair_over}
 use Rattle.wal_commit.proofs.Commitments.{metadata_text-over}
 use Rattle.wal_commit.proofs.OneDigest.{IsDigest, root_over_32, byte_first}
 

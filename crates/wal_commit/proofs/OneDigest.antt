@@ -1,32 +1,10 @@
 -- Where no two texts collide, a root has one content, a path one leaf, and an identifier one metadata.
-use Rattle.std.proofs.Common.{◌≡◌, ℕ, zero, suc, ◌+◌, ◌*◌, ◌/◌, ◌%◌, ◌<◌, ◌≤◌, List, [], ◌∷◌, ◌++◌, length, get_or, take, drop, All, refl, sym, ap, ap₂, subst, ◌∙◌, arith, ⊎_elim, inl, inr, take-append-drop}
-use Rattle.std.specs.List.{concat}
-use Rattle.std.proofs.Math.Nat.{mul-div_left}
+use Rattle.wal_commit.proofs.Common.{◌≡◌, ℕ, zero, suc, ◌+◌, ◌*◌, ◌/◌, ◌%◌, ◌<◌, ◌≤◌, List, [], ◌∷◌, ◌++◌, length, get_or, take, drop, All, refl, sym, ap, ap₂, subst, ◌∙◌, arith, ⊎_elim, inl, inr, take-append-drop, concat, mul-div_left, length-take-le, length-drop, get_or_past, Axis, Opening, Format, One, Two, shard_count, sliver_symbols, symbol_size, BlobMetadata, IsMetadata, metadata_text, symbol_size-least, metadata_text-injective, IsBytes-drop, empty_entry, leaf, leaves, node, pair_up, pieces, root_of, root_over, root_within, IsPathTo, beside, folded, height, parent, path_of, path_over, path_of-end, path_of-step, append_front, append_back, AreBytes, bytes_of_part, bytes_within, bytes_joined, HoldsSliver, HoldsOpening, head_text, held_pairs, identifier_of, identifier_tag, identifier_text, pair_root}
 use Rattle.std.proofs.lemmas.Bool.{cases_lt}
-use Rattle.std.proofs.lemmas.List.{length-take-le, length-drop, get_or_past}
 use Rattle.std.proofs.lemmas.List.Elements.{All-nil, All-cons, All-head, All-tail, All-from_get_or}
-use Rattle.wal_shape.specs.declared.axis.Axis.{Axis}
-use Rattle.wal_shape.specs.declared.opening.Opening.{Opening}
-use Rattle.wal_shape.specs.declared.shape.Format.{Format}
-use Rattle.wal_shape.specs.declared.shape.Format.TheVariants.{One, Two}
-use Rattle.wal_shape.specs.Shape.{shard_count, sliver_symbols, symbol_size}
-use Rattle.wal_shape.specs.Metadata.{BlobMetadata, IsMetadata}
-use Rattle.wal_shape.specs.Spelling.{metadata_text}
-use Rattle.wal_shape.proofs.ShapeLaws.{symbol_size-least}
-use Rattle.wal_shape.proofs.MetadataLaws.{metadata_text-injective}
-use Rattle.wal_shape.proofs.Numbers.{IsBytes-drop}
 use Rattle.wal_tree.specs.Digests.{IsByte}
-use Rattle.wal_tree.specs.Tree.{empty_entry, leaf, leaves, node, pair_up, pieces, root_of, root_over, root_within}
-use Rattle.wal_tree.specs.Path.{IsPathTo, beside, folded, height, parent, path_of, path_over}
-use Rattle.wal_tree.proofs.Paths.{path_of-end, path_of-step}
-use Rattle.wal_tree.proofs.Collisions.{append_front, append_back}
 use Rattle.wal_tree.proofs.Roots.{length-pair_up}
-use Rattle.wal_matrix.proofs.Codewords.{AreBytes, bytes_of_part}
-use Rattle.wal_matrix.proofs.MatrixLaws.{bytes_within}
 use Rattle.wal_matrix.proofs.RowLaws.{zeros_after}
-use Rattle.wal_matrix.proofs.Words.{bytes_joined}
-use Rattle.wal_commit.specs.Held.{HoldsSliver, HoldsOpening}
-use Rattle.wal_commit.specs.Identifier.{head_text, held_pairs, identifier_of, identifier_tag, identifier_text, pair_root}
 use Rattle.wal_commit.proofs.Clashes.{identifier_is, same_faults, same_heads, same_roots}
 use Rattle.wal_commit.proofs.Commitments.{metadata_text-parts, length-pairs}
 

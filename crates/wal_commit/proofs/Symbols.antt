@@ -1,13 +1,6 @@
 -- The symbols of a blob's matrix as pieces: their strips, and their leaf digests.
-use Rattle.std.proofs.Common.{◌≡◌, ℕ, ◌+◌, ◌*◌, ◌/◌, ◌%◌, ◌<◌, List, length, take, drop, refl, sym, ap, subst, ◌∙◌, arith}
-use Rattle.std.proofs.lemmas.Nat.{div-add-mod', mod_below, mul-add-lt}
-use Rattle.std.proofs.Math.Nat.{lt_of_mul-lt-mul_right}
-use Rattle.wal_shape.specs.Shape.{shard_count, symbol_size}
-use Rattle.wal_lanes.specs.Strips.{AreDigestsOf, IsStrip}
-use Rattle.wal_matrix.specs.Matrix.{IsExtended, symbol}
+use Rattle.wal_commit.proofs.Common.{◌≡◌, ℕ, ◌+◌, ◌*◌, ◌/◌, ◌%◌, ◌<◌, List, length, take, drop, refl, sym, ap, subst, ◌∙◌, arith, div-add-mod', mod_below, mul-add-lt, lt_of_mul-lt-mul_right, shard_count, symbol_size, AreDigestsOf, IsStrip, IsExtended, symbol, AreLeafDigests, BlobState, IsSymbolAt, bytes_of_symbol, symbols_of}
 use Rattle.wal_matrix.specs.Strips.{IsMatrixStrip}
-use Rattle.wal_commit.specs.inside.Leaves.{AreLeafDigests}
-use Rattle.wal_commit.specs.inside.Strips.{BlobState, IsSymbolAt, bytes_of_symbol, symbols_of}
 
 -- the strip of the symbol at a place, from those of the symbols by row and column
 strip_at : (n s from long place : ℕ) (strip e : List ℕ) → 0 < n → place < n * n

@@ -1,21 +1,8 @@
 -- The laws of the quotient: it divides the difference of two values, its own value is what the derivative has, and its degree.
-use Rattle.std.proofs.Common.{◌≡◌, ℕ, zero, suc, ◌+◌, ◌-◌, ◌%◌, ◌^◌, ◌<◌, ◌≤◌, T, eqb, bit_xor, refl, sym, ap, ap₂, ◌∙◌, arith, lit<, mod-lt, pow-suc, pow_pos, eqb→eq}
-use Rattle.std.specs.Int.Bits.{xor_assoc, xor_self, xor_zero_l, xor_zero_r}
-use Rattle.std.proofs.lemmas.Nat.{xor_lt}
-use Rattle.wal_gf.specs.Field.{times}
+use Rattle.wal_erasure.proofs.Common.{◌≡◌, ℕ, zero, suc, ◌+◌, ◌-◌, ◌%◌, ◌^◌, ◌<◌, ◌≤◌, T, eqb, bit_xor, refl, sym, ap, ap₂, ◌∙◌, arith, lit<, mod-lt, pow-suc, pow_pos, eqb→eq, xor_assoc, xor_self, xor_zero_l, xor_zero_r, xor_lt, times, additive-zero, all_below, all_below-at, times-lt, times-zero, times-one, times_assoc, times_left_comm, IsPolynomial, IsPolynomial-same, IsPolynomial-nothing, IsPolynomial-constant, IsPolynomial-plus, IsPolynomial-times, Element, words, element_of, function, skew, value, AreWords, value-lt, value-same, value-zero, value-suc, IsPoint, skew-polynomial, value-polynomial, product_of, rate, scale, slope, quotient}
 use Rattle.wal_gf.specs.Field as field
-use Rattle.wal_gf.proofs.Additive.{additive-zero, all_below, all_below-at}
-use Rattle.wal_gf.proofs.Products.{times-lt, times-zero, times-one, times_assoc, times_left_comm}
 use Rattle.wal_gf.proofs.Polynomials as polynomial
-use Rattle.wal_gf.proofs.Polynomials.{IsPolynomial, IsPolynomial-same, IsPolynomial-nothing, IsPolynomial-constant, IsPolynomial-plus, IsPolynomial-times}
-use Rattle.wal_gf.proofs.Instance.{Element, words, element_of}
-use Rattle.wal_code.proofs.Codes.{function}
-use Rattle.wal_fft.specs.Transform.{skew, value}
 use Rattle.wal_fft.proofs.SkewLaws.{skew-additive, skew-lt, skew-first, skew-step}
-use Rattle.wal_fft.proofs.Values.{AreWords, value-lt, value-same, value-zero, value-suc}
-use Rattle.wal_fft.proofs.Degrees.{IsPoint, skew-polynomial, value-polynomial}
-use Rattle.wal_fft.proofs.ProductDegrees.{product_of}
-use Rattle.wal_erasure.specs.inside.Derivative.{rate, scale, slope, quotient}
 use Rattle.wal_erasure.proofs.Numbers.{plus-number, times-number, nothing-number, differences}
 
 -- ---- slopes

@@ -1,15 +1,6 @@
 -- What one level of the derivative does, from what the calls on the halves do.
-use Rattle.std.proofs.Common.{◌≡◌, ℕ, suc, ◌+◌, ◌-◌, ◌*◌, ◌^◌, ◌<◌, List, ◌++◌, length, slice_index, bit_xor, sym, ap, ap₂, ◌∙◌, arith}
-use Rattle.std.specs.Int.Bits.{xor_assoc}
-use Rattle.std.proofs.lemmas.Nat.{xor_comm}
-use Rattle.wal_gf.specs.Field.{times}
-use Rattle.wal_kernel.specs.Region.{word_at}
-use Rattle.wal_kernel.proofs.Words.{word_at-lt}
-use Rattle.wal_fft.specs.Transform.{skew, value, lane, scaled, WasAdded}
-use Rattle.wal_fft.proofs.Values.{value-zero, value-suc, value-same, value-line}
+use Rattle.wal_erasure.proofs.Common.{◌≡◌, ℕ, suc, ◌+◌, ◌-◌, ◌*◌, ◌^◌, ◌<◌, List, ◌++◌, length, slice_index, bit_xor, sym, ap, ap₂, ◌∙◌, arith, xor_assoc, xor_comm, times, word_at, word_at-lt, skew, value, lane, scaled, WasAdded, value-zero, value-suc, value-same, value-line, lane-left, lane-right, lane-sum, rate, quotient, AreDerived}
 use Rattle.wal_fft.proofs.Steps.{AreHalves}
-use Rattle.wal_fft.proofs.Lanes.{lane-left, lane-right, lane-sum}
-use Rattle.wal_erasure.specs.inside.Derivative.{rate, quotient, AreDerived}
 use Rattle.wal_erasure.proofs.DerivativeLaws.{quotient-zero, quotient-same, quotient_own, rate-lt}
 
 pub record Derives (width j : ℕ) (low high low_derived low_sum high_derived : List ℕ) : Type 0 where

@@ -1,27 +1,11 @@
 -- The value at a missing point: the derivative there is the missing word times the locator of the other missing points.
-use Rattle.std.proofs.Common.{◌≡◌, ◌≢◌, ℕ, suc, ◌-◌, ◌^◌, ◌<◌, ◌≤◌, List, ◌∷◌, length, get_or, map, slice_index, slice_index_or, false, bit_xor, refl, sym, ap, ap₂, ◌∙◌, arith, inl, inr, pow_mono}
+use Rattle.wal_erasure.proofs.Common.{◌≡◌, ◌≢◌, ℕ, suc, ◌-◌, ◌^◌, ◌<◌, ◌≤◌, List, ◌∷◌, length, get_or, map, slice_index, slice_index_or, false, bit_xor, refl, sym, ap, ap₂, ◌∙◌, arith, inl, inr, pow_mono, xor_zero_l, xor_zero_r, xor_lt, IsWord, times, inverse, xor_back, IsPolynomial, times-lt, times_assoc, times_comm, one-times, times-zero, times-inverse, inverse-lt, Element, element-path, words, element_of, element_of-word, elements_of, numbers_of, numbers_of-words, value-evaluate, xor-lt, Distinct, IsCodeword, combination, function, codeword_unique, codeword-word, combination-codeword, combination-known, value, IsPoint, product_of, AreWords, quotient, is_known, locator, others}
 use Rattle.std.specs.List.{range_with_len}
-use Rattle.std.specs.Int.Bits.{xor_zero_l, xor_zero_r}
-use Rattle.std.proofs.lemmas.Nat.{xor_lt}
 use Rattle.std.proofs.lemmas.List.{length-map}
 use Rattle.std.proofs.lemmas.List.Elements.{recursion_from_All, All-from_recursion}
 use Rattle.std.proofs.lemmas.List.FromFn.{get_or-map-range_with_len, length-map-range_with_len}
 use Rattle.std.proofs.lemmas.Grind.{get_or_default_zero}
-use Rattle.wal_gf.specs.Field.{IsWord, times, inverse}
-use Rattle.wal_gf.proofs.Additive.{xor_back}
-use Rattle.wal_gf.proofs.Polynomials.{IsPolynomial}
-use Rattle.wal_gf.proofs.Products.{times-lt, times_assoc, times_comm, one-times, times-zero}
-use Rattle.wal_gf.proofs.Inverses.{times-inverse, inverse-lt}
-use Rattle.wal_gf.proofs.Instance.{Element, element-path, words, element_of, element_of-word, elements_of, numbers_of, numbers_of-words, value-evaluate, xor-lt}
-use Rattle.wal_code.specs.Codeword.{Distinct, IsCodeword, combination}
-use Rattle.wal_code.proofs.Codes.{function, codeword_unique, codeword-word, combination-codeword, combination-known}
 use Rattle.wal_code.proofs.Evaluation.{evaluate-number}
-use Rattle.wal_fft.specs.Transform.{value}
-use Rattle.wal_fft.proofs.Degrees.{IsPoint}
-use Rattle.wal_fft.proofs.ProductDegrees.{product_of}
-use Rattle.wal_fft.proofs.Values.{AreWords}
-use Rattle.wal_erasure.specs.inside.Derivative.{quotient}
-use Rattle.wal_erasure.specs.inside.Locator.{is_known, locator, others}
 use Rattle.wal_erasure.proofs.Numbers.{times-number, sum-other}
 use Rattle.wal_erasure.proofs.DerivativeLaws.{quotient-lt, quotient-divides, quotient-polynomial}
 use Rattle.wal_erasure.proofs.LocatorLaws.{either, is_known-found, locator-lt, locator-own, locator-pulled, locator-root, locator-polynomial, is_known-first, locator-other, missing_count, count-suc, counted}

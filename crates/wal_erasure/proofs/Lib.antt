@@ -6,3 +6,4 @@ pub mod Numbers
 pub mod RunLaws
 pub mod Scans
 pub mod SolvedLaws
+mod Common

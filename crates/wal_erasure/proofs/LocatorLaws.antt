@@ -1,15 +1,5 @@
 -- The laws of the locator: its roots are the missing points, what one point brings to it, its degree, and how many points are missing.
-use Rattle.std.proofs.Common.{◌≡◌, ◌≢◌, ℕ, zero, suc, ◌+◌, ◌<◌, ◌≤◌, List, [], ◌∷◌, length, slice_index, Bool, true, false, cond, eqb, eq-eqb, eqb-true, bit_xor, refl, sym, ap, ap₂, ◌∙◌, arith, lit<, zero-add, ◌⊎◌, inl, inr}
-use Rattle.std.specs.Int.Bits.{xor_self}
-use Rattle.std.proofs.lemmas.Bool.{ne_eqb}
-use Rattle.wal_gf.specs.Field.{times}
-use Rattle.wal_gf.proofs.Polynomials.{IsPolynomial, IsPolynomial-constant, IsPolynomial-line}
-use Rattle.wal_gf.proofs.Products.{times-lt, zero-times, times_left_comm}
-use Rattle.wal_gf.proofs.Instance.{Element, words, element_of, xor-lt}
-use Rattle.wal_code.specs.Codeword.{Distinct}
-use Rattle.wal_code.proofs.Codes.{function}
-use Rattle.wal_fft.proofs.Degrees.{IsPoint}
-use Rattle.wal_erasure.specs.inside.Locator.{is_known, locator}
+use Rattle.wal_erasure.proofs.Common.{◌≡◌, ◌≢◌, ℕ, zero, suc, ◌+◌, ◌<◌, ◌≤◌, List, [], ◌∷◌, length, slice_index, Bool, true, false, cond, eqb, eq-eqb, eqb-true, bit_xor, refl, sym, ap, ap₂, ◌∙◌, arith, lit<, zero-add, ◌⊎◌, inl, inr, xor_self, ne_eqb, times, IsPolynomial, IsPolynomial-constant, IsPolynomial-line, times-lt, zero-times, times_left_comm, Element, words, element_of, xor-lt, Distinct, function, IsPoint, is_known, locator}
 use Rattle.wal_erasure.proofs.Numbers.{plus-number, times-number, own-number, product-other, sum-other}
 
 -- ---- which points are known

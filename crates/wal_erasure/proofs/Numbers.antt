@@ -1,12 +1,6 @@
 -- Sums and products of words, as numbers and as elements of the field.
-use Rattle.std.proofs.Common.{◌≡◌, ◌≢◌, ℕ, ◌<◌, bit_xor, sym, ap, ap₂, ◌∙◌, lit<}
-use Rattle.std.specs.Int.Bits.{xor_zero_r}
-use Rattle.wal_gf.specs.Field.{times}
+use Rattle.wal_erasure.proofs.Common.{◌≡◌, ◌≢◌, ℕ, ◌<◌, bit_xor, sym, ap, ap₂, ◌∙◌, lit<, xor_zero_r, times, xor_back, zero_factor, times-lt, Element, element-path, words, element_of, element_of-word, xor-lt}
 use Rattle.wal_gf.proofs.Algebra.{Field, plus-times, times_left_comm, plus_left_comm}
-use Rattle.wal_gf.proofs.Additive.{xor_back}
-use Rattle.wal_gf.proofs.Inverses.{zero_factor}
-use Rattle.wal_gf.proofs.Products.{times-lt}
-use Rattle.wal_gf.proofs.Instance.{Element, element-path, words, element_of, element_of-word, xor-lt}
 
 pub plus-number : (a b : ℕ) → a < 65536 → b < 65536 → words.plus (element_of a) (element_of b) ≡ element_of (bit_xor a b)
 unfolding words

@@ -1,15 +1,6 @@
 -- Runs of words that are put, taken and copied one after the other.
-use Rattle.std.proofs.Common.{◌≡◌, ◌≢◌, ℕ, ◌+◌, ◌*◌, ◌<◌, ◌≤◌, ◌⊎◌, inl, inr, List, length, slice_index, sym, ap, ◌∙◌, arith, mul-le-mul_left, mul-le-mul_right}
-use Rattle.std.proofs.lemmas.Bool.{cases_lt}
+use Rattle.wal_erasure.proofs.Common.{◌≡◌, ◌≢◌, ℕ, ◌+◌, ◌*◌, ◌<◌, ◌≤◌, ◌⊎◌, inl, inr, List, length, slice_index, sym, ap, ◌∙◌, arith, mul-le-mul_left, mul-le-mul_right, cases_lt, times, Gf, Distinct, element_at, word_at, lane, word_at-put_before, word_at-put_within, word_at-put_after, ArePut, AreTaken, IsCopy}
 use borrow.Rule.Slice.PartMut.{put_mid}
-use Rattle.wal_gf.specs.Field.{times}
-use Rattle.wal_gf.specs.declared.Gf.{Gf}
-use Rattle.wal_code.specs.Codeword.{Distinct}
-use Rattle.wal_code.specs.Weights.{element_at}
-use Rattle.wal_kernel.specs.Region.{word_at}
-use Rattle.wal_fft.specs.Transform.{lane}
-use Rattle.wal_fft.proofs.Lanes.{word_at-put_before, word_at-put_within, word_at-put_after}
-use Rattle.wal_erasure.specs.inside.Run.{ArePut, AreTaken, IsCopy}
 
 -- below one more
 below_next : (i n : ℕ) → i < n + 1 → (i < n) ⊎ (i ≡ n)

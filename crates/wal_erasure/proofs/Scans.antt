@@ -1,7 +1,5 @@
 -- What a loop over the known points, or over all points, keeps.
-use Rattle.std.proofs.Common.{◌≡◌, ◌≢◌, ℕ, ◌+◌, ◌<◌, ◌≤◌, List, ◌∷◌, length, get_or, drop, true, false, bit_xor, refl, sym, ap, ◌∙◌, add-one, drop-cons, drop_of_length-le}
-use Rattle.wal_gf.specs.Field.{times}
-use Rattle.wal_erasure.specs.inside.Locator.{is_known, locator}
+use Rattle.wal_erasure.proofs.Common.{◌≡◌, ◌≢◌, ℕ, ◌+◌, ◌<◌, ◌≤◌, List, ◌∷◌, length, get_or, drop, true, false, bit_xor, refl, sym, ap, ◌∙◌, add-one, drop-cons, drop_of_length-le, times, is_known, locator}
 use Rattle.wal_erasure.proofs.LocatorLaws.{is_known-first, is_known-rest, is_known-none, locator-known, locator-missing, locator-other}
 
 is_known-drop : (known : List ℕ) (i x : ℕ) → i < length known → is_known (drop i known) x ≡ is_known (get_or known i 0 ∷ drop (i + 1) known) x

@@ -1,17 +1,6 @@
 -- Strips that are solved, and all regions.
-use Rattle.std.proofs.Common.{◌≡◌, ℕ, ◌+◌, ◌-◌, ◌*◌, ◌^◌, ◌<◌, ◌≤◌, List, length, slice_index, Bool, true, false, cond, sym, ap, ap₂, ◌∙◌, arith, inl, inr}
-use Rattle.wal_gf.specs.Field.{times, inverse}
-use Rattle.wal_gf.specs.declared.Gf.{Gf}
-use Rattle.wal_code.specs.Codeword.{Distinct, combination, coefficient}
-use Rattle.wal_code.specs.Weights.{element_at}
-use Rattle.wal_code.proofs.Codes.{combination-known}
+use Rattle.wal_erasure.proofs.Common.{◌≡◌, ℕ, ◌+◌, ◌-◌, ◌*◌, ◌^◌, ◌<◌, ◌≤◌, List, length, slice_index, Bool, true, false, cond, sym, ap, ap₂, ◌∙◌, arith, inl, inr, times, inverse, Gf, Distinct, combination, coefficient, element_at, combination-known, word_at, region, word_at-lt, word_at-region, value, lane, AreValues, AreCoefficients, AreDerived, is_known, others, AreFactors, ArePut, AreTaken, AreSolved, AreCopied}
 use Rattle.wal_code.proofs.Totals.{xor_below-same}
-use Rattle.wal_kernel.specs.Region.{word_at, region}
-use Rattle.wal_kernel.proofs.Words.{word_at-lt, word_at-region}
-use Rattle.wal_fft.specs.Transform.{value, lane, AreValues, AreCoefficients}
-use Rattle.wal_erasure.specs.inside.Derivative.{AreDerived}
-use Rattle.wal_erasure.specs.inside.Locator.{is_known, others, AreFactors}
-use Rattle.wal_erasure.specs.inside.Run.{ArePut, AreTaken, AreSolved, AreCopied}
 use Rattle.wal_erasure.proofs.LocatorLaws.{either, is_known-at, is_known-found, is_known-apart}
 use Rattle.wal_erasure.proofs.Erased.{IsErasure, recovered}
 

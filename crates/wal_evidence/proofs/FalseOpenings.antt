@@ -1,23 +1,7 @@
 -- A bad proof against the metadata of an extended matrix has an opening whose symbol is not the matrix's.
-use Rattle.std.proofs.Common.{◌≡◌, ◌≢◌, ℕ, ◌<◌, List, length, map, get_or, slice_get, slice_index, Some, option_map, sym, ap, subst, ◌∙◌, arith, ⊎_elim}
-use Rattle.std.specs.List.{range_with_len}
-use Rattle.std.proofs.lemmas.List.{get_or-map, length-map}
+use Rattle.wal_evidence.proofs.Common.{◌≡◌, ◌≢◌, ℕ, ◌<◌, List, length, map, get_or, slice_get, slice_index, Some, option_map, sym, ap, subst, ◌∙◌, arith, ⊎_elim, range_with_len, get_or-map, length-map, slice_get-get_or, slice_get-map, slice_get_read, region, Axis, Primary, Secondary, Opening, IsShape, shard_count, sliver_symbols, symbol_size, BlobMetadata, EncodingProof, IsCodedMatrix, column_of, line_of, row_of, line_is_word, HoldsOpening, metadata_over, AreEnough, HasRoot, IsBadProof, IsLineThrough, crosses_of, CommitsMatrix}
 use Rattle.std.proofs.lemmas.List.FromFn.{get_or-range_with_len, length-range_with_len}
-use Rattle.std.proofs.lemmas.Option.{slice_get-get_or, slice_get-map, slice_get_read}
-use Rattle.wal_kernel.specs.Region.{region}
-use Rattle.wal_shape.specs.declared.axis.Axis.{Axis}
-use Rattle.wal_shape.specs.declared.axis.Axis.TheVariants.{Primary, Secondary}
-use Rattle.wal_shape.specs.declared.opening.Opening.{Opening}
-use Rattle.wal_shape.specs.Shape.{IsShape, shard_count, sliver_symbols, symbol_size}
-use Rattle.wal_shape.specs.Metadata.{BlobMetadata}
-use Rattle.wal_shape.specs.EncodingProof.{EncodingProof}
 use Rattle.wal_tree.specs.Tree.{root_over}
-use Rattle.wal_matrix.specs.Matrix.{IsCodedMatrix, column_of, line_of, row_of}
-use Rattle.wal_matrix.proofs.Words.{line_is_word}
-use Rattle.wal_commit.specs.Held.{HoldsOpening}
-use Rattle.wal_commit.specs.Identifier.{metadata_over}
-use Rattle.wal_evidence.specs.BadProof.{AreEnough, HasRoot, IsBadProof, IsLineThrough, crosses_of}
-use Rattle.wal_evidence.specs.Evidence.{CommitsMatrix}
 use Rattle.wal_evidence.proofs.OneLine.{no_opening, one_line, symbol_at, symbol_sizes}
 use Rattle.wal_evidence.proofs.SameOrNot.{all_or_some, same_or_not}
 

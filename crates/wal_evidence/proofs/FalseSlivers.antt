@@ -1,18 +1,6 @@
 -- Held slivers are those of the matrix of a blob that the metadata commits, or one of them is not, under the same root.
-use Rattle.std.proofs.Common.{◌≡◌, ◌≢◌, ◌⊎◌, ℕ, ◌<◌, List, length, slice_index, sym, inl, inr, ⊎_elim}
-use Rattle.wal_kernel.specs.Region.{region}
-use Rattle.wal_shape.specs.declared.axis.Axis.TheVariants.{Primary}
-use Rattle.wal_shape.specs.Shape.{shard_count, symbol_size}
-use Rattle.wal_shape.specs.Metadata.{BlobMetadata, IsMetadata}
-use Rattle.wal_matrix.specs.Matrix.{row_of, primary_of}
+use Rattle.wal_evidence.proofs.Common.{◌≡◌, ◌≢◌, ◌⊎◌, ℕ, ◌<◌, List, length, slice_index, sym, inl, inr, ⊎_elim, region, Primary, shard_count, symbol_size, BlobMetadata, IsMetadata, row_of, primary_of, row_is_word, HoldsSliver, Basis, Slivers, Proof, Verdict, Bytes, CommitsMatrix, HasFalseSliver, IsHeldBy, IsJudgedBy, sliver_bytes}
 use Rattle.wal_matrix.proofs.Slivers.{primary_long}
-use Rattle.wal_matrix.proofs.Words.{row_is_word}
-use Rattle.wal_commit.specs.Held.{HoldsSliver}
-use Rattle.wal_evidence.specs.declared.evidence.Basis.{Basis}
-use Rattle.wal_evidence.specs.declared.evidence.Basis.TheVariants.{Slivers, Proof}
-use Rattle.wal_evidence.specs.declared.evidence.Verdict.{Verdict}
-use Rattle.wal_evidence.specs.declared.evidence.Verdict.TheVariants.{Bytes}
-use Rattle.wal_evidence.specs.Evidence.{CommitsMatrix, HasFalseSliver, IsHeldBy, IsJudgedBy, sliver_bytes}
 use Rattle.wal_evidence.proofs.FalseOpenings.{false_opening, length_is, line_root}
 use Rattle.wal_evidence.proofs.SameOrNot.{all_or_some, same_or_not}
 use Rattle.wal_evidence.proofs.Verdicts.{true_blob}

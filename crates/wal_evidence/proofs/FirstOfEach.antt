@@ -1,8 +1,5 @@
 -- What is taken from items: one list, of distinct keys, and all that they give as long as there is room.
-use Rattle.std.proofs.Common.{◌≡◌, ℕ, zero, suc, ◌<◌, ◌≤◌, List, [], ◌∷◌, ◌++◌, length, map, Contains, refl, sym, ap, subst, ◌∙◌, arith, ⊎_elim, length-append}
-use Rattle.std.proofs.lemmas.List.{map-append}
-use Rattle.std.proofs.lemmas.List.Elements.{All-nil, All-push, Contains-append_left, Contains-push}
-use Rattle.wal_code.specs.Codeword.{Distinct}
+use Rattle.wal_evidence.proofs.Common.{◌≡◌, ℕ, zero, suc, ◌<◌, ◌≤◌, List, [], ◌∷◌, ◌++◌, length, map, Contains, refl, sym, ap, subst, ◌∙◌, arith, ⊎_elim, length-append, map-append, All-nil, All-push, Contains-append_left, Contains-push, Distinct}
 use Rattle.wal_evidence.specs.FirstOfEach.{Adds, TakesAfter, TakesFirst, adds, keeps}
 use Rattle.wal_evidence.specs.inside.FirstOfEach.{AreTaken}
 use Rattle.wal_evidence.proofs.Marked.{distinct_more, known_or_new}

@@ -9,3 +9,4 @@ pub mod Pieces
 pub mod ProofSizes
 pub mod SameOrNot
 pub mod Verdicts
+mod Common

@@ -1,14 +1,8 @@
 -- Flags of the numbers in a list, and lists without repetition.
-use Rattle.std.proofs.Common.{◌≡◌, ◌≢◌, ◌⊎◌, ℕ, ◌<◌, List, [], ◌∷◌, ◌++◌, length, take, get_or, replicate, Bool, true, false, Contains, sym, ◌∙◌, arith, ⊎_elim, nat_eq}
-use Rattle.std.specs.Prelude.{slice_set}
-use Rattle.std.proofs.lemmas.Bool.{cases_eq, false≢true}
+use Rattle.wal_evidence.proofs.Common.{◌≡◌, ◌≢◌, ◌⊎◌, ℕ, ◌<◌, List, [], ◌∷◌, ◌++◌, length, take, get_or, replicate, Bool, true, false, Contains, sym, ◌∙◌, arith, ⊎_elim, nat_eq, slice_set, cases_eq, false≢true, get_or_default, get_or-replicate, get_or-set_other, get_or-set_same, get_or-take, length-replicate, length-set, length-take-le, Contains-append_left, Contains-push, Contains-push_cases, Distinct, Marks, most_shards}
 use Rattle.std.proofs.lemmas.Bool.Decides.{Decides-eqb}
-use Rattle.std.proofs.lemmas.List.{get_or_default, get_or-replicate, get_or-set_other, get_or-set_same, get_or-take, length-replicate, length-set, length-take-le}
-use Rattle.std.proofs.lemmas.List.Elements.{Contains-append_left, Contains-push, Contains-push_cases}
 use Rattle.std.proofs.lemmas.List.Quantifiers.{all_pairs_push}
 use Rattle.std.proofs.lemmas.Map.Made.{is_member-Decides}
-use Rattle.wal_code.specs.Codeword.{Distinct}
-use Rattle.wal_evidence.specs.inside.Marks.{Marks, most_shards}
 use Rattle.wal_evidence.proofs.SameOrNot.{decided}
 
 -- no number is marked

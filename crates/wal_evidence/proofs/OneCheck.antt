@@ -1,15 +1,6 @@
 -- A proof has one verdict.
-use Rattle.std.proofs.Common.{◌≡◌, ℕ, ◌<◌, List, All, Some, slice_get, ap, subst, ◌∙◌, arith}
-use Rattle.std.proofs.lemmas.List.{get_or-take, length-take-le}
-use Rattle.std.proofs.lemmas.Option.{get_or_from_slice_get, slice_get_within}
-use Rattle.wal_shape.specs.declared.opening.Opening.{Opening}
-use Rattle.wal_shape.specs.Shape.{IsShape}
-use Rattle.wal_shape.specs.Metadata.{BlobMetadata}
-use Rattle.wal_shape.specs.EncodingProof.{EncodingProof}
-use Rattle.wal_commit.specs.Held.{HoldsOpening}
-use Rattle.wal_evidence.specs.BadProof.{Checks, HasRoot, IsBadProof, IsConsistent, IsFirstBad}
+use Rattle.wal_evidence.proofs.Common.{◌≡◌, ℕ, ◌<◌, List, All, Some, slice_get, ap, subst, ◌∙◌, arith, get_or-take, length-take-le, get_or_from_slice_get, slice_get_within, Opening, IsShape, BlobMetadata, EncodingProof, HoldsOpening, Checks, HasRoot, IsBadProof, IsConsistent, IsFirstBad, BadOpening}
 use Rattle.wal_evidence.specs.declared.proof.ProofVerdict.{ProofVerdict}
-use Rattle.wal_evidence.specs.declared.proof.ProofVerdict.TheVariants.{BadOpening}
 use Rattle.wal_evidence.proofs.OneLine.{one_line}
 
 module _ (digest : List ℕ → List ℕ) (m : BlobMetadata) (p : EncodingProof) where

@@ -1,21 +1,9 @@
 -- Openings that hold, of distinct crosses and as many as a sliver has symbols, lie on one codeword.
-use Rattle.std.proofs.Common.{◌≡◌, ℕ, ◌*◌, ◌<◌, List, [], ◌∷◌, length, get_or, slice_index, All, sym, ap, subst, ◌∙◌, arith}
-use Rattle.std.proofs.lemmas.List.{get_or-map, length-map}
-use Rattle.std.proofs.lemmas.List.Concat.{flat_map-cons}
-use Rattle.std.proofs.lemmas.List.Elements.{All-head, All-tail}
-use Rattle.wal_kernel.specs.Region.{region}
-use Rattle.wal_shape.specs.declared.axis.Axis.{Axis}
-use Rattle.wal_shape.specs.declared.opening.Opening.{Opening}
-use Rattle.wal_shape.specs.Shape.{BlobShape, IsShape, shard_count, sliver_symbols, symbol_size}
-use Rattle.wal_shape.specs.Metadata.{BlobMetadata}
-use Rattle.wal_shape.proofs.ShapeLaws.{symbol_size-least}
+use Rattle.wal_evidence.proofs.Common.{◌≡◌, ℕ, ◌*◌, ◌<◌, List, [], ◌∷◌, length, get_or, slice_index, All, sym, ap, subst, ◌∙◌, arith, get_or-map, length-map, flat_map-cons, All-head, All-tail, region, Axis, Opening, BlobShape, IsShape, shard_count, sliver_symbols, symbol_size, BlobMetadata, symbol_size-least, AreBytes, bytes_of_part, bytes_joined, AreEnough, IsLineThrough, ShowLine, crosses_of, symbols_of}
 use Rattle.wal_matrix.specs.Word.{IsWordThrough, PassesCodeword}
-use Rattle.wal_matrix.proofs.Codewords.{AreBytes, bytes_of_part}
 use Rattle.wal_matrix.proofs.MatrixLaws.{bytes_within}
 use Rattle.wal_matrix.proofs.Solved.{known_symbols, solved_unique}
-use Rattle.wal_matrix.proofs.Words.{bytes_joined}
 use Rattle.wal_evidence.proofs.Pieces.{piece_at, pieces_long}
-use Rattle.wal_evidence.specs.BadProof.{AreEnough, IsLineThrough, ShowLine, crosses_of, symbols_of}
 
 -- an opening of nothing
 abbrev pub no_opening : Opening

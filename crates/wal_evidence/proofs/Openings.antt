@@ -1,20 +1,11 @@
 -- The crosses and the symbols of openings, one by one.
-use Rattle.std.proofs.Common.{◌≡◌, ℕ, ◌+◌, ◌*◌, ◌<◌, ◌≤◌, List, [], ◌∷◌, ◌++◌, length, take, All, Some, slice_get, sym, ap, subst, ◌∙◌, arith, set}
-use Rattle.std.specs.List.{AllByRecursion}
+use Rattle.wal_evidence.proofs.Common.{◌≡◌, ℕ, ◌+◌, ◌*◌, ◌<◌, ◌≤◌, List, [], ◌∷◌, ◌++◌, length, take, All, Some, slice_get, sym, ap, subst, ◌∙◌, arith, set, AllByRecursion, append-nil, map-append, take_all, take_more, take_more_set, All-nil, All-cons, All-push, get_or_from_slice_get, slice_get_within, Axis, Opening, IsBody, column_count, most_bytes, sliver_symbols, symbol_size, crosses_of, symbols_of}
 use Rattle.std.proofs.Math.Nat.{mul-le-mul_left}
 use Rattle.std.proofs.lemmas.Grind.{flat_map-append}
-use Rattle.std.proofs.lemmas.List.{append-nil, map-append, take_all, take_more, take_more_set}
-use Rattle.std.proofs.lemmas.List.Elements.{All-nil, All-cons, All-push}
-use Rattle.std.proofs.lemmas.Option.{get_or_from_slice_get, slice_get_within}
 use Rattle.std.proofs.lemmas.Slice.{take-put_mid}
 use borrow.Rule.Slice.PartMut.{put_mid}
-use Rattle.wal_shape.specs.declared.axis.Axis.{Axis}
-use Rattle.wal_shape.specs.declared.opening.Opening.{Opening}
-use Rattle.wal_shape.specs.Opening.{IsBody}
-use Rattle.wal_shape.specs.Shape.{column_count, most_bytes, sliver_symbols, symbol_size}
 use Rattle.wal_matrix.specs.Tools.{longest_sliver}
 use Rattle.wal_matrix.proofs.ToolsLaws.{symbol_size-longest}
-use Rattle.wal_evidence.specs.BadProof.{crosses_of, symbols_of}
 use Rattle.wal_evidence.proofs.ProofSizes.{narrow}
 
 -- one more opening of the front of a list

@@ -1,11 +1,5 @@
 -- Pieces of one length that things have, one after the other.
-use Rattle.std.proofs.Common.{◌≡◌, ℕ, zero, suc, ◌+◌, ◌*◌, ◌<◌, List, [], ◌∷◌, length, get_or, All, ap, ◌∙◌, arith, length-append}
-use Rattle.std.specs.List.{flat_map}
-use Rattle.std.proofs.Math.Seq.{take-append_seam}
-use Rattle.std.proofs.lemmas.List.Concat.{flat_map-cons}
-use Rattle.std.proofs.lemmas.List.Elements.{All-head, All-tail}
-use Rattle.wal_kernel.specs.Region.{region}
-use Rattle.wal_matrix.proofs.Codewords.{region_after}
+use Rattle.wal_evidence.proofs.Common.{◌≡◌, ℕ, zero, suc, ◌+◌, ◌*◌, ◌<◌, List, [], ◌∷◌, length, get_or, All, ap, ◌∙◌, arith, length-append, flat_map, take-append_seam, flat_map-cons, All-head, All-tail, region, region_after}
 
 module _ {Y : Type 0} (piece : Y → List ℕ) where
   -- all together are as long as their number says

@@ -1,18 +1,8 @@
 -- How long the spelling of a bad proof is.
-use Rattle.std.proofs.Common.{◌≡◌, ℕ, ◌+◌, ◌*◌, ◌≤◌, All, List, [], ◌∷◌, length, ap, ◌∙◌, arith}
-use Rattle.std.specs.List.{AllByRecursion, flat_map}
+use Rattle.wal_evidence.proofs.Common.{◌≡◌, ℕ, ◌+◌, ◌*◌, ◌≤◌, All, List, [], ◌∷◌, length, ap, ◌∙◌, arith, AllByRecursion, flat_map, flat_map-cons, All-head, All-tail, Axis, Opening, column_count, sliver_symbols, symbol_size, BlobMetadata, IsBody, EncodingProof, IsProof, IsBadProof}
 use Rattle.std.proofs.lemmas.List.{length-append}
-use Rattle.std.proofs.lemmas.List.Concat.{flat_map-cons}
-use Rattle.std.proofs.lemmas.List.Elements.{All-head, All-tail}
-use Rattle.wal_shape.specs.declared.axis.Axis.{Axis}
-use Rattle.wal_shape.specs.declared.opening.Opening.{Opening}
-use Rattle.wal_shape.specs.Shape.{column_count, sliver_symbols, symbol_size}
-use Rattle.wal_shape.specs.Metadata.{BlobMetadata}
-use Rattle.wal_shape.specs.Opening.{IsBody}
 use Rattle.wal_shape.specs.Spelling.{body_text, proof_text}
-use Rattle.wal_shape.specs.EncodingProof.{EncodingProof, IsProof}
 use Rattle.wal_shape.proofs.BodyLaws.{length-body_text}
-use Rattle.wal_evidence.specs.BadProof.{IsBadProof}
 
 abbrev has_size : ℕ → Opening → Type 0
 has_size s o = length o.symbol ≡ s

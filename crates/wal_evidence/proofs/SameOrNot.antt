@@ -1,7 +1,5 @@
 -- Two lists are equal or not, and a thing holds everywhere or its contrary somewhere.
-use Rattle.std.proofs.Common.{◌≡◌, ◌≢◌, ◌⊎◌, ℕ, zero, suc, ◌<◌, List, Bool, true, false, Decides, refl, subst, arith, inl, inr, ⊎_elim}
-use Rattle.std.specs.Prelude.{bytes_eq}
-use Rattle.std.proofs.lemmas.Bool.{cases_lt, false≢true}
+use Rattle.wal_evidence.proofs.Common.{◌≡◌, ◌≢◌, ◌⊎◌, ℕ, zero, suc, ◌<◌, List, Bool, true, false, Decides, refl, subst, arith, inl, inr, ⊎_elim, bytes_eq, cases_lt, false≢true}
 use Rattle.std.proofs.lemmas.Slice.Eq.{bytes_eq-Decides}
 use Rattle.wal_tree.specs.Collision.{IsCollision}
 use Rattle.wal_commit.proofs.OneDigest.{IsDigest, IsOneToOne}

@@ -1,21 +1,8 @@
 -- The verdict on held slivers is that on the blob that is decoded from them, and there is one.
-use Rattle.std.proofs.Common.{◌≡◌, ℕ, ◌-◌, ◌*◌, ◌<◌, List, length, take, replicate, slice_index, refl, sym, ap, subst, ◌∙◌, arith}
-use Rattle.std.proofs.lemmas.List.{length-take-le}
-use Rattle.wal_shape.specs.Shape.{BlobShape, IsShape, row_count, column_count, symbol_size}
-use Rattle.wal_shape.proofs.ShapeLaws.{symbol_size-least}
-use Rattle.wal_shape.specs.Metadata.{BlobMetadata, IsMetadata}
-use Rattle.std.proofs.Math.Seq.{take-append_seam}
-use Rattle.wal_kernel.specs.Region.{region}
-use Rattle.wal_matrix.specs.Matrix.{IsExtended, padded, primary_of}
+use Rattle.wal_evidence.proofs.Common.{◌≡◌, ℕ, ◌-◌, ◌*◌, ◌<◌, List, length, take, replicate, slice_index, refl, sym, ap, subst, ◌∙◌, arith, length-take-le, BlobShape, IsShape, row_count, column_count, symbol_size, symbol_size-least, BlobMetadata, IsMetadata, take-append_seam, region, IsExtended, padded, primary_of, IsIdentifierOf, identifier_of, metadata_over, Basis, Slivers, Proof, Verdict, Bytes, IsVerdictOn, Judges, IsJudgedBy, sliver_bytes}
 use Rattle.wal_matrix.proofs.ThroughLaws.{source_long}
 use Rattle.wal_matrix.proofs.Decoded.{extended_is_through, source_of_extended}
 use Rattle.wal_matrix.specs.Through.{IsMatrixThrough, source_of}
-use Rattle.wal_commit.specs.Identifier.{IsIdentifierOf, identifier_of, metadata_over}
-use Rattle.wal_evidence.specs.declared.evidence.Basis.{Basis}
-use Rattle.wal_evidence.specs.declared.evidence.Basis.TheVariants.{Slivers, Proof}
-use Rattle.wal_evidence.specs.declared.evidence.Verdict.{Verdict}
-use Rattle.wal_evidence.specs.declared.evidence.Verdict.TheVariants.{Bytes}
-use Rattle.wal_evidence.specs.Evidence.{IsVerdictOn, Judges, IsJudgedBy, sliver_bytes}
 
 -- the shape of a metadata's blob
 abbrev pub shape_of : BlobMetadata → BlobShape

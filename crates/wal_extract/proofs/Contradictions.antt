@@ -1,19 +1,9 @@
 -- A blob and the matrix of its metadata, and the blob that evidence leads to.
-use Rattle.std.proofs.Common.{◌≡◌, ◌≢◌, ℕ, List, length, sym, ap, ◌∙◌, arith}
-use Rattle.std.proofs.lemmas.List.{length-take-le}
-use Rattle.wal_shape.specs.Shape.{BlobShape, symbol_size}
-use Rattle.wal_shape.specs.Metadata.{BlobMetadata}
-use Rattle.wal_shape.proofs.ShapeLaws.{symbol_size-least}
-use Rattle.wal_matrix.specs.Matrix.{IsExtended}
+use Rattle.wal_extract.proofs.Common.{◌≡◌, ◌≢◌, ℕ, List, length, sym, ap, ◌∙◌, arith, length-take-le, BlobShape, symbol_size, BlobMetadata, symbol_size-least, IsExtended, IsIdentifierOf, identifier_of, metadata_over, Proof, Slivers, Bytes, CommitsMatrix, IsEvidence, IsJudgedBy, shape_of}
 use Rattle.wal_matrix.proofs.ThroughLaws.{source_long}
-use Rattle.wal_commit.specs.Identifier.{IsIdentifierOf, identifier_of, metadata_over}
 use Rattle.wal_evidence.specs.declared.evidence.Basis.{Basis}
-use Rattle.wal_evidence.specs.declared.evidence.Basis.TheVariants.{Proof, Slivers}
 use Rattle.wal_evidence.specs.declared.evidence.Evidence.{Evidence}
 use Rattle.wal_evidence.specs.declared.evidence.Verdict.{Verdict}
-use Rattle.wal_evidence.specs.declared.evidence.Verdict.TheVariants.{Bytes}
-use Rattle.wal_evidence.specs.Evidence.{CommitsMatrix, IsEvidence, IsJudgedBy}
-use Rattle.wal_evidence.proofs.Verdicts.{shape_of}
 use Rattle.wal_extract.specs.Contrary.{ContradictsBlob}
 
 -- the metadata over the matrix of a blob commits that matrix

@@ -1,25 +1,11 @@
 -- Evidence for a metadata that does not lead to the blob of the metadata's matrix has a part that is not the matrix's own.
-use Rattle.std.proofs.Common.{◌≡◌, ◌≢◌, ℕ, ◌*◌, ◌<◌, List, length, slice_get, slice_index, Some, sym, ap, ◌∙◌, arith, ⊎_elim}
-use Rattle.std.proofs.lemmas.List.{get_or_default}
-use Rattle.std.proofs.lemmas.Option.{get_or_from_slice_get, slice_get_within}
-use Rattle.wal_kernel.specs.Region.{region}
-use Rattle.wal_shape.specs.declared.opening.Opening.{Opening}
+use Rattle.wal_extract.proofs.Common.{◌≡◌, ◌≢◌, ℕ, ◌*◌, ◌<◌, List, length, slice_get, slice_index, Some, sym, ap, ◌∙◌, arith, ⊎_elim, get_or_default, get_or_from_slice_get, slice_get_within, region, Opening, symbol_size, BlobMetadata, IsMetadata, IsCodedMatrix, primary_of, HoldsOpening, metadata_over, Slivers, Bytes, AreHeld, CommitsMatrix, IsJudgedBy, sliver_bytes, shape_of, true_verdict, HaveFalseOpening, HaveFalseSliver, OpeningsMeet, SliversMeet}
 use Rattle.wal_shape.specs.EncodingProof.{EncodingProof}
-use Rattle.wal_shape.specs.Shape.{symbol_size}
-use Rattle.wal_shape.specs.Metadata.{BlobMetadata, IsMetadata}
-use Rattle.wal_matrix.specs.Matrix.{IsCodedMatrix, primary_of}
-use Rattle.wal_commit.specs.Held.{HoldsOpening}
-use Rattle.wal_commit.specs.Identifier.{metadata_over}
-use Rattle.wal_evidence.specs.declared.evidence.Basis.TheVariants.{Slivers}
-use Rattle.wal_evidence.specs.declared.evidence.Verdict.TheVariants.{Bytes}
 use Rattle.wal_evidence.specs.BadProof.{IsBadProof}
-use Rattle.wal_evidence.specs.Evidence.{AreHeld, CommitsMatrix, IsJudgedBy, sliver_bytes}
 use Rattle.wal_evidence.proofs.FalseOpenings.{false_opening}
 use Rattle.wal_evidence.proofs.FalseSlivers.{matrix_holds}
 use Rattle.wal_evidence.proofs.OneLine.{no_opening}
 use Rattle.wal_evidence.proofs.SameOrNot.{all_or_some, same_or_not}
-use Rattle.wal_evidence.proofs.Verdicts.{shape_of, true_verdict}
-use Rattle.wal_extract.specs.inside.FalseParts.{HaveFalseOpening, HaveFalseSliver, OpeningsMeet, SliversMeet}
 use Rattle.wal_extract.proofs.OneRoot.{held_one_root}
 
 -- the matrix of a metadata has codewords of its symbols

@@ -3,3 +3,4 @@ pub mod OneRoot
 pub mod OneIdentifier
 pub mod FalseParts
 pub mod Contradictions
+mod Common

@@ -1,21 +1,13 @@
 -- Blobs of one identifier, by their extended matrices.
-use Rattle.std.proofs.Common.{◌≡◌, ◌≢◌, ℕ, ◌-◌, ◌*◌, ◌<◌, ◌≤◌, List, length, slice_get, replicate, sym, ap, ap₂, ◌∙◌, arith}
-use Rattle.std.proofs.Math.Nat.{mul-le-mul_right}
-use Rattle.wal_shape.specs.declared.axis.Axis.TheVariants.{Primary}
-use Rattle.wal_shape.specs.Shape.{BlobShape, column_count, row_count, shard_count, symbol_size}
-use Rattle.wal_shape.specs.Metadata.{BlobMetadata, IsMetadata, roots_of}
+use Rattle.wal_extract.proofs.Common.{◌≡◌, ◌≢◌, ℕ, ◌-◌, ◌*◌, ◌<◌, ◌≤◌, List, length, slice_get, replicate, sym, ap, ap₂, ◌∙◌, arith, mul-le-mul_right, Primary, BlobShape, column_count, row_count, shard_count, symbol_size, BlobMetadata, IsMetadata, roots_of, root_over, IsExtended, padded, row_of, IsIdentifierOf, identifier_of, metadata_over, shape_of}
 use Rattle.wal_shape.specs.Spelling.{metadata_text}
 use Rattle.wal_shape.proofs.MetadataLaws.{metadata_text-injective}
-use Rattle.wal_tree.specs.Tree.{root_over}
 use Rattle.wal_tree.proofs.Collisions.{append_front}
-use Rattle.wal_matrix.specs.Matrix.{IsExtended, padded, row_of}
 use Rattle.wal_matrix.specs.Through.{source_of}
 use Rattle.wal_matrix.proofs.Decoded.{source_of_extended}
 use Rattle.wal_matrix.proofs.Slivers.{row_is}
 use Rattle.wal_matrix.proofs.WordTables.{same_by_regions}
-use Rattle.wal_commit.specs.Identifier.{IsIdentifierOf, identifier_of, metadata_over}
 use Rattle.wal_commit.proofs.HonestOpenings.{root_of_line}
-use Rattle.wal_evidence.proofs.Verdicts.{shape_of}
 
 -- the identifier of a blob is that of the metadata over its only matrix
 pub identifier_over : (digest : List ℕ → List ℕ) (shape : BlobShape) (bytes id e : List ℕ) → length bytes ≡ shape.length →

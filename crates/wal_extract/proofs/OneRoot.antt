@@ -1,13 +1,8 @@
 -- The codewords of slivers that are committed under one root.
-use Rattle.std.proofs.Common.{◌≡◌, ◌≢◌, ℕ, List, Some, sym, ◌∙◌}
+use Rattle.wal_extract.proofs.Common.{◌≡◌, ◌≢◌, ℕ, List, Some, sym, ◌∙◌, IsShape, symbol_size, BlobMetadata, symbol_size-least, root_over, HoldsSliver}
 use Rattle.wal_shape.specs.declared.axis.Axis.{Axis}
-use Rattle.wal_shape.specs.Shape.{IsShape, symbol_size}
-use Rattle.wal_shape.specs.Metadata.{BlobMetadata}
-use Rattle.wal_shape.proofs.ShapeLaws.{symbol_size-least}
-use Rattle.wal_tree.specs.Tree.{root_over}
 use Rattle.wal_matrix.specs.Word.{IsWordOf}
 use Rattle.wal_matrix.proofs.ToolsLaws.{symbol_size-longest}
-use Rattle.wal_commit.specs.Held.{HoldsSliver}
 use Rattle.wal_extract.specs.Slivers.{HaveOneRoot}
 
 -- the only codeword of each has one root

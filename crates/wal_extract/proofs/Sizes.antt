@@ -1,8 +1,5 @@
 -- The sizes of symbols and of codewords.
-use Rattle.std.proofs.Common.{◌≡◌, ℕ, ◌*◌, ◌%◌, ◌<◌, ◌≤◌, ◌^◌, arith}
-use Rattle.std.proofs.Math.Nat.{mul-le-mul_right, mul-mod_left}
-use Rattle.wal_shape.specs.Shape.{most_bytes, shard_count, symbol_size}
-use Rattle.wal_shape.proofs.ShapeLaws.{matrix_bytes-bound}
+use Rattle.wal_extract.proofs.Common.{◌≡◌, ℕ, ◌*◌, ◌%◌, ◌<◌, ◌≤◌, ◌^◌, arith, mul-le-mul_right, mul-mod_left, most_bytes, shard_count, symbol_size, matrix_bytes-bound}
 
 -- no symbol of an allowed size is too long for a number of 32 bits
 pub size_short : (f s : ℕ) → 1 ≤ f → f ≤ 333 → s ≤ symbol_size f most_bytes → s < 2 ^ 32

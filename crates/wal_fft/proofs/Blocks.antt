@@ -1,5 +1,5 @@
 -- Numbers of blocks and of their halves.
-use Rattle.std.proofs.Common.{◌≡◌, ℕ, suc, ◌+◌, ◌-◌, ◌*◌, ◌/◌, ◌^◌, ◌<◌, ◌≤◌, sym, ap, ◌∙◌, arith, pow_pos, pow-suc, mul-le-mul_left, eq-or-lt_of_le, inl, inr}
+use Rattle.wal_fft.proofs.Common.{◌≡◌, ℕ, suc, ◌+◌, ◌-◌, ◌*◌, ◌/◌, ◌^◌, ◌<◌, ◌≤◌, sym, ap, ◌∙◌, arith, pow_pos, pow-suc, mul-le-mul_left, eq-or-lt_of_le, inl, inr}
 use Rattle.std.proofs.Math.Nat.{le-div_iff_mul-le, mul-div-le}
 
 -- a block has twice the points of its halves

@@ -1,17 +1,8 @@
 -- The degrees of skews and of values: as functions of the point they are polynomials, so values at the first points are codewords.
-use Rattle.std.proofs.Common.{◌≡◌, ℕ, zero, suc, ◌+◌, ◌-◌, ◌%◌, ◌^◌, ◌<◌, ◌≤◌, bit_xor, sym, ap, ap₂, ◌∙◌, arith, pow-suc, inl, inr}
-use Rattle.std.specs.Int.Bits.{xor_zero_r}
-use Rattle.std.proofs.lemmas.Bool.{cases_lt}
-use Rattle.std.proofs.lemmas.List.{length-map}
+use Rattle.wal_fft.proofs.Common.{◌≡◌, ℕ, zero, suc, ◌+◌, ◌-◌, ◌%◌, ◌^◌, ◌<◌, ◌≤◌, bit_xor, sym, ap, ap₂, ◌∙◌, arith, pow-suc, inl, inr, xor_zero_r, cases_lt, length-map, IsWord, times, IsPolynomial, IsPolynomial-nothing, IsPolynomial-constant, IsPolynomial-plus, IsPolynomial-times, IsPolynomial-line, times-zero, IsCodeword, function, skew, value}
 use Rattle.std.proofs.lemmas.List.Elements.{All-from_recursion}
-use Rattle.wal_gf.specs.Field.{IsWord, times}
 use Rattle.wal_gf.proofs.Polynomials as polynomial
-use Rattle.wal_gf.proofs.Polynomials.{IsPolynomial, IsPolynomial-nothing, IsPolynomial-constant, IsPolynomial-plus, IsPolynomial-times, IsPolynomial-line}
-use Rattle.wal_gf.proofs.Products.{times-zero}
 use Rattle.wal_gf.proofs.Instance.{Element, element-path, words, element_of, element_of-word, numbers_of, numbers_of-words, value-evaluate}
-use Rattle.wal_code.specs.Codeword.{IsCodeword}
-use Rattle.wal_code.proofs.Codes.{function}
-use Rattle.wal_fft.specs.Transform.{skew, value}
 use Rattle.wal_fft.proofs.SkewLaws.{skew-lt, skew-first, skew-step, line, scale, scale-lt}
 use Rattle.wal_fft.proofs.ProductDegrees.{product_of}
 use Rattle.wal_fft.proofs.Values.{AreWords, value-lt, value-none, value-zero, value-suc}

@@ -1,14 +1,8 @@
 -- Words of lists that are put together, of parts that are put back, and of runs.
-use Rattle.std.proofs.Common.{◌≡◌, ℕ, ◌+◌, ◌-◌, ◌*◌, ◌<◌, ◌≤◌, List, ◌++◌, length, take, drop, slice_index, bit_xor, refl, sym, ap, ap₂, ◌∙◌, arith, mul-le-mul_left}
-use Rattle.std.specs.Int.Bits.{xor_zero_r}
-use Rattle.std.proofs.lemmas.List.{length-take-le, get_or-take}
+use Rattle.wal_fft.proofs.Common.{◌≡◌, ℕ, ◌+◌, ◌-◌, ◌*◌, ◌<◌, ◌≤◌, List, ◌++◌, length, take, drop, slice_index, bit_xor, refl, sym, ap, ap₂, ◌∙◌, arith, mul-le-mul_left, xor_zero_r, length-take-le, get_or-take, times, word_at, IsScaledSum, IsSum, word_at-take, word_at-drop, lane, scaled, WasAdded}
 use Rattle.std.proofs.Math.Seq.{take-append_seam, drop-append_seam}
 use Rattle.std.proofs.lemmas.Slice.{take-put_mid_below, drop-put_mid}
 use borrow.Rule.Slice.PartMut.{put_mid, post_of, same_len_mid, mid_len}
-use Rattle.wal_gf.specs.Field.{times}
-use Rattle.wal_kernel.specs.Region.{word_at, IsScaledSum, IsSum}
-use Rattle.wal_kernel.proofs.Words.{word_at-take, word_at-drop}
-use Rattle.wal_fft.specs.Transform.{lane, scaled, WasAdded}
 
 -- ---- two lists, one after the other
 

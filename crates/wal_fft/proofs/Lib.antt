@@ -6,3 +6,4 @@ pub mod SkewLaws
 pub mod Steps
 pub mod StripLaws
 pub mod Values
+mod Common

@@ -1,7 +1,7 @@
 -- The degree of a product of polynomials.
-use Rattle.std.proofs.Common.{◌≡◌, ℕ, zero, suc, ◌+◌, ◌≤◌, List, [], ◌∷◌, length, sym, ap, ◌∙◌, arith}
+use Rattle.wal_fft.proofs.Common.{◌≡◌, ℕ, zero, suc, ◌+◌, ◌≤◌, List, [], ◌∷◌, length, sym, ap, ◌∙◌, arith, IsPolynomial, IsPolynomial-plus, IsPolynomial-times, IsPolynomial-line}
 use Rattle.wal_gf.proofs.Algebra.{Field, nothing-times, plus-times, times-nothing}
-use Rattle.wal_gf.proofs.Polynomials.{value, IsPolynomial, IsPolynomial-plus, IsPolynomial-times, IsPolynomial-line}
+use Rattle.wal_gf.proofs.Polynomials.{value}
 
 module _ {K : Type 0} (F : Field K) where
   open F use {nothing, unit, plus, times, plus_assoc, plus_comm, plus-nothing, times_assoc, times_comm}

@@ -1,14 +1,7 @@
 -- The laws of skews: they keep sums, row j is 0 at the points below 2^j and 1 at 2^j, and each row comes from the one before.
-use Rattle.std.proofs.Common.{◌≡◌, ℕ, zero, suc, ◌+◌, ◌*◌, ◌%◌, ◌^◌, ◌<◌, List, [], ◌∷◌, slice_index, Bool, cond, T, true, false, eqb, bit_xor, refl, sym, ap, ap₂, ◌∙◌, arith, lit<, mod-lt, pow_pos, pow-suc, add-zero, zero-add, zero-mul, one-mul, eqb→eq}
-use Rattle.std.specs.Int.{bit_at}
-use Rattle.std.specs.Int.Bits.{xor_assoc, xor_self, xor_zero_l, xor_zero_r}
-use Rattle.std.proofs.lemmas.Nat.{xor_lt, xor_block}
+use Rattle.wal_fft.proofs.Common.{◌≡◌, ℕ, zero, suc, ◌+◌, ◌*◌, ◌%◌, ◌^◌, ◌<◌, List, [], ◌∷◌, slice_index, Bool, cond, T, true, false, eqb, bit_xor, refl, sym, ap, ap₂, ◌∙◌, arith, lit<, mod-lt, pow_pos, pow-suc, add-zero, zero-add, zero-mul, one-mul, eqb→eq, bit_at, xor_assoc, xor_self, xor_zero_l, xor_zero_r, xor_lt, xor_block, times, xor_below, IsAdditive, xor_middle, xor_back, bit-additive, xor_below-additive, same_by_powers, all_below, all_below-at, times-xor_left, times-xor_right, times_comm, times-one, table, entry, skew}
 use Rattle.std.proofs.lemmas.Nat.Bits.{bit_at-lt}
-use Rattle.wal_gf.specs.Field.{times, xor_below}
 use Rattle.wal_gf.specs.Field as field
-use Rattle.wal_gf.proofs.Additive.{IsAdditive, xor_middle, xor_back, bit-additive, xor_below-additive, same_by_powers, all_below, all_below-at}
-use Rattle.wal_gf.proofs.Products.{times-xor_left, times-xor_right, times_comm, times-one}
-use Rattle.wal_fft.specs.Transform.{table, entry, skew}
 
 pub skew-additive : (j : ℕ) → IsAdditive (skew j)
 unfolding skew

@@ -1,11 +1,5 @@
 -- What one level of the transform does, from what the calls on the halves do.
-use Rattle.std.proofs.Common.{◌≡◌, ℕ, suc, ◌+◌, ◌-◌, ◌*◌, ◌^◌, ◌<◌, ◌≤◌, List, ◌++◌, length, slice_index, bit_xor, refl, sym, ap, ap₂, subst, ◌∙◌, arith, pow-suc, ◌⊎◌, inl, inr}
-use Rattle.std.specs.Int.Bits.{xor_assoc, xor_self, xor_zero_r}
-use Rattle.std.proofs.lemmas.Bool.{cases_lt}
-use Rattle.wal_gf.specs.Field.{times}
-use Rattle.wal_kernel.specs.Region.{word_at}
-use Rattle.wal_kernel.proofs.Words.{word_at-lt}
-use Rattle.wal_fft.specs.Transform.{skew, value, lane, scaled, AreValues, AreCoefficients, WasAdded}
+use Rattle.wal_fft.proofs.Common.{◌≡◌, ℕ, suc, ◌+◌, ◌-◌, ◌*◌, ◌^◌, ◌<◌, ◌≤◌, List, ◌++◌, length, slice_index, bit_xor, refl, sym, ap, ap₂, subst, ◌∙◌, arith, pow-suc, ◌⊎◌, inl, inr, xor_assoc, xor_self, xor_zero_r, cases_lt, times, word_at, word_at-lt, skew, value, lane, scaled, AreValues, AreCoefficients, WasAdded}
 use Rattle.wal_fft.proofs.Values.{AreWords, value-zero, at_low, at_high}
 use Rattle.wal_fft.proofs.Blocks.{double}
 use Rattle.wal_fft.proofs.Lanes.{lane-left, lane-right, lane-kept, lane-added, lane-sum}

@@ -1,14 +1,6 @@
 -- Strips that are gathered, scattered and extended.
-use Rattle.std.proofs.Common.{◌≡◌, ℕ, ◌+◌, ◌-◌, ◌*◌, ◌^◌, ◌<◌, ◌≤◌, ◌⊎◌, inl, inr, List, length, take, slice_index, sym, ap, ap₂, subst, ◌∙◌, arith, mul-le-mul_left, mul-le-mul_right}
-use Rattle.std.proofs.lemmas.Bool.{cases_lt}
-use Rattle.std.proofs.lemmas.List.{ext_get_or, get_or-take, length-take-le}
+use Rattle.wal_fft.proofs.Common.{◌≡◌, ℕ, ◌+◌, ◌-◌, ◌*◌, ◌^◌, ◌<◌, ◌≤◌, ◌⊎◌, inl, inr, List, length, take, slice_index, sym, ap, ap₂, subst, ◌∙◌, arith, mul-le-mul_left, mul-le-mul_right, cases_lt, ext_get_or, get_or-take, length-take-le, IsCodeword, IsCodeword-same, word_at, region, word_at-lt, word_at-region, value, lane, AreValues, AreCoefficients, IsGathered, IsScattered, IsExtendedStrip}
 use borrow.Rule.Slice.PartMut.{put_mid}
-use Rattle.wal_code.specs.Codeword.{IsCodeword}
-use Rattle.wal_code.proofs.Codes.{IsCodeword-same}
-use Rattle.wal_kernel.specs.Region.{word_at, region}
-use Rattle.wal_kernel.proofs.Words.{word_at-lt, word_at-region}
-use Rattle.wal_fft.specs.Transform.{value, lane, AreValues, AreCoefficients}
-use Rattle.wal_fft.specs.inside.Strip.{IsGathered, IsScattered, IsExtendedStrip}
 use Rattle.wal_fft.proofs.Degrees.{values_codeword}
 use Rattle.wal_fft.proofs.Lanes.{inside, beyond, fits, word_at-put_before, word_at-put_within, word_at-put_after, byte-put_before}
 

@@ -1,11 +1,5 @@
 -- The laws of values: they are words, they keep sums and multiples, and how those of a block come from those of its halves.
-use Rattle.std.proofs.Common.{◌≡◌, ℕ, zero, suc, ◌+◌, ◌*◌, ◌^◌, ◌<◌, bit_xor, refl, sym, ap, ap₂, ◌∙◌, arith, lit<, pow-suc}
-use Rattle.std.specs.Int.Bits.{xor_assoc, xor_self}
-use Rattle.std.proofs.lemmas.Nat.{xor_comm, xor_lt}
-use Rattle.wal_gf.specs.Field.{times}
-use Rattle.wal_gf.proofs.Additive.{xor_middle}
-use Rattle.wal_gf.proofs.Products.{times-xor_left, times-xor_right, times-lt, times-zero, one-times, times_left_comm}
-use Rattle.wal_fft.specs.Transform.{skew, value}
+use Rattle.wal_fft.proofs.Common.{◌≡◌, ℕ, zero, suc, ◌+◌, ◌*◌, ◌^◌, ◌<◌, bit_xor, refl, sym, ap, ap₂, ◌∙◌, arith, lit<, pow-suc, xor_assoc, xor_self, xor_comm, xor_lt, times, xor_middle, times-xor_left, times-xor_right, times-lt, times-zero, one-times, times_left_comm, skew, value}
 use Rattle.wal_fft.proofs.SkewLaws.{skew-lt, skew-low, skew-high}
 
 abbrev pub AreWords : (ℕ → ℕ) → Type 0

@@ -1,15 +1,7 @@
 -- Texts that are appended one after the other.
-use Rattle.std.proofs.Common.{◌≡◌, ℕ, ◌+◌, ◌-◌, ◌/◌, List, [], ◌∷◌, ◌++◌, length, take, drop, sym, subst, ap, ◌∙◌, append_assoc, arith}
-use Rattle.std.specs.Int.{w16, w32}
-use Rattle.std.specs.Prelude.{replicate}
-use Rattle.std.proofs.lemmas.List.{take_at, drop_at, append-nil, nil_from_length, length-append, length-drop, length-replicate}
-use Rattle.wal_shape.specs.declared.axis.Axis.{Axis}
+use Rattle.wal_frame.proofs.Common.{◌≡◌, ℕ, ◌+◌, ◌-◌, ◌/◌, List, [], ◌∷◌, ◌++◌, length, take, drop, sym, subst, ap, ◌∙◌, append_assoc, arith, w16, w32, replicate, take_at, drop_at, append-nil, nil_from_length, length-append, length-drop, length-replicate, Axis, IsBody, number_text, body_text, put_text, Frame, IsFrame, frame_text, envelope}
 use Rattle.wal_shape.specs.declared.opening.Opening.{Opening}
-use Rattle.wal_shape.specs.Opening.{IsBody}
-use Rattle.wal_shape.specs.Spelling.{number_text, body_text}
-use Rattle.wal_shape.proofs.BodyLaws.{put_text}
 use Rattle.wal_frame.specs.Frame as frame
-use Rattle.wal_frame.specs.Frame.{Frame, IsFrame, frame_text, envelope}
 use Rattle.wal_frame.specs.Buffer.{Buffer, appended}
 use Rattle.wal_frame.specs.Lending.{written, written_from, written_last, with_zeros}
 use Rattle.wal_frame.proofs.FrameLaws.{length-opening_frame}

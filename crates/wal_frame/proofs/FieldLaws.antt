@@ -1,27 +1,7 @@
 -- The parts of frames: what is read is spelled so, what is spelled so is read, and a fault lies among the bytes.
-use Rattle.std.proofs.Common.{◌≡◌, ℕ, zero, suc, ◌+◌, ◌<◌, ◌≤◌, false, eqb, List, [], ◌∷◌, ◌++◌, length, take, drop, Result, Ok, Err, refl, sym, ap, ◌∙◌, arith}
-use Rattle.std.specs.Prelude.{⊤}
-use Rattle.std.specs.Int.{Width, w8, w16, byte_len, from_be_bytes}
-use Rattle.std.proofs.lemmas.Bool.{ne_eqb}
-use Rattle.std.proofs.lemmas.List.{length-append, length-take}
-use Rattle.wal_shape.specs.declared.axis.Axis.{Axis}
-use Rattle.wal_shape.specs.declared.axis.Axis.TheVariants.{Primary, Secondary}
+use Rattle.wal_frame.proofs.Common.{◌≡◌, ℕ, zero, suc, ◌+◌, ◌<◌, ◌≤◌, false, eqb, List, [], ◌∷◌, ◌++◌, length, take, drop, Result, Ok, Err, refl, sym, ap, ◌∙◌, arith, ⊤, Width, w8, w16, byte_len, from_be_bytes, ne_eqb, length-append, length-take, Axis, Primary, Secondary, BodyFault, IsBody, number_text, axis_number, body_text, ◌>>=◌, number_at, run_at, body_at, axis_of, IsBytes, IsBytes-take, IsWide, wide8, wide16, byte_text, ok_is, Reading, goes, fails, Codec, IsReader, taken_of, alone, both, seen, named, named_is, IsBelow, number_is, number_read, number_again, run_reads, run_again, body_is, body_again, FrameError, Truncated, BadField, Trailing, Target, IsId, IsTarget, target_text, IsPlaceBelow, in_frame, from_place, field_at, bytes_at, axis_at, target_with, target_at, text_at, opening_at, ended}
 use Rattle.wal_shape.specs.declared.opening.Opening as single
-use Rattle.wal_shape.specs.declared.body.BodyFault.{BodyFault}
 use Rattle.wal_shape.specs.declared.body.BodyFault.TheVariants as body
-use Rattle.wal_shape.specs.Opening.{IsBody}
-use Rattle.wal_shape.specs.Spelling.{number_text, axis_number, body_text}
-use Rattle.wal_shape.specs.FieldReading.{◌>>=◌, number_at, run_at}
-use Rattle.wal_shape.specs.BodyReading.{body_at}
-use Rattle.wal_shape.specs.ProofReading.{axis_of}
-use Rattle.wal_shape.proofs.Numbers.{IsBytes, IsBytes-take, IsWide, wide8, wide16, byte_text}
-use Rattle.wal_shape.proofs.Codecs.{ok_is, Reading, goes, fails, Codec, IsReader, taken_of, alone, both, seen, named, named_is}
-use Rattle.wal_shape.proofs.BodyLaws.{IsBelow, number_is, number_read, number_again, run_reads, run_again, body_is, body_again}
-use Rattle.wal_frame.specs.declared.frame.FrameError.{FrameError}
-use Rattle.wal_frame.specs.declared.frame.FrameError.TheVariants.{Truncated, BadField, Trailing}
-use Rattle.wal_frame.specs.declared.fields.Target.{Target}
-use Rattle.wal_frame.specs.Frame.{IsId, IsTarget, target_text}
-use Rattle.wal_frame.specs.Reading.{IsPlaceBelow, in_frame, from_place, field_at, bytes_at, axis_at, target_with, target_at, text_at, opening_at, ended}
 
 -- the bytes of the number that was read are the bytes that were read
 pub number_back : (w : Width) (limit : ℕ) (wide : IsWide w limit) (bytes : List ℕ) (n : ℕ) → byte_len w ≤ length bytes → IsBytes bytes → n ≡ from_be_bytes w (take (byte_len w) bytes) → number_text w n ≡ take (byte_len w) bytes

@@ -1,24 +1,7 @@
 -- A frame that is read is spelled so, and what is spelled so is read: each frame has one spelling, and no spelling begins another.
-use Rattle.std.proofs.Common.{◌≡◌, ℕ, ◌+◌, Bool, true, false, cond, eqb, List, [], ◌∷◌, ◌++◌, length, Result, Ok, Err, refl, sym, ap, subst, ◌∙◌, arith}
-use Rattle.std.specs.Prelude.{IfOk, IfErr}
-use Rattle.std.specs.Int.{w32}
-use Rattle.std.proofs.lemmas.Bool.{eqb-true}
-use Rattle.std.proofs.lemmas.List.{append-nil, length-append}
-use Rattle.wal_shape.specs.declared.axis.Axis.{Axis}
+use Rattle.wal_frame.proofs.Common.{◌≡◌, ℕ, ◌+◌, Bool, true, false, cond, eqb, List, [], ◌∷◌, ◌++◌, length, Result, Ok, Err, refl, sym, ap, subst, ◌∙◌, arith, IfOk, IfErr, w32, eqb-true, append-nil, length-append, Axis, Format, One, Two, BlobMetadata, IsMetadata, number_text, metadata_text, body_text, IsBytes, IsBytes-drop, length-body_text, FrameError, BadKind, Frame, Metadata, Sliver, Opening, Proof, Read, Symbol, Ack, Attest, Forget, Answer, Clash, RegisterEntry, AckEntry, AttestEntry, IsFrame, metadata_kind, target_text, sliver_frame, frame_text, frame_shown, Gives, IsPlaceBelow, metadata_at, metadata2_at, sliver_at, opened_at, proof_at, name_at, symbol_at, answer_at, clash_at, register_at, entry_at, made, target_with, request_at, fields_at, ended, read_of}
 use Rattle.wal_shape.specs.declared.opening.Opening as single
-use Rattle.wal_shape.specs.declared.shape.Format.{Format}
-use Rattle.wal_shape.specs.declared.shape.Format.TheVariants.{One, Two}
-use Rattle.wal_shape.specs.Metadata.{BlobMetadata, IsMetadata}
-use Rattle.wal_shape.specs.Spelling.{number_text, metadata_text, body_text}
-use Rattle.wal_shape.proofs.Numbers.{IsBytes, IsBytes-drop}
-use Rattle.wal_shape.proofs.BodyLaws.{length-body_text}
 use Rattle.wal_frame.specs.declared.frame.FrameRef.{FrameRef}
-use Rattle.wal_frame.specs.declared.frame.FrameError.{FrameError}
-use Rattle.wal_frame.specs.declared.frame.FrameError.TheVariants.{BadKind}
-use Rattle.wal_frame.specs.Frame.{Frame, Metadata, Sliver, Opening, Proof, Read, Symbol, Ack, Attest, Forget, Answer, Clash, RegisterEntry, AckEntry, AttestEntry, IsFrame, metadata_kind, target_text, sliver_frame, frame_text}
-use Rattle.wal_frame.specs.Shown.{frame_shown}
-use Rattle.wal_shape.specs.FieldReading.{Gives}
-use Rattle.wal_frame.specs.Reading.{IsPlaceBelow, metadata_at, metadata2_at, sliver_at, opened_at, proof_at, name_at, symbol_at, answer_at, clash_at, register_at, entry_at, made, target_with, request_at, fields_at, ended, read_of}
 use Rattle.wal_frame.proofs.FieldLaws.{ended_ok, target, length-target}
 use Rattle.wal_frame.proofs.KindLaws.{Outcome, IsRead, ending, made_again, sliver, sliver_of, sliver_is, opened, opened_of, opened_is, proof_is, proof_behind, name, name_is, symbol_of, symbol_is, answer, answer_of, answer_is, clash, clash_of, clash_is, register, register_of, register_is, entry, entry_is, metadata_is, metadata2_is, metadata_behind, metadata2_behind}
 

@@ -1,36 +1,10 @@
 -- Each kind of frame that is read is spelled so, and a fault lies among the bytes.
-use Rattle.std.proofs.Common.{◌≡◌, ℕ, zero, suc, ◌+◌, ◌-◌, ◌*◌, ◌<◌, ◌≤◌, Bool, true, false, cond, eqb, List, [], ◌∷◌, ◌++◌, length, get_or, take, drop, Some, Result, Ok, Err, refl, sym, ap, subst, ◌∙◌, append_assoc, arith}
-use Rattle.std.specs.Int.{w8, w16, w32, w64, from_be_bytes}
-use Rattle.std.specs.List.{AllByRecursion, flat_map}
-use Rattle.std.proofs.lemmas.Bool.{eqb-true, eqb-false, ne_eqb}
-use Rattle.std.proofs.lemmas.List.{append-nil, length-append, length-drop, drop_at}
-use Rattle.wal_shape.specs.declared.axis.Axis.{Axis}
-use Rattle.wal_shape.specs.declared.axis.Axis.TheVariants.{Primary, Secondary}
+use Rattle.wal_frame.proofs.Common.{◌≡◌, ℕ, zero, suc, ◌+◌, ◌-◌, ◌*◌, ◌<◌, ◌≤◌, Bool, true, false, cond, eqb, List, [], ◌∷◌, ◌++◌, length, get_or, take, drop, Some, Result, Ok, Err, refl, sym, ap, subst, ◌∙◌, append_assoc, arith, w8, w16, w32, w64, from_be_bytes, AllByRecursion, flat_map, eqb-true, eqb-false, ne_eqb, append-nil, length-append, length-drop, drop_at, Axis, Primary, Secondary, BodyFault, Format, One, Two, BlobMetadata, IsMetadata, held_order, IsBody, EncodingProof, IsProof, ◌>>=◌, number_text, axis_number, pairs_text, format_text, metadata_text, body_text, proof_text, text_size, spelled_f, spelled_length, spelled_metadata, spelled_format, behind_format, body_at, openings_in, IsBytes, wide8, wide16, wide32, wide64, ok_is, taken_of, Reading, goes, fails, Codec, checked, both, seen, named, named_is, bind_ok, guard_ok, text_behind, metadata_text-format, length-behind, format_again, behind_again, size_by, spelled_metadata-format, spelled_metadata-f, spelled_metadata-text, IsMetadata-spelled, metadata_text-spelled, length-metadata_text, Target, FrameError, BadField, Frame, Metadata, Sliver, Opening, Proof, Symbol, Answer, Clash, RegisterEntry, IsId, IsTarget, IsFrame, metadata_kind, target_text, frame_text, IsPlaceBelow, field_at, bytes_at, from_place, target_at, opening_at, faults_at, roots_at, metadata_at, version_at, metadata2_at, sliver_at, opened_at, bodies_at, proof_with, proof_at, name_at, symbol_at, answer_at, clash_at, register_at, entry_at, made, ended}
 use Rattle.wal_shape.specs.declared.opening.Opening as single
-use Rattle.wal_shape.specs.declared.body.BodyFault.{BodyFault}
-use Rattle.wal_shape.specs.declared.shape.Format.{Format}
-use Rattle.wal_shape.specs.declared.shape.Format.TheVariants.{One, Two}
 use Rattle.wal_shape.specs.Shape.{most_bytes, shard_count}
-use Rattle.wal_shape.specs.Metadata.{BlobMetadata, IsMetadata, held_order}
-use Rattle.wal_shape.specs.Opening.{IsBody}
-use Rattle.wal_shape.specs.EncodingProof.{EncodingProof, IsProof}
-use Rattle.wal_shape.specs.FieldReading.{◌>>=◌}
-use Rattle.wal_shape.specs.Spelling.{number_text, axis_number, pairs_text, format_text, metadata_text, body_text, proof_text, text_size}
-use Rattle.wal_shape.specs.MetadataReading.{spelled_f, spelled_length, spelled_metadata, spelled_format, behind_format}
 use Rattle.wal_shape.specs.inside.MetadataReading.{SpellMetadata, AreNumbersAndRoots}
-use Rattle.wal_shape.specs.BodyReading.{body_at}
-use Rattle.wal_shape.specs.ProofReading.{openings_in}
 use Rattle.wal_shape.specs.inside.ProofReading.{bodies_end, behind}
-use Rattle.wal_shape.proofs.Numbers.{IsBytes, wide8, wide16, wide32, wide64}
-use Rattle.wal_shape.proofs.Codecs.{ok_is, taken_of, Reading, goes, fails, Codec, checked, both, seen, named, named_is}
-use Rattle.wal_shape.proofs.BodyLaws.{bind_ok, guard_ok}
 use Rattle.wal_shape.proofs.ProofLaws.{length-openings_in, openings_in-fit, openings_in-take, openings_in-again, regroup_bodies}
-use Rattle.wal_shape.proofs.MetadataLaws.{text_behind, metadata_text-format, length-behind, format_again, behind_again, size_by, spelled_metadata-format, spelled_metadata-f, spelled_metadata-text, IsMetadata-spelled, metadata_text-spelled, length-metadata_text}
-use Rattle.wal_frame.specs.declared.fields.Target.{Target}
-use Rattle.wal_frame.specs.declared.frame.FrameError.{FrameError}
-use Rattle.wal_frame.specs.declared.frame.FrameError.TheVariants.{BadField}
-use Rattle.wal_frame.specs.Frame.{Frame, Metadata, Sliver, Opening, Proof, Symbol, Answer, Clash, RegisterEntry, IsId, IsTarget, IsFrame, metadata_kind, target_text, frame_text}
-use Rattle.wal_frame.specs.Reading.{IsPlaceBelow, field_at, bytes_at, from_place, target_at, opening_at, faults_at, roots_at, metadata_at, version_at, metadata2_at, sliver_at, opened_at, bodies_at, proof_with, proof_at, name_at, symbol_at, answer_at, clash_at, register_at, entry_at, made, ended}
 use Rattle.wal_frame.proofs.FieldLaws.{ended_not, field_read, bytes_are, number, byte, byte_of, run, target, text, opening, opening_is, text_of_target, behind_target}
 
 -- ---- frames

@@ -3,3 +3,4 @@ pub mod KindLaws
 pub mod FrameLaws
 pub mod StreamLaws
 pub mod BufferLaws
+mod Common

@@ -1,20 +1,11 @@
 -- A stream that is split is the envelopes of its payloads, and what is written as envelopes is split again, whatever follows.
-use Rattle.std.proofs.Common.{◌≡◌, ℕ, zero, suc, ◌+◌, ◌-◌, ◌^◌, ◌<◌, ◌≤◌, ◌⊎◌, inl, inr, Bool, true, false, cond, ltb, eqb, List, [], ◌∷◌, ◌++◌, length, take, drop, Option, Some, None, Result, Ok, Err, refl, sym, ap, subst, ◌∙◌, append_assoc, arith}
-use Rattle.std.specs.Prelude.{slice_index, replicate, IfOk, IfErr}
-use Rattle.std.specs.Int.{w16, w32, from_be_bytes}
-use Rattle.std.specs.List.{AllByRecursion, flat_map}
-use Rattle.std.proofs.lemmas.Bool.{cases_lt, ltb-false, le-ltb, eqb-true, eqb-false}
+use Rattle.wal_frame.proofs.Common.{◌≡◌, ℕ, zero, suc, ◌+◌, ◌-◌, ◌^◌, ◌<◌, ◌≤◌, ◌⊎◌, inl, inr, Bool, true, false, cond, ltb, eqb, List, [], ◌∷◌, ◌++◌, length, take, drop, Option, Some, None, Result, Ok, Err, refl, sym, ap, subst, ◌∙◌, append_assoc, arith, slice_index, replicate, IfOk, IfErr, w16, w32, from_be_bytes, AllByRecursion, flat_map, cases_lt, ltb-false, le-ltb, eqb-true, eqb-false, take_at, drop_at, take-append-drop, length-append, length-take, length-drop, length-replicate, drop-drop, append-nil, nil_from_length, number_text, IsBytes, IsBytes-drop, IsBytes-take, wide16, wide32, envelope, IsPayload, size_in, payload_at, envelope_at, behind, front_of, payloads_in, stream_of, IsStream, IsMalformed, IfMalformed, Splits}
 use Rattle.std.proofs.lemmas.Nat.{from_be_bytes-to_be_bytes_4}
-use Rattle.std.proofs.lemmas.List.{take_at, drop_at, take-append-drop, length-append, length-take, length-drop, length-replicate, drop-drop, append-nil, nil_from_length}
 use Rattle.std.proofs.lemmas.List.Concat.{flat_map-cons}
-use Rattle.wal_shape.specs.Spelling.{number_text}
-use Rattle.wal_shape.proofs.Numbers.{IsBytes, IsBytes-drop, IsBytes-take, wide16, wide32}
 use Rattle.wal_frame.specs.declared.stream.SplitError.{SplitError}
 use Rattle.wal_frame.specs.declared.stream.SplitError.TheVariants.{Malformed, Memory}
-use Rattle.wal_frame.specs.Frame.{envelope}
 use Rattle.wal_frame.specs.Front.{BeginsNone, IsPart, IsWrong}
 use Rattle.wal_frame.specs.inside.Front.{sender_in}
-use Rattle.wal_frame.specs.Stream.{IsPayload, size_in, payload_at, envelope_at, behind, front_of, payloads_in, stream_of, IsStream, IsMalformed, IfMalformed, Splits}
 
 -- ---- envelopes
 

@@ -1,11 +1,5 @@
 -- Lists of pairs in which no identifier is twice, and how long they are.
-use Rattle.std.proofs.Common.{◌≡◌, ℕ, zero, suc, ◌+◌, ◌≤◌, Bool, true, false, cond, List, [], ◌∷◌, length, take, Some, None, refl, sym, subst, arith}
-use Rattle.std.specs.List.{AllByRecursion, IsDistinct}
-use Rattle.std.specs.Map.{keys_of, lookup, remove_entry}
-use Rattle.std.proofs.lemmas.List.{length-take}
-use Rattle.wal_shape.specs.declared.metadata.BlobId.{BlobId}
-use Rattle.wal_shape.specs.Identifiers.{id_eq}
-use Rattle.wal_gateway.specs.declared.checked.CheckedBlob.{CheckedBlob}
+use Rattle.wal_gateway.proofs.Common.{◌≡◌, ℕ, zero, suc, ◌+◌, ◌≤◌, Bool, true, false, cond, List, [], ◌∷◌, length, take, Some, None, refl, sym, subst, arith, AllByRecursion, IsDistinct, keys_of, lookup, remove_entry, length-take, BlobId, id_eq, CheckedBlob}
 use Rattle.wal_gateway.proofs.PairLaws.{id_same}
 
 -- what holds of each identifier holds without a pair, and of the first pairs

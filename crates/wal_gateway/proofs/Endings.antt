@@ -1,19 +1,8 @@
 -- How a get ends, and what follows.
-use Rattle.std.proofs.Common.{◌≡◌, ℕ, true, false, List, [], ◌∷◌, ◌++◌, Option, Some, None, Result, Ok, Err, MatchOption, IfOk, refl, sym, ap, subst, ◌∙◌}
-use Rattle.std.specs.Option.{is_some, option_map}
+use Rattle.wal_gateway.proofs.Common.{◌≡◌, ℕ, true, false, List, [], ◌∷◌, ◌++◌, Option, Some, None, Result, Ok, Err, MatchOption, IfOk, refl, sym, ap, subst, ◌∙◌, is_some, option_map, BlobShape, Evidence, Outcome, HasEvidence, IsEvidenceFor, IsOnlyOutcome, IsOutcome, Found, GetAnswer, CheckedBlob, AnswersAll, Cache, Get, Hits, Leaves, Misses, entered, found_of, kept_blob, range_of, used, AreOnlyAnswers, IsFreshOrContrary}
 use Rattle.std.specs.declared.alloc.AllocError.{AllocError}
-use Rattle.wal_shape.specs.Shape.{BlobShape}
-use Rattle.wal_evidence.specs.declared.evidence.Evidence.{Evidence}
 use Rattle.wal_evidence.specs.declared.evidence.Verdict.TheVariants as told
-use Rattle.wal_reader.specs.declared.outcome.Outcome.{Outcome}
 use Rattle.wal_reader.specs.declared.outcome.Outcome.TheVariants as read
-use Rattle.wal_reader.specs.Outcome.{HasEvidence, IsEvidenceFor, IsOnlyOutcome, IsOutcome}
-use Rattle.wal_gateway.specs.declared.answer.Found.{Found}
-use Rattle.wal_gateway.specs.declared.answer.GetAnswer.{GetAnswer}
-use Rattle.wal_gateway.specs.declared.checked.CheckedBlob.{CheckedBlob}
-use Rattle.wal_gateway.specs.Getting.{AnswersAll, Cache, Get, Hits, Leaves, Misses, entered, found_of, kept_blob, range_of, used}
-use Rattle.wal_gateway.specs.Gotten.{AreOnlyAnswers}
-use Rattle.wal_gateway.specs.Kept.{IsFreshOrContrary}
 use Rattle.wal_gateway.specs.Ends.{EndsGet}
 use Rattle.wal_gateway.proofs.Fresh.{hit_fresh}
 use Rattle.wal_gateway.proofs.OneAnswer.{hit_answers, hit_only, miss_answers, miss_only}

@@ -1,26 +1,11 @@
 -- A hit answers as a read of the payloads does, or the read's evidence contradicts the blob in the list.
-use Rattle.std.proofs.Common.{◌≡◌, ℕ, Bool, true, false, List, Option, Some, None, MatchOption, ◌⊎◌, inl, inr, refl, sym, ap, subst, ◌∙◌, cond}
+use Rattle.wal_gateway.proofs.Common.{◌≡◌, ℕ, Bool, true, false, List, Option, Some, None, MatchOption, ◌⊎◌, inl, inr, refl, sym, ap, subst, ◌∙◌, cond, lookup, remove_entry, BlobId, id_eq, BlobMetadata, Basis, Slivers, Proof, Evidence, IsEvidence, IsHeldBy, IsJudgedBy, Outcome, HasEvidence, IsDrawnFrom, IsEvidenceFor, IsMetadataIn, IsOnlyOutcome, IsOutcome, IsVerdict, Found, GetAnswer, CheckedBlob, AnswersGet, Cache, Get, Hits, Misses, found_of, kept_blob, range_of, used, ContradictsKept, IsFreshOrContrary}
 use Rattle.std.proofs.lemmas.Bool.{false≢true}
 use Rattle.std.specs.Str.{bytes_eq}
 use Rattle.std.proofs.lemmas.Slice.Eq.{bytes_eq-Decides}
-use Rattle.std.specs.Map.{lookup, remove_entry}
-use Rattle.wal_shape.specs.declared.metadata.BlobId.{BlobId}
-use Rattle.wal_shape.specs.Identifiers.{id_eq}
-use Rattle.wal_shape.specs.Metadata.{BlobMetadata}
-use Rattle.wal_evidence.specs.declared.evidence.Basis.{Basis}
-use Rattle.wal_evidence.specs.declared.evidence.Basis.TheVariants.{Slivers, Proof}
-use Rattle.wal_evidence.specs.declared.evidence.Evidence.{Evidence}
 use Rattle.wal_evidence.specs.declared.evidence.Verdict.{Verdict}
 use Rattle.wal_evidence.specs.declared.evidence.Verdict.TheVariants as told
-use Rattle.wal_evidence.specs.Evidence.{IsEvidence, IsHeldBy, IsJudgedBy}
-use Rattle.wal_reader.specs.declared.outcome.Outcome.{Outcome}
 use Rattle.wal_reader.specs.declared.outcome.Outcome.TheVariants as read
-use Rattle.wal_reader.specs.Outcome.{HasEvidence, IsDrawnFrom, IsEvidenceFor, IsMetadataIn, IsOnlyOutcome, IsOutcome, IsVerdict}
-use Rattle.wal_gateway.specs.declared.answer.Found.{Found}
-use Rattle.wal_gateway.specs.declared.answer.GetAnswer.{GetAnswer}
-use Rattle.wal_gateway.specs.declared.checked.CheckedBlob.{CheckedBlob}
-use Rattle.wal_gateway.specs.Getting.{AnswersGet, Cache, Get, Hits, Misses, found_of, kept_blob, range_of, used}
-use Rattle.wal_gateway.specs.Kept.{ContradictsKept, IsFreshOrContrary}
 use Rattle.wal_gateway.proofs.PairLaws.{id_itself}
 
 -- the blob that was used is in the list

@@ -1,28 +1,9 @@
 -- Each blob in the list has its identifier.
-use Rattle.std.proofs.Common.{◌≡◌, ℕ, ◌≤◌, List, ◌∷◌, length, take, Option, Some, None, refl, sym, ap, subst, ⊎_elim}
-use Rattle.std.specs.List.{IsDistinct}
-use Rattle.std.specs.Map.{keys_of, lookup}
-use Rattle.lru.specs.LruCache.{LruCache, lru_cache, promoted, put_entries}
-use Rattle.lru.proofs.CallerLemmas.{Contains-lookup, Contains-promoted, Contains-take}
-use Rattle.lru.proofs.Splits.{Contains-cons}
-use Rattle.wal_shape.specs.declared.metadata.BlobId.{BlobId}
-use Rattle.wal_shape.specs.Identifiers.{id_eq}
-use Rattle.wal_shape.specs.Shape.{BlobShape}
-use Rattle.wal_shape.specs.Metadata.{BlobMetadata}
+use Rattle.wal_gateway.proofs.Common.{◌≡◌, ℕ, ◌≤◌, List, ◌∷◌, length, take, Option, Some, None, refl, sym, ap, subst, ⊎_elim, IsDistinct, keys_of, lookup, LruCache, lru_cache, promoted, put_entries, Contains-lookup, Contains-promoted, Contains-take, Contains-cons, BlobId, id_eq, BlobShape, BlobMetadata, Basis, Slivers, Proof, Evidence, IsJudgedBy, Outcome, HasEvidence, IsEvidenceFor, AreDigestedForEvidence, ContradictsBlob, CheckedBlob, Cache, blob_with, entered, kept_blob, used, AreChecked, AreDigestedForKept, ContradictsKept, IsChecked, IsSoundCache}
 use Rattle.wal_commit.specs.Identifier.{Commits, IsIdentifierOf, identifier_of}
-use Rattle.wal_evidence.specs.declared.evidence.Basis.{Basis}
-use Rattle.wal_evidence.specs.declared.evidence.Basis.TheVariants.{Slivers, Proof}
-use Rattle.wal_evidence.specs.declared.evidence.Evidence.{Evidence}
 use Rattle.wal_evidence.specs.declared.evidence.Verdict.TheVariants as told
-use Rattle.wal_evidence.specs.Evidence.{IsJudgedBy}
-use Rattle.wal_reader.specs.declared.outcome.Outcome.{Outcome}
 use Rattle.wal_reader.specs.declared.outcome.Outcome.TheVariants as read
-use Rattle.wal_reader.specs.Outcome.{HasEvidence, IsEvidenceFor}
-use Rattle.wal_extract.specs.Contrary.{AreDigestedForEvidence, ContradictsBlob}
 use Rattle.wal_extract.proofs.Contradictions.{fits}
-use Rattle.wal_gateway.specs.declared.checked.CheckedBlob.{CheckedBlob}
-use Rattle.wal_gateway.specs.Getting.{Cache, blob_with, entered, kept_blob, used}
-use Rattle.wal_gateway.specs.Kept.{AreChecked, AreDigestedForKept, ContradictsKept, IsChecked, IsSoundCache}
 use Rattle.wal_gateway.proofs.PairLaws.{id_same, promoted_used, put_entered}
 
 module _ (digest : List ℕ → List ℕ) where

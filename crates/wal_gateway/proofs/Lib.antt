@@ -8,3 +8,4 @@ pub mod Fresh
 pub mod Endings
 pub mod RequestLaws
 pub mod OneRun
+mod Common

@@ -1,14 +1,7 @@
 -- A get has one answer, but for the two texts of a collision.
-use Rattle.std.proofs.Common.{◌≡◌, ℕ, List, Option, Some, None, MatchOption, false, refl, sym, subst, ◌∙◌}
-use Rattle.wal_reader.specs.Outcome.{IsOnlyOutcome, IsOutcome, SameOutcome}
-use Rattle.wal_reader.specs.declared.outcome.Outcome.{Outcome}
+use Rattle.wal_gateway.proofs.Common.{◌≡◌, ℕ, List, Option, Some, None, MatchOption, false, refl, sym, subst, ◌∙◌, IsOnlyOutcome, IsOutcome, SameOutcome, Outcome, Found, GetAnswer, CheckedBlob, AnswersGet, Cache, Get, Hits, Leaves, Misses, found_of, kept_blob, IsOnlyAnswer, SameGetAnswer, SameFound}
 use Rattle.wal_reader.specs.declared.outcome.Outcome.TheVariants as read
-use Rattle.wal_gateway.specs.declared.answer.Found.{Found}
 use Rattle.wal_gateway.specs.declared.answer.Found.TheVariants.{Collision}
-use Rattle.wal_gateway.specs.declared.answer.GetAnswer.{GetAnswer}
-use Rattle.wal_gateway.specs.declared.checked.CheckedBlob.{CheckedBlob}
-use Rattle.wal_gateway.specs.Getting.{AnswersGet, Cache, Get, Hits, Leaves, Misses, found_of, kept_blob}
-use Rattle.wal_gateway.specs.Gotten.{IsOnlyAnswer, SameGetAnswer, SameFound}
 
 pub same_itself : (f : Found) → SameFound f f
 same_itself (Collision clash) = tt

@@ -1,10 +1,6 @@
 -- Gets one after the other have one answer each, and leave one list.
-use Rattle.std.proofs.Common.{◌≡◌, ℕ, List, [], ◌∷◌, Option, Some, None, MatchOption, refl, sym, subst, ◌∙◌, arith}
+use Rattle.wal_gateway.proofs.Common.{◌≡◌, ℕ, List, [], ◌∷◌, Option, Some, None, MatchOption, refl, sym, subst, ◌∙◌, arith, GetAnswer, CheckedBlob, AnswersGet, AnswersAll, Cache, Get, Hits, Misses, kept_blob, AreOnlyAnswers, IsOnlyAnswer}
 use Rattle.wal_theorem.proofs.OneReading.{only_outcome}
-use Rattle.wal_gateway.specs.declared.answer.GetAnswer.{GetAnswer}
-use Rattle.wal_gateway.specs.declared.checked.CheckedBlob.{CheckedBlob}
-use Rattle.wal_gateway.specs.Getting.{AnswersGet, AnswersAll, Cache, Get, Hits, Misses, kept_blob}
-use Rattle.wal_gateway.specs.Gotten.{AreOnlyAnswers, IsOnlyAnswer}
 use Rattle.wal_gateway.proofs.OneAnswer.{hit_only, miss_only}
 
 module _ (digest : List ℕ → List ℕ) where

@@ -1,15 +1,8 @@
 -- The list after a blob in it was used, and after one entered it.
-use Rattle.std.proofs.Common.{◌≡◌, ℕ, zero, suc, ◌-◌, ◌≤◌, true, List, ◌∷◌, take, Option, Some, None, refl, sym, ap, ◌∙◌, arith}
-use Rattle.std.specs.Option.{option_map, option_map_or}
-use Rattle.std.specs.Map.{lookup, lookup_entry, remove_entry}
+use Rattle.wal_gateway.proofs.Common.{◌≡◌, ℕ, zero, suc, ◌-◌, ◌≤◌, true, List, ◌∷◌, take, Option, Some, None, refl, sym, ap, ◌∙◌, arith, option_map, option_map_or, lookup, lookup_entry, remove_entry, LruCache, promoted, put_entries, Contains-lookup_entry, BlobId, id_eq, CheckedBlob}
 use Rattle.std.specs.Cmp.Lexicographic.{same_text}
 use Rattle.std.proofs.lemmas.Cmp.{nat_list_eq_equiv}
-use Rattle.lru.specs.LruCache.{LruCache, promoted, put_entries}
-use Rattle.lru.proofs.CallerLemmas.{Contains-lookup_entry}
 use Rattle.lru.proofs.Pairs.{lookup-lookup_entry}
-use Rattle.wal_shape.specs.declared.metadata.BlobId.{BlobId}
-use Rattle.wal_shape.specs.Identifiers.{id_eq}
-use Rattle.wal_gateway.specs.declared.checked.CheckedBlob.{CheckedBlob}
 
 -- identifiers with the same bytes are one
 pub id_same : (a b : BlobId) → id_eq a b ≡ true → a ≡ b

@@ -1,13 +1,8 @@
 -- Requests among the envelopes of a stream, and reading from a stream.
-use Rattle.std.proofs.Common.{◌≡◌, ℕ, ◌+◌, ◌-◌, ◌<◌, List, [], ◌∷◌, ◌++◌, length, take, Option, Some, None, Ok, refl, sym, ap, subst, ◌∙◌, append-nil, append_assoc, arith, length-append}
-use Rattle.std.proofs.lemmas.List.{take_at}
-use Rattle.std.specs.Option.{option_map_or}
-use Rattle.wal_frame.specs.Frame.{envelope}
-use Rattle.wal_frame.specs.Front.{IsWrong}
+use Rattle.wal_gateway.proofs.Common.{◌≡◌, ℕ, ◌+◌, ◌-◌, ◌<◌, List, [], ◌∷◌, ◌++◌, length, take, Option, Some, None, Ok, refl, sym, ap, subst, ◌∙◌, append-nil, append_assoc, arith, length-append, take_at, option_map_or, envelope, IsWrong, IsAnswer}
 use Rattle.wal_frame.specs.Stream.{IsMalformed, IsPayload, IsStream, envelope_at}
 use Rattle.wal_frame.proofs.StreamLaws.{envelope_read, stream_grows}
 use Rattle.wal_reader.specs.Intake.{IsWrongAt}
-use Rattle.wal_reader.specs.Outcome.{IsAnswer}
 use Rattle.wal_reader.specs.Standing.{FinishesStream}
 use Rattle.wal_reader.specs.declared.outcome.ReadAnswer.{ReadAnswer}
 use Rattle.wal_reader.proofs.IntakeLaws.{one_cut, part_none, wrong_none}

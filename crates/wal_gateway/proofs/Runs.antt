@@ -1,8 +1,5 @@
 -- Lists of gets.
-use Rattle.std.proofs.Common.{◌≡◌, ℕ, List, [], ◌∷◌, ◌++◌, refl, sym, ap, subst}
-use Rattle.wal_gateway.specs.declared.answer.GetAnswer.{GetAnswer}
-use Rattle.wal_gateway.specs.Getting.{AnswersGet, AnswersAll, Cache, Get}
-use Rattle.wal_gateway.specs.Gotten.{AreOnlyAnswers, IsOnlyAnswer, SameGetAnswer, SameAnswers}
+use Rattle.wal_gateway.proofs.Common.{◌≡◌, ℕ, List, [], ◌∷◌, ◌++◌, refl, sym, ap, subst, GetAnswer, AnswersGet, AnswersAll, Cache, Get, AreOnlyAnswers, IsOnlyAnswer, SameGetAnswer, SameAnswers}
 
 module _ (digest : List ℕ → List ℕ) where
   -- one get more

@@ -1,19 +1,7 @@
 -- Gets keep a list sound.
-use Rattle.std.proofs.Common.{◌≡◌, ℕ, ◌≤◌, List, [], ◌∷◌, Option, Some, None, MatchOption, refl, sym, subst, arith}
-use Rattle.std.specs.Map.{remove_entry}
-use Rattle.lru.proofs.Splits.{Contains-nil}
-use Rattle.wal_shape.specs.declared.metadata.BlobId.{BlobId}
-use Rattle.wal_shape.specs.Identifiers.{id_eq}
-use Rattle.wal_shape.specs.Metadata.{BlobMetadata}
-use Rattle.wal_evidence.specs.declared.evidence.Basis.TheVariants.{Slivers}
-use Rattle.wal_reader.specs.declared.outcome.Outcome.{Outcome}
+use Rattle.wal_gateway.proofs.Common.{◌≡◌, ℕ, ◌≤◌, List, [], ◌∷◌, Option, Some, None, MatchOption, refl, sym, subst, arith, remove_entry, Contains-nil, BlobId, id_eq, BlobMetadata, Slivers, Outcome, Decides, IsMetadataIn, IsOutcome, GetAnswer, CheckedBlob, AnswersGet, AnswersAll, Cache, Get, Hits, Leaves, Misses, blob_with, entered, kept_blob, used, AreChecked, IsChecked, IsSoundCache}
 use Rattle.wal_reader.specs.declared.outcome.Outcome.TheVariants as read
-use Rattle.wal_reader.specs.Outcome.{Decides, IsMetadataIn, IsOutcome}
 use Rattle.wal_evidence.specs.declared.evidence.Verdict.TheVariants as told
-use Rattle.wal_gateway.specs.declared.answer.GetAnswer.{GetAnswer}
-use Rattle.wal_gateway.specs.declared.checked.CheckedBlob.{CheckedBlob}
-use Rattle.wal_gateway.specs.Getting.{AnswersGet, AnswersAll, Cache, Get, Hits, Leaves, Misses, blob_with, entered, kept_blob, used}
-use Rattle.wal_gateway.specs.Kept.{AreChecked, IsChecked, IsSoundCache}
 use Rattle.wal_gateway.proofs.PairLaws.{promoted_used}
 use Rattle.wal_gateway.proofs.Distinct.{distinct_before, distinct_none, none_other, removed_distinct, removed_length, removed_other, taken_distinct, taken_length}
 use Rattle.wal_gateway.proofs.Kept.{checked_entered, checked_promoted, judged_checked}

@@ -1,10 +1,5 @@
 -- Functions that keep sums of polynomials over GF(2). On polynomials of degree below n such a function is known by its values at the powers of x below the n-th.
-use Rattle.std.proofs.Common.{◌≡◌, ℕ, zero, suc, ◌+◌, ◌*◌, ◌/◌, ◌%◌, ◌^◌, ◌<◌, Bool, cond, T, bit_xor, sym, ap, ap₂, ◌⊎◌, ◌∙◌, arith, zero-mul, one-mul, add-zero, zero-add, mul_comm, mod-lt, div-lt_iff_lt-mul, div-add-mod', pow_pos, pow-suc, eq-or-lt_of_le, ⊎_elim, true, false, eqb, eqb→eq}
-use Rattle.std.specs.Int.{bit_at}
-use Rattle.std.specs.Int.Bits.{xor_assoc, xor_self, xor_zero_l, xor_zero_r}
-use Rattle.std.proofs.lemmas.Nat.{xor_comm, xor_block}
-use Rattle.std.proofs.lemmas.Nat.Bits.{bit_at_xor, bit_at-lt}
-use Rattle.wal_gf.specs.Field.{xor_below}
+use Rattle.wal_gf.proofs.Common.{◌≡◌, ℕ, zero, suc, ◌+◌, ◌*◌, ◌/◌, ◌%◌, ◌^◌, ◌<◌, Bool, cond, T, bit_xor, sym, ap, ap₂, ◌⊎◌, ◌∙◌, arith, zero-mul, one-mul, add-zero, zero-add, mul_comm, mod-lt, div-lt_iff_lt-mul, div-add-mod', pow_pos, pow-suc, eq-or-lt_of_le, ⊎_elim, true, false, eqb, eqb→eq, bit_at, xor_assoc, xor_self, xor_zero_l, xor_zero_r, xor_comm, xor_block, bit_at_xor, bit_at-lt, xor_below}
 
 abbrev pub IsAdditive : (ℕ → ℕ) → Type 0
 IsAdditive f = (a b : ℕ) → f (bit_xor a b) ≡ bit_xor (f a) (f b)

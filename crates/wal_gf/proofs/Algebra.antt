@@ -1,5 +1,5 @@
 -- A field of characteristic 2: each element is its own negative, so there is no subtraction.
-use Rattle.std.proofs.Common.{◌≡◌, ◌≢◌, ◌∙◌, sym, Bool, true, false, refl, ◌⊎◌, inl, inr}
+use Rattle.wal_gf.proofs.Common.{◌≡◌, ◌≢◌, ◌∙◌, sym, Bool, true, false, refl, ◌⊎◌, inl, inr}
 
 pub record Field (K : Type 0) : Type 0 where
   pub nothing : K

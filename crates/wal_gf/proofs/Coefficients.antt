@@ -1,13 +1,5 @@
 -- What the value of a polynomial is after its list of coefficients grew, or after one of them changed.
-use Rattle.std.proofs.Common.{◌≡◌, ℕ, zero, suc, ◌-◌, ◌<◌, ◌≤◌, List, [], ◌∷◌, ◌++◌, length, get_or, set, take, replicate, All, refl, sym, ap, ◌∙◌, arith, bit_xor, take-suc, length-take-le, length-append}
-use Rattle.std.specs.List.{AllByRecursion}
-use Rattle.std.specs.Int.Bits.{xor_assoc, xor_zero_l, xor_zero_r}
-use Rattle.std.proofs.lemmas.Nat.{xor_lt, xor_comm}
-use Rattle.std.proofs.lemmas.List.{length-replicate}
-use Rattle.std.proofs.lemmas.List.Elements.{All-append, All-replicate}
-use Rattle.wal_gf.specs.Field.{IsWord, times, power}
-use Rattle.wal_gf.specs.Polynomial.{evaluate}
-use Rattle.wal_gf.specs.Interpolation.{with_zeros}
+use Rattle.wal_gf.proofs.Common.{◌≡◌, ℕ, zero, suc, ◌-◌, ◌<◌, ◌≤◌, List, [], ◌∷◌, ◌++◌, length, get_or, set, take, replicate, All, refl, sym, ap, ◌∙◌, arith, bit_xor, take-suc, length-take-le, length-append, AllByRecursion, xor_assoc, xor_zero_l, xor_zero_r, xor_lt, xor_comm, length-replicate, All-append, All-replicate, IsWord, times, power, evaluate, with_zeros}
 use Rattle.wal_gf.proofs.Products.{times-xor_right, times-lt, times-zero, one-times, times_assoc}
 use Rattle.wal_gf.proofs.Powers.{power-zero, power-suc, power-lt}
 

@@ -1,11 +1,7 @@
 -- Lists of field elements, and the lists of their numbers.
-use Rattle.std.proofs.Common.{◌≡◌, ℕ, ◌<◌, List, ◌++◌, length, take, get_or, All, ap, ◌∙◌, arith}
-use Rattle.std.proofs.lemmas.List.{length-map}
+use Rattle.wal_gf.proofs.Common.{◌≡◌, ℕ, ◌<◌, List, ◌++◌, length, take, get_or, All, ap, ◌∙◌, arith, length-map, IsWord, words_of, Gf}
 use Rattle.std.proofs.Math.ListN.{get_or-map}
 use Rattle.std.proofs.Math.Seq.{take-append_seam}
-use Rattle.wal_gf.specs.Field.{IsWord}
-use Rattle.wal_gf.specs.Interpolation.{words_of}
-use Rattle.wal_gf.specs.declared.Gf.{Gf}
 
 -- what a read of a list of elements gives past its end
 abbrev pub zero_element : Gf

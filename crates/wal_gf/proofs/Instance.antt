@@ -1,12 +1,7 @@
 -- The words below 65536 are a field, so what holds over a field holds of `times`, `inverse` and `evaluate`.
-use Rattle.std.proofs.Common.{◌≡◌, ap, ap₂, ℕ, ◌<◌, ◌%◌, List, [], ◌∷◌, map, refl, arith, lit<, eqb, bit_xor, eq-eqb, eqb-true, mod-eq_of_lt}
-use Rattle.std.specs.List.{AllByRecursion}
-use Rattle.std.specs.Int.Bits.{xor_assoc, xor_self, xor_zero_r}
-use Rattle.std.proofs.lemmas.Nat.{xor_comm, xor_lt}
+use Rattle.wal_gf.proofs.Common.{◌≡◌, ap, ap₂, ℕ, ◌<◌, ◌%◌, List, [], ◌∷◌, map, refl, arith, lit<, eqb, bit_xor, eq-eqb, eqb-true, mod-eq_of_lt, AllByRecursion, xor_assoc, xor_self, xor_zero_r, xor_comm, xor_lt, times, inverse, evaluate}
 use Rattle.std.proofs.Math.Bridge.{le_prop}
 use mathlib.Core.HLevel.{Σ_prop_path}
-use Rattle.wal_gf.specs.Field.{times, inverse}
-use Rattle.wal_gf.specs.Polynomial.{evaluate}
 use Rattle.wal_gf.proofs.Algebra.{Field}
 use Rattle.wal_gf.proofs.Polynomials.{value}
 use Rattle.wal_gf.proofs.Products.{times-lt, times_comm, times_assoc, times-one, times-xor_right}

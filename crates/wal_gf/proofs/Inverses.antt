@@ -1,10 +1,6 @@
 -- Each word but 0 has an inverse, its power 65534. Nothing is taken on trust: that squaring 16 times gives each word back is computed,
 -- and that 0 and 1 are their own squares alone is shown by a function that undoes u^2 + u up to the lowest bit.
-use Rattle.std.proofs.Common.{◌≡◌, ◌≢◌, ℕ, zero, suc, ◌+◌, ◌*◌, ◌%◌, ◌^◌, ◌<◌, List, [], ◌∷◌, get_or, bit_xor, refl, sym, ap, ◌∙◌, arith, mod-lt, mod-eq_of_lt, pow-suc, lit<}
-use Rattle.std.specs.Int.{bit_at}
-use Rattle.std.specs.Int.Bits.{xor_assoc, xor_self, xor_zero_r}
-use Rattle.std.proofs.lemmas.Nat.{xor_mod}
-use Rattle.wal_gf.specs.Field.{xor_below, product, cancel, remainder, times, power, inverse}
+use Rattle.wal_gf.proofs.Common.{◌≡◌, ◌≢◌, ℕ, zero, suc, ◌+◌, ◌*◌, ◌%◌, ◌^◌, ◌<◌, List, [], ◌∷◌, get_or, bit_xor, refl, sym, ap, ◌∙◌, arith, mod-lt, mod-eq_of_lt, pow-suc, lit<, bit_at, xor_assoc, xor_self, xor_zero_r, xor_mod, xor_below, product, cancel, remainder, times, power, inverse}
 use Rattle.wal_gf.proofs.Additive.{IsAdditive, additive-zero, bit-additive, sum-additive, xor_below-additive, same_by_table, all_below, xor_back}
 use Rattle.wal_gf.proofs.Products.{times-lt, times_comm, times_assoc, times-xor_left, times-xor_right, times-zero, one-times}
 use Rattle.wal_gf.proofs.Powers.{power-suc, power-lt, power-one, power-add, power-square}

@@ -1,6 +1,5 @@
 -- Interpolation over a field: the coefficients by which the values at known points give the value anywhere.
-use Rattle.std.proofs.Common.{◌≡◌, ◌≢◌, ◌∙◌, sym, ℕ, zero, suc, List, [], ◌∷◌, length, refl, arith, ◌⊎◌, inl, inr, cond, subst}
-use Rattle.std.specs.List.{AllByRecursion}
+use Rattle.wal_gf.proofs.Common.{◌≡◌, ◌≢◌, ◌∙◌, sym, ℕ, zero, suc, List, [], ◌∷◌, length, refl, arith, ◌⊎◌, inl, inr, cond, subst, AllByRecursion}
 use Rattle.wal_gf.proofs.Algebra.{Field, times_left_comm, nothing-plus, unit-times, nothing-times, times-nothing, same_of_sum, equal_or_not, same-other}
 use Rattle.wal_gf.proofs.Sums.{sum_over, sum_over-same}
 use Rattle.wal_gf.proofs.Polynomials.{Apart, IsPolynomial, IsPolynomial-more, IsPolynomial-same, IsPolynomial-constant, IsPolynomial-times, IsPolynomial-line, IsPolynomial-sum, polynomial_unique}

@@ -12,3 +12,4 @@ pub mod Remainders
 pub mod Roots
 pub mod Sums
 pub mod TwoWays
+mod Common

@@ -1,6 +1,5 @@
 -- Polynomials over a field, as lists of coefficients with the constant first.
-use Rattle.std.proofs.Common.{◌≡◌, ◌≢◌, ◌∙◌, sym, ap, ap₂, ℕ, zero, suc, ◌≤◌, List, [], ◌∷◌, length, refl, arith}
-use Rattle.std.specs.List.{AllByRecursion}
+use Rattle.wal_gf.proofs.Common.{◌≡◌, ◌≢◌, ◌∙◌, sym, ap, ap₂, ℕ, zero, suc, ◌≤◌, List, [], ◌∷◌, length, refl, arith, AllByRecursion}
 use Rattle.wal_gf.proofs.Algebra.{Field, nothing-plus, plus-times, times_left_comm, plus_back, same_of_sum, times-nothing, no_divisors}
 use Rattle.wal_gf.proofs.Sums.{sum_over}
 

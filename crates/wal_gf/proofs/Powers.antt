@@ -1,6 +1,5 @@
 -- The laws of powers of a word.
-use Rattle.std.proofs.Common.{◌≡◌, ℕ, zero, suc, ◌+◌, ◌<◌, refl, arith, zero-add, suc-add}
-use Rattle.wal_gf.specs.Field.{times, power}
+use Rattle.wal_gf.proofs.Common.{◌≡◌, ℕ, zero, suc, ◌+◌, ◌<◌, refl, arith, zero-add, suc-add, times, power}
 use Rattle.wal_gf.proofs.Products.{times-lt, times-one, one-times, times_assoc}
 
 pub power-zero : (a : ℕ) → power a 0 ≡ 1

@@ -1,10 +1,6 @@
 -- The laws of the field's product: it keeps sums on both sides, it commutes and associates, 1 is its unit, and products are words.
 -- Each law says that two functions are equal which keep sums in each argument, so it is computed at the powers of x.
-use Rattle.std.proofs.Common.{◌≡◌, ℕ, zero, suc, ◌+◌, ◌*◌, ◌/◌, ◌%◌, ◌^◌, ◌<◌, Bool, eqb, T, bit_xor, refl, sym, ap, ap₂, ◌∙◌, arith, mul_comm, mod-lt, div-add-mod', eqb→eq, lit<}
-use Rattle.std.specs.Int.{bit_at}
-use Rattle.std.proofs.lemmas.Nat.{xor_mod, xor_shr}
-use Rattle.std.proofs.lemmas.Nat.Bits.{bit_at_cat_low, bit_at_lowest}
-use Rattle.wal_gf.specs.Field.{modulus, xor_below, product, cancel, remainder, times}
+use Rattle.wal_gf.proofs.Common.{◌≡◌, ℕ, zero, suc, ◌+◌, ◌*◌, ◌/◌, ◌%◌, ◌^◌, ◌<◌, Bool, eqb, T, bit_xor, refl, sym, ap, ap₂, ◌∙◌, arith, mul_comm, mod-lt, div-add-mod', eqb→eq, lit<, bit_at, xor_mod, xor_shr, bit_at_cat_low, bit_at_lowest, modulus, xor_below, product, cancel, remainder, times}
 use Rattle.wal_gf.proofs.Additive.{IsAdditive, additive-zero, scale_xor, shift-additive, bit-additive, sum-additive, xor_below-additive, same_by_powers, same_by_table, all_below, all_below-at}
 
 -- ---- sums are kept

@@ -1,10 +1,5 @@
 -- `remainder` is division by the modulus: with a quotient it gives back what was divided, and it undoes a multiple of the modulus plus a word.
-use Rattle.std.proofs.Common.{◌≡◌, ℕ, zero, suc, ◌+◌, ◌*◌, ◌%◌, ◌^◌, ◌<◌, eqb, T, bit_xor, refl, sym, ap, ◌∙◌, arith, mod-lt, lit<}
-use Rattle.std.specs.Int.{bit_at}
-use Rattle.std.specs.Int.Bits.{xor_self, xor_zero_l}
-use Rattle.std.proofs.lemmas.Nat.{xor_mod}
-use Rattle.wal_gf.specs.Field.{modulus, xor_below, product, cancel, remainder}
-use Rattle.wal_gf.specs.Laws.{DividesWithRemainder}
+use Rattle.wal_gf.proofs.Common.{◌≡◌, ℕ, zero, suc, ◌+◌, ◌*◌, ◌%◌, ◌^◌, ◌<◌, eqb, T, bit_xor, refl, sym, ap, ◌∙◌, arith, mod-lt, lit<, bit_at, xor_self, xor_zero_l, xor_mod, modulus, xor_below, product, cancel, remainder, DividesWithRemainder}
 use Rattle.wal_gf.proofs.Additive.{IsAdditive, bit-additive, sum-additive, same_by_table, all_below}
 use Rattle.wal_gf.proofs.Products.{product-xor_left, cancel-xor, remainder-xor}
 

@@ -1,11 +1,5 @@
 -- Roots of polynomials with words as coefficients, by the field that the words are.
-use Rattle.std.proofs.Common.{◌≡◌, ◌≢◌, ℕ, suc, ◌≤◌, List, [], ◌∷◌, length, get_or, replicate, refl, lit<, All, AllPairs, sym, ap, ◌∙◌, arith}
-use Rattle.std.specs.List.{AllByRecursion}
-use Rattle.std.proofs.lemmas.List.Elements.{recursion_from_All, All-replicate}
-use Rattle.std.proofs.lemmas.List.{length-map, length-replicate}
-use Rattle.wal_gf.specs.Field.{IsWord}
-use Rattle.wal_gf.specs.Polynomial.{evaluate}
-use Rattle.wal_gf.specs.Laws.{HasFewRoots}
+use Rattle.wal_gf.proofs.Common.{◌≡◌, ◌≢◌, ℕ, suc, ◌≤◌, List, [], ◌∷◌, length, get_or, replicate, refl, lit<, All, AllPairs, sym, ap, ◌∙◌, arith, AllByRecursion, recursion_from_All, All-replicate, length-map, length-replicate, IsWord, evaluate, HasFewRoots}
 use Rattle.wal_gf.proofs.Polynomials.{value, Apart, coefficients_unique}
 use Rattle.wal_gf.proofs.Coefficients.{evaluate-zeros}
 use Rattle.wal_gf.proofs.Instance.{Element, element-path, words, element_of, element_of-word, elements_of, numbers_of, numbers_of-elements, value-evaluate}

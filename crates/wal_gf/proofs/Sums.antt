@@ -1,5 +1,5 @@
 -- Sums in a field over a list of indices, with their laws.
-use Rattle.std.proofs.Common.{◌≡◌, ap₂, List, [], ◌∷◌, refl}
+use Rattle.wal_gf.proofs.Common.{◌≡◌, ap₂, List, [], ◌∷◌, refl}
 use Rattle.wal_gf.proofs.Algebra.{Field}
 
 -- the sum of f over the list

@@ -1,6 +1,5 @@
 -- Tables that are polynomials along their rows and along their columns.
-use Rattle.std.proofs.Common.{◌≡◌, sym, ℕ, List, length}
-use Rattle.std.specs.List.{AllByRecursion}
+use Rattle.wal_gf.proofs.Common.{◌≡◌, sym, ℕ, List, length, AllByRecursion}
 use Rattle.wal_gf.proofs.Algebra.{Field}
 use Rattle.wal_gf.proofs.Sums.{sum_over}
 use Rattle.wal_gf.proofs.Polynomials.{Apart, IsPolynomial, IsPolynomial-same, IsPolynomial-sum, polynomial_unique}

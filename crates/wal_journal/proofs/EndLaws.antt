@@ -1,17 +1,6 @@
 -- How a change ends that is written behind those that are accepted.
-use Rattle.std.proofs.Common.{◌≡◌, ℕ, ◌+◌, Option, List, [], ◌∷◌, ◌++◌, length, Result, Ok, Err, IfOk, IfErr, ap, ◌∙◌, arith, length-append, subst}
-use Rattle.wal_store.specs.Contents.{Contents}
-use Rattle.wal_store.specs.Calls.{Call, after_call}
-use Rattle.wal_journal.specs.declared.journal.Journal.{Journal}
-use Rattle.wal_journal.specs.declared.journal.ChangeRefusal.{ChangeRefusal}
-use Rattle.wal_journal.specs.declared.journal.ChangeRefusal.TheVariants.{Kept, Stopped}
+use Rattle.wal_journal.proofs.Common.{◌≡◌, ℕ, ◌+◌, Option, List, [], ◌∷◌, ◌++◌, length, Result, Ok, Err, IfOk, IfErr, ap, ◌∙◌, arith, length-append, subst, Contents, Call, after_call, Journal, ChangeRefusal, Kept, Stopped, Agrees, Holds, spelling, records, Accepts, IsReady, HadRoomForPuts, disk_of, span, EndsChange}
 use Rattle.wal_journal.specs.declared.journal.Why.{Why}
-use Rattle.wal_journal.specs.Disk.{Agrees}
-use Rattle.wal_journal.specs.Crash.{Holds}
-use Rattle.wal_journal.specs.Record.{spelling, records, Accepts}
-use Rattle.wal_journal.specs.inside.Held.{IsReady}
-use Rattle.wal_journal.specs.Reading.{HadRoomForPuts}
-use Rattle.wal_journal.specs.Journal.{disk_of, span, EndsChange}
 use Rattle.wal_journal.specs.inside.Journal.{IsStopped, IsWritten}
 use Rattle.wal_journal.proofs.HeldLaws.{with_room}
 use Rattle.wal_journal.proofs.Moments.{holds_settled}

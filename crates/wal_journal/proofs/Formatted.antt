@@ -1,7 +1,5 @@
 -- A disk whose first gate is closed.
-use Rattle.std.proofs.Common.{◌≡◌, ℕ, ◌+◌, List, [], ◌∷◌, drop, refl, sym, subst, arith}
-use Rattle.wal_journal.specs.Disk.{put_at}
-use Rattle.wal_journal.specs.Record.{Accepts}
+use Rattle.wal_journal.proofs.Common.{◌≡◌, ℕ, ◌+◌, List, [], ◌∷◌, drop, refl, sym, subst, arith, put_at, Accepts}
 
 pub formatted : (old new : List ℕ) → new ≡ put_at 0 (0 ∷ []) old → Accepts new []
 formatted old new written =

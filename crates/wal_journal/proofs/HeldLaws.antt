@@ -1,21 +1,9 @@
 -- What a journal knows of its disk, and what it is after one more change.
-use Rattle.std.proofs.Common.{◌≡◌, inl, inr, ℕ, ◌+◌, ◌≤◌, List, [], ◌∷◌, ◌++◌, length, Option, ap, ◌∙◌, subst, arith, length-append}
-use Rattle.std.proofs.Math.Logic.{∥∥₁_elim, ∥∥₁_map}
-use Rattle.std.proofs.lemmas.List.{append_assoc}
+use Rattle.wal_journal.proofs.Common.{◌≡◌, inl, inr, ℕ, ◌+◌, ◌≤◌, List, [], ◌∷◌, ◌++◌, length, Option, ap, ◌∙◌, subst, arith, length-append, ∥∥₁_elim, ∥∥₁_map, append_assoc, Contents, Call, no_contents, after_call, after_calls, IsLawfulCall, after_calls-append, Agrees, put_at, LeavesOnly, Keeps, spelling, IsWholeRecord, records, Accepts, EitherWay, IsJournal, IsReady, WithOne, FitsEitherWay, HadRoomForPuts}
 use Rattle.std.specs.Coded.{Coded-set, coded_ℕ}
 use Rattle.std.specs.FinMap as map
 use Rattle.wal_store.specs.inside.Identifier.{id_code}
 use Rattle.wal_store.specs.inside.Parts.{parts_code}
-use Rattle.wal_store.specs.Contents.{Contents}
-use Rattle.wal_store.specs.Calls.{Call, no_contents, after_call, after_calls, IsLawfulCall}
-use Rattle.wal_store.proofs.CallLaws.{after_calls-append}
-use Rattle.wal_journal.specs.Disk.{Agrees, put_at}
-use Rattle.wal_journal.specs.Crash.{LeavesOnly, Keeps}
-use Rattle.wal_journal.specs.Record.{spelling, IsWholeRecord, records, Accepts, EitherWay}
-use Rattle.wal_journal.specs.Held.{IsJournal}
-use Rattle.wal_journal.specs.inside.Held.{IsReady, WithOne}
-use Rattle.wal_journal.specs.Journal.{FitsEitherWay}
-use Rattle.wal_journal.specs.Reading.{HadRoomForPuts}
 use Rattle.wal_journal.proofs.Records.{stands_once, length-records-push}
 use Rattle.wal_journal.proofs.Images.{agrees_same}
 use Rattle.wal_journal.proofs.Moments.{weaker}

@@ -1,9 +1,5 @@
 -- Images that agree outside ranges.
-use Rattle.std.proofs.Common.{◌≡◌, inl, inr, ⊎_elim, ℕ, ◌+◌, ◌<◌, ◌≤◌, List, [], ◌∷◌, length, take, drop, get_or, Ok, Err, Result, OnOk, OnErr, refl, sym, ap, ◌∙◌, subst, arith, length-drop}
-use Rattle.std.proofs.lemmas.Bool.{cases_lt}
-use Rattle.std.proofs.lemmas.Grind.{common_steps}
-use Rattle.std.proofs.lemmas.List.{ext_get_or, length-take, get_or-take, get_or-drop}
-use Rattle.wal_journal.specs.Disk.{IsIn, Agrees, put_at, Writes, Syncs}
+use Rattle.wal_journal.proofs.Common.{◌≡◌, inl, inr, ⊎_elim, ℕ, ◌+◌, ◌<◌, ◌≤◌, List, [], ◌∷◌, length, take, drop, get_or, Ok, Err, Result, OnOk, OnErr, refl, sym, ap, ◌∙◌, subst, arith, length-drop, cases_lt, common_steps, ext_get_or, length-take, get_or-take, get_or-drop, IsIn, Agrees, put_at, Writes, Syncs}
 
 pub agrees_same : (ranges : List (ℕ × ℕ)) (bytes : List ℕ) → Agrees ranges bytes bytes
 agrees_same ranges bytes = record { long = refl; outside = λ k out. refl }

@@ -13,3 +13,4 @@ mod EndLaws
 mod Stays
 mod Formatted
 mod PackLaws
+mod Common

@@ -1,10 +1,5 @@
 -- How a run of calls of a disk goes on.
-use Rattle.std.proofs.Common.{◌≡◌, inl, inr, ⊎_elim, ℕ, ◌≤◌, List, [], sym, subst, arith}
-use Rattle.std.proofs.lemmas.List.{append-nil}
-use Rattle.wal_store.specs.Calls.{Call}
-use Rattle.wal_journal.specs.Disk.{Agrees, Elapses}
-use Rattle.wal_journal.specs.Crash.{LeavesOnly, GoesOnAfter, Holds}
-use Rattle.wal_journal.specs.Record.{Accepts}
+use Rattle.wal_journal.proofs.Common.{◌≡◌, inl, inr, ⊎_elim, ℕ, ◌≤◌, List, [], sym, subst, arith, append-nil, Call, Agrees, Elapses, LeavesOnly, GoesOnAfter, Holds, Accepts}
 use Rattle.wal_journal.proofs.Images.{agrees_none}
 
 module _ {D : Type 0} {clock : D → ℕ} {since : D → ℕ → List ℕ → Type 0} where

@@ -1,12 +1,5 @@
 -- What is read of an image that accepts changes: no record of it is bad, and the opening keeps what each crash held.
-use Rattle.std.proofs.Common.{◌≡◌, ◌≢◌, ℕ, ◌+◌, List, ◌∷◌, ◌++◌, drop, get_or, sym, ap, ◌∙◌, subst}
-use Rattle.std.proofs.lemmas.List.{drop_more}
-use Rattle.wal_store.specs.Contents.{Contents}
-use Rattle.wal_store.specs.Calls.{Call, no_contents, after_calls, IsLawfulCall, AreLawful}
-use Rattle.wal_journal.specs.Record.{records, Accepts}
-use Rattle.wal_journal.specs.Held.{IsJournal}
-use Rattle.wal_journal.specs.Reading.{ReadTo, IsBad}
-use Rattle.wal_journal.specs.inside.Reading.{Still}
+use Rattle.wal_journal.proofs.Common.{◌≡◌, ◌≢◌, ℕ, ◌+◌, List, ◌∷◌, ◌++◌, drop, get_or, sym, ap, ◌∙◌, subst, drop_more, Contents, Call, no_contents, after_calls, IsLawfulCall, AreLawful, records, Accepts, IsJournal, ReadTo, IsBad, Still}
 use Rattle.wal_journal.proofs.Records.{Ends, one_end, stands_once}
 use Rattle.wal_journal.proofs.Moments.{both_runs, weaker}
 

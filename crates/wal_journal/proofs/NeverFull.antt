@@ -1,12 +1,6 @@
 -- An image whose changes a keep had room for is read into one of the same limit, and that is not full.
-use Rattle.std.proofs.Common.{◌≡◌, ℕ, ◌+◌, Bool, List, [], ◌∷◌, drop, get_or, Option, Err, sym, ◌∙◌, subst, arith}
-use Rattle.wal_shape.specs.declared.BlobId.{BlobId}
+use Rattle.wal_journal.proofs.Common.{◌≡◌, ℕ, ◌+◌, Bool, List, [], ◌∷◌, drop, get_or, Option, Err, sym, ◌∙◌, subst, arith, BlobId, HasRoom, IsPutAnswer, Contents, free_of, needed_for, Call, Put, no_contents, after_call, after_calls, Accepts, HadRoomForPuts, IsFull, ReadTo}
 use Rattle.wal_store.specs.declared.contract.KeepError.TheVariants as keeps
-use Rattle.wal_store.specs.Answer.{HasRoom, IsPutAnswer}
-use Rattle.wal_store.specs.Contents.{Contents, free_of, needed_for}
-use Rattle.wal_store.specs.Calls.{Call, Put, no_contents, after_call, after_calls}
-use Rattle.wal_journal.specs.Record.{Accepts}
-use Rattle.wal_journal.specs.Reading.{HadRoomForPuts, IsFull, ReadTo}
 use Rattle.wal_journal.proofs.Records.{Ends, one_spelling, one_end}
 use Rattle.wal_journal.proofs.NeverBad.{read_to}
 

@@ -1,23 +1,7 @@
 -- The puts of payloads, made one after the other.
+use Rattle.wal_journal.proofs.Common.{◌≡◌, inl, inr, ℕ, ◌+◌, ◌-◌, ◌<◌, ◌≤◌, ◌↔◌, Bool, true, Option, Some, List, [], ◌∷◌, ◌++◌, length, take, drop, get_or, Result, Ok, Err, refl, ap, ◌∙◌, arith, length-append, append_assoc, append-nil, take-append-drop, drop_more, take_more, BlobId, Part, Contents, free_of, needed_for, HasRoom, Call, Put, after_calls, after_calls-append, Journal, ChangeRefusal, Kept, Stopped, Agrees, LeavesOnly, Holds, Keeps, spelling, records, Accepts, HadRoomForPuts, disk_after, FitsEitherWay, IsDiskFull, IsTried, IsPutWhy, span, Takes, EndsChange, put_in, is_lawful, and_more, puts_of, AcceptsFront, Packs}
 use Rattle.wal_port.specs.Faults.{Rose}
-use Rattle.std.proofs.Common.{◌≡◌, inl, inr, ℕ, ◌+◌, ◌-◌, ◌<◌, ◌≤◌, ◌↔◌, Bool, true, Option, Some, List, [], ◌∷◌, ◌++◌, length, take, drop, get_or, Result, Ok, Err, refl, ap, ◌∙◌, arith, length-append}
-use Rattle.std.proofs.lemmas.List.{append_assoc, append-nil, take-append-drop, drop_more, take_more}
-use Rattle.wal_shape.specs.declared.BlobId.{BlobId}
-use Rattle.wal_shape.specs.declared.part.Part.{Part}
 use Rattle.wal_frame.specs.Reading.{read_of}
-use Rattle.wal_store.specs.Contents.{Contents, free_of, needed_for}
-use Rattle.wal_store.specs.Answer.{HasRoom}
-use Rattle.wal_store.specs.Calls.{Call, Put, after_calls}
-use Rattle.wal_store.proofs.CallLaws.{after_calls-append}
-use Rattle.wal_journal.specs.declared.journal.Journal.{Journal}
-use Rattle.wal_journal.specs.declared.journal.ChangeRefusal.{ChangeRefusal}
-use Rattle.wal_journal.specs.declared.journal.ChangeRefusal.TheVariants.{Kept, Stopped}
-use Rattle.wal_journal.specs.Disk.{Agrees}
-use Rattle.wal_journal.specs.Crash.{LeavesOnly, Holds, Keeps}
-use Rattle.wal_journal.specs.Record.{spelling, records, Accepts}
-use Rattle.wal_journal.specs.Reading.{HadRoomForPuts}
-use Rattle.wal_journal.specs.Journal.{disk_after, FitsEitherWay, IsDiskFull, IsTried, IsPutWhy, span, Takes, EndsChange}
-use Rattle.wal_journal.specs.Packing.{put_in, is_lawful, and_more, puts_of, AcceptsFront, Packs}
 use Rattle.wal_journal.proofs.Records.{spelling_size, records-append}
 use Rattle.wal_journal.proofs.Images.{agrees_same, agrees_trans, agrees_wider}
 use Rattle.wal_journal.proofs.Moments.{both_runs, weaker, after_run}

@@ -1,11 +1,7 @@
 -- One more step joins those that a disk in memory has had.
-use Rattle.std.proofs.Common.{◌≡◌, inl, inr, ℕ, ◌+◌, ◌*◌, ◌<◌, ◌≤◌, List, [], ◌∷◌, ◌++◌, length, take, drop, refl, sym, arith, length-append, length-drop}
-use Rattle.std.proofs.lemmas.Bool.{cases_lt}
-use Rattle.std.proofs.lemmas.List.{take_at, drop_at, take_all, drop-append-le, take-append-le}
+use Rattle.wal_journal.proofs.Common.{◌≡◌, inl, inr, ℕ, ◌+◌, ◌*◌, ◌<◌, ◌≤◌, List, [], ◌∷◌, ◌++◌, length, take, drop, refl, sym, arith, length-append, length-drop, cases_lt, take_at, drop_at, take_all, drop-append-le, take-append-le, Written, Synced, Agrees, Elapses}
 use Rattle.std.proofs.Math.Nat.{mul-le-mul_right}
 use Rattle.wal_journal.specs.declared.mem_disk.Step.{Step}
-use Rattle.wal_journal.specs.declared.mem_disk.Step.TheVariants.{Written, Synced}
-use Rattle.wal_journal.specs.Disk.{Agrees, Elapses}
 use Rattle.wal_journal.specs.MemDisk.{pending_after, kept_at, LeftSince}
 
 pub pending_push : (pending : List (ℕ × ℕ)) (steps : List Step) (at n : ℕ) → pending_after pending (steps ++ Written at n ∷ []) ≡ (at, n) ∷ pending_after pending steps

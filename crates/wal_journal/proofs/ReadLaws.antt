@@ -1,23 +1,10 @@
 -- A record that is read, and a record that is bad.
-use Rattle.std.proofs.Common.{◌≡◌, ℕ, ◌+◌, ◌<◌, ◌≤◌, ◌^◌, Bool, Option, None, List, [], ◌∷◌, ◌++◌, length, take, drop, get_or, Err, refl, sym, ap, ◌∙◌, subst, arith, length-append, length-drop}
-use Rattle.std.specs.Int.{w32, from_be_bytes, to_be_bytes}
-use Rattle.std.proofs.lemmas.Nat.{be_bytes_4}
-use Rattle.std.proofs.lemmas.List.{append_assoc, drop-drop, drop_more, take-append-drop, length-take-le, drop_all}
-use Rattle.wal_shape.specs.declared.BlobId.{BlobId}
-use Rattle.wal_shape.specs.declared.part.Part.{Part}
-use Rattle.wal_shape.specs.Shape.{most_bytes}
+use Rattle.wal_journal.proofs.Common.{◌≡◌, ℕ, ◌+◌, ◌<◌, ◌≤◌, ◌^◌, Bool, Option, None, List, [], ◌∷◌, ◌++◌, length, take, drop, get_or, Err, refl, sym, ap, ◌∙◌, subst, arith, length-append, length-drop, w32, from_be_bytes, to_be_bytes, be_bytes_4, append_assoc, drop-drop, drop_more, take-append-drop, length-take-le, drop_all, BlobId, Part, most_bytes, Contents, part_at, free_of, needed_for, HasRoom, IsPutAnswer, Call, Put, DropPart, DropId, no_contents, after_call, after_calls, IsLawfulCall, after_calls-append, fields, part_byte, size_text, spelling, IsWholeRecord, ReadTo, IsBad, HadRoomForPuts, head_text, HasHead, IsHead, IsNext, Steps}
 use Rattle.wal_store.specs.declared.contract.KeepError.{KeepError}
 use Rattle.wal_store.specs.declared.contract.KeepError.TheVariants as keeps
-use Rattle.wal_store.specs.Contents.{Contents, part_at, free_of, needed_for}
-use Rattle.wal_store.specs.Answer.{HasRoom, IsPutAnswer}
-use Rattle.wal_store.specs.Calls.{Call, Put, DropPart, DropId, no_contents, after_call, after_calls, IsLawfulCall}
-use Rattle.wal_store.proofs.CallLaws.{after_calls-append}
 use Rattle.wal_journal.specs.declared.record.Head.{Head}
 use Rattle.wal_journal.specs.declared.record.Change.TheVariants as read
 use Rattle.wal_journal.specs.inside.Opening.{fault_of}
-use Rattle.wal_journal.specs.Record.{fields, part_byte, size_text, spelling, IsWholeRecord}
-use Rattle.wal_journal.specs.Reading.{ReadTo, IsBad, HadRoomForPuts}
-use Rattle.wal_journal.specs.inside.Reading.{head_text, HasHead, IsHead, IsNext, Steps}
 use Rattle.wal_journal.proofs.Records.{parts_once, text_parts, part_once, whole_id, whole_size, spelling_long, length-records-push}
 use Rattle.wal_journal.proofs.Staged.{records-push, whole-push, lawful-push}
 

@@ -1,14 +1,6 @@
 -- An image stands for one list of changes at most.
-use Rattle.std.proofs.Common.{◌≡◌, ℕ, ◌+◌, ◌<◌, ◌≤◌, ◌^◌, List, [], ◌∷◌, ◌++◌, length, take, drop, refl, sym, ap, ◌∙◌, subst, arith, length-append}
+use Rattle.wal_journal.proofs.Common.{◌≡◌, ℕ, ◌+◌, ◌<◌, ◌≤◌, ◌^◌, List, [], ◌∷◌, ◌++◌, length, take, drop, refl, sym, ap, ◌∙◌, subst, arith, length-append, w32, from_be_bytes, take_at, drop_at, append_assoc, from_be_bytes-to_be_bytes_4, Part, most_bytes, Contents, Call, Put, no_contents, after_call, after_calls, size_text, Fields, fields, fields_text, spelling, IsWholeRecord, AreWholeRecords, records, Stands, part_byte}
 use Rattle.std.specs.Prelude.{⊤}
-use Rattle.std.specs.Int.{w32, from_be_bytes}
-use Rattle.std.proofs.lemmas.List.{take_at, drop_at, append_assoc}
-use Rattle.std.proofs.lemmas.Nat.{from_be_bytes-to_be_bytes_4}
-use Rattle.wal_shape.specs.declared.part.Part.{Part}
-use Rattle.wal_shape.specs.Shape.{most_bytes}
-use Rattle.wal_store.specs.Contents.{Contents}
-use Rattle.wal_store.specs.Calls.{Call, Put, no_contents, after_call, after_calls}
-use Rattle.wal_journal.specs.Record.{size_text, Fields, fields, fields_text, spelling, IsWholeRecord, AreWholeRecords, records, Stands, part_byte}
 
 -- two texts of one length at the front of the same bytes
 pub split_same : (a b r s : List ℕ) → length a ≡ length b → a ++ r ≡ b ++ s → (a ≡ b) × (r ≡ s)

@@ -1,15 +1,6 @@
 -- An empty keep of a journal's limit has room for the changes on its disk.
-use Rattle.std.proofs.Common.{◌≡◌, ◌≢◌, ℕ, ◌+◌, Option, Some, None, List, [], ◌∷◌, ◌++◌, get_or, refl, subst}
+use Rattle.wal_journal.proofs.Common.{◌≡◌, ◌≢◌, ℕ, ◌+◌, Option, Some, None, List, [], ◌∷◌, ◌++◌, get_or, refl, subst, ∥∥₁_elim, ∥∥₁_map, merely, HasRoom, Contents, free_of, needed_for, Call, Put, no_contents, after_call, put_at, Accepts, IsReady, FitsSome, FitsWithOne, HadRoomForPuts, ReadTo}
 use Rattle.std.proofs.Math.Bridge.{le_prop}
-use Rattle.std.proofs.Math.Logic.{∥∥₁_elim, ∥∥₁_map}
-use Rattle.std.proofs.lemmas.Grind.{merely}
-use Rattle.wal_store.specs.Answer.{HasRoom}
-use Rattle.wal_store.specs.Contents.{Contents, free_of, needed_for}
-use Rattle.wal_store.specs.Calls.{Call, Put, no_contents, after_call}
-use Rattle.wal_journal.specs.Disk.{put_at}
-use Rattle.wal_journal.specs.Record.{Accepts}
-use Rattle.wal_journal.specs.inside.Held.{IsReady, FitsSome, FitsWithOne}
-use Rattle.wal_journal.specs.Reading.{HadRoomForPuts, ReadTo}
 use Rattle.wal_journal.proofs.Records.{stands_once}
 use Rattle.wal_journal.proofs.HeldLaws.{HasSome, stands_now}
 use Rattle.wal_journal.proofs.Staged.{accepts_more}

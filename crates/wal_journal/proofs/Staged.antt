@@ -1,14 +1,6 @@
 -- What the bytes of a disk stand for while a record is written.
-use Rattle.std.proofs.Common.{◌≡◌, ◌≢◌, inl, inr, ℕ, ◌+◌, ◌≤◌, List, [], ◌∷◌, ◌++◌, length, drop, get_or, refl, ap, ◌∙◌, subst, arith, length-append}
+use Rattle.wal_journal.proofs.Common.{◌≡◌, ◌≢◌, inl, inr, ℕ, ◌+◌, ◌≤◌, List, [], ◌∷◌, ◌++◌, length, drop, get_or, refl, ap, ◌∙◌, subst, arith, length-append, cases_eq, take_at, drop_at, append_assoc, drop-drop, drop_more, take-append-drop, Call, no_contents, after_calls, IsLawfulCall, AreLawful, lawful-append, Agrees, put_at, BeforeGate, spelling, IsWholeRecord, AreWholeRecords, records, Accepts, EitherWay, IsReady}
 use Rattle.std.proofs.Math.Seq.{get_or-append_seam}
-use Rattle.std.proofs.lemmas.Bool.{cases_eq}
-use Rattle.std.proofs.lemmas.List.{take_at, drop_at, append_assoc, drop-drop, drop_more, take-append-drop}
-use Rattle.wal_store.specs.Calls.{Call, no_contents, after_calls, IsLawfulCall, AreLawful}
-use Rattle.wal_store.proofs.CallLaws.{lawful-append}
-use Rattle.wal_journal.specs.Disk.{Agrees, put_at}
-use Rattle.wal_journal.specs.inside.Append.{BeforeGate}
-use Rattle.wal_journal.specs.Record.{spelling, IsWholeRecord, AreWholeRecords, records, Accepts, EitherWay}
-use Rattle.wal_journal.specs.inside.Held.{IsReady}
 use Rattle.wal_journal.proofs.Records.{records-append}
 use Rattle.wal_journal.proofs.Images.{front_same, back_same, length-put, put_agrees, agrees_trans, agrees_wider, get_or-put}
 

@@ -1,7 +1,5 @@
 -- What is acknowledged stays.
-use Rattle.std.proofs.Common.{ℕ, ◌≤◌, List, [], ◌∷◌}
-use Rattle.wal_store.specs.Calls.{Call}
-use Rattle.wal_journal.specs.Crash.{LeavesOnly, GoesOnAfter, Holds, EachKeeps, last_of}
+use Rattle.wal_journal.proofs.Common.{ℕ, ◌≤◌, List, [], ◌∷◌, Call, LeavesOnly, GoesOnAfter, Holds, EachKeeps, last_of}
 use Rattle.wal_journal.proofs.Moments.{started, both_runs, after_run}
 
 module _ {D : Type 0} (clock : D → ℕ) (since : D → ℕ → List ℕ → Type 0) (earlier : (disk : D) (image : List ℕ) (t later : ℕ) → t ≤ later → since disk later image → since disk t image) where

@@ -1,8 +1,5 @@
 -- What a crash leaves while bytes are written and synced.
-use Rattle.std.proofs.Common.{◌≡◌, inl, inr, ℕ, ◌+◌, ◌≤◌, List, [], ◌∷◌, length, Result, OnOk, OnErr, subst}
-use Rattle.wal_journal.specs.Disk.{Agrees, put_at, Elapses, Writes}
-use Rattle.wal_journal.specs.inside.Append.{BeforeGate}
-use Rattle.wal_journal.specs.Crash.{LeavesOnly}
+use Rattle.wal_journal.proofs.Common.{◌≡◌, inl, inr, ℕ, ◌+◌, ◌≤◌, List, [], ◌∷◌, length, Result, OnOk, OnErr, subst, Agrees, put_at, Elapses, Writes, BeforeGate, LeavesOnly}
 use Rattle.wal_journal.proofs.Moments.{started, goes_on, weaker}
 use Rattle.wal_journal.proofs.Images.{agrees_within, write_left}
 

@@ -1,17 +1,11 @@
 -- What the operations on vectors of bytes hold at each lane.
-use Rattle.std.proofs.Common.{zero, suc, zero-mul, one-mul, mod-eq_of_lt, take, drop, length-drop, length-append, ◌≡◌, ℕ, ◌+◌, ◌-◌, ◌*◌, ◌/◌, ◌%◌, ◌^◌, ◌<◌, ◌≤◌, ◌⊎◌, inl, inr, List, ◌++◌, length, get_or, map, replicate, refl, sym, ap, ap₂, ◌∙◌, arith, w8, bit_and, bit_xor, Fits, slice_index, T, eqb, eqb→eq}
+use Rattle.wal_kernel.proofs.Common.{zero, suc, zero-mul, one-mul, mod-eq_of_lt, take, drop, length-drop, length-append, ◌≡◌, ℕ, ◌+◌, ◌-◌, ◌*◌, ◌/◌, ◌%◌, ◌^◌, ◌<◌, ◌≤◌, ◌⊎◌, inl, inr, List, ◌++◌, length, get_or, map, replicate, refl, sym, ap, ap₂, ◌∙◌, arith, w8, bit_and, bit_xor, Fits, slice_index, T, eqb, eqb→eq, and_zero_r, get_or-drop, get_or-take, length-take-le, get_or_append_left, get_or-append_right, and_mask, all_below, all_below-at, HasLanes, IsTable, word_of_lane, IsSumBelow}
 use Rattle.std.specs.Simd.Lanes.{zip2, chunk, put_chunk, Each1}
 use Rattle.std.specs.List.{range_with_len}
 use Rattle.std.proofs.lemmas.Bool.{cases_lt}
 use Rattle.std.proofs.lemmas.Simd.{length-zip2, get_or-zip2, get_or-replicate, length-chunk, get_or-chunk, length-put_chunk, get_or-put_chunk_below, get_or-put_chunk_at, get_or-put_chunk_above, swz_l, SwzOk, SwzOk-from_below, get_or-swz_l_below, length-swz_l, Each1-from_get_or, Each1-get_or}
-use Rattle.std.specs.Int.Bits.{and_zero_r}
 use Rattle.std.proofs.Math.ListN.{get_or-eq_default}
-use Rattle.std.proofs.lemmas.List.{get_or-drop, get_or-take, length-take-le, get_or_append_left, get_or-append_right}
 use Rattle.std.proofs.lemmas.List.FromFn.{get_or-map-range_with_len, length-map-range_with_len}
-use Rattle.std.proofs.lemmas.Nat.{and_mask}
-use Rattle.wal_gf.proofs.Additive.{all_below, all_below-at}
-use Rattle.wal_kernel.specs.inside.Lanes.{HasLanes, IsTable, word_of_lane}
-use Rattle.wal_kernel.specs.inside.Region.{IsSumBelow}
 
 pub HasLanes-same : (n : ℕ) (v : List ℕ) (f g : ℕ → ℕ) → HasLanes n v f → ((k : ℕ) → k < n → f k ≡ g k) → HasLanes n v g
 HasLanes-same n v f g h same = record { long = h.long; each = λ k l. h.each k l ∙ same k l }

@@ -3,3 +3,4 @@ pub mod Regions
 pub mod Sums
 pub mod LaneLemmas
 pub mod ProductLemmas
+mod Common

@@ -1,15 +1,8 @@
 -- Products of words, from products of their nibbles.
-use Rattle.std.proofs.Common.{◌≡◌, ℕ, zero, suc, w16, ◌+◌, ◌*◌, ◌/◌, ◌%◌, ◌^◌, ◌<◌, T, eqb, bit_xor, refl, sym, ap, ap₂, ◌∙◌, arith, lit<, mod-lt, eqb→eq, List, slice_index, zero-mul, one-mul, mul_comm}
+use Rattle.wal_kernel.proofs.Common.{◌≡◌, ℕ, zero, suc, w16, ◌+◌, ◌*◌, ◌/◌, ◌%◌, ◌^◌, ◌<◌, T, eqb, bit_xor, refl, sym, ap, ap₂, ◌∙◌, arith, lit<, mod-lt, eqb→eq, List, slice_index, zero-mul, one-mul, mul_comm, xor_mod, xor_shr, xor_lt, xor_zero_l, xor_zero_r, times, product, xor_below, remainder, cancel, IsAdditive, shift-additive, sum-additive, same_by_powers, top_split, all_below, all_below-at, HasLanes, IsTable, high_of_sixteenfold, low_of_sixteenfold, nibble_sum, word_of_lane, word_at, scaled_byte}
 use Rattle.std.specs.Int.{bit_at, to_be_bytes}
-use Rattle.std.proofs.lemmas.Nat.{xor_mod, xor_shr, xor_lt}
 use Rattle.std.proofs.lemmas.Nat.Bits.{bit_at-lt}
-use Rattle.std.specs.Int.Bits.{xor_zero_l, xor_zero_r}
-use Rattle.wal_gf.specs.Field.{times, product, xor_below, remainder, cancel}
-use Rattle.wal_gf.proofs.Additive.{IsAdditive, shift-additive, sum-additive, same_by_powers, top_split, all_below, all_below-at}
 use Rattle.wal_gf.proofs.Products.{times_comm, times_assoc, times-step, times-xor_left, times-xor_right, one-times, times-lt, zero-times, doubled}
-use Rattle.wal_kernel.specs.inside.Lanes.{HasLanes, IsTable, high_of_sixteenfold, low_of_sixteenfold, nibble_sum, word_of_lane}
-use Rattle.wal_kernel.specs.Region.{word_at}
-use Rattle.wal_kernel.specs.inside.Region.{scaled_byte}
 use Rattle.wal_kernel.proofs.Sums.{scaled_byte-high, scaled_byte-low}
 use Rattle.wal_kernel.proofs.LaneLemmas.{HasLanes-same}
 

@@ -1,7 +1,5 @@
 -- A list as its regions of one size.
-use Rattle.std.proofs.Common.{◌≡◌, ℕ, ◌+◌, ◌*◌, ◌<◌, ◌≤◌, List, ◌++◌, length, take, drop, slice_index, ap, ◌∙◌, arith, length-drop}
-use Rattle.std.proofs.lemmas.List.{get_or-drop, get_or-take, drop-drop, drop-append-le, take-append-le}
-use Rattle.wal_kernel.specs.Region.{region}
+use Rattle.wal_kernel.proofs.Common.{◌≡◌, ℕ, ◌+◌, ◌*◌, ◌<◌, ◌≤◌, List, ◌++◌, length, take, drop, slice_index, ap, ◌∙◌, arith, length-drop, get_or-drop, get_or-take, drop-drop, drop-append-le, take-append-le, region}
 
 -- byte k of region i
 pub region-byte : (size : ℕ) (xs : List ℕ) (i k : ℕ) → k < size → slice_index (region size xs i) k ≡ slice_index xs (size * i + k)

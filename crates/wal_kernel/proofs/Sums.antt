@@ -1,9 +1,5 @@
 -- Sums of regions, from sums of their bytes.
-use Rattle.std.proofs.Common.{◌≡◌, ◌==◌, if◌then◌else◌, ℕ, ◌+◌, ◌*◌, ◌/◌, ◌%◌, ◌<◌, ◌≤◌, List, length, slice_index, sym, ◌∙◌, ap, ap₂, refl, arith, bit_xor, subst}
-use Rattle.std.proofs.lemmas.Nat.{xor_block}
-use Rattle.wal_gf.specs.Field.{times}
-use Rattle.wal_kernel.specs.Region.{word_at, IsScaledSum, IsSum}
-use Rattle.wal_kernel.specs.inside.Region.{IsSumBelow, scaled_byte}
+use Rattle.wal_kernel.proofs.Common.{◌≡◌, ◌==◌, if◌then◌else◌, ℕ, ◌+◌, ◌*◌, ◌/◌, ◌%◌, ◌<◌, ◌≤◌, List, length, slice_index, sym, ◌∙◌, ap, ap₂, refl, arith, bit_xor, subst, xor_block, times, word_at, IsScaledSum, IsSum, IsSumBelow, scaled_byte}
 
 -- the sum of two words, by their bytes
 pub word_xor : (a b x y : ℕ) → b < 256 → y < 256 → bit_xor a x * 256 + bit_xor b y ≡ bit_xor (a * 256 + b) (x * 256 + y)

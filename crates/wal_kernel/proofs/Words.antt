@@ -1,7 +1,5 @@
 -- Bytes and the words that they are.
-use Rattle.std.proofs.Common.{refl, ◌≡◌, zero, suc, replicate, ◌⊎◌, inl, inr, ℕ, ◌+◌, ◌*◌, ◌/◌, ◌%◌, ◌<◌, List, length, take, drop, slice_index, get_or, sym, ◌∙◌, ap, ap₂, arith, eq-or-lt_of_le}
-use Rattle.std.proofs.lemmas.List.{ext_get_or, get_or-drop, get_or-take}
-use Rattle.wal_kernel.specs.Region.{word_at, region}
+use Rattle.wal_kernel.proofs.Common.{refl, ◌≡◌, zero, suc, replicate, ◌⊎◌, inl, inr, ℕ, ◌+◌, ◌*◌, ◌/◌, ◌%◌, ◌<◌, List, length, take, drop, slice_index, get_or, sym, ◌∙◌, ap, ap₂, arith, eq-or-lt_of_le, ext_get_or, get_or-drop, get_or-take, word_at, region}
 
 -- two bytes that are a word
 word_high : (a b x y : ℕ) → b < 256 → y < 256 → a * 256 + b ≡ x * 256 + y → a ≡ x

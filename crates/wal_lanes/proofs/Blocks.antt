@@ -1,12 +1,6 @@
 -- The blocks of a padded text: where they lie, and how the hash value follows them.
-use Rattle.std.proofs.Common.{◌≡◌, ℕ, zero, suc, ◌+◌, ◌-◌, ◌*◌, ◌/◌, ◌%◌, ◌^◌, ◌<◌, ◌≤◌, List, ◌∷◌, ◌++◌, length, take, drop, replicate, refl, sym, ap, ◌∙◌, arith, length-append, length-drop}
-use Rattle.std.proofs.lemmas.List.{append_assoc, drop-append-le, drop-drop, length-replicate, length-take-le, take-append-le, take_all}
-use Rattle.std.specs.Int.{to_be_bytes, w64}
-use Rattle.sha2.specs.Sha256.{compress, final_hash, hash_after, padded_message, padding}
-use Rattle.sha2.proofs.Absorbing256.{hash_after-append, hash_after_next}
+use Rattle.wal_lanes.proofs.Common.{◌≡◌, ℕ, zero, suc, ◌+◌, ◌-◌, ◌*◌, ◌/◌, ◌%◌, ◌^◌, ◌<◌, ◌≤◌, List, ◌∷◌, ◌++◌, length, take, drop, replicate, refl, sym, ap, ◌∙◌, arith, length-append, length-drop, append_assoc, drop-append-le, drop-drop, length-replicate, length-take-le, take-append-le, take_all, to_be_bytes, w64, compress, final_hash, hash_after, padded_message, padding, hash_after-append, hash_after_next, last_blocks, put_at, tail_length, text}
 use Rattle.wal_lanes.proofs.Parts.{part_of_part, piece_within, put_put}
-use Rattle.wal_lanes.specs.inside.Lanes.{last_blocks, put_at, tail_length}
-use Rattle.wal_lanes.specs.Pieces.{text}
 
 -- no block yet
 pub hash_none : (h p st : List ℕ) (n : ℕ) → n ≡ 0 → st ≡ h → st ≡ hash_after h p n

@@ -1,12 +1,7 @@
 -- What the operations on vectors of eight words hold at each lane.
-use Rattle.std.proofs.Common.{◌≡◌, ℕ, zero, suc, ◌+◌, ◌-◌, ◌*◌, ◌/◌, ◌%◌, ◌^◌, ◌<◌, List, [], ◌∷◌, length, take, drop, replicate, slice_index, slice_index_or, slice_set, bit_or, refl, sym, ap, ap₂, inl, inr, ◌∙◌, arith, w32, Fits}
-use Rattle.std.specs.Int.{rotate_right}
+use Rattle.wal_lanes.proofs.Common.{◌≡◌, ℕ, zero, suc, ◌+◌, ◌-◌, ◌*◌, ◌/◌, ◌%◌, ◌^◌, ◌<◌, List, [], ◌∷◌, length, take, drop, replicate, slice_index, slice_index_or, slice_set, bit_or, refl, sym, ap, ap₂, inl, inr, ◌∙◌, arith, w32, Fits, rotate_right, cases_lt, get_or-drop, get_or-set_other, get_or-set_same, get_or-take, add32, word_at, HasLanes, words_of}
 use Rattle.std.specs.Simd.Lanes.{zip2, Each1}
 use Rattle.std.proofs.lemmas.Simd.{length-zip2, get_or-zip2, get_or-replicate, Each1-get_or}
-use Rattle.std.proofs.lemmas.Bool.{cases_lt}
-use Rattle.std.proofs.lemmas.List.{get_or-drop, get_or-set_other, get_or-set_same, get_or-take}
-use Rattle.sha2.specs.Sha256.{add32, word_at}
-use Rattle.wal_lanes.specs.inside.Lanes.{HasLanes, words_of}
 
 pub HasLanes-same : {v : List ℕ} {f g : ℕ → ℕ} → HasLanes 8 v f → ((k : ℕ) → k < 8 → f k ≡ g k) → HasLanes 8 v g
 HasLanes-same h same = record { long = h.long; each = λ k l. h.each k l ∙ same k l }

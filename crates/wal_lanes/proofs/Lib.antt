@@ -4,3 +4,4 @@ pub mod Parts
 pub mod Blocks
 pub mod Written
 pub mod Taken
+mod Common

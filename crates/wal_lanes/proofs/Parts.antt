@@ -1,9 +1,5 @@
 -- Bytes that are put in place of others, and what then stands where.
-use Rattle.std.proofs.Common.{◌≡◌, ℕ, ◌+◌, ◌-◌, ◌*◌, ◌<◌, ◌≤◌, List, [], ◌++◌, length, take, drop, sym, ap, inl, inr, ◌∙◌, arith, length-append, length-drop}
-use Rattle.std.proofs.lemmas.Bool.{cases_lt}
-use Rattle.std.proofs.lemmas.List.{append_assoc, drop-append-le, drop-drop, drop-take, drop_at, length-take-le, take-append-drop, take-append-le, take-take, take_at}
-use Rattle.std.proofs.Math.Nat.{mul-le-mul_right}
-use Rattle.wal_lanes.specs.inside.Lanes.{put_at}
+use Rattle.wal_lanes.proofs.Common.{◌≡◌, ℕ, ◌+◌, ◌-◌, ◌*◌, ◌<◌, ◌≤◌, List, [], ◌++◌, length, take, drop, sym, ap, inl, inr, ◌∙◌, arith, length-append, length-drop, cases_lt, append_assoc, drop-append-le, drop-drop, drop-take, drop_at, length-take-le, take-append-drop, take-append-le, take-take, take_at, mul-le-mul_right, put_at}
 
 -- nothing is put
 pub put_none : (at : ℕ) (old : List ℕ) → old ≡ put_at at old []

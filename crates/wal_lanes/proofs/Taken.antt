@@ -1,17 +1,8 @@
 -- Texts that are hashed strip by strip: the hash value and the last byte of each, as strips come.
-use Rattle.std.proofs.Common.{◌≡◌, ◌≢◌, ℕ, zero, suc, ◌+◌, ◌-◌, ◌*◌, ◌/◌, ◌%◌, ◌<◌, ◌≤◌, inl, inr, Some, List, [], ◌∷◌, length, take, drop, get_or, replicate, slice_get, slice_index, slice_set, refl, sym, ap, subst, ◌∙◌, arith, length-drop}
-use Rattle.std.proofs.lemmas.Bool.{cases_lt}
-use Rattle.std.proofs.lemmas.List.{drop_more, get_or-drop, get_or-replicate, get_or-set_same, get_or-take, length-replicate, take_all}
-use Rattle.std.proofs.lemmas.Option.{get_or_from_slice_get, slice_get-get_or, slice_get_within}
-use Rattle.sha2.specs.Sha256.{digest_bytes, final_hash, hash_after, initial_hash_256, padded_message, sha256}
+use Rattle.wal_lanes.proofs.Common.{◌≡◌, ◌≢◌, ℕ, zero, suc, ◌+◌, ◌-◌, ◌*◌, ◌/◌, ◌%◌, ◌<◌, ◌≤◌, inl, inr, Some, List, [], ◌∷◌, length, take, drop, get_or, replicate, slice_get, slice_index, slice_set, refl, sym, ap, subst, ◌∙◌, arith, length-drop, cases_lt, drop_more, get_or-drop, get_or-replicate, get_or-set_same, get_or-take, length-replicate, take_all, get_or_from_slice_get, slice_get-get_or, slice_get_within, digest_bytes, final_hash, hash_after, initial_hash_256, padded_message, sha256, Group, lane, HasTaken, HaveTaken, text, AreDigestsOf, IsStrip}
 use Rattle.wal_lanes.proofs.Blocks.{front_padded, hash_more, hash_none}
 use Rattle.wal_lanes.proofs.Parts.{part_of_part, piece_within}
-use Rattle.wal_lanes.specs.declared.strips.Group.{Group}
 use Rattle.wal_lanes.specs.declared.block.State.{State}
-use Rattle.wal_lanes.specs.inside.Lanes.{lane}
-use Rattle.wal_lanes.specs.inside.Strips.{HasTaken, HaveTaken}
-use Rattle.wal_lanes.specs.Pieces.{text}
-use Rattle.wal_lanes.specs.Strips.{AreDigestsOf, IsStrip}
 
 -- nothing was taken yet
 pub taken_none : (k prefix : ℕ) (piece : List ℕ) (group : Group) → lane group.state k ≡ initial_hash_256 → slice_index group.last k ≡ prefix → HasTaken prefix piece 0 k group

@@ -1,11 +1,8 @@
 -- Digests that are written one after the other.
-use Rattle.std.proofs.Common.{◌≡◌, ℕ, zero, suc, ◌+◌, ◌*◌, ◌/◌, ◌<◌, ◌≤◌, List, ◌∷◌, ◌++◌, length, take, drop, slice_index, refl, ap, ◌∙◌, arith, add-one}
+use Rattle.wal_lanes.proofs.Common.{◌≡◌, ℕ, zero, suc, ◌+◌, ◌*◌, ◌/◌, ◌<◌, ◌≤◌, List, ◌∷◌, ◌++◌, length, take, drop, slice_index, refl, ap, ◌∙◌, arith, add-one, to_be_bytes, digest_bytes, put_at, AreDigests, text}
 use Rattle.std.proofs.lemmas.List.{length-append}
-use Rattle.std.specs.Int.{to_be_bytes, w32}
-use Rattle.sha2.specs.Sha256.{digest_bytes}
+use Rattle.std.specs.Int.{w32}
 use Rattle.wal_lanes.proofs.Parts.{length-put_at, part_of_part, parts_put, piece_within, put_put}
-use Rattle.wal_lanes.specs.inside.Lanes.{put_at}
-use Rattle.wal_lanes.specs.Pieces.{AreDigests, text}
 
 pub length-digest_bytes : (h : List ℕ) (n : ℕ) → length (digest_bytes h n) ≡ 4 * n
 unfolding digest_bytes

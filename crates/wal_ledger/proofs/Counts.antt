@@ -1,14 +1,5 @@
 -- Counts of shards below a number.
-use Rattle.std.proofs.Common.{◌≡◌, ◌≢◌, ℕ, zero, suc, ◌+◌, ◌<◌, List, Bool, true, false, cond, ◌&&◌, ◌||◌, nat_eq, All, refl, ap, arith}
-use Rattle.std.proofs.lemmas.Bool.{cases_eq, and_left, ne_eqb}
-use Rattle.std.proofs.lemmas.Bool.Decides.{nat_tests}
-use Rattle.std.proofs.lemmas.List.Folds.{list_any_none}
-use Rattle.wal_ledger.specs.declared.entry.Entry.{Entry}
-use Rattle.wal_ledger.specs.declared.entry.Kind.{Kind}
-use Rattle.wal_ledger.specs.Shards.{count_below, committee_size}
-use Rattle.wal_ledger.specs.Ledger.{signs_for, is_signer_among}
-use Rattle.wal_ledger.specs.inside.Claims.{count_among}
-use Rattle.wal_ledger.specs.Within.{IsWithin}
+use Rattle.wal_ledger.proofs.Common.{◌≡◌, ◌≢◌, ℕ, zero, suc, ◌+◌, ◌<◌, List, Bool, true, false, cond, ◌&&◌, ◌||◌, nat_eq, All, refl, ap, arith, cases_eq, and_left, ne_eqb, nat_tests, list_any_none, Entry, Kind, count_below, committee_size, signs_for, is_signer_among, count_among, IsWithin}
 
 -- none pass
 pub count_below-none : (n : ℕ) (p : ℕ → Bool) → ((s : ℕ) → p s ≡ false) → count_below n p ≡ 0

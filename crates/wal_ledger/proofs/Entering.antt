@@ -1,14 +1,5 @@
 -- The phase of a ledger after one more entry.
-use Rattle.std.proofs.Common.{arith, ◌≡◌, ℕ, ◌||◌, List, [], ◌∷◌, ◌++◌, fold, sym, refl, append_assoc}
-use Rattle.std.proofs.lemmas.List.{append-nil}
-use Rattle.std.proofs.lemmas.List.Sums.{fold_push}
-use Rattle.std.specs.List.{list_any}
-use Rattle.std.proofs.lemmas.Grind.{common_steps}
-use Rattle.wal_shape.specs.declared.metadata.BlobId.{BlobId}
-use Rattle.wal_ledger.specs.declared.entry.Entry.{Entry}
-use Rattle.wal_ledger.specs.declared.entry.Body.{Body}
-use Rattle.wal_ledger.specs.declared.entry.Body.TheVariants.{Begin}
-use Rattle.wal_ledger.specs.Ledger.{Phase, phase_in, phase_after, history_of, history_after, readies}
+use Rattle.wal_ledger.proofs.Common.{arith, ◌≡◌, ℕ, ◌||◌, List, [], ◌∷◌, ◌++◌, fold, sym, refl, append_assoc, append-nil, fold_push, list_any, common_steps, BlobId, Entry, Body, Begin, Phase, phase_in, phase_after, history_of, history_after, readies}
 
 -- the phase after one more entry
 pub phase_push : (xs : List Entry) (x : Entry) → phase_in (xs ++ x ∷ []) ≡ phase_after x.body x (phase_in xs)

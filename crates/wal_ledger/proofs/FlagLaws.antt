@@ -1,8 +1,5 @@
 -- Flags of numbers.
-use Rattle.std.proofs.Common.{◌≡◌, ℕ, ◌<◌, Bool, true, false, ◌||◌, nat_eq, List, length, slice_set, replicate, arith}
-use Rattle.std.proofs.lemmas.Bool.Decides.{nat_tests}
-use Rattle.std.proofs.lemmas.Grind.{common_steps}
-use Rattle.wal_ledger.specs.inside.Flags.{flag_of}
+use Rattle.wal_ledger.proofs.Common.{◌≡◌, ℕ, ◌<◌, Bool, true, false, ◌||◌, nat_eq, List, length, slice_set, replicate, arith, nat_tests, common_steps, flag_of}
 
 -- one more flag is up
 pub flag_raised : (flags : List Bool) (t s : ℕ) → t < length flags → flag_of (slice_set flags t true) s ≡ (flag_of flags s || nat_eq t s)

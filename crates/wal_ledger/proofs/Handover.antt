@@ -1,23 +1,5 @@
 -- What a shard must hold while the epoch changes, told by what is known of an identifier now.
-use Rattle.std.proofs.Common.{◌≡◌, ◌≢◌, ℕ, ◌+◌, ◌<◌, ◌≤◌, max, List, [], ◌∷◌, ◌++◌, Bool, true, false, cond, nat_le, All, fold, ◌⊎◌, ◌↔◌, inl, inr, refl, sym, ap, ◌∙◌, subst, arith, append_assoc}
-use Rattle.std.proofs.lemmas.Bool.{cases_lt, ltb-true, lt-ltb, leb-true, and_parts}
-use Rattle.std.proofs.lemmas.Bool.Decides.{nat_tests}
-use Rattle.std.proofs.lemmas.Grind.{common_steps}
-use Rattle.std.proofs.lemmas.List.{append-nil}
-use Rattle.std.proofs.lemmas.List.Elements.{All-nil, All-cons, All-head, All-tail, All-push}
-use Rattle.std.proofs.lemmas.List.Folds.{fold_along}
-use Rattle.std.proofs.lemmas.List.Sums.{fold_push, fold-append}
-use Rattle.wal_shape.specs.declared.metadata.BlobId.{BlobId}
-use Rattle.wal_ledger.specs.declared.entry.Entry.{Entry}
-use Rattle.wal_ledger.specs.declared.entry.Body.{Body}
-use Rattle.wal_ledger.specs.declared.entry.Body.TheVariants.{Register, Finish}
-use Rattle.wal_ledger.specs.declared.entry.Kind.{Kind}
-use Rattle.wal_ledger.specs.declared.entry.Kind.TheVariants.{Holds}
-use Rattle.wal_ledger.specs.Shards.{count_below, committee_size, quorum_size}
-use Rattle.wal_ledger.specs.Ledger.{Log, Phase, History, phase, phase_in, phase_after, reading, writing, is_moving, cut, owners_at, names, is_register, is_finish, until_in, until_among, is_fresh, history_after, history_of, own_entries, until_of, is_signer_among, signer_count, MustHold}
-use Rattle.wal_ledger.specs.inside.Claims.{count_among}
-use Rattle.wal_ledger.specs.Kept.{IsLawful}
-use Rattle.wal_ledger.specs.Handover.{IsMadeIn, IsDated}
+use Rattle.wal_ledger.proofs.Common.{◌≡◌, ◌≢◌, ℕ, ◌+◌, ◌<◌, ◌≤◌, max, List, [], ◌∷◌, ◌++◌, Bool, true, false, cond, nat_le, All, fold, ◌⊎◌, ◌↔◌, inl, inr, refl, sym, ap, ◌∙◌, subst, arith, append_assoc, cases_lt, ltb-true, lt-ltb, leb-true, and_parts, nat_tests, common_steps, append-nil, All-nil, All-cons, All-head, All-tail, All-push, fold_along, fold_push, fold-append, BlobId, Entry, Body, Register, Finish, Kind, Holds, count_below, committee_size, quorum_size, Log, Phase, History, phase, phase_in, phase_after, reading, writing, is_moving, cut, owners_at, names, is_register, is_finish, until_in, until_among, is_fresh, history_after, history_of, own_entries, until_of, is_signer_among, signer_count, MustHold, count_among, IsLawful, IsMadeIn, IsDated}
 use Rattle.wal_ledger.proofs.Counts.{signers_outside, count_among-outside}
 use Rattle.wal_ledger.proofs.TallyLaws.{count_below-same}
 use Rattle.wal_ledger.proofs.Entering.{phase_whole}

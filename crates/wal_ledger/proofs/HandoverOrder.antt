@@ -1,16 +1,5 @@
 -- What each kind of entry does to a ledger: who is live, who signed what, what must be held and who is ready.
-use Rattle.std.proofs.Common.{◌≡◌, ℕ, ◌+◌, ◌<◌, ◌≤◌, List, [], ◌∷◌, ◌++◌, length, true, false, cond, ◌&&◌, nat_lt, ◌⊎◌, inl, inr, refl, sym, ap, ◌∙◌, subst, arith}
-use Rattle.std.proofs.lemmas.Bool.{ltb-true, lt-ltb, both_ways, false≢true}
-use Rattle.wal_shape.specs.declared.metadata.BlobId.{BlobId}
-use Rattle.wal_shape.specs.declared.axis.Side.TheVariants.{Next}
-use Rattle.wal_ledger.specs.declared.entry.Entry.{Entry}
-use Rattle.wal_ledger.specs.declared.entry.Body.{Body}
-use Rattle.wal_ledger.specs.declared.entry.Body.TheVariants.{Register, Ready}
-use Rattle.wal_ledger.specs.declared.entry.Kind.{Kind}
-use Rattle.wal_ledger.specs.declared.entry.Kind.TheVariants.{Holds, Denies}
-use Rattle.wal_ledger.specs.Ledger.{Log, Phase, phase, reading, writing, is_moving, owners_at, owners_of, cut, names, is_register, own_entries, until_of, is_live, same_node, is_signer_among, signers, IsCertified, MustHold, readies, ready_shards, entered, until_among}
-use Rattle.wal_ledger.specs.Answers.{MayRegister, is_moving_extension, claim_of}
-use Rattle.wal_ledger.specs.Orderly.{IsOrderly}
+use Rattle.wal_ledger.proofs.Common.{◌≡◌, ℕ, ◌+◌, ◌<◌, ◌≤◌, List, [], ◌∷◌, ◌++◌, length, true, false, cond, ◌&&◌, nat_lt, ◌⊎◌, inl, inr, refl, sym, ap, ◌∙◌, subst, arith, ltb-true, lt-ltb, both_ways, false≢true, BlobId, Next, Entry, Body, Register, Ready, Kind, Holds, Denies, Log, Phase, phase, reading, writing, is_moving, owners_at, owners_of, cut, names, is_register, own_entries, until_of, is_live, same_node, is_signer_among, signers, IsCertified, MustHold, readies, ready_shards, entered, until_among, MayRegister, is_moving_extension, claim_of, IsOrderly}
 use Rattle.wal_ledger.proofs.RowsPlace.{id_same}
 use Rattle.wal_ledger.proofs.TallyLaws.{signs_register}
 use Rattle.wal_ledger.proofs.HandoverEntries.{entry_in, is_plain, StaysAs, plain_stays, phase_plain, Owned, owned, until_same, until_kept, own_all_entered, SignedBefore, SignsNow, signed_cases, signs_claim_for, ready_plain}

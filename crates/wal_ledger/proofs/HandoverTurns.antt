@@ -1,15 +1,5 @@
 -- What the entries do that change the epoch.
-use Rattle.std.proofs.Common.{◌≡◌, ◌≢◌, ℕ, ◌+◌, ◌-◌, ◌<◌, ◌≤◌, List, [], ◌∷◌, ◌++◌, length, true, false, cond, nat_lt, All, ◌⊎◌, inl, inr, refl, sym, ap, ◌∙◌, subst, arith}
-use Rattle.std.proofs.lemmas.List.{length-append}
-use Rattle.std.proofs.lemmas.Bool.{both_ways, false≢true, ltb-true, lt-ltb, le-ltb, cases_lt, cases_eq}
-use Rattle.wal_shape.specs.declared.metadata.BlobId.{BlobId}
-use Rattle.wal_ledger.specs.declared.entry.Entry.{Entry}
-use Rattle.wal_ledger.specs.declared.entry.Body.TheVariants.{Begin, Finish}
-use Rattle.wal_ledger.specs.declared.entry.Kind.{Kind}
-use Rattle.wal_ledger.specs.declared.entry.Kind.TheVariants.{Holds}
-use Rattle.wal_ledger.specs.Shards.{committee_size, quorum_size}
-use Rattle.wal_ledger.specs.Ledger.{Log, Phase, History, phase, phase_after, reading, writing, is_moving, owners_at, cut, own_entries, until_among, until_of, is_live, is_signer_among, signers, signer_count, IsCertified, MustHold, ready_shards, entered}
-use Rattle.wal_ledger.specs.Orderly.{IsOrderly}
+use Rattle.wal_ledger.proofs.Common.{◌≡◌, ◌≢◌, ℕ, ◌+◌, ◌-◌, ◌<◌, ◌≤◌, List, [], ◌∷◌, ◌++◌, length, true, false, cond, nat_lt, All, ◌⊎◌, inl, inr, refl, sym, ap, ◌∙◌, subst, arith, length-append, both_ways, false≢true, ltb-true, lt-ltb, le-ltb, cases_lt, cases_eq, BlobId, Entry, Begin, Finish, Kind, Holds, committee_size, quorum_size, Log, Phase, History, phase, phase_after, reading, writing, is_moving, owners_at, cut, own_entries, until_among, until_of, is_live, is_signer_among, signers, signer_count, IsCertified, MustHold, ready_shards, entered, IsOrderly}
 use Rattle.wal_ledger.proofs.Entering.{phase_push, phase_whole, history_of-push}
 use Rattle.wal_ledger.proofs.Counts.{signers_outside}
 use Rattle.wal_ledger.proofs.Nodes.{owners_in, brought_before, brought_last}

@@ -18,3 +18,4 @@ pub mod RowsRead
 pub mod RowsKept
 pub mod RowsEnter
 pub mod Living
+mod Common

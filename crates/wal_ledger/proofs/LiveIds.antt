@@ -1,19 +1,5 @@
 -- The live identifiers of a table after each kind of entry.
-use Rattle.std.proofs.Common.{◌≡◌, ℕ, ◌+◌, ◌<◌, Bool, true, false, cond, nat_lt, List, [], ◌∷◌, filter, refl, sym, ap, ◌∙◌, subst, arith}
-use Rattle.std.specs.declared.cmp.Ordering.{Ordering}
-use Rattle.std.specs.declared.cmp.Ordering.TheVariants.{Less, Equal, Greater}
-use Rattle.std.specs.Ordering.{match_ordering}
-use Rattle.std.specs.List.{AllByRecursion}
-use Rattle.std.specs.List.Sorted.{IsStrictlySortedBy}
-use Rattle.std.specs.BTreeSet.{insert_key}
-use Rattle.std.proofs.lemmas.Bool.{lt-ltb, ltb-true}
-use Rattle.std.proofs.lemmas.Bool.Decides.{nat_tests}
-use Rattle.std.proofs.lemmas.List.Elements.{All-filter, All-from_recursion, recursion_from_All, filter_agree}
-use Rattle.wal_shape.specs.declared.metadata.BlobId.{BlobId}
-use Rattle.wal_ledger.specs.declared.rows.Row.{Row}
-use Rattle.wal_shape.specs.Identifiers.{id_cmp, id_eq}
-use Rattle.wal_ledger.specs.Order.{Ascends}
-use Rattle.wal_ledger.specs.inside.Rows.{Rows, row_in, row_registered, living}
+use Rattle.wal_ledger.proofs.Common.{◌≡◌, ℕ, ◌+◌, ◌<◌, Bool, true, false, cond, nat_lt, List, [], ◌∷◌, filter, refl, sym, ap, ◌∙◌, subst, arith, Ordering, Less, Equal, Greater, match_ordering, AllByRecursion, IsStrictlySortedBy, insert_key, lt-ltb, ltb-true, nat_tests, All-filter, All-from_recursion, recursion_from_All, filter_agree, BlobId, Row, id_cmp, id_eq, Ascends, Rows, row_in, row_registered, living}
 use Rattle.wal_ledger.proofs.Order.{ids_total, insert_key_by, all_above}
 use Rattle.wal_ledger.proofs.RowsPlace.{exact_ids, id_itself, id_tied}
 

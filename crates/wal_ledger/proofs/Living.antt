@@ -1,18 +1,5 @@
 -- The identifiers that are live.
-use Rattle.std.proofs.Common.{◌≡◌, ℕ, zero, suc, Bool, true, false, cond, List, [], ◌∷◌, ◌++◌, filter, fold, Contains, ◌⊎◌, inl, inr, refl, sym, ap, ◌∙◌, subst, arith}
-use Rattle.std.specs.declared.cmp.Ordering.{Ordering}
-use Rattle.std.specs.declared.cmp.Ordering.TheVariants.{Less, Equal, Greater}
-use Rattle.std.specs.Ordering.{match_ordering}
-use Rattle.std.specs.BTreeSet.{insert_key}
-use Rattle.std.proofs.lemmas.Bool.{ltb-true, cond_both}
-use Rattle.std.proofs.lemmas.List.Kept.{IsStrictlySortedBy-filter}
-use Rattle.wal_shape.specs.declared.metadata.BlobId.{BlobId}
-use Rattle.wal_ledger.specs.declared.entry.Entry.{Entry}
-use Rattle.wal_ledger.specs.declared.entry.Body.{Body}
-use Rattle.wal_ledger.specs.declared.entry.Body.TheVariants.{Register, Ack, Attest}
-use Rattle.wal_ledger.specs.Order.{Ascends}
-use Rattle.wal_ledger.specs.Ledger.{Log, History, until_in, until_among, is_fresh, history_after, is_live, reading, until_of, with_registered, registered, live_ids}
-use Rattle.wal_shape.specs.Identifiers.{id_cmp, id_eq}
+use Rattle.wal_ledger.proofs.Common.{◌≡◌, ℕ, zero, suc, Bool, true, false, cond, List, [], ◌∷◌, ◌++◌, filter, fold, Contains, ◌⊎◌, inl, inr, refl, sym, ap, ◌∙◌, subst, arith, Ordering, Less, Equal, Greater, match_ordering, insert_key, ltb-true, cond_both, IsStrictlySortedBy-filter, BlobId, Entry, Body, Register, Ack, Attest, Ascends, Log, History, until_in, until_among, is_fresh, history_after, is_live, reading, until_of, with_registered, registered, live_ids, id_cmp, id_eq}
 use Rattle.wal_ledger.proofs.Order.{ascends_nil, id_inserted_ascends}
 use Rattle.wal_ledger.proofs.Handover.{until_push}
 use Rattle.wal_ledger.proofs.RowsPlace.{exact_ids, id_same}

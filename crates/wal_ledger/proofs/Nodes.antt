@@ -1,18 +1,6 @@
 -- Shards of one node, and the owners of each epoch.
-use Rattle.std.proofs.Common.{◌≡◌, ℕ, ◌+◌, ◌-◌, ◌<◌, ◌≤◌, List, [], ◌∷◌, ◌++◌, Bool, true, false, cond, nat_eq, nat_lt, length, slice_index_or, refl, sym, ap, ◌∙◌, subst, arith}
-use Rattle.std.specs.List.{list_any, list_all}
-use Rattle.std.proofs.lemmas.Bool.Decides.{nat_tests}
-use Rattle.std.proofs.lemmas.Bool.{eq-eqb, and_parts, both_ways, false_from_ne_true}
-use Rattle.std.proofs.lemmas.List.{get_or_append_left, length-append}
+use Rattle.wal_ledger.proofs.Common.{◌≡◌, ℕ, ◌+◌, ◌-◌, ◌<◌, ◌≤◌, List, [], ◌∷◌, ◌++◌, Bool, true, false, cond, nat_eq, nat_lt, length, slice_index_or, refl, sym, ap, ◌∙◌, subst, arith, list_any, list_all, nat_tests, eq-eqb, and_parts, both_ways, false_from_ne_true, get_or_append_left, length-append, node_of, are_owners, Entry, Body, Ack, Attest, Ready, Kind, Holds, Denies, Log, Phase, phase, phase_in, reading, is_moving, owners_at, signs_for, is_signer_among, same_node, readies, IsLawful}
 use Rattle.std.proofs.Math.Seq.{get_or-append_seam}
-use Rattle.wal_shape.specs.Owners.{node_of, are_owners}
-use Rattle.wal_ledger.specs.declared.entry.Entry.{Entry}
-use Rattle.wal_ledger.specs.declared.entry.Body.{Body}
-use Rattle.wal_ledger.specs.declared.entry.Body.TheVariants.{Ack, Attest, Ready}
-use Rattle.wal_ledger.specs.declared.entry.Kind.{Kind}
-use Rattle.wal_ledger.specs.declared.entry.Kind.TheVariants.{Holds, Denies}
-use Rattle.wal_ledger.specs.Ledger.{Log, Phase, phase, phase_in, reading, is_moving, owners_at, signs_for, is_signer_among, same_node, readies}
-use Rattle.wal_ledger.specs.Kept.{IsLawful}
 
 -- a shard is of its own node
 pub same_node-self : (owners : List ℕ) (s : ℕ) → same_node owners s s ≡ true

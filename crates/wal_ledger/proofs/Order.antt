@@ -1,19 +1,6 @@
 -- A key put at its place in an ascending list.
-use Rattle.std.proofs.Common.{◌≡◌, ℕ, zero, suc, ◌<◌, ◌≤◌, List, [], ◌∷◌, length, get_or, insert, refl, sym, ap, ◌∙◌, arith}
-use Rattle.std.specs.declared.cmp.Ordering.{Ordering}
-use Rattle.std.specs.declared.cmp.Ordering.TheVariants.{Less, Equal, Greater}
-use Rattle.std.specs.Ordering.{ordering_reverse, match_ordering}
-use Rattle.std.specs.List.{AllByRecursion}
-use Rattle.std.specs.BTreeSet.{insert_key}
-use Rattle.std.specs.List.Sorted.{IsStrictlySortedBy}
+use Rattle.wal_ledger.proofs.Common.{◌≡◌, ℕ, zero, suc, ◌<◌, ◌≤◌, List, [], ◌∷◌, length, get_or, insert, refl, sym, ap, ◌∙◌, arith, Ordering, Less, Equal, Greater, ordering_reverse, match_ordering, AllByRecursion, insert_key, IsStrictlySortedBy, nat_list_cmp_total, Less-from_sorted, sorted_tail, All-insert_key, All-from_recursion, recursion_from_All, BlobId, id_cmp, Ascends}
 use Rattle.std.specs.Cmp.{IsTotalOrder, on_total}
-use Rattle.std.specs.Cmp.Lexicographic.{nat_list_cmp_total}
-use Rattle.std.proofs.lemmas.Map.Keys.{Less-from_sorted, sorted_tail}
-use Rattle.std.proofs.lemmas.Map.Views.{All-insert_key}
-use Rattle.std.proofs.lemmas.List.Elements.{All-from_recursion, recursion_from_All}
-use Rattle.wal_shape.specs.declared.metadata.BlobId.{BlobId}
-use Rattle.wal_shape.specs.Identifiers.{id_cmp}
-use Rattle.wal_ledger.specs.Order.{Ascends}
 
 pub ids_total : IsTotalOrder id_cmp
 ids_total = on_total (λ (b : BlobId). b.0) nat_list_cmp_total

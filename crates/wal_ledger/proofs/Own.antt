@@ -1,10 +1,5 @@
 -- What holds of a ledger's entries holds of an identifier's own.
-use Rattle.std.proofs.Common.{◌≡◌, ℕ, List, [], ◌∷◌, ◌++◌, cond, All, fold, sym, subst}
-use Rattle.std.proofs.lemmas.Bool.{cond_both}
-use Rattle.std.proofs.lemmas.List.Elements.{All-nil, All-cons, All-head, All-tail, All-push}
-use Rattle.wal_shape.specs.declared.metadata.BlobId.{BlobId}
-use Rattle.wal_ledger.specs.declared.entry.Entry.{Entry}
-use Rattle.wal_ledger.specs.Ledger.{History, history_of, history_after, names, is_fresh}
+use Rattle.wal_ledger.proofs.Common.{◌≡◌, ℕ, List, [], ◌∷◌, ◌++◌, cond, All, fold, sym, subst, cond_both, All-nil, All-cons, All-head, All-tail, All-push, BlobId, Entry, History, history_of, history_after, names, is_fresh}
 
 history_after-own : (P : Entry → Type 0) (id : BlobId) (c : History) (x : Entry) → All P c.own → P x → All P (history_after id c x).own
 history_after-own P id c x all p =

@@ -1,9 +1,5 @@
 -- Counting sets of shards.
-use Rattle.std.proofs.Common.{◌≡◌, ℕ, zero, suc, ◌+◌, ◌<◌, ◌≤◌, Bool, true, false, cond, not, ◌&&◌, ◌||◌, nat_eq, inl, inr, List, [], ◌∷◌, length, refl, ap, arith}
-use Rattle.std.specs.List.{list_any}
-use Rattle.std.proofs.lemmas.Bool.Decides.{nat_tests}
-use Rattle.std.proofs.lemmas.Bool.{cases_lt, cases_Bool}
-use Rattle.wal_ledger.specs.Shards.{count_below, committee_size, quorum_size}
+use Rattle.wal_ledger.proofs.Common.{◌≡◌, ℕ, zero, suc, ◌+◌, ◌<◌, ◌≤◌, Bool, true, false, cond, not, ◌&&◌, ◌||◌, nat_eq, inl, inr, List, [], ◌∷◌, length, refl, ap, arith, list_any, nat_tests, cases_lt, cases_Bool, count_below, committee_size, quorum_size}
 use Rattle.wal_ledger.proofs.Counts.{count_below-none}
 
 -- a set is no larger than one that has all its members

@@ -1,32 +1,8 @@
 -- The rows after a claim, a registration, or another entry.
-use Rattle.std.proofs.Common.{◌≡◌, ℕ, ◌+◌, ◌-◌, ◌<◌, ◌≤◌, max, Bool, true, false, cond, ◌&&◌, ◌||◌, nat_eq, nat_le, List, [], ◌∷◌, ◌++◌, length, slice_set, refl, sym, ap, ◌∙◌, subst, arith}
-use Rattle.std.specs.List.{list_any}
-use Rattle.std.specs.BTreeSet.{insert_key}
-use Rattle.std.proofs.lemmas.Bool.{or_from, and_right}
-use Rattle.std.proofs.lemmas.List.{length-set}
-use Rattle.wal_shape.specs.declared.metadata.BlobId.{BlobId}
-use Rattle.wal_ledger.specs.declared.entry.Entry.{Entry}
-use Rattle.wal_ledger.specs.declared.entry.Body.TheVariants.{Register, Ack, Attest, Ready}
-use Rattle.wal_ledger.specs.declared.entry.Kind.{Kind}
-use Rattle.wal_ledger.specs.declared.entry.Kind.TheVariants.{Holds, Denies}
-use Rattle.wal_ledger.specs.declared.rows.Row.{Row}
-use Rattle.wal_ledger.specs.declared.tally.Tally.{Tally}
-use Rattle.wal_shape.specs.declared.axis.Side.TheVariants.{Next}
-use Rattle.wal_shape.specs.Owners.{node_of}
-use Rattle.wal_ledger.specs.Shards.{count_below, committee_size}
-use Rattle.wal_ledger.specs.inside.Flags.{flag_of}
-use Rattle.wal_ledger.specs.inside.Book.{BookState}
-use Rattle.wal_ledger.specs.inside.Tally.{IsTally, IsFirstClaim, link_in, node_size, tally_after}
-use Rattle.wal_ledger.specs.inside.Rows.{Rows, IsRow, row_in, no_row, row_registered, tally_of, with_tally}
-use Rattle.wal_ledger.specs.Kept.{IsOfCommittee}
-use Rattle.wal_ledger.specs.inside.Kept.{IsKept, log_of}
-use Rattle.wal_ledger.specs.Answers.{claim_of}
-use Rattle.wal_ledger.specs.Ledger.{Log, phase, writing, owners_at, owners_of, until_among, same_node, signs_for, readies, ready_shards, signers, own_entries, History, history_of, history_after, with_registered}
-use Rattle.wal_shape.specs.Identifiers.{id_eq, id_cmp}
+use Rattle.wal_ledger.proofs.Common.{◌≡◌, ℕ, ◌+◌, ◌-◌, ◌<◌, ◌≤◌, max, Bool, true, false, cond, ◌&&◌, ◌||◌, nat_eq, nat_le, List, [], ◌∷◌, ◌++◌, length, slice_set, refl, sym, ap, ◌∙◌, subst, arith, list_any, insert_key, or_from, and_right, length-set, BlobId, Entry, Register, Ack, Attest, Ready, Kind, Holds, Denies, Row, Tally, Next, node_of, count_below, committee_size, flag_of, BookState, IsTally, IsFirstClaim, link_in, node_size, tally_after, Rows, IsRow, row_in, no_row, row_registered, tally_of, with_tally, IsOfCommittee, IsKept, log_of, claim_of, Log, phase, writing, owners_at, owners_of, until_among, same_node, signs_for, readies, ready_shards, signers, own_entries, History, history_of, history_after, with_registered, id_eq, id_cmp, Ascends}
 use Rattle.wal_ledger.proofs.RowsPlace.{id_same}
 use Rattle.wal_ledger.proofs.Living.{registered_ascends}
 use Rattle.wal_ledger.proofs.LiveIds.{living_same, living_registered}
-use Rattle.wal_ledger.specs.Order.{Ascends}
 use Rattle.wal_ledger.proofs.RowsKept.{pushed, nameless, kept_still, kept_quiet, row_kept}
 use Rattle.wal_ledger.proofs.Counts.{count_below-joined}
 use Rattle.wal_ledger.proofs.Entering.{since_push}

@@ -1,27 +1,5 @@
 -- What is kept of a ledger after one more entry.
-use Rattle.std.proofs.Common.{◌≡◌, ℕ, zero, suc, ◌+◌, ◌-◌, ◌<◌, ◌≤◌, Bool, true, false, cond, ◌||◌, nat_lt, All, subst, arith, List, [], ◌∷◌, ◌++◌, length, filter, replicate, refl, sym, ap, ◌∙◌}
-use Rattle.std.specs.List.{list_any}
-use Rattle.std.proofs.Math.Bool.{or-false}
-use Rattle.std.proofs.lemmas.Bool.{lt-ltb, le-ltb, both_ways}
-use Rattle.std.proofs.lemmas.List.{length-append, length-replicate}
-use Rattle.std.proofs.lemmas.List.Elements.{All-nil, All-cons, All-push}
-use Rattle.std.proofs.lemmas.List.Sums.{fold_push}
-use Rattle.wal_shape.specs.declared.metadata.BlobId.{BlobId}
-use Rattle.wal_ledger.specs.declared.entry.Entry.{Entry}
-use Rattle.wal_ledger.specs.declared.entry.Body.{Body}
-use Rattle.wal_ledger.specs.declared.entry.Body.TheVariants.{Begin, Finish}
-use Rattle.wal_ledger.specs.declared.rows.Row.{Row}
-use Rattle.wal_shape.specs.declared.axis.Side.TheVariants.{Now, Next}
-use Rattle.wal_shape.specs.Owners.{are_owners, node_of}
-use Rattle.wal_ledger.specs.Shards.{count_below, committee_size}
-use Rattle.wal_ledger.specs.inside.Flags.{flag_of}
-use Rattle.wal_ledger.specs.inside.Book.{BookState}
-use Rattle.wal_ledger.specs.inside.Rows.{Rows, IsRow, row_in, living}
-use Rattle.wal_ledger.specs.Kept.{IsOfCommittee}
-use Rattle.wal_ledger.specs.inside.Kept.{IsKept, StandAt, log_of}
-use Rattle.wal_ledger.specs.Handover.{IsMadeIn, IsMadeSince}
-use Rattle.wal_ledger.specs.Ledger.{Log, Phase, phase, phase_in, phase_after, names, writing, reading, is_moving, owners_at, owners_of, own_entries, readies, with_registered, History, history_of, history_after}
-use Rattle.wal_ledger.specs.Within.{IsWithin}
+use Rattle.wal_ledger.proofs.Common.{◌≡◌, ℕ, zero, suc, ◌+◌, ◌-◌, ◌<◌, ◌≤◌, Bool, true, false, cond, ◌||◌, nat_lt, All, subst, arith, List, [], ◌∷◌, ◌++◌, length, filter, replicate, refl, sym, ap, ◌∙◌, list_any, or-false, lt-ltb, le-ltb, both_ways, length-append, length-replicate, All-nil, All-cons, All-push, fold_push, BlobId, Entry, Body, Begin, Finish, Row, Now, Next, are_owners, node_of, count_below, committee_size, flag_of, BookState, Rows, IsRow, row_in, living, IsOfCommittee, IsKept, StandAt, log_of, IsMadeIn, IsMadeSince, Log, Phase, phase, phase_in, phase_after, names, writing, reading, is_moving, owners_at, owners_of, own_entries, readies, with_registered, History, history_of, history_after, IsWithin}
 use Rattle.wal_ledger.proofs.Entering.{phase_push, phase_whole, history_of-push, since_push}
 use Rattle.wal_ledger.proofs.FlagLaws.{flag_cleared}
 use Rattle.wal_ledger.proofs.Counts.{count_below-none}

@@ -1,23 +1,8 @@
 -- Identifiers and rows by their numbers, in the order of the identifiers.
-use Rattle.std.proofs.Common.{◌≡◌, ◌≢◌, ℕ, zero, suc, ◌+◌, ◌<◌, ◌≤◌, Bool, true, cond, List, [], ◌∷◌, ◌++◌, length, take, drop, map, filter, insert, get_or, slice_set, All, Contains, Result, Ok, Err, IfOk, IfErr, inl, inr, refl, sym, ap, ◌∙◌, arith}
-use Rattle.std.specs.declared.cmp.Ordering.{Ordering}
-use Rattle.std.specs.declared.cmp.Ordering.TheVariants.{Less, Equal}
-use Rattle.std.specs.Ordering.{is_eq, is_lt, ordering_reverse, eq_by_cmp}
-use Rattle.std.specs.List.Sorted.{IsSearchInRange, IsBinarySearchResult}
-use Rattle.std.proofs.lemmas.Bool.{cases_lt, both_ways}
+use Rattle.wal_ledger.proofs.Common.{◌≡◌, ◌≢◌, ℕ, zero, suc, ◌+◌, ◌<◌, ◌≤◌, Bool, true, cond, List, [], ◌∷◌, ◌++◌, length, take, drop, map, filter, insert, get_or, slice_set, All, Contains, Result, Ok, Err, IfOk, IfErr, inl, inr, refl, sym, ap, ◌∙◌, arith, Ordering, Less, Equal, is_eq, is_lt, ordering_reverse, eq_by_cmp, IsSearchInRange, IsBinarySearchResult, cases_lt, both_ways, map-append, take-map, drop-map, length-map, get_or-map, get_or-set_same, get_or-set_other, get_or_default, length-insert, get_or-insert_below, get_or-insert_at, get_or-insert_above, All-head, All-tail, All-cons, Less-from_sorted, IsDistinct-from_sorted, list_any-from_Contains, Contains-from_any, BlobId, Row, id_cmp, id_eq, Ascends, IsPlace, IsInsertionPoint, IsOrder, id_of, ids_of, no_row, row_of}
 use Rattle.std.proofs.lemmas.Cmp.{eq_by_cmp_equiv}
-use Rattle.std.proofs.lemmas.List.{map-append, take-map, drop-map, length-map, get_or-map, get_or-set_same, get_or-set_other, get_or_default}
 use Rattle.std.proofs.lemmas.List.Sorted.{searchable_from_sorted}
-use Rattle.std.proofs.lemmas.List.Edits.{length-insert, get_or-insert_below, get_or-insert_at, get_or-insert_above}
-use Rattle.std.proofs.lemmas.List.Elements.{All-head, All-tail, All-cons}
-use Rattle.std.proofs.lemmas.Map.Keys.{Less-from_sorted, IsDistinct-from_sorted}
 use Rattle.std.proofs.lemmas.Map.Made.{length-le_from_is_member}
-use Rattle.std.proofs.lemmas.Map.Views.{list_any-from_Contains, Contains-from_any}
-use Rattle.wal_shape.specs.declared.metadata.BlobId.{BlobId}
-use Rattle.wal_ledger.specs.declared.rows.Row.{Row}
-use Rattle.wal_shape.specs.Identifiers.{id_cmp, id_eq}
-use Rattle.wal_ledger.specs.Order.{Ascends}
-use Rattle.wal_ledger.specs.inside.Rows.{IsPlace, IsInsertionPoint, IsOrder, id_of, ids_of, no_row, row_of}
 use Rattle.wal_ledger.proofs.Order.{ids_total}
 use Rattle.wal_ledger.proofs.RowsPlace.{exact_ids, place_found, place_missed, id_itself, id_tied}
 

@@ -1,18 +1,6 @@
 -- Places of identifiers, and the rows beside them.
-use Rattle.std.proofs.Common.{◌≡◌, ℕ, zero, suc, ◌<◌, ◌≤◌, Bool, true, false, cond, List, ◌∷◌, length, get_or, insert, slice_set, All, HoldsAt, inl, inr, refl, sym, ap, ◌∙◌, arith}
-use Rattle.std.specs.declared.cmp.Ordering.{Ordering}
-use Rattle.std.specs.declared.cmp.Ordering.TheVariants.{Less, Equal, Greater}
-use Rattle.std.specs.Ordering.{is_eq, ordering_reverse}
-use Rattle.std.specs.Cmp.Lexicographic.{texts_ties}
+use Rattle.wal_ledger.proofs.Common.{◌≡◌, ℕ, zero, suc, ◌<◌, ◌≤◌, Bool, true, false, cond, List, ◌∷◌, length, get_or, insert, slice_set, All, HoldsAt, inl, inr, refl, sym, ap, ◌∙◌, arith, Ordering, Less, Equal, Greater, is_eq, ordering_reverse, texts_ties, cases_lt, get_or_default, Less-from_sorted, BlobId, Row, id_eq, id_cmp, Ascends, IsPlace, IsInsertionPoint, row_beside, no_row}
 use Rattle.std.specs.FinMap.{IsAntisymmetric, nat_cmp-IsAntisymmetric, slice_cmp-IsAntisymmetric}
-use Rattle.std.proofs.lemmas.Bool.{cases_lt}
-use Rattle.std.proofs.lemmas.List.{get_or_default}
-use Rattle.std.proofs.lemmas.Map.Keys.{Less-from_sorted}
-use Rattle.wal_shape.specs.declared.metadata.BlobId.{BlobId}
-use Rattle.wal_ledger.specs.declared.rows.Row.{Row}
-use Rattle.wal_shape.specs.Identifiers.{id_eq, id_cmp}
-use Rattle.wal_ledger.specs.Order.{Ascends}
-use Rattle.wal_ledger.specs.inside.Rows.{IsPlace, IsInsertionPoint, row_beside, no_row}
 use Rattle.wal_ledger.proofs.Order.{ids_total, insert_key_found, insert_key_gap}
 
 -- identifiers that compare alike are one

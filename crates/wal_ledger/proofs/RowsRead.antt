@@ -1,19 +1,5 @@
 -- What the row of an identifier tells.
-use Rattle.std.proofs.Common.{◌≡◌, ℕ, ◌+◌, ◌-◌, ◌<◌, ◌≤◌, true, false, Option, Some, None, IfSome, IfNone, All, List, [], ◌∷◌, replicate, slice_index_or, refl, sym, ap, arith}
-use Rattle.std.proofs.lemmas.List.{length-replicate}
-use Rattle.std.proofs.lemmas.List.Elements.{All-nil}
-use Rattle.wal_shape.specs.declared.metadata.BlobId.{BlobId}
-use Rattle.wal_ledger.specs.declared.entry.Entry.{Entry}
-use Rattle.wal_ledger.specs.declared.entry.Kind.TheVariants.{Holds}
-use Rattle.wal_shape.specs.Owners.{are_owners, node_of}
-use Rattle.wal_ledger.specs.Shards.{committee_size, quorum_size}
-use Rattle.wal_ledger.specs.inside.Claims.{count_among, IsLeastQuorum}
-use Rattle.wal_ledger.specs.Within.{IsWithin}
-use Rattle.wal_ledger.specs.Kept.{IsOfCommittee, IsLawful}
-use Rattle.wal_ledger.specs.inside.Kept.{IsKept}
-use Rattle.wal_ledger.specs.Ledger.{Log, writing, owners_at, is_live, own_entries, IsCertified}
-use Rattle.wal_ledger.specs.Answers.{IsCertificate}
-use Rattle.wal_ledger.specs.Handover.{IsMadeSince}
+use Rattle.wal_ledger.proofs.Common.{◌≡◌, ℕ, ◌+◌, ◌-◌, ◌<◌, ◌≤◌, true, false, Option, Some, None, IfSome, IfNone, All, List, [], ◌∷◌, replicate, slice_index_or, refl, sym, ap, arith, length-replicate, All-nil, BlobId, Entry, Holds, are_owners, node_of, committee_size, quorum_size, count_among, IsLeastQuorum, IsWithin, IsOfCommittee, IsLawful, IsKept, Log, writing, owners_at, is_live, own_entries, IsCertified, IsCertificate, IsMadeSince}
 use Rattle.wal_ledger.proofs.Own.{own_all}
 use Rattle.wal_ledger.proofs.Counts.{count_below-none}
 use Rattle.wal_ledger.proofs.FlagLaws.{flag_cleared}

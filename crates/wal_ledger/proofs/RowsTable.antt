@@ -1,16 +1,5 @@
 -- A table after one more identifier, with one more live one, and with fewer.
-use Rattle.std.proofs.Common.{◌≡◌, ℕ, ◌+◌, ◌<◌, ◌≤◌, Bool, cond, List, [], ◌∷◌, ◌++◌, length, map, filter, insert, slice_set, get_or, All, Contains, inl, inr, refl, sym, ap, ◌∙◌, subst, arith}
-use Rattle.std.specs.BTreeSet.{insert_key}
-use Rattle.std.proofs.lemmas.Bool.{cases_lt}
-use Rattle.std.proofs.lemmas.List.{length-map, length-append, get_or-map, get_or_default, get_or_push, get_or_append_left}
-use Rattle.std.proofs.lemmas.List.Edits.{length-insert}
-use Rattle.std.proofs.lemmas.List.Elements.{All-nil, All-filter}
-use Rattle.std.proofs.lemmas.List.Kept.{IsStrictlySortedBy-filter}
-use Rattle.wal_shape.specs.declared.metadata.BlobId.{BlobId}
-use Rattle.wal_ledger.specs.declared.rows.Row.{Row}
-use Rattle.wal_shape.specs.Identifiers.{id_cmp, id_eq}
-use Rattle.wal_ledger.specs.Order.{Ascends}
-use Rattle.wal_ledger.specs.inside.Rows.{Rows, IsPlace, IsInsertionPoint, IsOrder, IsTable, id_of, ids_of, row_of, row_beside}
+use Rattle.wal_ledger.proofs.Common.{◌≡◌, ℕ, ◌+◌, ◌<◌, ◌≤◌, Bool, cond, List, [], ◌∷◌, ◌++◌, length, map, filter, insert, slice_set, get_or, All, Contains, inl, inr, refl, sym, ap, ◌∙◌, subst, arith, insert_key, cases_lt, length-map, length-append, get_or-map, get_or_default, get_or_push, get_or_append_left, length-insert, All-nil, All-filter, IsStrictlySortedBy-filter, BlobId, Row, id_cmp, id_eq, Ascends, Rows, IsPlace, IsInsertionPoint, IsOrder, IsTable, id_of, ids_of, row_of, row_beside}
 use Rattle.wal_ledger.proofs.Order.{ascends_nil, id_inserted_ascends}
 use Rattle.wal_ledger.proofs.RowsPlace.{beside_at, beside_place, beside_set, beside_insert, id_itself}
 use Rattle.wal_ledger.proofs.RowsNumbers.{apart, set_row, map-insert, map_same, filter_mapped, in_inserted, new_inserted, All-insert, few_numbers}

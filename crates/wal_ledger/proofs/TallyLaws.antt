@@ -1,26 +1,7 @@
 -- What a tally tells, and how one more entry changes it.
-use Rattle.std.proofs.Common.{◌≡◌, ◌≢◌, ℕ, zero, suc, ◌+◌, ◌-◌, ◌<◌, ◌≤◌, List, [], ◌∷◌, ◌++◌, Bool, true, false, cond, ◌&&◌, ◌||◌, nat_eq, nat_le, length, get_or, All, Option, Some, None, slice_get, inl, inr, refl, sym, ap, ◌∙◌, subst, arith}
-use Rattle.std.proofs.lemmas.Bool.Decides.{nat_tests}
-use Rattle.std.proofs.Math.Bool.{or-false}
-use Rattle.std.proofs.lemmas.Bool.{cases_lt, cases_eq, eq-eqb, eqb-true, eqb-false, ne_eqb, leb-true, leb-false, cond_both, and_right}
+use Rattle.wal_ledger.proofs.Common.{◌≡◌, ◌≢◌, ℕ, zero, suc, ◌+◌, ◌-◌, ◌<◌, ◌≤◌, List, [], ◌∷◌, ◌++◌, Bool, true, false, cond, ◌&&◌, ◌||◌, nat_eq, nat_le, length, get_or, All, Option, Some, None, slice_get, inl, inr, refl, sym, ap, ◌∙◌, subst, arith, nat_tests, or-false, cases_lt, cases_eq, eq-eqb, eqb-true, eqb-false, ne_eqb, leb-true, leb-false, cond_both, and_right, common_steps, BlobId, has_neighbour, Entry, Body, Register, Ack, Attest, Kind, Holds, Denies, Tally, count_below, committee_size, quorum_size, signs_for, same_node, is_signer_among, claim_of, count_among, IsWithin, signs, IsLinked, Chain, HasLeast, IsTally, IsFirstClaim, no_tally, link_in, quorum_after, node_size, tally_after, tally_of, no_row}
 use Rattle.std.proofs.lemmas.Option.{slice_get_within, get_or_from_slice_get, gets}
-use Rattle.std.proofs.lemmas.Grind.{common_steps}
-use Rattle.wal_shape.specs.declared.metadata.BlobId.{BlobId}
-use Rattle.wal_shape.specs.Owners.{has_neighbour}
-use Rattle.wal_ledger.specs.declared.entry.Entry.{Entry}
-use Rattle.wal_ledger.specs.declared.entry.Body.{Body}
-use Rattle.wal_ledger.specs.declared.entry.Body.TheVariants.{Register, Ack, Attest}
-use Rattle.wal_ledger.specs.declared.entry.Kind.{Kind}
-use Rattle.wal_ledger.specs.declared.entry.Kind.TheVariants.{Holds, Denies}
 use Rattle.wal_ledger.specs.declared.tally.Quorum.{Quorum}
-use Rattle.wal_ledger.specs.declared.tally.Tally.{Tally}
-use Rattle.wal_ledger.specs.Shards.{count_below, committee_size, quorum_size}
-use Rattle.wal_ledger.specs.Ledger.{signs_for, same_node, is_signer_among}
-use Rattle.wal_ledger.specs.Answers.{claim_of}
-use Rattle.wal_ledger.specs.inside.Claims.{count_among}
-use Rattle.wal_ledger.specs.Within.{IsWithin}
-use Rattle.wal_ledger.specs.inside.Tally.{signs, IsLinked, Chain, HasLeast, IsTally, IsFirstClaim, no_tally, link_in, quorum_after, node_size, tally_after}
-use Rattle.wal_ledger.specs.inside.Rows.{tally_of, no_row}
 use Rattle.wal_ledger.proofs.Counts.{count_below-none, count_below-has, count_below-joined, count_among-beyond, signers_outside}
 use Rattle.wal_ledger.proofs.Nodes.{same_node-self, signers-node, node_apart}
 

@@ -1,12 +1,6 @@
 -- Runs of bytes, and consecutive indices.
-use Rattle.std.proofs.Common.{◌≡◌, ℕ, ◌+◌, ◌*◌, ◌<◌, List, ◌++◌, length, take, drop, get_or, sym, ◌∙◌, ap, arith, subst, ⊎_elim}
-use Rattle.std.specs.List.{range_with_len}
-use Rattle.std.proofs.lemmas.List.{get_or-take, get_or-drop, get_or_past, drop_at, drop-drop, length-take}
-use Rattle.std.proofs.lemmas.List.FromFn.{get_or-range_with_len, length-range_with_len}
-use Rattle.std.proofs.lemmas.Bool.{cases_lt}
-use Rattle.wal_gf.specs.Field.{IsWord}
-use Rattle.wal_code.specs.Codeword.{Distinct}
-use Rattle.wal_kernel.specs.Region.{word_at, region}
+use Rattle.wal_matrix.proofs.Common.{◌≡◌, ℕ, ◌+◌, ◌*◌, ◌<◌, List, ◌++◌, length, take, drop, get_or, sym, ◌∙◌, ap, arith, subst, ⊎_elim, range_with_len, get_or-take, get_or-drop, get_or_past, drop_at, drop-drop, get_or-range_with_len, length-range_with_len, cases_lt, IsWord, Distinct, word_at, region}
+use Rattle.std.proofs.lemmas.List.{length-take}
 
 -- every entry of a list is a byte
 abbrev pub AreBytes : List ℕ → Type 0

@@ -1,13 +1,6 @@
 -- A block that is made of columns, and the columns of a source block.
-use Rattle.std.proofs.Common.{◌≡◌, ℕ, ◌+◌, ◌-◌, ◌*◌, ◌<◌, ◌≤◌, List, ◌++◌, zero, suc, add-one, length, take, drop, replicate, refl, sym, ap, ap₂, subst, ◌∙◌, arith, length-append}
-use Rattle.std.specs.List.{flat_map, range_with_len}
-use Rattle.std.proofs.lemmas.List.{length-replicate, replicate-append-replicate, drop-replicate, drop_at, take_at, take_all}
-use Rattle.std.proofs.Math.Seq.{take-add, drop-append-add}
+use Rattle.wal_matrix.proofs.Common.{◌≡◌, ℕ, ◌+◌, ◌-◌, ◌*◌, ◌<◌, ◌≤◌, List, ◌++◌, zero, suc, add-one, length, take, drop, replicate, refl, sym, ap, ap₂, subst, ◌∙◌, arith, length-append, flat_map, range_with_len, length-replicate, replicate-append-replicate, drop-replicate, drop_at, take_at, take_all, take-add, drop-append-add, region, shard_count, row_count, column_count, symbol_size, symbol, column_part, secondary_of, padded, IsMatrixOf, IsExtended, row_of_columns, block_of_columns}
 use borrow.Rule.Slice.PartMut.{put_mid}
-use Rattle.wal_kernel.specs.Region.{region}
-use Rattle.wal_shape.specs.Shape.{shard_count, row_count, column_count, symbol_size}
-use Rattle.wal_matrix.specs.Matrix.{symbol, column_part, secondary_of, padded, IsMatrixOf, IsExtended}
-use Rattle.wal_matrix.specs.Columns.{row_of_columns, block_of_columns}
 use Rattle.wal_matrix.proofs.Places.{run_fits}
 use Rattle.wal_matrix.proofs.Runs.{pieces_more, length-pieces, piece_at, run_in_front, region_long}
 use Rattle.wal_matrix.proofs.Symbols.{column_symbol, row_symbol}

@@ -1,14 +1,5 @@
 -- The sums of the known slivers are the rows of the matrix through them.
-use Rattle.std.proofs.Common.{◌≡◌, ℕ, ◌+◌, ◌*◌, ◌/◌, ◌<◌, List, length, slice_index, sym, ap, subst, ◌∙◌, arith}
-use Rattle.wal_gf.specs.Field.{times, xor_below}
-use Rattle.wal_code.specs.Codeword.{coefficient, combination}
-use Rattle.wal_code.proofs.Totals.{xor_below-same}
-use Rattle.wal_kernel.specs.Region.{word_at, region}
-use Rattle.wal_shape.specs.Shape.{row_count, column_count, symbol_size}
-use Rattle.wal_shape.proofs.ShapeLaws.{symbol_size-least}
-use Rattle.wal_matrix.specs.Matrix.{primary_of, padded, IsExtended}
-use Rattle.wal_matrix.specs.inside.Sum.{IsWeightedSum}
-use Rattle.wal_matrix.specs.Through.{IsMatrixThrough, source_of}
+use Rattle.wal_matrix.proofs.Common.{◌≡◌, ℕ, ◌+◌, ◌*◌, ◌/◌, ◌<◌, List, length, slice_index, sym, ap, subst, ◌∙◌, arith, times, xor_below, coefficient, combination, xor_below-same, word_at, region, row_count, column_count, symbol_size, symbol_size-least, primary_of, padded, IsExtended, IsWeightedSum, IsMatrixThrough, source_of}
 use Rattle.wal_matrix.proofs.Codewords.{AreBytes, bytes_of_part}
 use Rattle.wal_matrix.proofs.Interpolated.{given}
 use Rattle.wal_matrix.proofs.MatrixLaws.{bytes_within}

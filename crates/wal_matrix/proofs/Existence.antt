@@ -1,11 +1,5 @@
 -- Each blob has an extended matrix.
-use Rattle.std.proofs.Common.{◌≡◌, ℕ, ◌*◌, ◌%◌, ◌<◌, ◌≤◌, ◌-◌, List, length, get_or, sym, ap, ◌∙◌, arith}
-use Rattle.std.specs.List.{range_with_len}
-use Rattle.std.proofs.lemmas.List.FromFn.{get_or-range_with_len, length-range_with_len}
-use Rattle.wal_kernel.specs.Region.{region}
-use Rattle.wal_shape.specs.Shape.{row_count, column_count, symbol_size}
-use Rattle.wal_shape.proofs.ShapeLaws.{symbol_size-least}
-use Rattle.wal_matrix.specs.Matrix.{padded, primary_of, IsMatrixOf, IsExtended}
+use Rattle.wal_matrix.proofs.Common.{◌≡◌, ℕ, ◌*◌, ◌%◌, ◌<◌, ◌≤◌, ◌-◌, List, length, get_or, sym, ap, ◌∙◌, arith, range_with_len, get_or-range_with_len, length-range_with_len, region, row_count, column_count, symbol_size, symbol_size-least, padded, primary_of, IsMatrixOf, IsExtended}
 use Rattle.wal_matrix.proofs.Codewords.{AreBytes, range_distinct}
 use Rattle.wal_matrix.proofs.PaddedLaws.{padded_long}
 use Rattle.wal_matrix.proofs.RowLaws.{zeros_after}

@@ -1,18 +1,7 @@
 -- The columns that are made a few at a time are those of the extended matrix.
-use Rattle.std.proofs.Common.{◌≡◌, ℕ, ◌+◌, ◌-◌, ◌*◌, ◌/◌, ◌%◌, ◌<◌, ◌≤◌, min, List, ◌++◌, length, take, drop, get_or, sym, ap, ap₂, subst, ◌∙◌, arith, ⊎_elim, length-append, length-take, length-drop, Fits, w8}
-use Rattle.std.proofs.Math.Nat.{mul_comm, mul-le-mul_left, mul-le-mul_right}
-use Rattle.std.proofs.lemmas.Bool.{cases_lt}
-use Rattle.std.proofs.lemmas.Nat.{div-mul-add, mod-mul-add, mul-add-lt}
-use Rattle.std.proofs.lemmas.List.{get_or_append_left, get_or-append_right, get_or_past, get_or-take, get_or-drop, take_at}
+use Rattle.wal_matrix.proofs.Common.{◌≡◌, ℕ, ◌+◌, ◌-◌, ◌*◌, ◌/◌, ◌%◌, ◌<◌, ◌≤◌, min, List, ◌++◌, length, take, drop, get_or, sym, ap, ap₂, subst, ◌∙◌, arith, ⊎_elim, length-append, length-take, length-drop, Fits, w8, mul_comm, mul-le-mul_left, mul-le-mul_right, cases_lt, div-mul-add, mod-mul-add, mul-add-lt, get_or_append_left, get_or-append_right, get_or_past, get_or-take, get_or-drop, take_at, IsCodeword, word_at, region, region-append_left, region-drop, shard_count, row_count, column_count, symbol_size, ArePut, symbol, padded, IsMatrixOf, IsExtended, IsRowFrom}
 use borrow.Rule.Slice.PartMut.{put_mid, post_of}
-use Rattle.wal_code.specs.Codeword.{IsCodeword}
-use Rattle.wal_kernel.specs.Region.{word_at, region}
-use Rattle.wal_kernel.proofs.Regions.{region-append_left, region-drop}
-use Rattle.wal_shape.specs.Shape.{shard_count, row_count, column_count, symbol_size}
 use Rattle.wal_matrix.specs.Front.{AreColumns}
-use Rattle.wal_matrix.specs.inside.Front.{ArePut}
-use Rattle.wal_matrix.specs.Matrix.{symbol, padded, IsMatrixOf, IsExtended}
-use Rattle.wal_matrix.specs.inside.Row.{IsRowFrom}
 use Rattle.wal_matrix.proofs.Codewords.{AreBytes, bytes_of_part, region_after}
 use Rattle.wal_matrix.proofs.MatrixLaws.{bytes_within, same_runs}
 use Rattle.wal_matrix.proofs.Places.{place_fits, run_fits}

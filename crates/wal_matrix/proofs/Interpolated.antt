@@ -1,12 +1,5 @@
 -- The matrix of words through given primary slivers: each sliver goes on along its row, and the columns go through these rows.
-use Rattle.std.proofs.Common.{◌≡◌, ℕ, ◌*◌, ◌%◌, ◌<◌, ◌≤◌, List, length, get_or, sym, ap, subst, ◌∙◌, arith, All}
-use Rattle.std.specs.List.{range_with_len}
-use Rattle.std.proofs.lemmas.List.FromFn.{get_or-range_with_len, length-range_with_len}
-use Rattle.wal_code.specs.Codeword.{IsCodeword, Distinct, combination}
-use Rattle.wal_code.proofs.Codes.{IsCodeword-same, codeword-word, combination-codeword, combination-known, every_row}
-use Rattle.wal_kernel.specs.Region.{word_at}
-use Rattle.wal_shape.specs.Shape.{shard_count, row_count, column_count}
-use Rattle.wal_matrix.specs.Matrix.{symbol}
+use Rattle.wal_matrix.proofs.Common.{◌≡◌, ℕ, ◌*◌, ◌%◌, ◌<◌, ◌≤◌, List, length, get_or, sym, ap, subst, ◌∙◌, arith, All, range_with_len, get_or-range_with_len, length-range_with_len, IsCodeword, Distinct, combination, IsCodeword-same, codeword-word, combination-codeword, combination-known, every_row, word_at, shard_count, row_count, column_count, symbol}
 use Rattle.wal_matrix.proofs.Codewords.{AreBytes, range_distinct}
 use Rattle.wal_matrix.proofs.MatrixLaws.{word_of_symbol}
 

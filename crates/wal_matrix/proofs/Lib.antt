@@ -20,3 +20,4 @@ pub mod ColumnLaws
 pub mod FrontLaws
 pub mod StripLaws
 pub mod Existence
+mod Common

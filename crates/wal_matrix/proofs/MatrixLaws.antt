@@ -1,18 +1,7 @@
 -- The matrix that is extended in both directions.
-use Rattle.std.proofs.Common.{◌≡◌, ℕ, ◌+◌, ◌*◌, ◌/◌, ◌%◌, ◌<◌, ◌≤◌, List, length, take, drop, slice_index, sym, ap, ◌∙◌, arith, ⊎_elim}
-use Rattle.std.proofs.lemmas.Bool.{cases_lt}
-use Rattle.std.proofs.lemmas.List.{get_or_past}
-use Rattle.wal_code.specs.Codeword.{IsCodeword}
-use Rattle.wal_code.proofs.Codes.{IsCodeword-same, codeword_unique_first, every_row_first, table_unique_first}
-use Rattle.wal_kernel.specs.Region.{word_at, region}
-use Rattle.wal_shape.specs.Shape.{shard_count, row_count, column_count, symbol_size}
-use Rattle.wal_shape.proofs.ShapeLaws.{symbol_size-least}
-use Rattle.wal_kernel.proofs.Words.{bytes_from_words}
+use Rattle.wal_matrix.proofs.Common.{◌≡◌, ℕ, ◌+◌, ◌*◌, ◌/◌, ◌%◌, ◌<◌, ◌≤◌, List, length, take, drop, slice_index, sym, ap, ◌∙◌, arith, ⊎_elim, cases_lt, get_or_past, IsCodeword, IsCodeword-same, codeword_unique_first, every_row_first, table_unique_first, word_at, region, shard_count, row_count, column_count, symbol_size, symbol_size-least, bytes_from_words, div_below, mod_below, div-add-mod', symbol, IsCodedMatrix, IsMatrixOf, IsExtended, IsTurnedExtension}
 use Rattle.wal_matrix.proofs.Symbols.{symbol_is}
 use Rattle.wal_matrix.proofs.Places.{even_product}
-use Rattle.std.proofs.lemmas.Nat.{div_below, mod_below, div-add-mod'}
-use Rattle.wal_matrix.specs.Matrix.{symbol, IsCodedMatrix, IsMatrixOf, IsExtended}
-use Rattle.wal_matrix.specs.inside.Turned.{IsTurnedExtension}
 use Rattle.wal_matrix.proofs.Codewords.{AreBytes, bytes_of_part, word_of_bytes}
 use Rattle.wal_matrix.proofs.TurnedLaws.{word_of_run}
 

@@ -1,9 +1,5 @@
 -- The source block of a blob.
-use Rattle.std.proofs.Common.{◌≡◌, ℕ, ◌+◌, ◌-◌, ◌*◌, ◌≤◌, List, ◌++◌, length, replicate, ap, ◌∙◌, arith, take, length-append}
-use Rattle.std.proofs.lemmas.List.{length-replicate, take_all}
-use Rattle.wal_shape.proofs.ShapeLaws.{symbol_size-least}
-use Rattle.wal_shape.specs.Shape.{row_count, column_count, symbol_size}
-use Rattle.wal_matrix.specs.Matrix.{padded}
+use Rattle.wal_matrix.proofs.Common.{◌≡◌, ℕ, ◌+◌, ◌-◌, ◌*◌, ◌≤◌, List, ◌++◌, length, replicate, ap, ◌∙◌, arith, take, length-append, length-replicate, take_all, symbol_size-least, row_count, column_count, symbol_size, padded}
 
 -- a blob has no more bytes than its source block
 pub blob_fits : (f : ℕ) (bytes : List ℕ) → length bytes ≤ row_count f * column_count f * symbol_size f (length bytes)

@@ -1,7 +1,5 @@
 -- Places in a block of rows of symbols.
-use Rattle.std.proofs.Common.{◌≡◌, ℕ, ◌+◌, ◌-◌, ◌*◌, ◌/◌, ◌%◌, ◌∙◌, ◌<◌, ◌≤◌, ap, arith}
-use Rattle.std.proofs.lemmas.Nat.{mul-add-lt, mul-le, row_fits}
-use Rattle.std.proofs.Math.Nat.{mul_comm, mul-mod_left, le-mul_of_pos_right}
+use Rattle.wal_matrix.proofs.Common.{◌≡◌, ℕ, ◌+◌, ◌-◌, ◌*◌, ◌/◌, ◌%◌, ◌∙◌, ◌<◌, ◌≤◌, ap, arith, mul-add-lt, mul-le, row_fits, mul_comm, mul-mod_left, le-mul_of_pos_right}
 
 -- one run of s bytes more fits
 pub run_fits : (r rows s : ℕ) → r < rows → r * s + s ≤ rows * s

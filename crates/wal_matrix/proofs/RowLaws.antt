@@ -1,14 +1,5 @@
 -- Rows that are laid into a matrix and extended there.
-use Rattle.std.proofs.Common.{◌≡◌, ℕ, ◌+◌, ◌-◌, ◌*◌, ◌%◌, ◌<◌, ◌≤◌, min, List, ◌++◌, length, take, drop, replicate, slice_index, get_or, zero, suc, refl, sym, ap, subst, ◌∙◌, arith, ⊎_elim, below_more, length-append, length-take, length-drop}
-use Rattle.std.proofs.lemmas.Bool.{cases_lt}
-use Rattle.std.proofs.lemmas.List.{append_assoc, ext_get_or, get_or_append_left, get_or-append_right, get_or-append-add, get_or_past, get_or-take, get_or-drop, length-replicate, take_all, take_at, take-take}
-use Rattle.wal_code.specs.Codeword.{IsCodeword}
-use Rattle.wal_code.proofs.Codes.{IsCodeword-same, every_row_first}
-use Rattle.wal_kernel.specs.Region.{word_at, region}
-use Rattle.wal_kernel.proofs.Regions.{region-byte}
-use Rattle.wal_shape.specs.Shape.{shard_count, row_count, column_count, symbol_size}
-use Rattle.wal_matrix.specs.Matrix.{symbol, padded, IsMatrixOf}
-use Rattle.wal_matrix.specs.inside.Row.{laid_row, IsRowFrom}
+use Rattle.wal_matrix.proofs.Common.{◌≡◌, ℕ, ◌+◌, ◌-◌, ◌*◌, ◌%◌, ◌<◌, ◌≤◌, min, List, ◌++◌, length, take, drop, replicate, slice_index, get_or, zero, suc, refl, sym, ap, subst, ◌∙◌, arith, ⊎_elim, below_more, length-append, length-take, length-drop, cases_lt, append_assoc, ext_get_or, get_or_append_left, get_or-append_right, get_or-append-add, get_or_past, get_or-take, get_or-drop, length-replicate, take_all, take_at, take-take, IsCodeword, IsCodeword-same, every_row_first, word_at, region, region-byte, shard_count, row_count, column_count, symbol_size, symbol, padded, IsMatrixOf, laid_row, IsRowFrom}
 use Rattle.wal_matrix.proofs.Codewords.{AreBytes}
 use Rattle.wal_matrix.proofs.Places.{run_fits, part_fits}
 use Rattle.wal_matrix.proofs.Runs.{region_long, run_of_front}

@@ -1,12 +1,8 @@
 -- Runs of bytes in a list that is made of runs of one size.
-use Rattle.std.proofs.Common.{◌≡◌, ℕ, ◌+◌, ◌-◌, ◌*◌, ◌<◌, ◌≤◌, List, [], ◌∷◌, ◌++◌, length, take, drop, refl, sym, ap, subst, ◌∙◌, arith, add-one, zero-add, length-append, length-take, length-drop, zero, suc, ⊎_elim}
-use Rattle.std.specs.List.{flat_map, range_with_len}
-use Rattle.std.proofs.lemmas.List.{append-nil, map-id, take_at, drop_at, drop-append-le, take-append-le, take_all, length-take-le, take-append-drop, drop-take, drop-drop, take-take}
-use Rattle.std.proofs.lemmas.List.FromFn.{map-range_with_len_more}
+use Rattle.wal_matrix.proofs.Common.{◌≡◌, ℕ, ◌+◌, ◌-◌, ◌*◌, ◌<◌, ◌≤◌, List, [], ◌∷◌, ◌++◌, length, take, drop, refl, sym, ap, subst, ◌∙◌, arith, add-one, zero-add, length-append, length-take, length-drop, zero, suc, ⊎_elim, flat_map, range_with_len, append-nil, map-id, take_at, drop_at, drop-append-le, take-append-le, take_all, take-append-drop, drop-take, drop-drop, take-take, map-range_with_len_more, cases_lt, region}
+use Rattle.std.proofs.lemmas.List.{length-take-le}
 use Rattle.std.proofs.lemmas.List.Concat.{flat_map-append}
-use Rattle.std.proofs.lemmas.Bool.{cases_lt}
 use borrow.Rule.Slice.PartMut.{put_mid}
-use Rattle.wal_kernel.specs.Region.{region}
 use Rattle.wal_matrix.proofs.Places.{run_fits}
 
 -- one more number at the end of a range

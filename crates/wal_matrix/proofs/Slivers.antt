@@ -1,12 +1,7 @@
 -- The rows and columns of a matrix, and its slivers.
-use Rattle.std.proofs.Common.{◌≡◌, ℕ, ◌+◌, ◌*◌, ◌<◌, ◌≤◌, List, length, take, drop, refl, sym, ap, subst, zero, suc, ◌∙◌, arith, length-take}
-use Rattle.wal_kernel.specs.Region.{region}
-use Rattle.wal_shape.specs.Shape.{shard_count, row_count, column_count}
-use Rattle.wal_matrix.specs.Matrix.{symbol, row_of, primary_of, column_part, column_of, secondary_of}
+use Rattle.wal_matrix.proofs.Common.{◌≡◌, ℕ, ◌+◌, ◌*◌, ◌<◌, ◌≤◌, List, length, take, drop, refl, sym, ap, subst, zero, suc, ◌∙◌, arith, length-take, region, shard_count, row_count, column_count, symbol, row_of, primary_of, column_part, column_of, secondary_of, take_all, take-append-le, mul_comm}
 use Rattle.wal_matrix.proofs.Runs.{length-pieces, region_long}
 use Rattle.wal_matrix.proofs.Places.{run_fits, part_fits}
-use Rattle.std.proofs.lemmas.List.{take_all, take-append-le}
-use Rattle.std.proofs.Math.Nat.{mul_comm}
 use Rattle.wal_matrix.proofs.Symbols.{symbol_long, joined-symbol, column_symbol, column_more}
 
 -- a row is the run at its number

@@ -1,11 +1,5 @@
 -- The sums of known symbols are the one codeword that has them at their indices.
-use Rattle.std.proofs.Common.{◌≡◌, ℕ, ◌*◌, ◌%◌, ◌<◌, ◌≤◌, List, length, get_or, slice_index, sym, ap, ◌∙◌, arith, All}
-use Rattle.wal_code.specs.Codeword.{Distinct, coefficient, combination}
-use Rattle.wal_code.proofs.Codes.{IsCodeword-same, codeword_unique, combination-codeword, combination-known}
-use Rattle.wal_kernel.specs.Region.{word_at, region}
-use Rattle.wal_kernel.proofs.Words.{bytes_from_words}
-use Rattle.wal_matrix.specs.inside.Sum.{IsWeightedSum}
-use Rattle.wal_matrix.specs.Word.{PassesCodeword}
+use Rattle.wal_matrix.proofs.Common.{◌≡◌, ℕ, ◌*◌, ◌%◌, ◌<◌, ◌≤◌, List, length, get_or, slice_index, sym, ap, ◌∙◌, arith, All, Distinct, coefficient, combination, IsCodeword-same, codeword_unique, combination-codeword, combination-known, word_at, region, bytes_from_words, IsWeightedSum, PassesCodeword}
 use Rattle.wal_matrix.proofs.Codewords.{AreBytes, bytes_of_part, word_of_bytes}
 use Rattle.wal_matrix.proofs.MatrixLaws.{bytes_within, same_by_words}
 use Rattle.wal_matrix.proofs.Places.{run_fits}

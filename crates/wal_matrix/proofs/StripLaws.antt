@@ -1,17 +1,7 @@
 -- The strips that are made are those of the extended matrix.
-use Rattle.std.proofs.Common.{◌≡◌, ℕ, ◌+◌, ◌-◌, ◌*◌, ◌/◌, ◌%◌, ◌<◌, ◌≤◌, List, length, take, drop, get_or, sym, ap, subst, ◌∙◌, arith, ⊎_elim, length-take, length-drop}
-use Rattle.std.proofs.Math.Nat.{mul_comm}
-use Rattle.std.proofs.lemmas.Bool.{cases_lt}
-use Rattle.std.proofs.lemmas.List.{ext_get_or, get_or-take, get_or-drop}
+use Rattle.wal_matrix.proofs.Common.{◌≡◌, ℕ, ◌+◌, ◌-◌, ◌*◌, ◌/◌, ◌%◌, ◌<◌, ◌≤◌, List, length, take, drop, get_or, sym, ap, subst, ◌∙◌, arith, ⊎_elim, length-take, length-drop, mul_comm, cases_lt, ext_get_or, get_or-take, get_or-drop, IsCodeword, IsCodeword-same, word_at, region, word_at-take, word_at-drop, shard_count, row_count, column_count, symbol_size, symbol, padded, IsMatrixOf, AreSources, IsRowStrip, AreRowStrips}
 use borrow.Rule.Slice.PartMut.{put_mid}
-use Rattle.wal_code.specs.Codeword.{IsCodeword}
-use Rattle.wal_code.proofs.Codes.{IsCodeword-same}
-use Rattle.wal_kernel.specs.Region.{word_at, region}
-use Rattle.wal_kernel.proofs.Words.{word_at-take, word_at-drop}
-use Rattle.wal_shape.specs.Shape.{shard_count, row_count, column_count, symbol_size}
-use Rattle.wal_matrix.specs.Matrix.{symbol, padded, IsMatrixOf}
 use Rattle.wal_matrix.specs.Strips.{IsMatrixStrip}
-use Rattle.wal_matrix.specs.inside.Strips.{AreSources, IsRowStrip, AreRowStrips}
 use Rattle.wal_matrix.proofs.Codewords.{AreBytes, bytes_of_part}
 use Rattle.wal_matrix.proofs.FrontLaws.{bytes_of_symbol, source_place}
 use Rattle.wal_matrix.proofs.MatrixLaws.{bytes_within, same_runs}

@@ -1,11 +1,7 @@
 -- Weighted sums of regions, one source after another.
-use Rattle.std.proofs.Common.{◌≡◌, ℕ, ◌+◌, ◌*◌, ◌<◌, List, length, get_or, sym, ◌∙◌, ap, arith, bit_xor, refl}
+use Rattle.wal_matrix.proofs.Common.{◌≡◌, ℕ, ◌+◌, ◌*◌, ◌<◌, List, length, get_or, sym, ◌∙◌, ap, arith, bit_xor, refl, times, xor_below, xor_below-more, word_at, region, IsScaledSum, IsWeightedSum}
 use Rattle.std.specs.Int.Bits.{xor_zero_r}
-use Rattle.wal_gf.specs.Field.{times, xor_below}
 use Rattle.wal_gf.proofs.Products.{zero-times}
-use Rattle.wal_code.proofs.Totals.{xor_below-more}
-use Rattle.wal_kernel.specs.Region.{word_at, region, IsScaledSum}
-use Rattle.wal_matrix.specs.inside.Sum.{IsWeightedSum}
 
 -- a region of zeros is the sum of no sources
 pub sum_none : (weight : ℕ → ℕ) (size : ℕ) (sources target : List ℕ) → length target ≡ size

@@ -1,11 +1,7 @@
 -- The symbols of a block, and the columns that are copied symbol by symbol.
-use Rattle.std.proofs.Common.{◌≡◌, ℕ, ◌+◌, ◌*◌, ◌<◌, ◌≤◌, List, ◌++◌, length, take, drop, sym, ap, ◌∙◌, arith, length-take, length-drop}
+use Rattle.wal_matrix.proofs.Common.{◌≡◌, ℕ, ◌+◌, ◌*◌, ◌<◌, ◌≤◌, List, ◌++◌, length, take, drop, sym, ap, ◌∙◌, arith, length-take, length-drop, take_all, mul_comm, column_part, symbol, region}
 use Rattle.std.proofs.lemmas.Slice.{take-put_mid}
-use Rattle.std.proofs.lemmas.List.{take_all}
-use Rattle.std.proofs.Math.Nat.{mul_comm}
 use borrow.Rule.Slice.PartMut.{put_mid}
-use Rattle.wal_matrix.specs.Matrix.{column_part, symbol}
-use Rattle.wal_kernel.specs.Region.{region}
 use Rattle.wal_matrix.proofs.Runs.{pieces_more, piece_at, part_of_part}
 use Rattle.wal_matrix.proofs.Places.{place_fits, run_fits}
 

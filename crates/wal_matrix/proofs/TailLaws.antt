@@ -1,12 +1,7 @@
 -- The tail of a list that is put back.
-use Rattle.std.proofs.Common.{◌≡◌, ℕ, ◌+◌, ◌-◌, ◌*◌, ◌<◌, ◌≤◌, List, ◌++◌, length, take, drop, sym, ap, ◌∙◌, arith, length-take, length-drop}
-use Rattle.std.proofs.lemmas.List.{drop_at, length-take-le, take-append-drop, take-take, take-append-le}
-use Rattle.std.proofs.Math.Seq.{take-append-add}
+use Rattle.wal_matrix.proofs.Common.{◌≡◌, ℕ, ◌+◌, ◌-◌, ◌*◌, ◌<◌, ◌≤◌, List, ◌++◌, length, take, drop, sym, ap, ◌∙◌, arith, length-take, length-drop, drop_at, take-append-drop, take-take, take-append-le, take-append-add, IsCodeword, IsCodeword-same, word_at, region, region-append_left}
+use Rattle.std.proofs.lemmas.List.{length-take-le}
 use borrow.Rule.Slice.PartMut.{put_mid, post_of}
-use Rattle.wal_code.specs.Codeword.{IsCodeword}
-use Rattle.wal_code.proofs.Codes.{IsCodeword-same}
-use Rattle.wal_kernel.specs.Region.{word_at, region}
-use Rattle.wal_kernel.proofs.Regions.{region-append_left}
 use Rattle.wal_matrix.proofs.Places.{run_fits}
 
 -- the tail has its bytes

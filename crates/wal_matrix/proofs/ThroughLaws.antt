@@ -1,13 +1,5 @@
 -- There is one matrix through given primary slivers, and its source block is a sum of them.
-use Rattle.std.proofs.Common.{◌≡◌, ℕ, ◌*◌, ◌/◌, ◌%◌, ◌<◌, List, length, get_or, take, drop, sym, ap, subst, ◌∙◌, arith}
-use Rattle.std.specs.List.{flat_map, range_with_len}
-use Rattle.std.proofs.Math.Nat.{mul_comm}
-use Rattle.wal_code.specs.Codeword.{IsCodeword, combination}
-use Rattle.wal_code.proofs.Codes.{IsCodeword-same, codeword_unique, combination-codeword, combination-known, table_unique}
-use Rattle.wal_kernel.specs.Region.{word_at, region}
-use Rattle.wal_shape.specs.Shape.{shard_count, row_count, column_count}
-use Rattle.wal_matrix.specs.Matrix.{symbol, row_of, primary_of, IsMatrixOf}
-use Rattle.wal_matrix.specs.Through.{IsMatrixThrough, source_of}
+use Rattle.wal_matrix.proofs.Common.{◌≡◌, ℕ, ◌*◌, ◌/◌, ◌%◌, ◌<◌, List, length, get_or, take, drop, sym, ap, subst, ◌∙◌, arith, flat_map, range_with_len, mul_comm, IsCodeword, combination, IsCodeword-same, codeword_unique, combination-codeword, combination-known, table_unique, word_at, region, shard_count, row_count, column_count, symbol, row_of, primary_of, IsMatrixOf, IsMatrixThrough, source_of}
 use Rattle.wal_matrix.proofs.Codewords.{AreBytes, bytes_of_part}
 use Rattle.wal_matrix.proofs.Interpolated.{AreSlivers, given, across, given-word, index_word, across-column, across-row, across-word, across-given}
 use Rattle.wal_matrix.proofs.MatrixLaws.{same_by_words, same_matrix}

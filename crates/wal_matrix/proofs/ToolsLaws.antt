@@ -1,10 +1,5 @@
 -- The symbols for which the tools of a number of faults have room.
-use Rattle.std.proofs.Common.{◌≡◌, ℕ, ◌*◌, ◌≤◌, arith, refl}
-use Rattle.wal_shape.specs.declared.axis.Axis.TheVariants.{Secondary}
-use Rattle.wal_shape.specs.Shape.{symbol_size, shard_count, row_count, column_count, most_bytes, sliver_symbols}
-use Rattle.std.proofs.Math.Nat.{mul-le-mul_left}
-use Rattle.std.proofs.lemmas.Nat.{row_fits}
-use Rattle.wal_shape.proofs.ShapeLaws.{symbol_size-least}
+use Rattle.wal_matrix.proofs.Common.{◌≡◌, ℕ, ◌*◌, ◌≤◌, arith, refl, Secondary, symbol_size, shard_count, row_count, column_count, most_bytes, sliver_symbols, mul-le-mul_left, row_fits, symbol_size-least}
 use Rattle.wal_matrix.specs.Tools.{longest_symbol, longest_sliver}
 
 -- the symbols of each blob

@@ -1,12 +1,5 @@
 -- A block that is turned into the front of a buffer, which is then extended region by region.
-use Rattle.std.proofs.Common.{◌≡◌, ℕ, ◌+◌, ◌*◌, ◌/◌, ◌%◌, ◌<◌, ◌≤◌, List, ◌++◌, length, take, drop, sym, ap, subst, ◌∙◌, arith}
-use Rattle.std.proofs.lemmas.List.{take_at, take_all}
-use Rattle.wal_code.specs.Codeword.{IsCodeword}
-use Rattle.wal_code.proofs.Codes.{IsCodeword-same}
-use Rattle.wal_kernel.specs.Region.{word_at, region}
-use Rattle.wal_kernel.proofs.Words.{word_at-region}
-use Rattle.wal_matrix.specs.Matrix.{symbol}
-use Rattle.wal_matrix.specs.inside.Turned.{IsTurnedExtension}
+use Rattle.wal_matrix.proofs.Common.{◌≡◌, ℕ, ◌+◌, ◌*◌, ◌/◌, ◌%◌, ◌<◌, ◌≤◌, List, ◌++◌, length, take, drop, sym, ap, subst, ◌∙◌, arith, take_at, take_all, IsCodeword, IsCodeword-same, word_at, region, word_at-region, symbol, IsTurnedExtension}
 use Rattle.wal_matrix.proofs.Runs.{run_kept}
 use Rattle.wal_matrix.proofs.Places.{run_fits, place_fits}
 use Rattle.wal_matrix.proofs.Symbols.{joined-symbol}

@@ -1,12 +1,5 @@
 -- A matrix that is made of given words.
-use Rattle.std.proofs.Common.{◌≡◌, ℕ, ◌+◌, ◌*◌, ◌/◌, ◌%◌, ◌<◌, List, [], ◌∷◌, zero, suc, length, take, drop, refl, sym, ap, subst, ◌∙◌, arith, get_or}
-use Rattle.std.specs.List.{flat_map, range_with_len}
-use Rattle.std.proofs.lemmas.List.{ext_get_or}
-use Rattle.std.proofs.lemmas.Nat.{div_below, mod_below, div-add-mod', div-mul-add, mod-mul-add}
-use Rattle.wal_kernel.specs.Region.{word_at, region}
-use Rattle.wal_kernel.proofs.Words.{word_at-region}
-use Rattle.wal_kernel.proofs.Regions.{region-byte}
-use Rattle.wal_matrix.specs.Matrix.{symbol}
+use Rattle.wal_matrix.proofs.Common.{◌≡◌, ℕ, ◌+◌, ◌*◌, ◌/◌, ◌%◌, ◌<◌, List, [], ◌∷◌, zero, suc, length, take, drop, refl, sym, ap, subst, ◌∙◌, arith, get_or, flat_map, range_with_len, ext_get_or, div_below, mod_below, div-add-mod', div-mul-add, mod-mul-add, word_at, region, word_at-region, region-byte, symbol}
 use Rattle.wal_matrix.proofs.Codewords.{AreBytes}
 use Rattle.wal_matrix.proofs.Places.{run_fits}
 use Rattle.wal_matrix.proofs.Runs.{length-pieces, piece_at}

@@ -1,15 +1,6 @@
 -- The codewords of slivers are the rows and columns of the matrix.
-use Rattle.std.proofs.Common.{◌≡◌, ℕ, ◌+◌, ◌-◌, ◌*◌, ◌%◌, ◌<◌, ◌≤◌, List, ◌++◌, zero, suc, add-one, length, refl, sym, ap, subst, ◌∙◌, arith, ⊎_elim}
-use Rattle.std.specs.List.{flat_map, range_with_len}
-use Rattle.std.proofs.lemmas.Bool.{cases_lt}
-use Rattle.std.proofs.lemmas.List.{get_or_append_left, get_or-append_right}
-use Rattle.wal_code.proofs.Codes.{IsCodeword-same, codeword_unique_first}
-use Rattle.wal_kernel.specs.Region.{word_at, region}
+use Rattle.wal_matrix.proofs.Common.{◌≡◌, ℕ, ◌+◌, ◌-◌, ◌*◌, ◌%◌, ◌<◌, ◌≤◌, List, ◌++◌, zero, suc, add-one, length, refl, sym, ap, subst, ◌∙◌, arith, ⊎_elim, flat_map, range_with_len, cases_lt, get_or_append_left, get_or-append_right, IsCodeword-same, codeword_unique_first, word_at, region, Primary, Secondary, shard_count, row_count, column_count, sliver_symbols, crossing, symbol, row_of, primary_of, column_part, column_of, secondary_of, line_of, sliver_of, IsCodedMatrix, IsWordOf}
 use Rattle.wal_shape.specs.declared.axis.Axis.{Axis}
-use Rattle.wal_shape.specs.declared.axis.Axis.TheVariants.{Primary, Secondary}
-use Rattle.wal_shape.specs.Shape.{shard_count, row_count, column_count, sliver_symbols, crossing}
-use Rattle.wal_matrix.specs.Matrix.{symbol, row_of, primary_of, column_part, column_of, secondary_of, line_of, sliver_of, IsCodedMatrix}
-use Rattle.wal_matrix.specs.Word.{IsWordOf}
 use Rattle.wal_matrix.proofs.Codewords.{AreBytes, bytes_of_part}
 use Rattle.wal_matrix.proofs.MatrixLaws.{bytes_within, same_by_words}
 use Rattle.wal_matrix.proofs.Runs.{pieces_more, run_kept}

@@ -1,12 +1,8 @@
 -- A write to one page leaves the others, and the list of the free pages where it is not one of them.
-use Rattle.std.proofs.Common.{◌≡◌, ◌≢◌, ℕ, zero, suc, ◌+◌, ◌-◌, ◌*◌, ◌^◌, ◌<◌, ◌≤◌, true, false, not, ◌&&◌, inl, inr, List, ◌∷◌, length, take, drop, nat_eq, nat_lt, refl, sym, ap, ◌∙◌, arith, mul-le-mul_left, length-drop, length-take-le}
-use Rattle.std.specs.Int.{w32, from_be_bytes, to_be_bytes}
-use Rattle.std.proofs.lemmas.Bool.{cases_order, and_parts, or_parts, eqb-false, ltb-true, not-true}
+use Rattle.wal_pool.proofs.Common.{◌≡◌, ◌≢◌, ℕ, zero, suc, ◌+◌, ◌-◌, ◌*◌, ◌^◌, ◌<◌, ◌≤◌, true, false, not, ◌&&◌, inl, inr, List, ◌∷◌, length, take, drop, nat_eq, nat_lt, refl, sym, ap, ◌∙◌, arith, mul-le-mul_left, length-drop, length-take-le, w32, from_be_bytes, to_be_bytes, cases_order, and_parts, or_parts, eqb-false, ltb-true, not-true, overwrite, page_of, next, chain, has, is_free_list}
 use Rattle.std.proofs.lemmas.Bool.Decides.{nat_tests}
 use Rattle.std.proofs.lemmas.Nat.{from_be_bytes-to_be_bytes_4}
 use Rattle.std.proofs.lemmas.Slice.{drop-put_mid, take-put_mid_below}
-use Rattle.wal_pool.specs.Pages.{overwrite}
-use Rattle.wal_pool.specs.inside.FreeList.{page_of, next, chain, has, is_free_list}
 use Rattle.wal_pool.proofs.OverwriteLaws.{take-overwrite, drop-overwrite, overwrite_is}
 
 pub length-page_of : (size : ℕ) (r : List ℕ) (k : ℕ) → size * k + size ≤ length r → length (page_of size r k) ≡ size

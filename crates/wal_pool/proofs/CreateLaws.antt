@@ -1,12 +1,6 @@
 -- A pool is made of pages that are all taken, which are then given back one by one.
-use Rattle.std.proofs.Common.{◌≡◌, ◌≢◌, ℕ, zero, suc, ◌+◌, ◌<◌, ◌≤◌, inl, inr, Some, List, [], map, length, replicate, slice_get, slice_set, count_by, cond, refl, sym, ap, ◌∙◌, subst, arith}
-use Rattle.std.specs.List.{range_with_len}
-use Rattle.std.proofs.lemmas.Bool.{cases_eq}
-use Rattle.std.proofs.lemmas.List.{length-set, length-replicate, get_or-replicate, same_lists}
-use Rattle.std.proofs.lemmas.List.Sums.{sum_by-cons}
-use Rattle.std.proofs.lemmas.Option.{get_or_from_slice_get}
-use Rattle.wal_pool.specs.Pages.{PageState, Free, Taken, is_free, bytes_in, IsTakenPage, AreWhole}
-use Rattle.wal_pool.specs.inside.FreeList.{page_of, states}
+use Rattle.wal_pool.proofs.Common.{◌≡◌, ◌≢◌, ℕ, zero, suc, ◌+◌, ◌<◌, ◌≤◌, inl, inr, Some, List, [], map, length, replicate, slice_get, slice_set, count_by, cond, refl, sym, ap, ◌∙◌, subst, arith, range_with_len, cases_eq, length-replicate, get_or-replicate, same_lists, sum_by-cons, get_or_from_slice_get, PageState, Free, Taken, is_free, bytes_in, IsTakenPage, AreWhole, page_of, states}
+use Rattle.std.proofs.lemmas.List.{length-set}
 use Rattle.wal_pool.proofs.PageLaws.{slice_get-set_same, slice_get-set_other}
 use Rattle.wal_pool.proofs.StateLaws.{length-states, slice_get-states}
 

@@ -4,3 +4,4 @@ mod StateLaws
 mod PoolLaws
 mod CreateLaws
 pub mod PageLaws
+mod Common

@@ -1,7 +1,6 @@
 -- What a write from a place on leaves of a list.
-use Rattle.std.proofs.Common.{◌≡◌, ℕ, zero, suc, ◌+◌, ◌≤◌, List, [], ◌∷◌, ◌++◌, length, take, drop, refl, ap, ◌∙◌, arith, take_at}
+use Rattle.wal_pool.proofs.Common.{◌≡◌, ℕ, zero, suc, ◌+◌, ◌≤◌, List, [], ◌∷◌, ◌++◌, length, take, drop, refl, ap, ◌∙◌, arith, take_at, overwrite}
 use borrow.Rule.Slice.PartMut.{put_mid}
-use Rattle.wal_pool.specs.Pages.{overwrite}
 
 pub length-overwrite : (xs : List ℕ) (at : ℕ) (bs : List ℕ) → length (overwrite xs at bs) ≡ length xs
 length-overwrite [] at bs = refl

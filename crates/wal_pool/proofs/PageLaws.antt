@@ -1,8 +1,5 @@
 -- What a change of one page's state leaves of the others.
-use Rattle.std.proofs.Common.{◌≡◌, ◌≢◌, ℕ, zero, suc, ◌+◌, ◌<◌, Some, List, [], ◌∷◌, length, slice_get, slice_set, slice_index_or, count_by, cond, refl, ap, arith}
-use Rattle.std.proofs.lemmas.List.Sums.{sum_by-cons, sum_by-set, count_by-le-length}
-use Rattle.std.proofs.lemmas.Option.{slice_get_within, get_or_from_slice_get}
-use Rattle.wal_pool.specs.Pages.{PageState, Free, Taken, is_free, bytes_in, page_bytes, IsTakenPage}
+use Rattle.wal_pool.proofs.Common.{◌≡◌, ◌≢◌, ℕ, zero, suc, ◌+◌, ◌<◌, Some, List, [], ◌∷◌, length, slice_get, slice_set, slice_index_or, count_by, cond, refl, ap, arith, sum_by-cons, sum_by-set, count_by-le-length, slice_get_within, get_or_from_slice_get, PageState, Free, Taken, is_free, bytes_in, page_bytes, IsTakenPage}
 
 pub slice_get-set_other : {X : Type 0} (xs : List X) (i k : ℕ) (x : X) → k ≢ i → slice_get (slice_set xs i x) k ≡ slice_get xs k
 slice_get-set_other (y ∷ xs) zero zero x other = absurd (other refl)

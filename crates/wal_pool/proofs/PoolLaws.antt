@@ -1,9 +1,5 @@
 -- What taking a page, giving one back and writing to one do to the region, its free pages and their states.
-use Rattle.std.proofs.Common.{◌≡◌, ◌≢◌, ℕ, ◌+◌, ◌-◌, ◌*◌, ◌^◌, ◌<◌, ◌≤◌, true, Some, List, [], ◌∷◌, length, slice_get, slice_set, get_or, count_by, take, refl, sym, ap, ◌∙◌, arith}
-use Rattle.std.specs.Int.{w32, from_be_bytes, to_be_bytes}
-use Rattle.std.proofs.lemmas.List.Sums.{count_by-le-length}
-use Rattle.wal_pool.specs.Pages.{PageState, Free, Taken, is_free, bytes_in, page_bytes, IsTakenPage, AreWhole, overwrite}
-use Rattle.wal_pool.specs.inside.FreeList.{page_of, next, chain, is_free_list, states}
+use Rattle.wal_pool.proofs.Common.{◌≡◌, ◌≢◌, ℕ, ◌+◌, ◌-◌, ◌*◌, ◌^◌, ◌<◌, ◌≤◌, true, Some, List, [], ◌∷◌, length, slice_get, slice_set, get_or, count_by, take, refl, sym, ap, ◌∙◌, arith, w32, from_be_bytes, to_be_bytes, count_by-le-length, PageState, Free, Taken, is_free, bytes_in, page_bytes, IsTakenPage, AreWhole, overwrite, page_of, next, chain, is_free_list, states}
 use Rattle.wal_pool.proofs.OverwriteLaws.{length-overwrite}
 use Rattle.wal_pool.proofs.ChainLaws.{length-page_of, page_within, page_of-overwrite, page_of-overwrite_other, next-overwrite_other, next-link, chain-same, chain-first, Listed, listed_parts, listed_from}
 use Rattle.wal_pool.proofs.PageLaws.{count-take, count-give, count-write}

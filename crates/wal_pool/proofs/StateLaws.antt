@@ -1,12 +1,7 @@
 -- How the states of the pages change with the region and the list of the free pages.
-use Rattle.std.proofs.Common.{◌≡◌, ◌≢◌, ℕ, ◌<◌, true, false, inl, inr, Some, List, ◌∷◌, map, length, slice_get, slice_set, get_or, refl, sym, ap, ◌∙◌, arith, cond}
-use Rattle.std.specs.List.{range_with_len}
-use Rattle.std.proofs.lemmas.Bool.{cases_eq, cases_Bool, ne_eqb, eq-eqb}
-use Rattle.std.proofs.lemmas.List.{length-set, get_or-set_same, get_or-set_other, same_lists}
+use Rattle.wal_pool.proofs.Common.{◌≡◌, ◌≢◌, ℕ, ◌<◌, true, false, inl, inr, Some, List, ◌∷◌, map, length, slice_get, slice_set, get_or, refl, sym, ap, ◌∙◌, arith, cond, range_with_len, cases_eq, cases_Bool, ne_eqb, eq-eqb, get_or-set_same, get_or-set_other, same_lists, slice_get_within, slice_get-get_or, Free, Taken, page_bytes, IsTakenPage, page_of, has, state_of, states}
+use Rattle.std.proofs.lemmas.List.{length-set}
 use Rattle.std.proofs.lemmas.List.FromFn.{length-map-range_with_len, get_or-map-range_with_len}
-use Rattle.std.proofs.lemmas.Option.{slice_get_within, slice_get-get_or}
-use Rattle.wal_pool.specs.Pages.{Free, Taken, page_bytes, IsTakenPage}
-use Rattle.wal_pool.specs.inside.FreeList.{page_of, has, state_of, states}
 use Rattle.wal_pool.proofs.ChainLaws.{Listed}
 
 -- functions that agree but at one place make lists that differ there alone

@@ -1,10 +1,6 @@
 -- Pieces of bytes, one after another.
 -- What a slice `&xs[n..]` holds shows as `take (length xs - n) (drop n xs)`.
-use Rattle.std.proofs.Common.{◌≡◌, ℕ, ◌+◌, ◌-◌, ◌<◌, ◌≤◌, min, List, [], ◌++◌, length, take, drop, Option, refl, subst, sym, ap, ◌∙◌, arith, take-append-drop, length-append, length-drop}
-use Rattle.std.proofs.Math.ListN.{drop_of_length-le}
-use Rattle.std.proofs.Math.Seq.{take-add, take-length}
-use Rattle.std.proofs.lemmas.List.{drop-drop}
-use Rattle.std.specs.Io.KnownBytes.{Consumes, Appends}
+use Rattle.wal_port.proofs.Common.{◌≡◌, ℕ, ◌+◌, ◌-◌, ◌<◌, ◌≤◌, min, List, [], ◌++◌, length, take, drop, Option, refl, subst, sym, ap, ◌∙◌, arith, take-append-drop, length-append, length-drop, drop_of_length-le, take-add, take-length, drop-drop, Consumes, Appends}
 use Rattle.std.proofs.KnownBytes.{Consumes-trans, Appends-trans}
 
 -- a slice to the end holds the rest

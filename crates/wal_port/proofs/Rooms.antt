@@ -1,10 +1,7 @@
 -- A text of which the front stands in a room: how many bytes were taken, and what has no room, when a piece more is taken.
 -- What a slice `&xs[n..]` holds shows as `take (length xs - n) (drop n xs)`.
-use Rattle.std.proofs.Common.{◌≡◌, ℕ, ◌+◌, ◌-◌, ◌^◌, ◌<◌, ◌≤◌, ◌⊎◌, min, List, [], ◌∷◌, ◌++◌, length, take, drop, refl, sym, ap, ◌∙◌, inl, inr, arith, take-append-drop, length-append, length-drop}
-use Rattle.std.proofs.Math.ListN.{drop_of_length-le}
-use Rattle.std.proofs.Math.Seq.{drop-append_seam, take-append_seam, take-length}
+use Rattle.wal_port.proofs.Common.{◌≡◌, ℕ, ◌+◌, ◌-◌, ◌^◌, ◌<◌, ◌≤◌, ◌⊎◌, min, List, [], ◌∷◌, ◌++◌, length, take, drop, refl, sym, ap, ◌∙◌, inl, inr, arith, take-append-drop, length-append, length-drop, drop_of_length-le, drop-append_seam, take-append_seam, take-length, append-nil, append_assoc, drop-drop, length-take-le, take_all, take_min}
 use Rattle.std.proofs.lemmas.Bool.{cases_lt}
-use Rattle.std.proofs.lemmas.List.{append-nil, append_assoc, drop-drop, length-take-le, take_all, take_min}
 use Rattle.std.proofs.lemmas.Slice.{drop-append-drop}
 
 -- the last value of a counter of 64 bits

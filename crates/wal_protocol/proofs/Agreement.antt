@@ -1,28 +1,10 @@
 -- First completed answers stay, and each completed line shows them.
-use Rattle.std.proofs.Common.{◌≡◌, ℕ, zero, suc, ◌<◌, List, [], ◌∷◌, length, get_or, Bool, true, false, cond, is_some, Option, Some, None, refl, sym, ap, ◌∙◌, subst, arith}
+use Rattle.wal_protocol.proofs.Common.{◌≡◌, ℕ, zero, suc, ◌<◌, List, [], ◌∷◌, length, get_or, Bool, true, false, cond, is_some, Option, Some, None, refl, sym, ap, ◌∙◌, subst, arith, get-insert, eq_by_cmp, eq_by_cmp_equiv, BlobId, id_cmp, Verdict, Event, Write, Read, Line, ids_total, First, Judged, Written, World, verdict_of, answered, Rules, AgreesWithFirst, Steps, is_collision, Runs, Shows, Agree, same_id}
 use Rattle.std.specs.FinMap as finmap
-use Rattle.std.specs.FinMap.{get-insert}
-use Rattle.std.specs.Ordering.{eq_by_cmp}
-use Rattle.std.proofs.lemmas.Cmp.{eq_by_cmp_equiv}
-use Rattle.wal_shape.specs.declared.metadata.BlobId.{BlobId}
-use Rattle.wal_shape.specs.Identifiers.{id_cmp}
-use Rattle.wal_evidence.specs.declared.evidence.Verdict.{Verdict}
 use Rattle.wal_evidence.specs.declared.evidence.Verdict.TheVariants as verdict
-use Rattle.wal_event.specs.declared.event.Event.{Event}
-use Rattle.wal_event.specs.declared.event.Event.TheVariants.{Write, Read}
-use Rattle.wal_event.specs.declared.line.Line.{Line}
 use Rattle.wal_event.specs.declared.line.Line.TheVariants as line
 use Rattle.wal_event.specs.declared.line.WriteWord.TheVariants as write_word
 use Rattle.wal_event.specs.declared.line.ReadWord.TheVariants as reading_of
-use Rattle.wal_ledger.proofs.Order.{ids_total}
-use Rattle.wal_protocol.specs.declared.first.First.{First}
-use Rattle.wal_protocol.specs.declared.first.First.TheVariants.{Judged, Written}
-use Rattle.wal_protocol.specs.State.{World, verdict_of, answered}
-use Rattle.wal_protocol.specs.Rules.{Rules}
-use Rattle.wal_protocol.specs.Step.{AgreesWithFirst, Steps}
-use Rattle.wal_protocol.specs.Run.{is_collision, Runs}
-use Rattle.wal_protocol.specs.Safe.{Shows, Agree}
-use Rattle.wal_shard.proofs.Changes.{same_id}
 
 -- a first completed answer for an identifier that gives this verdict
 pub record Tells (answers : finmap.FinMap id_cmp First) (id : BlobId) (told : Verdict) : Type 0 where

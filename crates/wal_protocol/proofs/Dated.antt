@@ -1,11 +1,8 @@
 -- The epochs of entries after one entry more.
-use Rattle.std.proofs.Common.{◌≡◌, ℕ, ◌≤◌, List, [], false, All, refl, sym, ap, ◌∙◌, subst, arith}
+use Rattle.wal_protocol.proofs.Common.{◌≡◌, ℕ, ◌≤◌, List, [], false, All, refl, sym, ap, ◌∙◌, subst, arith, All-push, All-weaker, All-nil, All-cons, Body, Log, Phase, phase, phase_after, writing, is_begin, entered}
 use Rattle.std.proofs.lemmas.Bool.{true≢false}
-use Rattle.std.proofs.lemmas.List.Elements.{All-push, All-weaker, All-nil, All-cons}
 use Rattle.wal_ledger.specs.declared.entry.Entry.{Entry}
-use Rattle.wal_ledger.specs.declared.entry.Body.{Body}
 use Rattle.wal_ledger.specs.declared.entry.Body.TheVariants.{Begin}
-use Rattle.wal_ledger.specs.Ledger.{Log, Phase, phase, phase_after, writing, is_begin, entered}
 use Rattle.wal_ledger.specs.Handover.{IsMadeSince}
 use Rattle.wal_ledger.proofs.Entering.{phase_push}
 use Rattle.wal_ledger.proofs.HandoverEntries.{entry_in}

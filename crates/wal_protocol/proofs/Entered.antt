@@ -1,21 +1,5 @@
 -- The facts after an entry that leaves the epoch as it is.
-use Rattle.std.proofs.Common.{◌≡◌, ◌≢◌, ℕ, ◌+◌, ◌<◌, ◌≤◌, List, length, Bool, true, false, cond, not, ◌&&◌, ◌⊎◌, inl, inr, refl, sym, ap, ◌∙◌, subst, arith}
-use Rattle.std.proofs.lemmas.Bool.{and_parts, and_from, cases_eq, not-true}
-use Rattle.wal_shape.specs.declared.metadata.BlobId.{BlobId}
-use Rattle.wal_shape.specs.declared.axis.Side.{Side}
-use Rattle.wal_shape.specs.declared.axis.Side.TheVariants.{Now, Next}
-use Rattle.wal_shape.specs.Owners.{among}
-use Rattle.wal_ledger.specs.declared.entry.Body.{Body}
-use Rattle.wal_ledger.specs.declared.entry.Kind.{Kind}
-use Rattle.wal_ledger.specs.declared.entry.Kind.TheVariants.{Holds}
-use Rattle.wal_ledger.specs.Shards.{count_below, committee_size, quorum_size}
-use Rattle.wal_ledger.specs.Ledger.{Log, is_moving, reading, writing, owners_at, is_live, same_node, signers, IsCertified, MustHold, ready_shards, entered}
-use Rattle.wal_ledger.proofs.Quorums.{count_below-mono, count_below-some, count_below-among, quorum_correct}
-use Rattle.wal_ledger.proofs.HandoverOrder.{Enters}
-use Rattle.wal_shard.specs.Holding.{settled}
-use Rattle.wal_protocol.specs.State.{Committee, World, side_of, is_present, epoch_of, writing_side, held, settled_in}
-use Rattle.wal_protocol.specs.Rules.{Rules}
-use Rattle.wal_protocol.specs.Facts.{Facts, backed}
+use Rattle.wal_protocol.proofs.Common.{◌≡◌, ◌≢◌, ℕ, ◌+◌, ◌<◌, ◌≤◌, List, length, Bool, true, false, cond, not, ◌&&◌, ◌⊎◌, inl, inr, refl, sym, ap, ◌∙◌, subst, arith, and_parts, and_from, cases_eq, not-true, BlobId, Side, Now, Next, among, Body, Kind, Holds, count_below, committee_size, quorum_size, Log, is_moving, reading, writing, owners_at, is_live, same_node, signers, IsCertified, MustHold, ready_shards, entered, count_below-mono, count_below-some, count_below-among, quorum_correct, Enters, settled, Committee, World, side_of, is_present, epoch_of, writing_side, held, settled_in, Rules, Facts, backed}
 use Rattle.wal_protocol.proofs.Dated.{none_ahead_entered, since_begin_entered}
 
 -- few faulty shards in a list are few in the committee

@@ -1,47 +1,15 @@
 -- Every event in a state that has the facts has a step, and every schedule has a run, where the answers of the crates below are there.
-use Rattle.std.proofs.Common.{◌≡◌, ◌⊎◌, ℕ, ◌+◌, ◌<◌, Bool, true, false, cond, ◌&&◌, nat_le, nat_lt, is_some, List, [], ◌∷◌, ◌++◌, map, Option, Some, None, All, Contains, refl, sym, ap, subst, ◌∙◌, arith, ⊎_elim, inl, inr, true≢false}
-use Rattle.std.specs.List.{AllByRecursion}
+use Rattle.wal_protocol.proofs.Common.{◌≡◌, ◌⊎◌, ℕ, ◌+◌, ◌<◌, Bool, true, false, cond, ◌&&◌, nat_le, nat_lt, is_some, List, [], ◌∷◌, ◌++◌, map, Option, Some, None, All, Contains, refl, sym, ap, subst, ◌∙◌, arith, ⊎_elim, inl, inr, true≢false, AllByRecursion, and_parts, ltb-true, false≢true, All-nil, All-cons, All-head, All-tail, All-append, Contains-append_right, BlobId, Axis, Side, ascends_from, Evidence, Verdict, Frame, IsEventWithin, IsSchedule, Event, Register, Write, Send, Ack, Attest, Read, Recover, Forget, Begin, Ready, Finish, Certificate, Holders, Reply, Schedule, Line, ReadWord, RecoverWord, committee_size, Log, is_live, Parts, Contents, PutAnswer, First, Judged, Written, Committee, World, side_of, with_side, writing_side, is_correct, contents_of, held, with_contents, keeps, holders, verdict_of, answered, Rules, is_clash, PutsEach, letters, stored_at, AgreesWithFirst, Differs, WriteStep, WriteCollides, read_payloads, reply_payloads, ReadCompletes, ReadStep, told_by, two_metadata, other_answer, IsReplyOf, AreReplies, RecoveryRuns, RecoverStep, RecoverCollides, Steps, first_state, is_collision, Runs, Facts, Laws, Possible, AreBytes, ReplyHasBytes, HasBytes, HasStep, HasRun}
 use Rattle.std.specs.FinMap as finmap
-use Rattle.std.proofs.lemmas.Bool.{and_parts, ltb-true, false≢true}
-use Rattle.std.proofs.lemmas.List.Elements.{All-nil, All-cons, All-head, All-tail, All-append, Contains-append_right}
-use Rattle.wal_shape.specs.declared.metadata.BlobId.{BlobId}
-use Rattle.wal_shape.specs.declared.axis.Axis.{Axis}
-use Rattle.wal_shape.specs.declared.axis.Side.{Side}
-use Rattle.wal_shape.specs.Owners.{ascends_from}
-use Rattle.wal_evidence.specs.declared.evidence.Evidence.{Evidence}
-use Rattle.wal_evidence.specs.declared.evidence.Verdict.{Verdict}
 use Rattle.wal_evidence.specs.declared.evidence.Verdict.TheVariants as verdict
-use Rattle.wal_frame.specs.Frame.{Frame}
-use Rattle.wal_event.specs.Event.{IsEventWithin, IsSchedule}
-use Rattle.wal_event.specs.declared.event.Event.{Event}
-use Rattle.wal_event.specs.declared.event.Event.TheVariants.{Register, Write, Send, Ack, Attest, Read, Recover, Forget, Begin, Ready, Finish, Certificate, Holders}
-use Rattle.wal_event.specs.declared.event.Reply.{Reply}
 use Rattle.wal_event.specs.declared.event.Reply.TheVariants as reply
-use Rattle.wal_event.specs.declared.event.Schedule.{Schedule}
-use Rattle.wal_event.specs.declared.line.Line.{Line}
 use Rattle.wal_event.specs.declared.line.Line.TheVariants as line
 use Rattle.wal_event.specs.declared.line.WriteWord.TheVariants as write_word
 use Rattle.wal_event.specs.declared.line.HoldersWord.TheVariants as holders_word
 use Rattle.wal_event.specs.declared.line.SendWord.TheVariants as sending
-use Rattle.wal_event.specs.declared.line.ReadWord.{ReadWord}
 use Rattle.wal_event.specs.declared.line.ReadWord.TheVariants as reading_of
-use Rattle.wal_event.specs.declared.line.RecoverWord.{RecoverWord}
 use Rattle.wal_event.specs.declared.line.RecoverWord.TheVariants as recovering
-use Rattle.wal_ledger.specs.Shards.{committee_size}
-use Rattle.wal_ledger.specs.Ledger.{Log, is_live}
-use Rattle.wal_store.specs.Parts.{Parts}
-use Rattle.wal_store.specs.Contents.{Contents}
-use Rattle.wal_shard.specs.declared.answers.PutAnswer.{PutAnswer}
 use Rattle.wal_shard.specs.declared.answers.PutAnswer.TheVariants as putting
-use Rattle.wal_protocol.specs.declared.first.First.{First}
-use Rattle.wal_protocol.specs.declared.first.First.TheVariants.{Judged, Written}
-use Rattle.wal_protocol.specs.State.{Committee, World, side_of, with_side, writing_side, is_correct, contents_of, held, with_contents, keeps, holders, verdict_of, answered}
-use Rattle.wal_protocol.specs.Rules.{Rules}
-use Rattle.wal_protocol.specs.Step.{is_clash, PutsEach, letters, stored_at, AgreesWithFirst, Differs, WriteStep, WriteCollides, read_payloads, reply_payloads, ReadCompletes, ReadStep, told_by, two_metadata, other_answer, IsReplyOf, AreReplies, RecoveryRuns, RecoverStep, RecoverCollides, Steps}
-use Rattle.wal_protocol.specs.Run.{first_state, is_collision, Runs}
-use Rattle.wal_protocol.specs.Facts.{Facts}
-use Rattle.wal_protocol.specs.inside.Laws.{Laws}
-use Rattle.wal_protocol.specs.Total.{Possible, AreBytes, ReplyHasBytes, HasBytes, HasStep, HasRun}
 use Rattle.wal_protocol.specs.inside.Total.{HasCollision, IsAnswered, IsFound, Total}
 use Rattle.wal_protocol.proofs.Lookups.{held_is}
 use Rattle.wal_protocol.proofs.Grown.{AreSound, sound_contents, grown_put}

@@ -1,9 +1,5 @@
 -- Events of the ledger and the epoch come to a word and a state.
-use Rattle.std.proofs.Common.{◌≡◌, ◌⊎◌, ℕ, zero, suc, ◌+◌, ◌<◌, ◌≤◌, Bool, true, false, not, ◌&&◌, List, refl, sym, ap, subst, ◌∙◌, arith, ⊎_elim, inl, inr, true≢false}
-use Rattle.std.proofs.lemmas.Bool.{cases_lt}
-use Rattle.wal_shape.specs.declared.metadata.BlobId.{BlobId}
-use Rattle.wal_shape.specs.declared.axis.Side.{Side}
-use Rattle.wal_shape.specs.Owners.{among}
+use Rattle.wal_protocol.proofs.Common.{◌≡◌, ◌⊎◌, ℕ, zero, suc, ◌+◌, ◌<◌, ◌≤◌, Bool, true, false, not, ◌&&◌, List, refl, sym, ap, subst, ◌∙◌, arith, ⊎_elim, inl, inr, true≢false, cases_lt, BlobId, Side, among, CertificateWord, Kind, Holds, Denies, quorum_size, is_moving, reading, writing, until_of, is_live, signers, signer_count, IsCertified, ready_shards, ready_total, entered, is_moving_extension, MayClaim, claim_of, settled, backs, MayForget, without_slivers, World, side_of, writing_side, is_present, is_correct, contents_of, held, keeps, RegisterStep, IsIgnored, MayPost, Declines, ClaimStep, AckStep, AttestStep, ForgetStep, BeginStep, HoldsAll, MayBeReady, IsUnready, ReadyStep, FinishStep, CertificateStep, Possible}
 use Rattle.wal_event.specs.declared.line.RegisterWord.{RegisterWord}
 use Rattle.wal_event.specs.declared.line.RegisterWord.TheVariants as registering
 use Rattle.wal_event.specs.declared.line.AckWord.{AckWord}
@@ -18,21 +14,10 @@ use Rattle.wal_event.specs.declared.line.ReadyWord.{ReadyWord}
 use Rattle.wal_event.specs.declared.line.ReadyWord.TheVariants as readying
 use Rattle.wal_event.specs.declared.line.FinishWord.{FinishWord}
 use Rattle.wal_event.specs.declared.line.FinishWord.TheVariants as finishing
-use Rattle.wal_event.specs.declared.line.CertificateWord.{CertificateWord}
 use Rattle.wal_event.specs.declared.line.CertificateWord.TheVariants as certifying
-use Rattle.wal_ledger.specs.declared.entry.Kind.{Kind}
-use Rattle.wal_ledger.specs.declared.entry.Kind.TheVariants.{Holds, Denies}
-use Rattle.wal_ledger.specs.Shards.{quorum_size}
-use Rattle.wal_ledger.specs.Ledger.{is_moving, reading, writing, until_of, is_live, signers, signer_count, IsCertified, ready_shards, ready_total, entered}
-use Rattle.wal_ledger.specs.Answers.{is_moving_extension, MayClaim, claim_of}
-use Rattle.wal_shard.specs.Holding.{settled}
-use Rattle.wal_shard.specs.Vouching.{backs, MayForget, without_slivers}
 use Rattle.wal_protocol.specs.declared.said.Said.{Said}
 use Rattle.wal_protocol.specs.declared.said.Said.TheVariants.{Unregistered, Expires, Declined, Already, Counted, Quorum}
-use Rattle.wal_protocol.specs.State.{World, side_of, writing_side, is_present, is_correct, contents_of, held, keeps}
 use Rattle.wal_protocol.specs.inside.Saying.{Says}
-use Rattle.wal_protocol.specs.Step.{RegisterStep, IsIgnored, MayPost, Declines, ClaimStep, AckStep, AttestStep, ForgetStep, BeginStep, HoldsAll, MayBeReady, IsUnready, ReadyStep, FinishStep, CertificateStep}
-use Rattle.wal_protocol.specs.Total.{Possible}
 
 -- ---- what is not impossible
 

@@ -1,31 +1,8 @@
 -- Committees whose shards hold more than before, or forgot what a proof settles.
-use Rattle.std.proofs.Common.{◌≡◌, ℕ, ◌≤◌, List, [], ◌∷◌, length, Bool, true, false, cond, not, ◌&&◌, is_some, Option, Some, None, ◌⊎◌, inl, inr, refl, sym, ap, ◌∙◌, subst, arith}
+use Rattle.wal_protocol.proofs.Common.{◌≡◌, ℕ, ◌≤◌, List, [], ◌∷◌, length, Bool, true, false, cond, not, ◌&&◌, is_some, Option, Some, None, ◌⊎◌, inl, inr, refl, sym, ap, ◌∙◌, subst, arith, and_parts, and_from, or_cases, or_left, or_right, BlobId, Side, Now, Next, among, Kind, Holds, Denies, count_below, committee_size, Log, owners_at, same_node, signers, count_below-mono, Frame, Metadata, Primary, Secondary, Proof, Parts, part_of, Contents, parts_at, PutAnswer, settled_by_slivers, has_proof, settled, First, Committee, World, side_of, contents_of, held, with_contents, settled_in, epoch_of, is_present, Rules, PutsEach, is_clash, Facts, backed, Laws, IsAbove, AreAbove, AllSound, forgotten, id_cmp}
 use Rattle.std.specs.FinMap as finmap
-use Rattle.std.proofs.lemmas.Bool.{and_parts, and_from, or_cases, or_left, or_right}
-use Rattle.wal_shape.specs.declared.metadata.BlobId.{BlobId}
-use Rattle.wal_shape.specs.declared.axis.Side.{Side}
-use Rattle.wal_shape.specs.declared.axis.Side.TheVariants.{Now, Next}
-use Rattle.wal_shape.specs.Owners.{among}
-use Rattle.wal_ledger.specs.declared.entry.Kind.{Kind}
-use Rattle.wal_ledger.specs.declared.entry.Kind.TheVariants.{Holds, Denies}
-use Rattle.wal_ledger.specs.Shards.{count_below, committee_size}
-use Rattle.wal_ledger.specs.Ledger.{Log, owners_at, same_node, signers}
-use Rattle.wal_ledger.proofs.Quorums.{count_below-mono}
-use Rattle.wal_frame.specs.Frame.{Frame}
 use Rattle.wal_shape.specs.declared.part.Part.{Part}
-use Rattle.wal_shape.specs.declared.part.Part.TheVariants.{Metadata, Primary, Secondary, Proof}
-use Rattle.wal_store.specs.Parts.{Parts, part_of}
-use Rattle.wal_store.specs.Contents.{Contents, parts_at}
-use Rattle.wal_shard.specs.declared.answers.PutAnswer.{PutAnswer}
-use Rattle.wal_shard.specs.Holding.{settled_by_slivers, has_proof, settled}
-use Rattle.wal_protocol.specs.declared.first.First.{First}
-use Rattle.wal_protocol.specs.State.{Committee, World, side_of, contents_of, held, with_contents, settled_in, epoch_of, is_present}
-use Rattle.wal_protocol.specs.Rules.{Rules}
-use Rattle.wal_protocol.specs.Step.{PutsEach, is_clash}
-use Rattle.wal_protocol.specs.Facts.{Facts, backed}
-use Rattle.wal_protocol.specs.inside.Laws.{Laws, IsAbove, AreAbove, AllSound, forgotten}
 use Rattle.wal_protocol.proofs.Lookups.{held_changed, changed_shape, held_is}
-use Rattle.wal_shape.specs.Identifiers.{id_cmp}
 
 -- what settled before still does, and so does what a proof settled
 pub record Firmer (old new : Parts) : Type 0 where

@@ -1,27 +1,6 @@
 -- What the facts of a state tell: who holds what is certified, and what replies bring.
-use Rattle.std.proofs.Common.{◌≡◌, ℕ, zero, suc, ◌+◌, ◌<◌, ◌≤◌, List, [], ◌∷◌, length, get_or, Bool, true, false, cond, not, ◌&&◌, nat_le, Contains, inl, inr, refl, sym, ap, ◌∙◌, subst, arith}
-use Rattle.std.specs.List.{flat_map}
-use Rattle.std.proofs.lemmas.Bool.{and_parts, and_from, cases_eq, leb-true, leb-false, not-true, le-leb}
-use Rattle.std.proofs.lemmas.List.Elements.{Contains-append_left, Contains-append_right}
-use Rattle.wal_shape.specs.declared.metadata.BlobId.{BlobId}
-use Rattle.wal_shape.specs.declared.axis.Axis.{Axis}
-use Rattle.wal_shape.specs.declared.axis.Side.{Side}
-use Rattle.wal_shape.specs.declared.axis.Side.TheVariants.{Now, Next}
-use Rattle.wal_shape.specs.Owners.{among}
-use Rattle.wal_event.specs.declared.event.Reply.{Reply}
+use Rattle.wal_protocol.proofs.Common.{◌≡◌, ℕ, zero, suc, ◌+◌, ◌<◌, ◌≤◌, List, [], ◌∷◌, length, get_or, Bool, true, false, cond, not, ◌&&◌, nat_le, Contains, inl, inr, refl, sym, ap, ◌∙◌, subst, arith, flat_map, and_parts, and_from, cases_eq, leb-true, leb-false, not-true, le-leb, Contains-append_left, Contains-append_right, BlobId, Axis, Side, Now, Next, among, Reply, Holds, Denies, count_below, committee_size, quorum_size, Log, is_moving, writing, is_live, signers, signer_count, home_of, quorum_correct, certified_before, settled, has_proof, World, side_of, is_present, writing_side, is_correct, held, settled_in, holders, Rules, reply_payloads, read_payloads, IsReplyOf, AreReplies, IsKept, HasRefuters, Facts, Laws, AreAmong}
 use Rattle.wal_event.specs.declared.event.Reply.TheVariants as reply
-use Rattle.wal_ledger.specs.declared.entry.Kind.TheVariants.{Holds, Denies}
-use Rattle.wal_ledger.specs.Shards.{count_below, committee_size, quorum_size}
-use Rattle.wal_ledger.specs.Ledger.{Log, is_moving, writing, is_live, signers, signer_count, home_of}
-use Rattle.wal_ledger.proofs.Quorums.{quorum_correct}
-use Rattle.wal_ledger.proofs.HandoverTurns.{certified_before}
-use Rattle.wal_shard.specs.Holding.{settled, has_proof}
-use Rattle.wal_protocol.specs.State.{World, side_of, is_present, writing_side, is_correct, held, settled_in, holders}
-use Rattle.wal_protocol.specs.Rules.{Rules}
-use Rattle.wal_protocol.specs.Step.{reply_payloads, read_payloads, IsReplyOf, AreReplies}
-use Rattle.wal_protocol.specs.Safe.{IsKept, HasRefuters}
-use Rattle.wal_protocol.specs.Facts.{Facts}
-use Rattle.wal_protocol.specs.inside.Laws.{Laws, AreAmong}
 use Rattle.wal_protocol.proofs.Entered.{few_faulty, quorum_settled, writing_present}
 
 -- where the home is

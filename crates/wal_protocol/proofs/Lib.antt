@@ -13,3 +13,4 @@ pub mod OneWord
 pub mod OneStep
 pub mod EveryWord
 pub mod EveryEvent
+mod Common

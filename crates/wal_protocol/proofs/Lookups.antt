@@ -1,31 +1,10 @@
 -- What a shard holds, after a change of a committee.
-use Rattle.std.proofs.Common.{◌≡◌, ◌≢◌, ℕ, zero, suc, ◌<◌, ◌≤◌, List, [], ◌∷◌, length, map, get_or, slice_set, Bool, true, false, cond, ◌&&◌, Option, Some, None, unwrap_or, ◌⊎◌, inl, inr, refl, sym, ap, ◌∙◌, subst, arith}
+use Rattle.wal_protocol.proofs.Common.{◌≡◌, ◌≢◌, ℕ, zero, suc, ◌<◌, ◌≤◌, List, [], ◌∷◌, length, map, get_or, slice_set, Bool, true, false, cond, ◌&&◌, Option, Some, None, unwrap_or, ◌⊎◌, inl, inr, refl, sym, ap, ◌∙◌, subst, arith, is_eq, eq_by_cmp, range_with_len, get-insert, get-remove, get-empty, get-retain_keys, cases_eq, cases_lt, eq_by_cmp_equiv, get_or-set_same, get_or-set_other, set_past, set-get_or, length-set, get_or-map-range_with_len, length-map-range_with_len, BlobId, id_cmp, Primary, Secondary, Parts, no_parts, with_part, is_absent, is_empty, Contents, parts_at, with_parts, without_part, without_slivers, without_dead, same_id, changed_there, with_parts_changes, retained, forgotten, Log, is_live, committee_size, ids_total, Committee, World, nobody, contents_of, held, with_contents, is_carried_over, next_committee, after_dropping, empty_committee}
 use Rattle.std.specs.declared.cmp.Ordering.{Ordering}
 use Rattle.std.specs.declared.cmp.Ordering.TheVariants.{Equal}
-use Rattle.std.specs.Ordering.{is_eq, eq_by_cmp}
-use Rattle.std.specs.List.{range_with_len}
 use Rattle.std.specs.FinMap as finmap
-use Rattle.std.specs.FinMap.{get-insert, get-remove, get-empty, get-retain_keys}
 use Rattle.std.proofs.Math.ListN.{get_or-eq_default}
-use Rattle.std.proofs.lemmas.Bool.{cases_eq, cases_lt}
-use Rattle.std.proofs.lemmas.Cmp.{eq_by_cmp_equiv}
-use Rattle.std.proofs.lemmas.List.{get_or-set_same, get_or-set_other, set_past, set-get_or, length-set}
-use Rattle.std.proofs.lemmas.List.FromFn.{get_or-map-range_with_len, length-map-range_with_len}
-use Rattle.wal_shape.specs.declared.metadata.BlobId.{BlobId}
-use Rattle.wal_shape.specs.Identifiers.{id_cmp}
-use Rattle.wal_shape.specs.declared.part.Part.TheVariants.{Primary, Secondary}
-use Rattle.wal_store.specs.Parts.{Parts, no_parts, with_part, is_absent, is_empty}
-use Rattle.wal_store.specs.Contents.{Contents, parts_at, with_parts, without_part}
-use Rattle.wal_shard.specs.Vouching.{without_slivers, without_dead}
-use Rattle.wal_shard.proofs.Changes.{same_id, changed_there, with_parts_changes, retained}
-use Rattle.wal_protocol.specs.inside.Laws.{forgotten}
-use Rattle.wal_ledger.specs.Ledger.{Log, is_live}
-use Rattle.wal_ledger.specs.Shards.{committee_size}
-use Rattle.wal_ledger.proofs.Order.{ids_total}
 use Rattle.wal_ledger.proofs.RowsPlace.{exact_ids}
-use Rattle.wal_protocol.specs.State.{Committee, World, nobody, contents_of, held, with_contents}
-use Rattle.wal_protocol.specs.Step.{is_carried_over, next_committee, after_dropping}
-use Rattle.wal_protocol.specs.Run.{empty_committee}
 
 -- nothing is held in an empty map
 nothing_at : (id : BlobId) → parts_at finmap.empty id ≡ no_parts

@@ -1,36 +1,15 @@
 -- A step of the world leaves no choice but the two texts of a collision, where the crates below leave none; and so do runs.
-use Rattle.std.proofs.Common.{◌≡◌, ℕ, Bool, true, false, cond, List, [], ◌∷◌, ◌++◌, Option, Some, None, refl, sym, ap, subst, ◌∙◌, arith, ⊎_elim, inl, inr, true≢false}
+use Rattle.wal_protocol.proofs.Common.{◌≡◌, ℕ, Bool, true, false, cond, List, [], ◌∷◌, ◌++◌, Option, Some, None, refl, sym, ap, subst, ◌∙◌, arith, ⊎_elim, inl, inr, true≢false, BlobId, Axis, Side, among, Evidence, Verdict, Frame, Event, Write, Send, Read, Recover, Certificate, Reply, Line, ReadWord, RecoverWord, Log, is_live, Contents, PutAnswer, Judged, Committee, World, side_of, with_side, is_present, writing_side, is_correct, contents_of, held, with_contents, keeps, answered, Rules, is_clash, PutsEach, letters, AgreesWithFirst, Differs, WriteStep, WriteCollides, IsIgnored, IsPut, SendStep, read_payloads, ReadStep, told_by, ReadCollides, two_metadata, other_answer, IsReplyOf, AreReplies, RecoveryRuns, RecoverStep, RecoverCollides, Steps, GoesOn, is_collision, Runs}
 use Rattle.std.specs.FinMap as finmap
-use Rattle.wal_shape.specs.declared.metadata.BlobId.{BlobId}
-use Rattle.wal_shape.specs.declared.axis.Axis.{Axis}
-use Rattle.wal_shape.specs.declared.axis.Side.{Side}
-use Rattle.wal_shape.specs.Owners.{among}
-use Rattle.wal_evidence.specs.declared.evidence.Evidence.{Evidence}
-use Rattle.wal_evidence.specs.declared.evidence.Verdict.{Verdict}
 use Rattle.wal_evidence.specs.declared.evidence.Verdict.TheVariants as verdict
-use Rattle.wal_frame.specs.Frame.{Frame}
-use Rattle.wal_event.specs.declared.event.Event.{Event}
-use Rattle.wal_event.specs.declared.event.Event.TheVariants.{Write, Send, Read, Recover, Certificate}
-use Rattle.wal_event.specs.declared.event.Reply.{Reply}
 use Rattle.wal_event.specs.declared.event.Reply.TheVariants as reply
-use Rattle.wal_event.specs.declared.line.Line.{Line}
 use Rattle.wal_event.specs.declared.line.Line.TheVariants as line
 use Rattle.wal_event.specs.declared.line.WriteWord.TheVariants as write_word
 use Rattle.wal_event.specs.declared.line.SendWord.{SendWord}
 use Rattle.wal_event.specs.declared.line.SendWord.TheVariants as sending
-use Rattle.wal_event.specs.declared.line.ReadWord.{ReadWord}
 use Rattle.wal_event.specs.declared.line.ReadWord.TheVariants as reading_of
-use Rattle.wal_event.specs.declared.line.RecoverWord.{RecoverWord}
 use Rattle.wal_event.specs.declared.line.RecoverWord.TheVariants as recovering
-use Rattle.wal_ledger.specs.Ledger.{Log, is_live}
-use Rattle.wal_store.specs.Contents.{Contents}
-use Rattle.wal_shard.specs.declared.answers.PutAnswer.{PutAnswer}
 use Rattle.wal_shard.specs.declared.answers.PutAnswer.TheVariants as putting
-use Rattle.wal_protocol.specs.declared.first.First.TheVariants.{Judged}
-use Rattle.wal_protocol.specs.State.{Committee, World, side_of, with_side, is_present, writing_side, is_correct, contents_of, held, with_contents, keeps, answered}
-use Rattle.wal_protocol.specs.Rules.{Rules}
-use Rattle.wal_protocol.specs.Step.{is_clash, PutsEach, letters, AgreesWithFirst, Differs, WriteStep, WriteCollides, IsIgnored, IsPut, SendStep, read_payloads, ReadStep, told_by, ReadCollides, two_metadata, other_answer, IsReplyOf, AreReplies, RecoveryRuns, RecoverStep, RecoverCollides, Steps}
-use Rattle.wal_protocol.specs.Run.{GoesOn, is_collision, Runs}
 use Rattle.wal_protocol.specs.Determined.{SameLines, SameStep, SameUpToCollision}
 use Rattle.wal_protocol.proofs.OneWord.{Only, SamePut, one_certificate}
 

@@ -1,23 +1,7 @@
 -- What a step needs of the crates below to be one; and a certificate is one word.
-use Rattle.std.proofs.Common.{◌≡◌, ℕ, ◌≤◌, false, List, Option, sym, ap, subst, ◌∙◌, arith}
-use Rattle.wal_shape.specs.declared.metadata.BlobId.{BlobId}
-use Rattle.wal_shape.specs.declared.axis.Axis.{Axis}
+use Rattle.wal_protocol.proofs.Common.{◌≡◌, ℕ, ◌≤◌, false, List, Option, sym, ap, subst, ◌∙◌, arith, BlobId, Axis, Evidence, Frame, ReadWord, RecoverWord, CertificateWord, Holds, quorum_size, Log, signer_count, Parts, Contents, PutAnswer, World, Rules, is_clash, CertificateStep}
 use Rattle.wal_shape.specs.declared.shape.Format.{Format}
-use Rattle.wal_evidence.specs.declared.evidence.Evidence.{Evidence}
-use Rattle.wal_frame.specs.Frame.{Frame}
-use Rattle.wal_event.specs.declared.line.ReadWord.{ReadWord}
-use Rattle.wal_event.specs.declared.line.RecoverWord.{RecoverWord}
-use Rattle.wal_event.specs.declared.line.CertificateWord.{CertificateWord}
 use Rattle.wal_event.specs.declared.line.CertificateWord.TheVariants as certifying
-use Rattle.wal_ledger.specs.declared.entry.Kind.TheVariants.{Holds}
-use Rattle.wal_ledger.specs.Shards.{quorum_size}
-use Rattle.wal_ledger.specs.Ledger.{Log, signer_count}
-use Rattle.wal_store.specs.Parts.{Parts}
-use Rattle.wal_store.specs.Contents.{Contents}
-use Rattle.wal_shard.specs.declared.answers.PutAnswer.{PutAnswer}
-use Rattle.wal_protocol.specs.State.{World}
-use Rattle.wal_protocol.specs.Rules.{Rules}
-use Rattle.wal_protocol.specs.Step.{is_clash, CertificateStep}
 
 -- ---- what the crates below leave no choice of
 

@@ -1,11 +1,5 @@
 -- Runs that grow at their end.
-use Rattle.std.proofs.Common.{◌≡◌, List, length, arith, [], ◌∷◌, ◌++◌, Bool, true, false, cond, refl, sym, ◌∙◌}
-use Rattle.wal_event.specs.declared.event.Event.{Event}
-use Rattle.wal_event.specs.declared.line.Line.{Line}
-use Rattle.wal_protocol.specs.State.{World}
-use Rattle.wal_protocol.specs.Rules.{Rules}
-use Rattle.wal_protocol.specs.Step.{Steps}
-use Rattle.wal_protocol.specs.Run.{is_collision, GoesOn, Runs}
+use Rattle.wal_protocol.proofs.Common.{◌≡◌, List, length, arith, [], ◌∷◌, ◌++◌, Bool, true, false, cond, refl, sym, ◌∙◌, Event, Line, World, Rules, Steps, is_collision, GoesOn, Runs}
 use Rattle.wal_protocol.proofs.Agreement.{last}
 
 pub goes_on_push : (lines : List Line) (said : Line) → GoesOn lines → is_collision said ≡ false → GoesOn (lines ++ said ∷ [])

@@ -1,48 +1,13 @@
 -- Every run of a schedule is safe.
-use Rattle.std.proofs.Common.{◌≡◌, ℕ, zero, suc, ◌+◌, ◌-◌, ◌<◌, ◌≤◌, List, [], ◌∷◌, length, get_or, Bool, true, false, cond, not, All, is_some, Option, Some, None, Contains, refl, sym, ap, ◌∙◌, subst, arith}
-use Rattle.std.specs.List.{AllByRecursion}
+use Rattle.wal_protocol.proofs.Common.{◌≡◌, ℕ, zero, suc, ◌+◌, ◌-◌, ◌<◌, ◌≤◌, List, [], ◌∷◌, length, get_or, Bool, true, false, cond, not, All, is_some, Option, Some, None, Contains, refl, sym, ap, ◌∙◌, subst, arith, AllByRecursion, get-empty, and_parts, leb-true, ltb-true, length-map-range_with_len, BlobId, Axis, Side, Now, Next, id_cmp, among, Evidence, Verdict, IsEventWithin, IsSchedule, Event, Attest, Read, Recover, Reply, Schedule, Line, ReadWord, RecoverWord, count_below, committee_size, quorum_size, Log, is_live, writing, owners_at, same_node, signer_count, home_of, IsCertified, reading, claim_of, live_same, claim_plain, orderly_new, Parts, Contents, parts_at, settled, Committee, World, side_of, with_side, is_present, epoch_of, is_correct, contents_of, held, with_contents, settled_in, Rules, ClaimStep, told_by, read_payloads, IsReplyOf, AreReplies, RecoveryRuns, Gains, Steps, first_state, is_collision, Runs, IsRun, EachStep, IsCommitted, Hears, IsComplete, IsJust, IsSafe, HearsSettled, HearsSecondary, IsRecoveryComplete, Facts, Laws, AreAmong, RepliedTo, Helped, IsSettledBy, IsDecidedBy}
 use Rattle.std.specs.FinMap as finmap
-use Rattle.std.specs.FinMap.{get-empty}
-use Rattle.std.proofs.lemmas.Bool.{and_parts, leb-true, ltb-true}
-use Rattle.std.proofs.lemmas.List.FromFn.{length-map-range_with_len}
-use Rattle.wal_shape.specs.declared.metadata.BlobId.{BlobId}
-use Rattle.wal_shape.specs.declared.axis.Axis.{Axis}
 use Rattle.wal_shape.specs.declared.axis.Axis.TheVariants.{Primary, Secondary}
-use Rattle.wal_shape.specs.declared.axis.Side.{Side}
-use Rattle.wal_shape.specs.declared.axis.Side.TheVariants.{Now, Next}
-use Rattle.wal_shape.specs.Identifiers.{id_cmp}
-use Rattle.wal_shape.specs.Owners.{among}
-use Rattle.wal_evidence.specs.declared.evidence.Evidence.{Evidence}
-use Rattle.wal_evidence.specs.declared.evidence.Verdict.{Verdict}
-use Rattle.wal_event.specs.Event.{IsEventWithin, IsSchedule}
-use Rattle.wal_event.specs.declared.event.Event.{Event}
-use Rattle.wal_event.specs.declared.event.Event.TheVariants.{Attest, Read, Recover}
-use Rattle.wal_event.specs.declared.event.Reply.{Reply}
 use Rattle.wal_event.specs.declared.event.Reply.TheVariants as reply
-use Rattle.wal_event.specs.declared.event.Schedule.{Schedule}
-use Rattle.wal_event.specs.declared.line.Line.{Line}
 use Rattle.wal_event.specs.declared.line.Line.TheVariants as line
 use Rattle.wal_event.specs.declared.line.AttestWord.TheVariants as attesting
-use Rattle.wal_event.specs.declared.line.ReadWord.{ReadWord}
 use Rattle.wal_event.specs.declared.line.ReadWord.TheVariants as reading_of
-use Rattle.wal_event.specs.declared.line.RecoverWord.{RecoverWord}
 use Rattle.wal_event.specs.declared.line.RecoverWord.TheVariants as recovering
 use Rattle.wal_ledger.specs.declared.entry.Kind.TheVariants as kinds
-use Rattle.wal_ledger.specs.Shards.{count_below, committee_size, quorum_size}
-use Rattle.wal_ledger.specs.Ledger.{Log, is_live, writing, owners_at, same_node, signer_count, home_of, IsCertified, reading}
-use Rattle.wal_ledger.specs.Answers.{claim_of}
-use Rattle.wal_ledger.proofs.HandoverOrder.{live_same, claim_plain}
-use Rattle.wal_ledger.proofs.HandoverTurns.{orderly_new}
-use Rattle.wal_store.specs.Parts.{Parts}
-use Rattle.wal_store.specs.Contents.{Contents, parts_at}
-use Rattle.wal_shard.specs.Holding.{settled}
-use Rattle.wal_protocol.specs.State.{Committee, World, side_of, with_side, is_present, epoch_of, is_correct, contents_of, held, with_contents, settled_in}
-use Rattle.wal_protocol.specs.Rules.{Rules}
-use Rattle.wal_protocol.specs.Step.{ClaimStep, told_by, read_payloads, IsReplyOf, AreReplies, RecoveryRuns, Gains, Steps}
-use Rattle.wal_protocol.specs.Run.{first_state, is_collision, Runs, IsRun}
-use Rattle.wal_protocol.specs.Safe.{EachStep, IsCommitted, Hears, IsComplete, IsJust, IsSafe, HearsSettled, HearsSecondary, IsRecoveryComplete}
-use Rattle.wal_protocol.specs.Facts.{Facts}
-use Rattle.wal_protocol.specs.inside.Laws.{Laws, AreAmong, RepliedTo, Helped, IsSettledBy, IsDecidedBy}
 use Rattle.wal_protocol.proofs.Lookups.{held_here, held_is, held_empty, held_nobody}
 use Rattle.wal_protocol.proofs.Grown.{sound_contents}
 use Rattle.wal_protocol.proofs.Stepped.{closed_by, facts_step}

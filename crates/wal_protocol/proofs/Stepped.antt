@@ -1,58 +1,22 @@
 -- Each step keeps the facts.
-use Rattle.std.proofs.Common.{◌≡◌, ◌≢◌, ℕ, zero, suc, ◌<◌, List, [], ◌∷◌, length, Bool, true, false, cond, not, ◌&&◌, ◌||◌, nat_eq, nat_lt, Some, IsTrue, ◌⊎◌, inl, inr, refl, sym, ap, ◌∙◌, subst, arith}
-use Rattle.std.specs.List.{list_all}
+use Rattle.wal_protocol.proofs.Common.{◌≡◌, ◌≢◌, ℕ, zero, suc, ◌<◌, List, [], ◌∷◌, length, Bool, true, false, cond, not, ◌&&◌, ◌||◌, nat_eq, nat_lt, Some, IsTrue, ◌⊎◌, inl, inr, refl, sym, ap, ◌∙◌, subst, arith, list_all, get-insert, eq_by_cmp, and_parts, and_from, or_cases, or_left, or_right, eqb-true, not-true, cases_eq, BlobId, Axis, Side, Now, Next, id_cmp, among, are_owners, is_closed, is_ascending, is_committee, has_neighbour, every_below, node_of, Verdict, IsEventWithin, Event, Register, Write, Send, Ack, Attest, Read, Recover, Forget, Begin, Ready, Finish, Reply, Line, ReadWord, RecoverWord, Kind, committee_size, writing, owners_at, owners_of, same_node, claim_of, ids_total, ClaimsFor, register_enters, claim_enters, ready_enters, Parts, parts_at, settled_by_slivers, has_proof, backs, without_slivers, First, Judged, Written, Committee, World, side_of, with_side, is_present, epoch_of, writing_side, is_correct, contents_of, held, with_contents, answered, Rules, WriteStep, WriteCollides, ClaimStep, ReadCompletes, told_by, Gains, ForgetStep, Steps, Facts, backed, Laws, forgotten, same_id}
 use Rattle.std.specs.FinMap as finmap
-use Rattle.std.specs.FinMap.{get-insert}
-use Rattle.std.specs.Ordering.{eq_by_cmp}
-use Rattle.std.proofs.lemmas.Bool.{and_parts, and_from, or_cases, or_left, or_right, eqb-true, not-true, cases_eq}
-use Rattle.wal_shape.specs.declared.metadata.BlobId.{BlobId}
-use Rattle.wal_shape.specs.declared.axis.Axis.{Axis}
-use Rattle.wal_shape.specs.declared.axis.Side.{Side}
-use Rattle.wal_shape.specs.declared.axis.Side.TheVariants.{Now, Next}
-use Rattle.wal_shape.specs.Identifiers.{id_cmp}
-use Rattle.wal_shape.specs.Owners.{among, are_owners, is_closed, is_ascending, is_committee, has_neighbour, every_below, node_of}
-use Rattle.wal_evidence.specs.declared.evidence.Verdict.{Verdict}
 use Rattle.wal_evidence.specs.declared.evidence.Verdict.TheVariants as verdict
-use Rattle.wal_event.specs.Event.{IsEventWithin}
-use Rattle.wal_event.specs.declared.event.Event.{Event}
-use Rattle.wal_event.specs.declared.event.Event.TheVariants.{Register, Write, Send, Ack, Attest, Read, Recover, Forget, Begin, Ready, Finish}
-use Rattle.wal_event.specs.declared.event.Reply.{Reply}
-use Rattle.wal_event.specs.declared.line.Line.{Line}
 use Rattle.wal_event.specs.declared.line.Line.TheVariants as line
 use Rattle.wal_event.specs.declared.line.WriteWord.TheVariants as write_word
 use Rattle.wal_event.specs.declared.line.RegisterWord.TheVariants as registering
 use Rattle.wal_event.specs.declared.line.SendWord.TheVariants as sending
 use Rattle.wal_event.specs.declared.line.AckWord.TheVariants as acking
 use Rattle.wal_event.specs.declared.line.AttestWord.TheVariants as attesting
-use Rattle.wal_event.specs.declared.line.ReadWord.{ReadWord}
 use Rattle.wal_event.specs.declared.line.ReadWord.TheVariants as reading_of
-use Rattle.wal_event.specs.declared.line.RecoverWord.{RecoverWord}
 use Rattle.wal_event.specs.declared.line.RecoverWord.TheVariants as recovering
 use Rattle.wal_event.specs.declared.line.ForgetWord.TheVariants as forgetting
 use Rattle.wal_event.specs.declared.line.BeginWord.TheVariants as beginning
 use Rattle.wal_event.specs.declared.line.ReadyWord.TheVariants as readying
 use Rattle.wal_event.specs.declared.line.FinishWord.TheVariants as finishing
 use Rattle.wal_ledger.specs.declared.entry.Body.TheVariants as entry
-use Rattle.wal_ledger.specs.declared.entry.Kind.{Kind}
 use Rattle.wal_ledger.specs.declared.entry.Kind.TheVariants as kinds
-use Rattle.wal_ledger.specs.Shards.{committee_size}
-use Rattle.wal_ledger.specs.Ledger.{writing, owners_at, owners_of, same_node}
-use Rattle.wal_ledger.specs.Answers.{claim_of}
-use Rattle.wal_ledger.proofs.Order.{ids_total}
-use Rattle.wal_ledger.proofs.HandoverOrder.{ClaimsFor, register_enters, claim_enters, ready_enters}
-use Rattle.wal_store.specs.Parts.{Parts}
-use Rattle.wal_store.specs.Contents.{parts_at}
 use Rattle.wal_shard.specs.declared.answers.PutAnswer.TheVariants as putting
-use Rattle.wal_shard.specs.Holding.{settled_by_slivers, has_proof}
-use Rattle.wal_shard.specs.Vouching.{backs, without_slivers}
-use Rattle.wal_protocol.specs.declared.first.First.{First}
-use Rattle.wal_protocol.specs.declared.first.First.TheVariants.{Judged, Written}
-use Rattle.wal_protocol.specs.State.{Committee, World, side_of, with_side, is_present, epoch_of, writing_side, is_correct, contents_of, held, with_contents, answered}
-use Rattle.wal_protocol.specs.Rules.{Rules}
-use Rattle.wal_protocol.specs.Step.{WriteStep, WriteCollides, ClaimStep, ReadCompletes, told_by, Gains, ForgetStep, Steps}
-use Rattle.wal_protocol.specs.Facts.{Facts, backed}
-use Rattle.wal_protocol.specs.inside.Laws.{Laws, forgotten}
-use Rattle.wal_shard.proofs.Changes.{same_id}
 use Rattle.wal_protocol.proofs.Lookups.{held_is, parts_forgotten}
 use Rattle.wal_protocol.proofs.Grown.{Firmer, GrownFrom, AreSound, grown_same, grown_put, grown_each, grown_changed, sound_contents, firmer_same, firmer_contents, firmer_forgotten, facts_grown}
 use Rattle.wal_protocol.proofs.Entered.{writing_present, facts_entered}

@@ -1,28 +1,7 @@
 -- The facts after the epoch began to change, and after the next one began.
-use Rattle.std.proofs.Common.{◌≡◌, ℕ, ◌+◌, ◌<◌, ◌≤◌, List, length, get_or, Bool, true, false, cond, not, ◌&&◌, nat_le, ◌⊎◌, inl, inr, refl, sym, ap, ◌∙◌, subst, arith}
+use Rattle.wal_protocol.proofs.Common.{◌≡◌, ℕ, ◌+◌, ◌<◌, ◌≤◌, List, length, get_or, Bool, true, false, cond, not, ◌&&◌, nat_le, ◌⊎◌, inl, inr, refl, sym, ap, ◌∙◌, subst, arith, and_parts, leb-true, length-map, length-map-range_with_len, BlobId, Side, Now, Next, among, Kind, Holds, count_below, committee_size, quorum_size, Log, is_moving, reading, writing, owners_at, is_live, same_node, signers, signer_count, IsCertified, MustHold, ready_shards, ready_total, entered, count_below-mono, Begun, begun, Finished, finished, Parts, no_parts, settled, World, nobody, side_of, is_present, epoch_of, held, settled_in, Rules, is_carried_over, next_committee, after_dropping, without_dead, Facts, backed, Laws}
 use Rattle.std.specs.FinMap as finmap
-use Rattle.std.proofs.lemmas.Bool.{and_parts, leb-true}
-use Rattle.std.proofs.lemmas.List.{length-map}
-use Rattle.std.proofs.lemmas.List.FromFn.{length-map-range_with_len}
-use Rattle.wal_shape.specs.declared.metadata.BlobId.{BlobId}
-use Rattle.wal_shape.specs.declared.axis.Side.{Side}
-use Rattle.wal_shape.specs.declared.axis.Side.TheVariants.{Now, Next}
-use Rattle.wal_shape.specs.Owners.{among}
 use Rattle.wal_ledger.specs.declared.entry.Body.TheVariants.{Begin, Finish}
-use Rattle.wal_ledger.specs.declared.entry.Kind.{Kind}
-use Rattle.wal_ledger.specs.declared.entry.Kind.TheVariants.{Holds}
-use Rattle.wal_ledger.specs.Shards.{count_below, committee_size, quorum_size}
-use Rattle.wal_ledger.specs.Ledger.{Log, is_moving, reading, writing, owners_at, is_live, same_node, signers, signer_count, IsCertified, MustHold, ready_shards, ready_total, entered}
-use Rattle.wal_ledger.proofs.Quorums.{count_below-mono}
-use Rattle.wal_ledger.proofs.HandoverTurns.{Begun, begun, Finished, finished}
-use Rattle.wal_store.specs.Parts.{Parts, no_parts}
-use Rattle.wal_shard.specs.Holding.{settled}
-use Rattle.wal_protocol.specs.State.{World, nobody, side_of, is_present, epoch_of, held, settled_in}
-use Rattle.wal_protocol.specs.Rules.{Rules}
-use Rattle.wal_protocol.specs.Step.{is_carried_over, next_committee, after_dropping}
-use Rattle.wal_shard.specs.Vouching.{without_dead}
-use Rattle.wal_protocol.specs.Facts.{Facts, backed}
-use Rattle.wal_protocol.specs.inside.Laws.{Laws}
 use Rattle.wal_protocol.proofs.Lookups.{held_next, held_without, held_nobody}
 use Rattle.wal_protocol.proofs.Entered.{quorum_settled}
 use Rattle.wal_protocol.proofs.Dated.{none_ahead_entered, since_begin_entered, since_begin_begun}

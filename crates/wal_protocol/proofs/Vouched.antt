@@ -1,15 +1,7 @@
 -- What a shard's answer tells of what it holds.
-use Rattle.std.proofs.Common.{◌≡◌, ◌∙◌, ℕ, true, false, is_ok, Result, Ok, Err, sym, ap, subst, arith}
-use Rattle.wal_shape.specs.declared.metadata.BlobId.{BlobId}
-use Rattle.wal_shape.specs.declared.axis.Side.{Side}
-use Rattle.wal_ledger.specs.declared.entry.Kind.{Kind}
-use Rattle.wal_ledger.specs.Ledger.{Log}
-use Rattle.wal_ledger.specs.Answers.{IsOpen}
-use Rattle.wal_store.specs.Contents.{Contents, parts_at}
+use Rattle.wal_protocol.proofs.Common.{◌≡◌, ◌∙◌, ℕ, true, false, is_ok, Result, Ok, Err, sym, ap, subst, arith, BlobId, Side, Kind, Log, IsOpen, Contents, parts_at, backs, Vouches, World, contents_of, held, side_of, writing_side}
 use Rattle.wal_shard.specs.declared.answers.AckRefusal.{AckRefusal}
 use Rattle.wal_shard.specs.declared.answers.AckRefusal.TheVariants.{Unregistered, Expires, Declined}
-use Rattle.wal_shard.specs.Vouching.{backs, Vouches}
-use Rattle.wal_protocol.specs.State.{World, contents_of, held, side_of, writing_side}
 use Rattle.wal_protocol.proofs.Lookups.{held_is}
 
 answer_is : (kind : Kind) (log : Log) (contents : Contents) (id : BlobId) (r : Result (Unit {0}) AckRefusal) → IsOpen log id → Vouches kind log contents id r

@@ -1,22 +1,9 @@
 -- The answers for one metadata: the verdict on enough slivers, or their number.
-use Rattle.std.proofs.Common.{◌≡◌, ℕ, ◌≤◌, List, length, refl, sym, ap, subst, ◌∙◌, arith, inl, inr, Option, None, Result, Ok, Err, IfOk}
-use Rattle.wal_shape.specs.Shape.{row_count}
-use Rattle.wal_shape.specs.Metadata.{BlobMetadata}
-use Rattle.wal_shape.specs.EncodingProof.{EncodingProof}
-use Rattle.wal_shape.specs.declared.text.MetaClash.{MetaClash}
+use Rattle.wal_reader.proofs.Common.{◌≡◌, ℕ, ◌≤◌, List, length, refl, sym, ap, subst, ◌∙◌, arith, inl, inr, Option, None, Result, Ok, Err, IfOk, row_count, BlobMetadata, EncodingProof, MetaClash, AreDigestedFor, IsEvidence, Verdict, Outcome, Short, NoMetadata, Collision, ReadAnswer, IsFirstBadProof, NoBadProof, AreFirstTwo, Collects, Decides, HasMetadata, HoldsFew, IsAnswer, IsEvidenceFor, IsMetadataIn, IsOnlyOutcome, IsAnswerOf, told_outcome}
 use Rattle.wal_tree.specs.Collision.{IsCollision}
-use Rattle.wal_commit.specs.Identifier.{AreDigestedFor}
-use Rattle.wal_evidence.specs.Evidence.{IsEvidence}
 use Rattle.wal_evidence.specs.declared.evidence.Basis.TheVariants.{Slivers, Proof}
 use Rattle.wal_evidence.specs.declared.evidence.Evidence.{Evidence}
-use Rattle.wal_evidence.specs.declared.evidence.Verdict.{Verdict}
 use Rattle.wal_evidence.specs.declared.evidence.Verdict.TheVariants as told
-use Rattle.wal_reader.specs.declared.outcome.Outcome.{Outcome}
-use Rattle.wal_reader.specs.declared.outcome.Outcome.TheVariants.{Short, NoMetadata, Collision}
-use Rattle.wal_reader.specs.declared.outcome.ReadAnswer.{ReadAnswer}
-use Rattle.wal_reader.specs.Carried.{IsFirstBadProof, NoBadProof}
-use Rattle.wal_reader.specs.Outcome.{AreFirstTwo, Collects, Decides, HasMetadata, HoldsFew, IsAnswer, IsEvidenceFor, IsMetadataIn, IsOnlyOutcome}
-use Rattle.wal_reader.specs.inside.Outcome.{IsAnswerOf, told_outcome}
 use Rattle.wal_reader.proofs.Collections.{collects_few, enough_are_held}
 use Rattle.wal_reader.proofs.FirstOnes.{first_two}
 use Rattle.wal_reader.proofs.OneOutcome.{HasFew, only_collision, only_none, only_refuted, only_short, only_verdict}

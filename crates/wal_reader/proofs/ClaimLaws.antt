@@ -1,15 +1,10 @@
 -- The openings of a sliver are those of the claims whose target it is.
-use Rattle.std.proofs.Common.{◌≡◌, ℕ, Bool, true, false, ◌&&◌, nat_eq, List, [], ◌∷◌, ◌++◌, Result, Ok, if◌then◌else◌, refl, ap₂, ◌∙◌}
+use Rattle.wal_reader.proofs.Common.{◌≡◌, ℕ, Bool, true, false, ◌&&◌, nat_eq, List, [], ◌∷◌, ◌++◌, Result, Ok, if◌then◌else◌, refl, ap₂, ◌∙◌, Axis, Frame, Opening, read_of, FrameError, claim_for, claims_in, opening_at, opening_for, openings_in, same_axis}
 use Rattle.std.specs.List.{flat_map}
 use Rattle.std.specs.Cmp.Lexicographic.{pointwise}
 use Rattle.std.proofs.lemmas.List.{append-nil}
 use Rattle.std.proofs.lemmas.List.Concat.{flat_map-append}
-use Rattle.wal_shape.specs.declared.axis.Axis.{Axis}
 use Rattle.wal_shape.specs.declared.claim.Claim.{Claim}
-use Rattle.wal_frame.specs.Frame.{Frame, Opening}
-use Rattle.wal_frame.specs.Reading.{read_of}
-use Rattle.wal_frame.specs.declared.frame.FrameError.{FrameError}
-use Rattle.wal_reader.specs.Carried.{claim_for, claims_in, opening_at, opening_for, openings_in, same_axis}
 
 -- a claim that is taken by a test
 chosen : (axis : Axis) (index : ℕ) (test : Bool) (c : Claim)

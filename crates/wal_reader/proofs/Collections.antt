@@ -1,22 +1,13 @@
 -- The held slivers that are collected from payloads, one by one.
-use Rattle.std.proofs.Common.{◌≡◌, ℕ, ◌*◌, ◌<◌, ◌≤◌, List, [], ◌∷◌, ◌++◌, length, map, get_or, slice_index, refl, sym, ap, subst, ◌∙◌, arith, ⊎_elim, All, Contains, Ok}
+use Rattle.wal_reader.proofs.Common.{◌≡◌, ℕ, ◌*◌, ◌<◌, ◌≤◌, List, [], ◌∷◌, ◌++◌, length, map, get_or, slice_index, refl, sym, ap, subst, ◌∙◌, arith, ⊎_elim, All, Contains, Ok, get_or-map, length-map, map-append, Distinct, Primary, row_count, BlobMetadata, Sliver, read_of, HoldsSliver, AreHeld, sliver_bytes, CarriesSliver, Collects, GivesSliver, HasSliver, IndexedSliver, IsMetadataIn}
 use Rattle.std.proofs.lemmas.Grind.{flat_map-append}
-use Rattle.std.proofs.lemmas.List.{append-nil, get_or-map, length-map, map-append}
-use Rattle.wal_code.specs.Codeword.{Distinct}
+use Rattle.std.proofs.lemmas.List.{append-nil}
 use Rattle.wal_kernel.specs.Region.{region}
-use Rattle.wal_shape.specs.declared.axis.Axis.TheVariants.{Primary}
-use Rattle.wal_shape.specs.Shape.{row_count}
-use Rattle.wal_shape.specs.Metadata.{BlobMetadata}
-use Rattle.wal_frame.specs.Frame.{Sliver}
-use Rattle.wal_frame.specs.Reading.{read_of}
-use Rattle.wal_commit.specs.Held.{HoldsSliver}
-use Rattle.wal_evidence.specs.Evidence.{AreHeld, sliver_bytes}
 use Rattle.wal_evidence.specs.FirstOfEach.{adds, keeps}
 use Rattle.wal_evidence.specs.inside.FirstOfEach.{AreTaken}
 use Rattle.wal_evidence.proofs.FirstOfEach.{first_taken, full_more, one_taken, takes_all, takes_more}
 use Rattle.wal_evidence.proofs.Marked.{known_or_new}
 use Rattle.wal_evidence.proofs.Pieces.{piece_at, pieces_long}
-use Rattle.wal_reader.specs.Outcome.{CarriesSliver, Collects, GivesSliver, HasSliver, IndexedSliver, IsMetadataIn}
 
 abbrev no_sliver : IndexedSliver
 no_sliver = record { index = 0; bytes = [] }

@@ -1,13 +1,8 @@
 -- Enough carried slivers lead to a verdict, and what the evidence of an outcome is.
-use Rattle.std.proofs.Common.{◌≡◌, ℕ, ◌≤◌, List, length, subst, arith, Contains, nat_eq}
+use Rattle.wal_reader.proofs.Common.{◌≡◌, ℕ, ◌≤◌, List, length, subst, arith, Contains, nat_eq, Distinct, BlobMetadata, Outcome, Short, NoMetadata, Collision, HasEnough, HasSliver, HoldsFew, IsVerdict, IsMetadataIn, IsOutcome}
 use Rattle.std.proofs.lemmas.Bool.Decides.{Decides-eqb}
 use Rattle.std.proofs.lemmas.Cmp.{nat_eq_equiv}
 use Rattle.std.proofs.lemmas.Map.Made.{IsDistinct-from_AllPairs, is_member-Decides, length-le_from_is_member}
-use Rattle.wal_code.specs.Codeword.{Distinct}
-use Rattle.wal_shape.specs.Metadata.{BlobMetadata}
-use Rattle.wal_reader.specs.declared.outcome.Outcome.{Outcome}
-use Rattle.wal_reader.specs.declared.outcome.Outcome.TheVariants.{Short, NoMetadata, Collision}
-use Rattle.wal_reader.specs.Outcome.{HasEnough, HasSliver, HoldsFew, IsVerdict, IsMetadataIn, IsOutcome}
 use Rattle.wal_reader.proofs.Collections.{collects_all}
 use Rattle.wal_reader.proofs.OneOutcome.{not_two}
 

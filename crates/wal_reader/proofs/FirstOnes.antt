@@ -1,16 +1,7 @@
 -- The first payload that carries something.
-use Rattle.std.proofs.Common.{◌≡◌, ◌≢◌, ℕ, suc, ◌+◌, ◌<◌, List, [], ◌∷◌, ◌++◌, length, take, drop, get_or, sym, ap, subst, ◌∙◌, arith, append_assoc, length-append, Any, Result, Ok}
+use Rattle.wal_reader.proofs.Common.{◌≡◌, ◌≢◌, ℕ, suc, ◌+◌, ◌<◌, List, [], ◌∷◌, ◌++◌, length, take, drop, get_or, sym, ap, subst, ◌∙◌, arith, append_assoc, length-append, Any, Result, Ok, take-append-drop, All-push, BlobMetadata, EncodingProof, FrameError, Frame, Proof, read_of, CarriesBadProof, CarriesProof, IsFirst, NoneIn, AreFirstTwo, CarriesMetadata, HasMetadata, IsFirstMetadata, IsMetadataIn}
 use Rattle.std.proofs.Math.Seq.{get_or-append_seam}
-use Rattle.std.proofs.lemmas.List.{take-append-drop}
-use Rattle.std.proofs.lemmas.List.Elements.{All-push}
-use Rattle.wal_shape.specs.Metadata.{BlobMetadata}
-use Rattle.wal_shape.specs.EncodingProof.{EncodingProof}
-use Rattle.wal_frame.specs.declared.frame.FrameError.{FrameError}
-use Rattle.wal_frame.specs.Frame.{Frame, Proof}
-use Rattle.wal_frame.specs.Reading.{read_of}
 use Rattle.wal_evidence.specs.BadProof.{IsBadProof}
-use Rattle.wal_reader.specs.Carried.{CarriesBadProof, CarriesProof, IsFirst, NoneIn}
-use Rattle.wal_reader.specs.Outcome.{AreFirstTwo, CarriesMetadata, HasMetadata, IsFirstMetadata, IsMetadataIn}
 use Rattle.wal_reader.proofs.Gathering.{front_more}
 
 -- the payloads before one, this one, and those behind it

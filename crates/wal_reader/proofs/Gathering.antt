@@ -1,11 +1,5 @@
 -- Payloads one after the other, and the metadata among them.
-use Rattle.std.proofs.Common.{◌≡◌, ◌⊎◌, ℕ, ◌+◌, ◌<◌, List, [], ◌∷◌, ◌++◌, length, take, get_or, sym, ap, subst, ◌∙◌, arith, inl, inr, ⊎_elim, length-append, Any, Result, Ok, Err, IfOk}
-use Rattle.std.proofs.lemmas.Bool.{cases_lt}
-use Rattle.std.proofs.lemmas.List.{get_or_append_left, get_or_push, take_more}
-use Rattle.wal_shape.specs.Metadata.{BlobMetadata}
-use Rattle.wal_frame.specs.declared.frame.FrameError.{FrameError}
-use Rattle.wal_frame.specs.Frame.{Frame, Metadata}
-use Rattle.wal_reader.specs.Outcome.{CarriesMetadata, HasMetadata}
+use Rattle.wal_reader.proofs.Common.{◌≡◌, ◌⊎◌, ℕ, ◌+◌, ◌<◌, List, [], ◌∷◌, ◌++◌, length, take, get_or, sym, ap, subst, ◌∙◌, arith, inl, inr, ⊎_elim, length-append, Any, Result, Ok, Err, IfOk, cases_lt, get_or_append_left, get_or_push, take_more, BlobMetadata, FrameError, Frame, Metadata, CarriesMetadata, HasMetadata}
 
 -- what holds of some element of a longer list holds of one before, or of the last
 pub any_push_cases : {X : Type 0} (P : X → Type 0) (xs : List X) (y : X) → Any P (xs ++ y ∷ []) → Any P xs ⊎ P y

@@ -1,14 +1,6 @@
 -- The metadata of payloads, and one payload more.
-use Rattle.std.proofs.Common.{◌≡◌, ◌≢◌, ℕ, List, [], ◌∷◌, ◌++◌, refl, sym, ap, subst, ◌∙◌, arith, ⊎_elim, append_assoc, length-append, Any}
-use Rattle.std.proofs.lemmas.List.{get_or_append_left}
+use Rattle.wal_reader.proofs.Common.{◌≡◌, ◌≢◌, ℕ, List, [], ◌∷◌, ◌++◌, refl, sym, ap, subst, ◌∙◌, arith, ⊎_elim, append_assoc, length-append, Any, get_or_append_left, BlobMetadata, MetaClash, read_of, Known, AreFirstTwo, CarriesMetadata, HasMetadata, IsFirstMetadata, IsFirstOther, IsMetadataIn, Two, CarriesNoPart, HasKept, HasKnown, HasParts, Sifts, none}
 use Rattle.std.proofs.lemmas.List.Quantifiers.{Any-push}
-use Rattle.wal_shape.specs.Metadata.{BlobMetadata}
-use Rattle.wal_shape.specs.declared.text.MetaClash.{MetaClash}
-use Rattle.wal_frame.specs.Reading.{read_of}
-use Rattle.wal_reader.specs.declared.known.Known.{Known}
-use Rattle.wal_reader.specs.Outcome.{AreFirstTwo, CarriesMetadata, HasMetadata, IsFirstMetadata, IsFirstOther, IsMetadataIn}
-use Rattle.wal_reader.specs.declared.kept.Kept.TheVariants.{Two}
-use Rattle.wal_reader.specs.Heard.{CarriesNoPart, HasKept, HasKnown, HasParts, Sifts, none}
 use Rattle.wal_reader.proofs.Gathering.{any_push_cases, one_metadata}
 use Rattle.wal_reader.proofs.KnownLaws.{parts_past}
 

@@ -1,11 +1,5 @@
 -- A payload that carries a sliver carries no other one.
-use Rattle.std.proofs.Common.{◌≡◌, ℕ, List, Ok, arith, sym, ap, subst, ◌∙◌}
-use Rattle.wal_shape.specs.declared.axis.Axis.{Axis}
-use Rattle.wal_shape.specs.Metadata.{BlobMetadata}
-use Rattle.wal_frame.specs.Frame.{Sliver}
-use Rattle.wal_frame.specs.Reading.{read_of}
-use Rattle.wal_commit.specs.Held.{HoldsSliver}
-use Rattle.wal_reader.specs.Carried.{CarriesHeldSliver}
+use Rattle.wal_reader.proofs.Common.{◌≡◌, ℕ, List, Ok, arith, sym, ap, subst, ◌∙◌, Axis, BlobMetadata, Sliver, read_of, HoldsSliver, CarriesHeldSliver}
 
 -- where the sliver that it carries is not wanted, it carries none that is
 pub not_held : (digest : List ℕ → List ℕ) (id : List ℕ) (m : BlobMetadata) (axis : Axis) (index : ℕ) (payload : List ℕ) (at : ℕ) (bytes : List ℕ)

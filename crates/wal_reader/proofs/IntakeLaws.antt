@@ -1,21 +1,9 @@
 -- Streams that are taken in pieces.
-use Rattle.std.proofs.Common.{◌≡◌, ℕ, suc, ◌+◌, ◌-◌, ◌^◌, ◌<◌, ◌≤◌, inl, inr, true, false, List, [], ◌∷◌, ◌++◌, length, take, drop, refl, sym, ap, subst, ◌∙◌, append_assoc, append-nil, arith}
-use Rattle.std.specs.Prelude.{replicate}
+use Rattle.wal_reader.proofs.Common.{◌≡◌, ℕ, suc, ◌+◌, ◌-◌, ◌^◌, ◌<◌, ◌≤◌, inl, inr, true, false, List, [], ◌∷◌, ◌++◌, length, take, drop, refl, sym, ap, subst, ◌∙◌, append_assoc, append-nil, arith, replicate, cases_lt, take_all, take-append-drop, length-take, length-drop, length-replicate, nil_from_length, All-append, All-from_get_or, number_text, IsBytes, IsBytes-drop, IsBytes-take, wide32, envelope, BeginsNone, IsPart, IsWrong, IsPayload, IsStream, size_in, envelope_at, HeardState, HasHeard, IsSettledState, AreBytes, IntakeState, ReadsPast, KeepsPart, past, StandsAt, Takes, IsUnfinished, IsLacking, CannotMatter, Hears, IsSound, Moves, Refuses, FeedError, Malformed, TooLong, Memory}
 use Rattle.std.specs.Int.{w16, w32, from_be_bytes}
-use Rattle.std.proofs.lemmas.Bool.{cases_lt}
-use Rattle.std.proofs.lemmas.List.{take_all, take-append-drop, length-append, length-take, length-drop, length-replicate, nil_from_length}
-use Rattle.std.proofs.lemmas.List.Elements.{All-append, All-from_get_or}
-use Rattle.wal_shape.specs.Spelling.{number_text}
-use Rattle.wal_shape.proofs.Numbers.{IsBytes, IsBytes-drop, IsBytes-take, wide32}
-use Rattle.wal_frame.specs.Frame.{envelope}
-use Rattle.wal_frame.specs.Front.{BeginsNone, IsPart, IsWrong}
-use Rattle.wal_frame.specs.Stream.{IsPayload, IsStream, size_in, envelope_at}
+use Rattle.std.proofs.lemmas.List.{length-append}
 use Rattle.wal_frame.proofs.StreamLaws.{head_parts, envelope_read, stream_grows}
-use Rattle.wal_reader.specs.Heard.{HeardState, HasHeard, IsSettledState}
-use Rattle.wal_reader.specs.Intake.{AreBytes, IntakeState, ReadsPast, KeepsPart, kept, past, StandsAt}
-use Rattle.wal_reader.specs.inside.Intake.{Takes, IsUnfinished, IsLacking, CannotMatter, Hears, IsSound, Moves, Refuses}
-use Rattle.wal_reader.specs.declared.errors.FeedError.{FeedError}
-use Rattle.wal_reader.specs.declared.errors.FeedError.TheVariants.{Malformed, TooLong, Memory}
+use Rattle.wal_reader.specs.Intake.{kept}
 
 -- ---- streams are cut in one way
 

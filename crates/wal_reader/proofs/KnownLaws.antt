@@ -1,14 +1,5 @@
 -- What is held for one metadata, payload by payload.
-use Rattle.std.proofs.Common.{◌≡◌, ◌≢◌, ℕ, List, [], ◌∷◌, ◌++◌, length, refl, sym, ap, ◌∙◌, arith, ⊎_elim, append_assoc, Option, Some, None}
-use Rattle.std.proofs.lemmas.Bool.{cases_lt}
-use Rattle.std.proofs.lemmas.List.Elements.{All-push}
-use Rattle.wal_shape.specs.Shape.{row_count}
-use Rattle.wal_shape.specs.Metadata.{BlobMetadata}
-use Rattle.wal_shape.specs.EncodingProof.{EncodingProof}
-use Rattle.wal_reader.specs.declared.known.Known.{Known}
-use Rattle.wal_reader.specs.Carried.{CarriesBadProof}
-use Rattle.wal_reader.specs.Outcome.{CarriesSliver, Collects}
-use Rattle.wal_reader.specs.Heard.{HasParts, IsEnough, IsProofFound}
+use Rattle.wal_reader.proofs.Common.{◌≡◌, ◌≢◌, ℕ, List, [], ◌∷◌, ◌++◌, length, refl, sym, ap, ◌∙◌, arith, ⊎_elim, append_assoc, Option, Some, None, cases_lt, All-push, row_count, BlobMetadata, EncodingProof, Known, CarriesBadProof, CarriesSliver, Collects, HasParts, IsEnough, IsProofFound}
 use Rattle.wal_reader.proofs.Collections.{collects_few, collects_full, collects_none, collects_passed}
 
 -- nothing is held of no payloads

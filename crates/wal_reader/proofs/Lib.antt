@@ -14,3 +14,4 @@ pub mod StandingLaws
 pub mod ClaimLaws
 mod HeldSlivers
 pub mod PayloadBytes
+mod Common

@@ -1,23 +1,7 @@
 -- A payload that is longer than any that can matter changes nothing.
-use Rattle.std.proofs.Common.{◌≡◌, ℕ, ◌+◌, ◌*◌, ◌<◌, ◌≤◌, List, [], ◌∷◌, ◌++◌, length, get_or, ap, arith, ⊎_elim, length-append, All}
-use Rattle.std.proofs.lemmas.Bool.{cases_lt}
-use Rattle.std.proofs.lemmas.List.{get_or_past}
+use Rattle.wal_reader.proofs.Common.{◌≡◌, ℕ, ◌+◌, ◌*◌, ◌<◌, ◌≤◌, List, [], ◌∷◌, ◌++◌, length, get_or, ap, arith, ⊎_elim, length-append, All, cases_lt, get_or_past, Primary, column_count, sliver_symbols, symbol_size, BlobMetadata, proof_text, EncodingProof, length-metadata_text, text_size-most, IsBytes, Metadata, Sliver, Proof, length-sliver_frame, read_is, Known, CarriesBadProof, CarriesMetadata, CarriesSliver, HasKnown, HasParts, IsEnough, longest_part}
 use Rattle.std.proofs.Math.Nat.{mul-le-mul_right}
-use Rattle.wal_shape.specs.declared.axis.Axis.TheVariants.{Primary}
-use Rattle.wal_shape.specs.Shape.{column_count, sliver_symbols, symbol_size}
-use Rattle.wal_shape.specs.Metadata.{BlobMetadata}
-use Rattle.wal_shape.specs.Spelling.{proof_text}
-use Rattle.wal_shape.specs.EncodingProof.{EncodingProof}
-use Rattle.wal_shape.proofs.MetadataLaws.{length-metadata_text, text_size-most}
-use Rattle.wal_shape.proofs.Numbers.{IsBytes}
 use Rattle.wal_evidence.proofs.ProofSizes.{bad_proof_long, narrow}
-use Rattle.wal_frame.specs.Frame.{Metadata, Sliver, Proof}
-use Rattle.wal_frame.proofs.FrameLaws.{length-sliver_frame, read_is}
-use Rattle.wal_reader.specs.declared.known.Known.{Known}
-use Rattle.wal_reader.specs.Carried.{CarriesBadProof}
-use Rattle.wal_reader.specs.Outcome.{CarriesMetadata, CarriesSliver}
-use Rattle.wal_reader.specs.Heard.{HasKnown, HasParts, IsEnough}
-use Rattle.wal_reader.specs.inside.Longest.{longest_part}
 use Rattle.wal_reader.proofs.HeardLaws.{first_still, one_still}
 use Rattle.wal_reader.proofs.KnownLaws.{parts_enough, parts_past}
 

@@ -1,16 +1,6 @@
 -- Payloads have one outcome: their metadata is one, and so are its slivers in them and the verdict on these.
-use Rattle.std.proofs.Common.{◌≡◌, ◌≢◌, ℕ, ◌<◌, List, length, refl, sym, ap, subst, ◌∙◌, arith, inl, inr}
-use Rattle.wal_shape.specs.Shape.{row_count}
-use Rattle.wal_shape.specs.Metadata.{BlobMetadata}
-use Rattle.wal_shape.specs.EncodingProof.{EncodingProof}
-use Rattle.wal_shape.specs.declared.text.MetaClash.{MetaClash}
-use Rattle.wal_evidence.specs.declared.evidence.Verdict.{Verdict}
+use Rattle.wal_reader.proofs.Common.{◌≡◌, ◌≢◌, ℕ, ◌<◌, List, length, refl, sym, ap, subst, ◌∙◌, arith, inl, inr, row_count, BlobMetadata, EncodingProof, MetaClash, Verdict, Judges, Bytes, Reject, Short, NoMetadata, Collision, CarriesBadProof, IsFirstBadProof, NoBadProof, AreFirstTwo, Collects, Decides, HasMetadata, HoldsFew, IsMetadataIn, IsOnlyOutcome, told_outcome}
 use Rattle.wal_evidence.specs.declared.evidence.Verdict.TheVariants as told
-use Rattle.wal_evidence.specs.Evidence.{Judges}
-use Rattle.wal_reader.specs.declared.outcome.Outcome.TheVariants.{Bytes, Reject, Short, NoMetadata, Collision}
-use Rattle.wal_reader.specs.Carried.{CarriesBadProof, IsFirstBadProof, NoBadProof}
-use Rattle.wal_reader.specs.Outcome.{AreFirstTwo, Collects, Decides, HasMetadata, HoldsFew, IsMetadataIn, IsOnlyOutcome}
-use Rattle.wal_reader.specs.inside.Outcome.{told_outcome}
 use Rattle.wal_reader.proofs.FirstOnes.{first_not_none, first_two}
 use Rattle.wal_reader.proofs.Collections.{one_collection}
 

@@ -1,12 +1,6 @@
 -- What payloads of bytes carry is bytes.
-use Rattle.std.proofs.Common.{◌≡◌, ℕ, List, [], ◌∷◌, Ok, All, subst}
-use Rattle.wal_shape.specs.Metadata.{BlobMetadata}
-use Rattle.wal_shape.specs.Spelling.{metadata_text}
+use Rattle.wal_reader.proofs.Common.{◌≡◌, ℕ, List, [], ◌∷◌, Ok, All, subst, BlobMetadata, metadata_text, Frame, Metadata, frame_text, metadata_kind, read_of, read_is, HasMetadata}
 use Rattle.wal_matrix.proofs.Codewords.{AreBytes}
-use Rattle.wal_frame.specs.Frame.{Frame, Metadata, frame_text, metadata_kind}
-use Rattle.wal_frame.specs.Reading.{read_of}
-use Rattle.wal_frame.proofs.FrameLaws.{read_is}
-use Rattle.wal_reader.specs.Outcome.{HasMetadata}
 use Rattle.wal_commit.proofs.OneDigest.{bytes_behind}
 
 -- what a payload spells

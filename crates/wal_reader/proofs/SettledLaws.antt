@@ -1,13 +1,6 @@
 -- What is kept is settled exactly where the payloads are.
-use Rattle.std.proofs.Common.{◌↔◌, ℕ, IsTrue, Bool, List, length, refl, subst, arith, inl, inr, ⊎_elim}
-use Rattle.std.proofs.lemmas.Bool.{cases_lt}
-use Rattle.wal_shape.specs.Shape.{row_count}
-use Rattle.wal_shape.specs.Metadata.{BlobMetadata}
-use Rattle.wal_reader.specs.declared.known.Known.{Known}
+use Rattle.wal_reader.proofs.Common.{◌↔◌, ℕ, IsTrue, Bool, List, length, refl, subst, arith, inl, inr, ⊎_elim, cases_lt, row_count, BlobMetadata, Known, Waiting, One, Two, HasEnough, IsMetadataIn, HasHeard, HasKept, HasKnown, HeardState, IsEnough, IsSettledKept, IsSettledState}
 use Rattle.wal_reader.specs.declared.kept.Kept.{Kept}
-use Rattle.wal_reader.specs.declared.kept.Kept.TheVariants.{Waiting, One, Two}
-use Rattle.wal_reader.specs.Outcome.{HasEnough, IsMetadataIn}
-use Rattle.wal_reader.specs.Heard.{HasHeard, HasKept, HasKnown, HeardState, IsEnough, IsSettledKept, IsSettledState}
 use Rattle.wal_reader.specs.Settled.{IsSettled}
 use Rattle.wal_reader.proofs.Collections.{collects_carried, collects_distinct, collects_few}
 use Rattle.wal_reader.proofs.Enough.{not_both}

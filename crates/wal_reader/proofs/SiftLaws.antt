@@ -1,8 +1,6 @@
 -- The parts of payloads, which are gone through once their metadata comes.
-use Rattle.std.proofs.Common.{◌≡◌, ℕ, List, [], ◌∷◌, ◌++◌, refl, sym, subst, ◌∙◌, append_assoc}
+use Rattle.wal_reader.proofs.Common.{◌≡◌, ℕ, List, [], ◌∷◌, ◌++◌, refl, sym, subst, ◌∙◌, append_assoc, Known, CarriesNoPart, HasParts, Sifts, none, kept, dropped}
 use Rattle.std.proofs.lemmas.List.{append-nil}
-use Rattle.wal_reader.specs.declared.known.Known.{Known}
-use Rattle.wal_reader.specs.Heard.{CarriesNoPart, HasParts, Sifts, none, kept, dropped}
 use Rattle.wal_reader.proofs.KnownLaws.{parts_past}
 
 -- the parts of some payloads, and of more

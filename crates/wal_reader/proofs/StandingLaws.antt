@@ -1,19 +1,10 @@
 -- What a reader stands for.
-use Rattle.std.proofs.Common.{◌≡◌, ℕ, ◌+◌, ◌<◌, ◌≤◌, List, [], ◌++◌, length, None, Result, Ok, Err, sym, ap, subst, ◌∙◌, append-nil, arith}
-use Rattle.std.specs.Prelude.{replicate, IfOk, IfErr}
-use Rattle.std.proofs.lemmas.List.{length-append, length-replicate}
-use Rattle.wal_frame.specs.Front.{IsWrong}
-use Rattle.wal_frame.specs.Stream.{IsStream, IsMalformed}
-use Rattle.wal_reader.specs.Heard.{HeardState, HasHeard}
-use Rattle.wal_reader.specs.Intake.{IntakeState, IsCut, IsWrongAt, ReadsPast, StandsAt}
-use Rattle.wal_reader.specs.inside.Intake.{Refuses, Takes}
-use Rattle.wal_reader.specs.Outcome.{IsAnswer}
+use Rattle.wal_reader.proofs.Common.{◌≡◌, ℕ, ◌+◌, ◌<◌, ◌≤◌, List, [], ◌++◌, length, None, Result, Ok, Err, sym, ap, subst, ◌∙◌, append-nil, arith, replicate, IfErr, length-replicate, IsWrong, IsStream, IsMalformed, HeardState, HasHeard, IntakeState, IsCut, IsWrongAt, ReadsPast, StandsAt, Refuses, Takes, IsAnswer, FeedError, Malformed, TooLong, ReadAnswer}
+use Rattle.std.specs.Prelude.{IfOk}
+use Rattle.std.proofs.lemmas.List.{length-append}
 use Rattle.wal_reader.specs.Standing.{ReaderState, Feeds, FinishesStream}
-use Rattle.wal_reader.specs.declared.errors.FeedError.{FeedError}
-use Rattle.wal_reader.specs.declared.errors.FeedError.TheVariants.{Malformed, TooLong}
 use Rattle.wal_reader.specs.declared.errors.FinishError.{FinishError}
 use Rattle.wal_reader.specs.declared.errors.FinishError.TheVariants as finish
-use Rattle.wal_reader.specs.declared.outcome.ReadAnswer.{ReadAnswer}
 use Rattle.wal_reader.proofs.Enough.{enough}
 use Rattle.wal_reader.proofs.IntakeLaws.{one_cut, part_none, wrong_none, wrong_part, rest_kept, rest_past}
 

@@ -1,3 +1,4 @@
 pub mod OneRecovery
 pub mod OneTaking
 pub mod Proved
+mod Common

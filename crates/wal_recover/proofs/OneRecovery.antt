@@ -1,24 +1,10 @@
 -- A list of openings comes to one outcome, whose sliver is committed.
-use Rattle.std.proofs.Common.{◌≡◌, ℕ, ◌*◌, List, [], length, take, sym, ap, subst, ◌∙◌, arith, inl, inr, ⊎_elim}
-use Rattle.std.proofs.lemmas.List.{length-take-le}
-use Rattle.wal_shape.specs.declared.axis.Axis.{Axis}
-use Rattle.wal_shape.specs.declared.opening.Opening.{Opening}
-use Rattle.wal_shape.specs.Shape.{IsShape, shard_count, sliver_symbols, symbol_size}
-use Rattle.wal_shape.specs.Metadata.{BlobMetadata}
-use Rattle.wal_shape.specs.EncodingProof.{EncodingProof}
-use Rattle.wal_matrix.proofs.Places.{part_fits}
-use Rattle.wal_matrix.proofs.Words.{symbols_fit}
-use Rattle.wal_evidence.specs.BadProof.{AreEnough, HasRoot, IsBadProof}
+use Rattle.wal_recover.proofs.Common.{◌≡◌, ℕ, ◌*◌, List, [], length, take, sym, ap, subst, ◌∙◌, arith, inl, inr, ⊎_elim, length-take-le, Axis, Opening, IsShape, shard_count, sliver_symbols, symbol_size, BlobMetadata, EncodingProof, part_fits, symbols_fit, AreEnough, HasRoot, IsBadProof, HoldsOpening, first_taken, one_taken, false_opening, target_within, one_line, TakenComeTo, GivesOpening, HasCommittedSliver, IsCount, IsOwnOrFalse, OpeningsComeTo, Takes}
 use Rattle.wal_matrix.specs.Matrix.{sliver_of}
-use Rattle.wal_commit.specs.Held.{HoldsOpening}
 use Rattle.wal_commit.proofs.HonestOpenings.{committed_sliver}
 use Rattle.wal_evidence.specs.Evidence.{CommitsMatrix}
 use Rattle.wal_evidence.specs.inside.FirstOfEach.{AreTaken}
-use Rattle.wal_evidence.proofs.FirstOfEach.{first_taken, one_taken}
-use Rattle.wal_evidence.proofs.FalseOpenings.{false_opening, target_within}
-use Rattle.wal_evidence.proofs.OneLine.{one_line}
 use Rattle.wal_evidence.proofs.SameOrNot.{same_or_not}
-use Rattle.wal_recover.specs.Recovery.{TakenComeTo, GivesOpening, HasCommittedSliver, IsCount, IsOwnOrFalse, OpeningsComeTo, Takes}
 use Rattle.wal_recover.specs.declared.outcome.Recovered.{Recovered}
 use Rattle.wal_recover.specs.declared.outcome.Recovered.TheVariants.{Inconsistent, Short, Sliver}
 use Rattle.wal_recover.proofs.OneTaking.{one_given}

@@ -1,17 +1,7 @@
 -- What an opening adds to those that were taken, by the flags of their crosses.
-use Rattle.std.proofs.Common.{◌≡◌, ℕ, ◌<◌, List, [], ◌∷◌, ◌++◌, length, Bool, true, false, IsTrue, Contains, refl, sym, ap, subst, ◌∙◌}
+use Rattle.wal_recover.proofs.Common.{◌≡◌, ℕ, ◌<◌, List, [], ◌∷◌, ◌++◌, length, Bool, true, false, IsTrue, Contains, refl, sym, ap, subst, ◌∙◌, false≢true, Axis, Opening, BlobMetadata, HoldsOpening, crosses_of, Marks, marks_more, crosses_more, GivesOpening}
 use Rattle.std.specs.Prelude.{slice_index_or, slice_set}
-use Rattle.std.proofs.lemmas.Bool.{false≢true}
-use Rattle.wal_shape.specs.declared.axis.Axis.{Axis}
-use Rattle.wal_shape.specs.declared.opening.Opening.{Opening}
-use Rattle.wal_shape.specs.Metadata.{BlobMetadata}
-use Rattle.wal_commit.specs.Held.{HoldsOpening}
-use Rattle.wal_evidence.specs.BadProof.{crosses_of}
 use Rattle.wal_evidence.specs.FirstOfEach.{Adds, adds, keeps}
-use Rattle.wal_evidence.specs.inside.Marks.{Marks}
-use Rattle.wal_evidence.proofs.Marked.{marks_more}
-use Rattle.wal_evidence.proofs.Openings.{crosses_more}
-use Rattle.wal_recover.specs.Recovery.{GivesOpening}
 
 -- what follows from a flag that cannot be down
 flagged : (flag : Bool) (P : Type 0) → (IsTrue flag → P) → ((IsTrue flag → ⊥) → ⊥) → P

@@ -1,18 +1,10 @@
 -- Openings that hold have a spelling.
-use Rattle.std.proofs.Common.{◌≡◌, ℕ, ◌*◌, ◌≤◌, List, length, get_or, arith, refl}
+use Rattle.wal_recover.proofs.Common.{◌≡◌, ℕ, ◌*◌, ◌≤◌, List, length, get_or, arith, refl, Axis, Opening, IsShape, most_bytes, sliver_symbols, symbol_size, BlobMetadata, IsProof, AreEnough, target_within, symbols_load}
 use Rattle.std.proofs.lemmas.List.Elements.{recursion_from_All}
-use Rattle.wal_shape.specs.declared.axis.Axis.{Axis}
 use Rattle.wal_shape.specs.declared.axis.Axis.TheVariants.{Primary, Secondary}
-use Rattle.wal_shape.specs.declared.opening.Opening.{Opening}
 use Rattle.wal_shape.specs.Opening.{IsBody}
-use Rattle.wal_shape.specs.Shape.{IsShape, most_bytes, sliver_symbols, symbol_size}
-use Rattle.wal_shape.specs.Metadata.{BlobMetadata}
-use Rattle.wal_shape.specs.EncodingProof.{IsProof}
 use Rattle.wal_matrix.specs.Tools.{longest_sliver}
 use Rattle.wal_commit.proofs.Bodies.{body_of}
-use Rattle.wal_evidence.specs.BadProof.{AreEnough}
-use Rattle.wal_evidence.proofs.FalseOpenings.{target_within}
-use Rattle.wal_evidence.proofs.Openings.{symbols_load}
 
 -- few symbols
 pub sliver_few : (axis : Axis) (f : ℕ) → f ≤ 333 → sliver_symbols axis f ≤ 1000

@@ -1,17 +1,7 @@
 -- The envelopes of an answer, one after the other.
-use Rattle.std.proofs.Common.{◌≡◌, ℕ, suc, ◌+◌, add-zero, ◌≤◌, List, [], ◌∷◌, ◌++◌, length, take, drop, refl, sym, ap, ◌∙◌, arith, append-nil}
-use Rattle.std.proofs.lemmas.Grind.{flat_map-append}
-use Rattle.std.proofs.lemmas.List.{length-take-le, take-append-drop}
-use Rattle.std.specs.List.{flat_map}
+use Rattle.wal_run.proofs.Common.{◌≡◌, ℕ, suc, ◌+◌, add-zero, ◌≤◌, List, [], ◌∷◌, ◌++◌, length, take, drop, refl, sym, ap, ◌∙◌, arith, append-nil, flat_map-append, length-take-le, take-append-drop, flat_map, BlobMetadata, IsMetadata, crossing, symbol_size, held_body, Draw, claim_of, claims_from, Audit, answer_text, claim_envelope}
 use Rattle.wal_shape.specs.declared.opening.Opening.{Opening}
-use Rattle.wal_shape.specs.Metadata.{BlobMetadata, IsMetadata}
-use Rattle.wal_shape.specs.Shape.{crossing, symbol_size}
 use Rattle.wal_commit.specs.Held.{HoldsOpening}
-use Rattle.wal_commit.proofs.Bodies.{held_body}
-use Rattle.wal_challenge.specs.declared.drawing.Draw.{Draw}
-use Rattle.wal_challenge.specs.Verdict.{claim_of, claims_from}
-use Rattle.wal_words.specs.declared.task.Audit.{Audit}
-use Rattle.wal_run.specs.Challenging.{answer_text, claim_envelope}
 
 -- the claims of two lists of openings, the second behind the first
 claims_append : (digest : List ℕ → List ℕ) (m : BlobMetadata) (beacon : List ℕ) (shard d : ℕ) (xs ys : List Opening)

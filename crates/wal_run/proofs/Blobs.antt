@@ -1,15 +1,8 @@
 -- The identifier and the envelopes of a blob: a blob has one of each, and they are what the code writes.
-use Rattle.std.proofs.Common.{◌≡◌, ℕ, ◌*◌, ◌≤◌, List, [], ◌∷◌, ◌++◌, length, refl, sym, ◌∙◌, ap}
+use Rattle.wal_run.proofs.Common.{◌≡◌, ℕ, ◌*◌, ◌≤◌, List, [], ◌∷◌, ◌++◌, length, refl, sym, ◌∙◌, ap, Format, BlobShape, shard_count, symbol_size, BlobMetadata, IsExtended, IsIdentifierOf, metadata_over, identifier_of, IsResult, success, encoded_text, all_envelopes}
 use Rattle.hex.specs.Hex.{encode_lower}
-use Rattle.wal_shape.specs.declared.shape.Format.{Format}
-use Rattle.wal_shape.specs.Shape.{BlobShape, shard_count, symbol_size}
-use Rattle.wal_shape.specs.Metadata.{BlobMetadata}
-use Rattle.wal_matrix.specs.Matrix.{IsExtended}
 use Rattle.wal_matrix.proofs.MatrixLaws.{extended_unique}
-use Rattle.wal_commit.specs.Identifier.{IsIdentifierOf, metadata_over, identifier_of}
-use Rattle.wal_run.specs.Command.{IsResult, success}
 use Rattle.wal_run.specs.Encoding.{encoding}
-use Rattle.wal_run.specs.Envelope.{encoded_text, all_envelopes}
 use Rattle.wal_run.specs.Identifying.{identifying}
 use Rattle.wal_run.proofs.CommandLaws.{Determined, same, told_success}
 

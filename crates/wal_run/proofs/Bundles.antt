@@ -1,10 +1,8 @@
 -- What members come to is one result of the command that bundles.
-use Rattle.std.proofs.Common.{◌≡◌, ⊎_elim, ℕ, List, codes, Ok, Err, refl, sym, ◌∙◌, arith}
+use Rattle.wal_run.proofs.Common.{◌≡◌, ⊎_elim, ℕ, List, codes, Ok, Err, refl, sym, ◌∙◌, arith, bundling, Told, collides, lacks, misreads, rejects, succeeds}
 use Rattle.wal_bundle.specs.declared.answer.BundleError.TheVariants.{TooLong, TooMany}
 use Rattle.wal_bundle.specs.Layout.{Bundles}
 use Rattle.wal_bundle.proofs.Bundled.{one_bundle, not_too_long}
-use Rattle.wal_run.specs.Bundling.{bundling}
-use Rattle.wal_run.specs.inside.Command.{Told, collides, lacks, misreads, rejects, succeeds}
 use Rattle.wal_run.proofs.CommandLaws.{Determined, Same, same}
 
 -- ---- a result is a bundle, or one of two errors

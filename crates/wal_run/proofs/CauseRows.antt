@@ -1,24 +1,8 @@
 -- How a run ends is a row of the table of causes.
-use Rattle.std.proofs.Common.{◌≡◌, ◌⊎◌, inl, inr, ℕ, List, Some, false, refl}
-use Rattle.std.specs.Io.KnownBytes.{Appends, IsAtEnd, Keeps}
-use Rattle.wal_words.specs.declared.task.Task.{Task}
-use Rattle.wal_words.specs.declared.task.Task.TheVariants.{Serve}
-use Rattle.wal_words.specs.declared.task.Service.{Service}
-use Rattle.wal_words.specs.Task.{IsTask}
-use Rattle.wal_serve.specs.declared.serving.ServeEnd.{ServeEnd}
-use Rattle.wal_serve.specs.declared.serving.ServeEnd.TheVariants.{Done, ReadFault, WriteFault, Malformed, TooLong, Collision}
-use Rattle.wal_serve.specs.Room.{desk_room}
-use Rattle.wal_serve.specs.Saying.{sent}
-use Rattle.wal_serve.specs.Serving.{IsServed}
+use Rattle.wal_run.proofs.Common.{◌≡◌, ◌⊎◌, inl, inr, ℕ, List, Some, false, refl, Appends, IsAtEnd, Keeps, Task, Serve, Service, IsTask, ServeEnd, Done, ReadFault, WriteFault, Malformed, TooLong, Collision, desk_room, sent, IsServed, Around, Command, IsResult, IsTaken, TakesAtMost, collision, lacking, rejection, success, unreadable, command_of, EndsServing, answering, at_start, end_status, serve_limit, Answers, Ends, answered, broke_off, cut_off, done, no_memory, no_memory_for_words, served, serving_ended, sink_failed, source_failed, too_long, usage, whole, Causes, IsUsage, ShowsCause}
 use Rattle.wal_serve.specs.State.{ServedState as ServingState}
 use Rattle.wal_served.specs.Steps.{IsReached}
-use Rattle.wal_run.specs.Around.{Around}
-use Rattle.wal_run.specs.Command.{Command, IsResult, IsTaken, TakesAtMost, collision, lacking, rejection, success, unreadable}
-use Rattle.wal_run.specs.Commands.{command_of}
-use Rattle.wal_run.specs.Serving.{EndsServing, answering, at_start, end_status, serve_limit}
-use Rattle.wal_run.specs.Answers.{Answers, Ends, answered, broke_off, cut_off, done, no_memory, no_memory_for_words, served, serving_ended, sink_failed, source_failed, too_long, usage, whole}
 use Rattle.wal_run.specs.Causes as causes
-use Rattle.wal_run.specs.Causes.{Causes, IsUsage, ShowsCause}
 use Rattle.wal_run.proofs.ServiceClashes.{done_calm, read_rose, served_ends, stopped_by, write_rose}
 use Rattle.wal_run.proofs.ServiceEnds.{memory_first}
 

@@ -1,30 +1,8 @@
 -- What a shard answers to a challenge is one result of the command that challenges.
-use Rattle.std.proofs.Common.{◌≡◌, ◌⊎◌, inl, inr, ⊎_elim, ℕ, ◌+◌, ◌<◌, ◌≤◌, List, [], ◌∷◌, ◌++◌, length, take, drop, slice_get, codes, Option, Some, Result, Ok, Err, refl, sym, ap, ◌∙◌, arith}
-use Rattle.std.proofs.KnownBytes.{Appends-kept, Appends-nil, Appends-trans}
-use Rattle.std.proofs.lemmas.List.{get_or-take, length-take, length-take-le}
+use Rattle.wal_run.proofs.Common.{◌≡◌, ◌⊎◌, inl, inr, ⊎_elim, ℕ, ◌+◌, ◌<◌, ◌≤◌, List, [], ◌∷◌, ◌++◌, length, take, drop, slice_get, codes, Option, Some, Result, Ok, Err, refl, sym, ap, ◌∙◌, arith, Appends-kept, Appends-nil, Appends-trans, get_or-take, length-take, length-take-le, Appends, Axis, Primary, Secondary, BlobMetadata, held_index, shard_count, Frame, Sliver, read_of, FrameError, CarriesHeldSliver, first_not_none, one_first, metadata_fits, AreAnswers, HoldsBoth, ShowsDrawn, draw_of, answers_more, answers_none, one_answer, Audit, IsFrontOf, IsResult, MayLeave, MayOwe, Recorded, Spells, envelopes_of, PutError, Memory, DoesAnswer, IsAnswer, Does, DoesTold, PutsPiece, finished, lost_sink, performed, put_status, wanted_memory, written, Told, collides, lacks, misreads, rejects, succeeds, AnswersDraws, HasNoSliver, HasShard, IsAnswerText, IsOwnSliver, LacksShard, answer_text, challenging}
 use Rattle.std.proofs.lemmas.Option.{get_or_from_slice_get, slice_get-get_or, slice_get_within}
-use Rattle.std.specs.Io.KnownBytes.{Appends}
-use Rattle.wal_shape.specs.declared.axis.Axis.{Axis}
-use Rattle.wal_shape.specs.declared.axis.Axis.TheVariants.{Primary, Secondary}
 use Rattle.wal_shape.specs.declared.opening.Opening.{Opening}
-use Rattle.wal_shape.specs.Metadata.{BlobMetadata, held_index}
-use Rattle.wal_shape.specs.Shape.{shard_count}
-use Rattle.wal_frame.specs.Frame.{Frame, Sliver}
-use Rattle.wal_frame.specs.Reading.{read_of}
-use Rattle.wal_frame.specs.declared.frame.FrameError.{FrameError}
-use Rattle.wal_reader.specs.Carried.{CarriesHeldSliver}
-use Rattle.wal_reader.proofs.FirstOnes.{first_not_none, one_first}
-use Rattle.wal_theorem.proofs.OneReading.{metadata_fits}
-use Rattle.wal_challenge.specs.Answer.{AreAnswers, HoldsBoth, ShowsDrawn, draw_of}
-use Rattle.wal_challenge.proofs.AnswerLaws.{answers_more, answers_none, one_answer}
-use Rattle.wal_words.specs.declared.task.Audit.{Audit}
-use Rattle.wal_run.specs.Command.{IsFrontOf, IsResult, MayLeave, MayOwe, Recorded, Spells, envelopes_of}
-use Rattle.wal_run.specs.declared.finish.PutError.{PutError}
-use Rattle.wal_run.specs.declared.finish.PutError.TheVariants.{Memory, WriteFault}
-use Rattle.wal_run.specs.inside.Challenging.{DoesAnswer, IsAnswer}
-use Rattle.wal_run.specs.inside.Writing.{Does, DoesTold, PutsPiece, finished, lost_sink, performed, put_status, wanted_memory, written}
-use Rattle.wal_run.specs.inside.Command.{Told, collides, lacks, misreads, rejects, succeeds}
-use Rattle.wal_run.specs.Challenging.{AnswersDraws, HasNoSliver, HasShard, IsAnswerText, IsOwnSliver, LacksShard, answer_text, challenging}
+use Rattle.wal_run.specs.declared.finish.PutError.TheVariants.{WriteFault}
 use Rattle.wal_run.proofs.AnswerTexts.{answer_more, answer_split, texts_from}
 use Rattle.wal_run.proofs.CommandLaws.{Determined, Same, same}
 use Rattle.wal_run.proofs.Endings.{does_as, does_spelled}

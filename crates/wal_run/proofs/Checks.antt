@@ -1,19 +1,9 @@
 -- What the first proof shows is one result of the command that checks.
-use Rattle.std.proofs.Common.{◌≡◌, ◌≢◌, ◌⊎◌, inl, inr, ⊎_elim, ℕ, List, codes, refl, sym, ap, subst, ◌∙◌}
-use Rattle.wal_shape.specs.declared.metadata.BlobId.{BlobId}
-use Rattle.wal_shape.specs.Shape.{IsShape}
-use Rattle.wal_shape.specs.EncodingProof.{EncodingProof}
+use Rattle.wal_run.proofs.Common.{◌≡◌, ◌≢◌, ◌⊎◌, inl, inr, ⊎_elim, ℕ, List, codes, refl, sym, ap, subst, ◌∙◌, BlobId, IsShape, EncodingProof, read_of, CarriesProof, IsFirstProof, NoProof, first_not_none, one_first, one_proof, metadata_fits, Recorded, Told, collides, lacks, misreads, rejects, succeeds, checking, verdict_text}
 use Rattle.wal_evidence.specs.declared.proof.ProofVerdict.{ProofVerdict}
 use Rattle.wal_evidence.specs.declared.proof.ProofVerdict.TheVariants.{Inconsistent}
 use Rattle.wal_evidence.specs.BadProof as evidence
 use Rattle.wal_evidence.proofs.OneCheck.{one_check}
-use Rattle.wal_frame.specs.Reading.{read_of}
-use Rattle.wal_reader.specs.Carried.{CarriesProof, IsFirstProof, NoProof}
-use Rattle.wal_reader.proofs.FirstOnes.{first_not_none, one_first, one_proof}
-use Rattle.wal_theorem.proofs.OneReading.{metadata_fits}
-use Rattle.wal_run.specs.Command.{Recorded}
-use Rattle.wal_run.specs.inside.Command.{Told, collides, lacks, misreads, rejects, succeeds}
-use Rattle.wal_run.specs.Checking.{checking, verdict_text}
 use Rattle.wal_run.specs.inside.Checking.{verdict_status}
 use Rattle.wal_run.proofs.CommandLaws.{Determined, Same, same}
 

@@ -1,14 +1,6 @@
 -- A command has one result for an input, but for the texts of a collision, where all that is spelled has.
-use Rattle.std.proofs.Common.{◌≡◌, ℕ, List, [], ◌++◌, refl, sym, ap, ap₂, ◌∙◌, ⊎_elim, inl, inr, arith}
-use Rattle.wal_shape.specs.declared.metadata.BlobId.{BlobId}
-use Rattle.wal_shape.specs.declared.text.MetaClash.{MetaClash}
-use Rattle.wal_reader.specs.Outcome.{IsMetadataIn}
-use Rattle.wal_reader.proofs.FirstOnes.{first_two}
+use Rattle.wal_run.proofs.Common.{◌≡◌, ℕ, List, [], ◌++◌, refl, sym, ap, ap₂, ◌∙◌, ⊎_elim, inl, inr, arith, BlobId, MetaClash, IsMetadataIn, first_two, BreaksAt, Command, Content, Grammar, HasNone, HasTwoMetadata, IsResult, Misspells, Recorded, Spells, bytes, collision, envelopes, envelopes_of, lacking, nothing, rejection, schedule, success, unreadable, Told, collides, lacks, misreads, recorded, rejects, succeeds, collision_text, malformed_text, Place, SameText, line}
 use Rattle.wal_reader.proofs.OneOutcome.{not_two}
-use Rattle.wal_run.specs.Command.{BreaksAt, Command, Content, Grammar, HasNone, HasTwoMetadata, IsResult, Misspells, Recorded, Spells, bytes, collision, envelopes, envelopes_of, lacking, nothing, rejection, schedule, success, unreadable}
-use Rattle.wal_run.specs.inside.Command.{Told, collides, lacks, misreads, recorded, rejects, succeeds}
-use Rattle.wal_run.specs.Lines.{collision_text, malformed_text}
-use Rattle.wal_run.specs.SameText.{Place, SameText, line}
 use Rattle.wal_run.proofs.OneStream.{not_malformed, one_place, one_stream}
 use Rattle.wal_run.proofs.Schedules.{fault_is, fault_text, one_error, one_schedule, schedule_not_fault}
 

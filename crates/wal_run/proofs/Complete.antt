@@ -1,8 +1,5 @@
 -- Where no fault came, a run has its whole answer, or memory ran out.
-use Rattle.std.proofs.Common.{◌≡◌, ℕ, ◌⊎◌, ⊎_elim, inl, inr, List, refl}
-use Rattle.wal_run.specs.Around.{Around}
-use Rattle.wal_run.specs.Answers.{Ends, IsAnswered, answered, broke_off, cut_off, no_memory, no_memory_for_words, serving_ended, sink_failed, source_failed, whole}
-use Rattle.wal_run.specs.Causes.{IsComplete}
+use Rattle.wal_run.proofs.Common.{◌≡◌, ℕ, ◌⊎◌, ⊎_elim, inl, inr, List, refl, Around, Ends, IsAnswered, answered, broke_off, cut_off, no_memory, no_memory_for_words, serving_ended, sink_failed, source_failed, whole, IsComplete}
 use Rattle.wal_run.proofs.OneService.{answer_or_fault}
 
 pub answered_unless_memory : (digest : List ℕ → List ℕ) (words : List (List ℕ)) (a : Around) (status : ℕ) → Ends digest words a status

@@ -1,21 +1,9 @@
 -- How the endings of a part become those of the whole run.
-use Rattle.std.proofs.Common.{◌≡◌, ℕ, ◌+◌, ◌<◌, ◌⊎◌, List, [], length, Option, Some, None, IfSome, Result, Ok, Err, IsErrAnd, IsErrOf, refl, sym, arith}
-use Rattle.std.specs.Io.KnownBytes.{Keeps}
-use Rattle.wal_port.specs.Appending.{AppendsPart}
-use Rattle.wal_port.specs.declared.transfers.TakeError.{TakeError}
+use Rattle.wal_run.proofs.Common.{◌≡◌, ℕ, ◌+◌, ◌<◌, ◌⊎◌, List, [], length, Option, Some, None, IfSome, Result, Ok, Err, IsErrAnd, IsErrOf, refl, sym, arith, Keeps, AppendsPart, TakeError, Task, IsTask, Around, Command, Content, Grammar, IsFrontOf, IsFrontUpToClash, IsResult, Spells, IsTaken, IsTakenWhole, MayLeave, MayOwe, TakenBy, TakesAtMost, TakesInput, IsAllOf, nothing, command_of, Told, PutError, Does, DoesTold, Finishes, Performs, PutsPiece, cut, finished, lost_sink, out_of_memory, performed, wanted_memory, written, Answers, Ends, broke_off, cut_off, done, no_memory, sink_failed, whole}
 use Rattle.wal_port.specs.declared.transfers.TakeError.TheVariants.{ReadFault, TooLong, Memory}
-use Rattle.wal_words.specs.declared.task.Task.{Task}
-use Rattle.wal_words.specs.Task.{IsTask}
-use Rattle.wal_run.specs.Around.{Around}
-use Rattle.wal_run.specs.Command.{Command, Content, Grammar, IsFrontOf, IsFrontUpToClash, IsResult, Spells, IsTaken, IsTakenWhole, MayLeave, MayOwe, TakenBy, TakesAtMost, TakesInput, IsAllOf, nothing}
-use Rattle.wal_run.specs.Commands.{command_of}
 use Rattle.wal_run.specs.SameText as same_text
-use Rattle.wal_run.specs.inside.Command.{Told}
-use Rattle.wal_run.specs.declared.finish.PutError.{PutError}
 use Rattle.wal_run.specs.declared.finish.PutError.TheVariants.{WriteFault}
-use Rattle.wal_run.specs.inside.Writing.{Does, DoesTold, Finishes, Performs, PutsPiece, cut, finished, lost_sink, out_of_memory, performed, wanted_memory, written}
 use Rattle.wal_run.proofs.CommandLaws.{of_told, told_of}
-use Rattle.wal_run.specs.Answers.{Answers, Ends, broke_off, cut_off, done, no_memory, sink_failed, whole}
 
 -- an input that is too long, where more than the limit was taken
 pub long_input : (left : Option (List ℕ)) (limit : ℕ) (taken : List ℕ) → length taken ≡ limit + 1 → IfSome left (λ xs. limit < length xs)

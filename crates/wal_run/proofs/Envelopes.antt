@@ -1,8 +1,5 @@
 -- Whole envelopes at the front of bytes.
-use Rattle.std.proofs.Common.{◌≡◌, ℕ, ◌+◌, ◌-◌, List, [], ◌∷◌, ◌++◌, length, None, refl, sym, ap, subst, ◌∙◌, append-nil, append_assoc, arith, length-append}
-use Rattle.wal_frame.specs.Frame.{envelope}
-use Rattle.wal_frame.specs.Stream.{IsMalformed, IsPayload, IsStream, envelope_at}
-use Rattle.wal_frame.proofs.StreamLaws.{envelope_read, stream_grows}
+use Rattle.wal_run.proofs.Common.{◌≡◌, ℕ, ◌+◌, ◌-◌, List, [], ◌∷◌, ◌++◌, length, None, refl, sym, ap, subst, ◌∙◌, append-nil, append_assoc, arith, length-append, envelope, IsMalformed, IsPayload, IsStream, envelope_at, envelope_read, stream_grows}
 
 -- whole envelopes stand before a place of the bytes
 pub record Walks (stream before rest : List ℕ) : Type 0 where

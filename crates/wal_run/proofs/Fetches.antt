@@ -1,12 +1,5 @@
 -- The lines of requests are one result of the command that answers them.
-use Rattle.std.proofs.Common.{◌≡◌, ℕ, Bool, true, false, cond, List, [], ◌∷◌, ◌++◌, ◌⊎◌, inl, inr, append-nil, append_assoc, Option, Some, None, MatchOption, Err, nat_le, ◌+◌, take, drop, length, refl, sym, ap, ap₂, ◌∙◌}
-use Rattle.std.proofs.KnownBytes.{Appends-kept, Appends-nil, Appends-trans}
-use Rattle.std.specs.Io.KnownBytes.{Appends, Keeps}
-use Rattle.std.proofs.lemmas.Grind.{flat_map-append}
-use Rattle.wal_shape.specs.declared.text.MetaClash.{MetaClash}
-use Rattle.wal_tree.specs.Collision.{IsCollision}
-use Rattle.wal_reader.specs.Outcome.{IsOutcome}
-use Rattle.wal_reader.specs.declared.outcome.Outcome.{Outcome}
+use Rattle.wal_run.proofs.Common.{◌≡◌, ℕ, Bool, true, false, cond, List, [], ◌∷◌, ◌++◌, ◌⊎◌, inl, inr, append-nil, append_assoc, Option, Some, None, MatchOption, Err, nat_le, ◌+◌, take, drop, length, refl, sym, ap, ap₂, ◌∙◌, Appends-kept, Appends-nil, Appends-trans, Appends, Keeps, flat_map-append, MetaClash, IsCollision, IsOutcome, Outcome, IsFirstRequest, get_of, gets_in, no_blobs, IsMalformed, IsStream, AppendsPart, IsFrontOf, IsResult, MayLeave, MayOwe, unreadable, PutError, Memory, Told, collides, lacks, misreads, rejects, succeeds, collision_text, malformed_text, AnswersFirst, AnswersRequests, GoOn, StopsAt, answers_text, fetching, Does, DoesTold, PutsPiece, cut, finished, lost_sink, performed, put_status, wanted_memory, written}
 use Rattle.wal_reader.specs.declared.outcome.Outcome.TheVariants as read
 use Rattle.wal_gateway.specs.declared.answer.Found.{Found}
 use Rattle.wal_gateway.specs.declared.answer.Found.TheVariants.{Range, OutOfRange, Collision}
@@ -15,18 +8,10 @@ use Rattle.wal_gateway.specs.declared.checked.CheckedBlob.{CheckedBlob}
 use Rattle.wal_gateway.specs.Getting.{AnswersGet, AnswersAll, Cache, Get, Hits, Misses, found_of, kept_blob, range_of}
 use Rattle.wal_gateway.specs.Gotten.{SameGetAnswer, SameAnswers, SameFound}
 use Rattle.wal_gateway.specs.declared.request.Asked.{Asked}
-use Rattle.wal_gateway.specs.Requests.{IsFirstRequest, get_of, gets_in, no_blobs}
 use Rattle.wal_gateway.proofs.OneRun.{answers_only}
 use Rattle.wal_gateway.proofs.Runs.{answered_more}
-use Rattle.wal_frame.specs.Stream.{IsMalformed, IsStream}
-use Rattle.wal_port.specs.Appending.{AppendsPart}
-use Rattle.wal_run.specs.Command.{IsFrontOf, IsResult, MayLeave, MayOwe, unreadable}
-use Rattle.wal_run.specs.declared.finish.PutError.{PutError}
-use Rattle.wal_run.specs.declared.finish.PutError.TheVariants.{Memory, WriteFault}
-use Rattle.wal_run.specs.inside.Command.{Told, collides, lacks, misreads, rejects, succeeds}
-use Rattle.wal_run.specs.Lines.{collision_text, malformed_text}
-use Rattle.wal_run.specs.Fetching.{AnswersFirst, AnswersRequests, GoOn, StopsAt, answer_text, answers_text, fetching, is_collision}
-use Rattle.wal_run.specs.inside.Writing.{Does, DoesTold, PutsPiece, cut, finished, lost_sink, performed, put_status, wanted_memory, written}
+use Rattle.wal_run.specs.declared.finish.PutError.TheVariants.{WriteFault}
+use Rattle.wal_run.specs.Fetching.{answer_text, is_collision}
 use Rattle.wal_run.proofs.Endings.{does_spelled}
 use Rattle.wal_run.proofs.Parts.{part_after}
 use Rattle.wal_run.proofs.CommandLaws.{Determined, Same, both_collide, same}

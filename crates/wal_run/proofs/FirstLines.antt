@@ -1,17 +1,5 @@
 -- The lines of a schedule's first events are the first lines of the whole schedule.
-use Rattle.std.proofs.Common.{◌≡◌, ◌⊎◌, inl, inr, ⊎_elim, ℕ, zero, suc, Bool, true, false, cond, List, [], ◌∷◌, ◌++◌, append-nil, take, refl, sym, ap, subst, ◌∙◌}
-use Rattle.wal_event.specs.declared.event.Event.{Event}
-use Rattle.wal_event.specs.declared.event.Schedule.{Schedule}
-use Rattle.wal_event.specs.declared.line.Line.{Line}
-use Rattle.wal_protocol.specs.Determined.{SameUpToCollision}
-use Rattle.wal_protocol.specs.Rules.{Rules}
-use Rattle.wal_protocol.specs.State.{World}
-use Rattle.wal_protocol.specs.Step.{Steps}
-use Rattle.wal_protocol.specs.Run.{GoesOn, Runs, first_state, is_collision}
-use Rattle.wal_protocol.proofs.OneStep.{apart_left, apart_right, one_run}
-use Rattle.wal_theorem.specs.Instance.{rules_of}
-use Rattle.wal_theorem.specs.Lines.{AreFirstLines, AreLines}
-use Rattle.wal_theorem.proofs.OneWorld.{only_rules}
+use Rattle.wal_run.proofs.Common.{◌≡◌, ◌⊎◌, inl, inr, ⊎_elim, ℕ, zero, suc, Bool, true, false, cond, List, [], ◌∷◌, ◌++◌, append-nil, take, refl, sym, ap, subst, ◌∙◌, Event, Schedule, Line, SameUpToCollision, Rules, World, Steps, GoesOn, Runs, first_state, is_collision, apart_left, apart_right, one_run, rules_of, AreFirstLines, AreLines, only_rules}
 
 -- a run of these events, whose lines are the first of these, and all of them where one is a collision
 record Begins (r : Rules) (old : World) (events : List Event) (lines : List Line) : Type 0 where

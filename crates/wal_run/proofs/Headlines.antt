@@ -1,24 +1,8 @@
 -- What the program promises of `replay`, from how a run ends.
-use Rattle.std.proofs.Common.{◌≡◌, ◌⊎◌, inl, inr, ℕ, List, [], ◌++◌, length, IfSome, refl, ap, arith}
-use Rattle.std.proofs.KnownBytes.{Appends-kept, Appends-nil}
-use Rattle.std.proofs.lemmas.List.{length-take}
-use Rattle.std.specs.Io.KnownBytes.{Appends, Keeps}
-use Rattle.wal_event.specs.declared.event.Schedule.{Schedule}
+use Rattle.wal_run.proofs.Common.{◌≡◌, ◌⊎◌, inl, inr, ℕ, List, [], ◌++◌, length, IfSome, refl, ap, arith, Appends-kept, Appends-nil, length-take, Appends, Keeps, Schedule, spelled_range, AreFirstLines, front_of, Serve, Whole, Replay, Service, one_task, Around, Answers, Ends, broke_off, cut_off, done, no_memory, no_memory_for_words, serving_ended, sink_failed, source_failed, too_long, usage, whole, ClashesBehind, IsResult, IsTaken, IsTooLong, MayLeave, collision, lacking, rejection, success, unreadable, Told, collision_text, IsReport, replaying, unfinished}
 use Rattle.wal_event.specs.Event.{IsSchedule}
-use Rattle.wal_schedule.proofs.SpelledBytes.{spelled_range}
-use Rattle.wal_theorem.specs.Lines.{AreFirstLines, front_of}
 use Rattle.wal_theorem.proofs.Headline.{run_recovers, run_safe}
-use Rattle.wal_words.specs.declared.task.Task.TheVariants.{Serve, Whole}
-use Rattle.wal_words.specs.declared.task.WholeTask.TheVariants.{Replay}
-use Rattle.wal_words.specs.declared.task.Service.{Service}
-use Rattle.wal_words.proofs.Rows.{one_task}
-use Rattle.wal_run.specs.Around.{Around}
-use Rattle.wal_run.specs.Answers.{Answers, Ends, broke_off, cut_off, done, no_memory, no_memory_for_words, serving_ended, sink_failed, source_failed, too_long, usage, whole}
-use Rattle.wal_run.specs.Command.{ClashesBehind, IsResult, IsTaken, IsTooLong, MayLeave, collision, lacking, rejection, success, unreadable}
-use Rattle.wal_run.specs.inside.Command.{Told}
 use Rattle.wal_run.specs.Headline.{AsksToReplay, Headline, TakesSchedule, TellsSchedule}
-use Rattle.wal_run.specs.Lines.{collision_text}
-use Rattle.wal_run.specs.Replaying.{IsReport, replaying, unfinished}
 use Rattle.wal_run.proofs.CommandLaws.{told_of}
 use Rattle.wal_run.proofs.Schedules.{one_schedule}
 

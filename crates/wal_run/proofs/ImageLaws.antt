@@ -1,17 +1,7 @@
 -- The image of the puts of payloads: a disk holds it, or the first record that does not fit is told.
-use Rattle.std.proofs.Common.{◌≡◌, ℕ, zero, suc, ◌+◌, ◌-◌, ◌<◌, ◌≤◌, List, [], ◌∷◌, ◌++◌, length, take, get_or, replicate, Result, Ok, Err, refl, sym, ap, ◌∙◌, arith, length-append}
-use Rattle.std.proofs.lemmas.Bool.{le-ltb, lt-ltb}
-use Rattle.std.proofs.lemmas.List.{append_assoc, append-nil, take_at, take_more, length-replicate}
-use Rattle.wal_shape.specs.declared.metadata.BlobId.{BlobId}
-use Rattle.wal_shape.specs.declared.part.Part.{Part}
-use Rattle.wal_store.specs.Contents.{Contents}
-use Rattle.wal_store.specs.Calls.{Call, Put, no_contents}
-use Rattle.wal_journal.specs.Held.{IsJournal}
-use Rattle.wal_journal.specs.Record.{spelling, records, Accepts}
-use Rattle.wal_journal.specs.Packing.{puts_of}
-use Rattle.wal_journal.proofs.Records.{records-append, spelling_size}
-use Rattle.wal_run.specs.inside.Command.{Told, collides, lacks, misreads, rejects, succeeds}
-use Rattle.wal_run.specs.Imaging.{room_of, room_behind, image_from, image_of, imaging, disk_full_text}
+use Rattle.wal_run.proofs.Common.{◌≡◌, ℕ, zero, suc, ◌+◌, ◌-◌, ◌<◌, ◌≤◌, List, [], ◌∷◌, ◌++◌, length, take, get_or, replicate, Result, Ok, Err, refl, sym, ap, ◌∙◌, arith, length-append, le-ltb, take_at, take_more, length-replicate, BlobId, Part, Contents, Call, Put, no_contents, IsJournal, spelling, records, Accepts, puts_of, records-append, spelling_size, Told, collides, lacks, misreads, rejects, succeeds, room_of, room_behind, image_from, image_of, imaging, disk_full_text}
+use Rattle.std.proofs.lemmas.Bool.{lt-ltb}
+use Rattle.std.proofs.lemmas.List.{append_assoc, append-nil}
 use Rattle.wal_run.proofs.CommandLaws.{Determined, Same, same}
 
 -- ---- the image by its records

@@ -37,3 +37,4 @@ mod Sizes
 mod SpelledRuns
 mod Tasks
 mod Verifications
+mod Common

@@ -1,5 +1,5 @@
 -- A result is one of both.
-use Rattle.std.proofs.Common.{◌≡◌, Result, Ok, Err}
+use Rattle.wal_run.proofs.Common.{◌≡◌, Result, Ok, Err}
 
 -- what is both is not
 pub not_both : {X E : Type 0} (r : Result X E) (x : X) (e : E) → r ≡ Ok x → r ≡ Err e → ⊥

@@ -1,34 +1,22 @@
 -- The lines of what is held, identifier by identifier, and that an image has one listing.
-use Rattle.std.proofs.Common.{◌≡◌, ◌⊎◌, inl, inr, ℕ, ◌+◌, ◌≤◌, Bool, true, false, cond, T, Option, Some, None, List, [], ◌∷◌, ◌++◌, length, filter, drop, get_or, slice_get, refl, sym, ap, ◌∙◌, arith, length-append}
-use Rattle.std.specs.Prelude.{⊤}
+use Rattle.wal_run.proofs.Common.{◌≡◌, ◌⊎◌, inl, inr, ℕ, ◌+◌, ◌≤◌, Bool, true, false, cond, T, Option, Some, None, List, [], ◌∷◌, ◌++◌, length, filter, drop, get_or, slice_get, refl, sym, ap, ◌∙◌, arith, length-append, ⊤, flat_map, Part, Contents, parts_at, Call, no_contents, after_calls, records, Accepts, IsJournal, stands_once, IsResult, success, unreadable, Told, collides, lacks, misreads, rejects, succeeds, malformed_text, part_line, part_text, holding_text, contents_text, IsBrokenAt, unpacking}
 use Rattle.std.specs.declared.cmp.Ordering.{Ordering}
 use Rattle.std.specs.declared.cmp.Ordering.TheVariants.{Less}
 use Rattle.std.specs.Ordering.{is_lt, ordering_reverse}
 use Rattle.std.specs.Option.{option_map}
-use Rattle.std.specs.List.{flat_map}
 use Rattle.std.specs.FinMap as fin
 use Rattle.std.specs.FinMap.Entries.{is_sorted, below_all}
 use Rattle.std.specs.Map.{keys_of}
 use Rattle.std.proofs.lemmas.Cmp.{tied_itself}
 use Rattle.std.proofs.lemmas.List.{append_assoc, append-nil}
 use Rattle.wal_shape.specs.declared.BlobId.{BlobId}
-use Rattle.wal_shape.specs.declared.part.Part.{Part}
 use Rattle.wal_shape.specs.Identifiers.{id_cmp}
 use Rattle.wal_store.specs.Entries.{Entries}
-use Rattle.wal_store.specs.Contents.{Contents, parts_at}
-use Rattle.wal_store.specs.Calls.{Call, no_contents, after_calls}
 use Rattle.wal_store.specs.Places.{is_past, next_id}
 use Rattle.wal_store.proofs.IdentifierLaws.{ids_total}
 use Rattle.wal_store.proofs.OrderLaws.{both_of, less_of}
-use Rattle.wal_journal.specs.Record.{records, Accepts}
-use Rattle.wal_journal.specs.Held.{IsJournal}
 use Rattle.wal_journal.specs.Reading.{ReadTo, IsBad}
-use Rattle.wal_journal.proofs.Records.{stands_once}
 use Rattle.wal_journal.proofs.NeverBad.{never_bad, bad_once}
-use Rattle.wal_run.specs.Command.{IsResult, success, unreadable}
-use Rattle.wal_run.specs.inside.Command.{Told, collides, lacks, misreads, rejects, succeeds}
-use Rattle.wal_run.specs.Lines.{malformed_text}
-use Rattle.wal_run.specs.Unpacking.{part_line, part_text, holding_text, contents_text, IsBrokenAt, unpacking}
 use Rattle.wal_run.proofs.CommandLaws.{Determined, Same, same}
 
 -- ---- identifiers in ascending order

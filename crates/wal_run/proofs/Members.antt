@@ -1,15 +1,9 @@
 -- What payloads tell of a member is one result of the command that reads it.
-use Rattle.std.proofs.Common.{◌≡◌, inl, inr, ⊎_elim, ℕ, List, [], codes, refl, ap}
-use Rattle.wal_shape.specs.declared.metadata.BlobId.{BlobId}
-use Rattle.wal_frame.specs.Stream.{IsStream}
+use Rattle.wal_run.proofs.Common.{◌≡◌, inl, inr, ⊎_elim, ℕ, List, [], codes, refl, ap, BlobId, IsStream, IsMember, IsResult, Recorded, collision, lacking, rejection, success, Told, collides, lacks, misreads, recorded, rejects, succeeds, unbundling}
 use Rattle.wal_bundle.specs.declared.answer.MemberAnswer.{MemberAnswer}
 use Rattle.wal_bundle.specs.declared.answer.MemberAnswer.TheVariants.{BadIndex, Collision, Member, Missing, NoMember, NoMetadata}
 use Rattle.wal_bundle.specs.Contradictions.{SameMemberAnswer}
-use Rattle.wal_bundle.specs.Member.{IsMember}
 use Rattle.wal_bundle.proofs.Truths.{one_answer}
-use Rattle.wal_run.specs.Command.{IsResult, Recorded, collision, lacking, rejection, success}
-use Rattle.wal_run.specs.inside.Command.{Told, collides, lacks, misreads, recorded, rejects, succeeds}
-use Rattle.wal_run.specs.Unbundling.{unbundling}
 use Rattle.wal_run.specs.inside.Unbundling.{member_status, member_text}
 use Rattle.wal_run.specs.SameText as places
 use Rattle.wal_run.proofs.CommandLaws.{Determined, Same, both_collide, same, same_as}

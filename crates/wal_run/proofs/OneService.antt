@@ -1,27 +1,6 @@
 -- Serving a shard, the bytes of a source have one answer, but for the two texts of a collision.
-use Rattle.std.proofs.Common.{◌≡◌, ◌⊎◌, ⊎_elim, inl, inr, ℕ, Bool, true, false, List, [], ◌∷◌, ◌++◌, Option, Some, refl, ap, ◌∙◌, true≢false}
-use Rattle.std.proofs.lemmas.Bool.{false≢true}
-use Rattle.std.proofs.lemmas.Grind.{flat_map-append}
-use Rattle.std.specs.Io.KnownBytes.{Appends, Consumes, IsAtEnd}
-use Rattle.wal_frame.specs.Frame.{envelope}
-use Rattle.wal_serve.specs.declared.serving.ServeEnd.{ServeEnd}
-use Rattle.wal_serve.specs.declared.serving.ServeEnd.TheVariants.{ReadFault, WriteFault, Collision}
-use Rattle.wal_serve.specs.Determined.{SameButLast, SameEnd, is_collision}
-use Rattle.wal_serve.specs.Reply.{clash_text}
-use Rattle.wal_serve.specs.Room.{desk_room}
-use Rattle.wal_serve.specs.Saying.{sent}
-use Rattle.wal_serve.specs.Serving.{IsServed}
-use Rattle.wal_serve.specs.State.{ServedState}
-use Rattle.wal_serve.proofs.OneEnd.{one_serving}
-use Rattle.wal_serve.proofs.OneTable.{one_table}
-use Rattle.wal_words.specs.declared.task.Service.{Service}
-use Rattle.wal_words.specs.declared.task.Task.TheVariants.{Serve}
-use Rattle.wal_words.specs.Task.{IsTask}
-use Rattle.wal_words.proofs.Rows.{one_task}
-use Rattle.wal_run.specs.Serving.{EndsServing, IsServiceResult, answering, at_start, end_status, serve_limit}
-use Rattle.wal_run.specs.Around.{Around}
-use Rattle.wal_run.specs.Answers.{Completes, served}
-use Rattle.wal_run.specs.SameText.{SameFront, SameText, frame}
+use Rattle.wal_run.proofs.Common.{◌≡◌, ◌⊎◌, ⊎_elim, inl, inr, ℕ, Bool, true, false, List, [], ◌∷◌, ◌++◌, Option, Some, refl, ap, ◌∙◌, true≢false, false≢true, flat_map-append, Appends, Consumes, IsAtEnd, envelope, ServeEnd, ReadFault, WriteFault, Collision, SameButLast, SameEnd, clash_text, desk_room, sent, IsServed, ServedState, one_serving, one_table, Service, Serve, IsTask, one_task, EndsServing, IsServiceResult, answering, at_start, end_status, serve_limit, Around, Completes, served, SameFront, SameText, frame}
+use Rattle.wal_serve.specs.Determined.{is_collision}
 use Rattle.wal_run.proofs.CommandLaws.{SameAt, same_as}
 use Rattle.wal_run.proofs.ServiceEnds.{all_written, calm_or_faulted}
 

@@ -1,9 +1,5 @@
 -- Bytes are one stream, or malformed at one place.
-use Rattle.std.proofs.Common.{◌≡◌, ℕ, List, [], ◌∷◌, ◌++◌, length, refl, sym, ap, ◌∙◌, arith, append_assoc, append-nil, length-append}
-use Rattle.std.proofs.lemmas.List.{nil_from_length}
-use Rattle.wal_frame.specs.Frame.{envelope}
-use Rattle.wal_frame.specs.Stream.{IsPayload, IsStream, IsMalformed}
-use Rattle.wal_serve.proofs.Fronts.{one_envelope}
+use Rattle.wal_run.proofs.Common.{◌≡◌, ℕ, List, [], ◌∷◌, ◌++◌, length, refl, sym, ap, ◌∙◌, arith, append_assoc, append-nil, length-append, nil_from_length, envelope, IsPayload, IsStream, IsMalformed, one_envelope}
 
 -- no whole envelope stands at the front
 abbrev BeginsNot : List ℕ → Type 0

@@ -1,20 +1,6 @@
 -- Words and an input have one answer, but for the texts of a collision.
-use Rattle.std.proofs.Common.{◌≡◌, ⊎_elim, inl, inr, ℕ, ◌<◌, List, [], append-nil, length, Option, Some, refl, sym, ap, ◌∙◌, arith}
-use Rattle.std.proofs.KnownBytes.{Appends-kept, Appends-nil}
-use Rattle.std.specs.Io.KnownBytes.{Appends}
-use Rattle.wal_serve.specs.declared.serving.ServeEnd.TheVariants.{ReadFault, WriteFault}
-use Rattle.wal_words.specs.declared.task.Task.{Task}
-use Rattle.wal_words.specs.declared.task.Task.TheVariants.{Serve}
-use Rattle.wal_words.specs.declared.task.Service.{Service}
-use Rattle.wal_words.specs.Task.{IsTask}
-use Rattle.wal_words.proofs.Rows.{one_task}
-use Rattle.wal_run.specs.Around.{Around}
-use Rattle.wal_run.specs.Command.{Command, Grammar, IsFrontOf, IsFrontUpToClash, IsResult, IsTaken, IsTooLong, MayLeave, MayOwe, TakenBy, TakesInput, nothing}
-use Rattle.wal_run.specs.Commands.{command_of}
-use Rattle.wal_run.specs.Answers.{Answers, Completes, Ends, answered, broke_off, cut_off, done, no_memory, no_memory_for_words, served, serving_ended, sink_failed, source_failed, too_long, usage, whole}
+use Rattle.wal_run.proofs.Common.{◌≡◌, ⊎_elim, inl, inr, ℕ, ◌<◌, List, [], append-nil, length, Option, Some, refl, sym, ap, ◌∙◌, arith, Appends-kept, Appends-nil, Appends, ReadFault, WriteFault, Task, Serve, Service, IsTask, one_task, Around, Command, Grammar, IsFrontOf, IsFrontUpToClash, IsResult, IsTaken, IsTooLong, MayLeave, MayOwe, TakenBy, TakesInput, nothing, command_of, Answers, Completes, Ends, answered, broke_off, cut_off, done, no_memory, no_memory_for_words, served, serving_ended, sink_failed, source_failed, too_long, usage, whole, HasOneAnswer, IsExact, WasTold, IsPlaceOf, Place, line, place_of}
 use Rattle.wal_run.specs.Causes as causes
-use Rattle.wal_run.specs.Causes.{HasOneAnswer, IsExact, WasTold}
-use Rattle.wal_run.specs.SameText.{IsPlaceOf, Place, line, place_of}
 use Rattle.wal_run.proofs.CommandLaws.{SameAt, one_result}
 use Rattle.wal_run.proofs.OneService.{ServedUntil, answer_or_fault, one_asked, one_service}
 use Rattle.wal_run.proofs.ServiceEnds.{no_answer, no_result}

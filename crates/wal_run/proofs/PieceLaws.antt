@@ -1,25 +1,15 @@
 -- Streams that are taken from a source in pieces.
-use Rattle.std.proofs.Common.{◌≡◌, ℕ, ◌+◌, ◌<◌, ◌≤◌, List, [], ◌∷◌, ◌++◌, length, take, Option, Some, None, Result, Ok, Err, IfSome, refl, sym, ap, ◌∙◌, append_assoc, append-nil, arith}
+use Rattle.wal_run.proofs.Common.{◌≡◌, ℕ, ◌+◌, ◌<◌, ◌≤◌, List, [], ◌∷◌, ◌++◌, length, take, Option, Some, None, Result, Ok, Err, IfSome, refl, sym, ap, ◌∙◌, append_assoc, append-nil, arith, Consumes, IsAtEnd, Consumes-trans, Consumes-kept, TakeError, IsMalformed, wrong_stays, ReaderState, Feeds, FinishesStream, IsStreamRead, BlobId, IsResult, TakesAtMost, IsAllOf, GivesPiece, Stands, TakesFew, TakesStream, outcome_status, outcome_text}
 use Rattle.std.specs.Prelude.{IsErrAnd}
-use Rattle.std.specs.Io.KnownBytes.{Consumes, IsAtEnd}
-use Rattle.std.proofs.KnownBytes.{Consumes-trans, Consumes-kept}
 use Rattle.std.proofs.lemmas.List.{length-append}
-use Rattle.wal_port.specs.declared.transfers.TakeError.{TakeError}
 use Rattle.wal_port.specs.declared.transfers.TakeError.TheVariants.{ReadFault, TooLong, Memory}
 use Rattle.wal_frame.specs.Front.{IsWrong}
-use Rattle.wal_frame.specs.Stream.{IsMalformed}
-use Rattle.wal_frame.proofs.StreamLaws.{wrong_stays}
 use Rattle.wal_reader.specs.Intake.{IsWrongAt}
-use Rattle.wal_reader.specs.Standing.{ReaderState, Feeds, FinishesStream, IsStreamRead}
 use Rattle.wal_reader.specs.declared.errors.FeedError.{FeedError}
 use Rattle.wal_reader.specs.declared.errors.FeedError.TheVariants as feed
 use Rattle.wal_reader.specs.declared.errors.FinishError.{FinishError}
 use Rattle.wal_reader.specs.declared.outcome.ReadAnswer.{ReadAnswer}
-use Rattle.wal_shape.specs.declared.metadata.BlobId.{BlobId}
-use Rattle.wal_run.specs.Command.{IsResult, TakesAtMost, IsAllOf}
-use Rattle.wal_run.specs.inside.Pieces.{GivesPiece, Stands, TakesFew, TakesStream}
 use Rattle.wal_run.specs.Reading.{reading}
-use Rattle.wal_run.specs.inside.Reading.{outcome_status, outcome_text}
 use Rattle.wal_run.proofs.Readings.{outcome_as}
 
 -- ---- a byte that begins no envelope

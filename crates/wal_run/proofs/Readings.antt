@@ -1,17 +1,7 @@
 -- What payloads come to is one result of the command that reads.
-use Rattle.std.proofs.Common.{◌≡◌, inl, inr, ⊎_elim, ℕ, List, [], codes, refl, ap}
-use Rattle.wal_shape.specs.declared.metadata.BlobId.{BlobId}
-use Rattle.wal_shape.specs.Shape.{row_count}
-use Rattle.wal_frame.specs.Stream.{IsStream}
-use Rattle.wal_reader.specs.Outcome.{IsMetadataIn, IsOutcome, SameOutcome}
-use Rattle.wal_reader.specs.declared.outcome.Outcome.{Outcome}
+use Rattle.wal_run.proofs.Common.{◌≡◌, inl, inr, ⊎_elim, ℕ, List, [], codes, refl, ap, BlobId, row_count, IsStream, IsMetadataIn, IsOutcome, SameOutcome, Outcome, only_outcome, reject_evidence, IsResult, Recorded, collision, lacking, rejection, success, Told, collides, lacks, misreads, recorded, rejects, succeeds, short_text, outcome_status, outcome_text}
 use Rattle.wal_reader.specs.declared.outcome.Outcome.TheVariants.{Bytes, Reject, Short, NoMetadata, Collision}
-use Rattle.wal_theorem.proofs.OneReading.{only_outcome, reject_evidence}
-use Rattle.wal_run.specs.Command.{IsResult, Recorded, collision, lacking, rejection, success}
-use Rattle.wal_run.specs.inside.Command.{Told, collides, lacks, misreads, recorded, rejects, succeeds}
-use Rattle.wal_run.specs.Lines.{short_text}
 use Rattle.wal_run.specs.Reading.{reading}
-use Rattle.wal_run.specs.inside.Reading.{outcome_status, outcome_text}
 use Rattle.wal_run.specs.SameText as places
 use Rattle.wal_run.proofs.CommandLaws.{Determined, Same, both_collide, same, same_as}
 

@@ -1,17 +1,7 @@
 -- What openings come to is one result of the command that recovers.
-use Rattle.std.proofs.Common.{◌≡◌, ℕ, List, length, refl, sym, ap, ◌∙◌}
-use Rattle.wal_shape.specs.declared.axis.Axis.{Axis}
-use Rattle.wal_shape.specs.declared.metadata.BlobId.{BlobId}
-use Rattle.wal_reader.specs.Carried.{openings_in}
-use Rattle.wal_recover.specs.declared.outcome.Recovered.{Recovered}
-use Rattle.wal_recover.specs.declared.outcome.Recovered.TheVariants.{Inconsistent, Short, Sliver}
-use Rattle.wal_recover.specs.Recovery.{OpeningsComeTo}
+use Rattle.wal_run.proofs.Common.{◌≡◌, ℕ, List, length, refl, sym, ap, ◌∙◌, Axis, BlobId, openings_in, Recovered, Inconsistent, Short, OpeningsComeTo, metadata_fits, Recorded, Told, collides, lacks, misreads, rejects, succeeds, proof_of, recovering, recovered_status, recovered_text}
+use Rattle.wal_recover.specs.declared.outcome.Recovered.TheVariants.{Sliver}
 use Rattle.wal_recover.proofs.OneRecovery.{one_recovery}
-use Rattle.wal_theorem.proofs.OneReading.{metadata_fits}
-use Rattle.wal_run.specs.Command.{Recorded}
-use Rattle.wal_run.specs.inside.Command.{Told, collides, lacks, misreads, rejects, succeeds}
-use Rattle.wal_run.specs.Recovering.{proof_of, recovering}
-use Rattle.wal_run.specs.inside.Recovering.{recovered_status, recovered_text}
 use Rattle.wal_run.proofs.CommandLaws.{Determined, same}
 
 module _ (digest : List ℕ → List ℕ) (id : BlobId) (axis : Axis) (index : ℕ) (r : Recorded) where

@@ -1,26 +1,11 @@
 -- What a replay comes to is one result of the command that replays.
-use Rattle.std.proofs.Common.{◌≡◌, ◌⊎◌, inl, inr, ⊎_elim, ℕ, true, append-nil, List, [], ◌∷◌, ◌++◌, Option, Ok, Err, refl, sym, ap, subst, ◌∙◌, arith}
-use Rattle.std.proofs.lemmas.Grind.{flat_map-append}
-use Rattle.wal_shape.specs.declared.text.MetaClash.{MetaClash}
-use Rattle.wal_event.specs.declared.event.Schedule.{Schedule}
-use Rattle.wal_event.specs.declared.line.Line.{Line}
+use Rattle.wal_run.proofs.Common.{◌≡◌, ◌⊎◌, inl, inr, ⊎_elim, ℕ, true, append-nil, List, [], ◌∷◌, ◌++◌, Option, Ok, Err, refl, sym, ap, subst, ◌∙◌, arith, flat_map-append, MetaClash, Schedule, Line, line_text, report_of, IsRead, ScheduleError, SameUpToCollision, GoesOn, is_collision, apart_left, apart_right, AreFirstLines, AreLines, EndsInCollision, IsFault, IsFrontOf, IsFrontUpToClash, IsResult, MayLeave, MayOwe, collision, success, unreadable, Told, collides, lacks, misreads, rejects, succeeds, collision_text, IsReport, replaying, stopped, unfinished, Does, Performs, finished, lost_sink, performed, wanted_memory, written}
 use Rattle.wal_event.specs.declared.line.Line.TheVariants as line
-use Rattle.wal_event.specs.Report.{line_text, report_of}
-use Rattle.wal_schedule.specs.Grammar.{IsRead}
-use Rattle.wal_schedule.specs.declared.read.ScheduleError.{ScheduleError}
-use Rattle.wal_protocol.specs.Determined.{SameUpToCollision}
-use Rattle.wal_protocol.specs.Run.{GoesOn, is_collision}
-use Rattle.wal_protocol.proofs.OneStep.{apart_left, apart_right}
-use Rattle.wal_theorem.specs.Lines.{AreFirstLines, AreLines, EndsInCollision}
 use Rattle.wal_world.specs.Ending.{Replays}
 use Rattle.wal_world.specs.declared.run.ReplayEnd.TheVariants as ending
 use Rattle.wal_world.specs.declared.run.ReplayError.TheVariants as failing
-use Rattle.wal_run.specs.Command.{IsFault, IsFrontOf, IsFrontUpToClash, IsResult, MayLeave, MayOwe, collision, success, unreadable}
-use Rattle.wal_run.specs.inside.Command.{Told, collides, lacks, misreads, rejects, succeeds}
-use Rattle.wal_run.specs.Lines.{collision_text}
-use Rattle.wal_run.specs.Replaying.{IsReport, replaying, stopped, unfinished, whole}
+use Rattle.wal_run.specs.Replaying.{whole}
 use Rattle.wal_run.specs.SameText.{line as in_line}
-use Rattle.wal_run.specs.inside.Writing.{Does, Performs, finished, lost_sink, performed, wanted_memory, written}
 use Rattle.wal_run.proofs.CommandLaws.{Determined, Same, both_collide, same, told_of}
 use Rattle.wal_run.proofs.Endings.{performs_as}
 use Rattle.wal_run.proofs.RunCollisions.{clash_line, collides_not, collision_line, ends_in, same_lines}

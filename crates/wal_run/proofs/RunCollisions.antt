@@ -1,23 +1,7 @@
 -- A schedule has the lines of one run, and one that ends in a collision shows two texts with one digest.
-use Rattle.std.proofs.Common.{◌≡◌, ℕ, ◌++◌, List, length, length-append, [], ◌∷◌, Bool, true, false, cond, codes, arith, refl, ap, subst}
-use Rattle.std.proofs.lemmas.Bool.{false≢true}
-use Rattle.wal_tree.specs.Collision.{IsCollision}
-use Rattle.wal_event.specs.declared.event.Event.{Event}
+use Rattle.wal_run.proofs.Common.{◌≡◌, ℕ, ◌++◌, List, length, length-append, [], ◌∷◌, Bool, true, false, cond, codes, arith, refl, ap, subst, false≢true, IsCollision, Event, Schedule, Line, hex_text, line_text, Rules, World, Steps, GoesOn, Runs, first_state, is_collision, AreLines, EndsInCollision, SameLines, not_going, one_run, rules_of, only_rules, collision_text}
 use Rattle.wal_event.specs.declared.event.Event.TheVariants as event
-use Rattle.wal_event.specs.declared.event.Schedule.{Schedule}
-use Rattle.wal_event.specs.declared.line.Line.{Line}
 use Rattle.wal_event.specs.declared.line.Line.TheVariants as line
-use Rattle.wal_event.specs.Report.{hex_text, line_text}
-use Rattle.wal_protocol.specs.Rules.{Rules}
-use Rattle.wal_protocol.specs.State.{World}
-use Rattle.wal_protocol.specs.Step.{Steps}
-use Rattle.wal_protocol.specs.Run.{GoesOn, Runs, first_state, is_collision}
-use Rattle.wal_theorem.specs.Lines.{AreLines, EndsInCollision}
-use Rattle.wal_protocol.specs.Determined.{SameLines}
-use Rattle.wal_protocol.proofs.OneStep.{not_going, one_run}
-use Rattle.wal_theorem.specs.Instance.{rules_of}
-use Rattle.wal_theorem.proofs.OneWorld.{only_rules}
-use Rattle.wal_run.specs.Lines.{collision_text}
 
 -- the two texts of a line that is a collision are one
 abbrev ShowsClash : Rules → Line → Type 0

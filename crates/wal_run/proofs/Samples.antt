@@ -1,22 +1,11 @@
 -- The sample of a number has one schedule, whose run has one summary, or ends in a collision: one result of the command on it.
-use Rattle.std.proofs.Common.{◌≡◌, ◌⊎◌, inl, inr, ⊎_elim, ◌%◌, ℕ, List, [], ◌∷◌, ◌++◌, map, refl, sym, ap, subst, ◌∙◌, arith}
-use Rattle.std.specs.List.{AllByRecursion}
-use Rattle.wal_shape.specs.declared.metadata.BlobId.{BlobId}
+use Rattle.wal_run.proofs.Common.{◌≡◌, ◌⊎◌, inl, inr, ⊎_elim, ◌%◌, ℕ, List, [], ◌∷◌, ◌++◌, map, refl, sym, ap, subst, ◌∙◌, arith, AllByRecursion, BlobId, IsCollision, IsIdentifierOf, Schedule, Line, GoesOn, apart_left, apart_right, Content, IsResult, collision, success, Told, collides, lacks, misreads, rejects, succeeds, collision_text}
 use Rattle.wal_shape.specs.declared.shape.Format.TheVariants.{One}
-use Rattle.wal_tree.specs.Collision.{IsCollision}
-use Rattle.wal_commit.specs.Identifier.{IsIdentifierOf}
-use Rattle.wal_event.specs.declared.event.Schedule.{Schedule}
-use Rattle.wal_event.specs.declared.line.Line.{Line}
 use Rattle.wal_schedule.specs.Sample.{IsSample, drawn, sample_with, state_after, state_before}
-use Rattle.wal_protocol.specs.Run.{GoesOn}
-use Rattle.wal_protocol.proofs.OneStep.{apart_left, apart_right}
 use Rattle.wal_world.specs.declared.summary.Summary.{Summary}
 use Rattle.wal_world.specs.declared.summary.Summed.{Summed}
 use Rattle.wal_world.specs.declared.summary.Summed.TheVariants as summed
 use Rattle.wal_world.specs.Summary.{IsSummary}
-use Rattle.wal_run.specs.Command.{Content, IsResult, collision, success}
-use Rattle.wal_run.specs.inside.Command.{Told, collides, lacks, misreads, rejects, succeeds}
-use Rattle.wal_run.specs.Lines.{collision_text}
 use Rattle.wal_run.specs.Sampling.{SumsUp, sampling, summary_text}
 use Rattle.wal_run.specs.inside.Sampling.{IsSumText}
 use Rattle.wal_run.proofs.Blobs.{one_identifier}

@@ -1,14 +1,10 @@
 -- What a command says is a result of its input.
+use Rattle.wal_run.proofs.Common.{◌≡◌, ℕ, List, Option, Result, Ok, Err, sym, subst, inl, ⊎_elim, BlobId, BreaksAt, Command, Content, Grammar, HasNone, HasTwoMetadata, IsResult, Misspells, Spells, bare, collision, envelopes_of, lacking, rejection, success, unreadable, Told, Performs}
 use Rattle.std.specs.Prelude.{IsErrAnd}
-use Rattle.std.proofs.Common.{◌≡◌, ℕ, List, Option, Result, Ok, Err, sym, subst, inl, ⊎_elim}
 use Rattle.wal_run.specs.declared.answer.Answer.{Answer}
 use Rattle.wal_run.specs.declared.refusal.Refusal.{Refusal}
 use Rattle.wal_run.specs.declared.refusal.Refusal.TheVariants.{Memory}
-use Rattle.wal_shape.specs.declared.metadata.BlobId.{BlobId}
-use Rattle.wal_run.specs.Command.{BreaksAt, Command, Content, Grammar, HasNone, HasTwoMetadata, IsResult, Misspells, Spells, bare, collision, envelopes_of, lacking, rejection, success, unreadable}
 use Rattle.wal_run.specs.inside.Answers.{IsBroken, LacksMetadata, Refuses, Refused, Says, Tells}
-use Rattle.wal_run.specs.inside.Command.{Told}
-use Rattle.wal_run.specs.inside.Writing.{Performs}
 use Rattle.wal_run.proofs.CommandLaws.{of_told}
 use Rattle.wal_run.proofs.Endings.{performs_as}
 

@@ -1,11 +1,6 @@
 -- A text is one schedule, or has one fault.
-use Rattle.std.proofs.Common.{◌≡◌, ℕ, List, Result, Ok, Err, Option, Some, codes, refl, sym, ap, ◌∙◌}
-use Rattle.wal_event.specs.declared.event.Schedule.{Schedule}
-use Rattle.wal_schedule.specs.Grammar.{IsRead}
-use Rattle.wal_schedule.specs.declared.read.ScheduleError.{ScheduleError}
+use Rattle.wal_run.proofs.Common.{◌≡◌, ℕ, List, Result, Ok, Err, Option, Some, codes, refl, sym, ap, ◌∙◌, Schedule, IsRead, ScheduleError, IsFault, number_text}
 use Rattle.wal_schedule.specs.declared.read.ScheduleError.TheVariants.{NotJson, BadSchedule, TooMany, BadEvent, Memory}
-use Rattle.wal_run.specs.Command.{IsFault}
-use Rattle.wal_run.specs.Lines.{number_text}
 
 -- a value is told in one way
 once : {D : Type 0} (U : Type 0) (o : Option D) (tell : D → Result Schedule ScheduleError) (a b : Result Schedule ScheduleError)

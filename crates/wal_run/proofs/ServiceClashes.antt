@@ -1,23 +1,12 @@
 -- The two texts that end serving have one digest.
-use Rattle.std.proofs.Common.{◌≡◌, ℕ, List, Bool, Option, Some, Result, Ok, Err, sym, ap, ◌∙◌, arith}
-use Rattle.wal_shape.specs.declared.text.MetaClash.{MetaClash}
-use Rattle.wal_tree.specs.Collision.{IsCollision}
-use Rattle.wal_frame.specs.declared.frame.FrameError.{FrameError}
-use Rattle.wal_frame.specs.Frame.{Frame}
+use Rattle.wal_run.proofs.Common.{◌≡◌, ℕ, List, Bool, Option, Some, Result, Ok, Err, sym, ap, ◌∙◌, arith, MetaClash, IsCollision, FrameError, Frame, read_of, Log, Contents, ShardState, desk, Done, ReadFault, WriteFault, Collision, clash_in, put_reply, Replies, Serves, Table}
 use Rattle.wal_frame.specs.Frame as frames
-use Rattle.wal_frame.specs.Reading.{read_of}
-use Rattle.wal_ledger.specs.Ledger.{Log}
-use Rattle.wal_store.specs.Contents.{Contents}
 use Rattle.wal_shard.specs.declared.answers.PutAnswer.{PutAnswer}
 use Rattle.wal_shard.specs.declared.answers.PutAnswer.TheVariants.{OtherMetadata}
 use Rattle.wal_shard.specs.Putting.{PutsOrWants}
-use Rattle.wal_shard.specs.State.{ShardState, desk}
-use Rattle.wal_serve.specs.declared.serving.ServeEnd.TheVariants.{Done, ReadFault, WriteFault, Collision}
 use Rattle.wal_serve.specs.Answers as requests
 use Rattle.wal_serve.specs.Answers.{AnswersFrame, AnswersPut, AnswersRead}
-use Rattle.wal_serve.specs.Reply.{clash_in, put_reply}
 use Rattle.wal_serve.specs.Serving as serving
-use Rattle.wal_serve.specs.Serving.{Replies, Serves, Table}
 use Rattle.wal_serve.specs.State.{ServedState as ServingState}
 
 put_clash : (digest : List ℕ → List ℕ) (want : Bool) (shard : ShardState) (log : Log) (frame : Frame) (answer : PutAnswer) (contents : Contents) (c : MetaClash)

@@ -1,18 +1,6 @@
 -- How serving a shard ends: without a fault its whole answer was written, and want of memory comes before the first byte.
-use Rattle.std.proofs.Common.{◌≡◌, ◌⊎◌, inl, inr, ℕ, List, Option, refl, sym, ◌∙◌, arith}
-use Rattle.std.specs.Io.KnownBytes.{Appends, Keeps}
-use Rattle.wal_serve.specs.declared.serving.ServeEnd.{ServeEnd}
-use Rattle.wal_serve.specs.declared.serving.ServeEnd.TheVariants.{Done, ReadFault, WriteFault}
+use Rattle.wal_run.proofs.Common.{◌≡◌, ◌⊎◌, inl, inr, ℕ, List, Option, refl, sym, ◌∙◌, arith, Appends, Keeps, ServeEnd, Done, ReadFault, WriteFault, Serves, Table, Wrote, Serve, Service, IsTask, one_task, end_status, Around, Answers, Ends, broke_off, cut_off, done, no_memory, no_memory_for_words, serving_ended, sink_failed, source_failed, too_long, usage, whole, IsResult, TakesAtMost, bare, nothing}
 use Rattle.wal_serve.specs.Serving as serving
-use Rattle.wal_serve.specs.Serving.{Serves, Table, Wrote}
-use Rattle.wal_words.specs.declared.task.Task.TheVariants.{Serve}
-use Rattle.wal_words.specs.declared.task.Service.{Service}
-use Rattle.wal_words.specs.Task.{IsTask}
-use Rattle.wal_words.proofs.Rows.{one_task}
-use Rattle.wal_run.specs.Serving.{end_status}
-use Rattle.wal_run.specs.Around.{Around}
-use Rattle.wal_run.specs.Answers.{Answers, Ends, broke_off, cut_off, done, no_memory, no_memory_for_words, serving_ended, sink_failed, source_failed, too_long, usage, whole}
-use Rattle.wal_run.specs.Command.{IsResult, TakesAtMost, bare, nothing}
 use Rattle.wal_run.proofs.Endings.{kept_few}
 
 module _ {C : Type 0} (Answer : Table C) (room limit : ℕ) (fresh : C) (taken : List ℕ) (AtEnd : Type 0) (frames : List (List ℕ)) (state : C) where

@@ -1,25 +1,5 @@
 -- Where a fault ended serving, what was written is a front of the answer, up to a collision.
-use Rattle.std.proofs.Common.{◌≡◌, ⊎_elim, inl, inr, ℕ, ◌+◌, List, ◌++◌, length, length-append, Option, Some, None, sym, ap, subst, ◌∙◌, arith}
-use Rattle.std.proofs.Math.Seq.{take-append-add}
-use Rattle.std.proofs.lemmas.Bool.{false≢true}
-use Rattle.std.proofs.lemmas.Grind.{flat_map-append}
-use Rattle.std.specs.Io.KnownBytes.{Appends, Consumes, IsAtEnd}
-use Rattle.wal_port.specs.Appending.{AppendsPart}
-use Rattle.wal_frame.specs.Frame.{envelope}
-use Rattle.wal_serve.specs.declared.serving.ServeEnd.{ServeEnd}
-use Rattle.wal_serve.specs.declared.serving.ServeEnd.TheVariants.{ReadFault, WriteFault}
-use Rattle.wal_serve.specs.Room.{desk_room}
-use Rattle.wal_serve.specs.Saying.{sent}
-use Rattle.wal_serve.specs.Serving.{BreaksOff, IsServed}
-use Rattle.wal_serve.specs.State.{ServedState}
-use Rattle.wal_serve.proofs.OneTable.{one_table}
-use Rattle.wal_words.specs.declared.task.Service.{Service}
-use Rattle.wal_words.specs.declared.task.Task.TheVariants.{Serve}
-use Rattle.wal_words.specs.Task.{IsTask}
-use Rattle.wal_run.specs.Answers.{Completes, answered, served}
-use Rattle.wal_run.specs.Command.{IsFrontOf, IsFrontUpToClash}
-use Rattle.wal_run.specs.SameText.{frame}
-use Rattle.wal_run.specs.Serving.{IsServiceResult, answering, at_start, end_status, serve_limit}
+use Rattle.wal_run.proofs.Common.{◌≡◌, ⊎_elim, inl, inr, ℕ, ◌+◌, List, ◌++◌, length, length-append, Option, Some, None, sym, ap, subst, ◌∙◌, arith, take-append-add, false≢true, flat_map-append, Appends, Consumes, IsAtEnd, AppendsPart, envelope, ServeEnd, ReadFault, WriteFault, desk_room, sent, BreaksOff, IsServed, ServedState, one_table, Service, Serve, IsTask, Completes, answered, served, IsFrontOf, IsFrontUpToClash, frame, IsServiceResult, answering, at_start, end_status, serve_limit}
 use Rattle.wal_run.proofs.OneService.{one_asked, same_but_last, status_of_clash}
 use Rattle.wal_run.proofs.ServiceEnds.{no_answer}
 use Rattle.wal_run.proofs.ServiceFronts.{Over, front_or_clash, over, read_begun, write_begun}

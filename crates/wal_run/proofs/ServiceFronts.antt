@@ -1,18 +1,11 @@
 -- What was answered before a fault ended serving is what is answered first without one.
-use Rattle.std.proofs.Common.{◌≡◌, ◌⊎◌, inl, inr, ℕ, ◌+◌, ◌≤◌, Bool, true, false, List, [], ◌∷◌, ◌++◌, length, Option, Some, None, refl, sym, ap, ◌∙◌, append_assoc, append-nil, arith}
+use Rattle.wal_run.proofs.Common.{◌≡◌, ◌⊎◌, inl, inr, ℕ, ◌+◌, ◌≤◌, Bool, true, false, List, [], ◌∷◌, ◌++◌, length, Option, Some, None, refl, sym, ap, ◌∙◌, append_assoc, append-nil, arith, is_some, MetaClash, ServeEnd, ReadFault, WriteFault, SameButLast, Replies, Serves, Table, Compared, Longer, compared, Why, none_follows}
 use Rattle.std.proofs.lemmas.List.{length-append}
-use Rattle.std.specs.Prelude.{is_some}
-use Rattle.wal_shape.specs.declared.text.MetaClash.{MetaClash}
-use Rattle.wal_serve.specs.declared.serving.ServeEnd.{ServeEnd}
-use Rattle.wal_serve.specs.declared.serving.ServeEnd.TheVariants.{ReadFault, WriteFault}
-use Rattle.wal_serve.specs.Determined.{SameButLast, is_collision}
+use Rattle.wal_serve.specs.Determined.{is_collision}
 use Rattle.wal_serve.specs.inside.Determined.{IsSingle}
 use Rattle.wal_serve.specs.Serving as serving
-use Rattle.wal_serve.specs.Serving.{Replies, Serves, Table}
 use Rattle.wal_serve.proofs.Fronts as fronts
-use Rattle.wal_serve.proofs.Fronts.{Compared, Longer, compared}
 use Rattle.wal_serve.proofs.OneEnd as why
-use Rattle.wal_serve.proofs.OneEnd.{Why, none_follows}
 use Rattle.wal_serve.proofs.OneServed.{Goes, one_going, served_goes, stopped_before}
 
 not_nil : {A : Type 0} (front : List A) (x : A) (back : List A) → front ++ x ∷ back ≡ [] → ⊥

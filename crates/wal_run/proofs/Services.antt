@@ -1,21 +1,11 @@
 -- A shard that serves: the state at the start, and how serving it ends.
-use Rattle.std.proofs.Common.{◌≡◌, ℕ, ◌+◌, ◌<◌, ◌≤◌, zero, suc, zero-add, List, [], ◌∷◌, ◌++◌, length, Bool, true, false, not, ◌&&◌, ◌||◌, nat_lt, lt-ltb, eq-eqb, Option, Some, refl, ap, ap₂, ◌∙◌, arith}
-use Rattle.std.specs.List.{list_all, range_with_len}
+use Rattle.wal_run.proofs.Common.{◌≡◌, ℕ, ◌+◌, ◌<◌, ◌≤◌, zero, suc, zero-add, List, [], ◌∷◌, ◌++◌, length, Bool, true, false, not, ◌&&◌, ◌||◌, nat_lt, lt-ltb, eq-eqb, Option, Some, refl, ap, ap₂, ◌∙◌, arith, list_all, range_with_len, LedgerState, owners_of, reading, StoreState, ShardState, ServeEnd, desk_room, IsServed, ServedState, state_of, Service, EndsServing, answering, at_start, end_status, own_nodes, serve_limit}
 use Rattle.std.specs.FinMap as map
 use Rattle.std.proofs.lemmas.List.FromFn.{get_or-range_with_len, length-range_with_len}
 use Rattle.wal_shape.specs.Owners.{among, every_below, has_neighbour, node_of, is_committee}
 use Rattle.wal_shape.specs.declared.axis.Side.TheVariants.{Now}
-use Rattle.wal_ledger.specs.Ledger.{LedgerState, owners_of, reading}
 use Rattle.wal_ledger.specs.Shards.{committee_size}
 use Rattle.wal_epoch.specs.States.{ServingState}
-use Rattle.wal_store.specs.Contents.{StoreState}
-use Rattle.wal_shard.specs.State.{ShardState}
-use Rattle.wal_serve.specs.declared.serving.ServeEnd.{ServeEnd}
-use Rattle.wal_serve.specs.Room.{desk_room}
-use Rattle.wal_serve.specs.Serving.{IsServed}
-use Rattle.wal_serve.specs.State.{ServedState, state_of}
-use Rattle.wal_words.specs.declared.task.Service.{Service}
-use Rattle.wal_run.specs.Serving.{EndsServing, answering, at_start, end_status, own_nodes, serve_limit}
 use Rattle.wal_run.specs.inside.Serving.{MayServe}
 use Rattle.wal_run.proofs.ShardTexts.{range-split}
 use Rattle.wal_served.proofs.Reached.{desk_at_start, serves_reached}

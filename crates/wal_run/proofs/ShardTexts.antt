@@ -1,23 +1,11 @@
 -- The envelopes of a shard, and of the shards in turn.
-use Rattle.std.proofs.Common.{◌≡◌, ℕ, zero, suc, zero-add, ◌+◌, ◌-◌, ◌*◌, ◌<◌, ◌≤◌, List, [], ◌∷◌, ◌++◌, length, take, drop, min, append_assoc, append-nil, refl, sym, ap, ap₂, ◌∙◌, arith}
+use Rattle.wal_run.proofs.Common.{◌≡◌, ℕ, zero, suc, zero-add, ◌+◌, ◌-◌, ◌*◌, ◌<◌, ◌≤◌, List, [], ◌∷◌, ◌++◌, length, take, drop, min, append_assoc, append-nil, refl, sym, ap, ap₂, ◌∙◌, arith, flat_map-append, flat_map, range_with_len, Axis, Primary, Secondary, BlobShape, IsShape, shard_count, row_count, column_count, symbol_size, most_bytes, held_index, column_part, primary_of, row_of, secondary_of, symbol, row_of-symbol, flat_map-more, Buffer, appended, envelope, sliver_frame, shard_text}
 use Rattle.std.proofs.Math.Nat.{mul_comm, mul-le-mul_right, mul-le-mul_left}
-use Rattle.std.proofs.lemmas.Grind.{flat_map-append}
-use Rattle.std.specs.List.{flat_map, range_with_len}
 use Rattle.std.specs.Int.{w16, w32}
-use Rattle.wal_shape.specs.declared.axis.Axis.{Axis}
-use Rattle.wal_shape.specs.declared.axis.Axis.TheVariants.{Primary, Secondary}
-use Rattle.wal_shape.specs.Shape.{BlobShape, IsShape, shard_count, row_count, column_count, symbol_size, most_bytes}
-use Rattle.wal_shape.specs.Metadata.{held_index}
 use Rattle.wal_shape.specs.Spelling.{number_text}
 use Rattle.wal_shape.proofs.ShapeLaws.{matrix_bytes-bound}
-use Rattle.wal_matrix.specs.Matrix.{column_part, primary_of, row_of, secondary_of, symbol}
-use Rattle.wal_matrix.proofs.Slivers.{row_of-symbol}
 use Rattle.wal_matrix.proofs.Symbols.{column_more}
-use Rattle.wal_commit.proofs.Commitments.{flat_map-more}
-use Rattle.wal_frame.specs.Buffer.{Buffer, appended}
-use Rattle.wal_frame.specs.Frame.{envelope, sliver_frame}
 use Rattle.wal_shard.proofs.ReplyLaws.{appended_then}
-use Rattle.wal_run.specs.Envelope.{shard_text}
 
 abbrev buffer_of : List ℕ → ℕ → Buffer
 buffer_of bytes spare = record { bytes = bytes; spare = spare }

@@ -1,19 +1,8 @@
 -- What was recovered is not long.
-use Rattle.std.proofs.Common.{◌≡◌, ℕ, zero, suc, ◌+◌, ◌*◌, ◌≤◌, List, [], ◌∷◌, All, length, length-append, refl, arith}
-use Rattle.std.specs.List.{AllByRecursion, flat_map}
-use Rattle.wal_shape.specs.declared.axis.Axis.{Axis}
-use Rattle.wal_shape.specs.declared.axis.Axis.TheVariants.{Primary, Secondary}
+use Rattle.wal_run.proofs.Common.{◌≡◌, ℕ, zero, suc, ◌+◌, ◌*◌, ◌≤◌, List, [], ◌∷◌, All, length, length-append, refl, arith, AllByRecursion, flat_map, Axis, Primary, Secondary, IsShape, column_count, sliver_symbols, symbol_size, most_bytes, BlobMetadata, IsBody, body_text, proof_text, EncodingProof, IsProof, Recovered, Inconsistent, Short, HasCommittedSliver, OpeningsComeTo, Fits}
 use Rattle.wal_shape.specs.declared.opening.Opening.{Opening}
-use Rattle.wal_shape.specs.Shape.{IsShape, column_count, sliver_symbols, symbol_size, most_bytes}
-use Rattle.wal_shape.specs.Metadata.{BlobMetadata}
-use Rattle.wal_shape.specs.Opening.{IsBody}
-use Rattle.wal_shape.specs.Spelling.{body_text, proof_text}
-use Rattle.wal_shape.specs.EncodingProof.{EncodingProof, IsProof}
 use Rattle.wal_shape.proofs.BodyLaws.{length-body_text}
-use Rattle.wal_recover.specs.declared.outcome.Recovered.{Recovered}
-use Rattle.wal_recover.specs.declared.outcome.Recovered.TheVariants.{Inconsistent, Short, Sliver}
-use Rattle.wal_recover.specs.Recovery.{HasCommittedSliver, OpeningsComeTo}
-use Rattle.wal_run.specs.inside.Recovering.{Fits}
+use Rattle.wal_recover.specs.declared.outcome.Recovered.TheVariants.{Sliver}
 use Rattle.wal_run.proofs.ShardTexts.{sliver_fits}
 
 -- the bodies of openings whose symbols have so many bytes

@@ -1,17 +1,11 @@
 -- Every schedule that an input spells has a run.
-use Rattle.std.proofs.Common.{ℕ, List, [], ◌∷◌, All, Ok}
-use Rattle.std.specs.List.{AllByRecursion}
+use Rattle.wal_run.proofs.Common.{ℕ, List, [], ◌∷◌, All, Ok, AllByRecursion, Event, Schedule, IsRead, spelled_bytes, spelled_range, rules_of}
 use Rattle.std.proofs.lemmas.List.Elements.{All-nil, All-cons}
 use Rattle.wal_event.specs.declared.event.Reply.{Reply}
 use Rattle.wal_event.specs.declared.event.Reply.TheVariants as reply
-use Rattle.wal_event.specs.declared.event.Event.{Event}
 use Rattle.wal_event.specs.declared.event.Event.TheVariants.{Write, Send, Read, Recover, Ready}
-use Rattle.wal_event.specs.declared.event.Schedule.{Schedule}
 use Rattle.wal_protocol.specs.Total.{HasBytes, HasRun, Possible, ReplyHasBytes}
-use Rattle.wal_schedule.specs.Grammar.{IsRead}
 use Rattle.wal_schedule.specs.Writing as written
-use Rattle.wal_schedule.proofs.SpelledBytes.{spelled_bytes, spelled_range}
-use Rattle.wal_theorem.specs.Instance.{rules_of}
 use Rattle.wal_theorem.proofs.EveryRun.{run_exists}
 use Rattle.wal_commit.proofs.OneDigest.{IsDigest}
 

@@ -1,12 +1,6 @@
 -- The numbers of a task are in their range, and the command of a task has one result for an input.
-use Rattle.std.proofs.Common.{ℕ, ◌≤◌, List, Option, Some, None, arith}
-use Rattle.wal_words.specs.declared.task.Task.{Task}
-use Rattle.wal_words.specs.declared.task.Task.TheVariants.{Read, Sample, Serve, Whole}
+use Rattle.wal_run.proofs.Common.{ℕ, ◌≤◌, List, Option, Some, None, arith, Task, Read, Sample, Serve, Whole, Challenge, Check, Encode, Identify, Image, Recover, Replay, Unpack, Bundle, Member, Verify, Gateway, HasNumber, IsTask, identify, encode, read, recover, check, serve, replay, sample, image, unpack, bundle, member, challenge, verify, gateway, TakesInput, bare, nothing, command_of, whole_command}
 use Rattle.wal_words.specs.declared.task.WholeTask.{WholeTask}
-use Rattle.wal_words.specs.declared.task.WholeTask.TheVariants.{Challenge, Check, Encode, Identify, Image, Recover, Replay, Unpack, Bundle, Member, Verify, Gateway}
-use Rattle.wal_words.specs.Task.{HasNumber, IsTask, identify, encode, read, recover, check, serve, replay, sample, image, unpack, bundle, member, challenge, verify, gateway}
-use Rattle.wal_run.specs.Command.{TakesInput, bare, nothing}
-use Rattle.wal_run.specs.Commands.{command_of, whole_command}
 use Rattle.wal_run.specs.inside.Commands.{IsInRange, IsWholeInRange}
 use Rattle.wal_run.proofs.Blobs.{encoded, identified}
 use Rattle.wal_run.proofs.Bundles.{bundled_once}

@@ -1,15 +1,9 @@
 -- The verdict on claims in answer to a challenge is one result of the command that verifies.
-use Rattle.std.proofs.Common.{◌≡◌, ◌⊎◌, inl, inr, ⊎_elim, ℕ, ◌≤◌, List, codes, refl, sym, ap, ◌∙◌, arith}
+use Rattle.wal_run.proofs.Common.{◌≡◌, ◌⊎◌, inl, inr, ⊎_elim, ℕ, ◌≤◌, List, codes, refl, sym, ap, ◌∙◌, arith, claims_in, shard_count, Audit, Recorded, Told, collides, lacks, misreads, rejects, succeeds, HasShard, LacksShard, ClaimsCome, verifying}
 use Rattle.wal_challenge.specs.declared.checking.AnswerVerdict.{AnswerVerdict}
 use Rattle.wal_challenge.specs.declared.checking.AnswerVerdict.TheVariants.{Accepted, Wrong, WrongCount}
 use Rattle.wal_challenge.proofs.VerdictLaws.{one_verdict}
-use Rattle.wal_reader.specs.Carried.{claims_in}
-use Rattle.wal_shape.specs.Shape.{shard_count}
-use Rattle.wal_words.specs.declared.task.Audit.{Audit}
-use Rattle.wal_run.specs.Command.{Recorded}
-use Rattle.wal_run.specs.inside.Command.{Told, collides, lacks, misreads, rejects, succeeds}
-use Rattle.wal_run.specs.Challenging.{HasShard, LacksShard}
-use Rattle.wal_run.specs.Verifying.{ClaimsCome, verdict_text, verifying}
+use Rattle.wal_run.specs.Verifying.{verdict_text}
 use Rattle.wal_run.specs.inside.Verifying.{verdict_status}
 use Rattle.wal_run.proofs.CommandLaws.{Determined, Same, same}
 

@@ -1,14 +1,7 @@
 -- Draws one after the other, and lists that grow by what is drawn.
-use Rattle.std.proofs.Common.{◌≡◌, Result, Ok, Err, IfOk, ℕ, zero, suc, ◌+◌, ◌*◌, ◌/◌, ◌%◌, ◌^◌, List, [], ◌∷◌, ◌++◌, map, length, refl, sym, ap, ◌∙◌, arith, subst}
-use Rattle.std.specs.List.{AllByRecursion, flat_map, range_with_len}
-use Rattle.std.proofs.lemmas.List.{append_assoc, append-nil, length-append, map-append}
-use Rattle.std.proofs.lemmas.List.FromFn.{map-range_with_len_more}
+use Rattle.wal_schedule.proofs.Common.{◌≡◌, Result, Ok, Err, IfOk, ℕ, zero, suc, ◌+◌, ◌*◌, ◌/◌, ◌%◌, ◌^◌, List, [], ◌∷◌, ◌++◌, map, length, refl, sym, ap, ◌∙◌, arith, subst, AllByRecursion, flat_map, range_with_len, append_assoc, append-nil, map-append, map-range_with_len_more, IsIdentifierOf, One, Schedule, SampleBlob, AreBlobs, IsSample, blob_from, drawn, next_state, sample_with, state_after, state_before}
+use Rattle.std.proofs.lemmas.List.{length-append}
 use Rattle.std.proofs.lemmas.Grind.{flat_map-append}
-use Rattle.wal_commit.specs.Identifier.{IsIdentifierOf}
-use Rattle.wal_shape.specs.declared.shape.Format.TheVariants.{One}
-use Rattle.wal_event.specs.declared.event.Schedule.{Schedule}
-use Rattle.wal_schedule.specs.declared.drawn.SampleBlob.{SampleBlob}
-use Rattle.wal_schedule.specs.Sample.{AreBlobs, IsSample, blob_from, drawn, next_state, sample_with, state_after, state_before}
 use Rattle.wal_schedule.proofs.Reading.{range_more}
 
 pub state_after-more : (x up k : ℕ) → up ≡ k + 1 → state_after x up ≡ next_state (state_after x k)

@@ -1,15 +1,5 @@
 -- Lists that are read one element after the other.
-use Rattle.std.proofs.Common.{◌≡◌, ℕ, ◌+◌, ◌<◌, ◌≤◌, List, [], ◌∷◌, ◌++◌, length, get_or, drop, Option, None, Some, Result, Ok, Err, refl, sym, ap, subst, ◌∙◌}
-use Rattle.std.specs.List.{AllByRecursion}
-use Rattle.std.proofs.lemmas.List.{append_assoc, append-nil, drop_all, drop_more}
-use Rattle.serde_json.specs.Data.{Data, Items, no_items, item}
-use Rattle.serde_json.specs.View.{items_view, view}
-use Rattle.serde_json.specs.declared.value.Value.{Value}
-use Rattle.wal_event.specs.declared.event.Event.{Event}
-use Rattle.wal_schedule.specs.Reading.{◌>>=◌}
-use Rattle.wal_schedule.specs.Grammar.{event_of, events_of, joined}
-use Rattle.wal_schedule.specs.inside.Reading.{before}
-use Rattle.wal_schedule.specs.inside.Grammar.{after}
+use Rattle.wal_schedule.proofs.Common.{◌≡◌, ℕ, ◌+◌, ◌<◌, ◌≤◌, List, [], ◌∷◌, ◌++◌, length, get_or, drop, Option, None, Some, Result, Ok, Err, refl, sym, ap, subst, ◌∙◌, AllByRecursion, append_assoc, append-nil, drop_all, drop_more, Data, Items, no_items, item, items_view, view, Value, Event, ◌>>=◌, event_of, events_of, joined, before, after}
 use Rattle.wal_schedule.proofs.Drawing.{all_pushed}
 
 -- an element before the rest is the last of those so far

@@ -5,3 +5,4 @@ mod SampleRange
 pub mod SpelledBytes
 mod Writing
 mod WrittenText
+mod Common

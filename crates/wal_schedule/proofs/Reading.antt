@@ -1,22 +1,6 @@
 -- From the parts of a schedule to the whole.
-use Rattle.std.proofs.Common.{◌≡◌, ℕ, ◌+◌, ◌<◌, ◌≤◌, List, [], ◌∷◌, ◌++◌, length, Some, Err, Result, ap, ◌∙◌, arith}
-use Rattle.std.proofs.lemmas.Bool.{cond-true, cond-false, lt-ltb, le-ltb}
-use Rattle.std.specs.List.{AllByRecursion, range_with_len}
-use Rattle.std.proofs.lemmas.List.{map-id}
-use Rattle.std.proofs.lemmas.List.FromFn.{map-range_with_len_more}
-use Rattle.serde_json.specs.Data.{Data}
-use Rattle.serde_json.specs.Events.{items_len}
-use Rattle.serde_json.specs.View.{items_view}
-use Rattle.serde_json.specs.declared.value.Value.{Value}
-use Rattle.serde_json.proofs.Views.{items_len-items_view}
-use Rattle.wal_shape.specs.Shape.{shard_count}
-use Rattle.wal_event.specs.declared.event.Event.{Event}
-use Rattle.wal_event.specs.Event.{IsSchedule, IsEventWithin}
-use Rattle.wal_schedule.specs.declared.read.Head.{Head}
-use Rattle.wal_schedule.specs.declared.read.ScheduleError.{ScheduleError}
+use Rattle.wal_schedule.proofs.Common.{◌≡◌, ℕ, ◌+◌, ◌<◌, ◌≤◌, List, [], ◌∷◌, ◌++◌, length, Some, Err, Result, ap, ◌∙◌, arith, cond-true, cond-false, lt-ltb, le-ltb, AllByRecursion, range_with_len, map-id, map-range_with_len_more, Data, items_len, items_view, Value, items_len-items_view, shard_count, Event, IsSchedule, IsEventWithin, Head, ScheduleError, events_of, parts_of, schedule_of, schedule_with, with_parts, IsHead, Tells, TellsEvents}
 use Rattle.wal_schedule.specs.declared.read.ScheduleError.TheVariants.{NotJson, BadSchedule, TooMany, BadEvent, Memory}
-use Rattle.wal_schedule.specs.Grammar.{events_of, parts_of, schedule_of, schedule_with, with_parts}
-use Rattle.wal_schedule.specs.inside.Grammar.{IsHead, Tells, TellsEvents}
 
 -- one more number
 pub range_more : (n : ℕ) → range_with_len 0 (n + 1) ≡ range_with_len 0 n ++ n ∷ []

@@ -1,19 +1,6 @@
 -- The events of a sample are in range.
-use Rattle.std.proofs.Common.{◌≡◌, Result, Ok, Err, IfOk, ℕ, zero, suc, ◌+◌, ◌*◌, ◌%◌, ◌<◌, ◌≤◌, List, [], ◌∷◌, ◌++◌, map, length, IsTrue, refl, sym, ap, ◌∙◌, arith, subst}
-use Rattle.std.specs.List.{AllByRecursion, flat_map, range_with_len}
-use Rattle.std.proofs.Math.Nat.{suc-mul}
-use Rattle.std.proofs.lemmas.List.{length-append, length-map}
-use Rattle.std.proofs.lemmas.List.FromFn.{length-map-range_with_len}
-use Rattle.wal_shape.specs.Shape.{most_bytes}
-use Rattle.wal_shape.specs.Owners.{is_ascending, is_committee}
-use Rattle.wal_shape.specs.declared.axis.Axis.{Axis}
-use Rattle.wal_shape.specs.declared.axis.Axis.TheVariants.{Primary, Secondary}
-use Rattle.wal_event.specs.declared.event.Event.{Event}
-use Rattle.wal_event.specs.declared.event.Event.TheVariants.{Ack, Begin, Finish, Read, Ready}
-use Rattle.wal_event.specs.declared.event.Schedule.{Schedule}
-use Rattle.wal_event.specs.Event.{AreRepliesWithin, IsSchedule, IsEventWithin}
-use Rattle.wal_schedule.specs.declared.drawn.SampleBlob.{SampleBlob}
-use Rattle.wal_schedule.specs.Sample.{AreBlobs, asked_events, blob_from, drawn, earlier_events, everyone, everyone_but, later_events, recovered_by, recovered_events, sample_with, state_before, stored_events, truths}
+use Rattle.wal_schedule.proofs.Common.{◌≡◌, Result, Ok, Err, IfOk, ℕ, zero, suc, ◌+◌, ◌*◌, ◌%◌, ◌<◌, ◌≤◌, List, [], ◌∷◌, ◌++◌, map, length, IsTrue, refl, sym, ap, ◌∙◌, arith, subst, AllByRecursion, flat_map, range_with_len, suc-mul, length-map, length-map-range_with_len, most_bytes, is_ascending, is_committee, Axis, Primary, Secondary, Event, Ack, Begin, Finish, Read, Ready, Schedule, AreRepliesWithin, IsSchedule, IsEventWithin, SampleBlob, AreBlobs, asked_events, blob_from, drawn, earlier_events, everyone, everyone_but, later_events, recovered_by, recovered_events, sample_with, state_before, stored_events, truths}
+use Rattle.std.proofs.lemmas.List.{length-append}
 
 abbrev Within : List Event → Type 0
 Within = AllByRecursion (IsEventWithin 7)

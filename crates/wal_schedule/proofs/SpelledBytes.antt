@@ -1,30 +1,7 @@
 -- What a text spells as a schedule is in range, and carries bytes.
-use Rattle.std.proofs.Common.{◌≡◌, ℕ, suc, ◌+◌, ◌*◌, ◌≤◌, ◌&&◌, Bool, true, false, nat_le, nat_lt, List, [], ◌∷◌, length, codes, Option, None, Some, Ok, Err, Result, IfOk, IfSome, if◌then◌else◌, refl, sym, ◌∙◌, subst, arith}
-use Rattle.std.specs.Prelude.{bytes_eq, is_some}
-use Rattle.std.specs.List.{AllByRecursion, list_all}
-use Rattle.std.specs.Result.{result_ok}
-use Rattle.std.proofs.lemmas.Bool.{and_parts, leb-true, ltb-false, ltb-true}
+use Rattle.wal_schedule.proofs.Common.{◌≡◌, ℕ, suc, ◌+◌, ◌*◌, ◌≤◌, ◌&&◌, Bool, true, false, nat_le, nat_lt, List, [], ◌∷◌, length, codes, Option, None, Some, Ok, Err, Result, IfOk, IfSome, if◌then◌else◌, refl, sym, ◌∙◌, subst, arith, bytes_eq, is_some, AllByRecursion, list_all, result_ok, and_parts, leb-true, ltb-false, ltb-true, IsBytes, decode_of, decode_sized, decode_of-ok, decode_sized-ok, decode_sized-twice, Data, Items, no_items, item, items_len, as_number, as_u64, get, BlobId, is_ascending, is_committee, most_bytes, shard_count, Reply, Event, Register, Write, Send, Ack, Attest, Read, Recover, Forget, Begin, Ready, Finish, Certificate, Holders, Schedule, AreRepliesWithin, IsReply, IsSchedule, IsEventWithin, event_fits, replies_within, reply_within, within, Head, ScheduleError, ◌>>=◌, axis_at, bytes_at, given, id_at, items_at, list_at, shard_at, side_at, text_at, to_id, whole_at, whole_of, with_keys, IsRead, ack_of, attest_of, begin_of, bytes_reply_of, certificate_of, event_named, event_of, events_of, finish_of, forget_of, format_at, head_of, holders_of, joined, later_named, objects_at, one_if_has, owners_at, parts_of, read_of, ready_of, recover_of, register_of, replies_at, replies_of, reply_of, schedule_of, schedule_with, send_of, true_reply_of, with_parts, write_of, IsHead, HasBytes, HasReplyBytes, IsId}
 use Rattle.hex.specs.declared.error.FromHexError.{FromHexError}
-use Rattle.hex.specs.Hex.{IsBytes, decode_of, decode_sized}
-use Rattle.hex.proofs.HexLemmas.{decode_of-ok, decode_sized-ok, decode_sized-twice}
-use Rattle.serde_json.specs.Data.{Data, Items, no_items, item}
-use Rattle.serde_json.specs.Events.{items_len}
-use Rattle.serde_json.specs.Find.{as_number, as_u64, get}
-use Rattle.wal_shape.specs.declared.metadata.BlobId.{BlobId}
-use Rattle.wal_shape.specs.Owners.{is_ascending, is_committee}
-use Rattle.wal_shape.specs.Shape.{most_bytes, shard_count}
-use Rattle.wal_event.specs.declared.event.Reply.{Reply}
 use Rattle.wal_event.specs.declared.event.Reply.TheVariants as reply
-use Rattle.wal_event.specs.declared.event.Event.{Event}
-use Rattle.wal_event.specs.declared.event.Event.TheVariants.{Register, Write, Send, Ack, Attest, Read, Recover, Forget, Begin, Ready, Finish, Certificate, Holders}
-use Rattle.wal_event.specs.declared.event.Schedule.{Schedule}
-use Rattle.wal_event.specs.Event.{AreRepliesWithin, IsReply, IsSchedule, IsEventWithin, event_fits, replies_within, reply_within, within}
-use Rattle.wal_schedule.specs.declared.read.Head.{Head}
-use Rattle.wal_schedule.specs.declared.read.ScheduleError.{ScheduleError}
-use Rattle.wal_schedule.specs.Reading.{◌>>=◌, axis_at, bytes_at, given, id_at, items_at, list_at, shard_at, side_at, text_at, to_id, whole_at, whole_of, with_keys}
-use Rattle.wal_schedule.specs.Grammar.{IsRead, ack_of, attest_of, begin_of, bytes_reply_of, certificate_of, event_named, event_of, events_of, finish_of, forget_of, format_at, head_of, holders_of, joined, later_named, objects_at, one_if_has, owners_at, parts_of, read_of, ready_of, recover_of, register_of, replies_at, replies_of, reply_of, schedule_of, schedule_with, send_of, true_reply_of, with_parts, write_of}
-use Rattle.wal_schedule.specs.inside.Grammar.{IsHead}
-use Rattle.wal_schedule.specs.Writing.{HasBytes, HasReplyBytes, IsId}
 use Rattle.wal_schedule.proofs.Reading.{in_range}
 
 -- ---- what steps of a reading keep

@@ -1,34 +1,6 @@
 -- What is written for a schedule is read as that schedule.
-use Rattle.std.proofs.Common.{◌≡◌, ℕ, suc, ◌+◌, ◌<◌, ◌≤◌, ◌&&◌, Bool, true, nat_le, nat_lt, List, [], ◌∷◌, map, length, codes, Option, Some, Ok, Result, IsTrue, if◌then◌else◌, refl, ap, ◌∙◌, arith}
-use Rattle.std.specs.Prelude.{is_some}
-use Rattle.std.specs.List.{AllByRecursion, list_all}
-use Rattle.std.specs.Result.{result_ok}
-use Rattle.std.proofs.lemmas.Bool.{and_parts, cond-false, eq-eqb, le-leb, le-ltb, lt-ltb, ltb-true}
-use Rattle.hex.specs.Hex.{IsBytes, decode_of, decode_sized, encode_lower}
-use Rattle.hex.proofs.HexLemmas.{decode_of-encode_lower, decode_sized-encode_lower}
-use Rattle.serde_json.specs.Data.{Data, Items, array, string}
-use Rattle.serde_json.specs.Events.{items_len}
-use Rattle.serde_json.specs.Find.{get, as_object}
-use Rattle.serde_json.specs.View.{items_of}
-use Rattle.wal_shape.specs.declared.axis.Axis.{Axis}
-use Rattle.wal_shape.specs.declared.axis.Axis.TheVariants.{Primary, Secondary}
-use Rattle.wal_shape.specs.declared.axis.Side.{Side}
-use Rattle.wal_shape.specs.declared.axis.Side.TheVariants.{Now, Next}
-use Rattle.wal_shape.specs.declared.metadata.BlobId.{BlobId}
-use Rattle.wal_shape.specs.declared.shape.Format.{Format}
-use Rattle.wal_shape.specs.declared.shape.Format.TheVariants.{One, Two}
-use Rattle.wal_shape.specs.Owners.{are_owners, ascends_from, is_ascending, is_closed, is_committee}
-use Rattle.wal_shape.specs.Shape.{most_bytes, shard_count}
-use Rattle.wal_event.specs.declared.event.Reply.{Reply}
+use Rattle.wal_schedule.proofs.Common.{◌≡◌, ℕ, suc, ◌+◌, ◌<◌, ◌≤◌, ◌&&◌, Bool, true, nat_le, nat_lt, List, [], ◌∷◌, map, length, codes, Option, Some, Ok, Result, IsTrue, if◌then◌else◌, refl, ap, ◌∙◌, arith, is_some, AllByRecursion, list_all, result_ok, and_parts, cond-false, eq-eqb, le-leb, le-ltb, lt-ltb, ltb-true, IsBytes, decode_of, decode_sized, encode_lower, decode_of-encode_lower, decode_sized-encode_lower, Data, Items, array, string, items_len, get, as_object, items_of, Axis, Primary, Secondary, Side, Now, Next, BlobId, Format, One, Two, are_owners, ascends_from, is_ascending, is_closed, is_committee, most_bytes, shard_count, Reply, Event, Register, Write, Send, Ack, Attest, Read, Recover, Forget, Begin, Ready, Finish, Certificate, Holders, Schedule, AreRepliesWithin, IsReply, IsSchedule, IsEventWithin, event_fits, replies_within, reply_within, within, Head, ◌>>=◌, axis_at, bytes_at, given, id_at, items_at, key_count, list_at, numbers_of, shard_at, side_at, text_at, to_id, whole_at, whole_of, with_keys, ack_of, all_objects, attest_of, begin_of, bytes_reply_of, certificate_of, event_named, event_of, events_of, finish_of, forget_of, format_at, format_number, head_of, holders_of, joined, objects_at, one_if_has, owners_at, parts_of, read_of, ready_of, recover_of, register_of, replies_at, replies_of, reply_of, schedule_of, schedule_with, send_of, true_reply_of, with_parts, write_of, HasBytes, HasReplyBytes, IsId, axis_data, bytes_data, event_data, events_data, format_data, id_data, list_data, number_data, replies_data, reply_data, schedule_data, side_data}
 use Rattle.wal_event.specs.declared.event.Reply.TheVariants as reply
-use Rattle.wal_event.specs.declared.event.Event.{Event}
-use Rattle.wal_event.specs.declared.event.Event.TheVariants.{Register, Write, Send, Ack, Attest, Read, Recover, Forget, Begin, Ready, Finish, Certificate, Holders}
-use Rattle.wal_event.specs.declared.event.Schedule.{Schedule}
-use Rattle.wal_event.specs.Event.{AreRepliesWithin, IsReply, IsSchedule, IsEventWithin, event_fits, replies_within, reply_within, within}
-use Rattle.wal_schedule.specs.declared.read.Head.{Head}
-use Rattle.wal_schedule.specs.Reading.{◌>>=◌, axis_at, bytes_at, given, id_at, items_at, key_count, list_at, numbers_of, shard_at, side_at, text_at, to_id, whole_at, whole_of, with_keys}
-use Rattle.wal_schedule.specs.Grammar.{ack_of, all_objects, attest_of, begin_of, bytes_reply_of, certificate_of, event_named, event_of, events_of, finish_of, forget_of, format_at, format_number, head_of, holders_of, joined, objects_at, one_if_has, owners_at, parts_of, read_of, ready_of, recover_of, register_of, replies_at, replies_of, reply_of, schedule_of, schedule_with, send_of, true_reply_of, with_parts, write_of}
-use Rattle.wal_schedule.specs.Writing.{HasBytes, HasReplyBytes, IsId, axis_data, bytes_data, event_data, events_data, format_data, id_data, list_data, number_data, replies_data, reply_data, schedule_data, side_data}
 
 -- ---- one step of a reading, and one element before others
 

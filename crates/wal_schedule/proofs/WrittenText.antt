@@ -1,27 +1,9 @@
 -- The value that is written for a schedule nests little and has no float, so its text is known and is read back.
-use Rattle.std.proofs.Common.{◌≡◌, ℕ, ◌≤◌, ◌||◌, Bool, false, List, [], ◌∷◌, map, Some, Result, Ok, Err, IfOk, refl, sym, ap, ◌∙◌, subst, arith}
-use Rattle.std.specs.Prelude.{String, string_bytes}
-use Rattle.std.specs.List.{AllByRecursion}
+use Rattle.wal_schedule.proofs.Common.{◌≡◌, ℕ, ◌≤◌, ◌||◌, Bool, false, List, [], ◌∷◌, map, Some, Result, Ok, Err, IfOk, refl, sym, ap, ◌∙◌, subst, arith, String, string_bytes, AllByRecursion, max-le, Data, depth, items_depth, items_of, Axis, Primary, Secondary, Side, Now, Next, Format, One, Two, Reply, Event, Write, Send, Read, Recover, Forget, Begin, Schedule, IsSchedule, IsRead, schedule_of, HasBytes, axis_data, event_data, events_data, format_data, list_data, number_data, replies_data, reply_data, schedule_data, side_data}
 use Rattle.std.proofs.lemmas.Str.{IsUtf8-string_bytes}
-use Rattle.std.proofs.Math.Nat.{max-le}
-use Rattle.serde_json.specs.Data.{Data, depth, items_depth}
 use Rattle.serde_json.specs.Read.{max_depth, read}
-use Rattle.serde_json.specs.View.{items_of}
 use Rattle.serde_json.specs.Written.{compact_text, has_float, items_have_float}
-use Rattle.wal_shape.specs.declared.axis.Axis.{Axis}
-use Rattle.wal_shape.specs.declared.axis.Axis.TheVariants.{Primary, Secondary}
-use Rattle.wal_shape.specs.declared.axis.Side.{Side}
-use Rattle.wal_shape.specs.declared.axis.Side.TheVariants.{Now, Next}
-use Rattle.wal_shape.specs.declared.shape.Format.{Format}
-use Rattle.wal_shape.specs.declared.shape.Format.TheVariants.{One, Two}
-use Rattle.wal_event.specs.declared.event.Reply.{Reply}
 use Rattle.wal_event.specs.declared.event.Reply.TheVariants as reply
-use Rattle.wal_event.specs.declared.event.Event.{Event}
-use Rattle.wal_event.specs.declared.event.Event.TheVariants.{Write, Send, Read, Recover, Forget, Begin}
-use Rattle.wal_event.specs.declared.event.Schedule.{Schedule}
-use Rattle.wal_event.specs.Event.{IsSchedule}
-use Rattle.wal_schedule.specs.Grammar.{IsRead, schedule_of}
-use Rattle.wal_schedule.specs.Writing.{HasBytes, axis_data, event_data, events_data, format_data, list_data, number_data, replies_data, reply_data, schedule_data, side_data}
 use Rattle.wal_schedule.proofs.Writing.{schedule_back}
 
 -- ---- how deep it nests

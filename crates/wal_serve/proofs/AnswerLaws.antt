@@ -1,27 +1,11 @@
 -- What is answered, and what is written of it.
-use Rattle.std.proofs.Common.{◌≡◌, ℕ, ◌+◌, ◌-◌, ◌<◌, ◌≤◌, Bool, List, [], ◌∷◌, ◌++◌, length, Option, None, Result, Ok, Err, refl, sym, ap, subst, ◌∙◌, append-nil, arith}
-use Rattle.std.proofs.lemmas.List.{length-append}
+use Rattle.wal_serve.proofs.Common.{◌≡◌, ℕ, ◌+◌, ◌-◌, ◌<◌, ◌≤◌, Bool, List, [], ◌∷◌, ◌++◌, length, Option, None, Result, Ok, Err, refl, sym, ap, subst, ◌∙◌, append-nil, arith, length-append, flat_map-append, MetaClash, FrameError, Frame, envelope, CanBePut, WritesReply, Reply, ServedState, PayloadRoom, done, malformed, no_request, overlong, reply_text, outcome_text, clash_in, IsReplyOutcome, AnswersPut, AnswersFrame, AnswersRead, sent, Row, Table, looked_at, read_past, AnswersInto, RepliesInto, StopsWith}
 use Rattle.std.proofs.lemmas.List.Concat.{flat_map-cons}
-use Rattle.std.proofs.lemmas.Grind.{flat_map-append}
-use Rattle.wal_shape.specs.declared.text.MetaClash.{MetaClash}
-use Rattle.wal_frame.specs.declared.frame.FrameError.{FrameError}
 use Rattle.wal_frame.specs.Buffer.{Buffer, appended}
 use Rattle.wal_frame.specs.Frame as frame
-use Rattle.wal_frame.specs.Frame.{Frame, envelope}
-use Rattle.wal_shard.specs.Putting.{CanBePut}
-use Rattle.wal_shard.specs.Replying.{WritesReply}
 use Rattle.wal_shard.proofs.ReplyLaws.{appended_then}
-use Rattle.wal_serve.specs.declared.reply.Reply.{Reply}
-use Rattle.wal_serve.specs.State.{ServedState}
-use Rattle.wal_serve.specs.inside.Payload.{PayloadRoom}
 use Rattle.wal_serve.specs.inside.Requests.{IsNoRequest}
-use Rattle.wal_serve.specs.Reply.{done, malformed, no_request, overlong, reply_text, outcome_text, clash_in}
-use Rattle.wal_serve.specs.Answers.{IsReplyOutcome, AnswersPut, AnswersFrame, AnswersRead}
-use Rattle.wal_serve.specs.Saying.{sent}
 use Rattle.wal_serve.specs.inside.Saying.{Says, SaysReplied}
-use Rattle.wal_serve.specs.inside.Session.{Row}
-use Rattle.wal_serve.specs.Serving.{Table, looked_at, read_past}
-use Rattle.wal_serve.specs.inside.Serving.{AnswersInto, RepliesInto, StopsWith}
 
 pub sent_one : (own : ℕ) (payload : List ℕ) → sent own (payload ∷ []) ≡ envelope own payload
 sent_one own payload = flat_map-cons (envelope own) payload [] ∙ append-nil (envelope own payload)

@@ -1,25 +1,13 @@
 -- Envelopes that are taken piece by piece.
-use Rattle.std.proofs.Common.{◌≡◌, ℕ, ◌+◌, ◌-◌, ◌^◌, ◌<◌, ◌≤◌, List, [], ◌∷◌, ◌++◌, length, get_or, take, drop, Option, Some, None, refl, sym, ap, subst, ◌∙◌, append_assoc, append-nil, arith}
+use Rattle.wal_serve.proofs.Common.{◌≡◌, ℕ, ◌+◌, ◌-◌, ◌^◌, ◌<◌, ◌≤◌, List, [], ◌∷◌, ◌++◌, length, get_or, take, drop, Option, Some, None, refl, sym, ap, subst, ◌∙◌, append_assoc, append-nil, arith, Consumes, Consumes-trans, length-append, length-drop, nil_from_length, number_text, envelope, IsPart, size_in, head_parts, Took, Lack, Takes, whole, ended, PayloadRoom, Lacks, lack_of, IsHead, IsEnvelope}
 use Rattle.std.specs.Int.{w16, w32, from_be_bytes}
-use Rattle.std.specs.Io.KnownBytes.{Consumes}
-use Rattle.std.proofs.KnownBytes.{Consumes-trans}
-use Rattle.std.proofs.lemmas.List.{length-append, length-drop, nil_from_length}
 use Rattle.std.proofs.lemmas.Nat.{from_be_bytes-to_be_bytes_4}
-use Rattle.wal_shape.specs.Spelling.{number_text}
 use Rattle.wal_shape.proofs.Numbers.{IsBytes, IsBytes-drop, IsBytes-take, wide32}
-use Rattle.wal_frame.specs.Frame.{envelope}
-use Rattle.wal_frame.specs.Front.{IsPart}
-use Rattle.wal_frame.specs.Stream.{size_in}
-use Rattle.wal_frame.proofs.StreamLaws.{head_parts}
-use Rattle.wal_serve.specs.declared.taking.Took.{Took}
 use Rattle.wal_serve.specs.declared.taking.Took.TheVariants as took
-use Rattle.wal_serve.specs.declared.envelopes.Lack.{Lack}
 use Rattle.wal_serve.specs.declared.envelopes.Lack.TheVariants.{Nothing, Wrong, Cut, TooLong, Failed}
-use Rattle.wal_serve.specs.inside.Taking.{Takes, whole, ended, too_long, failed}
+use Rattle.wal_serve.specs.inside.Taking.{too_long, failed}
 use Rattle.wal_serve.proofs.TakingLaws.{took_whole}
-use Rattle.wal_serve.specs.inside.Payload.{PayloadRoom}
 use Rattle.wal_serve.specs.inside.Envelopes as env
-use Rattle.wal_serve.specs.inside.Envelopes.{Lacks, lack_of, IsHead, IsEnvelope}
 
 -- the fields behind the first byte
 pub head_of : (fields : List ℕ) → IsBytes fields → length fields ≡ 6 → IsHead (size_in (0x57 ∷ fields)) (0x57 ∷ fields)

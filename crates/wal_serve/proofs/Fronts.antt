@@ -1,9 +1,5 @@
 -- Two streams at the front of the same bytes: they are the same, or one of them goes on where the other ends.
-use Rattle.std.proofs.Common.{◌≡◌, ℕ, ◌+◌, ◌≤◌, List, [], ◌∷◌, ◌++◌, length, take, drop, Some, refl, sym, ap, ◌∙◌, append_assoc, arith}
-use Rattle.std.proofs.lemmas.List.{length-append, take_at}
-use Rattle.wal_frame.specs.Frame.{envelope}
-use Rattle.wal_frame.specs.Stream.{IsPayload, IsStream}
-use Rattle.wal_frame.proofs.StreamLaws.{envelope_read}
+use Rattle.wal_serve.proofs.Common.{◌≡◌, ℕ, ◌+◌, ◌≤◌, List, [], ◌∷◌, ◌++◌, length, take, drop, Some, refl, sym, ap, ◌∙◌, append_assoc, arith, length-append, take_at, envelope, IsPayload, IsStream, envelope_read}
 
 parts_of : (a b : List ℕ × List ℕ) → Some a ≡ Some b → (a.0 ≡ b.0) × (a.1 ≡ b.1)
 parts_of a b same = (let pairs : a ≡ b = cc in (ap (λ (e : List ℕ × List ℕ). e.0) pairs, ap (λ (e : List ℕ × List ℕ). e.1) pairs))

@@ -1,30 +1,14 @@
 -- What serving answers leaves the epoch of the ledger, and who runs each shard in it, as they are.
-use Rattle.std.proofs.Common.{◌≡◌, ℕ, ◌<◌, Bool, true, List, Option, None, Result, Ok, Err, refl, ap, ◌∙◌, arith}
-use Rattle.wal_shape.specs.declared.metadata.BlobId.{BlobId}
-use Rattle.wal_shape.specs.declared.text.MetaClash.{MetaClash}
+use Rattle.wal_serve.proofs.Common.{◌≡◌, ℕ, ◌<◌, Bool, true, List, Option, None, Result, Ok, Err, refl, ap, ◌∙◌, arith, BlobId, MetaClash, FrameError, Frame, Ack, Attest, RegisterEntry, AckEntry, AttestEntry, read_of, Kind, Holds, Denies, RegisterAnswer, committee_size, Log, LedgerState, reading, owners_at, owners_of, entered, takes_in, Reply, ServeEnd, ServedState, named, ClaimEntered, Entered, Vouched, asked, of_committee, of_none, unbacked, AnswersRequest, AnswersEntry, AnswersFrame, AnswersRead, Replies, Served, Serves, looked_at, more, none, read_past}
 use Rattle.wal_shape.specs.declared.axis.Side.TheVariants.{Now}
-use Rattle.wal_frame.specs.declared.frame.FrameError.{FrameError}
-use Rattle.wal_frame.specs.Frame.{Frame, Ack, Attest, RegisterEntry, AckEntry, AttestEntry}
-use Rattle.wal_frame.specs.Reading.{read_of}
 use Rattle.wal_ledger.specs.declared.entry.Body.{Body}
 use Rattle.wal_ledger.specs.declared.entry.Body.TheVariants.{Register}
-use Rattle.wal_ledger.specs.declared.entry.Kind.{Kind}
-use Rattle.wal_ledger.specs.declared.entry.Kind.TheVariants.{Holds, Denies}
-use Rattle.wal_ledger.specs.declared.answers.RegisterAnswer.{RegisterAnswer}
 use Rattle.wal_ledger.specs.declared.answers.RegisterAnswer.TheVariants as registering
 use Rattle.wal_ledger.specs.declared.answers.AckAnswer.TheVariants as acking
 use Rattle.wal_ledger.specs.declared.answers.AttestAnswer.TheVariants as attesting
 use Rattle.wal_shape.specs.Owners.{node_of}
-use Rattle.wal_ledger.specs.Shards.{committee_size}
-use Rattle.wal_ledger.specs.Ledger.{Log, LedgerState, reading, owners_at, owners_of, entered, takes_in}
 use Rattle.wal_ledger.specs.Answers.{Registers, claim_of}
 use Rattle.wal_ledger.proofs.HandoverEntries.{is_plain, plain_stays}
-use Rattle.wal_serve.specs.declared.reply.Reply.{Reply}
-use Rattle.wal_serve.specs.declared.serving.ServeEnd.{ServeEnd}
-use Rattle.wal_serve.specs.State.{ServedState, named}
-use Rattle.wal_serve.specs.Requests.{ClaimEntered, Entered, Vouched, asked, of_committee, of_none, unbacked}
-use Rattle.wal_serve.specs.Answers.{AnswersRequest, AnswersEntry, AnswersFrame, AnswersRead}
-use Rattle.wal_serve.specs.Serving.{Replies, Served, Serves, looked_at, more, none, read_past}
 
 -- the epoch in which blobs are read is the same, and so are the nodes of its shards
 pub record KeepsEpoch (old new : Log) : Type 0 where

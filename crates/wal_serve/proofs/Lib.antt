@@ -12,3 +12,4 @@ pub mod RequestLaws
 pub mod RoomLaws
 pub mod KeptEpoch
 pub mod NeverWants
+mod Common

@@ -1,33 +1,12 @@
 -- Over a keep that never wants memory no frame that serving answers says so.
-use Rattle.std.proofs.Common.{◌≡◌, ℕ, ⊎_elim, Bool, false, List, [], ◌∷◌, ◌++◌, length, Option, Some, None, Result, Ok, Err, sym, ap, subst, arith}
-use Rattle.std.proofs.lemmas.Bool.{false≢true}
+use Rattle.wal_serve.proofs.Common.{◌≡◌, ℕ, ⊎_elim, Bool, false, List, [], ◌∷◌, ◌++◌, length, Option, Some, None, Result, Ok, Err, sym, ap, subst, arith, false≢true, BlobId, MetaClash, Axis, FrameError, Frame, Metadata, Sliver, Proof, Read, Symbol, Ack, Attest, Forget, RegisterEntry, AckEntry, AttestEntry, metadata_kind, metadata_frame, read_of, Kind, Holds, Denies, RegisterAnswer, Log, LedgerState, Contents, parts_at, Parts, PutAnswer, OpeningReply, SymbolReplies, given, metadata_reply, not_held, payload_if, primary_reply, proof_reply, read_reply_of, PutDesk, PutsOrWants, Reply, ServedState, named, IsRegisterReply, clash_text, done, malformed, no_memory, no_request, outcome_text, overlong, put_reply, reply_text, ClaimEntered, Entered, Forgets, Vouched, AnswersRequest, AnswersEntry, AnswersFrame, AnswersPut, AnswersRead, IsReplyOutcome, IsReplied, NeverWants, Replies, Served, looked_at, more, none, read_past}
 use Rattle.std.specs.List.{Contains}
 use Rattle.std.proofs.lemmas.List.Elements.{Contains-append_cases, Contains-push_cases}
-use Rattle.wal_shape.specs.declared.metadata.BlobId.{BlobId}
-use Rattle.wal_shape.specs.declared.text.MetaClash.{MetaClash}
-use Rattle.wal_shape.specs.declared.axis.Axis.{Axis}
 use Rattle.wal_shape.specs.declared.shape.Format.{Format}
 use Rattle.wal_shape.specs.declared.shape.Format.TheVariants.{One, Two}
 use Rattle.wal_shape.specs.MetadataReading.{spelled_metadata}
-use Rattle.wal_frame.specs.declared.frame.FrameError.{FrameError}
-use Rattle.wal_frame.specs.Frame.{Frame, Metadata, Sliver, Proof, Read, Symbol, Ack, Attest, Forget, RegisterEntry, AckEntry, AttestEntry, metadata_kind, metadata_frame}
-use Rattle.wal_frame.specs.Reading.{read_of}
-use Rattle.wal_ledger.specs.declared.entry.Kind.{Kind}
-use Rattle.wal_ledger.specs.declared.entry.Kind.TheVariants.{Holds, Denies}
-use Rattle.wal_ledger.specs.declared.answers.RegisterAnswer.{RegisterAnswer}
-use Rattle.wal_ledger.specs.Ledger.{Log, LedgerState}
-use Rattle.wal_store.specs.Contents.{Contents, parts_at}
-use Rattle.wal_store.specs.Parts.{Parts}
-use Rattle.wal_shard.specs.declared.answers.PutAnswer.{PutAnswer}
 use Rattle.wal_shard.specs.declared.answers.PutAnswer.TheVariants as putting
-use Rattle.wal_shard.specs.Holding.{OpeningReply, SymbolReplies, given, metadata_reply, no_shard, not_held, payload_if, primary_reply, proof_reply, read_reply_of}
-use Rattle.wal_shard.specs.Putting.{PutDesk, PutsOrWants}
-use Rattle.wal_serve.specs.declared.reply.Reply.{Reply}
-use Rattle.wal_serve.specs.State.{ServedState, named}
-use Rattle.wal_serve.specs.Reply.{IsRegisterReply, clash_text, done, malformed, no_memory, no_request, outcome_text, overlong, put_reply, reply_text}
-use Rattle.wal_serve.specs.Requests.{ClaimEntered, Entered, Forgets, Vouched}
-use Rattle.wal_serve.specs.Answers.{AnswersRequest, AnswersEntry, AnswersFrame, AnswersPut, AnswersRead, IsReplyOutcome, IsReplied}
-use Rattle.wal_serve.specs.Serving.{NeverWants, Replies, Served, looked_at, more, none, read_past}
+use Rattle.wal_shard.specs.Holding.{no_shard}
 
 -- ---- frames
 

@@ -1,17 +1,6 @@
 -- Where a source tells its bytes, serving ends in one way, if the table has one answer to each payload.
-use Rattle.std.proofs.Common.{◌≡◌, ℕ, ◌+◌, ◌<◌, ◌≤◌, List, [], ◌∷◌, ◌++◌, length, Option, Some, None, refl, sym, ap, subst, ◌∙◌, append_assoc, append-nil, arith, true, true≢false}
-use Rattle.std.proofs.lemmas.List.{length-append}
-use Rattle.std.specs.Prelude.{is_some}
-use Rattle.wal_shape.specs.declared.text.MetaClash.{MetaClash}
-use Rattle.wal_frame.specs.Frame.{envelope}
-use Rattle.wal_frame.specs.Front.{IsPart}
-use Rattle.wal_frame.specs.Stream.{IsPayload, IsStream}
-use Rattle.wal_serve.specs.declared.serving.ServeEnd.{ServeEnd}
-use Rattle.wal_serve.specs.declared.serving.ServeEnd.TheVariants.{Done, Malformed, TooLong, Collision}
+use Rattle.wal_serve.proofs.Common.{◌≡◌, ℕ, ◌+◌, ◌<◌, ◌≤◌, List, [], ◌∷◌, ◌++◌, length, Option, Some, None, refl, sym, ap, subst, ◌∙◌, append_assoc, append-nil, arith, true, true≢false, length-append, is_some, MetaClash, envelope, IsPart, IsPayload, IsStream, ServeEnd, Done, Malformed, TooLong, Collision, Serves, Table, HasOneServing, SameEnd, SameServing, is_collision, IsSingle}
 use Rattle.wal_serve.specs.Serving as serving
-use Rattle.wal_serve.specs.Serving.{Serves, Table}
-use Rattle.wal_serve.specs.Determined.{HasOneServing, SameEnd, SameServing, is_collision}
-use Rattle.wal_serve.specs.inside.Determined.{IsSingle}
 use Rattle.wal_serve.proofs.Fronts as fronts
 use Rattle.wal_serve.proofs.Fronts.{Compared, Longer, compared, same_front, shorter_front}
 use Rattle.wal_serve.proofs.OneServed.{Goes, one_going, served_goes, stopped_before}

@@ -1,26 +1,10 @@
 -- What a shard and a ledger answer is one thing, but for the two texts of a collision.
-use Rattle.std.proofs.Common.{◌≡◌, ℕ, false, List, Result, Ok, Err, refl, arith}
-use Rattle.std.specs.Prelude.{⊤}
-use Rattle.wal_shape.specs.declared.metadata.BlobId.{BlobId}
-use Rattle.wal_shape.specs.declared.axis.Axis.{Axis}
-use Rattle.wal_shape.specs.declared.text.MetaClash.{MetaClash}
+use Rattle.wal_serve.proofs.Common.{◌≡◌, ℕ, false, List, Result, Ok, Err, refl, arith, ⊤, BlobId, Axis, MetaClash, Frame, Parts, Contents, Kind, Holds, Denies, Log, LedgerState, PutAnswer, OpeningReply, given, not_held, SymbolReplies, PutDesk, PutsOrWants, Reply, ServedState, put_reply, ClaimEntered, Entered, Forgets, Registered, Vouched}
 use Rattle.wal_commit.specs.Held.{IsOpeningOf}
 use Rattle.wal_commit.proofs.HonestOpenings.{one_opening}
-use Rattle.wal_frame.specs.Frame.{Frame}
-use Rattle.wal_store.specs.Parts.{Parts}
-use Rattle.wal_store.specs.Contents.{Contents}
-use Rattle.wal_ledger.specs.declared.entry.Kind.{Kind}
-use Rattle.wal_ledger.specs.declared.entry.Kind.TheVariants.{Holds, Denies}
-use Rattle.wal_ledger.specs.Ledger.{Log, LedgerState}
-use Rattle.wal_shard.specs.declared.answers.PutAnswer.{PutAnswer}
-use Rattle.wal_shard.specs.Holding.{OpeningReply, given, not_held, no_shard, SymbolReplies}
-use Rattle.wal_shard.specs.Putting.{PutDesk, PutsOrWants}
+use Rattle.wal_shard.specs.Holding.{no_shard}
 use Rattle.wal_shard.proofs.Soundness.{one_metadata}
 use Rattle.wal_shard.proofs.OnePut.{never_wants, none_some, puts_once, some_is}
-use Rattle.wal_serve.specs.declared.reply.Reply.{Reply}
-use Rattle.wal_serve.specs.State.{ServedState}
-use Rattle.wal_serve.specs.Reply.{put_reply}
-use Rattle.wal_serve.specs.Requests.{ClaimEntered, Entered, Forgets, Registered, Vouched}
 
 -- one reply; the texts of two collisions may differ
 abbrev pub SameReply : Result Reply MetaClash → Result Reply MetaClash → Type 0

@@ -1,15 +1,6 @@
 -- A table that has one answer to each payload serves payloads in one way.
-use Rattle.std.proofs.Common.{◌≡◌, ◌⊎◌, ℕ, inl, inr, List, [], ◌∷◌, ◌++◌, length, Option, Some, None, refl, sym, ap, subst, ◌∙◌, append_assoc, append-nil, arith, true≢false}
-use Rattle.std.proofs.lemmas.Bool.{false≢true}
-use Rattle.std.proofs.lemmas.List.{length-append}
-use Rattle.std.specs.Prelude.{is_some}
-use Rattle.wal_shape.specs.declared.text.MetaClash.{MetaClash}
-use Rattle.wal_frame.specs.Stream.{IsStream}
-use Rattle.wal_frame.proofs.StreamLaws.{stream_grows}
-use Rattle.wal_serve.specs.Reply.{clash_text}
+use Rattle.wal_serve.proofs.Common.{◌≡◌, ◌⊎◌, ℕ, inl, inr, List, [], ◌∷◌, ◌++◌, length, Option, Some, None, refl, sym, ap, subst, ◌∙◌, append_assoc, append-nil, arith, true≢false, false≢true, length-append, is_some, MetaClash, IsStream, stream_grows, clash_text, Table, Replies, Served, IsSingle, SameAnswer}
 use Rattle.wal_serve.specs.Serving as serving
-use Rattle.wal_serve.specs.Serving.{Table, Replies, Served}
-use Rattle.wal_serve.specs.inside.Determined.{IsSingle, SameAnswer}
 
 module _ {C : Type 0} (Answer : Table C) (room : ℕ) where
   -- the first payload stops serving

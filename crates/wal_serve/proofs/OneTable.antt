@@ -1,21 +1,5 @@
 -- THE TABLE of requests has one answer to each payload, over a keep that never wants memory.
-use Rattle.std.proofs.Common.{◌≡◌, ℕ, Bool, false, List, [], Option, None, Result, Ok, Err, refl, sym, ap, subst, ◌∙◌, true≢false}
-use Rattle.std.proofs.lemmas.Bool.{false≢true}
-use Rattle.std.specs.Prelude.{is_some}
-use Rattle.wal_shape.specs.declared.text.MetaClash.{MetaClash}
-use Rattle.wal_frame.specs.declared.frame.FrameError.{FrameError}
-use Rattle.wal_frame.specs.Frame.{Frame, Metadata, Sliver, Proof, Read, Symbol, Ack, Attest, Forget, RegisterEntry, AckEntry, AttestEntry}
-use Rattle.wal_frame.specs.Reading.{read_of}
-use Rattle.wal_ledger.specs.declared.entry.Kind.TheVariants.{Holds, Denies}
-use Rattle.wal_ledger.specs.Ledger.{LedgerState}
-use Rattle.wal_shard.specs.declared.answers.PutAnswer.{PutAnswer}
-use Rattle.wal_shard.specs.State.{desk}
-use Rattle.wal_store.specs.Contents.{parts_at}
-use Rattle.wal_serve.specs.declared.reply.Reply.{Reply}
-use Rattle.wal_serve.specs.State.{ServedState, named}
-use Rattle.wal_serve.specs.Reply.{malformed, no_request, put_reply}
-use Rattle.wal_serve.specs.Answers.{AnswersRequest, AnswersEntry, AnswersFrame, AnswersPut, AnswersRead, IsReplyOutcome, IsReplied}
-use Rattle.wal_serve.specs.inside.Determined.{IsSingle, SameAnswer}
+use Rattle.wal_serve.proofs.Common.{◌≡◌, ℕ, Bool, false, List, [], Option, None, Result, Ok, Err, refl, sym, ap, subst, ◌∙◌, true≢false, false≢true, is_some, MetaClash, FrameError, Frame, Metadata, Sliver, Proof, Read, Symbol, Ack, Attest, Forget, RegisterEntry, AckEntry, AttestEntry, read_of, Holds, Denies, LedgerState, PutAnswer, desk, parts_at, Reply, ServedState, named, malformed, no_request, put_reply, AnswersRequest, AnswersEntry, AnswersFrame, AnswersPut, AnswersRead, IsReplyOutcome, IsReplied, IsSingle, SameAnswer}
 use Rattle.wal_serve.proofs.OneReply.{SameReply, one_entered, one_forget, one_put, one_registered, one_symbols, one_vouched}
 
 -- an answer that does not end serving

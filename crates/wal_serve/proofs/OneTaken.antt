@@ -1,16 +1,6 @@
 -- What was taken is answered in one way, whatever ended serving, if the table has one answer to each payload.
-use Rattle.std.proofs.Common.{◌≡◌, inl, inr, ℕ, ◌+◌, ◌≤◌, List, [], ◌∷◌, ◌++◌, length, Option, Some, None, refl, sym, ap, subst, ◌∙◌, append-nil, arith}
-use Rattle.std.proofs.lemmas.List.{length-append}
-use Rattle.std.specs.Prelude.{⊤}
-use Rattle.wal_shape.specs.declared.text.MetaClash.{MetaClash}
-use Rattle.wal_frame.specs.Frame.{envelope}
-use Rattle.wal_frame.specs.Front.{IsPart}
-use Rattle.wal_frame.specs.Stream.{IsPayload, IsStream}
-use Rattle.wal_serve.specs.declared.serving.ServeEnd.{ServeEnd}
+use Rattle.wal_serve.proofs.Common.{◌≡◌, inl, inr, ℕ, ◌+◌, ◌≤◌, List, [], ◌∷◌, ◌++◌, length, Option, Some, None, refl, sym, ap, subst, ◌∙◌, append-nil, arith, length-append, ⊤, MetaClash, envelope, IsPart, IsPayload, IsStream, ServeEnd, Serves, Table, AnswersOnce, SameFrames, IsSingle, SameAnswer}
 use Rattle.wal_serve.specs.Serving as serving
-use Rattle.wal_serve.specs.Serving.{Serves, Table}
-use Rattle.wal_serve.specs.Determined.{AnswersOnce, SameFrames}
-use Rattle.wal_serve.specs.inside.Determined.{IsSingle, SameAnswer}
 use Rattle.wal_serve.proofs.Fronts as fronts
 use Rattle.wal_serve.proofs.Fronts.{Compared, Longer, compared}
 use Rattle.wal_serve.proofs.OneServed.{Goes, one_going, served_goes}

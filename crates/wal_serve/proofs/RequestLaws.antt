@@ -1,21 +1,7 @@
 -- What the requests do that have one answer.
-use Rattle.std.proofs.Common.{◌≡◌, ℕ, ◌<◌, Bool, List, [], ◌∷◌, None, Result, Ok, Err, refl, ap, subst}
-use Rattle.wal_shape.specs.declared.metadata.BlobId.{BlobId}
-use Rattle.wal_ledger.specs.declared.entry.Kind.{Kind}
-use Rattle.wal_ledger.specs.Ledger.{LedgerState}
-use Rattle.wal_ledger.specs.Shards.{committee_size}
-use Rattle.wal_frame.specs.Frame.{Frame}
-use Rattle.wal_shape.specs.declared.text.MetaClash.{MetaClash}
-use Rattle.wal_shard.specs.declared.answers.PutAnswer.{PutAnswer}
-use Rattle.wal_shard.specs.Putting.{PutsOrWants, ShowsTexts}
-use Rattle.wal_shard.specs.State.{ShardState, desk, with_contents}
+use Rattle.wal_serve.proofs.Common.{◌≡◌, ℕ, ◌<◌, Bool, List, [], ◌∷◌, None, Result, Ok, Err, refl, ap, subst, BlobId, Kind, LedgerState, committee_size, Frame, MetaClash, PutAnswer, PutsOrWants, ShowsTexts, ShardState, desk, with_contents, Reply, ServedState, with_ledger, done, refused, no_shard, put_reply, refusal_reply, reply_text, outcome_text, clash_in, AnswersEntry, AnswersForget, AnswersPut, ClaimEntered, Vouched, unbacked, asked, Entered, of_none, forgotten, kept}
 use Rattle.wal_shard.specs.declared.answers.AckRefusal.{AckRefusal}
 use Rattle.wal_shard.specs.Vouching.{Vouches, MayForget, without_slivers}
-use Rattle.wal_serve.specs.declared.reply.Reply.{Reply}
-use Rattle.wal_serve.specs.State.{ServedState, with_ledger}
-use Rattle.wal_serve.specs.Reply.{done, refused, no_shard, put_reply, refusal_reply, reply_text, outcome_text, clash_in}
-use Rattle.wal_serve.specs.Answers.{AnswersEntry, AnswersForget, AnswersPut}
-use Rattle.wal_serve.specs.Requests.{ClaimEntered, Vouched, unbacked, asked, Entered, of_none, forgotten, kept}
 
 -- the shard's refusal; the ledger is lent
 pub vouched_not : (kind : Kind) (s : ServedState) (lent : LedgerState) (id : BlobId) (why : AckRefusal) (r : Reply) → lent ≡ s.ledger → Vouches kind lent.log s.shard.contents id (Err why)

@@ -1,18 +1,13 @@
 -- The room for a payload is enough for every frame that can verify.
-use Rattle.std.proofs.Common.{ℕ, ◌+◌, ◌*◌, ◌<◌, ◌≤◌, inl, inr, List, length, subst, arith}
+use Rattle.wal_serve.proofs.Common.{ℕ, ◌+◌, ◌*◌, ◌<◌, ◌≤◌, inl, inr, List, length, subst, arith, cases_lt, length-append, proof_text, Frame, IsFrame, frame_text, sliver_frame, bad_proof_most, sliver_most}
 use Rattle.std.proofs.Math.Nat.{mul-le-mul_right}
-use Rattle.std.proofs.lemmas.Bool.{cases_lt}
-use Rattle.std.proofs.lemmas.List.{length-append}
 use Rattle.wal_shape.specs.Shape.{row_count, column_count, symbol_size, most_bytes}
 use Rattle.wal_shape.specs.Metadata.{BlobMetadata, IsMetadata}
-use Rattle.wal_shape.specs.Spelling.{proof_text}
 use Rattle.wal_shape.proofs.ShapeLaws.{symbol_size-least}
 use Rattle.wal_shape.proofs.MetadataLaws.{length-metadata_text, text_size-most}
 use Rattle.wal_frame.specs.Frame as frame
-use Rattle.wal_frame.specs.Frame.{Frame, IsFrame, frame_text, sliver_frame}
 use Rattle.wal_frame.proofs.FieldLaws.{length-target}
 use Rattle.wal_frame.proofs.FrameLaws.{length-sliver_frame}
-use Rattle.wal_shard.proofs.Sizes.{bad_proof_most, sliver_most}
 use Rattle.wal_serve.specs.Room.{desk_room, AsksOnly, MayVerify}
 
 -- the room is more than the longest metadata of all has

@@ -1,26 +1,9 @@
 -- Serving, envelope after envelope, and how it ends.
-use Rattle.std.proofs.Common.{◌≡◌, ℕ, ◌+◌, ◌-◌, ◌<◌, ◌≤◌, List, [], ◌∷◌, ◌++◌, length, take, Option, Some, None, refl, sym, ap, subst, ◌∙◌, append_assoc, append-nil, arith}
-use Rattle.std.specs.Io.KnownBytes.{Consumes, Appends, IsAtEnd}
-use Rattle.std.proofs.KnownBytes.{Consumes-trans, Consumes-nil, Appends-trans, Appends-nil}
-use Rattle.std.proofs.lemmas.List.{length-append}
-use Rattle.std.proofs.lemmas.Grind.{flat_map-append}
-use Rattle.wal_shape.specs.declared.text.MetaClash.{MetaClash}
-use Rattle.wal_frame.specs.Frame.{envelope}
-use Rattle.wal_frame.specs.Stream.{IsPayload, IsStream, IsMalformed}
+use Rattle.wal_serve.proofs.Common.{◌≡◌, ℕ, ◌+◌, ◌-◌, ◌<◌, ◌≤◌, List, [], ◌∷◌, ◌++◌, length, take, Option, Some, None, refl, sym, ap, subst, ◌∙◌, append_assoc, append-nil, arith, Consumes, Appends, IsAtEnd, Consumes-trans, Consumes-nil, Appends-trans, Appends-nil, length-append, flat_map-append, MetaClash, envelope, IsPayload, IsStream, IsMalformed, Lack, ServeEnd, WriteFault, Collision, clash_text, sent, PayloadRoom, Lacks, nothing, wrong, cut, too_long, failed, IsEnvelope, Table, Replies, Served, none, more, Serves, BreaksOff, Wrote, IsServed, EndsAt, EndsAtKnown, StopsWith, IsServing, RepliesInto, end_without, Stays}
 use Rattle.wal_store.specs.declared.contract.Keep as keep
 use Rattle.wal_tree.specs.declared.hash.Hash32 as hash
-use Rattle.wal_serve.specs.declared.envelopes.Lack.{Lack}
 use Rattle.wal_serve.specs.declared.session.Session.{Session}
-use Rattle.wal_serve.specs.declared.serving.ServeEnd.{ServeEnd}
-use Rattle.wal_serve.specs.declared.serving.ServeEnd.TheVariants.{WriteFault, Collision}
-use Rattle.wal_serve.specs.Reply.{clash_text}
-use Rattle.wal_serve.specs.Saying.{sent}
-use Rattle.wal_serve.specs.inside.Payload.{PayloadRoom}
-use Rattle.wal_serve.specs.inside.Envelopes.{Lacks, nothing, wrong, cut, too_long, failed, IsEnvelope}
 use Rattle.wal_serve.specs.Serving as serving
-use Rattle.wal_serve.specs.Serving.{Table, Replies, Served, none, more, Serves, BreaksOff, Wrote, IsServed, EndsAt, EndsAtKnown}
-use Rattle.wal_serve.specs.inside.Serving.{StopsWith, IsServing, RepliesInto, end_without}
-use Rattle.wal_serve.specs.inside.Session.{Stays}
 use Rattle.wal_port.specs.Appending.{AppendsPart}
 use Rattle.wal_serve.proofs.OneServed.{served_goes}
 use Rattle.wal_serve.proofs.OneEnd.{first_byte, part_begins}

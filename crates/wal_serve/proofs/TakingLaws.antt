@@ -1,15 +1,10 @@
 -- Bytes that are taken in pieces.
-use Rattle.std.proofs.Common.{◌≡◌, ℕ, ◌+◌, ◌-◌, ◌<◌, ◌≤◌, inl, inr, List, [], ◌∷◌, ◌++◌, length, take, drop, Option, refl, sym, ap, subst, ◌∙◌, append_assoc, append-nil, arith}
-use Rattle.std.specs.Io.KnownBytes.{Consumes, Keeps, IsAtEnd}
-use Rattle.std.proofs.KnownBytes.{Consumes-trans, Consumes-kept, Consumes-nil}
-use Rattle.std.proofs.lemmas.List.{length-append, length-drop, nil_from_length}
+use Rattle.wal_serve.proofs.Common.{◌≡◌, ℕ, ◌+◌, ◌-◌, ◌<◌, ◌≤◌, inl, inr, List, [], ◌∷◌, ◌++◌, length, take, drop, Option, refl, sym, ap, subst, ◌∙◌, append_assoc, append-nil, arith, Consumes, Keeps, IsAtEnd, Consumes-trans, Consumes-kept, Consumes-nil, length-append, length-drop, nil_from_length, take-append-add, take-take, take_all, length-take-le, Took, Takes, whole, ended}
 use Rattle.std.proofs.lemmas.Slice.{take-put_mid}
-use Rattle.std.proofs.Math.Seq.{take-append-add, take-take, take_all, length-take-le}
 use borrow.Rule.Slice.PartMut.{put_mid, same_len_mid}
 use Rattle.wal_port.specs.Faults.{Rose}
-use Rattle.wal_serve.specs.declared.taking.Took.{Took}
 use Rattle.wal_serve.specs.declared.taking.Took.TheVariants.{Whole, Ended, TooLong, Failed}
-use Rattle.wal_serve.specs.inside.Taking.{Takes, whole, ended, too_long, failed}
+use Rattle.wal_serve.specs.inside.Taking.{too_long, failed}
 
 -- a count that did not fall before it rose rose
 pub rose_since : (a b c : ℕ) → a ≤ b → Rose b c → Rose a c

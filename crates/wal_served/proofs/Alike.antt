@@ -1,34 +1,8 @@
 -- States that are alike at an identifier answer a request of it alike, and are alike then.
-use Rattle.std.proofs.Common.{◌≡◌, ℕ, ◌-◌, ◌<◌, Bool, true, false, cond, List, [], ◌∷◌, length, Option, Some, None, Result, Ok, Err, inl, inr, refl, sym, ap, subst, ◌∙◌, arith}
-use Rattle.std.specs.Prelude.{IfSome}
-use Rattle.std.proofs.lemmas.Bool.{cases_lt}
-use Rattle.wal_shape.specs.declared.metadata.BlobId.{BlobId}
-use Rattle.wal_shape.specs.declared.part.Part.{Part}
+use Rattle.wal_served.proofs.Common.{◌≡◌, ℕ, ◌-◌, ◌<◌, Bool, true, false, cond, List, [], ◌∷◌, length, Option, Some, None, Result, Ok, Err, inl, inr, refl, sym, ap, subst, ◌∙◌, arith, IfSome, cases_lt, BlobId, Part, MetaClash, FrameError, Frame, Metadata, Sliver, Opening, Proof, Read, Symbol, Ack, Attest, Forget, Answer, Clash, RegisterEntry, AckEntry, AttestEntry, stored_bytes, Kind, Holds, Denies, LedgerState, is_live, HasRoom, Parts, pages_for, Contents, parts_at, part_at, with_bytes, cost, free_of, needed_for, AckRefusal, PutAnswer, SymbolReplies, read_reply_of, has_proof, IsAccepted, IsHeldIn, PutsOrWants, ShowsTexts, Verifies, put_id, put_part, desk, Vouches, backs, MayForget, without_slivers, ServedState, holding, with_ledger, named, refused, done, put_reply, ClaimEntered, Entered, Forgets, Registered, Vouched, unbacked, asked, forgotten, kept, AnswersRead, AnswersFrame, AnswersPut, AnswersEntry, AnswersForget, IsReplyOutcome, IsReplied, TellsWant, answer_text, about, about_read, AlikeAt, RoomFor, pages_in, entries_in, asks_entry, tells, tells_entry}
 use Rattle.wal_shape.specs.declared.part.Part.TheVariants as parts
-use Rattle.wal_shape.specs.declared.text.MetaClash.{MetaClash}
-use Rattle.wal_frame.specs.declared.frame.FrameError.{FrameError}
-use Rattle.wal_frame.specs.Frame.{Frame, Metadata, Sliver, Opening, Proof, Read, Symbol, Ack, Attest, Forget, Answer, Clash, RegisterEntry, AckEntry, AttestEntry}
-use Rattle.wal_frame.specs.Stored.{stored_bytes}
-use Rattle.wal_ledger.specs.declared.entry.Kind.{Kind}
-use Rattle.wal_ledger.specs.declared.entry.Kind.TheVariants.{Holds, Denies}
-use Rattle.wal_ledger.specs.Ledger.{LedgerState, is_live}
-use Rattle.wal_store.specs.Answer.{HasRoom}
-use Rattle.wal_store.specs.Parts.{Parts, pages_for}
-use Rattle.wal_store.specs.Contents.{Contents, parts_at, part_at, with_bytes, cost, free_of, needed_for}
-use Rattle.wal_shard.specs.declared.answers.AckRefusal.{AckRefusal}
 use Rattle.wal_shard.specs.declared.answers.AckRefusal.TheVariants as refusing
-use Rattle.wal_shard.specs.declared.answers.PutAnswer.{PutAnswer}
 use Rattle.wal_shard.specs.declared.answers.PutAnswer.TheVariants as putting
-use Rattle.wal_shard.specs.Holding.{SymbolReplies, read_reply_of, has_proof}
-use Rattle.wal_shard.specs.Putting.{IsAccepted, IsHeldIn, PutsOrWants, ShowsTexts, Verifies, put_id, put_part}
-use Rattle.wal_shard.specs.State.{desk}
-use Rattle.wal_shard.specs.Vouching.{Vouches, backs, MayForget, without_slivers}
-use Rattle.wal_serve.specs.State.{ServedState, holding, with_ledger, named}
-use Rattle.wal_serve.specs.Reply.{refused, done, put_reply}
-use Rattle.wal_serve.specs.Requests.{ClaimEntered, Entered, Forgets, Registered, Vouched, unbacked, asked, forgotten, kept}
-use Rattle.wal_serve.specs.Answers.{AnswersRead, AnswersFrame, AnswersPut, AnswersEntry, AnswersForget, IsReplyOutcome, IsReplied}
-use Rattle.wal_served.specs.Steps.{TellsWant, answer_text}
-use Rattle.wal_served.specs.Local.{about, about_read, AlikeAt, RoomFor, pages_in, entries_in, asks_entry, tells, tells_entry}
 use Rattle.wal_served.proofs.Replies.{Reply}
 use Rattle.wal_served.proofs.Apart.{alike_one, stored_there, slivers_gone}
 use Rattle.wal_served.proofs.AlikeLedgers.{Follows, so_too, short, joined_ledgers, same_live, same_until, same_writing, open_too, invalid_too, claim_entered, registered_too, entered_too, rewritten}

@@ -1,27 +1,9 @@
 -- THE FIRST LAW: states that are alike at an identifier answer alike what regards it.
-use Rattle.std.proofs.Common.{◌≡◌, ℕ, ◌≤◌, Bool, arith, true, false, List, ◌∷◌, Option, Some, None, Result, Ok, Err, ◌⊎◌, inl, inr, refl, sym, ap, ◌∙◌}
-use Rattle.std.specs.Prelude.{is_some, IfSome}
-use Rattle.std.proofs.lemmas.Bool.{false≢true}
-use Rattle.wal_shape.specs.declared.metadata.BlobId.{BlobId}
-use Rattle.wal_shape.specs.declared.text.MetaClash.{MetaClash}
-use Rattle.wal_frame.specs.declared.frame.FrameError.{FrameError}
-use Rattle.wal_frame.specs.Frame.{Frame, Metadata, Sliver, Proof}
-use Rattle.wal_frame.specs.Reading.{read_of}
-use Rattle.wal_frame.specs.Stored.{stored_bytes}
-use Rattle.wal_store.specs.Contents.{Contents, needed_for}
-use Rattle.wal_shard.specs.declared.answers.PutAnswer.{PutAnswer}
+use Rattle.wal_served.proofs.Common.{◌≡◌, ℕ, ◌≤◌, Bool, arith, true, false, List, ◌∷◌, Option, Some, None, Result, Ok, Err, ◌⊎◌, inl, inr, refl, sym, ap, ◌∙◌, is_some, IfSome, false≢true, BlobId, MetaClash, FrameError, Frame, Metadata, Sliver, Proof, read_of, stored_bytes, Contents, needed_for, PutAnswer, PutDesk, PutsOrWants, ShowsTexts, put_id, desk, ServedState, put_reply, AnswersRequest, AnswersRead, AnswersFrame, AnswersPut, read_stops, TellsWant, AlikeAt, AnswersAlike, AnswersWithRoom, RoomFor, WantsForMore, tells, tells_entry}
 use Rattle.wal_shard.specs.declared.answers.PutAnswer.TheVariants as putting
-use Rattle.wal_shard.specs.Putting.{PutDesk, PutsOrWants, ShowsTexts, put_id}
-use Rattle.wal_shard.specs.State.{desk}
-use Rattle.wal_serve.specs.State.{ServedState}
-use Rattle.wal_serve.specs.Reply.{put_reply}
-use Rattle.wal_serve.specs.Answers.{AnswersRequest, AnswersRead, AnswersFrame, AnswersPut}
 use Rattle.wal_serve.specs.Determined.{SameButLast, SameFrames}
 use Rattle.wal_serve.specs.inside.Serving.{StopsWith}
-use Rattle.wal_serve.proofs.AnswerLaws.{read_stops}
 use Rattle.wal_serve.proofs.OneTable.{one_table}
-use Rattle.wal_served.specs.Steps.{TellsWant}
-use Rattle.wal_served.specs.Local.{AlikeAt, AnswersAlike, AnswersWithRoom, RoomFor, WantsForMore, tells, tells_entry}
 use Rattle.wal_served.proofs.Alike.{Carried, carries, wants, Fits, fits, full, fits_or_not, read_carried}
 
 -- ---- whether the keep may want memory

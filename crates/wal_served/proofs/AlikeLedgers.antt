@@ -1,26 +1,7 @@
 -- Ledgers that are alike at an identifier answer a request of it alike, and are alike then.
-use Rattle.std.proofs.Common.{◌≡◌, ℕ, ◌<◌, Bool, true, false, List, [], ◌∷◌, inl, inr, refl, sym, ap, ◌∙◌, arith}
-use Rattle.std.proofs.lemmas.Bool.{cases_lt}
-use Rattle.std.proofs.lemmas.List.Sums.{fold_push}
-use Rattle.wal_shape.specs.declared.metadata.BlobId.{BlobId}
-use Rattle.wal_shape.specs.Identifiers.{id_eq}
-use Rattle.wal_ledger.specs.declared.answers.AckAnswer.{AckAnswer}
+use Rattle.wal_served.proofs.Common.{◌≡◌, ℕ, ◌<◌, Bool, true, false, List, [], ◌∷◌, inl, inr, refl, sym, ap, ◌∙◌, arith, cases_lt, fold_push, BlobId, id_eq, AckAnswer, Body, Register, Entry, Kind, Denies, quorum_size, Log, History, LedgerState, reading, writing, names, history_after, own_entries, until_of, is_live, signers, signer_count, entered, takes_in, IsInvalid, IsOpen, MayClaim, MayRegister, Claims, Claimed, acked, claim_of, history_of-epoch, id_same, entry_in, is_plain, plain_stays, Owned, stays, grows, anew, owned, refused, reply_text, ack_reply, ClaimEntered, Registered, Entered, of_committee, of_none, AlikeLedgers, tells_entry}
 use Rattle.wal_ledger.specs.declared.answers.AckAnswer.TheVariants as acking
 use Rattle.wal_ledger.specs.declared.answers.RegisterAnswer.TheVariants as registering
-use Rattle.wal_ledger.specs.declared.entry.Body.{Body}
-use Rattle.wal_ledger.specs.declared.entry.Body.TheVariants.{Register}
-use Rattle.wal_ledger.specs.declared.entry.Entry.{Entry}
-use Rattle.wal_ledger.specs.declared.entry.Kind.{Kind}
-use Rattle.wal_ledger.specs.declared.entry.Kind.TheVariants.{Denies}
-use Rattle.wal_ledger.specs.Shards.{quorum_size}
-use Rattle.wal_ledger.specs.Ledger.{Log, History, LedgerState, reading, writing, names, history_after, own_entries, until_of, is_live, signers, signer_count, entered, takes_in, IsInvalid}
-use Rattle.wal_ledger.specs.Answers.{IsOpen, MayClaim, MayRegister, Claims, Claimed, acked, claim_of}
-use Rattle.wal_ledger.proofs.Handover.{history_of-epoch}
-use Rattle.wal_ledger.proofs.RowsPlace.{id_same}
-use Rattle.wal_ledger.proofs.HandoverEntries.{entry_in, is_plain, plain_stays, Owned, stays, grows, anew, owned}
-use Rattle.wal_serve.specs.Reply.{refused, reply_text, ack_reply}
-use Rattle.wal_serve.specs.Requests.{ClaimEntered, Registered, Entered, of_committee, of_none}
-use Rattle.wal_served.specs.Local.{AlikeLedgers, tells_entry}
 use Rattle.wal_served.proofs.Replies.{Reply}
 use Rattle.wal_served.proofs.BothKinds.{as_claim, of_claim, claim_plain}
 

@@ -1,27 +1,9 @@
 -- What regards another identifier, or none, leaves a state alike; and what replies to readers rest on.
-use Rattle.std.proofs.Common.{◌≡◌, ℕ, Bool, true, false, cond, List, Some, None, Result, refl, sym, ap, ◌∙◌}
+use Rattle.wal_served.proofs.Common.{◌≡◌, ℕ, Bool, true, false, cond, List, Some, None, Result, refl, sym, ap, ◌∙◌, eq_by_cmp, Axis, BlobId, Part, id_cmp, sliver_part, FrameError, Frame, Read, Symbol, read_of, stored_bytes, Parts, with_part, part_of, Contents, parts_at, with_bytes, without_part, OpeningReply, SymbolReplies, given, not_held, no_shard, HoldsMetadata, read_reply_of, put_id, put_part, without_slivers, ServedState, holding, named, AnswersFrame, about_read, AlikeAt, LeavesAlike, RestsOn, ReadsRestOn}
 use Rattle.std.specs.FinMap as map_of
-use Rattle.std.specs.Ordering.{eq_by_cmp}
-use Rattle.wal_shape.specs.declared.axis.Axis.{Axis}
-use Rattle.wal_shape.specs.declared.metadata.BlobId.{BlobId}
-use Rattle.wal_shape.specs.declared.part.Part.{Part}
 use Rattle.wal_shape.specs.declared.part.Part.TheVariants as parts
-use Rattle.wal_shape.specs.Identifiers.{id_cmp}
 use Rattle.wal_shape.specs.Shape.{crossing}
-use Rattle.wal_shape.specs.Part.{sliver_part}
-use Rattle.wal_frame.specs.declared.frame.FrameError.{FrameError}
-use Rattle.wal_frame.specs.Frame.{Frame, Read, Symbol}
-use Rattle.wal_frame.specs.Reading.{read_of}
-use Rattle.wal_frame.specs.Stored.{stored_bytes}
-use Rattle.wal_store.specs.Parts.{Parts, with_part, part_of}
-use Rattle.wal_store.specs.Contents.{Contents, parts_at, with_bytes, without_part}
-use Rattle.wal_shard.specs.Holding.{OpeningReply, SymbolReplies, given, not_held, no_shard, HoldsMetadata, read_reply_of}
-use Rattle.wal_shard.specs.Putting.{put_id, put_part}
-use Rattle.wal_shard.specs.Vouching.{without_slivers}
 use Rattle.wal_shard.proofs.Changes.{ChangesAt, insert_changes, with_parts_changes, changed_there, same_id}
-use Rattle.wal_serve.specs.State.{ServedState, holding, named}
-use Rattle.wal_serve.specs.Answers.{AnswersFrame}
-use Rattle.wal_served.specs.Local.{about_read, AlikeAt, LeavesAlike, RestsOn, ReadsRestOn}
 use Rattle.wal_served.proofs.AlikeLedgers.{alike_itself, apart, other_entered}
 use Rattle.wal_served.proofs.Changes.{Change, no_change, part_stored, slivers_went, entry_made, enter_plain, enter_names, changes}
 

@@ -1,17 +1,7 @@
 -- Acknowledgements and attestations as one: a claim of either kind, by the answer that an acknowledgement would have.
-use Rattle.std.proofs.Common.{◌≡◌, ℕ, true, refl}
-use Rattle.wal_shape.specs.declared.metadata.BlobId.{BlobId}
-use Rattle.wal_shape.specs.Identifiers.{id_eq}
-use Rattle.wal_ledger.specs.declared.answers.AckAnswer.{AckAnswer}
+use Rattle.wal_served.proofs.Common.{◌≡◌, ℕ, true, refl, BlobId, id_eq, AckAnswer, Kind, Holds, Denies, LedgerState, names, Claims, acked, claim_of, is_plain, ack_reply, ClaimEntered}
 use Rattle.wal_ledger.specs.declared.answers.AckAnswer.TheVariants as acking
 use Rattle.wal_ledger.specs.declared.answers.AttestAnswer.TheVariants as attesting
-use Rattle.wal_ledger.specs.declared.entry.Kind.{Kind}
-use Rattle.wal_ledger.specs.declared.entry.Kind.TheVariants.{Holds, Denies}
-use Rattle.wal_ledger.specs.Ledger.{LedgerState, names}
-use Rattle.wal_ledger.specs.Answers.{Claims, acked, claim_of}
-use Rattle.wal_ledger.proofs.HandoverEntries.{is_plain}
-use Rattle.wal_serve.specs.Reply.{ack_reply}
-use Rattle.wal_serve.specs.Requests.{ClaimEntered}
 use Rattle.wal_served.proofs.Replies.{Reply}
 
 abbrev pub IsClaimed : Kind → LedgerState → ℕ → BlobId → Reply → LedgerState → Type 0

@@ -1,35 +1,8 @@
 -- What a payload may change of a state: nothing, a part that is stored, slivers that go, or an entry that is made.
-use Rattle.std.proofs.Common.{◌≡◌, ℕ, ◌<◌, ◌≤◌, Bool, true, List, [], ◌∷◌, Option, Some, None, Result, Ok, Err, ◌⊎◌, inl, inr, refl, ap}
-use Rattle.wal_shape.specs.declared.metadata.BlobId.{BlobId}
-use Rattle.wal_shape.specs.declared.text.MetaClash.{MetaClash}
-use Rattle.wal_shape.specs.Identifiers.{id_eq}
-use Rattle.wal_frame.specs.declared.frame.FrameError.{FrameError}
-use Rattle.wal_frame.specs.Frame.{Frame, Metadata, Sliver, Proof, Symbol, Ack, Attest, Forget, RegisterEntry, AckEntry, AttestEntry, IsFrame}
-use Rattle.wal_frame.specs.Reading.{read_of}
-use Rattle.wal_frame.specs.Stored.{stored_bytes}
-use Rattle.wal_frame.proofs.FrameLaws.{frame_is}
-use Rattle.wal_ledger.specs.declared.answers.AckAnswer.{AckAnswer}
+use Rattle.wal_served.proofs.Common.{◌≡◌, ℕ, ◌<◌, ◌≤◌, Bool, true, List, [], ◌∷◌, Option, Some, None, Result, Ok, Err, ◌⊎◌, inl, inr, refl, ap, BlobId, MetaClash, id_eq, FrameError, Frame, Metadata, Sliver, Proof, Symbol, Ack, Attest, Forget, RegisterEntry, AckEntry, AttestEntry, IsFrame, read_of, stored_bytes, frame_is, AckAnswer, Body, Register, Kind, Holds, Denies, committee_size, LedgerState, names, takes_in, MayRegister, MayClaim, Claims, acked, claim_of, is_plain, Contents, part_at, with_bytes, PutAnswer, CanBePut, IsAccepted, PutsOrWants, put_id, put_part, desk, without_slivers, ServedState, holding, with_ledger, named, ack_reply, put_reply, reply_text, Entered, Forgets, Registered, Vouched, unbacked, asked, forgotten, kept, of_committee, of_none, AnswersRequest, AnswersRead, AnswersPut, AnswersEntry, AnswersForget, IsReplyOutcome, about_read, entries_in, tells, tells_entry}
 use Rattle.wal_ledger.specs.declared.answers.AckAnswer.TheVariants as acking
 use Rattle.wal_ledger.specs.declared.answers.RegisterAnswer.TheVariants as registering
-use Rattle.wal_ledger.specs.declared.entry.Body.{Body}
-use Rattle.wal_ledger.specs.declared.entry.Body.TheVariants.{Register}
-use Rattle.wal_ledger.specs.declared.entry.Kind.{Kind}
-use Rattle.wal_ledger.specs.declared.entry.Kind.TheVariants.{Holds, Denies}
-use Rattle.wal_ledger.specs.Shards.{committee_size}
-use Rattle.wal_ledger.specs.Ledger.{LedgerState, names, takes_in}
-use Rattle.wal_ledger.specs.Answers.{MayRegister, MayClaim, Claims, acked, claim_of}
-use Rattle.wal_ledger.proofs.HandoverEntries.{is_plain}
-use Rattle.wal_store.specs.Contents.{Contents, part_at, with_bytes}
-use Rattle.wal_shard.specs.declared.answers.PutAnswer.{PutAnswer}
 use Rattle.wal_shard.specs.declared.answers.PutAnswer.TheVariants as putting
-use Rattle.wal_shard.specs.Putting.{CanBePut, IsAccepted, PutsOrWants, put_id, put_part}
-use Rattle.wal_shard.specs.State.{desk}
-use Rattle.wal_shard.specs.Vouching.{without_slivers}
-use Rattle.wal_serve.specs.State.{ServedState, holding, with_ledger, named}
-use Rattle.wal_serve.specs.Reply.{ack_reply, put_reply, reply_text}
-use Rattle.wal_serve.specs.Requests.{Entered, Forgets, Registered, Vouched, unbacked, asked, forgotten, kept, of_committee, of_none}
-use Rattle.wal_serve.specs.Answers.{AnswersRequest, AnswersRead, AnswersPut, AnswersEntry, AnswersForget, IsReplyOutcome}
-use Rattle.wal_served.specs.Local.{about_read, entries_in, tells, tells_entry}
 use Rattle.wal_served.proofs.BothKinds.{IsClaimed, as_claim, claim_plain, claim_names}
 use Rattle.wal_served.proofs.Replies.{Reply}
 

@@ -1,34 +1,12 @@
 -- Acknowledgements and attestations that a shard serves, as steps of the world.
-use Rattle.std.proofs.Common.{◌≡◌, ◌≢◌, ℕ, Bool, true, false, cond, nat_eq, nat_lt, List, Option, Some, Ok, Err, inl, inr, refl, ap}
-use Rattle.std.proofs.lemmas.Bool.{eqb-false, lt-ltb, le-ltb, cases_lt}
-use Rattle.wal_shape.specs.declared.metadata.BlobId.{BlobId}
-use Rattle.wal_shape.specs.declared.text.MetaClash.{MetaClash}
-use Rattle.wal_event.specs.declared.event.Event.{Event}
+use Rattle.wal_served.proofs.Common.{◌≡◌, ◌≢◌, ℕ, Bool, true, false, cond, nat_eq, nat_lt, List, Option, Some, Ok, Err, inl, inr, refl, ap, eqb-false, lt-ltb, le-ltb, cases_lt, BlobId, MetaClash, Event, Line, Answer, Kind, Holds, Denies, committee_size, LedgerState, Claimed, AckRefusal, Vouches, World, Steps, MayPost, ClaimStep, is_collision, rules_of, ServedState, with_ledger, reply, refused, refusal_reply, ClaimEntered, Vouched, unbacked, asked, Entered, of_committee, of_none, IsReplyOutcome, world_of, IsDesk, an_event, no_event, entry_of, frame_of, Does}
 use Rattle.wal_event.specs.declared.event.Event.TheVariants as event
-use Rattle.wal_event.specs.declared.line.Line.{Line}
 use Rattle.wal_event.specs.declared.line.Line.TheVariants as line
 use Rattle.wal_event.specs.declared.line.AckWord.TheVariants as ack
 use Rattle.wal_event.specs.declared.line.AttestWord.TheVariants as attest
-use Rattle.wal_frame.specs.Frame.{Answer}
 use Rattle.wal_ledger.specs.declared.answers.AckAnswer.TheVariants as acking
 use Rattle.wal_ledger.specs.declared.answers.AttestAnswer.TheVariants as attesting
-use Rattle.wal_ledger.specs.declared.entry.Kind.{Kind}
-use Rattle.wal_ledger.specs.declared.entry.Kind.TheVariants.{Holds, Denies}
-use Rattle.wal_ledger.specs.Shards.{committee_size}
-use Rattle.wal_ledger.specs.Ledger.{LedgerState}
-use Rattle.wal_ledger.specs.Answers.{Claimed}
-use Rattle.wal_shard.specs.declared.answers.AckRefusal.{AckRefusal}
 use Rattle.wal_shard.specs.declared.answers.AckRefusal.TheVariants as refusing
-use Rattle.wal_shard.specs.Vouching.{Vouches}
-use Rattle.wal_protocol.specs.State.{World}
-use Rattle.wal_protocol.specs.Step.{Steps, MayPost, ClaimStep}
-use Rattle.wal_protocol.specs.Run.{is_collision}
-use Rattle.wal_theorem.specs.Instance.{rules_of}
-use Rattle.wal_serve.specs.State.{ServedState, with_ledger}
-use Rattle.wal_serve.specs.Reply.{reply, refused, refusal_reply}
-use Rattle.wal_serve.specs.Requests.{ClaimEntered, Vouched, unbacked, asked, Entered, of_committee, of_none}
-use Rattle.wal_serve.specs.Answers.{IsReplyOutcome}
-use Rattle.wal_served.specs.Steps.{world_of, IsDesk, an_event, no_event, entry_of, frame_of, Does}
 use Rattle.wal_served.proofs.Worlds.{may_post, declines, may_say, ledger_same, world_same}
 use Rattle.wal_served.proofs.Replies.{Reply, takes, lacks}
 

@@ -1,11 +1,8 @@
 -- What a part more, and slivers less, of one identifier do to the pages of all holdings.
-use Rattle.std.proofs.Common.{◌≡◌, ℕ, ◌+◌, ◌≤◌, Bool, true, false, cond, T, ◌&&◌, List, [], ◌∷◌, length, map, Option, Some, None, unwrap_or, refl, ap, ◌∙◌, arith}
-use Rattle.std.specs.Prelude.{is_some, sum_by}
+use Rattle.wal_served.proofs.Common.{◌≡◌, ℕ, ◌+◌, ◌≤◌, Bool, true, false, cond, T, ◌&&◌, List, [], ◌∷◌, length, map, Option, Some, None, unwrap_or, refl, ap, ◌∙◌, arith, is_some, sum_by, eq_by_cmp, is_eq, is_lt, match_ordering, AllByRecursion, BlobId, Part, id_cmp, Parts, no_parts, part_of, with_part, is_empty, part_cost, cost_of, pages_for, Contents, parts_at, part_at, with_bytes, without_part, cost, without_slivers, cost_with}
 use Rattle.std.specs.Option.{option_map}
 use Rattle.std.specs.declared.cmp.Ordering.{Ordering}
 use Rattle.std.specs.declared.cmp.Ordering.TheVariants.{Less, Equal, Greater}
-use Rattle.std.specs.Ordering.{eq_by_cmp, is_eq, is_lt, match_ordering}
-use Rattle.std.specs.List.{AllByRecursion}
 use Rattle.std.specs.List.Sorted.{IsStrictlySortedBy}
 use Rattle.std.specs.Cmp.{tied_itself}
 use Rattle.std.specs.Map.{keys_of, lookup}
@@ -13,16 +10,9 @@ use Rattle.std.specs.BTreeMap.{is_at, insert_entry}
 use Rattle.std.specs.FinMap as fin
 use Rattle.std.specs.FinMap.Entries.{find, put, by_order, is_sorted, below_all}
 use Rattle.std.proofs.lemmas.Map.Entries.{sum_by-insert_entry}
-use Rattle.wal_shape.specs.declared.metadata.BlobId.{BlobId}
-use Rattle.wal_shape.specs.declared.part.Part.{Part}
 use Rattle.wal_shape.specs.declared.part.Part.TheVariants as parts
-use Rattle.wal_shape.specs.Identifiers.{id_cmp}
-use Rattle.wal_store.specs.Parts.{Parts, no_parts, part_of, with_part, is_empty, part_cost, cost_of, pages_for}
-use Rattle.wal_store.specs.Contents.{Contents, parts_at, part_at, with_bytes, without_part, cost}
 use Rattle.wal_store.specs.Entries.{Entries}
 use Rattle.wal_store.proofs.IdentifierLaws.{ids_total, exact_ids}
-use Rattle.wal_shard.specs.Vouching.{without_slivers}
-use Rattle.wal_served.specs.Local.{cost_with}
 
 -- ---- sorted entries
 

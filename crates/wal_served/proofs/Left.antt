@@ -1,26 +1,7 @@
 -- THE THIRD LAW: what is left of what was served, without what regards others, is answered exactly as before.
-use Rattle.std.proofs.Common.{◌≡◌, ℕ, ◌+◌, ◌-◌, ◌≤◌, Bool, true, false, cond, List, [], ◌∷◌, ◌++◌, length, Option, Some, None, Result, Ok, Err, All, refl, sym, ◌∙◌, append-nil, arith}
-use Rattle.std.specs.Prelude.{sum_by}
-use Rattle.std.specs.List.{flat_map}
-use Rattle.std.proofs.lemmas.Bool.{false≢true}
+use Rattle.wal_served.proofs.Common.{◌≡◌, ℕ, ◌+◌, ◌-◌, ◌≤◌, Bool, true, false, cond, List, [], ◌∷◌, ◌++◌, length, Option, Some, None, Result, Ok, Err, All, refl, sym, ◌∙◌, append-nil, arith, sum_by, flat_map, false≢true, All-nil, All-cons, All-head, All-tail, filter-append, fold_push, sum_by-append, BlobId, MetaClash, FrameError, Frame, Answer, Clash, envelope, read_of, stored_bytes, pages_for, Contents, put_id, put_part, ServedState, holding, AnswersRequest, AnswersRead, Replies, looked_at, read_past, Served, none, more, TellsWant, about_read, regarding, AlikeAt, RoomFor, part_pages, asked_entries, cost_with, Turn, turns, bytes_of, frames_of, clash_of, Chooses, left_of, tells, tells_entry, stored_pages, made_entries, ServesWhatIsLeft}
 use Rattle.std.proofs.lemmas.Grind.{flat_map-append}
-use Rattle.std.proofs.lemmas.List.Elements.{All-nil, All-cons, All-head, All-tail, filter-append}
-use Rattle.std.proofs.lemmas.List.Sums.{fold_push, sum_by-append}
-use Rattle.wal_shape.specs.declared.metadata.BlobId.{BlobId}
-use Rattle.wal_shape.specs.declared.text.MetaClash.{MetaClash}
-use Rattle.wal_frame.specs.declared.frame.FrameError.{FrameError}
-use Rattle.wal_frame.specs.Frame.{Frame, Answer, Clash, envelope}
-use Rattle.wal_frame.specs.Reading.{read_of}
 use Rattle.wal_frame.specs.Stream.{IsPayload}
-use Rattle.wal_frame.specs.Stored.{stored_bytes}
-use Rattle.wal_store.specs.Parts.{pages_for}
-use Rattle.wal_store.specs.Contents.{Contents}
-use Rattle.wal_shard.specs.Putting.{put_id, put_part}
-use Rattle.wal_serve.specs.State.{ServedState, holding}
-use Rattle.wal_serve.specs.Answers.{AnswersRequest, AnswersRead}
-use Rattle.wal_serve.specs.Serving.{Replies, looked_at, read_past, Served, none, more}
-use Rattle.wal_served.specs.Steps.{TellsWant}
-use Rattle.wal_served.specs.Local.{about_read, regarding, AlikeAt, RoomFor, part_pages, asked_entries, cost_with, Turn, turns, bytes_of, frames_of, clash_of, Chooses, left_of, tells, tells_entry, stored_pages, made_entries, ServesWhatIsLeft}
 use Rattle.wal_served.proofs.Costs.{stored_cost, forgotten_cost}
 use Rattle.wal_served.proofs.Alike.{joined, charged_pages, charged_entries, Carried, carries, wants, read_carried}
 use Rattle.wal_served.proofs.AlikeLaws.{read_still, fits_less, less_room}

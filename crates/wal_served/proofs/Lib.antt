@@ -16,3 +16,4 @@ mod Runs
 mod Standing
 mod Steps
 mod Worlds
+mod Common

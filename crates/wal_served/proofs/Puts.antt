@@ -1,31 +1,12 @@
 -- What is put to a shard that serves, and what it lets go, as steps of the world.
-use Rattle.std.proofs.Common.{◌≡◌, ℕ, Bool, List, Option, Some, None, Result, Ok, inl, inr, refl}
-use Rattle.wal_shape.specs.declared.metadata.BlobId.{BlobId}
-use Rattle.wal_shape.specs.declared.text.MetaClash.{MetaClash}
-use Rattle.wal_shape.specs.declared.axis.Side.TheVariants.{Now}
-use Rattle.wal_event.specs.declared.event.Event.{Event}
+use Rattle.wal_served.proofs.Common.{◌≡◌, ℕ, Bool, List, Option, Some, None, Result, Ok, inl, inr, refl, BlobId, MetaClash, Now, Event, Frame, Answer, Clash, read_of, frame_is, Contents, PutAnswer, CanBePut, IsAccepted, Puts, PutsOrWants, desk, desk_of, without_slivers, World, rules_of, ServedState, holding, reply, done, refused, put_reply, IsPutRequest, Forgets, forgotten, kept, IsReplyOutcome, world_of, IsDesk, an_event, send_frame, Does}
 use Rattle.wal_event.specs.declared.event.Event.TheVariants as event
 use Rattle.wal_event.specs.declared.line.Line.TheVariants as line
 use Rattle.wal_event.specs.declared.line.SendWord.{SendWord}
 use Rattle.wal_event.specs.declared.line.SendWord.TheVariants as sending
 use Rattle.wal_event.specs.declared.line.ForgetWord.TheVariants as forgetting
-use Rattle.wal_frame.specs.Frame.{Frame, Answer, Clash}
-use Rattle.wal_frame.specs.Reading.{read_of}
-use Rattle.wal_frame.proofs.FrameLaws.{frame_is}
-use Rattle.wal_store.specs.Contents.{Contents}
-use Rattle.wal_shard.specs.declared.answers.PutAnswer.{PutAnswer}
 use Rattle.wal_shard.specs.declared.answers.PutAnswer.TheVariants as putting
-use Rattle.wal_shard.specs.Putting.{CanBePut, IsAccepted, Puts, PutsOrWants}
-use Rattle.wal_shard.specs.State.{desk, desk_of}
-use Rattle.wal_shard.specs.Vouching.{without_slivers}
-use Rattle.wal_protocol.specs.State.{World}
 use Rattle.wal_protocol.specs.Step as step
-use Rattle.wal_theorem.specs.Instance.{rules_of}
-use Rattle.wal_serve.specs.State.{ServedState, holding}
-use Rattle.wal_serve.specs.Reply.{reply, done, refused, put_reply}
-use Rattle.wal_serve.specs.Requests.{IsPutRequest, Forgets, forgotten, kept}
-use Rattle.wal_serve.specs.Answers.{IsReplyOutcome}
-use Rattle.wal_served.specs.Steps.{world_of, IsDesk, an_event, send_frame, Does}
 use Rattle.wal_served.proofs.Worlds.{here, contents_here, keeps_then, holding_same, world_same}
 use Rattle.wal_served.proofs.Replies.{Reply, takes, lacks}
 

@@ -1,23 +1,10 @@
 -- From the state at the start on, what serving does are steps of the world, for all that was taken.
-use Rattle.std.proofs.Common.{◌≡◌, ℕ, ◌+◌, ◌-◌, ◌<◌, zero, suc, get_or, List, [], ◌∷◌, ◌++◌, length, take, drop, Option, Some, None, sym, ap, subst, ◌∙◌, append-nil, append_assoc, length-append, arith, Bool, refl}
-use Rattle.std.specs.List.{range_with_len}
-use Rattle.std.proofs.lemmas.List.{take-append-drop}
-use Rattle.std.proofs.lemmas.List.FromFn.{get_or-range_with_len}
+use Rattle.wal_served.proofs.Common.{◌≡◌, ℕ, ◌+◌, ◌-◌, ◌<◌, zero, suc, get_or, List, [], ◌∷◌, ◌++◌, length, take, drop, Option, Some, None, sym, ap, subst, ◌∙◌, append-nil, append_assoc, length-append, arith, Bool, refl, range_with_len, take-append-drop, get_or-range_with_len, MetaClash, Now, node_of, envelope, committee_size, Log, is_moving, owners_of, ServedState, AnswersRequest, Served, Serves, IsDesk, EndsBy, IsReached}
 use Rattle.std.proofs.Math.Seq.{take-append_seam}
-use Rattle.wal_shape.specs.declared.text.MetaClash.{MetaClash}
-use Rattle.wal_shape.specs.declared.axis.Side.TheVariants.{Now}
-use Rattle.wal_shape.specs.Owners.{node_of}
-use Rattle.wal_frame.specs.Frame.{envelope}
 use Rattle.wal_frame.specs.Front.{BeginsNone, IsPart}
-use Rattle.wal_ledger.specs.Shards.{committee_size}
-use Rattle.wal_ledger.specs.Ledger.{Log, is_moving, owners_of}
 use Rattle.wal_serve.specs.declared.serving.ServeEnd.{ServeEnd}
 use Rattle.wal_serve.specs.declared.serving.ServeEnd.TheVariants.{Done, ReadFault, WriteFault, Malformed, TooLong, Collision}
-use Rattle.wal_serve.specs.State.{ServedState}
-use Rattle.wal_serve.specs.Answers.{AnswersRequest}
 use Rattle.wal_serve.specs.Serving as serving
-use Rattle.wal_serve.specs.Serving.{Served, Serves}
-use Rattle.wal_served.specs.Steps.{IsDesk, EndsBy, IsReached}
 use Rattle.wal_served.proofs.Steps.{served_steps}
 use Rattle.wal_served.proofs.Runs.{served_run, served_runs}
 

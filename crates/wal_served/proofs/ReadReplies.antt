@@ -1,19 +1,6 @@
 -- What a shard that serves replies of what it holds is the world's true reply.
-use Rattle.std.proofs.Common.{◌≡◌, ℕ, List, [], Option, None, Ok, refl, sym, subst}
-use Rattle.wal_shape.specs.declared.axis.Axis.{Axis}
-use Rattle.wal_shape.specs.declared.axis.Side.TheVariants.{Now}
-use Rattle.wal_shape.specs.declared.text.MetaClash.{MetaClash}
+use Rattle.wal_served.proofs.Common.{◌≡◌, ℕ, List, [], Option, None, Ok, refl, sym, subst, Axis, Now, MetaClash, Read, Symbol, Parts, parts_at, SymbolReplies, OpeningReply, given, not_held, no_shard, read_reply_of, World, held, reply_payloads, IsReplyOf, SymbolReply, silent, replies, rules_of, ServedState, named, IsReplied, world_of, IsDesk, AsksFor, by_metadata, of_nothing, RepliesTruly}
 use Rattle.wal_event.specs.declared.event.Reply.TheVariants as said_by
-use Rattle.wal_frame.specs.Frame.{Read, Symbol}
-use Rattle.wal_store.specs.Parts.{Parts}
-use Rattle.wal_store.specs.Contents.{parts_at}
-use Rattle.wal_shard.specs.Holding.{SymbolReplies, OpeningReply, given, not_held, no_shard, read_reply_of}
-use Rattle.wal_protocol.specs.State.{World, held}
-use Rattle.wal_protocol.specs.Step.{reply_payloads, IsReplyOf}
-use Rattle.wal_theorem.specs.Instance.{SymbolReply, silent, replies, rules_of}
-use Rattle.wal_serve.specs.State.{ServedState, named}
-use Rattle.wal_serve.specs.Answers.{IsReplied}
-use Rattle.wal_served.specs.Steps.{world_of, IsDesk, AsksFor, by_metadata, of_nothing, RepliesTruly}
 use Rattle.wal_served.proofs.Worlds.{here, parts_here}
 
 pub read_true : (digest : List ℕ → List ℕ) (s : ServedState) → IsDesk s → (id : List ℕ) (frames : List (List ℕ)) (clash : Option MetaClash)

@@ -1,38 +1,14 @@
 -- THE FIFTH LAW: a shard that is fed with the entries of an identifier and then with its parts is alike to the one that came to them.
-use Rattle.std.proofs.Common.{◌≡◌, ℕ, ◌+◌, ◌<◌, ◌≤◌, ◌^◌, Bool, true, List, [], ◌∷◌, ◌++◌, length, Option, Some, None, IsSome, unwrap_or, Ok, ◌⊎◌, inl, inr, refl, sym, ap, ◌∙◌, append_assoc, append-nil, arith}
-use Rattle.std.specs.Prelude.{IfSome}
-use Rattle.std.proofs.lemmas.Bool.{lt-ltb}
-use Rattle.wal_shape.specs.declared.axis.Axis.{Axis}
+use Rattle.wal_served.proofs.Common.{◌≡◌, ℕ, ◌+◌, ◌<◌, ◌≤◌, ◌^◌, Bool, true, List, [], ◌∷◌, ◌++◌, length, Option, Some, None, IsSome, unwrap_or, Ok, ◌⊎◌, inl, inr, refl, sym, ap, ◌∙◌, append_assoc, append-nil, arith, IfSome, lt-ltb, Axis, BlobId, Part, sliver_part, Frame, Metadata, Sliver, Proof, IsFrame, frame_text, metadata_frame, sliver_frame, stored_bytes, read_again, Entry, LedgerState, reading, until_of, own_entries, is_live, HasRoom, Parts, no_parts, part_of, with_part, part_cost, pages_for, parts_at, part_at, with_bytes, free_of, needed_for, HoldsMetadata, IsSound, metadata_reply, payload_if, proof_reply, CanBePut, Verifies, put_id, put_part, own_metadata, beside, beside_proof, verified_short, ServedState, holding, done, reply_text, AnswersRequest, desk_room, put_row, enough, cost_with, entry_payloads, sliver_payload, pages_of, kept_payloads, Rebuilds}
 use Rattle.wal_shape.specs.declared.axis.Axis.TheVariants as axes
-use Rattle.wal_shape.specs.declared.metadata.BlobId.{BlobId}
-use Rattle.wal_shape.specs.declared.part.Part.{Part}
 use Rattle.wal_shape.specs.declared.part.Part.TheVariants as parts
 use Rattle.wal_shape.specs.Metadata.{BlobMetadata, held_index}
 use Rattle.wal_shape.specs.MetadataReading.{spelled_metadata}
-use Rattle.wal_shape.specs.Part.{sliver_part}
 use Rattle.wal_shape.specs.Spelling.{metadata_text}
 use Rattle.wal_shape.proofs.MetadataLaws.{spelled_metadata-text}
-use Rattle.wal_frame.specs.Frame.{Frame, Metadata, Sliver, Proof, IsFrame, frame_text, metadata_frame, sliver_frame}
-use Rattle.wal_frame.specs.Stored.{stored_bytes}
-use Rattle.wal_frame.proofs.FrameLaws.{read_again}
-use Rattle.wal_ledger.specs.declared.entry.Entry.{Entry}
-use Rattle.wal_ledger.specs.Ledger.{LedgerState, reading, until_of, own_entries, is_live}
-use Rattle.wal_store.specs.Answer.{HasRoom}
-use Rattle.wal_store.specs.Parts.{Parts, no_parts, part_of, with_part, part_cost, pages_for}
-use Rattle.wal_store.specs.Contents.{parts_at, part_at, with_bytes, free_of, needed_for}
 use Rattle.wal_shard.specs.declared.answers.PutAnswer.TheVariants as putting
-use Rattle.wal_shard.specs.Holding.{HoldsMetadata, IsSound, metadata_reply, payload_if, proof_reply}
-use Rattle.wal_shard.specs.Putting.{CanBePut, Verifies, put_id, put_part}
 use Rattle.wal_shard.proofs.OnePut.{none_some, some_is}
-use Rattle.wal_shard.proofs.HeldLaws.{own_metadata, beside, beside_proof, verified_short}
-use Rattle.wal_serve.specs.State.{ServedState, holding}
-use Rattle.wal_serve.specs.Reply.{done, reply_text}
-use Rattle.wal_serve.specs.Answers.{AnswersRequest}
-use Rattle.wal_serve.specs.Room.{desk_room}
-use Rattle.wal_serve.proofs.AnswerLaws.{put_row}
-use Rattle.wal_serve.proofs.RoomLaws.{enough}
 use Rattle.wal_served.proofs.Apart.{stored_there}
-use Rattle.wal_served.specs.Local.{cost_with, entry_payloads, sliver_payload, pages_of, kept_payloads, Rebuilds}
 use Rattle.wal_served.proofs.Costs.{stored_cost}
 use Rattle.wal_served.proofs.AlikeLedgers.{same_live}
 use Rattle.wal_served.proofs.AlikeLaws.{fits_less}

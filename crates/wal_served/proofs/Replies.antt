@@ -1,26 +1,11 @@
 -- What the frames of an answer tell of its code.
-use Rattle.std.proofs.Common.{◌≡◌, ℕ, true, false, nat_eq, List, [], ◌∷◌, Option, Some, None, Ok, inl, inr, sym, ap, subst, ◌∙◌, refl}
-use Rattle.std.specs.Prelude.{⊤}
-use Rattle.std.proofs.lemmas.Bool.{eqb-false, false≢true}
-use Rattle.wal_event.specs.declared.event.Event.{Event}
-use Rattle.wal_event.specs.declared.line.Line.{Line}
+use Rattle.wal_served.proofs.Common.{◌≡◌, ℕ, true, false, nat_eq, List, [], ◌∷◌, Option, Some, None, Ok, inl, inr, sym, ap, subst, ◌∙◌, refl, ⊤, eqb-false, false≢true, Event, Line, MetaClash, Frame, Answer, Clash, frame_text, World, is_collision, Steps, rules_of, ServedState, reply_text, IsReplyOutcome, tells_entry, world_of, an_event, frame_of, IsTold, Does, answer_text, IsWant, IsRefused, TellsWant}
 use Rattle.wal_event.specs.declared.line.Line.TheVariants as of_line
 use Rattle.wal_event.specs.declared.line.RegisterWord.TheVariants as registering
 use Rattle.wal_event.specs.declared.line.SendWord.TheVariants as sending
 use Rattle.wal_event.specs.declared.line.AckWord.TheVariants as acking
 use Rattle.wal_event.specs.declared.line.AttestWord.TheVariants as attesting
 use Rattle.wal_event.specs.declared.line.ForgetWord.TheVariants as forgetting
-use Rattle.wal_shape.specs.declared.text.MetaClash.{MetaClash}
-use Rattle.wal_frame.specs.Frame.{Frame, Answer, Clash, frame_text}
-use Rattle.wal_protocol.specs.State.{World}
-use Rattle.wal_protocol.specs.Run.{is_collision}
-use Rattle.wal_protocol.specs.Step.{Steps}
-use Rattle.wal_theorem.specs.Instance.{rules_of}
-use Rattle.wal_serve.specs.State.{ServedState}
-use Rattle.wal_serve.specs.Reply.{reply_text}
-use Rattle.wal_serve.specs.Answers.{IsReplyOutcome}
-use Rattle.wal_served.specs.Local.{tells_entry}
-use Rattle.wal_served.specs.Steps.{world_of, an_event, frame_of, IsTold, Does, answer_text, IsWant, IsRefused, TellsWant}
 
 -- the type of what is replied, whose name is the serving crate's own
 abbrev domain_of : {A B : Type 0} → (A → B) → Type 0

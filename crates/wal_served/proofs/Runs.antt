@@ -1,21 +1,6 @@
 -- What serving does is a run of the world.
-use Rattle.std.proofs.Common.{◌≡◌, ◌≢◌, ℕ, Bool, cond, nat_lt, List, [], ◌∷◌, ◌++◌, length, Option, Some, None, inl, inr, refl, ap, subst, ◌∙◌, append-nil}
-use Rattle.std.proofs.lemmas.Bool.{lt-ltb, le-ltb}
-use Rattle.std.proofs.lemmas.List.Elements.{Contains-push, Contains-append_left}
-use Rattle.wal_shape.specs.declared.text.MetaClash.{MetaClash}
-use Rattle.wal_event.specs.declared.event.Event.{Event}
-use Rattle.wal_event.specs.declared.line.Line.{Line}
-use Rattle.wal_frame.specs.Frame.{envelope}
-use Rattle.wal_shard.specs.State.{ShardState}
-use Rattle.wal_protocol.specs.State.{World}
-use Rattle.wal_protocol.specs.Run.{GoesOn, is_collision}
-use Rattle.wal_protocol.specs.Step.{Steps}
-use Rattle.wal_theorem.specs.Instance.{rules_of}
+use Rattle.wal_served.proofs.Common.{◌≡◌, ◌≢◌, ℕ, Bool, cond, nat_lt, List, [], ◌∷◌, ◌++◌, length, Option, Some, None, inl, inr, refl, ap, subst, ◌∙◌, append-nil, lt-ltb, le-ltb, Contains-push, Contains-append_left, MetaClash, Event, Line, envelope, ShardState, World, GoesOn, is_collision, Steps, rules_of, ServedState, SamePlace, overlong, reply_text, Replies, looked_at, read_past, none, more, world_of, Meaning, an_event, own_entry, no_event, meaning, Does, Stepped, AreSteps, Exchange, exchanges, event_if, events_of, TellsClash, AreOf, nothing, with_next, without_next, StopsBy, IsRunTo, IsServedRun, AreServedRuns}
 use Rattle.wal_protocol.proofs.RunLaws.{goes_on_push, last_push, runs_push}
-use Rattle.wal_serve.specs.State.{ServedState, SamePlace}
-use Rattle.wal_serve.specs.Reply.{overlong, reply_text}
-use Rattle.wal_serve.specs.Serving.{Replies, looked_at, read_past, none, more}
-use Rattle.wal_served.specs.Steps.{world_of, Meaning, an_event, own_entry, no_event, meaning, Does, Stepped, AreSteps, Exchange, exchanges, event_if, events_of, TellsClash, AreOf, nothing, with_next, without_next, StopsBy, IsRunTo, IsServedRun, AreServedRuns}
 use Rattle.wal_served.proofs.Replies.{told_room}
 use Rattle.wal_served.proofs.Left.{flat_push}
 

@@ -1,47 +1,12 @@
 -- What a shard comes to that began with nothing of an identifier: what it holds is sound and live, and its entries may be fed alone.
-use Rattle.std.proofs.Common.{◌≡◌, ℕ, ◌+◌, ◌<◌, ◌≤◌, ◌^◌, Bool, true, false, max, List, [], ◌∷◌, ◌++◌, length, Option, Some, None, ◌⊎◌, inl, inr, refl, sym, ap, ◌∙◌, arith}
-use Rattle.std.specs.List.{flat_map}
-use Rattle.std.proofs.lemmas.Bool.{cases_lt, ltb-true, false≢true}
+use Rattle.wal_served.proofs.Common.{◌≡◌, ℕ, ◌+◌, ◌<◌, ◌≤◌, ◌^◌, Bool, true, false, max, List, [], ◌∷◌, ◌++◌, length, Option, Some, None, ◌⊎◌, inl, inr, refl, sym, ap, ◌∙◌, arith, flat_map, cases_lt, ltb-true, false≢true, BlobId, MetaClash, id_eq, Frame, Metadata, Sliver, Proof, RegisterEntry, AckEntry, AttestEntry, IsFrame, IsId, frame_text, envelope, read_of, stored_bytes, frame_is, read_again, AckAnswer, Entry, Body, Kind, Holds, Denies, committee_size, quorum_size, Log, LedgerState, reading, writing, is_moving, own_entries, until_of, until_among, until_in, signer_count, entered, takes_in, Claims, acked, claim_of, id_itself, id_same, until_push, entry_in, plain_stays, Owned, stays, grows, anew, owned, Parts, no_parts, part_of, with_part, Contents, parts_at, part_at, with_bytes, IsSound, CanBePut, IsAccepted, Verifies, put_id, put_part, desk, without_slivers, sliver_then, proof_then, ServedState, holding, with_ledger, done, ack_reply, Entered, of_committee, AnswersRequest, AnswersFrame, AsksOnly, Replies, looked_at, read_past, Served, more, asks, about_read, AlikeLedgers, AlikeAt, HasNothing, entry_frame, frame_payload, entry_payloads, IsPlaced}
 use Rattle.std.proofs.lemmas.List.{length-append}
 use Rattle.wal_shape.specs.declared.axis.Axis.TheVariants as axes
-use Rattle.wal_shape.specs.declared.metadata.BlobId.{BlobId}
 use Rattle.wal_shape.specs.declared.part.Part.TheVariants as parts
-use Rattle.wal_shape.specs.declared.text.MetaClash.{MetaClash}
-use Rattle.wal_shape.specs.Identifiers.{id_eq}
-use Rattle.wal_frame.specs.Frame.{Frame, Metadata, Sliver, Proof, RegisterEntry, AckEntry, AttestEntry, IsFrame, IsId, frame_text, envelope}
-use Rattle.wal_frame.specs.Reading.{read_of}
-use Rattle.wal_frame.specs.Stored.{stored_bytes}
-use Rattle.wal_frame.proofs.FrameLaws.{frame_is, read_again}
-use Rattle.wal_ledger.specs.declared.answers.AckAnswer.{AckAnswer}
 use Rattle.wal_ledger.specs.declared.answers.AckAnswer.TheVariants as acking
 use Rattle.wal_ledger.specs.declared.answers.RegisterAnswer.TheVariants as registering
-use Rattle.wal_ledger.specs.declared.entry.Entry.{Entry}
-use Rattle.wal_ledger.specs.declared.entry.Body.{Body}
-use Rattle.wal_ledger.specs.declared.entry.Kind.{Kind}
-use Rattle.wal_ledger.specs.declared.entry.Kind.TheVariants.{Holds, Denies}
-use Rattle.wal_ledger.specs.Shards.{committee_size, quorum_size}
-use Rattle.wal_ledger.specs.Ledger.{Log, LedgerState, reading, writing, is_moving, own_entries, until_of, until_among, until_in, signer_count, entered, takes_in}
-use Rattle.wal_ledger.specs.Answers.{Claims, acked, claim_of}
-use Rattle.wal_ledger.proofs.RowsPlace.{id_itself, id_same}
-use Rattle.wal_ledger.proofs.Handover.{until_push}
-use Rattle.wal_ledger.proofs.HandoverEntries.{entry_in, plain_stays, Owned, stays, grows, anew, owned}
-use Rattle.wal_store.specs.Parts.{Parts, no_parts, part_of, with_part}
-use Rattle.wal_store.specs.Contents.{Contents, parts_at, part_at, with_bytes}
-use Rattle.wal_shard.specs.Holding.{IsSound}
-use Rattle.wal_shard.specs.Putting.{CanBePut, IsAccepted, Verifies, put_id, put_part}
-use Rattle.wal_shard.specs.State.{desk}
-use Rattle.wal_shard.specs.Vouching.{without_slivers}
-use Rattle.wal_shard.proofs.HeldLaws.{sliver_then, proof_then}
 use Rattle.wal_shard.proofs.Soundness.{none_sound, metadata_sound, without_sliver_sound}
-use Rattle.wal_serve.specs.State.{ServedState, holding, with_ledger}
-use Rattle.wal_serve.specs.Reply.{done, ack_reply}
-use Rattle.wal_serve.specs.Requests.{Entered, of_committee}
-use Rattle.wal_serve.specs.Answers.{AnswersRequest, AnswersFrame}
-use Rattle.wal_serve.specs.Room.{AsksOnly}
 use Rattle.wal_serve.specs.Serving as serving
-use Rattle.wal_serve.specs.Serving.{Replies, looked_at, read_past, Served, more}
-use Rattle.wal_serve.proofs.RoomLaws.{asks}
-use Rattle.wal_served.specs.Local.{about_read, AlikeLedgers, AlikeAt, HasNothing, entry_frame, frame_payload, entry_payloads, IsPlaced}
 use Rattle.wal_served.proofs.Replies.{Reply}
 use Rattle.wal_served.proofs.BothKinds.{of_claim}
 use Rattle.wal_served.proofs.Changes.{Enterable, to_register, to_claim, enter_plain, enter_names, Change, no_change, part_stored, slivers_went, entry_made, changes}

@@ -1,26 +1,9 @@
 -- What serving does are steps of the world.
-use Rattle.std.proofs.Common.{◌≡◌, ℕ, Bool, true, List, [], ◌∷◌, Option, None, Result, Ok, Err, inr, refl, ap}
-use Rattle.wal_shape.specs.declared.metadata.BlobId.{BlobId}
-use Rattle.wal_shape.specs.declared.text.MetaClash.{MetaClash}
-use Rattle.wal_shape.specs.declared.axis.Side.TheVariants.{Now}
-use Rattle.wal_frame.specs.declared.frame.FrameError.{FrameError}
-use Rattle.wal_event.specs.declared.event.Event.{Event}
+use Rattle.wal_served.proofs.Common.{◌≡◌, ℕ, Bool, true, List, [], ◌∷◌, Option, None, Result, Ok, Err, inr, refl, ap, BlobId, MetaClash, Now, FrameError, Event, Frame, Metadata, Sliver, Proof, Read, Symbol, Ack, Attest, Forget, RegisterEntry, AckEntry, AttestEntry, read_of, Holds, Denies, LedgerState, CanBePut, ServedState, SamePlace, with_ledger, named, done, refused, Registered, Vouched, Entered, IsReplyOutcome, AnswersRequest, AnswersRead, AnswersPut, AnswersEntry, Replies, looked_at, read_past, Served, none, more, world_of, IsDesk, Meaning, an_event, read_meaning, IsRefused, answer_text, Does, RepliesTruly, Stepped, AreSteps, tells_entry}
 use Rattle.wal_event.specs.declared.event.Event.TheVariants as event
 use Rattle.wal_event.specs.declared.line.Line.TheVariants as line
 use Rattle.wal_event.specs.declared.line.RegisterWord.TheVariants as register
-use Rattle.wal_frame.specs.Frame.{Frame, Metadata, Sliver, Proof, Read, Symbol, Ack, Attest, Forget, RegisterEntry, AckEntry, AttestEntry}
-use Rattle.wal_frame.specs.Reading.{read_of}
 use Rattle.wal_ledger.specs.declared.answers.RegisterAnswer.TheVariants as registering
-use Rattle.wal_ledger.specs.declared.entry.Kind.TheVariants.{Holds, Denies}
-use Rattle.wal_ledger.specs.Ledger.{LedgerState}
-use Rattle.wal_shard.specs.Putting.{CanBePut}
-use Rattle.wal_serve.specs.State.{ServedState, SamePlace, with_ledger, named}
-use Rattle.wal_serve.specs.Reply.{done, refused}
-use Rattle.wal_serve.specs.Requests.{Registered, Vouched, Entered}
-use Rattle.wal_serve.specs.Answers.{IsReplyOutcome, AnswersRequest, AnswersRead, AnswersPut, AnswersEntry}
-use Rattle.wal_serve.specs.Serving.{Replies, looked_at, read_past, Served, none, more}
-use Rattle.wal_served.specs.Steps.{world_of, IsDesk, Meaning, an_event, read_meaning, IsRefused, answer_text, Does, RepliesTruly, Stepped, AreSteps}
-use Rattle.wal_served.specs.Local.{tells_entry}
 use Rattle.wal_served.proofs.Worlds.{ledger_same, world_same, desk_entered, desk_holding}
 use Rattle.wal_served.proofs.Replies.{Reply, made_stays, takes, lacks}
 use Rattle.wal_served.proofs.Changes.{Change, no_change, part_stored, slivers_went, entry_made, enter_plain, changes}

@@ -1,29 +1,10 @@
 -- The world of a shard that serves: its committee, and what an answer leaves of it.
-use Rattle.std.proofs.Common.{◌≡◌, ◌≢◌, ℕ, ◌<◌, Bool, true, false, cond, not, nat_eq, List, refl, sym, ap, ◌∙◌, eq-eqb, arith}
+use Rattle.wal_served.proofs.Common.{◌≡◌, ◌≢◌, ℕ, ◌<◌, Bool, true, false, cond, not, nat_eq, List, refl, sym, ap, ◌∙◌, eq-eqb, arith, range_with_len, eqb-true, set-set, get_or-set_same, length-range_with_len, get_or-range_with_len, length-map-range_with_len, BlobId, Now, Next, among, node_of, Contents, parts_at, Body, Kind, committee_size, LedgerState, reading, owners_at, owners_of, same_node, takes_in, is_plain, plain_stays, backs, Committee, World, side_of, writing_side, is_correct, contents_of, held, with_contents, keeps, empty_committee, MayPost, Declines, ServedState, holding, with_ledger, others, alone, world_of, IsDesk}
 use Rattle.std.specs.FinMap as finmap
-use Rattle.std.specs.List.{range_with_len}
-use Rattle.std.proofs.lemmas.Bool.{eqb-true}
-use Rattle.std.proofs.lemmas.List.{set-set, get_or-set_same}
 use Rattle.std.proofs.lemmas.List.Folds.{list_any_at}
-use Rattle.std.proofs.lemmas.List.FromFn.{length-range_with_len, get_or-range_with_len, length-map-range_with_len}
 use Rattle.std.proofs.lemmas.Map.Views.{any-filter_same}
-use Rattle.wal_shape.specs.declared.metadata.BlobId.{BlobId}
 use Rattle.wal_shape.specs.declared.axis.Side.{Side}
-use Rattle.wal_shape.specs.declared.axis.Side.TheVariants.{Now, Next}
-use Rattle.wal_shape.specs.Owners.{among, node_of}
-use Rattle.wal_store.specs.Contents.{Contents, parts_at}
-use Rattle.wal_ledger.specs.declared.entry.Body.{Body}
-use Rattle.wal_ledger.specs.declared.entry.Kind.{Kind}
-use Rattle.wal_ledger.specs.Shards.{committee_size}
-use Rattle.wal_ledger.specs.Ledger.{LedgerState, reading, owners_at, owners_of, same_node, takes_in}
-use Rattle.wal_ledger.proofs.HandoverEntries.{is_plain, plain_stays}
-use Rattle.wal_shard.specs.Vouching.{backs}
-use Rattle.wal_protocol.specs.State.{Committee, World, side_of, writing_side, is_correct, contents_of, held, with_contents, keeps}
-use Rattle.wal_protocol.specs.Run.{empty_committee}
-use Rattle.wal_protocol.specs.Step.{MayPost, Declines}
 use Rattle.wal_protocol.proofs.Lookups.{held_is}
-use Rattle.wal_serve.specs.State.{ServedState, holding, with_ledger}
-use Rattle.wal_served.specs.Steps.{others, alone, world_of, IsDesk}
 
 -- ---- the committee
 

@@ -1,17 +1,6 @@
 -- An opening body that is read is spelled so, and what is spelled so is read, whatever follows.
-use Rattle.std.proofs.Common.{◌≡◌, ℕ, ◌+◌, ◌*◌, ◌/◌, ◌<◌, ◌≤◌, Bool, true, false, cond, ltb, List, [], ◌∷◌, ◌++◌, length, take, drop, Result, Ok, Err, refl, sym, ap, subst, ◌∙◌, append_assoc, arith}
-use Rattle.std.specs.Prelude.{⊤}
-use Rattle.std.specs.Int.{Width, w8, w16, w32, byte_len, from_be_bytes, to_be_bytes}
-use Rattle.std.proofs.lemmas.Bool.{ltb-false, le-ltb}
-use Rattle.std.proofs.lemmas.List.{take_at, drop_at, take-append-drop, length-append, length-take, length-drop}
-use Rattle.wal_shape.specs.declared.opening.Opening.{Opening}
-use Rattle.wal_shape.specs.declared.body.BodyFault.{BodyFault}
+use Rattle.wal_shape.proofs.Common.{◌≡◌, ℕ, ◌+◌, ◌*◌, ◌/◌, ◌<◌, ◌≤◌, Bool, true, false, cond, ltb, List, [], ◌∷◌, ◌++◌, length, take, drop, Result, Ok, Err, refl, sym, ap, subst, ◌∙◌, append_assoc, arith, ⊤, Width, w8, w16, w32, byte_len, from_be_bytes, to_be_bytes, ltb-false, le-ltb, take_at, drop_at, take-append-drop, length-append, length-take, length-drop, Opening, BodyFault, most_bytes, IsBody, number_text, body_text, ◌>>=◌, number_at, run_at, body_at}
 use Rattle.wal_shape.specs.declared.body.BodyFault.TheVariants.{Truncated, BadField}
-use Rattle.wal_shape.specs.Shape.{most_bytes}
-use Rattle.wal_shape.specs.Opening.{IsBody}
-use Rattle.wal_shape.specs.Spelling.{number_text, body_text}
-use Rattle.wal_shape.specs.FieldReading.{◌>>=◌, number_at, run_at}
-use Rattle.wal_shape.specs.BodyReading.{body_at}
 use Rattle.wal_shape.proofs.Codecs.{ok_is, Takes, Reading, goes, fails, Codec, IsReader, taken_of, alone, both, seen, named_is}
 use Rattle.wal_shape.proofs.Numbers.{IsBytes, IsBytes-drop, IsBytes-take, IsWide, wide8, wide16, wide32, byte_text}
 

@@ -1,8 +1,5 @@
 -- Readers that are made of readers of parts: what is read is spelled so, and read again, and a fault lies among the bytes.
-use Rattle.std.proofs.Common.{◌≡◌, ℕ, ◌+◌, ◌≤◌, Bool, true, false, not, List, [], ◌++◌, length, Result, Ok, Err, refl, sym, ap, subst, ◌∙◌, append_assoc, arith}
-use Rattle.std.specs.Prelude.{⊤}
-use Rattle.std.proofs.lemmas.List.{length-append}
-use Rattle.wal_shape.specs.FieldReading.{◌>>=◌}
+use Rattle.wal_shape.proofs.Common.{◌≡◌, ℕ, ◌+◌, ◌≤◌, Bool, true, false, not, List, [], ◌++◌, length, Result, Ok, Err, refl, sym, ap, subst, ◌∙◌, append_assoc, arith, ⊤, length-append, ◌>>=◌}
 use Rattle.wal_shape.proofs.Numbers.{IsBytes}
 
 pub ok_is : {A E : Type 0} (x y : A) → ◌≡◌ {A = Result A E} (Ok x) (Ok y) → x ≡ y

@@ -5,3 +5,4 @@ pub mod MetadataLaws
 pub mod Codecs
 pub mod BodyLaws
 pub mod ProofLaws
+mod Common

@@ -1,18 +1,8 @@
 -- What is read as metadata is spelled so, and what is spelled so is read: each metadata has one spelling of its own.
-use Rattle.std.proofs.Common.{◌≡◌, ℕ, zero, suc, ◌+◌, ◌-◌, ◌*◌, ◌==◌, if◌then◌else◌, ◌<◌, ◌≤◌, Bool, true, false, List, [], ◌∷◌, ◌++◌, length, get_or, take, drop, reverse, Some, slice_get, refl, sym, ap, subst, ◌∙◌, append_assoc, arith}
-use Rattle.std.specs.List.{AllByRecursion}
-use Rattle.std.specs.Int.{w16, w64, to_be_bytes}
-use Rattle.std.proofs.lemmas.List.{append-nil, take_at, drop_at, take-append-drop, length-append, length-take, length-drop, drop-drop, drop-take, take-take, nil_from_length, length-reverse, reverse-reverse, get_or-reverse, reverse-append}
-use Rattle.std.proofs.lemmas.Bool.{eqb-true}
+use Rattle.wal_shape.proofs.Common.{◌≡◌, ℕ, zero, suc, ◌+◌, ◌-◌, ◌*◌, ◌==◌, if◌then◌else◌, ◌<◌, ◌≤◌, Bool, true, false, List, [], ◌∷◌, ◌++◌, length, get_or, take, drop, reverse, Some, slice_get, refl, sym, ap, subst, ◌∙◌, append_assoc, arith, AllByRecursion, w16, w64, to_be_bytes, append-nil, take_at, drop_at, take-append-drop, length-append, length-take, length-drop, drop-drop, drop-take, take-take, nil_from_length, length-reverse, reverse-reverse, get_or-reverse, reverse-append, eqb-true, Axis, Primary, Secondary, shard_count, BlobMetadata, AreRoots, IsMetadata, roots_of, held_index, held_order, number_text, pairs_text, format_text, metadata_text, text_size, spelled_format, behind_format, spelled_f, spelled_length, pairs_in, every_root, metadata_in, spelled_metadata}
 use Rattle.std.proofs.lemmas.Option.{slice_get-get_or}
-use Rattle.wal_shape.specs.declared.axis.Axis.{Axis}
-use Rattle.wal_shape.specs.declared.axis.Axis.TheVariants.{Primary, Secondary}
 use Rattle.wal_shape.specs.declared.shape.Format.{Format}
 use Rattle.wal_shape.specs.declared.shape.Format.TheVariants.{One, Two}
-use Rattle.wal_shape.specs.Shape.{shard_count}
-use Rattle.wal_shape.specs.Metadata.{BlobMetadata, AreRoots, IsMetadata, roots_of, held_index, held_order}
-use Rattle.wal_shape.specs.Spelling.{number_text, pairs_text, format_text, metadata_text, text_size}
-use Rattle.wal_shape.specs.MetadataReading.{spelled_format, behind_format, spelled_f, spelled_length, pairs_in, every_root, metadata_in, spelled_metadata}
 use Rattle.wal_shape.specs.inside.MetadataReading.{AreNumbersAndRoots, SpellMetadata, root_place_of}
 use Rattle.wal_shape.proofs.Numbers.{IsBytes, IsBytes-drop, IsBytes-take, wide16, wide64}
 

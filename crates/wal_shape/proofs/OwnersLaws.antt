@@ -1,11 +1,7 @@
 -- Flags of numbers, and what holds of all numbers below another.
-use Rattle.std.proofs.Common.{refl, ◌≡◌, ◌≢◌, ℕ, zero, suc, ◌+◌, ◌<◌, ◌≤◌, Bool, true, false, ◌||◌, ◌&&◌, nat_eq, nat_lt, List, [], ◌∷◌, length, take, get_or, slice_set, replicate, ◌⊎◌, inl, inr, sym, ap, ◌∙◌, arith, subst}
-use Rattle.std.specs.List.{list_any, list_all}
+use Rattle.wal_shape.proofs.Common.{refl, ◌≡◌, ◌≢◌, ℕ, zero, suc, ◌+◌, ◌<◌, ◌≤◌, Bool, true, false, ◌||◌, ◌&&◌, nat_eq, nat_lt, List, [], ◌∷◌, length, take, get_or, slice_set, replicate, ◌⊎◌, inl, inr, sym, ap, ◌∙◌, arith, subst, list_any, list_all, cases_lt, cases_eq, eq-eqb, ne_eqb, or_right, false≢true, true_from_ne_false, and_parts, lt-ltb, le-ltb, ltb-true, length-replicate, get_or-replicate, get_or-set_same, get_or-set_other, get_or_past, every_below, node_of}
 use Rattle.std.proofs.Math.Bool.{or-false, and-false}
-use Rattle.std.proofs.lemmas.Bool.{cases_lt, cases_eq, eq-eqb, ne_eqb, or_right, false≢true, true_from_ne_false, and_parts, lt-ltb, le-ltb, ltb-true}
-use Rattle.std.proofs.lemmas.List.{length-replicate, get_or-replicate, get_or-set_same, get_or-set_other, get_or_past}
 use Rattle.std.proofs.lemmas.List.Folds.{list_any_more, list_all_at}
-use Rattle.wal_shape.specs.Owners.{every_below, node_of}
 
 -- one more flag is up
 pub flag_raised : (flags : List Bool) (t s : ℕ) → t < length flags → get_or (slice_set flags t true) s false ≡ (get_or flags s false || nat_eq t s)

@@ -1,21 +1,6 @@
 -- What is read as a proof is spelled so, and what is spelled so is read: each proof has one spelling of its own.
-use Rattle.std.proofs.Common.{◌≡◌, ℕ, zero, suc, ◌+◌, ◌<◌, ◌≤◌, ◌-◌, List, [], ◌∷◌, ◌++◌, length, drop, Option, Some, None, Result, Ok, Err, slice_get, refl, sym, ap, subst, ◌∙◌, append_assoc, arith}
-use Rattle.std.specs.Prelude.{IfSome, IfNone}
-use Rattle.std.specs.List.{AllByRecursion, flat_map}
-use Rattle.std.specs.Int.{w8, w16}
-use Rattle.std.proofs.lemmas.List.{append-nil}
+use Rattle.wal_shape.proofs.Common.{◌≡◌, ℕ, zero, suc, ◌+◌, ◌<◌, ◌≤◌, ◌-◌, List, [], ◌∷◌, ◌++◌, length, drop, Option, Some, None, Result, Ok, Err, slice_get, refl, sym, ap, subst, ◌∙◌, append_assoc, arith, IfSome, IfNone, AllByRecursion, flat_map, w8, w16, append-nil, Axis, Primary, Secondary, Opening, BodyFault, Head, IsBody, EncodingProof, IsProof, number_text, body_text, axis_number, proof_text, body_at, axis_of, with_others, openings_in, proof_with, proof_of, head_at, behind, bodies_end, SpellProof, ended, whole_head, head_in}
 use Rattle.std.proofs.lemmas.List.Concat.{flat_map-cons}
-use Rattle.wal_shape.specs.declared.axis.Axis.{Axis}
-use Rattle.wal_shape.specs.declared.axis.Axis.TheVariants.{Primary, Secondary}
-use Rattle.wal_shape.specs.declared.opening.Opening.{Opening}
-use Rattle.wal_shape.specs.declared.body.BodyFault.{BodyFault}
-use Rattle.wal_shape.specs.declared.proof.Head.{Head}
-use Rattle.wal_shape.specs.Opening.{IsBody}
-use Rattle.wal_shape.specs.EncodingProof.{EncodingProof, IsProof}
-use Rattle.wal_shape.specs.Spelling.{number_text, body_text, axis_number, proof_text}
-use Rattle.wal_shape.specs.BodyReading.{body_at}
-use Rattle.wal_shape.specs.ProofReading.{axis_of, with_others, openings_in, proof_with, proof_of}
-use Rattle.wal_shape.specs.inside.ProofReading.{head_at, behind, bodies_end, SpellProof, ended, whole_head, head_in}
 use Rattle.wal_shape.proofs.Codecs.{ok_is, Takes, Takes-none, Takes-then, Codec, IsReader, taken_of, both, seen, named_is}
 use Rattle.wal_shape.proofs.Numbers.{IsBytes, wide8, wide16, byte_text}
 use Rattle.wal_shape.proofs.BodyLaws.{IsBelow, number, body_taken, body_again}

@@ -1,10 +1,6 @@
 -- The symbol size is the least even one that has room, and all sizes of a shape stay small.
-use Rattle.std.proofs.Common.{◌≡◌, ℕ, ◌+◌, ◌*◌, ◌/◌, ◌%◌, ◌≤◌, ◌<◌, max, arith, inl, inr, ◌⊎◌}
+use Rattle.wal_shape.proofs.Common.{◌≡◌, ℕ, ◌+◌, ◌*◌, ◌/◌, ◌%◌, ◌≤◌, ◌<◌, max, arith, inl, inr, ◌⊎◌, cases_lt, div-add-mod', mod_below, div_ceil, IsShape, IsSymbolSize, shard_count, cell_count, symbol_size, most_bytes}
 use Rattle.std.proofs.Math.Nat.{mul-le-mul_left, lt_of_mul-lt-mul_left, le_of_mul-le-mul_left}
-use Rattle.std.proofs.lemmas.Bool.{cases_lt}
-use Rattle.std.proofs.lemmas.Nat.{div-add-mod', mod_below}
-use Rattle.std.specs.Int.{div_ceil}
-use Rattle.wal_shape.specs.Shape.{IsShape, IsSymbolSize, shard_count, cell_count, symbol_size, most_bytes}
 
 -- a quotient rounded up: exact where nothing is left over, and else one more
 div_ceil-cases : (x y : ℕ) → 0 < y → ((y * div_ceil x y ≡ x) × (div_ceil x y ≡ x / y)) ⊎ ((y * (x / y) < x) × (x < y * div_ceil x y) × (y * div_ceil x y + 1 ≤ x + y) × (div_ceil x y ≡ x / y + 1))

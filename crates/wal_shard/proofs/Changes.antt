@@ -1,15 +1,9 @@
 -- What is held under each identifier once one of them changed.
-use Rattle.std.proofs.Common.{◌≡◌, Bool, true, false, cond, Option, Some, None, refl, sym, ap, ◌∙◌, subst, unwrap_or, arith}
+use Rattle.wal_shard.proofs.Common.{◌≡◌, Bool, true, false, cond, Option, Some, None, refl, sym, ap, ◌∙◌, subst, unwrap_or, arith, eq_by_cmp, is_eq, get-insert, get-remove, get-retain_keys, BlobId, id_cmp, Parts, no_parts, is_empty, Contents, parts_at, with_parts}
 use Rattle.std.specs.declared.cmp.Ordering.{Ordering}
 use Rattle.std.specs.declared.cmp.Ordering.TheVariants.{Equal}
-use Rattle.std.specs.Ordering.{eq_by_cmp, is_eq}
 use Rattle.std.specs.Cmp.{tied_itself}
 use Rattle.std.specs.FinMap as map
-use Rattle.std.specs.FinMap.{get-insert, get-remove, get-retain_keys}
-use Rattle.wal_shape.specs.declared.metadata.BlobId.{BlobId}
-use Rattle.wal_shape.specs.Identifiers.{id_cmp}
-use Rattle.wal_store.specs.Parts.{Parts, no_parts, is_empty}
-use Rattle.wal_store.specs.Contents.{Contents, parts_at, with_parts}
 use Rattle.wal_store.proofs.IdentifierLaws.{ids_total, exact_ids}
 
 equal_of : (o : Ordering) → is_eq o ≡ true → o ≡ Equal

@@ -1,24 +1,8 @@
 -- What sound holdings hold: the metadata, and how long each part is.
-use Rattle.std.proofs.Common.{◌≡◌, ◌↔◌, ℕ, ◌+◌, ◌*◌, ◌≤◌, Bool, Option, Some, None, IsTrue, IsSome, List, [], length, sym, ap, ◌∙◌, subst, unwrap_or, arith}
-use Rattle.wal_shape.specs.declared.axis.Axis.{Axis}
-use Rattle.wal_shape.specs.declared.axis.Axis.TheVariants.{Primary, Secondary}
-use Rattle.wal_shape.specs.Shape.{shard_count, column_count, symbol_size, most_bytes}
-use Rattle.wal_shape.specs.Metadata.{BlobMetadata, IsMetadata, held_index}
-use Rattle.wal_shape.specs.Spelling.{metadata_text, proof_text, text_size}
-use Rattle.wal_shape.specs.EncodingProof.{EncodingProof, IsProof}
+use Rattle.wal_shard.proofs.Common.{◌≡◌, ◌↔◌, ℕ, ◌+◌, ◌*◌, ◌≤◌, Bool, Option, Some, None, IsTrue, IsSome, List, [], length, sym, ap, ◌∙◌, subst, unwrap_or, arith, Axis, Primary, Secondary, shard_count, column_count, symbol_size, most_bytes, BlobMetadata, IsMetadata, held_index, metadata_text, proof_text, text_size, EncodingProof, IsProof, proof_shown, length-metadata_text, text_size-least, text_size-most, Parts, part_of, with_part, HoldsSliver, IsBadProof, Sliver, Proof, sliver_part, HoldsMetadata, IsSound, Verifies, IsOwnMetadata}
 use Rattle.wal_shape.specs.declared.proof.ProofRef.{ProofRef}
-use Rattle.wal_shape.specs.ProofRef.{proof_shown}
-use Rattle.wal_shape.proofs.MetadataLaws.{length-metadata_text, text_size-least, text_size-most}
 use Rattle.wal_shape.proofs.ProofLaws.{proof_text-injective, IsProof-spelled}
 use Rattle.wal_shape.specs.declared.part.Part.TheVariants as parts
-use Rattle.wal_store.specs.Parts.{Parts, part_of, with_part}
-use Rattle.wal_commit.specs.Held.{HoldsSliver}
-use Rattle.wal_evidence.specs.BadProof.{IsBadProof}
-use Rattle.wal_frame.specs.Frame.{Sliver, Proof}
-use Rattle.wal_shape.specs.Part.{sliver_part}
-use Rattle.wal_shard.specs.Holding.{HoldsMetadata, IsSound}
-use Rattle.wal_shard.specs.Putting.{Verifies}
-use Rattle.wal_shard.specs.State.{IsOwnMetadata}
 use Rattle.wal_shard.proofs.Sizes.{bad_proof_most, sliver_most, sliver_short}
 use Rattle.wal_shard.proofs.Soundness.{one_metadata, sliver_sound, proof_sound}
 

@@ -1,22 +1,6 @@
 -- What a recovery keeps is sound.
-use Rattle.std.proofs.Common.{◌≡◌, ℕ, cond, is_some, Option, Some, None, List, Result, Ok, Err, refl, sym, ap, ◌∙◌, subst}
-use Rattle.std.specs.Prelude.{OnOk, OnErr}
-use Rattle.wal_shape.specs.declared.metadata.BlobId.{BlobId}
-use Rattle.wal_shape.specs.declared.axis.Axis.{Axis}
-use Rattle.wal_shape.specs.Metadata.{BlobMetadata, IsMetadata, held_index}
-use Rattle.wal_shape.specs.Spelling.{metadata_text, proof_text}
-use Rattle.wal_shape.specs.EncodingProof.{EncodingProof, IsProof}
-use Rattle.wal_shape.specs.declared.part.Part.{Part}
+use Rattle.wal_shard.proofs.Common.{◌≡◌, ℕ, cond, is_some, Option, Some, None, List, Result, Ok, Err, refl, sym, ap, ◌∙◌, subst, OnOk, OnErr, BlobId, Axis, BlobMetadata, IsMetadata, held_index, metadata_text, proof_text, EncodingProof, IsProof, Part, with_part, Contents, parts_at, part_at, with_bytes, Commits, HoldsSliver, IsBadProof, sliver_part, HoldsMetadata, IsSound, kept, AreSound}
 use Rattle.wal_shape.specs.declared.part.Part.TheVariants as parts
-use Rattle.wal_store.specs.Parts.{with_part}
-use Rattle.wal_store.specs.Contents.{Contents, parts_at, part_at, with_bytes}
-use Rattle.wal_commit.specs.Identifier.{Commits}
-use Rattle.wal_commit.specs.Held.{HoldsSliver}
-use Rattle.wal_evidence.specs.BadProof.{IsBadProof}
-use Rattle.wal_shape.specs.Part.{sliver_part}
-use Rattle.wal_shard.specs.Holding.{HoldsMetadata, IsSound}
-use Rattle.wal_shard.specs.Keeping.{kept}
-use Rattle.wal_shard.specs.State.{AreSound}
 use Rattle.wal_shard.proofs.Changes.{insert_changes, changed_there}
 use Rattle.wal_shard.proofs.Soundness.{put_sound, metadata_sound, sliver_sound, proof_sound}
 

@@ -7,3 +7,4 @@ pub mod ReplyLaws
 pub mod KeepLaws
 pub mod Pieces
 pub mod OnePut
+mod Common

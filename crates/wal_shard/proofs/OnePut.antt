@@ -1,18 +1,9 @@
 -- A put has one answer.
-use Rattle.std.proofs.Common.{◌≡◌, ◌≢◌, ℕ, ◌<◌, false, List, Option, Some, None, IsSome, sym, subst, ◌∙◌, arith}
+use Rattle.wal_shard.proofs.Common.{◌≡◌, ◌≢◌, ℕ, ◌<◌, false, List, Option, Some, None, IsSome, sym, subst, ◌∙◌, arith, BlobId, BlobMetadata, metadata_text, Frame, Metadata, Sliver, Proof, Parts, Contents, parts_at, part_at, PutAnswer, Stored, Held, Unregistered, NoMetadata, Unverified, OtherMetadata, Full, Memory, PutDesk, IsHeldIn, Puts, PutsOrWants, RestsOnMetadata, Verifies, put_id, put_part}
 use Rattle.std.proofs.lemmas.Bool.{false≢true}
-use Rattle.wal_shape.specs.declared.metadata.BlobId.{BlobId}
 use Rattle.wal_shape.specs.declared.text.MetaClash.{MetaClash}
-use Rattle.wal_shape.specs.Metadata.{BlobMetadata}
-use Rattle.wal_shape.specs.Spelling.{metadata_text}
 use Rattle.wal_shape.specs.declared.part.Part.TheVariants as parts
-use Rattle.wal_frame.specs.Frame.{Frame, Metadata, Sliver, Proof}
-use Rattle.wal_store.specs.Parts.{Parts}
-use Rattle.wal_store.specs.Contents.{Contents, parts_at, part_at}
 use Rattle.wal_store.specs.Answer.{HasRoom}
-use Rattle.wal_shard.specs.declared.answers.PutAnswer.{PutAnswer}
-use Rattle.wal_shard.specs.declared.answers.PutAnswer.TheVariants.{Stored, Held, Unregistered, NoMetadata, Unverified, OtherMetadata, Full, Memory}
-use Rattle.wal_shard.specs.Putting.{PutDesk, IsHeldIn, Puts, PutsOrWants, RestsOnMetadata, Verifies, put_id, put_part}
 
 pub some_is : {A : Type 0} (o : Option A) (x y : A) → o ≡ Some x → o ≡ Some y → x ≡ y
 some_is o x y a b = cc

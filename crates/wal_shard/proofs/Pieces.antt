@@ -1,5 +1,5 @@
 -- Two texts of one length, of which pieces were compared in order.
-use Rattle.std.proofs.Common.{◌≡◌, ◌≢◌, ℕ, ◌+◌, Option, Some, IsSome, List, [], take, drop, unwrap_or, ap, ◌∙◌}
+use Rattle.wal_shard.proofs.Common.{◌≡◌, ◌≢◌, ℕ, ◌+◌, Option, Some, IsSome, List, [], take, drop, unwrap_or, ap, ◌∙◌}
 use Rattle.std.proofs.Math.Seq.{take-add}
 use Rattle.wal_shard.proofs.HeldLaws.{some_of}
 

@@ -1,13 +1,6 @@
 -- What comparing a metadata with the held one comes to, as what a put answers.
-use Rattle.std.proofs.Common.{◌≡◌, ℕ, Bool, List, refl, sym, subst}
-use Rattle.wal_shape.specs.declared.metadata.BlobId.{BlobId}
-use Rattle.wal_shape.specs.Metadata.{BlobMetadata}
+use Rattle.wal_shard.proofs.Common.{◌≡◌, ℕ, Bool, List, refl, sym, subst, BlobId, BlobMetadata, Contents, part_at, Metadata, PutAnswer, Held, OtherMetadata, PutDesk, IsAccepted, PutsOrWants, Compares, put_id}
 use Rattle.wal_shape.specs.declared.part.Part.TheVariants as parts
-use Rattle.wal_store.specs.Contents.{Contents, part_at}
-use Rattle.wal_frame.specs.Frame.{Metadata}
-use Rattle.wal_shard.specs.declared.answers.PutAnswer.{PutAnswer}
-use Rattle.wal_shard.specs.declared.answers.PutAnswer.TheVariants.{Held, OtherMetadata}
-use Rattle.wal_shard.specs.Putting.{PutDesk, IsAccepted, PutsOrWants, Compares, put_id}
 
 -- a metadata that is accepted, beside one that is held: it is the same, or two texts are given
 compared_as : (digest : List ℕ → List ℕ) (may_want : Bool) (d : PutDesk) (old : Contents) (m : BlobMetadata) (answer : PutAnswer)

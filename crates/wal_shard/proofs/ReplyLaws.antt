@@ -1,26 +1,13 @@
 -- What a shard writes in answer to requests, part by part.
-use Rattle.std.proofs.Common.{◌≡◌, ℕ, ◌+◌, ◌-◌, ◌*◌, ◌/◌, ◌<◌, ◌≤◌, Option, Some, None, IsSome, List, [], ◌∷◌, ◌++◌, length, refl, sym, ap, ◌∙◌, subst, unwrap_or, append_assoc, arith}
+use Rattle.wal_shard.proofs.Common.{◌≡◌, ℕ, ◌+◌, ◌-◌, ◌*◌, ◌/◌, ◌<◌, ◌≤◌, Option, Some, None, IsSome, List, [], ◌∷◌, ◌++◌, length, refl, sym, ap, ◌∙◌, subst, unwrap_or, append_assoc, arith, mul-le-mul_right, shard_count, row_count, column_count, symbol_size, most_bytes, symbol_size-least, symbol_size-longest, BlobMetadata, spelled_format, spelled_metadata, metadata_text, spelled_metadata-text, spelled_metadata-format, Parts, Buffer, appended, envelope, metadata_kind, metadata_frame, IsSound, payload_if, IsOwnMetadata}
 use Rattle.std.specs.List.{flat_map}
 use Rattle.std.proofs.lemmas.List.{length-append, append-nil}
 use Rattle.std.proofs.lemmas.List.Concat.{flat_map-cons}
 use Rattle.std.proofs.lemmas.Grind.{flat_map-append}
 use Rattle.wal_shape.specs.declared.shape.Format.{Format}
-use Rattle.std.proofs.Math.Nat.{mul-le-mul_right}
-use Rattle.wal_shape.specs.Shape.{shard_count, row_count, column_count, symbol_size, most_bytes}
-use Rattle.wal_shape.proofs.ShapeLaws.{symbol_size-least}
-use Rattle.wal_matrix.proofs.ToolsLaws.{symbol_size-longest}
-use Rattle.wal_shape.specs.Metadata.{BlobMetadata}
-use Rattle.wal_shape.specs.MetadataReading.{spelled_format, spelled_metadata}
-use Rattle.wal_shape.specs.Spelling.{metadata_text}
 use Rattle.wal_tree.specs.Path.{height}
 use Rattle.wal_tree.proofs.Paths.{height-le}
 use Rattle.wal_tree.proofs.Collisions.{count_few}
-use Rattle.wal_shape.proofs.MetadataLaws.{spelled_metadata-text, spelled_metadata-format}
-use Rattle.wal_store.specs.Parts.{Parts}
-use Rattle.wal_frame.specs.Buffer.{Buffer, appended}
-use Rattle.wal_frame.specs.Frame.{envelope, metadata_kind, metadata_frame}
-use Rattle.wal_shard.specs.Holding.{IsSound, payload_if}
-use Rattle.wal_shard.specs.State.{IsOwnMetadata}
 use Rattle.wal_shard.specs.Replying.{WritesReply}
 use Rattle.wal_shard.proofs.HeldLaws.{own_metadata}
 

@@ -1,15 +1,5 @@
 -- How long the parts are that a shard holds.
-use Rattle.std.proofs.Common.{ℕ, ◌+◌, ◌*◌, ◌<◌, ◌≤◌, List, length, arith}
-use Rattle.std.proofs.Math.Nat.{mul-le-mul_left, mul-le-mul_right}
-use Rattle.wal_shape.specs.declared.axis.Axis.{Axis}
-use Rattle.wal_shape.specs.Shape.{shard_count, column_count, sliver_symbols, symbol_size, most_bytes}
-use Rattle.wal_shape.specs.Metadata.{BlobMetadata, IsMetadata}
-use Rattle.wal_shape.specs.Spelling.{proof_text}
-use Rattle.wal_shape.specs.EncodingProof.{EncodingProof, IsProof}
-use Rattle.wal_shape.proofs.ShapeLaws.{matrix_bytes-bound, symbol_size-least}
-use Rattle.wal_matrix.proofs.ToolsLaws.{symbol_size-longest}
-use Rattle.wal_commit.specs.Held.{HoldsSliver}
-use Rattle.wal_evidence.specs.BadProof.{IsBadProof}
+use Rattle.wal_shard.proofs.Common.{ℕ, ◌+◌, ◌*◌, ◌<◌, ◌≤◌, List, length, arith, mul-le-mul_left, mul-le-mul_right, Axis, shard_count, column_count, sliver_symbols, symbol_size, most_bytes, BlobMetadata, IsMetadata, proof_text, EncodingProof, IsProof, matrix_bytes-bound, symbol_size-least, symbol_size-longest, HoldsSliver, IsBadProof}
 use Rattle.wal_evidence.proofs.ProofSizes.{bad_proof_long, narrow, length-proof_text}
 
 -- so many pieces of a symbol and a few bytes more are no more than as many of the longest symbol

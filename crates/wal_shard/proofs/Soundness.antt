@@ -1,29 +1,7 @@
 -- What is held stays sound.
-use Rattle.std.proofs.Common.{◌≡◌, ℕ, Bool, true, false, cond, Option, Some, None, List, Result, Ok, Err, refl, sym, ap, ◌∙◌, subst, unwrap_or, arith}
-use Rattle.std.specs.Prelude.{OnOk, OnErr}
-use Rattle.std.specs.Ordering.{eq_by_cmp}
+use Rattle.wal_shard.proofs.Common.{◌≡◌, ℕ, Bool, true, false, cond, Option, Some, None, List, Result, Ok, Err, refl, sym, ap, ◌∙◌, subst, unwrap_or, arith, OnOk, OnErr, eq_by_cmp, get-empty, BlobId, Axis, Primary, Secondary, id_cmp, BlobMetadata, held_index, metadata_text, proof_text, EncodingProof, IsProof, metadata_text-injective, Part, Parts, no_parts, part_of, with_part, Contents, parts_at, with_bytes, without_part, Commits, HoldsSliver, IsBadProof, Log, is_live, sliver_part, HoldsMetadata, IsSound, without_slivers, without_dead, AreSound}
 use Rattle.std.specs.FinMap as map
-use Rattle.std.specs.FinMap.{get-empty}
-use Rattle.wal_shape.specs.declared.metadata.BlobId.{BlobId}
-use Rattle.wal_shape.specs.declared.axis.Axis.{Axis}
-use Rattle.wal_shape.specs.declared.axis.Axis.TheVariants.{Primary, Secondary}
-use Rattle.wal_shape.specs.Identifiers.{id_cmp}
-use Rattle.wal_shape.specs.Metadata.{BlobMetadata, held_index}
-use Rattle.wal_shape.specs.Spelling.{metadata_text, proof_text}
-use Rattle.wal_shape.specs.EncodingProof.{EncodingProof, IsProof}
-use Rattle.wal_shape.proofs.MetadataLaws.{metadata_text-injective}
-use Rattle.wal_shape.specs.declared.part.Part.{Part}
 use Rattle.wal_shape.specs.declared.part.Part.TheVariants as parts
-use Rattle.wal_store.specs.Parts.{Parts, no_parts, part_of, with_part}
-use Rattle.wal_store.specs.Contents.{Contents, parts_at, with_bytes, without_part}
-use Rattle.wal_commit.specs.Identifier.{Commits}
-use Rattle.wal_commit.specs.Held.{HoldsSliver}
-use Rattle.wal_evidence.specs.BadProof.{IsBadProof}
-use Rattle.wal_ledger.specs.Ledger.{Log, is_live}
-use Rattle.wal_shape.specs.Part.{sliver_part}
-use Rattle.wal_shard.specs.Holding.{HoldsMetadata, IsSound}
-use Rattle.wal_shard.specs.Vouching.{without_slivers, without_dead}
-use Rattle.wal_shard.specs.State.{AreSound}
 use Rattle.wal_shard.proofs.Changes.{ChangesAt, same_id, insert_changes, with_parts_changes, retained}
 
 -- one metadata is held

@@ -1,13 +1,5 @@
 -- Two keeps under one contract, and the same calls.
-use Rattle.std.proofs.Common.{◌≡◌, ◌≢◌, ℕ, ◌<◌, ◌≤◌, Bool, false, Option, Some, List, [], ◌∷◌, ◌++◌, ◌⊎◌, inl, inr, ◌↔◌, Ok, Err, IsOk, OnOk, OnErr, All, refl, sym, ap, ◌∙◌, subst, arith, append_assoc}
-use Rattle.std.proofs.lemmas.Bool.{false≢true}
-use Rattle.std.proofs.lemmas.List.Elements.{All-nil, All-cons, All-head, All-tail, All-append}
-use Rattle.wal_shape.specs.declared.BlobId.{BlobId}
-use Rattle.wal_shape.specs.declared.part.Part.{Part}
-use Rattle.wal_store.specs.declared.contract.KeepError.TheVariants.{Full, Memory}
-use Rattle.wal_store.specs.Contents.{Contents, with_bytes, free_of, needed_for}
-use Rattle.wal_store.specs.Answer.{HasRoom, IsPutAnswer}
-use Rattle.wal_store.specs.Calls.{PutAnswer, Call, Put, after_call, after_calls, AreLawful, after_put, RunsTo, Continues, NoneWants, WantsNext, GoTogether}
+use Rattle.wal_store.proofs.Common.{◌≡◌, ◌≢◌, ℕ, ◌<◌, ◌≤◌, Bool, false, Option, Some, List, [], ◌∷◌, ◌++◌, ◌⊎◌, inl, inr, ◌↔◌, Ok, Err, IsOk, OnOk, OnErr, All, refl, sym, ap, ◌∙◌, subst, arith, append_assoc, false≢true, All-nil, All-cons, All-head, All-tail, All-append, BlobId, Part, Full, Memory, Contents, with_bytes, free_of, needed_for, HasRoom, IsPutAnswer, PutAnswer, Call, Put, after_call, after_calls, AreLawful, after_put, RunsTo, Continues, NoneWants, WantsNext, GoTogether}
 
 not_both : (limit : Option ℕ) (m : Contents) (id : BlobId) (bytes : List ℕ) (needed free : ℕ) → HasRoom (free_of limit m) (needed_for m id bytes) → free_of limit m ≡ Some free → needed ≡ needed_for m id bytes → free < needed → ⊥
 not_both limit m id bytes needed free room is need full =

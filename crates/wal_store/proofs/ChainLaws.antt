@@ -1,11 +1,6 @@
 -- Chains of pages, and what a change of some pages leaves of the others.
-use Rattle.std.proofs.Common.{◌≡◌, ℕ, zero, suc, ◌+◌, ◌<◌, ◌≤◌, cond, Option, Some, List, [], ◌∷◌, slice_get, slice_index, refl, ap, ◌∙◌, arith, eq-eqb, ◌-◌, ◌*◌, min, ◌++◌, length, take, drop, count_by, sym, ◌≢◌, inl, inr, take-add}
-use Rattle.std.proofs.Math.Seq.{take-nil}
-use Rattle.std.proofs.lemmas.List.{length-take, length-drop, take_min, take-append-drop, drop-drop, drop_all, append-nil, take-take, drop-take, drop_at, drop-append-le}
-use Rattle.std.proofs.lemmas.Bool.{cases_eq}
-use Rattle.wal_pool.specs.Pages.{PageState, Free, Taken, bytes_in, IsTakenPage, is_free, page_bytes}
-use Rattle.wal_store.specs.inside.Chain.{Linked, links, joined, uses, taken_in, taken_at, Adds, Frees}
-use Rattle.wal_store.specs.Parts.{pages_for}
+use Rattle.wal_store.proofs.Common.{◌≡◌, ℕ, zero, suc, ◌+◌, ◌<◌, ◌≤◌, cond, Option, Some, List, [], ◌∷◌, slice_get, slice_index, refl, ap, ◌∙◌, arith, eq-eqb, ◌-◌, ◌*◌, min, ◌++◌, length, take, drop, count_by, sym, ◌≢◌, inl, inr, take-add, take-nil, take_min, take-append-drop, drop_all, append-nil, take-take, drop-take, drop_at, drop-append-le, cases_eq, PageState, Free, Taken, bytes_in, IsTakenPage, is_free, page_bytes, Linked, links, joined, uses, taken_in, taken_at, Adds, Frees, pages_for}
+use Rattle.std.proofs.lemmas.List.{length-take, length-drop, drop-drop}
 
 taken_in-le : (o : Option PageState) → taken_in o ≤ 1
 taken_in-le (Some Free) = omega arith

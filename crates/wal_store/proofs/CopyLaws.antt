@@ -1,7 +1,6 @@
 -- Copies of consecutive ranges.
-use Rattle.std.proofs.Common.{◌≡◌, ℕ, ◌+◌, List, [], ◌∷◌, ◌++◌, length, take, drop, refl, sym, ap, ◌∙◌, sum, drop-drop}
-use Rattle.std.proofs.Math.Seq.{take-add, take-length}
-use Rattle.std.proofs.lemmas.List.Sums.{sum_by-cons}
+use Rattle.wal_store.proofs.Common.{◌≡◌, ℕ, ◌+◌, List, [], ◌∷◌, ◌++◌, length, take, drop, refl, sym, ap, ◌∙◌, sum, drop-drop, take-length, sum_by-cons}
+use Rattle.std.proofs.Math.Seq.{take-add}
 use Rattle.wal_store.specs.Copies.{copies}
 
 pub copies_join : (bytes : List ℕ) (at : ℕ) (sizes : List ℕ) → copies bytes at sizes ≡ take (sum sizes) (drop at bytes)

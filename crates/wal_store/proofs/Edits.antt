@@ -1,9 +1,7 @@
 -- Lists that are changed at a place.
-use Rattle.std.proofs.Common.{◌≡◌, ℕ, zero, suc, ◌+◌, ◌≤◌, Some, List, [], ◌∷◌, ◌++◌, map, length, take, drop, slice_get, slice_set, sym, ap, ◌∙◌, arith}
-use Rattle.std.specs.List.{AllByRecursion, insert, remove, sum_by}
-use Rattle.std.proofs.lemmas.List.{map-append, take-map, drop-map, length-append, length-take, length-drop}
-use Rattle.std.proofs.lemmas.List.Sums.{sum_by-set, sum_by-insert, sum_by-remove, get_or-le-sum_by}
-use Rattle.std.proofs.lemmas.Option.{slice_get_within, get_or_from_slice_get}
+use Rattle.wal_store.proofs.Common.{◌≡◌, ℕ, zero, suc, ◌+◌, ◌≤◌, Some, List, [], ◌∷◌, ◌++◌, map, length, take, drop, slice_get, slice_set, sym, ap, ◌∙◌, arith, AllByRecursion, sum_by, map-append, take-map, drop-map, length-append, sum_by-set, sum_by-insert, sum_by-remove, get_or-le-sum_by, slice_get_within, get_or_from_slice_get}
+use Rattle.std.specs.List.{insert, remove}
+use Rattle.std.proofs.lemmas.List.{length-take, length-drop}
 
 module _ {X Y : Type 0} (f : X → Y) where
   pub map-insert : (xs : List X) (i : ℕ) (x : X) → map f (insert xs i x) ≡ insert (map f xs) i (f x)

@@ -1,16 +1,7 @@
 -- Lists of entries in the order of their keys, and the finite map that they make.
-use Rattle.std.proofs.Common.{◌≡◌, true, cond, T, ◌++◌, Some, None, List, [], ◌∷◌, length, refl, sym, ap, ◌∙◌, arith, Ordering, Less, is_eq, append_assoc, ℕ, zero, suc, ◌<◌, slice_get, slice_set, Greater, Bool}
-use Rattle.std.specs.Cmp.{IsTotalOrder, eq_by_cmp_equiv, tied_itself}
-use Rattle.std.specs.List.{AllByRecursion, insert, remove}
-use Rattle.std.specs.List.Sorted.{IsStrictlySortedBy}
-use Rattle.std.specs.Map.{keys_of, lookup, set_value, remove_entry}
-use Rattle.std.specs.BTreeMap.{is_at, insert_entry}
-use Rattle.std.specs.FinMap.{FinMap, IsAntisymmetric}
-use Rattle.std.specs.FinMap.Entries.{find, put, is_sorted, below_all}
+use Rattle.wal_store.proofs.Common.{◌≡◌, true, cond, T, ◌++◌, Some, None, List, [], ◌∷◌, length, refl, sym, ap, ◌∙◌, arith, Ordering, Less, is_eq, append_assoc, ℕ, zero, suc, ◌<◌, slice_get, slice_set, Greater, Bool, IsTotalOrder, eq_by_cmp_equiv, tied_itself, AllByRecursion, IsStrictlySortedBy, keys_of, lookup, set_value, remove_entry, is_at, insert_entry, FinMap, IsAntisymmetric, find, put, is_sorted, below_all, lookup-none, lookup-remove_entry, none_below_head, sorted_tail, IsDistinct-from_sorted}
+use Rattle.std.specs.List.{insert, remove}
 use Rattle.std.specs.FinMap as fin
-use Rattle.std.proofs.lemmas.Map.{lookup-none, lookup-remove_entry}
-use Rattle.std.proofs.lemmas.Map.Entries.{none_below_head}
-use Rattle.std.proofs.lemmas.Map.Keys.{sorted_tail, IsDistinct-from_sorted}
 
 module _ {K X : Type 0} (R : K → K → Ordering) where
   below_test : (k : K) (es : List (K × X)) → AllByRecursion (λ y. R k y ≡ Less) (keys_of es) → below_all R k es ≡ true

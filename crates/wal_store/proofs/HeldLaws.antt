@@ -1,18 +1,6 @@
 -- Each holding of a keep has a part.
-use Rattle.std.proofs.Common.{◌≡◌, ℕ, zero, suc, Bool, true, false, cond, Some, List, [], ◌∷◌, slice_get, refl, ap, arith, Less, Equal, Greater, ◌+◌, Option, None, length, is_some, unwrap_or, ◌∙◌, option_map}
-use Rattle.std.specs.Ordering.{is_eq, match_ordering}
-use Rattle.std.specs.Cmp.{eq_by_cmp_equiv}
-use Rattle.std.specs.Map.{keys_of, remove_entry}
-use Rattle.std.specs.BTreeMap.{is_at, insert_entry}
-use Rattle.std.specs.List.Sorted.{IsStrictlySortedBy}
-use Rattle.std.proofs.lemmas.Map.Entries.{sum_by-insert_entry, sum_by-remove_entry}
-use Rattle.wal_shape.specs.declared.BlobId.{BlobId}
-use Rattle.wal_shape.specs.declared.part.Part.{Part}
-use Rattle.wal_shape.specs.declared.part.Part.TheVariants.{Metadata}
-use Rattle.wal_shape.specs.Identifiers.{id_cmp}
-use Rattle.wal_store.specs.Parts.{Parts, with_part, is_empty, no_parts, part_of, part_cost, cost_of}
-use Rattle.wal_store.specs.Entries.{Entries}
-use Rattle.wal_store.specs.inside.Entries.{found_in, parts_in, changed_in, AreKept, cost_in, cost_at, needed_in, freed_in}
+use Rattle.wal_store.proofs.Common.{◌≡◌, ℕ, zero, suc, Bool, true, false, cond, Some, List, [], ◌∷◌, slice_get, refl, ap, arith, Less, Equal, Greater, ◌+◌, Option, None, length, is_some, unwrap_or, ◌∙◌, option_map, match_ordering, eq_by_cmp_equiv, keys_of, remove_entry, is_at, insert_entry, IsStrictlySortedBy, sum_by-insert_entry, sum_by-remove_entry, BlobId, Part, Metadata, id_cmp, Parts, with_part, is_empty, no_parts, part_of, part_cost, cost_of, Entries, found_in, parts_in, changed_in, AreKept, cost_in, cost_at, needed_in, freed_in}
+use Rattle.std.specs.Ordering.{is_eq}
 use Rattle.wal_store.proofs.IdentifierLaws.{ids_total}
 
 -- a part that was put is there

@@ -1,17 +1,5 @@
 -- The order of identifiers, and a part that is written in place.
-use Rattle.std.proofs.Common.{◌≡◌, ℕ, List, Option, Some, ap}
-use Rattle.std.specs.Cmp.{IsTotalOrder}
-use Rattle.std.specs.List.Sorted.{IsStrictlySortedBy}
-use Rattle.std.specs.Map.{keys_of, set_value}
-use Rattle.std.specs.BTreeMap.{is_at, insert_entry}
-use Rattle.std.specs.FinMap.{IsAntisymmetric, nat_cmp-IsAntisymmetric, slice_cmp-IsAntisymmetric}
-use Rattle.std.proofs.lemmas.Cmp.{on_total, nat_list_cmp_total}
-use Rattle.wal_shape.specs.declared.BlobId.{BlobId}
-use Rattle.wal_shape.specs.declared.part.Part.{Part}
-use Rattle.wal_shape.specs.Identifiers.{id_cmp}
-use Rattle.wal_store.specs.Parts.{Parts, with_part}
-use Rattle.wal_store.specs.Entries.{Entries}
-use Rattle.wal_store.specs.inside.Entries.{found_in, parts_in}
+use Rattle.wal_store.proofs.Common.{◌≡◌, ℕ, List, Option, Some, ap, IsTotalOrder, IsStrictlySortedBy, keys_of, set_value, is_at, insert_entry, IsAntisymmetric, nat_cmp-IsAntisymmetric, slice_cmp-IsAntisymmetric, on_total, nat_list_cmp_total, BlobId, Part, id_cmp, Parts, with_part, Entries, found_in, parts_in}
 use Rattle.wal_store.proofs.EntriesLaws.{set_value_is}
 
 pub ids_total : IsTotalOrder id_cmp

@@ -1,30 +1,6 @@
 -- Rows at places against entries under identifiers.
-use Rattle.std.proofs.Common.{◌≡◌, ℕ, suc, ◌+◌, ◌-◌, ◌<◌, ◌≤◌, Bool, true, false, cond, ◌&&◌, Option, Some, None, List, [], ◌∷◌, map, length, take, drop, replicate, slice_get, slice_set, get_or, IsSome, count_by, refl, sym, ap, ◌∙◌, arith, insert, remove}
-use Rattle.std.specs.Cmp.{eq_by_cmp_equiv, tied_itself}
-use Rattle.std.specs.List.Sorted.{IsStrictlySortedBy}
-use Rattle.std.specs.Map.{keys_of, remove_entry}
-use Rattle.std.specs.BTreeMap.{is_at, insert_entry}
-use Rattle.std.proofs.lemmas.List.{length-map, drop-take, take-take}
-use Rattle.std.proofs.lemmas.List.Edits.{length-insert, get_or-insert_at}
+use Rattle.wal_store.proofs.Common.{◌≡◌, ℕ, suc, ◌+◌, ◌-◌, ◌<◌, ◌≤◌, Bool, true, false, cond, ◌&&◌, Option, Some, None, List, [], ◌∷◌, map, length, take, drop, replicate, slice_get, slice_set, get_or, IsSome, count_by, refl, sym, ap, ◌∙◌, arith, insert, remove, eq_by_cmp_equiv, tied_itself, IsStrictlySortedBy, keys_of, remove_entry, is_at, insert_entry, length-map, drop-take, take-take, length-insert, get_or-insert_at, sum_by-cons, lookup-remove_entry, lookup_from_place, lookup_at_gap, IsDistinct-from_sorted, slice_get-map, slice_get-get_or, slice_get_read, slice_get_within, BlobId, Part, Metadata, Primary, Secondary, Proof, Slot, Row, id_cmp, Parts, no_parts, part_of, with_part, is_absent, is_empty, cost_of, pages_for, PageState, Free, is_free, all_pages, Linked, links, uses, taken_at, Entries, found_in, parts_in, cost_in, changed_in, no_slots, slot_of, content, part_in, parts_of, ids_of, entries_of, no_slot, is_bare, Owns, IsGap}
 use Rattle.std.proofs.lemmas.List.Folds.{sum_by-replicate}
-use Rattle.std.proofs.lemmas.List.Sums.{sum_by-cons}
-use Rattle.std.proofs.lemmas.Map.{lookup-remove_entry}
-use Rattle.std.proofs.lemmas.Map.Entries.{lookup_from_place, lookup_at_gap}
-use Rattle.std.proofs.lemmas.Map.Keys.{IsDistinct-from_sorted}
-use Rattle.std.proofs.lemmas.Option.{slice_get-map, slice_get-get_or, slice_get_read, slice_get_within}
-use Rattle.wal_shape.specs.declared.BlobId.{BlobId}
-use Rattle.wal_shape.specs.declared.part.Part.{Part}
-use Rattle.wal_shape.specs.declared.part.Part.TheVariants.{Metadata, Primary, Secondary, Proof}
-use Rattle.wal_store.specs.declared.rows.Slot.{Slot}
-use Rattle.wal_store.specs.declared.rows.Row.{Row}
-use Rattle.wal_shape.specs.Identifiers.{id_cmp}
-use Rattle.wal_store.specs.Parts.{Parts, no_parts, part_of, with_part, is_absent, is_empty, cost_of, pages_for}
-use Rattle.wal_pool.specs.Pages.{PageState, Free, is_free}
-use Rattle.wal_store.specs.inside.Table.{all_pages}
-use Rattle.wal_store.specs.inside.Chain.{Linked, links, uses, taken_at}
-use Rattle.wal_store.specs.Entries.{Entries}
-use Rattle.wal_store.specs.inside.Entries.{found_in, parts_in, cost_in, changed_in}
-use Rattle.wal_store.specs.inside.Rows.{no_slots, slot_of, content, part_in, parts_of, ids_of, entries_of, no_slot, is_bare, Owns, IsGap}
 use Rattle.wal_store.proofs.IdentifierLaws.{ids_total}
 use Rattle.wal_store.proofs.EntriesLaws.{gone_none, set_at, remove_at, insert_at, found_put, put_twice, remove_put}
 use Rattle.wal_store.proofs.TableLaws.{keys_of-entries_of, slice_get-entries_of, part_of-slot, Sized, slot_of_row, slot_taken}

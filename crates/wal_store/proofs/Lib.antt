@@ -13,3 +13,4 @@ pub mod OrderLaws
 mod OrderedLaws
 mod NextLaws
 mod RetainLaws
+mod Common

@@ -1,27 +1,11 @@
 -- The first identifier past another one.
-use Rattle.std.proofs.Common.{◌≡◌, ℕ, ◌+◌, ◌<◌, Some, List, Result, Ok, Err, IfOk, IfErr, length, slice_get, get_or, ap, ◌∙◌, arith, Less, zero, suc, ◌≤◌, inl, inr, Bool, true, false, Option, None, [], ◌∷◌, filter, IfSome, refl, sym, option_map}
-use Rattle.std.specs.Ordering.{is_lt, ordering_reverse}
-use Rattle.std.specs.List.Sorted.{IsStrictlySortedBy, IsSearchInRange, IsBinarySearchResult}
+use Rattle.wal_store.proofs.Common.{◌≡◌, ℕ, ◌+◌, ◌<◌, Some, List, Result, Ok, Err, IfOk, IfErr, length, slice_get, get_or, ap, ◌∙◌, arith, Less, zero, suc, ◌≤◌, inl, inr, Bool, true, false, Option, None, [], ◌∷◌, filter, IfSome, refl, sym, option_map, ordering_reverse, IsStrictlySortedBy, IsSearchInRange, IsBinarySearchResult, keys_of, length-map, Less-from_sorted, slice_get-map, slice_get-get_or, slice_get_within, get_or_from_slice_get, cases_order, cases_Bool, BlobId, id_cmp, row_of, rows_at, IsGap, ids_of, Row, is_empty, Contents, parts_at, Entries, key_past, AreKept, past_bound, is_past, next_id}
+use Rattle.std.specs.Ordering.{is_lt}
 use Rattle.std.specs.declared.ops.Bound.{Bound}
 use Rattle.std.specs.declared.ops.Bound.TheVariants.{Unbounded}
-use Rattle.std.specs.Map.{keys_of}
 use Rattle.std.specs.BTreeMap.Range.{range_contains, entries_between}
-use Rattle.std.proofs.lemmas.List.{length-map}
 use Rattle.std.proofs.lemmas.List.Sorted.{searchable_from_sorted}
-use Rattle.std.proofs.lemmas.Map.Keys.{Less-from_sorted}
-use Rattle.std.proofs.lemmas.Option.{slice_get-map, slice_get-get_or, slice_get_within, get_or_from_slice_get}
-use Rattle.std.proofs.lemmas.Bool.{cases_order, cases_Bool}
 use Rattle.std.proofs.lemmas.Cmp.{tied_itself}
-use Rattle.wal_shape.specs.declared.BlobId.{BlobId}
-use Rattle.wal_shape.specs.Identifiers.{id_cmp}
-use Rattle.wal_store.specs.inside.Ordered.{row_of, rows_at}
-use Rattle.wal_store.specs.inside.Rows.{IsGap, ids_of}
-use Rattle.wal_store.specs.declared.rows.Row.{Row}
-use Rattle.wal_store.specs.Parts.{is_empty}
-use Rattle.wal_store.specs.Contents.{Contents, parts_at}
-use Rattle.wal_store.specs.Entries.{Entries, key_past}
-use Rattle.wal_store.specs.inside.Entries.{AreKept, past_bound}
-use Rattle.wal_store.specs.Places.{is_past, next_id}
 use Rattle.wal_store.proofs.IdentifierLaws.{ids_total, exact_ids}
 use Rattle.wal_store.proofs.StockLaws.{Shows, shown_keys, shown_kept}
 

@@ -1,16 +1,7 @@
 -- The places of the identifiers, after one went.
-use Rattle.std.proofs.Common.{◌≡◌, ℕ, zero, suc, ◌+◌, ◌<◌, ◌≤◌, Bool, true, false, T, ◌&&◌, Some, List, [], ◌∷◌, slice_get, refl, sym, ap, ◌∙◌, arith, Ordering, Less, is_lt}
-use Rattle.std.specs.List.{AllByRecursion, remove}
-use Rattle.std.specs.List.Sorted.{IsStrictlySortedBy}
-use Rattle.std.specs.Map.{keys_of, remove_entry}
-use Rattle.std.specs.BTreeMap.{is_at}
+use Rattle.wal_store.proofs.Common.{◌≡◌, ℕ, zero, suc, ◌+◌, ◌<◌, ◌≤◌, Bool, true, false, T, ◌&&◌, Some, List, [], ◌∷◌, slice_get, refl, sym, ap, ◌∙◌, arith, Ordering, Less, is_lt, AllByRecursion, IsStrictlySortedBy, keys_of, remove_entry, is_at, is_sorted, below_all, BlobId, id_cmp, Parts, Contents, Entries}
+use Rattle.std.specs.List.{remove}
 use Rattle.std.specs.FinMap as fin
-use Rattle.std.specs.FinMap.Entries.{is_sorted, below_all}
-use Rattle.wal_shape.specs.declared.BlobId.{BlobId}
-use Rattle.wal_shape.specs.Identifiers.{id_cmp}
-use Rattle.wal_store.specs.Parts.{Parts}
-use Rattle.wal_store.specs.Contents.{Contents}
-use Rattle.wal_store.specs.Entries.{Entries}
 use Rattle.wal_store.proofs.Edits.{map-remove}
 use Rattle.wal_store.proofs.EntriesLaws.{entries_view, remove_view, remove_at}
 use Rattle.wal_store.proofs.IdentifierLaws.{ids_total, exact_ids}

@@ -1,16 +1,8 @@
 -- Rows that stay where they are, and the list of their numbers.
-use Rattle.std.proofs.Common.{◌≡◌, ◌≢◌, ℕ, zero, suc, ◌+◌, ◌<◌, ◌≤◌, Some, List, [], ◌∷◌, ◌++◌, length, slice_get, slice_set, get_or, nat_eq, cond, refl, sym, ap, ◌∙◌, arith, option_map}
-use Rattle.std.specs.List.{insert, remove, range_with_len, sum_by}
-use Rattle.std.proofs.lemmas.Bool.Decides.{nat_tests}
-use Rattle.std.proofs.lemmas.List.{map-id, length-map, length-append, length-set, get_or-set_same, get_or-set_other}
-use Rattle.std.proofs.lemmas.List.Edits.{length-remove}
+use Rattle.wal_store.proofs.Common.{◌≡◌, ◌≢◌, ℕ, zero, suc, ◌+◌, ◌<◌, ◌≤◌, Some, List, [], ◌∷◌, ◌++◌, length, slice_get, slice_set, get_or, nat_eq, cond, refl, sym, ap, ◌∙◌, arith, option_map, range_with_len, sum_by, nat_tests, map-id, length-map, length-append, get_or-set_same, get_or-set_other, length-remove, is_sum_by, sum_by-append, slice_get_read, slice_get_within, slice_get-map, get_or_from_slice_get, Row, uses, RowList, row_of, rows_at, IsOrder}
+use Rattle.std.specs.List.{insert, remove}
+use Rattle.std.proofs.lemmas.List.{length-set}
 use Rattle.std.proofs.lemmas.List.FromFn.{map-range_with_len_more, length-range_with_len}
-use Rattle.std.proofs.lemmas.List.Recursion.{is_sum_by}
-use Rattle.std.proofs.lemmas.List.Sums.{sum_by-append}
-use Rattle.std.proofs.lemmas.Option.{slice_get_read, slice_get_within, slice_get-map, get_or_from_slice_get}
-use Rattle.wal_store.specs.declared.rows.Row.{Row}
-use Rattle.wal_store.specs.inside.Chain.{uses}
-use Rattle.wal_store.specs.inside.Ordered.{RowList, row_of, rows_at, IsOrder}
 use Rattle.wal_store.proofs.Edits.{map-insert, map-remove, length-insert, sum-insert, sum-remove, sum-within}
 use Rattle.wal_store.proofs.ChainLaws.{uses_self, uses_cons}
 

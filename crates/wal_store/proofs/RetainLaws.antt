@@ -1,19 +1,8 @@
 -- One pass over what is held lets all go that is not chosen.
-use Rattle.std.proofs.Common.{◌≡◌, ℕ, zero, suc, ◌+◌, ◌≢◌, ◌<◌, ◌≤◌, inl, inr, Bool, true, false, cond, is_some, Option, Some, None, List, [], ◌∷◌, length, filter, slice_get, refl, sym, ap, ◌∙◌, arith, Equal}
-use Rattle.std.specs.List.{list_any, remove}
-use Rattle.std.specs.Ordering.{is_lt, eq_by_cmp}
-use Rattle.std.specs.List.Sorted.{IsStrictlySortedBy}
-use Rattle.std.specs.Cmp.{Equal-is, tied_itself}
+use Rattle.wal_store.proofs.Common.{◌≡◌, ℕ, zero, suc, ◌+◌, ◌≢◌, ◌<◌, ◌≤◌, inl, inr, Bool, true, false, cond, is_some, Option, Some, None, List, [], ◌∷◌, length, filter, slice_get, refl, sym, ap, ◌∙◌, arith, Equal, list_any, eq_by_cmp, IsStrictlySortedBy, Equal-is, tied_itself, get-retain_keys, get-remove, same_map, contains_key-keys, len-entries, cases_eq, cases_lt, or_cases, true≢false, false≢true, length-map, length-filter, count_by-le-length, BlobId, id_cmp, Parts, Contents, is_past, next_id}
+use Rattle.std.specs.List.{remove}
+use Rattle.std.specs.Ordering.{is_lt}
 use Rattle.std.specs.FinMap as fin
-use Rattle.std.specs.FinMap.{get-retain_keys, get-remove, same_map, contains_key-keys, len-entries}
-use Rattle.std.proofs.lemmas.Bool.{cases_eq, cases_lt, or_cases, true≢false, false≢true}
-use Rattle.std.proofs.lemmas.List.{length-map}
-use Rattle.std.proofs.lemmas.List.Sums.{length-filter, count_by-le-length}
-use Rattle.wal_shape.specs.declared.BlobId.{BlobId}
-use Rattle.wal_shape.specs.Identifiers.{id_cmp}
-use Rattle.wal_store.specs.Parts.{Parts}
-use Rattle.wal_store.specs.Contents.{Contents}
-use Rattle.wal_store.specs.Places.{is_past, next_id}
 use Rattle.wal_store.proofs.Edits.{sum-remove, sum-within}
 use Rattle.wal_store.proofs.IdentifierLaws.{ids_total, exact_ids}
 use Rattle.wal_store.proofs.NextLaws.{in_order, IsFirstAt, first_at}

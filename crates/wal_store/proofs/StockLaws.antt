@@ -1,22 +1,8 @@
 -- What is seen of a keep whose holdings stand in order.
-use Rattle.std.proofs.Common.{◌≡◌, ℕ, ◌+◌, ◌-◌, ◌≤◌, Bool, true, false, not, cond, Option, Some, None, Ok, Err, List, length, slice_get, IfSome, is_some, unwrap_or, refl, sym, ap, ◌∙◌, arith}
-use Rattle.std.specs.Option.{option_map, ForSome}
-use Rattle.std.specs.List.Sorted.{IsStrictlySortedBy}
-use Rattle.std.specs.Map.{keys_of, remove_entry}
-use Rattle.std.specs.BTreeMap.{is_at, insert_entry}
+use Rattle.wal_store.proofs.Common.{◌≡◌, ℕ, ◌+◌, ◌-◌, ◌≤◌, Bool, true, false, not, cond, Option, Some, None, Ok, Err, List, length, slice_get, IfSome, is_some, unwrap_or, refl, sym, ap, ◌∙◌, arith, ForSome, IsStrictlySortedBy, keys_of, remove_entry, is_at, insert_entry, nat_tests, BlobId, Part, Full, Memory, Budget, id_cmp, Parts, no_parts, part_of, with_part, is_empty, pages_for, Contents, StoreState, parts_at, part_at, with_bytes, with_parts, without_part, cost, free_of, needed_for, HasRoom, IsPutAnswer, Entries, found_in, parts_in, cost_in, needed_in, changed_in, AreKept, InBudget, room_answer}
+use Rattle.std.specs.Option.{option_map}
 use Rattle.std.specs.FinMap as fin
-use Rattle.std.proofs.lemmas.Bool.Decides.{nat_tests}
-use Rattle.wal_shape.specs.declared.BlobId.{BlobId}
-use Rattle.wal_shape.specs.declared.part.Part.{Part}
 use Rattle.wal_store.specs.declared.contract.KeepError.{KeepError}
-use Rattle.wal_store.specs.declared.contract.KeepError.TheVariants.{Full, Memory}
-use Rattle.wal_store.specs.declared.map_keep.Budget.{Budget}
-use Rattle.wal_shape.specs.Identifiers.{id_cmp}
-use Rattle.wal_store.specs.Parts.{Parts, no_parts, part_of, with_part, is_empty, pages_for}
-use Rattle.wal_store.specs.Contents.{Contents, StoreState, parts_at, part_at, with_bytes, with_parts, without_part, cost, free_of, needed_for}
-use Rattle.wal_store.specs.Answer.{HasRoom, IsPutAnswer}
-use Rattle.wal_store.specs.Entries.{Entries}
-use Rattle.wal_store.specs.inside.Entries.{found_in, parts_in, cost_in, needed_in, changed_in, AreKept, InBudget, room_answer}
 use Rattle.wal_store.proofs.EntriesLaws.{entries_view, len_view, get_view, insert_view, remove_view}
 use Rattle.wal_store.proofs.HeldLaws.{kept_at, kept_found}
 use Rattle.wal_store.proofs.IdentifierLaws.{ids_total, exact_ids}

@@ -1,28 +1,7 @@
 -- A table of rows that owns its pages, changed at a place.
-use Rattle.std.proofs.Common.{◌≡◌, ℕ, zero, suc, ◌+◌, ◌<◌, Option, Some, None, List, [], ◌∷◌, length, take, slice_get, slice_set, slice_index, refl, ap, ◌∙◌, arith, option_map, ◌≤◌, Bool, true, ◌&&◌, map, count_by, sym, Less, Greater, eq-eqb, lt-ltb, le-leb}
-use Rattle.std.specs.List.{AllByRecursion, sum_by, insert, remove}
-use Rattle.std.specs.Map.{keys_of}
-use Rattle.std.specs.Ordering.{ordering_reverse}
-use Rattle.std.specs.List.Sorted.{IsStrictlySortedBy}
-use Rattle.std.proofs.lemmas.List.Recursion.{is_sum_by}
-use Rattle.std.proofs.lemmas.Option.{slice_get-map, some_pair_parts}
-use Rattle.std.proofs.lemmas.Bool.Decides.{nat_tests}
-use Rattle.std.proofs.lemmas.List.{map-set}
-use Rattle.std.proofs.lemmas.List.Sums.{sum_by-cons}
-use Rattle.wal_pool.specs.Pages.{bytes_in, is_free}
-use Rattle.wal_shape.specs.declared.part.Part.{Part}
-use Rattle.wal_shape.specs.declared.part.Part.TheVariants.{Metadata, Primary, Secondary, Proof}
-use Rattle.wal_store.specs.declared.rows.Slot.{Slot}
-use Rattle.wal_store.specs.declared.rows.Row.{Row}
-use Rattle.wal_store.specs.Parts.{part_of, with_part, pages_for, Parts, no_parts, part_cost, cost_of}
-use Rattle.wal_store.specs.inside.Chain.{Linked, links, uses, joined, taken_at, Adds, Frees}
-use Rattle.wal_store.specs.inside.Rows.{slot_of, with_slot, slot_links, part_in, parts_of, ids_of, entries_of, row_uses, rows_use, are_sized, IsSized, IsHome, no_slots, slot_cost, content, is_sized, Owns, IsGap}
-use Rattle.wal_shape.specs.declared.BlobId.{BlobId}
+use Rattle.wal_store.proofs.Common.{◌≡◌, ℕ, zero, suc, ◌+◌, ◌<◌, Option, Some, None, List, [], ◌∷◌, length, take, slice_get, slice_set, slice_index, refl, ap, ◌∙◌, arith, option_map, ◌≤◌, Bool, true, ◌&&◌, map, count_by, sym, Less, Greater, eq-eqb, lt-ltb, le-leb, AllByRecursion, sum_by, keys_of, ordering_reverse, IsStrictlySortedBy, is_sum_by, slice_get-map, some_pair_parts, nat_tests, map-set, sum_by-cons, bytes_in, is_free, Part, Metadata, Primary, Secondary, Proof, Slot, Row, part_of, with_part, pages_for, Parts, no_parts, part_cost, cost_of, Linked, links, uses, joined, taken_at, Adds, Frees, slot_of, with_slot, slot_links, part_in, parts_of, ids_of, entries_of, row_uses, rows_use, are_sized, IsSized, IsHome, no_slots, slot_cost, content, is_sized, Owns, IsGap, BlobId, id_cmp, Entries, cost_in, all_pages}
+use Rattle.std.specs.List.{insert, remove}
 use Rattle.wal_shape.specs.Shape.{most_bytes}
-use Rattle.wal_shape.specs.Identifiers.{id_cmp}
-use Rattle.wal_store.specs.Entries.{Entries}
-use Rattle.wal_store.specs.inside.Entries.{cost_in}
-use Rattle.wal_store.specs.inside.Table.{all_pages}
 use Rattle.wal_store.proofs.ChainLaws.{uses_self, links_same, joined_same, taken_at-le, adds_apart}
 use Rattle.wal_store.proofs.HeldLaws.{part_swap}
 use Rattle.wal_store.proofs.Edits.{map-insert, map-remove, sum-insert, sum-set, sum-remove, sum-within, all-at, all-set, all-insert, all-remove}

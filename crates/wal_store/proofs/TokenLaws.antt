@@ -1,9 +1,6 @@
 -- The rights to pages against the states of the pages.
-use Rattle.std.proofs.Common.{◌≡◌, ℕ, zero, suc, ◌+◌, ◌<◌, ◌≤◌, Option, Some, None, List, [], ◌∷◌, length, take, replicate, slice_get, slice_set, get_or, refl, ap, ◌∙◌, arith, set-set}
-use Rattle.std.proofs.lemmas.Option.{slice_get_within, slice_get_read, slice_get-get_or, get_or_from_slice_get}
-use Rattle.wal_pool.specs.Pages.{PageState, Free, Taken, bytes_in, page_bytes, overwrite}
+use Rattle.wal_store.proofs.Common.{◌≡◌, ℕ, zero, suc, ◌+◌, ◌<◌, ◌≤◌, Option, Some, None, List, [], ◌∷◌, length, take, replicate, slice_get, slice_set, get_or, refl, ap, ◌∙◌, arith, set-set, slice_get_within, slice_get_read, slice_get-get_or, get_or_from_slice_get, PageState, Free, Taken, bytes_in, page_bytes, overwrite, slice_get-set_same}
 use Rattle.wal_pool.proofs.OverwriteLaws.{length-overwrite, take-overwrite_front}
-use Rattle.wal_pool.proofs.PageLaws.{slice_get-set_same}
 use Rattle.wal_store.specs.inside.Shelf.{token_of, tokens_of}
 
 length-tokens_of : (a : ℕ) (ss : List PageState) → length (tokens_of a ss) ≡ length ss

@@ -1,42 +1,15 @@
 -- The rules of the world where all texts are of bytes: they have the same laws, and each of their steps is one of the world.
-use Rattle.std.proofs.Common.{◌≡◌, ℕ, ◌≤◌, List, length, All, Option, Some, None, subst, inl, inr}
-use Rattle.wal_shape.specs.declared.metadata.BlobId.{BlobId}
-use Rattle.wal_shape.specs.declared.axis.Axis.{Axis}
-use Rattle.wal_shape.specs.declared.part.Part.{Part}
+use Rattle.wal_theorem.proofs.Common.{◌≡◌, ℕ, ◌≤◌, List, length, All, Option, Some, None, subst, inl, inr, BlobId, Axis, Part, BlobMetadata, held_index, metadata_text, proof_text, sliver_part, bytes_of_part, bytes_within, Basis, Slivers, Evidence, Verdict, stored_bytes, ReadWord, RecoverWord, openings_in, IsDrawnFrom, IsEvidenceFor, Parts, no_parts, with_part, Contents, parts_at, with_bytes, kept, put_id, put_part, Judged, Rules, Laws, AllSound, Helped, forgotten, PutsFrame, ReadsTo, Knows, RecoversTo, rules_of, IsOfBytes, BasisOfBytes, FirstOfBytes, metadata_carried, sliver_symbols}
 use Rattle.wal_shape.specs.declared.part.Part.TheVariants as parts
-use Rattle.wal_shape.specs.Metadata.{BlobMetadata, held_index}
-use Rattle.wal_shape.specs.Spelling.{metadata_text, proof_text}
-use Rattle.wal_shape.specs.Part.{sliver_part}
-use Rattle.wal_matrix.proofs.Codewords.{bytes_of_part}
-use Rattle.wal_matrix.proofs.MatrixLaws.{bytes_within}
-use Rattle.wal_evidence.specs.declared.evidence.Basis.{Basis}
-use Rattle.wal_evidence.specs.declared.evidence.Basis.TheVariants.{Slivers, Proof}
-use Rattle.wal_evidence.specs.declared.evidence.Evidence.{Evidence}
-use Rattle.wal_evidence.specs.declared.evidence.Verdict.{Verdict}
-use Rattle.wal_frame.specs.Stored.{stored_bytes}
-use Rattle.wal_event.specs.declared.line.ReadWord.{ReadWord}
+use Rattle.wal_evidence.specs.declared.evidence.Basis.TheVariants.{Proof}
 use Rattle.wal_event.specs.declared.line.ReadWord.TheVariants as reading
-use Rattle.wal_event.specs.declared.line.RecoverWord.{RecoverWord}
 use Rattle.wal_event.specs.declared.line.RecoverWord.TheVariants as recovering
-use Rattle.wal_reader.specs.Carried.{openings_in}
-use Rattle.wal_reader.specs.Outcome.{IsDrawnFrom, IsEvidenceFor}
-use Rattle.wal_store.specs.Parts.{Parts, no_parts, with_part}
-use Rattle.wal_store.specs.Contents.{Contents, parts_at, with_bytes}
-use Rattle.wal_shard.specs.Keeping.{kept}
-use Rattle.wal_shard.specs.Putting.{put_id, put_part}
-use Rattle.wal_protocol.specs.declared.first.First.TheVariants.{Judged}
-use Rattle.wal_protocol.specs.Rules.{Rules}
-use Rattle.wal_protocol.specs.inside.Laws.{Laws, AllSound, Helped, forgotten}
 use Rattle.wal_protocol.specs.Total.{AreBytes}
-use Rattle.wal_theorem.specs.Instance.{PutsFrame, ReadsTo, Knows, RecoversTo, rules_of}
-use Rattle.wal_theorem.specs.OfBytes.{IsOfBytes, BasisOfBytes, FirstOfBytes}
 use Rattle.wal_theorem.proofs.InstanceHoldings.{some_is, each_put, kept_holds}
 use Rattle.wal_theorem.proofs.InstancePuts.{by_put}
 use Rattle.wal_theorem.proofs.InstanceRecoveries.{given_sliver}
 use Rattle.wal_theorem.proofs.InstanceLaws.{laws_of}
-use Rattle.wal_reader.proofs.PayloadBytes.{metadata_carried}
 use Rattle.wal_theorem.proofs.TextBytes.{openings_carried, proof_bytes, proof_carried, taken_bytes}
-use Rattle.wal_shape.specs.Shape.{sliver_symbols}
 
 -- what is put, what a recovery and a read are given, what is held and what was answered are bytes
 abbrev pub byte_rules : (List ℕ → List ℕ) → ℕ → Rules

@@ -1,31 +1,7 @@
 -- Every blob has an honest writer's message, and each of its frames an answer.
-use Rattle.std.proofs.Common.{ℕ, ◌<◌, ◌≤◌, List, length, Contains, refl, sym, subst}
-use Rattle.std.specs.List.{AllByRecursion}
-use Rattle.std.proofs.lemmas.List.Elements.{All-from_recursion}
-use Rattle.wal_shape.specs.declared.metadata.BlobId.{BlobId}
-use Rattle.wal_shape.specs.declared.axis.Axis.{Axis}
-use Rattle.wal_shape.specs.declared.axis.Axis.TheVariants.{Primary, Secondary}
-use Rattle.wal_shape.specs.declared.shape.Format.{Format}
-use Rattle.wal_shape.specs.Shape.{most_bytes, shard_count, row_count, symbol_size}
-use Rattle.wal_shape.specs.Metadata.{BlobMetadata, held_index}
-use Rattle.wal_matrix.specs.Matrix.{secondary_of, sliver_of}
-use Rattle.wal_matrix.proofs.Codewords.{AreBytes}
-use Rattle.wal_matrix.proofs.MatrixLaws.{bytes_within}
-use Rattle.wal_matrix.proofs.ThroughLaws.{bytes_of_primary}
-use Rattle.wal_matrix.proofs.Words.{bytes_of_column}
-use Rattle.wal_commit.specs.Identifier.{identifier_of, metadata_over}
-use Rattle.wal_frame.specs.Frame.{Frame, IsFrame}
-use Rattle.wal_frame.specs.Stored.{stored_bytes}
-use Rattle.wal_ledger.specs.Shards.{committee_size}
-use Rattle.wal_ledger.specs.Ledger.{Log}
-use Rattle.wal_shard.specs.Putting.{CanBePut}
-use Rattle.wal_protocol.specs.inside.Total.{IsAnswered}
-use Rattle.wal_writer.specs.Message.{IsMessageOf, message_to}
+use Rattle.wal_theorem.proofs.Common.{ℕ, ◌<◌, ◌≤◌, List, length, Contains, refl, sym, subst, AllByRecursion, All-from_recursion, BlobId, Axis, Primary, Secondary, Format, most_bytes, shard_count, row_count, symbol_size, BlobMetadata, held_index, secondary_of, sliver_of, AreBytes, bytes_within, bytes_of_primary, bytes_of_column, identifier_of, metadata_over, Frame, IsFrame, stored_bytes, committee_size, Log, CanBePut, IsAnswered, IsMessageOf, message_to, message_fits, IsDigest, honest_bytes}
 use Rattle.wal_theorem.proofs.ByteRules.{byte_rules}
 use Rattle.wal_theorem.proofs.EveryPut.{every_put}
-use Rattle.wal_writer.proofs.Messages.{message_fits}
-use Rattle.wal_commit.proofs.OneDigest.{IsDigest}
-use Rattle.wal_commit.proofs.MetadataBytes.{honest_bytes}
 use Rattle.wal_matrix.proofs.Existence.{extended_exists}
 
 module _ (digest : List ℕ → List ℕ) (is : IsDigest digest) where

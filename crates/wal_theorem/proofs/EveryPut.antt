@@ -1,28 +1,9 @@
 -- A put of bytes to a shard that holds what is sound has an answer, or else no two texts collide and yet an identifier has two metadata.
-use Rattle.std.proofs.Common.{◌≡◌, ◌≢◌, ℕ, List, true, Option, Some, None, IsSome, Ok, refl, sym, ap, subst, ◌∙◌, ⊎_elim}
+use Rattle.wal_theorem.proofs.Common.{◌≡◌, ◌≢◌, ℕ, List, true, Option, Some, None, IsSome, Ok, refl, sym, ap, subst, ◌∙◌, ⊎_elim, MetaClash, metadata_text, Frame, Metadata, Sliver, Proof, IsFrame, stored_bytes, read_of, read_is, Contents, parts_at, part_at, with_bytes, Log, is_live, PutAnswer, Stored, Held, Unregistered, Unverified, OtherMetadata, Full, Memory, CanBePut, IsAccepted, RestsOnMetadata, Verifies, put_id, put_part, desk_of, is_clash, AllSound, Possible, HasCollision, HasRoom, IsAnswered, surely, then, by_cases, truth, IsPutFrame, IsDigest, IsOneToOne, one_metadata, metadata_of, one_to_one, same_or_not}
 use Rattle.wal_shape.specs.declared.part.Part.TheVariants as parts
-use Rattle.wal_shape.specs.declared.text.MetaClash.{MetaClash}
-use Rattle.wal_shape.specs.Spelling.{metadata_text}
-use Rattle.wal_frame.specs.Frame.{Frame, Metadata, Sliver, Proof, IsFrame}
-use Rattle.wal_frame.specs.Stored.{stored_bytes}
-use Rattle.wal_frame.specs.Reading.{read_of}
-use Rattle.wal_frame.proofs.FrameLaws.{read_is}
-use Rattle.wal_store.specs.Contents.{Contents, parts_at, part_at, with_bytes}
-use Rattle.wal_ledger.specs.Ledger.{Log, is_live}
-use Rattle.wal_shard.specs.declared.answers.PutAnswer.{PutAnswer}
-use Rattle.wal_shard.specs.declared.answers.PutAnswer.TheVariants.{Stored, Held, Unregistered, NoMetadata, Unverified, OtherMetadata, Full, Memory}
-use Rattle.wal_shard.specs.Putting.{CanBePut, IsAccepted, RestsOnMetadata, Verifies, put_id, put_part}
-use Rattle.wal_shard.specs.State.{desk_of}
-use Rattle.wal_protocol.specs.Step.{is_clash}
-use Rattle.wal_protocol.specs.inside.Laws.{AllSound}
-use Rattle.wal_protocol.specs.Total.{Possible, AreBytes}
-use Rattle.wal_protocol.specs.inside.Total.{HasCollision, HasRoom, IsAnswered}
-use Rattle.wal_protocol.proofs.EveryWord.{surely, then, by_cases, truth}
-use Rattle.wal_theorem.specs.Instance.{IsPutFrame}
+use Rattle.wal_shard.specs.declared.answers.PutAnswer.TheVariants.{NoMetadata}
+use Rattle.wal_protocol.specs.Total.{AreBytes}
 use Rattle.wal_theorem.proofs.ByteRules.{byte_rules}
-use Rattle.wal_commit.proofs.OneDigest.{IsDigest, IsOneToOne, one_metadata}
-use Rattle.wal_reader.proofs.PayloadBytes.{metadata_of}
-use Rattle.wal_evidence.proofs.SameOrNot.{one_to_one, same_or_not}
 use Rattle.wal_theorem.proofs.TextBytes.{proof_of, sliver_of}
 
 -- what follows where no two texts collide, or else there is a collision

@@ -1,33 +1,9 @@
 -- Payloads in which no two metadata differ come to an outcome, with evidence exactly for a verdict.
-use Rattle.std.proofs.Common.{◌≡◌, ◌≢◌, ◌⊎◌, ℕ, List, [], ◌∷◌, length, map, take, All, Option, Some, None, refl, ap, arith, ⊎_elim, inl, inr}
-use Rattle.std.specs.List.{flat_map}
-use Rattle.std.proofs.lemmas.Bool.{cases_lt}
-use Rattle.std.proofs.lemmas.List.Elements.{All-nil, All-cons}
-use Rattle.wal_shape.specs.declared.metadata.BlobId.{BlobId}
-use Rattle.wal_shape.specs.Shape.{row_count, symbol_size}
-use Rattle.wal_shape.specs.Metadata.{BlobMetadata, IsMetadata}
-use Rattle.wal_shape.specs.EncodingProof.{EncodingProof}
-use Rattle.wal_shape.specs.Spelling.{metadata_text}
-use Rattle.wal_shape.proofs.MetadataLaws.{metadata_text-injective}
-use Rattle.wal_matrix.specs.Through.{source_of}
-use Rattle.wal_matrix.proofs.Decoded.{through_some}
-use Rattle.wal_commit.specs.Identifier.{IsIdentifierOf, identifier_of}
-use Rattle.wal_evidence.specs.declared.evidence.Basis.TheVariants.{Slivers, Proof}
-use Rattle.wal_evidence.specs.declared.evidence.Evidence.{Evidence}
-use Rattle.wal_evidence.specs.declared.evidence.Verdict.{Verdict}
+use Rattle.wal_theorem.proofs.Common.{◌≡◌, ◌≢◌, ◌⊎◌, ℕ, List, [], ◌∷◌, length, map, take, All, Option, Some, None, refl, ap, arith, ⊎_elim, inl, inr, flat_map, cases_lt, All-nil, All-cons, BlobId, row_count, symbol_size, BlobMetadata, IsMetadata, EncodingProof, metadata_text, metadata_text-injective, source_of, through_some, IsIdentifierOf, identifier_of, Slivers, Evidence, Verdict, Judges, some_taken, same_or_not, ReadWord, CarriesBadProof, IsFirst, IsFirstBadProof, NoneIn, Collects, Decides, GivesSliver, HasMetadata, HoldsFew, IndexedSliver, IsEvidenceFor, IsMetadataIn, HasTwo, collects_few, enough_are_held, Possible, IsReadAs, surely, then, by_cases}
+use Rattle.wal_evidence.specs.declared.evidence.Basis.TheVariants.{Proof}
 use Rattle.wal_evidence.specs.declared.evidence.Verdict.TheVariants as told
-use Rattle.wal_evidence.specs.Evidence.{Judges}
-use Rattle.wal_evidence.proofs.FirstOfEach.{some_taken}
-use Rattle.wal_evidence.proofs.SameOrNot.{same_or_not}
-use Rattle.wal_event.specs.declared.line.ReadWord.{ReadWord}
 use Rattle.wal_event.specs.declared.line.ReadWord.TheVariants as reading
-use Rattle.wal_reader.specs.Carried.{CarriesBadProof, IsFirst, IsFirstBadProof, NoneIn}
-use Rattle.wal_reader.specs.Outcome.{Collects, Decides, GivesSliver, HasMetadata, HoldsFew, IndexedSliver, IsEvidenceFor, IsMetadataIn}
-use Rattle.wal_reader.specs.Settled.{HasTwo}
-use Rattle.wal_reader.proofs.Collections.{collects_few, enough_are_held}
-use Rattle.wal_protocol.specs.Total.{Possible, AreBytes}
-use Rattle.wal_protocol.specs.inside.Total.{IsReadAs}
-use Rattle.wal_protocol.proofs.EveryWord.{surely, then, by_cases}
+use Rattle.wal_protocol.specs.Total.{AreBytes}
 use Rattle.wal_theorem.proofs.ByteRules.{byte_rules}
 use Rattle.wal_theorem.proofs.OneReading.{metadata_fits, held_slivers}
 

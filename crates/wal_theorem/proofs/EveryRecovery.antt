@@ -1,27 +1,9 @@
 -- A recovery by payloads in which no two metadata differ comes to something.
-use Rattle.std.proofs.Common.{◌≡◌, ℕ, ◌*◌, ◌<◌, List, [], length, take, All, refl, arith, ⊎_elim}
-use Rattle.std.proofs.lemmas.Bool.{cases_eq, cases_lt}
-use Rattle.wal_shape.specs.declared.metadata.BlobId.{BlobId}
-use Rattle.wal_shape.specs.declared.axis.Axis.{Axis}
+use Rattle.wal_theorem.proofs.Common.{◌≡◌, ℕ, ◌*◌, ◌<◌, List, [], length, take, All, refl, arith, ⊎_elim, cases_eq, cases_lt, BlobId, Axis, sliver_symbols, symbol_size, BlobMetadata, IsMetadata, held_index, EncodingProof, HasRoot, IsBadProof, some_taken, GivesOpening, Takes, enough, list_held, RecoverWord, CarriesBadProof, IsFirstBadProof, openings_in, Contents, parts_at, kept_sliver, kept_proof, AllSound, Possible, IsFound, surely, then, by_cases, Knows, KnowsTwo, IsKnown, OwnOpeningsComeTo}
 use Rattle.wal_shape.specs.declared.opening.Opening.{Opening}
-use Rattle.wal_shape.specs.Shape.{sliver_symbols, symbol_size}
-use Rattle.wal_shape.specs.Metadata.{BlobMetadata, IsMetadata, held_index}
-use Rattle.wal_shape.specs.EncodingProof.{EncodingProof}
-use Rattle.wal_evidence.specs.BadProof.{HasRoot, IsBadProof}
-use Rattle.wal_evidence.proofs.FirstOfEach.{some_taken}
-use Rattle.wal_recover.specs.Recovery.{GivesOpening, Takes}
 use Rattle.wal_recover.specs.declared.outcome.Recovered.TheVariants as recovered
-use Rattle.wal_recover.proofs.OneRecovery.{enough, list_held}
-use Rattle.wal_event.specs.declared.line.RecoverWord.{RecoverWord}
 use Rattle.wal_event.specs.declared.line.RecoverWord.TheVariants as recovering
-use Rattle.wal_reader.specs.Carried.{CarriesBadProof, IsFirstBadProof, openings_in}
-use Rattle.wal_store.specs.Contents.{Contents, parts_at}
-use Rattle.wal_shard.specs.Keeping.{kept_sliver, kept_proof}
-use Rattle.wal_protocol.specs.inside.Laws.{AllSound}
-use Rattle.wal_protocol.specs.Total.{Possible, AreBytes}
-use Rattle.wal_protocol.specs.inside.Total.{IsFound}
-use Rattle.wal_protocol.proofs.EveryWord.{surely, then, by_cases}
-use Rattle.wal_theorem.specs.Instance.{Knows, KnowsTwo, IsKnown, OwnOpeningsComeTo}
+use Rattle.wal_protocol.specs.Total.{AreBytes}
 use Rattle.wal_theorem.proofs.ByteRules.{byte_rules}
 use Rattle.wal_theorem.proofs.EveryRead.{first_or_none, same_metadata}
 use Rattle.wal_theorem.proofs.InstanceKnown.{AllKnown, is_known, is_unfit}

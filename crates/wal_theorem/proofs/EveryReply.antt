@@ -1,35 +1,10 @@
 -- What is held and sound is replied, in bytes.
-use Rattle.std.proofs.Common.{◌≡◌, ⊎_elim, ℕ, ◌*◌, ◌<◌, List, [], ◌∷◌, ◌++◌, length, Option, Some, None, All, refl, sym, ap, subst, ◌∙◌, arith}
-use Rattle.std.specs.Int.{w16, w32}
-use Rattle.std.proofs.lemmas.Bool.{cases_lt}
-use Rattle.std.proofs.lemmas.List.Elements.{All-nil, All-cons, All-append}
-use Rattle.wal_kernel.specs.Region.{region}
-use Rattle.wal_shape.specs.declared.metadata.BlobId.{BlobId}
-use Rattle.wal_shape.specs.declared.axis.Axis.{Axis}
+use Rattle.wal_theorem.proofs.Common.{◌≡◌, ⊎_elim, ℕ, ◌*◌, ◌<◌, List, [], ◌∷◌, ◌++◌, length, Option, Some, None, All, refl, sym, ap, subst, ◌∙◌, arith, w16, w32, cases_lt, All-nil, All-cons, All-append, region, BlobId, Axis, Format, shard_count, symbol_size, crossing, BlobMetadata, held_index, sliver_part, number_text, axis_number, metadata_text, spelled_metadata-text, path_over, AreBytes, bytes_of_part, bytes_within, bytes_joined, Commits, identifier_text, identifier_is, frame_text, metadata_frame, metadata_kind, sliver_frame, sliver_front, target_text, Parts, part_of, HoldsMetadata, IsSound, OpeningReply, given, not_held, no_shard, payload_if, metadata_reply, primary_reply, proof_reply, read_reply_of, SymbolReply, silent, replies, IsOfBytes, IsDigest, byte_first, path_bytes, text_bytes, is_32, number16_bytes, number32_bytes}
 use Rattle.wal_shape.specs.declared.axis.Axis.TheVariants as axes
 use Rattle.wal_shape.specs.declared.opening.Opening.{Opening}
-use Rattle.wal_shape.specs.declared.shape.Format.{Format}
 use Rattle.wal_shape.specs.declared.part.Part.TheVariants as parts
-use Rattle.wal_shape.specs.Shape.{shard_count, symbol_size, crossing}
-use Rattle.wal_shape.specs.Metadata.{BlobMetadata, held_index}
 use Rattle.wal_shape.specs.MetadataReading.{spelled_metadata}
-use Rattle.wal_shape.specs.Part.{sliver_part}
-use Rattle.wal_shape.specs.Spelling.{number_text, axis_number, metadata_text}
-use Rattle.wal_shape.proofs.MetadataLaws.{spelled_metadata-text}
-use Rattle.wal_tree.specs.Path.{path_over}
-use Rattle.wal_matrix.proofs.Codewords.{AreBytes, bytes_of_part}
-use Rattle.wal_matrix.proofs.MatrixLaws.{bytes_within}
-use Rattle.wal_matrix.proofs.Words.{bytes_joined}
-use Rattle.wal_commit.specs.Identifier.{Commits, identifier_text}
-use Rattle.wal_commit.proofs.Clashes.{identifier_is}
 use Rattle.wal_frame.specs.Frame as frame
-use Rattle.wal_frame.specs.Frame.{frame_text, metadata_frame, metadata_kind, sliver_frame, sliver_front, target_text}
-use Rattle.wal_store.specs.Parts.{Parts, part_of}
-use Rattle.wal_shard.specs.Holding.{HoldsMetadata, IsSound, OpeningReply, given, not_held, no_shard, payload_if, metadata_reply, primary_reply, proof_reply, read_reply_of}
-use Rattle.wal_theorem.specs.Instance.{SymbolReply, silent, replies}
-use Rattle.wal_theorem.specs.OfBytes.{IsOfBytes}
-use Rattle.wal_commit.proofs.OneDigest.{IsDigest, byte_first, path_bytes, text_bytes, is_32}
-use Rattle.wal_commit.proofs.MetadataBytes.{number16_bytes, number32_bytes}
 use Rattle.wal_theorem.proofs.TextBytes.{OpeningBytes, body_bytes}
 
 -- ---- texts

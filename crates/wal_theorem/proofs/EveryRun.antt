@@ -1,49 +1,19 @@
 -- Every event of bytes has a step in a world of bytes, and every schedule of bytes has a run.
-use Rattle.std.proofs.Common.{◌≡◌, ℕ, ◌≤◌, List, [], ◌∷◌, ◌++◌, Bool, true, false, cond, All, Option, Some, None, refl, sym, ap₂, subst, arith, ◌∙◌, inl, inr}
-use Rattle.std.proofs.lemmas.List.Concat.{flat_map-cons}
+use Rattle.wal_theorem.proofs.Common.{◌≡◌, ℕ, ◌≤◌, List, [], ◌∷◌, ◌++◌, Bool, true, false, cond, All, Option, Some, None, refl, sym, ap₂, subst, arith, ◌∙◌, inl, inr, flat_map-cons, BlobId, Axis, BlobMetadata, metadata_text, Commits, Evidence, Verdict, Frame, Fits, IsSchedule, IsEventWithin, Event, Schedule, Line, ReadWord, RecoverWord, committee_size, Log, Parts, Contents, First, Committee, World, side_of, writing_side, held, with_contents, Rules, is_clash, PutsEach, letters, IsWrite, SendStep, reply_payloads, read_payloads, ReadCompletes, ReadStep, ReadCollides, two_metadata, other_answer, IsReplyOf, AreReplies, RecoveryRuns, RecoverStep, CollisionStep, Steps, first_state, is_collision, Runs, Facts, Possible, HasBytes, HasStep, HasRun, Total, surely, then, every_event, every_run, Knows, rules_of, WorldOfBytes, IsDigest, IsOneToOne, one_metadata, metadata_carried}
 use Rattle.std.specs.FinMap as finmap
-use Rattle.wal_shape.specs.declared.metadata.BlobId.{BlobId}
-use Rattle.wal_shape.specs.declared.axis.Axis.{Axis}
 use Rattle.wal_shape.specs.declared.axis.Side.{Side}
 use Rattle.wal_shape.specs.declared.part.Part.TheVariants as parts
-use Rattle.wal_shape.specs.Metadata.{BlobMetadata}
-use Rattle.wal_shape.specs.Spelling.{metadata_text}
-use Rattle.wal_commit.specs.Identifier.{Commits}
-use Rattle.wal_evidence.specs.declared.evidence.Evidence.{Evidence}
-use Rattle.wal_evidence.specs.declared.evidence.Verdict.{Verdict}
 use Rattle.wal_evidence.specs.declared.evidence.Verdict.TheVariants as verdict
-use Rattle.wal_frame.specs.Frame.{Frame}
-use Rattle.wal_event.specs.Event.{Fits, IsSchedule, IsEventWithin}
-use Rattle.wal_event.specs.declared.event.Event.{Event}
 use Rattle.wal_event.specs.declared.event.Event.TheVariants.{Write, Send, Read, Recover}
 use Rattle.wal_event.specs.declared.event.Reply.{Reply}
 use Rattle.wal_event.specs.declared.event.Reply.TheVariants as reply
-use Rattle.wal_event.specs.declared.event.Schedule.{Schedule}
-use Rattle.wal_event.specs.declared.line.Line.{Line}
 use Rattle.wal_event.specs.declared.line.Line.TheVariants as line
 use Rattle.wal_event.specs.declared.line.WriteWord.TheVariants as write_word
 use Rattle.wal_event.specs.declared.line.SendWord.{SendWord}
 use Rattle.wal_event.specs.declared.line.SendWord.TheVariants as sending
-use Rattle.wal_event.specs.declared.line.ReadWord.{ReadWord}
 use Rattle.wal_event.specs.declared.line.ReadWord.TheVariants as reading_of
-use Rattle.wal_event.specs.declared.line.RecoverWord.{RecoverWord}
 use Rattle.wal_event.specs.declared.line.RecoverWord.TheVariants as recovering
-use Rattle.wal_ledger.specs.Shards.{committee_size}
-use Rattle.wal_ledger.specs.Ledger.{Log}
-use Rattle.wal_store.specs.Parts.{Parts}
-use Rattle.wal_store.specs.Contents.{Contents}
-use Rattle.wal_protocol.specs.declared.first.First.{First}
-use Rattle.wal_protocol.specs.State.{Committee, World, side_of, writing_side, held, with_contents}
-use Rattle.wal_protocol.specs.Rules.{Rules}
-use Rattle.wal_protocol.specs.Step.{is_clash, PutsEach, letters, IsWrite, SendStep, reply_payloads, read_payloads, ReadCompletes, ReadStep, ReadCollides, two_metadata, other_answer, IsReplyOf, AreReplies, RecoveryRuns, RecoverStep, CollisionStep, Steps}
-use Rattle.wal_protocol.specs.Run.{first_state, is_collision, Runs}
-use Rattle.wal_protocol.specs.Facts.{Facts}
-use Rattle.wal_protocol.specs.Total.{Possible, AreBytes, HasBytes, HasStep, HasRun}
-use Rattle.wal_protocol.specs.inside.Total.{Total}
-use Rattle.wal_protocol.proofs.EveryWord.{surely, then}
-use Rattle.wal_protocol.proofs.EveryEvent.{every_event, every_run}
-use Rattle.wal_theorem.specs.Instance.{Knows, rules_of}
-use Rattle.wal_theorem.specs.OfBytes.{WorldOfBytes}
+use Rattle.wal_protocol.specs.Total.{AreBytes}
 use Rattle.wal_theorem.proofs.ByteRules.{byte_rules, byte_laws}
 use Rattle.wal_theorem.proofs.EveryMessage.{message_exists, put_message}
 use Rattle.wal_theorem.proofs.EveryPut.{put_collides, put_read, put_room, unless_collision}
@@ -52,8 +22,6 @@ use Rattle.wal_theorem.proofs.EveryRecovery.{every_recovery}
 use Rattle.wal_theorem.proofs.EveryReply.{read_replied, symbol_replied}
 use Rattle.wal_theorem.proofs.InstanceHoldings.{held_commits}
 use Rattle.wal_theorem.proofs.OneAnswer.{one_answer}
-use Rattle.wal_commit.proofs.OneDigest.{IsDigest, IsOneToOne, one_metadata}
-use Rattle.wal_reader.proofs.PayloadBytes.{metadata_carried}
 
 -- what follows where nothing ends
 unless_clash : (A B C : Type 0) (k : Bool) → cond k A B → (B → C) → cond k A C

@@ -1,19 +1,7 @@
 -- The theorem over every schedule, by what frames, blobs, holdings, reads and recoveries are.
-use Rattle.std.proofs.Common.{◌≡◌, ℕ, ◌≤◌, List, length, refl}
-use Rattle.wal_event.specs.Event.{IsEventWithin, IsSchedule}
-use Rattle.wal_event.specs.declared.event.Event.{Event}
-use Rattle.wal_event.specs.declared.event.Schedule.{Schedule}
-use Rattle.wal_event.specs.declared.line.Line.{Line}
-use Rattle.wal_ledger.specs.Shards.{committee_size}
-use Rattle.wal_protocol.specs.State.{World}
-use Rattle.wal_protocol.specs.Step.{Steps}
-use Rattle.wal_protocol.specs.Run.{first_state, IsRun}
+use Rattle.wal_theorem.proofs.Common.{◌≡◌, ℕ, ◌≤◌, List, length, refl, IsEventWithin, IsSchedule, Event, Schedule, Line, committee_size, World, Steps, first_state, IsRun, Facts, rules_of, facts_step, facts_first, safe, recoveries}
 use Rattle.wal_protocol.specs.Safe.{EachStep, IsSafe, IsRecoveryComplete}
-use Rattle.wal_protocol.specs.Facts.{Facts}
-use Rattle.wal_theorem.specs.Instance.{rules_of}
 use Rattle.wal_theorem.proofs.InstanceLaws.{laws_of}
-use Rattle.wal_protocol.proofs.Stepped.{facts_step}
-use Rattle.wal_protocol.proofs.Safety.{facts_first, safe, recoveries}
 
 module _ (digest : List ℕ → List ℕ) (size : (text : List ℕ) → length (digest text) ≡ 32) where
   -- every run of a schedule is safe

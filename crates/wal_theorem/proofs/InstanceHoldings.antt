@@ -1,20 +1,9 @@
 -- What a shard holds stays sound and only grows when a part is added.
-use Rattle.std.proofs.Common.{◌≡◌, ℕ, List, Bool, true, false, cond, ◌&&◌, is_some, Option, Some, None, unwrap_or, refl, ap, ◌∙◌}
+use Rattle.wal_theorem.proofs.Common.{◌≡◌, ℕ, List, Bool, true, false, cond, ◌&&◌, is_some, Option, Some, None, unwrap_or, refl, ap, ◌∙◌, BlobId, BlobMetadata, metadata_text, Commits, Part, Parts, part_of, with_part, Contents, parts_at, part_at, with_bytes, HoldsMetadata, IsSound, has_proof, kept, IsAbove, AreAbove, HoldsBadProof}
 use Rattle.std.specs.Ordering.{eq_by_cmp}
-use Rattle.wal_shape.specs.declared.metadata.BlobId.{BlobId}
 use Rattle.wal_shape.specs.Identifiers.{id_cmp}
-use Rattle.wal_shape.specs.Metadata.{BlobMetadata}
-use Rattle.wal_shape.specs.Spelling.{metadata_text}
-use Rattle.wal_commit.specs.Identifier.{Commits}
-use Rattle.wal_shape.specs.declared.part.Part.{Part}
 use Rattle.wal_shape.specs.declared.part.Part.TheVariants.{Metadata, Primary, Secondary, Proof}
-use Rattle.wal_store.specs.Parts.{Parts, part_of, with_part}
-use Rattle.wal_store.specs.Contents.{Contents, parts_at, part_at, with_bytes}
-use Rattle.wal_shard.specs.Holding.{HoldsMetadata, IsSound, has_proof}
-use Rattle.wal_shard.specs.Keeping.{kept}
 use Rattle.wal_shard.proofs.Soundness.{one_metadata}
-use Rattle.wal_protocol.specs.inside.Laws.{IsAbove, AreAbove}
-use Rattle.wal_theorem.specs.Instance.{HoldsBadProof}
 use Rattle.wal_shard.proofs.Changes.{insert_changes, same_id}
 
 -- ---- one value

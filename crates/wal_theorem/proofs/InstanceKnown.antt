@@ -1,13 +1,6 @@
 -- One metadata is known, or two differ, by what payloads carry and a shard holds.
-use Rattle.std.proofs.Common.{◌≡◌, ◌≢◌, inl, inr, ℕ, List, None, sym, ap, ◌∙◌}
-use Rattle.wal_shape.specs.declared.metadata.BlobId.{BlobId}
-use Rattle.wal_shape.specs.Metadata.{BlobMetadata}
-use Rattle.wal_shape.specs.Spelling.{metadata_text}
-use Rattle.wal_reader.specs.Outcome.{HasMetadata, IsMetadataIn}
-use Rattle.wal_store.specs.Parts.{Parts}
-use Rattle.wal_shard.specs.Holding.{HoldsMetadata}
+use Rattle.wal_theorem.proofs.Common.{◌≡◌, ◌≢◌, inl, inr, ℕ, List, None, sym, ap, ◌∙◌, BlobId, BlobMetadata, metadata_text, HasMetadata, IsMetadataIn, Parts, HoldsMetadata, Knows, KnowsTwo, IsKnown}
 use Rattle.wal_shard.proofs.Soundness.{one_metadata}
-use Rattle.wal_theorem.specs.Instance.{Knows, KnowsTwo, IsKnown}
 use Rattle.wal_theorem.proofs.InstanceHoldings.{none_some}
 
 -- no metadata is held where there are no bytes of one

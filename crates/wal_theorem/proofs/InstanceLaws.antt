@@ -1,13 +1,7 @@
 -- The rules of the world have the laws that its safety rests on.
-use Rattle.std.proofs.Common.{◌≡◌, ℕ, ◌≤◌, List, length}
-use Rattle.wal_protocol.specs.inside.Laws.{Laws}
-use Rattle.wal_theorem.specs.Instance.{rules_of}
+use Rattle.wal_theorem.proofs.Common.{◌≡◌, ℕ, ◌≤◌, List, length, Laws, rules_of, none_sound, without_sliver_sound, Primary, Secondary, with_part, None}
 use Rattle.wal_theorem.proofs.InstanceHoldings.{refuted}
-use Rattle.wal_shard.proofs.Soundness.{none_sound, without_sliver_sound}
-use Rattle.wal_shape.specs.declared.axis.Axis.TheVariants.{Primary, Secondary}
 use Rattle.wal_shape.specs.declared.part.Part.TheVariants as parts
-use Rattle.wal_store.specs.Parts.{with_part}
-use Rattle.std.proofs.Common.{None}
 use Rattle.wal_theorem.proofs.InstancePuts.{put_sound, put_adds}
 use Rattle.wal_theorem.proofs.InstanceRecoveries.{recover_sound, recover_adds, recover_commits}
 use Rattle.wal_theorem.proofs.InstanceReads.{read_backed, write_backed, read_completes}

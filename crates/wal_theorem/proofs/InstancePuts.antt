@@ -1,21 +1,8 @@
 -- A put leaves what a shard holds sound, and only adds to it.
-use Rattle.std.proofs.Common.{◌≡◌, ℕ, List, None, refl, sym, subst}
-use Rattle.wal_shape.specs.declared.metadata.BlobId.{BlobId}
-use Rattle.wal_shape.specs.Spelling.{metadata_text, proof_text}
-use Rattle.wal_shape.specs.Part.{sliver_part}
-use Rattle.wal_frame.specs.Frame.{Frame, Metadata, Sliver, Proof, IsFrame}
+use Rattle.wal_theorem.proofs.Common.{◌≡◌, ℕ, List, None, refl, sym, subst, BlobId, metadata_text, proof_text, sliver_part, Frame, Metadata, Sliver, Proof, IsFrame, Contents, parts_at, part_at, with_bytes, Log, PutAnswer, Stored, Memory, stored_bytes, Puts, IsAccepted, put_id, put_part, AreSound, desk_of, AreAbove, PutsFrame, metadata_sound, sliver_sound, proof_sound}
 use Rattle.wal_shape.specs.declared.part.Part.TheVariants as parts
-use Rattle.wal_store.specs.Contents.{Contents, parts_at, part_at, with_bytes}
-use Rattle.wal_ledger.specs.Ledger.{Log}
-use Rattle.wal_shard.specs.declared.answers.PutAnswer.{PutAnswer}
-use Rattle.wal_shard.specs.declared.answers.PutAnswer.TheVariants.{Stored, Memory}
-use Rattle.wal_frame.specs.Stored.{stored_bytes}
-use Rattle.wal_shard.specs.Putting.{Puts, IsAccepted, put_id, put_part}
-use Rattle.wal_shard.specs.State.{AreSound, desk_of}
-use Rattle.wal_protocol.specs.inside.Laws.{AreAbove}
-use Rattle.wal_theorem.specs.Instance.{PutsFrame}
 use Rattle.wal_theorem.proofs.InstanceHoldings.{above_put}
-use Rattle.wal_shard.proofs.Soundness.{metadata_sound, sliver_sound, proof_sound, put_sound as contents_sound}
+use Rattle.wal_shard.proofs.Soundness.{put_sound as contents_sound}
 
 -- what follows from a put: it left everything, or it stored a part that was not held
 pub by_put : (P : Contents → Type 0) (digest : List ℕ → List ℕ) (f : ℕ) (log : Log) (shard : ℕ) (old new : Contents) (frame : Frame) (answer : PutAnswer)

@@ -1,35 +1,10 @@
 -- What completed reads and honest writes rest on, and that a read completes that has enough replies.
-use Rattle.std.proofs.Common.{◌≡◌, ⊎_elim, ℕ, ◌+◌, ◌<◌, ◌≤◌, List, [], length, Bool, true, Option, Some, Contains, refl, arith}
-use Rattle.wal_shape.specs.declared.metadata.BlobId.{BlobId}
+use Rattle.wal_theorem.proofs.Common.{◌≡◌, ⊎_elim, ℕ, ◌+◌, ◌<◌, ◌≤◌, List, [], length, Bool, true, Option, Some, Contains, refl, arith, BlobId, Format, row_count, BlobMetadata, held_index-primary, Commits, IsEvidence, IsJudgedBy, Evidence, Verdict, Frame, Metadata, Sliver, Proof, IsSliver, frame_text, sliver_frame, ReadWord, read_again, CarriesBadProof, NoBadProof, NoneIn, Collects, CarriesMetadata, CarriesSliver, HasMetadata, collects_all, Parts, count_below, committee_size, count_below-some, HoldsMetadata, IsSound, has_proof, primary_reply, Judged, Written, told_by, AreAmong, RepliedTo, IsMessageOf, sliver_short, ReadsTo, IsBackedBy, rules_of}
 use Rattle.wal_shape.specs.declared.axis.Axis.TheVariants as axes
-use Rattle.wal_shape.specs.declared.shape.Format.{Format}
-use Rattle.wal_shape.specs.Shape.{row_count}
-use Rattle.wal_shape.specs.Metadata.{BlobMetadata}
-use Rattle.wal_shape.proofs.MetadataLaws.{held_index-primary}
-use Rattle.wal_commit.specs.Identifier.{Commits}
 use Rattle.wal_commit.proofs.Commitments.{honest_metadata}
-use Rattle.wal_evidence.specs.Evidence.{IsEvidence, IsJudgedBy}
-use Rattle.wal_evidence.specs.declared.evidence.Evidence.{Evidence}
-use Rattle.wal_evidence.specs.declared.evidence.Verdict.{Verdict}
 use Rattle.wal_evidence.specs.declared.evidence.Verdict.TheVariants as verdict
-use Rattle.wal_frame.specs.Frame.{Frame, Metadata, Sliver, Proof, IsSliver, frame_text, sliver_frame}
-use Rattle.wal_event.specs.declared.line.ReadWord.{ReadWord}
 use Rattle.wal_event.specs.declared.line.ReadWord.TheVariants.{Bytes, Reject, Short, NoMetadata}
-use Rattle.wal_frame.proofs.FrameLaws.{read_again}
-use Rattle.wal_reader.specs.Carried.{CarriesBadProof, NoBadProof, NoneIn}
-use Rattle.wal_reader.specs.Outcome.{Collects, CarriesMetadata, CarriesSliver, HasMetadata}
-use Rattle.wal_reader.proofs.Collections.{collects_all}
-use Rattle.wal_store.specs.Parts.{Parts}
-use Rattle.wal_ledger.specs.Shards.{count_below, committee_size}
-use Rattle.wal_ledger.proofs.Quorums.{count_below-some}
-use Rattle.wal_shard.specs.Holding.{HoldsMetadata, IsSound, has_proof, primary_reply}
 use Rattle.wal_shard.proofs.Soundness.{one_metadata}
-use Rattle.wal_protocol.specs.declared.first.First.TheVariants.{Judged, Written}
-use Rattle.wal_protocol.specs.Step.{told_by}
-use Rattle.wal_protocol.specs.inside.Laws.{AreAmong, RepliedTo}
-use Rattle.wal_writer.specs.Message.{IsMessageOf}
-use Rattle.wal_writer.proofs.Messages.{sliver_short}
-use Rattle.wal_theorem.specs.Instance.{ReadsTo, IsBackedBy, rules_of}
 use Rattle.wal_theorem.proofs.InstanceHoldings.{refuted}
 use Rattle.wal_theorem.proofs.InstanceRecoveries.{bad_proof_fits}
 use Rattle.wal_theorem.proofs.InstanceReplies.{contains_first, any_of, count_named, id_long, told, shows_metadata, shows_middle, shows_proof, settled_has, some_bytes}

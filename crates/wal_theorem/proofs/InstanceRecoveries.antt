@@ -1,28 +1,10 @@
 -- What a recovery keeps is sound, is committed, and only adds to what a shard holds.
-use Rattle.std.proofs.Common.{inl, inr, ℕ, List}
-use Rattle.wal_shape.specs.declared.metadata.BlobId.{BlobId}
-use Rattle.wal_shape.specs.declared.axis.Axis.{Axis}
-use Rattle.wal_shape.specs.Metadata.{BlobMetadata, IsMetadata, held_index}
-use Rattle.wal_shape.specs.EncodingProof.{EncodingProof, IsProof}
-use Rattle.wal_shape.specs.Spelling.{metadata_text, proof_text}
-use Rattle.wal_commit.specs.Held.{HoldsSliver}
-use Rattle.wal_commit.specs.Identifier.{Commits}
-use Rattle.wal_evidence.specs.BadProof.{IsBadProof}
+use Rattle.wal_theorem.proofs.Common.{inl, inr, ℕ, List, BlobId, Axis, BlobMetadata, IsMetadata, held_index, EncodingProof, IsProof, metadata_text, proof_text, HoldsSliver, Commits, IsBadProof, committed, RecoverWord, NoMetadata, Inconsistent, Short, Part, Contents, parts_at, sliver_part, HoldsMetadata, kept, kept_sliver, kept_proof, AreSound, AreAbove, Knows, IsKnown, OwnOpeningsComeTo, HoldsCommitted, CommitsSliver, RecoversTo}
 use Rattle.wal_recover.specs.declared.outcome.Recovered.TheVariants as recovered
-use Rattle.wal_recover.proofs.OneRecovery.{committed}
 use Rattle.wal_recover.proofs.Proved.{proof_fits}
-use Rattle.wal_event.specs.declared.line.RecoverWord.{RecoverWord}
-use Rattle.wal_event.specs.declared.line.RecoverWord.TheVariants.{NoMetadata, Sliver, Inconsistent, Proof, Short}
-use Rattle.wal_shape.specs.declared.part.Part.{Part}
+use Rattle.wal_event.specs.declared.line.RecoverWord.TheVariants.{Sliver, Proof}
 use Rattle.wal_shape.specs.declared.part.Part.TheVariants as parts
-use Rattle.wal_store.specs.Contents.{Contents, parts_at}
-use Rattle.wal_shape.specs.Part.{sliver_part}
-use Rattle.wal_shard.specs.Holding.{HoldsMetadata}
-use Rattle.wal_shard.specs.Keeping.{kept, kept_sliver, kept_proof}
-use Rattle.wal_shard.specs.State.{AreSound}
 use Rattle.wal_shard.proofs.KeepLaws.{kept_held, kept_metadata_sound, kept_sliver_sound, kept_proof_sound}
-use Rattle.wal_protocol.specs.inside.Laws.{AreAbove}
-use Rattle.wal_theorem.specs.Instance.{Knows, IsKnown, OwnOpeningsComeTo, HoldsCommitted, CommitsSliver, RecoversTo}
 use Rattle.wal_theorem.proofs.InstanceHoldings.{above_kept, above_both, held_commits}
 
 -- a bad proof for a metadata has a spelling

@@ -1,20 +1,7 @@
 -- What replies of sound holdings show, and how many shards a list names.
-use Rattle.std.proofs.Common.{◌≡◌, ℕ, zero, suc, ◌<◌, ◌≤◌, List, [], ◌∷◌, ◌++◌, length, get_or, Bool, true, false, ◌&&◌, ◌||◌, is_some, nat_eq, Option, Some, None, Any, Contains, ◌⊎◌, inl, inr, refl, ap, ◌∙◌, arith}
-use Rattle.std.specs.List.{list_any}
+use Rattle.wal_theorem.proofs.Common.{◌≡◌, ℕ, zero, suc, ◌<◌, ◌≤◌, List, [], ◌∷◌, ◌++◌, length, get_or, Bool, true, false, ◌&&◌, ◌||◌, is_some, nat_eq, Option, Some, None, Any, Contains, ◌⊎◌, inl, inr, refl, ap, ◌∙◌, arith, list_any, Contains-append_left, Contains-append_right, BlobMetadata, EncodingProof, proof_text, spelled_metadata-text, Commits, identifier_is, Metadata, Proof, frame_text, metadata_frame, count_below, count_below-mono, count_below-among, Parts, HoldsMetadata, metadata_reply, proof_reply, settled, has_proof}
 use Rattle.std.proofs.lemmas.Bool.Decides.{nat_tests}
-use Rattle.std.proofs.lemmas.List.Elements.{Contains-append_left, Contains-append_right}
 use Rattle.std.proofs.lemmas.List.Folds.{list_any-from_Any}
-use Rattle.wal_shape.specs.Metadata.{BlobMetadata}
-use Rattle.wal_shape.specs.EncodingProof.{EncodingProof}
-use Rattle.wal_shape.specs.Spelling.{proof_text}
-use Rattle.wal_shape.proofs.MetadataLaws.{spelled_metadata-text}
-use Rattle.wal_commit.specs.Identifier.{Commits}
-use Rattle.wal_commit.proofs.Clashes.{identifier_is}
-use Rattle.wal_frame.specs.Frame.{Metadata, Proof, frame_text, metadata_frame}
-use Rattle.wal_ledger.specs.Shards.{count_below}
-use Rattle.wal_ledger.proofs.Quorums.{count_below-mono, count_below-among}
-use Rattle.wal_store.specs.Parts.{Parts}
-use Rattle.wal_shard.specs.Holding.{HoldsMetadata, metadata_reply, proof_reply, settled, has_proof}
 
 -- ---- lists
 

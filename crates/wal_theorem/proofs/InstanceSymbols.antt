@@ -1,44 +1,13 @@
 -- A recovery that has the replies of enough shards gives the sliver, or finds the blob badly encoded.
-use Rattle.std.proofs.Common.{◌≡◌, inl, ⊎_elim, ℕ, ◌+◌, ◌<◌, ◌≤◌, List, [], ◌∷◌, length, map, Bool, true, is_some, Ok, Contains, refl, sym, ap, ◌∙◌, arith}
-use Rattle.std.specs.List.{flat_map}
-use Rattle.std.proofs.lemmas.Bool.{false≢true}
-use Rattle.std.proofs.lemmas.List.{get_or-map, length-map}
+use Rattle.wal_theorem.proofs.Common.{◌≡◌, inl, ⊎_elim, ℕ, ◌+◌, ◌<◌, ◌≤◌, List, [], ◌∷◌, length, map, Bool, true, is_some, Ok, Contains, refl, sym, ap, ◌∙◌, arith, flat_map, false≢true, get_or-map, length-map, flat_map-cons, Contains-append_left, Contains-append_right, Contains-append_cases, BlobId, Axis, Primary, Secondary, sliver_symbols, crossing, BlobMetadata, held_index, held_index-within, held_index-twice, Commits, HoldsOpening, HoldsSliver, honest_opening, crosses_of, takes_all, GivesOpening, Takes, frame_text, read_of, RecoverWord, NoMetadata, Short, read_again, same_axis, opening_for, openings_in, NoBadProof, HasMetadata, Parts, part_of, Contents, parts_at, count_below, committee_size, quorum_size, count_below-some, sliver_part, HoldsMetadata, IsSound, OpeningReply, given, not_held, no_shard, has_proof, settled, AreAmong, Helped, IsDecidedBy, IsSettledBy, Knows, IsKnown, SymbolReply, silent, replies, OwnOpeningsComeTo, RecoversTo, rules_of}
 use Rattle.std.proofs.lemmas.Slice.Eq.{bytes_eq-Decides}
-use Rattle.std.proofs.lemmas.List.Concat.{flat_map-cons}
-use Rattle.std.proofs.lemmas.List.Elements.{Contains-append_left, Contains-append_right, Contains-append_cases}
-use Rattle.wal_shape.specs.declared.metadata.BlobId.{BlobId}
-use Rattle.wal_shape.specs.declared.axis.Axis.{Axis}
-use Rattle.wal_shape.specs.declared.axis.Axis.TheVariants.{Primary, Secondary}
 use Rattle.wal_shape.specs.declared.opening.Opening.{Opening}
-use Rattle.wal_shape.specs.Shape.{sliver_symbols, crossing}
-use Rattle.wal_shape.specs.Metadata.{BlobMetadata, held_index}
-use Rattle.wal_shape.proofs.MetadataLaws.{held_index-within, held_index-twice}
-use Rattle.wal_commit.specs.Identifier.{Commits}
-use Rattle.wal_commit.specs.Held.{HoldsOpening, HoldsSliver}
 use Rattle.wal_commit.proofs.Bodies.{body_of}
-use Rattle.wal_commit.proofs.HonestOpenings.{honest_opening}
-use Rattle.wal_evidence.specs.BadProof.{crosses_of}
-use Rattle.wal_evidence.proofs.FirstOfEach.{takes_all}
-use Rattle.wal_recover.specs.Recovery.{GivesOpening, Takes}
 use Rattle.wal_recover.specs.declared.outcome.Recovered.TheVariants as recovered
 use Rattle.wal_frame.specs.Frame as frame
-use Rattle.wal_frame.specs.Frame.{frame_text}
-use Rattle.wal_frame.specs.Reading.{read_of}
-use Rattle.wal_event.specs.declared.line.RecoverWord.{RecoverWord}
-use Rattle.wal_event.specs.declared.line.RecoverWord.TheVariants.{NoMetadata, Proof, Short}
-use Rattle.wal_frame.proofs.FrameLaws.{read_again}
-use Rattle.wal_reader.specs.Carried.{same_axis, opening_for, openings_in, NoBadProof}
-use Rattle.wal_reader.specs.Outcome.{HasMetadata}
-use Rattle.wal_store.specs.Parts.{Parts, part_of}
-use Rattle.wal_store.specs.Contents.{Contents, parts_at}
-use Rattle.wal_ledger.specs.Shards.{count_below, committee_size, quorum_size}
-use Rattle.wal_ledger.proofs.Quorums.{count_below-some}
-use Rattle.wal_shape.specs.Part.{sliver_part}
-use Rattle.wal_shard.specs.Holding.{HoldsMetadata, IsSound, OpeningReply, given, not_held, no_shard, has_proof, settled}
+use Rattle.wal_event.specs.declared.line.RecoverWord.TheVariants.{Proof}
 use Rattle.wal_shard.proofs.Soundness.{one_metadata}
 use Rattle.wal_shard.proofs.HeldLaws.{beside as metadata_beside}
-use Rattle.wal_protocol.specs.inside.Laws.{AreAmong, Helped, IsDecidedBy, IsSettledBy}
-use Rattle.wal_theorem.specs.Instance.{Knows, IsKnown, SymbolReply, silent, replies, OwnOpeningsComeTo, RecoversTo, rules_of}
 use Rattle.wal_theorem.proofs.InstanceHoldings.{held_commits}
 use Rattle.wal_theorem.proofs.InstanceReplies.{contains_first, only_one, count_named, id_long, told, shows_middle, settled_has, same_number}
 use Rattle.wal_theorem.proofs.InstanceReads.{tells_metadata, tells_proof}

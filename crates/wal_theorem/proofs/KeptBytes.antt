@@ -1,34 +1,10 @@
 -- A schedule begins in a world of bytes, and its events leave one.
-use Rattle.std.proofs.Common.{ℕ, List, get_or, refl, sym, subst, arith, ⊎_elim}
-use Rattle.std.proofs.lemmas.Bool.{cases_lt}
-use Rattle.wal_shape.specs.Spelling.{metadata_text, proof_text}
-use Rattle.wal_evidence.specs.declared.evidence.Basis.{Basis}
-use Rattle.wal_evidence.specs.declared.evidence.Basis.TheVariants.{Slivers, Proof}
-use Rattle.wal_event.specs.Event.{Fits, IsSchedule, IsEventWithin}
-use Rattle.wal_event.specs.declared.event.Event.{Event}
-use Rattle.wal_event.specs.declared.event.Schedule.{Schedule}
-use Rattle.wal_event.specs.declared.line.Line.{Line}
-use Rattle.wal_ledger.specs.Shards.{committee_size}
-use Rattle.wal_protocol.specs.declared.first.First.{First}
-use Rattle.wal_protocol.specs.declared.first.First.TheVariants.{Judged, Written}
-use Rattle.wal_protocol.specs.State.{World}
-use Rattle.wal_protocol.specs.Rules.{Rules}
-use Rattle.wal_protocol.specs.inside.Laws.{Laws}
-use Rattle.wal_protocol.specs.Step.{Steps}
-use Rattle.wal_protocol.specs.Run.{first_state}
-use Rattle.wal_protocol.specs.Facts.{Facts}
-use Rattle.wal_protocol.specs.Total.{Possible, AreBytes, HasBytes}
-use Rattle.wal_protocol.proofs.EveryWord.{surely, then}
-use Rattle.wal_protocol.proofs.EveryEvent.{every_event}
-use Rattle.wal_protocol.proofs.OneStep.{one_step}
-use Rattle.wal_protocol.proofs.Safety.{facts_first}
-use Rattle.wal_protocol.proofs.Stepped.{facts_step}
-use Rattle.wal_theorem.specs.Instance.{rules_of}
-use Rattle.wal_theorem.specs.OfBytes.{BasisOfBytes, FirstOfBytes, WorldOfBytes}
+use Rattle.wal_theorem.proofs.Common.{ℕ, List, get_or, refl, sym, subst, arith, ⊎_elim, cases_lt, metadata_text, proof_text, Basis, Slivers, Fits, IsSchedule, IsEventWithin, Event, Schedule, Line, committee_size, First, Judged, Written, World, Rules, Laws, Steps, first_state, Facts, Possible, HasBytes, surely, then, every_event, one_step, facts_first, facts_step, rules_of, BasisOfBytes, FirstOfBytes, WorldOfBytes, IsDigest}
+use Rattle.wal_evidence.specs.declared.evidence.Basis.TheVariants.{Proof}
+use Rattle.wal_protocol.specs.Total.{AreBytes}
 use Rattle.wal_theorem.proofs.ByteRules.{byte_rules, byte_laws}
 use Rattle.wal_theorem.proofs.EveryRun.{bytes_facts, plain_step, total_of}
 use Rattle.wal_theorem.proofs.Headline.{facts_start, facts_kept}
-use Rattle.wal_commit.proofs.OneDigest.{IsDigest}
 use Rattle.wal_theorem.proofs.OneWorld.{only_rules}
 
 -- ---- what is possibly bytes is bytes

@@ -20,3 +20,4 @@ pub mod EveryRecovery
 pub mod OneAnswer
 pub mod EveryRun
 pub mod KeptBytes
+mod Common

@@ -1,23 +1,14 @@
 -- There is a codeword through known symbols, and so through openings that hold.
-use Rattle.std.proofs.Common.{◌≡◌, ℕ, ◌*◌, ◌/◌, ◌<◌, List, length, All, sym, ap, subst, ◌∙◌, arith}
-use Rattle.std.proofs.lemmas.List.{length-map}
+use Rattle.wal_theorem.proofs.Common.{◌≡◌, ℕ, ◌*◌, ◌/◌, ◌<◌, List, length, All, sym, ap, subst, ◌∙◌, arith, length-map, word_at, region, Axis, IsShape, shard_count, symbol_size, BlobMetadata, symbol_size-least, row_of, AreBytes, bytes_of_part, word_of_bytes, AreEnough, IsLineThrough, crosses_of, symbols_of}
 use Rattle.wal_code.specs.Codeword.{combination}
 use Rattle.wal_code.proofs.Codes.{codeword-word, combination-codeword}
-use Rattle.wal_kernel.specs.Region.{word_at, region}
-use Rattle.wal_shape.specs.declared.axis.Axis.{Axis}
 use Rattle.wal_shape.specs.declared.opening.Opening.{Opening}
-use Rattle.wal_shape.specs.Shape.{IsShape, shard_count, symbol_size}
-use Rattle.wal_shape.specs.Metadata.{BlobMetadata}
-use Rattle.wal_shape.proofs.ShapeLaws.{symbol_size-least}
-use Rattle.wal_matrix.specs.Matrix.{row_of}
 use Rattle.wal_matrix.specs.Word.{PassesCodeword}
-use Rattle.wal_matrix.proofs.Codewords.{AreBytes, bytes_of_part, word_of_bytes}
 use Rattle.wal_matrix.proofs.Places.{run_fits}
 use Rattle.wal_matrix.proofs.Runs.{region_long}
 use Rattle.wal_matrix.proofs.Slivers.{row_is, row_long, row_of-symbol}
 use Rattle.wal_matrix.proofs.Solved.{AreKnown, AreSolved, known_symbols, solved_is_word}
 use Rattle.wal_matrix.proofs.WordTables.{table_exists}
-use Rattle.wal_evidence.specs.BadProof.{AreEnough, IsLineThrough, crosses_of, symbols_of}
 use Rattle.wal_evidence.proofs.OneLine.{count_known, crosses_within, symbol_sizes, symbols_bytes, symbols_long}
 
 module _ (n h : ℕ) (known loaded : List ℕ) (are : AreKnown n (2 * h) known loaded) where

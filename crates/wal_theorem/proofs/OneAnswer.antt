@@ -1,44 +1,12 @@
 -- Where no two texts collide, an identifier has one blob, and all completed answers for it have one verdict.
-use Rattle.std.proofs.Common.{◌≡◌, ℕ, ◌-◌, ◌*◌, List, length, take, replicate, slice_index, refl, sym, ap, subst, ◌∙◌, arith}
+use Rattle.wal_theorem.proofs.Common.{◌≡◌, ℕ, ◌-◌, ◌*◌, List, length, take, replicate, slice_index, refl, sym, ap, subst, ◌∙◌, arith, region, BlobId, Primary, Format, row_count, column_count, symbol_size, crossing, BlobMetadata, IsMetadata, EncodingProof, metadata_text, proof_text, symbol_size-least, path_over, padded, line_of, primary_of, source_of, AreBytes, bytes_of_part, source_of_extended, bytes_within, source-row, source_by_rows, source_long, line_is_word, Commits, IsIdentifierOf, IsMetadataOf, metadata_over, committed_matrix, committed_opening, IsBadProof, AreHeld, CommitsMatrix, IsEvidence, IsJudgedBy, Judges, sliver_bytes, Basis, Evidence, Slivers, Verdict, true_verdict, First, Judged, Written, verdict_of, IsBackedBy, BasisOfBytes, FirstOfBytes, honest_bytes, IsOneToOne, one_metadata, one_sliver, one_symbol, path_bytes}
 use Rattle.std.proofs.Math.Seq.{take-append_seam}
 use Rattle.std.proofs.lemmas.Option.{get_or_from_slice_get, slice_get_within}
-use Rattle.wal_kernel.specs.Region.{region}
-use Rattle.wal_shape.specs.declared.metadata.BlobId.{BlobId}
-use Rattle.wal_shape.specs.declared.axis.Axis.TheVariants.{Primary}
 use Rattle.wal_shape.specs.declared.opening.Opening.{Opening}
-use Rattle.wal_shape.specs.declared.shape.Format.{Format}
-use Rattle.wal_shape.specs.Shape.{row_count, column_count, symbol_size, crossing}
-use Rattle.wal_shape.specs.Metadata.{BlobMetadata, IsMetadata}
-use Rattle.wal_shape.specs.EncodingProof.{EncodingProof}
-use Rattle.wal_shape.specs.Spelling.{metadata_text, proof_text}
-use Rattle.wal_shape.proofs.ShapeLaws.{symbol_size-least}
-use Rattle.wal_tree.specs.Path.{path_over}
-use Rattle.wal_matrix.specs.Matrix.{padded, line_of, primary_of}
-use Rattle.wal_matrix.specs.Through.{source_of}
-use Rattle.wal_matrix.proofs.Codewords.{AreBytes, bytes_of_part}
-use Rattle.wal_matrix.proofs.Decoded.{source_of_extended}
-use Rattle.wal_matrix.proofs.MatrixLaws.{bytes_within}
-use Rattle.wal_matrix.proofs.ThroughLaws.{source-row, source_by_rows, source_long}
-use Rattle.wal_matrix.proofs.Words.{line_is_word}
-use Rattle.wal_commit.specs.Identifier.{Commits, IsIdentifierOf, IsMetadataOf, metadata_over}
-use Rattle.wal_commit.proofs.HonestOpenings.{committed_matrix, committed_opening}
-use Rattle.wal_evidence.specs.BadProof.{IsBadProof}
-use Rattle.wal_evidence.specs.Evidence.{AreHeld, CommitsMatrix, IsEvidence, IsJudgedBy, Judges, sliver_bytes}
-use Rattle.wal_evidence.specs.declared.evidence.Basis.{Basis}
-use Rattle.wal_evidence.specs.declared.evidence.Evidence.{Evidence}
-use Rattle.wal_evidence.specs.declared.evidence.Basis.TheVariants.{Slivers, Proof}
-use Rattle.wal_evidence.specs.declared.evidence.Verdict.{Verdict}
+use Rattle.wal_evidence.specs.declared.evidence.Basis.TheVariants.{Proof}
 use Rattle.wal_evidence.specs.declared.evidence.Verdict.TheVariants.{Bytes, Reject}
 use Rattle.wal_evidence.proofs.FalseOpenings.{false_opening}
 use Rattle.wal_evidence.proofs.FalseSlivers.{matrix_holds}
-use Rattle.wal_evidence.proofs.Verdicts.{true_verdict}
-use Rattle.wal_protocol.specs.declared.first.First.{First}
-use Rattle.wal_protocol.specs.declared.first.First.TheVariants.{Judged, Written}
-use Rattle.wal_protocol.specs.State.{verdict_of}
-use Rattle.wal_theorem.specs.Instance.{IsBackedBy}
-use Rattle.wal_theorem.specs.OfBytes.{BasisOfBytes, FirstOfBytes}
-use Rattle.wal_commit.proofs.MetadataBytes.{honest_bytes}
-use Rattle.wal_commit.proofs.OneDigest.{IsOneToOne, one_metadata, one_sliver, one_symbol, path_bytes}
 use Rattle.wal_theorem.proofs.OneReading.{one_judgement}
 use Rattle.wal_theorem.proofs.TextBytes.{OpeningBytes, proof_openings}
 

@@ -1,34 +1,11 @@
 -- Payloads have one outcome, but for the two texts of a collision, and one evidence for it.
-use Rattle.std.proofs.Common.{◌≡◌, ℕ, ◌+◌, ◌*◌, ◌/◌, ◌%◌, ◌<◌, ◌≤◌, List, length, take, Option, Some, refl, sym, ap, ap₂, ◌∙◌, arith, ⊎_elim}
+use Rattle.wal_theorem.proofs.Common.{◌≡◌, ℕ, ◌+◌, ◌*◌, ◌/◌, ◌%◌, ◌<◌, ◌≤◌, List, length, take, Option, Some, refl, sym, ap, ap₂, ◌∙◌, arith, ⊎_elim, cases_lt, get_or_default, get_or_past, region, row_count, column_count, symbol_size, BlobMetadata, IsMetadata, EncodingProof, symbol_size-least, source_of, AreBytes, bytes_of_part, bytes_within, AreSlivers, through_unique, read_of, Basis, Slivers, Evidence, Verdict, AreHeld, IsHeldBy, Judges, sliver_bytes, one_verdict, Outcome, CarriesBadProof, IsFirstBadProof, Collects, Decides, HasEvidence, HasMetadata, HoldsFew, IsDrawnFrom, IsEvidenceFor, IsMetadataIn, IsOnlyOutcome, IsOutcome, enough_are_held, one_collection, first_two, one_first, one_proof, HasFew, HasVerdict, only_verdict, only_refuted, only_short, only_none, only_collision}
 use Rattle.std.proofs.Math.Nat.{mul-le-mul_right}
-use Rattle.std.proofs.lemmas.Bool.{cases_lt}
-use Rattle.std.proofs.lemmas.List.{get_or_default, get_or_past}
 use Rattle.std.proofs.lemmas.Nat.{div_below, mod_below, div-add-mod'}
-use Rattle.wal_kernel.specs.Region.{region}
 use Rattle.wal_kernel.proofs.Regions.{region-byte}
-use Rattle.wal_shape.specs.Shape.{row_count, column_count, symbol_size}
-use Rattle.wal_shape.specs.Metadata.{BlobMetadata, IsMetadata}
-use Rattle.wal_shape.specs.EncodingProof.{EncodingProof}
-use Rattle.wal_shape.proofs.ShapeLaws.{symbol_size-least}
-use Rattle.wal_matrix.specs.Through.{source_of}
-use Rattle.wal_matrix.proofs.Codewords.{AreBytes, bytes_of_part}
-use Rattle.wal_matrix.proofs.MatrixLaws.{bytes_within}
-use Rattle.wal_matrix.proofs.Decoded.{AreSlivers, through_unique}
-use Rattle.wal_frame.specs.Reading.{read_of}
-use Rattle.wal_evidence.specs.declared.evidence.Basis.{Basis}
-use Rattle.wal_evidence.specs.declared.evidence.Basis.TheVariants.{Slivers, Proof}
-use Rattle.wal_evidence.specs.declared.evidence.Evidence.{Evidence}
-use Rattle.wal_evidence.specs.declared.evidence.Verdict.{Verdict}
+use Rattle.wal_evidence.specs.declared.evidence.Basis.TheVariants.{Proof}
 use Rattle.wal_evidence.specs.declared.evidence.Verdict.TheVariants as told
-use Rattle.wal_evidence.specs.Evidence.{AreHeld, IsHeldBy, Judges, sliver_bytes}
-use Rattle.wal_evidence.proofs.Verdicts.{one_verdict}
-use Rattle.wal_reader.specs.declared.outcome.Outcome.{Outcome}
 use Rattle.wal_reader.specs.declared.outcome.Outcome.TheVariants.{Bytes, Reject, Short, NoMetadata, Collision}
-use Rattle.wal_reader.specs.Carried.{CarriesBadProof, IsFirstBadProof}
-use Rattle.wal_reader.specs.Outcome.{Collects, Decides, HasEvidence, HasMetadata, HoldsFew, IsDrawnFrom, IsEvidenceFor, IsMetadataIn, IsOnlyOutcome, IsOutcome}
-use Rattle.wal_reader.proofs.Collections.{enough_are_held, one_collection}
-use Rattle.wal_reader.proofs.FirstOnes.{first_two, one_first, one_proof}
-use Rattle.wal_reader.proofs.OneOutcome.{HasFew, HasVerdict, only_verdict, only_refuted, only_short, only_none, only_collision}
 
 -- ---- slivers that hold
 

@@ -1,45 +1,13 @@
 -- The rules of the world leave no choice but the texts of a collision: so its steps and runs leave none.
-use Rattle.std.proofs.Common.{◌≡◌, ◌≢◌, ◌⊎◌, ℕ, List, [], ◌∷◌, ◌++◌, length, Option, None, refl, sym, ap, ◌∙◌, arith, ⊎_elim, inl, inr, true≢false}
-use Rattle.wal_shape.specs.declared.metadata.BlobId.{BlobId}
-use Rattle.wal_shape.specs.declared.axis.Axis.{Axis}
-use Rattle.wal_shape.specs.declared.shape.Format.{Format}
-use Rattle.wal_shape.specs.declared.text.MetaClash.{MetaClash}
-use Rattle.wal_shape.specs.Shape.{IsShape, sliver_symbols}
-use Rattle.wal_shape.specs.Metadata.{BlobMetadata, held_index}
-use Rattle.wal_shape.specs.EncodingProof.{EncodingProof}
-use Rattle.wal_matrix.proofs.MatrixLaws.{extended_unique}
-use Rattle.wal_commit.specs.Identifier.{metadata_over}
-use Rattle.wal_commit.proofs.HonestOpenings.{one_opening}
+use Rattle.wal_theorem.proofs.Common.{◌≡◌, ◌≢◌, ◌⊎◌, ℕ, List, [], ◌∷◌, ◌++◌, length, Option, None, refl, sym, ap, ◌∙◌, arith, ⊎_elim, inl, inr, true≢false, BlobId, Axis, Format, MetaClash, IsShape, sliver_symbols, BlobMetadata, held_index, EncodingProof, extended_unique, metadata_over, one_opening, one_recovery, Frame, frame_text, ReadWord, RecoverWord, Evidence, openings_in, IsFirstBadProof, NoBadProof, SameOutcome, HasTwo, Outcome, first_not_none, only_collision, CarriesBadProof, Parts, Contents, parts_at, Log, PutAnswer, OpeningReply, given, not_held, no_shard, SymbolReplies, metadata_reply, proof_reply, kept_sliver, kept_proof, Puts, desk_of, IsMessageOf, SymbolReply, silent, replies, outcome_told, ReadsTo, Knows, IsKnown, OwnOpeningsComeTo, RecoversTo, rules_of}
 use Rattle.wal_recover.specs.declared.outcome.Recovered.{Recovered}
 use Rattle.wal_recover.specs.declared.outcome.Recovered.TheVariants as recovered
-use Rattle.wal_recover.proofs.OneRecovery.{one_recovery}
-use Rattle.wal_frame.specs.Frame.{Frame, frame_text}
 use Rattle.wal_frame.specs.Frame as frames
-use Rattle.wal_event.specs.declared.line.ReadWord.{ReadWord}
 use Rattle.wal_event.specs.declared.line.ReadWord.TheVariants as reading
-use Rattle.wal_event.specs.declared.line.RecoverWord.{RecoverWord}
 use Rattle.wal_event.specs.declared.line.RecoverWord.TheVariants as recovering
-use Rattle.wal_evidence.specs.declared.evidence.Evidence.{Evidence}
-use Rattle.wal_reader.specs.Carried.{openings_in, IsFirstBadProof, NoBadProof}
-use Rattle.wal_reader.specs.Outcome.{SameOutcome}
-use Rattle.wal_reader.specs.Settled.{HasTwo}
-use Rattle.wal_reader.specs.declared.outcome.Outcome.{Outcome}
 use Rattle.wal_reader.specs.declared.outcome.Outcome.TheVariants as outcome
-use Rattle.wal_reader.proofs.FirstOnes.{first_not_none}
-use Rattle.wal_reader.proofs.OneOutcome.{only_collision}
-use Rattle.wal_reader.specs.Carried.{CarriesBadProof}
-use Rattle.wal_store.specs.Parts.{Parts}
-use Rattle.wal_store.specs.Contents.{Contents, parts_at}
-use Rattle.wal_ledger.specs.Ledger.{Log}
-use Rattle.wal_shard.specs.declared.answers.PutAnswer.{PutAnswer}
-use Rattle.wal_shard.specs.Holding.{OpeningReply, given, not_held, no_shard, SymbolReplies, metadata_reply, proof_reply}
-use Rattle.wal_shard.specs.Keeping.{kept_sliver, kept_proof}
-use Rattle.wal_shard.specs.Putting.{Puts}
-use Rattle.wal_shard.specs.State.{desk_of}
 use Rattle.wal_shard.proofs.OnePut.{puts_once}
 use Rattle.wal_shard.proofs.Soundness.{one_metadata}
-use Rattle.wal_writer.specs.Message.{IsMessageOf}
-use Rattle.wal_theorem.specs.Instance.{SymbolReply, silent, replies, outcome_told, ReadsTo, Knows, IsKnown, OwnOpeningsComeTo, RecoversTo, rules_of}
 use Rattle.wal_theorem.proofs.OneReading.{metadata_fits, one_bad_proof, only_outcome, outcome_evidence}
 use Rattle.wal_protocol.proofs.OneWord.{Only, SamePut}
 

@@ -1,26 +1,8 @@
 -- What payloads of bytes carry, and what is spelled, are bytes.
-use Rattle.std.proofs.Common.{◌≡◌, ℕ, ◌/◌, List, [], ◌∷◌, ◌++◌, length, Bool, true, false, if◌then◌else◌, ◌&&◌, nat_eq, Result, Ok, All, refl, sym, subst, ◌∙◌, arith}
-use Rattle.std.specs.Int.{w8, w16, w32}
-use Rattle.std.specs.List.{flat_map}
+use Rattle.wal_theorem.proofs.Common.{◌≡◌, ℕ, ◌/◌, List, [], ◌∷◌, ◌++◌, length, Bool, true, false, if◌then◌else◌, ◌&&◌, nat_eq, Result, Ok, All, refl, sym, subst, ◌∙◌, arith, w8, w16, w32, flat_map, flat_map-cons, All-nil, All-cons, All-head, All-tail, All-append, Axis, BlobMetadata, EncodingProof, number_text, axis_number, body_text, proof_text, AreBytes, bytes_joined, first_taken, Frame, Sliver, Opening, Proof, target_text, sliver_front, sliver_frame, read_of, openings_in, opening_for, same_axis, IsFirstBadProof, GivesOpening, Takes, bytes_behind, bytes_before, number8_bytes, number16_bytes, number32_bytes, spells}
 use Rattle.std.specs.Cmp.Lexicographic.{pointwise}
-use Rattle.std.proofs.lemmas.List.Concat.{flat_map-cons}
-use Rattle.std.proofs.lemmas.List.Elements.{All-nil, All-cons, All-head, All-tail, All-append}
-use Rattle.wal_shape.specs.declared.axis.Axis.{Axis}
 use Rattle.wal_shape.specs.declared.opening.Opening as single
-use Rattle.wal_shape.specs.Metadata.{BlobMetadata}
-use Rattle.wal_shape.specs.EncodingProof.{EncodingProof}
-use Rattle.wal_shape.specs.Spelling.{number_text, axis_number, body_text, proof_text}
-use Rattle.wal_matrix.proofs.Codewords.{AreBytes}
-use Rattle.wal_matrix.proofs.Words.{bytes_joined}
-use Rattle.wal_evidence.proofs.FirstOfEach.{first_taken}
-use Rattle.wal_frame.specs.Frame.{Frame, Sliver, Opening, Proof, target_text, sliver_front, sliver_frame}
-use Rattle.wal_frame.specs.Reading.{read_of}
 use Rattle.wal_frame.specs.declared.frame.FrameError.{FrameError}
-use Rattle.wal_reader.specs.Carried.{openings_in, opening_for, same_axis, IsFirstBadProof}
-use Rattle.wal_recover.specs.Recovery.{GivesOpening, Takes}
-use Rattle.wal_commit.proofs.OneDigest.{bytes_behind, bytes_before}
-use Rattle.wal_commit.proofs.MetadataBytes.{number8_bytes, number16_bytes, number32_bytes}
-use Rattle.wal_reader.proofs.PayloadBytes.{spells}
 
 -- the symbol and the path of an opening are bytes
 pub record OpeningBytes (o : single.Opening) : Type 0 where

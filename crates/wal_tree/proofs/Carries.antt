@@ -1,12 +1,7 @@
 -- One entry pushed onto the places in use, place by place: `k` is the place that the carry has come to,
 -- of the `h` in use.
-use Rattle.std.proofs.Common.{◌≡◌, ℕ, suc, ◌+◌, ◌<◌, ◌≤◌, List, [], ◌∷◌, ◌++◌, length, take, drop, set, get_or, refl, ap, ap₂, sym, ◌∙◌, arith, append_assoc, length-append, add-one}
-use Rattle.std.specs.Prelude.{Option, Some, None}
-use Rattle.std.proofs.Math.Seq.{drop-cons, take-set-lt}
-use Rattle.std.proofs.lemmas.Grind.{take-set_at, common_steps}
-use Rattle.std.proofs.lemmas.List.{take-append-drop, drop-set-lt, get_or-take, length-take-le}
-use Rattle.wal_tree.specs.Tree.{node}
-use Rattle.wal_tree.specs.Stack.{pushed}
+use Rattle.wal_tree.proofs.Common.{◌≡◌, ℕ, suc, ◌+◌, ◌<◌, ◌≤◌, List, [], ◌∷◌, ◌++◌, length, take, drop, set, get_or, refl, ap, ap₂, sym, ◌∙◌, arith, append_assoc, length-append, add-one, Option, drop-cons, take-set-lt, take-set_at, common_steps, take-append-drop, drop-set-lt, get_or-take, length-take-le, node, pushed}
+use Rattle.std.specs.Prelude.{Some, None}
 
 -- a place is written: what is before it and after it stays
 set-split : (zs : List (Option (List ℕ))) (k : ℕ) (w : Option (List ℕ)) → k < length zs → set zs k w ≡ take k zs ++ (w ∷ drop (suc k) zs)

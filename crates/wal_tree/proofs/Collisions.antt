@@ -1,16 +1,7 @@
 -- Two leaves or two contents that differ under one root, up to the texts that collide.
-use Rattle.std.proofs.Common.{◌≡◌, ◌≢◌, ℕ, suc, ◌+◌, ◌*◌, ◌/◌, ◌%◌, ◌<◌, ◌≤◌, List, [], ◌∷◌, ◌++◌, length, take, drop, get_or, ap, ap₂, subst, sym, ◌∙◌, arith, inl, inr, append-nil, All, Result, Ok, Err, IfOk}
-use Rattle.wal_shape.specs.declared.text.Collision.{Collision}
-use Rattle.std.proofs.Math.Nat.{div-le_of_le-mul, mul-le-mul_right}
-use Rattle.std.proofs.Math.Seq.{take-add, take-append_seam, drop-append_seam}
-use Rattle.std.proofs.lemmas.Bool.{cases_lt}
+use Rattle.wal_tree.proofs.Common.{◌≡◌, ◌≢◌, ℕ, suc, ◌+◌, ◌*◌, ◌/◌, ◌%◌, ◌<◌, ◌≤◌, List, [], ◌∷◌, ◌++◌, length, take, drop, get_or, ap, ap₂, subst, sym, ◌∙◌, arith, inl, inr, append-nil, All, Result, Ok, Err, IfOk, Collision, div-le_of_le-mul, mul-le-mul_right, take-add, take-append_seam, drop-append_seam, cases_lt, take_all, All-cons, All-from_get_or, IsCollision, IsByte, IsPathTo, MeetAbove, MeetInTrees, MeetOnPaths, folded, height, parent, parent_text, path_over, leaf, pieces}
 use Rattle.std.proofs.lemmas.Bool.Decides.{nat_tests}
-use Rattle.std.proofs.lemmas.List.{length-drop, take_all}
-use Rattle.std.proofs.lemmas.List.Elements.{All-cons, All-from_get_or}
-use Rattle.wal_tree.specs.Collision.{IsCollision}
-use Rattle.wal_tree.specs.Digests.{IsByte}
-use Rattle.wal_tree.specs.Path.{IsPathTo, MeetAbove, MeetInTrees, MeetOnPaths, folded, height, parent, parent_text, path_over}
-use Rattle.wal_tree.specs.Tree.{leaf, pieces}
+use Rattle.std.proofs.lemmas.List.{length-drop}
 
 -- joined texts are equal only part by part, where the first parts have one length
 pub append_front : (a b xs ys : List ℕ) → length a ≡ length b → a ++ xs ≡ b ++ ys → a ≡ b

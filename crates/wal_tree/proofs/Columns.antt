@@ -1,14 +1,7 @@
 -- The columns of many stacks, and the stack of each row.
-use Rattle.std.proofs.Common.{◌≡◌, ℕ, suc, ◌+◌, ◌*◌, ◌<◌, ◌≤◌, List, [], ◌∷◌, ◌++◌, All, length, map, take, drop, set, get_or, refl, ap, sym, subst, ◌∙◌, arith, append_assoc, add-one, length-take, length-drop, Vec, Global}
-use Rattle.std.specs.Prelude.{Option, Some, None, Result, Ok, Err, OnErr}
+use Rattle.wal_tree.proofs.Common.{◌≡◌, ℕ, suc, ◌+◌, ◌*◌, ◌<◌, ◌≤◌, List, [], ◌∷◌, ◌++◌, All, length, map, take, drop, set, get_or, refl, ap, sym, subst, ◌∙◌, arith, append_assoc, add-one, length-take, length-drop, Vec, Global, Option, OnErr, drop-cons, length-map, map-set, All-set, empty_entry, node, pair_up, root_of, climb, entries, pushed, HaveLost, StandsFor, emptied, entry_of, held_entry, row_stack, HasRows, column_bytes}
+use Rattle.std.specs.Prelude.{Some, None, Result, Ok, Err}
 use Rattle.std.proofs.Math.ListN.{get_or-map}
-use Rattle.std.proofs.Math.Seq.{drop-cons}
-use Rattle.std.proofs.lemmas.List.{length-map, map-set}
-use Rattle.std.proofs.lemmas.List.Elements.{All-set}
-use Rattle.wal_tree.specs.Tree.{empty_entry, node, pair_up, root_of}
-use Rattle.wal_tree.specs.Stack.{climb, entries, pushed}
-use Rattle.wal_tree.specs.Stacks.{HaveLost, StandsFor, emptied, entry_of, held_entry, row_stack}
-use Rattle.wal_tree.specs.inside.Stacks.{HasRows, column_bytes}
 use Rattle.wal_tree.proofs.Carries.{place_free, place_taken}
 use Rattle.wal_tree.proofs.Passes.{climb-pushed}
 

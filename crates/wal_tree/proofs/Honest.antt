@@ -1,9 +1,5 @@
 -- The path of a place leads from its leaf to the root.
-use Rattle.std.proofs.Common.{◌≡◌, ℕ, ◌+◌, ◌-◌, ◌*◌, ◌/◌, ◌%◌, ◌<◌, List, length, take, drop, get_or, ap, sym, ◌∙◌, arith, inl, inr}
-use Rattle.std.specs.List.{concat}
-use Rattle.std.proofs.lemmas.Bool.{cases_lt}
-use Rattle.wal_tree.specs.Tree.{empty_entry, leaves, pair_up, root_of, root_over}
-use Rattle.wal_tree.specs.Path.{beside, folded, height, IsPathTo, parent, path_of}
+use Rattle.wal_tree.proofs.Common.{◌≡◌, ℕ, ◌+◌, ◌-◌, ◌*◌, ◌/◌, ◌%◌, ◌<◌, List, length, take, drop, get_or, ap, sym, ◌∙◌, arith, inl, inr, concat, cases_lt, empty_entry, leaves, pair_up, root_of, root_over, beside, folded, height, IsPathTo, parent, path_of}
 use Rattle.wal_tree.proofs.Paths.{by_levels, root_of-above, root_of-few, get_or-leaves, get_or-pair_up, height-end, height-step, length-leaves, length-pair_up-half, path_of-end, path_of-step}
 use Rattle.wal_tree.proofs.Sizes.{All-leaves, All-path_of, length-concat, pieces-concat}
 

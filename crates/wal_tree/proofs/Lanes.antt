@@ -1,10 +1,7 @@
 -- Lanes of the toy digest over texts that are joined.
-use Rattle.std.proofs.Common.{◌≡◌, ℕ, ◌+◌, ◌%◌, ◌<◌, List, [], ◌∷◌, ◌++◌, length, get_or, replicate, refl, ap, ap₂, sym, ◌∙◌, arith, length-append, ◌==◌, if◌then◌else◌}
-use Rattle.std.specs.Prelude.{bit_xor}
+use Rattle.wal_tree.proofs.Common.{◌≡◌, ℕ, ◌+◌, ◌%◌, ◌<◌, List, [], ◌∷◌, ◌++◌, length, get_or, replicate, refl, ap, ap₂, sym, ◌∙◌, arith, length-append, ◌==◌, if◌then◌else◌, bit_xor, get_or-replicate, lane_sum, toy32}
 use Rattle.std.specs.Int.Bits.{xor_assoc, xor_zero_l}
-use Rattle.std.proofs.lemmas.List.{get_or-replicate}
 use Rattle.std.proofs.lemmas.List.FromFn.{fill_by_all}
-use Rattle.wal_tree.specs.Digests.{lane_sum, toy32}
 
 -- a lane over two texts: the second one's positions go on from the first one's
 lane_sum-append : (k p q : ℕ) (xs ys : List ℕ) → p + length xs ≡ q → lane_sum k p (xs ++ ys) ≡ bit_xor (lane_sum k p xs) (lane_sum k q ys)

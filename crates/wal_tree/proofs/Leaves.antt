@@ -1,8 +1,5 @@
 -- Leaf digests that lie one after the other, each in the place of its piece.
-use Rattle.std.proofs.Common.{◌≡◌, ℕ, zero, suc, ◌+◌, ◌*◌, ◌<◌, List, length, take, drop, get_or, refl, ap, ◌∙◌, arith}
-use Rattle.std.specs.List.{concat}
-use Rattle.std.proofs.lemmas.List.{drop-drop}
-use Rattle.wal_tree.specs.Tree.{empty_entry, leaf, leaves, pieces}
+use Rattle.wal_tree.proofs.Common.{◌≡◌, ℕ, zero, suc, ◌+◌, ◌*◌, ◌<◌, List, length, take, drop, get_or, refl, ap, ◌∙◌, arith, concat, drop-drop, empty_entry, leaf, leaves, pieces}
 use Rattle.wal_tree.proofs.LevelPairs.{leaves-pieces}
 use Rattle.wal_tree.proofs.Paths.{get_or-leaves, length-leaves}
 use Rattle.wal_tree.proofs.Sizes.{All-leaves, length-concat, pieces-concat}

@@ -1,11 +1,6 @@
 -- Levels that are made from the one below, pair by pair.
-use Rattle.std.proofs.Common.{◌≡◌, ℕ, zero, suc, ◌+◌, ◌-◌, ◌*◌, ◌<◌, ◌≤◌, List, [], ◌∷◌, ◌++◌, length, take, drop, replicate, refl, ap, sym, ◌∙◌, arith}
-use Rattle.std.proofs.lemmas.List.{drop-append-le, drop-drop, drop-take, take-append-le, take-take, length-drop}
-use Rattle.std.proofs.Math.Nat.{mul-le-mul_right}
-use Rattle.std.proofs.Math.Seq.{take-add}
-use Rattle.wal_lanes.specs.inside.Lanes.{put_at}
-use Rattle.wal_lanes.proofs.Parts.{put_before, put_here}
-use Rattle.wal_tree.specs.Tree.{empty_entry, leaf, leaves, node, pair_up, pieces, root_of}
+use Rattle.wal_tree.proofs.Common.{◌≡◌, ℕ, zero, suc, ◌+◌, ◌-◌, ◌*◌, ◌<◌, ◌≤◌, List, [], ◌∷◌, ◌++◌, length, take, drop, replicate, refl, ap, sym, ◌∙◌, arith, drop-append-le, drop-drop, drop-take, take-append-le, take-take, mul-le-mul_right, take-add, put_at, put_before, put_here, empty_entry, leaf, leaves, node, pair_up, pieces, root_of}
+use Rattle.std.proofs.lemmas.List.{length-drop}
 use Rattle.wal_tree.proofs.Roots.{root_of-pair_up}
 
 -- the first piece

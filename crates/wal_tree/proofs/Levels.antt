@@ -1,10 +1,5 @@
 -- The root and the siblings of a path, by the levels of a tree.
-use Rattle.std.proofs.Common.{◌≡◌, ℕ, zero, suc, ◌*◌, ◌/◌, ◌^◌, ◌<◌, List, [], ◌∷◌, length, take, drop, get_or, refl, ap, sym, ◌∙◌, arith}
-use Rattle.std.specs.List.{concat}
-use Rattle.std.proofs.Math.Nat.{div-div-eq-div-mul, pow-succ'}
-use Rattle.wal_tree.specs.Tree.{empty_entry, leaves, pair_up, root_of}
-use Rattle.wal_tree.specs.inside.Tree.{level_above}
-use Rattle.wal_tree.specs.Path.{beside, height, path_of, path_over}
+use Rattle.wal_tree.proofs.Common.{◌≡◌, ℕ, zero, suc, ◌*◌, ◌/◌, ◌^◌, ◌<◌, List, [], ◌∷◌, length, take, drop, get_or, refl, ap, sym, ◌∙◌, arith, concat, div-div-eq-div-mul, pow-succ', empty_entry, leaves, pair_up, root_of, level_above, beside, height, path_of, path_over}
 use Rattle.wal_tree.proofs.Honest.{length-path_of}
 use Rattle.wal_tree.proofs.Leaves.{get_or-pieces}
 use Rattle.wal_tree.proofs.Paths.{by_levels, root_of-above, root_of-few, height-end, height-step, length-leaves, length-pair_up-half, path_of-end, path_of-step}

@@ -11,3 +11,4 @@ mod Passes
 mod Lanes
 mod PathSteps
 pub mod LevelPairs
+mod Common

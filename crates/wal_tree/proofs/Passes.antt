@@ -1,10 +1,6 @@
 -- The pass over the leaves: pushing an entry keeps the root, and the stack stays within ten levels.
-use Rattle.std.proofs.Common.{◌≡◌, ℕ, suc, ◌+◌, ◌*◌, ◌/◌, ◌^◌, ◌<◌, ◌≤◌, List, [], ◌∷◌, ◌++◌, length, take, refl, sym, ◌∙◌, arith}
-use Rattle.std.specs.Prelude.{Option, Some, None}
-use Rattle.std.proofs.Math.Nat.{div-le_of_le-mul}
-use Rattle.wal_tree.specs.Tree.{empty_entry, node, pair_up, root_of}
-use Rattle.wal_tree.specs.Stack.{climb, pushed}
-use Rattle.wal_tree.specs.inside.Stack.{weight}
+use Rattle.wal_tree.proofs.Common.{◌≡◌, ℕ, suc, ◌+◌, ◌*◌, ◌/◌, ◌^◌, ◌<◌, ◌≤◌, List, [], ◌∷◌, ◌++◌, length, take, refl, sym, ◌∙◌, arith, Option, div-le_of_le-mul, empty_entry, node, pair_up, root_of, climb, pushed, weight}
+use Rattle.std.specs.Prelude.{Some, None}
 use Rattle.wal_tree.proofs.Roots.{count-cons, root_of-pair_up}
 
 -- below an entry in the stack, an empty place only pairs what comes

@@ -1,11 +1,5 @@
 -- What each turn of the loops over a path keeps, and what an entry is made of.
-use Rattle.std.proofs.Common.{◌≡◌, ℕ, zero, suc, ◌+◌, ◌-◌, ◌*◌, ◌/◌, ◌<◌, ◌≤◌, List, ◌++◌, length, take, drop, refl, ap, sym, ◌∙◌, arith, get_or, append_assoc, append-nil}
-use Rattle.std.specs.List.{concat}
-use Rattle.std.proofs.lemmas.List.{get_or_past}
-use Rattle.wal_tree.specs.Tree.{empty_entry, leaf, leaves, node, pair_up, pieces}
-use Rattle.wal_tree.specs.inside.Tree.{level_above}
-use Rattle.wal_tree.specs.Path.{beside, folded, parent, path_of}
-use Rattle.wal_tree.specs.inside.Path.{width_of}
+use Rattle.wal_tree.proofs.Common.{◌≡◌, ℕ, zero, suc, ◌+◌, ◌-◌, ◌*◌, ◌/◌, ◌<◌, ◌≤◌, List, ◌++◌, length, take, drop, refl, ap, sym, ◌∙◌, arith, get_or, append_assoc, append-nil, concat, get_or_past, empty_entry, leaf, leaves, node, pair_up, pieces, level_above, beside, folded, parent, path_of, width_of}
 use Rattle.wal_tree.proofs.Roots.{pieces-cons}
 use Rattle.wal_tree.proofs.Paths.{get_or-leaves, get_or-pair_up, level_above-next, path_of-end, path_of-step, width-level_above, width_of-next}
 

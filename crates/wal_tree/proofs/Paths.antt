@@ -1,11 +1,5 @@
 -- Facts on paths that do not depend on how they are computed.
-use Rattle.std.proofs.Common.{◌≡◌, ℕ, zero, suc, ◌+◌, ◌*◌, ◌/◌, ◌^◌, ◌<◌, ◌≤◌, List, [], ◌∷◌, length, take, drop, refl, ap, ◌∙◌, arith, get_or, slice_index_or, add-one, inl, inr}
-use Rattle.std.proofs.lemmas.Bool.{cases_lt}
-use Rattle.std.proofs.lemmas.List.{drop-drop}
-use Rattle.wal_tree.specs.Tree.{empty_entry, leaf, leaves, node, pair_up, root_of}
-use Rattle.wal_tree.specs.inside.Tree.{level_above}
-use Rattle.wal_tree.specs.Path.{beside, height, height_within, path_of, path_within}
-use Rattle.wal_tree.specs.inside.Path.{width_of}
+use Rattle.wal_tree.proofs.Common.{◌≡◌, ℕ, zero, suc, ◌+◌, ◌*◌, ◌/◌, ◌^◌, ◌<◌, ◌≤◌, List, [], ◌∷◌, length, take, drop, refl, ap, ◌∙◌, arith, get_or, slice_index_or, add-one, inl, inr, cases_lt, drop-drop, empty_entry, leaf, leaves, node, pair_up, root_of, level_above, beside, height, height_within, path_of, path_within, width_of}
 use Rattle.wal_tree.proofs.Roots.{length-pair_up, root_of-pair_up}
 
 -- a level has half as many entries as the one below, rounded up

@@ -1,8 +1,5 @@
 -- Facts on the root over a list of entries that do not depend on how it is computed.
-use Rattle.std.proofs.Common.{◌≡◌, ℕ, suc, ◌/◌, ◌<◌, ◌≤◌, List, [], ◌∷◌, ◌++◌, length, take, drop, refl, ap, sym, ◌∙◌, arith, length-append, add-one}
-use Rattle.std.proofs.Math.Nat.{add-div_left, div-eq_of_lt}
-use Rattle.std.proofs.Math.Seq.{take-append_seam, drop-append_seam}
-use Rattle.wal_tree.specs.Tree.{pair_up, pieces, root_of, root_within}
+use Rattle.wal_tree.proofs.Common.{◌≡◌, ℕ, suc, ◌/◌, ◌<◌, ◌≤◌, List, [], ◌∷◌, ◌++◌, length, take, drop, refl, ap, sym, ◌∙◌, arith, length-append, add-one, add-div_left, div-eq_of_lt, take-append_seam, drop-append_seam, pair_up, pieces, root_of, root_within}
 
 -- a level has no more entries than the one below
 pub length-pair_up : (digest : List ℕ → List ℕ) (entries : List (List ℕ)) → length (pair_up digest entries) ≤ length entries

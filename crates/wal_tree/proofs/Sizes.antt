@@ -1,13 +1,5 @@
 -- The sizes of digests in a tree, and pieces of a text that was joined from pieces of one size.
-use Rattle.std.proofs.Common.{◌≡◌, ℕ, zero, suc, ◌*◌, ◌/◌, ◌<◌, List, [], ◌∷◌, ◌++◌, length, map, take, drop, get_or, refl, ap, ap₂, sym, ◌∙◌, arith, length-append, inl, inr, All}
-use Rattle.std.specs.List.{concat}
-use Rattle.std.proofs.Math.Seq.{take-append_seam, drop-append_seam}
-use Rattle.std.proofs.Math.Nat.{mul-div_left}
-use Rattle.std.proofs.lemmas.Bool.{cases_lt}
-use Rattle.std.proofs.lemmas.List.{get_or_past}
-use Rattle.std.proofs.lemmas.List.Elements.{All-nil, All-cons, All-head, All-tail, All-map}
-use Rattle.wal_tree.specs.Tree.{empty_entry, leaf, leaves, node, pair_up, pieces, root_of, root_over, root_within}
-use Rattle.wal_tree.specs.Path.{beside, path_of}
+use Rattle.wal_tree.proofs.Common.{◌≡◌, ℕ, zero, suc, ◌*◌, ◌/◌, ◌<◌, List, [], ◌∷◌, ◌++◌, length, map, take, drop, get_or, refl, ap, ap₂, sym, ◌∙◌, arith, length-append, inl, inr, All, concat, take-append_seam, drop-append_seam, mul-div_left, cases_lt, get_or_past, All-nil, All-cons, All-head, All-tail, All-map, empty_entry, leaf, leaves, node, pair_up, pieces, root_of, root_over, root_within, beside, path_of}
 use Rattle.wal_tree.proofs.Paths.{by_levels, path_of-end, path_of-step}
 
 -- the list has the size of a digest

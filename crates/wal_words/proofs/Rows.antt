@@ -1,13 +1,11 @@
 -- What rows of values ask for.
-use Rattle.std.proofs.Common.{◌≡◌, ◌≤◌, ℕ, ◌*◌, List, [], ◌∷◌, get_or, codes, Option, Some, None, IfSome, IfNone, Result, Ok, sym, ap, ◌∙◌, arith, map, slice_index, refl, subst, length, ◌<◌, Err, unwrap_or, option_map, true, inl, inr}
-use Rattle.std.proofs.lemmas.Fmt.{decimal_injective}
+use Rattle.wal_words.proofs.Common.{◌≡◌, ◌≤◌, ℕ, ◌*◌, List, [], ◌∷◌, get_or, codes, Option, Some, None, IfSome, IfNone, Result, Ok, sym, ap, ◌∙◌, arith, map, slice_index, refl, subst, length, ◌<◌, Err, unwrap_or, option_map, true, inl, inr, decimal_injective, found_of, kind_of, first_value, matched_of, raw_values, Asks, HasFormat, HasNumber, HasOptions, IsAudit, IsAxis, IsBeacon, IsFormat, IsTask, IsIdentifier, IsNumber, IsRow, identify, encode, read, recover, check, serve, replay, sample, image, unpack, bundle, member, challenge, verify, gateway, NoTask}
 use Rattle.std.specs.Borrow.{Bor}
 use Rattle.clap.proofs.WalkLemmas.{first_value-rows, raw_values-rows}
 use Rattle.clap.specs.Faults.{fault_of, is_simple_and_free}
 use Rattle.clap.specs.Simple.{App, HasMatchesOf, is_simple, matches_of}
 use Rattle.clap.specs.Kinds.{FailsBy, HasKind, Kinds}
 use Rattle.clap.proofs.OnLiterals.{clap_on_literals}
-use Rattle.clap.specs.Words.{found_of, kind_of, first_value, matched_of, raw_values}
 use Rattle.clap.specs.declared.parser.matches.ArgMatches.{ArgMatches}
 use Rattle.clap.specs.declared.error.Error.{Error}
 use Rattle.clap.specs.declared.error.kind.ErrorKind.TheVariants.{OutOfMemory}
@@ -25,7 +23,6 @@ use Rattle.wal_words.specs.declared.task.Options.{Options}
 use Rattle.wal_words.specs.declared.task.Task.{Task}
 use Rattle.wal_words.specs.declared.task.Task.TheVariants.{Whole, Read, Sample}
 use Rattle.wal_words.specs.declared.task.WholeTask.TheVariants.{Identify, Encode, Check, Image, Bundle, Challenge, Verify, Gateway}
-use Rattle.wal_words.specs.Task.{Asks, HasFormat, HasNumber, HasOptions, IsAudit, IsAxis, IsBeacon, IsFormat, IsTask, IsIdentifier, IsNumber, IsRow, identify, encode, read, recover, check, serve, replay, sample, image, unpack, bundle, member, challenge, verify, gateway, NoTask}
 use Rattle.wal_words.specs.inside.Task.{FoundAsks}
 
 -- the value of this place in two equal lists

@@ -1,20 +1,7 @@
 -- A network once something was entered in its ledger.
-use Rattle.std.proofs.Common.{◌≡◌, ℕ, ◌<◌, ◌≤◌, length, length-append, [], ◌∷◌, true, false, cond, List, Option, Some, None, refl, sym, ap, ◌∙◌, subst, ◌+◌, arith, Bool}
-use Rattle.wal_shape.specs.declared.axis.Side.{Side}
-use Rattle.wal_shape.specs.declared.axis.Side.TheVariants.{Now, Next}
+use Rattle.wal_world.proofs.Common.{◌≡◌, ℕ, ◌<◌, ◌≤◌, length, length-append, [], ◌∷◌, true, false, cond, List, Option, Some, None, refl, sym, ap, ◌∙◌, subst, ◌+◌, arith, Bool, Side, Now, Next, Log, LedgerState, is_moving, reading, owners_at, owners_of, home_of, takes_in, writing, ShardState, room_of, BlobId, committee_size, count_below, World, holders, is_present, settled_in, side_of, writing_side, ledger_of, faulty_on, AreBooks, books_with, world_of, AreNext, AreShards, IsNetwork, with_ledger, Books, Serving, Moving, Network}
 use Rattle.wal_ledger.specs.declared.entry.Body.{Body}
-use Rattle.wal_ledger.specs.Ledger.{Log, LedgerState, is_moving, reading, owners_at, owners_of, home_of, takes_in, writing}
 use Rattle.wal_ledger.specs.Kept.{SameEpoch}
-use Rattle.wal_shard.specs.State.{ShardState}
-use Rattle.wal_shard.specs.Replying.{room_of}
-use Rattle.wal_shape.specs.declared.metadata.BlobId.{BlobId}
-use Rattle.wal_ledger.specs.Shards.{committee_size, count_below}
-use Rattle.wal_protocol.specs.State.{World, holders, is_present, settled_in, side_of, writing_side}
-use Rattle.wal_world.specs.inside.Books.{ledger_of, faulty_on, AreBooks, books_with}
-use Rattle.wal_world.specs.inside.Network.{world_of, AreNext, AreShards, IsNetwork, with_ledger}
-use Rattle.wal_world.specs.declared.books.Books.{Books}
-use Rattle.wal_world.specs.declared.books.Books.TheVariants.{Serving, Moving}
-use Rattle.wal_world.specs.declared.network.Network.{Network}
 
 books_entered : (b : Option Books) (l : LedgerState) → AreBooks b → is_moving l.log ≡ is_moving (ledger_of b).log → AreBooks (books_with b l)
 books_entered (Some (Serving s)) l books same = same ∙ books

@@ -1,22 +1,9 @@
 -- The first completed answers of a network.
-use Rattle.std.proofs.Common.{◌≡◌, ◌≢◌, ℕ, List, true, false, cond, Option, Some, None, is_some, IfSome, IfNone, Result, Ok, Err, IfOk, refl, sym, ap, ◌∙◌}
+use Rattle.wal_world.proofs.Common.{◌≡◌, ◌≢◌, ℕ, List, true, false, cond, Option, Some, None, is_some, IfSome, IfNone, Result, Ok, Err, IfOk, refl, sym, ap, ◌∙◌, from_sorted, BTreeMap, get_by, insert_entry, BlobId, id_cmp, Format, One, Two, IsIdentifierOf, ids_total, First, World, verdict_of, answered, Collision, IsCollision, AgreesWithFirst, IsCompared}
 use Rattle.std.specs.FinMap as finmap
-use Rattle.std.specs.FinMap.{from_sorted}
-use Rattle.std.specs.BTreeMap.{BTreeMap, IsOrdered, get_by, insert_entry}
-use Rattle.wal_shape.specs.declared.metadata.BlobId.{BlobId}
-use Rattle.wal_shape.specs.Identifiers.{id_cmp}
-use Rattle.wal_shape.specs.declared.shape.Format.{Format}
-use Rattle.wal_shape.specs.declared.shape.Format.TheVariants.{One, Two}
-use Rattle.wal_commit.specs.Identifier.{IsIdentifierOf}
+use Rattle.std.specs.BTreeMap.{IsOrdered}
 use Rattle.wal_evidence.specs.declared.evidence.Verdict.{Verdict}
 use Rattle.wal_store.proofs.EntriesLaws.{get_view, insert_view}
-use Rattle.wal_ledger.proofs.Order.{ids_total}
-use Rattle.wal_protocol.specs.declared.first.First.{First}
-use Rattle.wal_protocol.specs.State.{World, verdict_of, answered}
-use Rattle.wal_shape.specs.declared.text.Collision.{Collision}
-use Rattle.wal_tree.specs.Collision.{IsCollision}
-use Rattle.wal_protocol.specs.Step.{AgreesWithFirst}
-use Rattle.wal_world.specs.inside.Replies.{IsCompared}
 
 -- what a look-up finds
 pub found : (m : BTreeMap BlobId First) (id : BlobId) (o : Option First) → IsOrdered id_cmp m → o ≡ get_by (id_cmp id) m → finmap.get {R = id_cmp} (from_sorted m.entries) id ≡ o

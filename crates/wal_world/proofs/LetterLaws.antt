@@ -1,19 +1,8 @@
 -- Puts of frames, one after the other, come to what the puts of all of them do.
-use Rattle.std.proofs.Common.{◌≡◌, ℕ, Bool, true, false, cond, List, [], ◌∷◌, ◌++◌, Option, Some, None, is_some, refl, ap, ◌∙◌, subst, arith}
-use Rattle.wal_shape.specs.declared.axis.Side.{Side}
-use Rattle.wal_shape.specs.declared.text.Collision.{Collision}
-use Rattle.wal_frame.specs.Frame.{Frame, IsFrame, frame_text}
+use Rattle.wal_world.proofs.Common.{◌≡◌, ℕ, Bool, true, false, cond, List, [], ◌∷◌, ◌++◌, Option, Some, None, is_some, refl, ap, ◌∙◌, subst, arith, Side, Collision, Frame, IsFrame, frame_text, Log, Contents, PutAnswer, World, Committee, side_of, with_side, with_contents, contents_of, keeps, Rules, PutsFrame, rules_of, PutsTo, Continues, frame_in, frame_read, PutsEach, is_clash}
 use Rattle.wal_frame.proofs.FrameLaws.{read_again}
-use Rattle.wal_ledger.specs.Ledger.{Log}
-use Rattle.wal_store.specs.Contents.{Contents}
 use Rattle.wal_shape.specs.declared.text.MetaClash.{MetaClash}
-use Rattle.wal_shard.specs.declared.answers.PutAnswer.{PutAnswer}
 use Rattle.wal_shard.specs.declared.answers.PutAnswer.TheVariants as putting
-use Rattle.wal_protocol.specs.State.{World, Committee, side_of, with_side, with_contents, contents_of, keeps}
-use Rattle.wal_protocol.specs.Rules.{Rules}
-use Rattle.wal_theorem.specs.Instance.{PutsFrame, rules_of}
-use Rattle.wal_world.specs.inside.Letters.{PutsTo, Continues, frame_in, frame_read}
-use Rattle.wal_protocol.specs.Step.{PutsEach, is_clash}
 use Rattle.wal_world.proofs.Placing.{keeps_same}
 
 either : {P Q R S : Type 0} (b : Bool) → cond b P R → (P → Q) → (R → S) → cond b Q S

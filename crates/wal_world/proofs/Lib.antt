@@ -15,3 +15,4 @@ pub mod Tallies
 pub mod Summaries
 pub mod WriteEnds
 pub mod WriteSteps
+mod Common

@@ -1,28 +1,8 @@
 -- One shard of a network changes what it holds: what the network is then.
-use Rattle.std.proofs.Common.{◌≡◌, ◌≢◌, ℕ, ◌<◌, List, length, get_or, slice_set, slice_index_or, true, false, Option, Some, None, Result, Ok, Err, OnOk, OnErr, ◌⊎◌, inl, inr, refl, sym, ap, ◌∙◌, subst, arith}
+use Rattle.wal_world.proofs.Common.{◌≡◌, ◌≢◌, ℕ, ◌<◌, List, length, get_or, slice_set, slice_index_or, true, false, Option, Some, None, Result, Ok, Err, OnOk, OnErr, ◌⊎◌, inl, inr, refl, sym, ap, ◌∙◌, subst, arith, cases_eq, map-set, length-set, set-get_or, get_or-set_same, get_or-set_other, BlobId, Side, Now, Next, among, committee_size, Log, LedgerState, is_moving, Contents, ShardState, MayForget, without_slivers, Books, Serving, Moving, Members, Network, World, side_of, is_present, is_correct, contents_of, with_contents, keeps, ledger_of, AreBooks, IsNetwork, IsShardAt, AreShards, AreNext, contents_in, shards_of, world_of, members_of, with_members, LetsGo, Places, contents_at, placed, opposite}
 use Rattle.std.specs.FinMap as finmap
-use Rattle.std.proofs.lemmas.Bool.{cases_eq}
-use Rattle.std.proofs.lemmas.List.{map-set, length-set, set-get_or, get_or-set_same, get_or-set_other}
-use Rattle.wal_shape.specs.declared.metadata.BlobId.{BlobId}
-use Rattle.wal_shape.specs.declared.axis.Side.{Side}
-use Rattle.wal_shape.specs.declared.axis.Side.TheVariants.{Now, Next}
-use Rattle.wal_shape.specs.Owners.{among}
-use Rattle.wal_ledger.specs.Shards.{committee_size}
-use Rattle.wal_ledger.specs.Ledger.{Log, LedgerState, is_moving}
-use Rattle.wal_store.specs.Contents.{Contents}
-use Rattle.wal_shard.specs.State.{ShardState}
 use Rattle.wal_shard.specs.State as shard_state
 use Rattle.wal_shard.specs.declared.answers.Declined.{Declined}
-use Rattle.wal_shard.specs.Vouching.{MayForget, without_slivers}
-use Rattle.wal_world.specs.declared.books.Books.{Books}
-use Rattle.wal_world.specs.declared.books.Books.TheVariants.{Serving, Moving}
-use Rattle.wal_world.specs.declared.members.Members.{Members}
-use Rattle.wal_world.specs.declared.network.Network.{Network}
-use Rattle.wal_protocol.specs.State.{World, side_of, is_present, is_correct, contents_of, with_contents, keeps}
-use Rattle.wal_world.specs.inside.Books.{ledger_of, AreBooks}
-use Rattle.wal_world.specs.inside.Network.{IsNetwork, IsShardAt, AreShards, AreNext, contents_in, shards_of, world_of}
-use Rattle.wal_world.specs.inside.Members.{members_of, with_members}
-use Rattle.wal_world.specs.inside.Placed.{LetsGo, Places, contents_at, placed, opposite}
 use Rattle.wal_world.proofs.Shards.{side_shards}
 use Rattle.wal_world.proofs.Shards as shards
 

@@ -1,25 +1,10 @@
 -- What is put to a shard of a network, and what is said of it.
-use Rattle.std.proofs.Common.{◌≡◌, ℕ, ◌<◌, List, true, Option, Some, None, Result, Ok, Err, IfOk, OnOk, slice_index_or, length, refl, sym, ap, ◌∙◌, subst}
-use Rattle.wal_shape.specs.declared.axis.Side.{Side}
-use Rattle.wal_tree.specs.Collision.{IsCollision}
-use Rattle.wal_frame.specs.Frame.{Frame, IsFrame}
+use Rattle.wal_world.proofs.Common.{◌≡◌, ℕ, ◌<◌, List, true, Option, Some, None, Result, Ok, Err, IfOk, OnOk, slice_index_or, length, refl, sym, ap, ◌∙◌, subst, Side, IsCollision, Frame, IsFrame, Log, Contents, PutAnswer, PutsOrWants, ShardState, desk_of, World, side_of, is_correct, contents_of, keeps, SendStep, SendCollides, Refused, IsPutFrame, PutsFrame, rules_of, IsAnswered, IsTaken, Tells, Taken, AreShards, contents_at}
 use Rattle.wal_event.specs.declared.line.SendWord.{SendWord}
 use Rattle.wal_event.specs.declared.line.SendWord.TheVariants as sending
-use Rattle.wal_ledger.specs.Ledger.{Log}
-use Rattle.wal_store.specs.Contents.{Contents}
-use Rattle.wal_shard.specs.declared.answers.PutAnswer.{PutAnswer}
 use Rattle.wal_shard.specs.declared.answers.PutAnswer.TheVariants as putting
-use Rattle.wal_shard.specs.Putting.{PutsOrWants}
-use Rattle.wal_shard.specs.State.{ShardState, desk_of}
 use Rattle.wal_shard.specs.State as shard_state
-use Rattle.wal_protocol.specs.State.{World, side_of, is_correct, contents_of, keeps}
-use Rattle.wal_protocol.specs.Step.{SendStep, SendCollides, Refused}
-use Rattle.wal_theorem.specs.Instance.{IsPutFrame, PutsFrame, rules_of}
-use Rattle.wal_world.specs.inside.Taken.{IsAnswered, IsTaken, Tells}
-use Rattle.wal_world.specs.declared.taken.Taken.{Taken}
 use Rattle.wal_world.specs.declared.taken.Taken.TheVariants as taken
-use Rattle.wal_world.specs.inside.Network.{AreShards}
-use Rattle.wal_world.specs.inside.Placed.{contents_at}
 use Rattle.wal_world.proofs.Placing.{keeps_same, shard_at}
 
 pub on_ok : {A E P : Type 0} (r : Result A E) → P → OnOk r P

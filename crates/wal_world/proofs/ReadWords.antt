@@ -1,22 +1,11 @@
 -- What a read is said to come to.
-use Rattle.std.proofs.Common.{◌≡◌, ℕ, List, Option, Some, refl, sym, subst}
-use Rattle.wal_shape.specs.declared.metadata.BlobId.{BlobId}
+use Rattle.wal_world.proofs.Common.{◌≡◌, ℕ, List, Option, Some, refl, sym, subst, BlobId, Reply, Outcome, IsOutcome, HasEvidence, Taken, World, Rules, ReadStep, ReadCollides, two_metadata, other_answer, read_payloads, ReadsTo, outcome_told, rules_of, CollidesOn, both_metadata, another_answer, IsTold, ReadsOn, IsTaken}
 use Rattle.wal_evidence.specs.declared.evidence.Evidence.{Evidence}
 use Rattle.wal_evidence.specs.declared.evidence.Verdict.TheVariants as verdict
-use Rattle.wal_event.specs.declared.event.Reply.{Reply}
 use Rattle.wal_event.specs.declared.line.ReadWord.{ReadWord}
 use Rattle.wal_event.specs.declared.line.ReadWord.TheVariants as reading
-use Rattle.wal_reader.specs.declared.outcome.Outcome.{Outcome}
-use Rattle.wal_reader.specs.Outcome.{IsOutcome, HasEvidence}
-use Rattle.wal_world.specs.declared.taken.Taken.{Taken}
 use Rattle.wal_world.specs.declared.taken.Taken.TheVariants as taken
 use Rattle.wal_protocol.specs.declared.first.First.TheVariants.{Judged}
-use Rattle.wal_protocol.specs.State.{World}
-use Rattle.wal_protocol.specs.Rules.{Rules}
-use Rattle.wal_protocol.specs.Step.{ReadStep, ReadCollides, two_metadata, other_answer, read_payloads}
-use Rattle.wal_theorem.specs.Instance.{ReadsTo, outcome_told, rules_of}
-use Rattle.wal_world.specs.inside.Replies.{CollidesOn, both_metadata, another_answer, IsTold, ReadsOn}
-use Rattle.wal_world.specs.inside.Taken.{IsTaken}
 
 pub reads_is : (digest : List ℕ → List ℕ) (id : BlobId) (payloads : List (List ℕ)) (o : Outcome) (found : Option Evidence) (word : ReadWord) (e : Evidence)
     → o ≡ outcome_told word → found ≡ Some e → IsOutcome digest id.0 payloads o → HasEvidence digest id.0 payloads o found → ReadsTo digest id payloads word (Some e)

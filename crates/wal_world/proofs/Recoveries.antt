@@ -1,39 +1,11 @@
 -- What is known of a blob's metadata, and what a recovery comes to.
-use Rattle.std.proofs.Common.{◌≡◌, ◌≢◌, inl, inr, ℕ, true, List, Option, Some, None, Result, Ok, Err, IfOk, OnOk, IfSome, IfNone, refl, sym, ap, ◌∙◌}
-use Rattle.std.specs.declared.alloc.AllocError.{AllocError}
-use Rattle.wal_shape.specs.declared.metadata.BlobId.{BlobId}
-use Rattle.wal_shape.specs.declared.axis.Axis.{Axis}
-use Rattle.wal_shape.specs.declared.axis.Side.{Side}
-use Rattle.wal_shape.specs.Metadata.{BlobMetadata}
-use Rattle.wal_shape.specs.Shape.{sliver_symbols}
+use Rattle.wal_world.proofs.Common.{◌≡◌, ◌≢◌, inl, inr, ℕ, true, List, Option, Some, None, Result, Ok, Err, IfOk, OnOk, IfSome, IfNone, refl, sym, ap, ◌∙◌, AllocError, BlobId, Axis, Side, BlobMetadata, sliver_symbols, metadata_text, Commits, Reply, is_live, HasMetadata, IsMetadataIn, Parts, Contents, parts_at, HoldsMetadata, kept_sliver, kept_proof, IsOwnMetadata, Members, Network, ledger_of, members_of, with_members, IsNetwork, world_of, contents_at, placed, Taken, World, side_of, is_present, is_correct, contents_of, held, keeps, Knows, KnowsTwo, IsKnown, OwnOpeningsComeTo, rules_of, IsHeldMetadata, IsOnly, RecoversInWorld, AreReplies, RecoverStep, RecoverCollides, RecoveryRuns, IsTaken}
 use Rattle.wal_shape.specs.EncodingProof.{EncodingProof}
-use Rattle.wal_shape.specs.Spelling.{metadata_text}
-use Rattle.wal_commit.specs.Identifier.{Commits}
-use Rattle.wal_event.specs.declared.event.Reply.{Reply}
 use Rattle.wal_event.specs.declared.line.RecoverWord.{RecoverWord}
 use Rattle.wal_event.specs.declared.line.RecoverWord.TheVariants as recovering
-use Rattle.wal_ledger.specs.Ledger.{is_live}
 use Rattle.wal_reader.specs.Carried.{IsFirstBadProof, NoBadProof}
-use Rattle.wal_reader.specs.Outcome.{HasMetadata, IsMetadataIn}
 use Rattle.wal_recover.specs.declared.outcome.Recovered.TheVariants as recovered
-use Rattle.wal_store.specs.Parts.{Parts}
-use Rattle.wal_store.specs.Contents.{Contents, parts_at}
-use Rattle.wal_shard.specs.Holding.{HoldsMetadata}
-use Rattle.wal_shard.specs.Keeping.{kept_sliver, kept_proof}
-use Rattle.wal_shard.specs.State.{IsOwnMetadata}
-use Rattle.wal_world.specs.declared.members.Members.{Members}
-use Rattle.wal_world.specs.declared.network.Network.{Network}
-use Rattle.wal_world.specs.inside.Books.{ledger_of}
-use Rattle.wal_world.specs.inside.Members.{members_of, with_members}
-use Rattle.wal_world.specs.inside.Network.{IsNetwork, world_of}
-use Rattle.wal_world.specs.inside.Placed.{contents_at, placed}
-use Rattle.wal_world.specs.declared.taken.Taken.{Taken}
 use Rattle.wal_world.specs.declared.taken.Taken.TheVariants as taken
-use Rattle.wal_protocol.specs.State.{World, side_of, is_present, is_correct, contents_of, held, keeps}
-use Rattle.wal_theorem.specs.Instance.{Knows, KnowsTwo, IsKnown, OwnOpeningsComeTo, rules_of}
-use Rattle.wal_world.specs.inside.Knowing.{IsHeldMetadata, IsOnly, RecoversInWorld}
-use Rattle.wal_protocol.specs.Step.{AreReplies, RecoverStep, RecoverCollides, RecoveryRuns}
-use Rattle.wal_world.specs.inside.Taken.{IsTaken}
 use Rattle.wal_theorem.proofs.InstanceKnown.{known_alone, known_beside, held_alone, none_known, is_unfit}
 use Rattle.wal_theorem.proofs.InstanceHoldings.{none_some}
 use Rattle.wal_world.proofs.Placing.{keeps_same, placed_at, places_network, places_world}

@@ -1,24 +1,11 @@
 -- Replays, event by event.
-use Rattle.std.proofs.Common.{◌≡◌, ℕ, zero, suc, ◌+◌, ◌<◌, ◌≤◌, inl, inr, List, [], ◌∷◌, ◌++◌, length, length-append, take, drop, take-append-drop, append_assoc, get_or, Bool, true, false, Option, Result, Ok, Err, IsErrAnd, refl, sym, ap, subst, ◌∙◌, append-nil, arith}
+use Rattle.wal_world.proofs.Common.{◌≡◌, ℕ, zero, suc, ◌+◌, ◌<◌, ◌≤◌, inl, inr, List, [], ◌∷◌, ◌++◌, length, length-append, take, drop, take-append-drop, append_assoc, get_or, Bool, true, false, Option, Result, Ok, Err, IsErrAnd, refl, sym, ap, subst, ◌∙◌, append-nil, arith, flat_map-append, take_all, take_more, AllByRecursion, IsSchedule, IsEventWithin, Event, Schedule, Line, committee_size, Rose, World, Rules, Steps, first_state, is_collision, GoesOn, Runs, rules_of, goes_on_push, last_push, runs_each, runs_push, runs_stop, run_safe, run_recovers}
 use Rattle.std.proofs.Math.Seq.{take-append-add}
 use Rattle.std.proofs.KnownBytes.{Appends-kept, Appends-nil, Appends-trans}
-use Rattle.std.proofs.lemmas.Grind.{flat_map-append}
-use Rattle.std.proofs.lemmas.List.{length-take, take_all, take_more}
-use Rattle.std.specs.List.{AllByRecursion}
+use Rattle.std.proofs.lemmas.List.{length-take}
 use Rattle.std.specs.Io.KnownBytes.{Appends}
-use Rattle.wal_event.specs.Event.{IsSchedule, IsEventWithin}
-use Rattle.wal_event.specs.declared.event.Event.{Event}
-use Rattle.wal_event.specs.declared.event.Schedule.{Schedule}
-use Rattle.wal_event.specs.declared.line.Line.{Line}
 use Rattle.wal_event.specs.Report.{line_text, report_of}
-use Rattle.wal_ledger.specs.Shards.{committee_size}
-use Rattle.wal_port.specs.Faults.{Rose}
 use Rattle.wal_port.specs.Appending.{AppendsPart}
-use Rattle.wal_protocol.specs.State.{World}
-use Rattle.wal_protocol.specs.Rules.{Rules}
-use Rattle.wal_protocol.specs.Step.{Steps}
-use Rattle.wal_protocol.specs.Run.{first_state, is_collision, GoesOn, Runs}
-use Rattle.wal_theorem.specs.Instance.{rules_of}
 use Rattle.wal_theorem.specs.Lines.{AreLines, AreFirstLines, EndsInCollision, front_of}
 use Rattle.wal_world.specs.Ending.{Replays}
 use Rattle.wal_world.specs.inside.Ending.{Takes}
@@ -27,8 +14,6 @@ use Rattle.wal_world.specs.declared.run.ReplayEnd.TheVariants as ending
 use Rattle.wal_world.specs.declared.run.ReplayError.{ReplayError}
 use Rattle.wal_world.specs.declared.run.ReplayError.TheVariants as failing
 use Rattle.wal_protocol.proofs.Agreement.{last}
-use Rattle.wal_protocol.proofs.RunLaws.{goes_on_push, last_push, runs_each, runs_push, runs_stop}
-use Rattle.wal_theorem.proofs.Headline.{run_safe, run_recovers}
 
 -- what stands after the first events, where none of their lines is a collision: a run of them that led to this state
 pub record IsRunning (r : Rules) (schedule : Schedule) (count : ℕ) (w : World) : Type 0 where

@@ -1,28 +1,8 @@
 -- Replies in a network's buffer.
-use Rattle.std.proofs.Common.{◌≡◌, ℕ, ◌+◌, ◌<◌, ◌^◌, List, [], ◌∷◌, ◌++◌, length, true, Result, Ok, Err, ap, ◌∙◌, arith, length-append, append-nil, slice_index_or}
-use Rattle.std.specs.List.{flat_map, AllByRecursion}
-use Rattle.std.proofs.lemmas.Grind.{flat_map-append}
-use Rattle.wal_shape.specs.declared.metadata.BlobId.{BlobId}
-use Rattle.wal_shape.specs.declared.axis.Side.{Side}
-use Rattle.wal_ledger.specs.Shards.{committee_size}
-use Rattle.wal_event.specs.declared.event.Reply.{Reply}
-use Rattle.wal_frame.specs.Buffer.{Buffer}
-use Rattle.wal_frame.specs.Frame.{envelope}
+use Rattle.wal_world.proofs.Common.{◌≡◌, ℕ, ◌+◌, ◌<◌, ◌^◌, List, [], ◌∷◌, ◌++◌, length, true, Result, Ok, Err, ap, ◌∙◌, arith, length-append, append-nil, slice_index_or, flat_map, AllByRecursion, flat_map-append, BlobId, Side, committee_size, Reply, Buffer, envelope, IsPayload, IsStream, Splits, Parts, parts_at, ShardState, WritesReply, World, side_of, is_present, contents_of, held, Rules, read_payloads, reply_payloads, ledger_of, IsNetwork, shards_of, world_of, Network, IsLike}
 use Rattle.wal_frame.specs.declared.stream.SplitError.{SplitError}
 use Rattle.wal_frame.specs.declared.stream.SplitError.TheVariants.{Malformed}
-use Rattle.wal_frame.specs.Stream.{IsPayload, IsStream, Splits}
 use Rattle.wal_frame.proofs.StreamLaws.{joined}
-use Rattle.wal_store.specs.Parts.{Parts}
-use Rattle.wal_store.specs.Contents.{parts_at}
-use Rattle.wal_shard.specs.State.{ShardState}
-use Rattle.wal_shard.specs.Replying.{WritesReply}
-use Rattle.wal_protocol.specs.State.{World, side_of, is_present, contents_of, held}
-use Rattle.wal_protocol.specs.Rules.{Rules}
-use Rattle.wal_protocol.specs.Step.{read_payloads, reply_payloads}
-use Rattle.wal_world.specs.inside.Books.{ledger_of}
-use Rattle.wal_world.specs.inside.Network.{IsNetwork, shards_of, world_of}
-use Rattle.wal_world.specs.declared.network.Network.{Network}
-use Rattle.wal_world.specs.inside.Replies.{IsLike}
 use Rattle.wal_world.proofs.Shards.{shard_is}
 
 -- the payloads of a text of less than 2^32 bytes fit their envelopes

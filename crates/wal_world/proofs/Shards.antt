@@ -1,20 +1,6 @@
 -- The shards of a network.
-use Rattle.std.proofs.Common.{◌≡◌, ℕ, zero, suc, ◌<◌, true, false, List, [], ◌∷◌, length, Option, Some, None, refl, sym, ap, ◌∙◌, subst, arith, slice_index_or}
+use Rattle.wal_world.proofs.Common.{◌≡◌, ℕ, zero, suc, ◌<◌, true, false, List, [], ◌∷◌, length, Option, Some, None, refl, sym, ap, ◌∙◌, subst, arith, slice_index_or, Side, Now, Next, committee_size, is_moving, Contents, ShardState, is_present, side_of, ledger_of, AreBooks, world_of, shards_of, contents_in, AreNext, AreShards, IsShardAt, IsShardOf, IsNetwork, Books, Serving, Moving, members_of, Members, Network}
 use Rattle.std.specs.FinMap as finmap
-use Rattle.wal_shape.specs.declared.axis.Side.{Side}
-use Rattle.wal_shape.specs.declared.axis.Side.TheVariants.{Now, Next}
-use Rattle.wal_ledger.specs.Shards.{committee_size}
-use Rattle.wal_ledger.specs.Ledger.{is_moving}
-use Rattle.wal_store.specs.Contents.{Contents}
-use Rattle.wal_shard.specs.State.{ShardState}
-use Rattle.wal_protocol.specs.State.{is_present, side_of}
-use Rattle.wal_world.specs.inside.Books.{ledger_of, AreBooks}
-use Rattle.wal_world.specs.inside.Network.{world_of, shards_of, contents_in, AreNext, AreShards, IsShardAt, IsShardOf, IsNetwork}
-use Rattle.wal_world.specs.declared.books.Books.{Books}
-use Rattle.wal_world.specs.declared.books.Books.TheVariants.{Serving, Moving}
-use Rattle.wal_world.specs.inside.Members.{members_of}
-use Rattle.wal_world.specs.declared.members.Members.{Members}
-use Rattle.wal_world.specs.declared.network.Network.{Network}
 
 -- the next committee has its shards while the epoch changes
 next_shards : (b : Option Books) (shards : List ShardState) → AreBooks b → AreNext b shards → is_moving (ledger_of b).log ≡ true → AreShards (ledger_of b).log.f shards

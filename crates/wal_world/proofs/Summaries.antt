@@ -1,21 +1,7 @@
 -- Summaries, event by event.
-use Rattle.std.proofs.Common.{◌≡◌, ℕ, ◌+◌, ◌<◌, ◌≤◌, List, [], ◌∷◌, ◌++◌, length, length-take, take, btree_set_len, is_some, Option, Some, None, refl, ap, subst, arith}
-use Rattle.wal_shape.specs.declared.text.Collision.{Collision}
-use Rattle.wal_event.specs.Event.{IsSchedule}
-use Rattle.wal_event.specs.declared.event.Event.{Event}
-use Rattle.wal_event.specs.declared.event.Schedule.{Schedule}
-use Rattle.wal_event.specs.declared.line.Line.{Line}
+use Rattle.wal_world.proofs.Common.{◌≡◌, ℕ, ◌+◌, ◌<◌, ◌≤◌, List, [], ◌∷◌, ◌++◌, length, length-take, take, btree_set_len, is_some, Option, Some, None, refl, ap, subst, arith, Collision, IsSchedule, Event, Schedule, Line, World, Rules, first_state, is_collision, rules_of, IsSummary, IsSummed, collision_in, IsTallied, IsTally, Summary, Tally, runs_each}
 use Rattle.wal_event.specs.declared.line.Line.TheVariants as line
-use Rattle.wal_protocol.specs.State.{World}
-use Rattle.wal_protocol.specs.Rules.{Rules}
-use Rattle.wal_protocol.specs.Run.{first_state, is_collision}
-use Rattle.wal_theorem.specs.Instance.{rules_of}
-use Rattle.wal_world.specs.Summary.{IsSummary, IsSummed}
-use Rattle.wal_world.specs.inside.Tally.{collision_in, IsTallied, IsTally}
-use Rattle.wal_world.specs.declared.summary.Summary.{Summary}
 use Rattle.wal_world.specs.declared.summary.Summed.TheVariants as summed
-use Rattle.wal_world.specs.declared.tally.Tally.{Tally}
-use Rattle.wal_protocol.proofs.RunLaws.{runs_each}
 use Rattle.wal_world.proofs.Replaying.{IsRunning, run_stopped, run_whole, running_first, running_more}
 use Rattle.wal_world.proofs.Tallies.{few_certified, has_room, HasRoom}
 

@@ -1,30 +1,8 @@
 -- What shards reply to one that recovers its sliver.
-use Rattle.std.proofs.Common.{◌≡◌, ℕ, ◌<◌, List, [], ◌∷◌, ◌++◌, Option, None, Result, Ok, Err, IfOk, IfSome, IfNone, refl, sym, ap, ◌∙◌, subst, true, append-nil, slice_index_or}
-use Rattle.std.specs.List.{flat_map}
-use Rattle.std.specs.declared.alloc.AllocError.{AllocError}
+use Rattle.wal_world.proofs.Common.{◌≡◌, ℕ, ◌<◌, List, [], ◌∷◌, ◌++◌, Option, None, Result, Ok, Err, IfOk, IfSome, IfNone, refl, sym, ap, ◌∙◌, subst, true, append-nil, slice_index_or, flat_map, AllocError, BlobId, Axis, Side, BlobMetadata, held_index, committee_size, Reply, Buffer, envelope, Parts, Contents, parts_at, ShardState, IsOwnMetadata, HoldsMetadata, SymbolReplies, WritesReply, Committee, World, side_of, is_present, contents_of, held, ledger_of, IsNetwork, shards_of, world_of, Network, Rules, SymbolReply, replies, AreReplies, IsReplyOf}
 use Rattle.std.proofs.lemmas.List.{append_assoc}
-use Rattle.wal_shape.specs.declared.metadata.BlobId.{BlobId}
-use Rattle.wal_shape.specs.declared.axis.Axis.{Axis}
-use Rattle.wal_shape.specs.declared.axis.Side.{Side}
-use Rattle.wal_shape.specs.Metadata.{BlobMetadata, held_index}
-use Rattle.wal_ledger.specs.Shards.{committee_size}
-use Rattle.wal_event.specs.declared.event.Reply.{Reply}
-use Rattle.wal_frame.specs.Buffer.{Buffer}
-use Rattle.wal_frame.specs.Frame.{envelope}
 use Rattle.wal_shape.specs.declared.part.Part.TheVariants as parts
-use Rattle.wal_store.specs.Parts.{Parts}
-use Rattle.wal_store.specs.Contents.{Contents, parts_at}
 use Rattle.wal_store.specs.Contents as store
-use Rattle.wal_shard.specs.State.{ShardState, IsOwnMetadata}
-use Rattle.wal_shard.specs.Holding.{HoldsMetadata, SymbolReplies}
-use Rattle.wal_shard.specs.Replying.{WritesReply}
-use Rattle.wal_protocol.specs.State.{Committee, World, side_of, is_present, contents_of, held}
-use Rattle.wal_world.specs.inside.Books.{ledger_of}
-use Rattle.wal_world.specs.inside.Network.{IsNetwork, shards_of, world_of}
-use Rattle.wal_world.specs.declared.network.Network.{Network}
-use Rattle.wal_protocol.specs.Rules.{Rules}
-use Rattle.wal_theorem.specs.Instance.{SymbolReply, replies}
-use Rattle.wal_protocol.specs.Step.{AreReplies, IsReplyOf}
 use Rattle.wal_world.proofs.Shards.{shard_is}
 
 pub own_held : (digest : List ℕ → List ℕ) (f g : ℕ) (id : BlobId) (c : Committee) (shard : ℕ) (contents : Contents) (r : Result (Option BlobMetadata) AllocError) → g ≡ f → contents ≡ contents_of c shard

@@ -1,23 +1,12 @@
 -- Tallies of one more line, and what a summary takes from them.
-use Rattle.std.proofs.Common.{◌≡◌, ℕ, suc, ◌+◌, ◌-◌, ◌^◌, ◌≤◌, ◌<◌, ◌||◌, min, Bool, true, false, cond, List, [], ◌∷◌, ◌++◌, length, length-append, fold, sum_by, filter_map, Option, Some, None, option_map, option_to_list, is_some, unwrap_or, btree_set_len, BTreeSet, refl, sym, ap, ap₂, subst, ◌∙◌, append-nil, arith}
-use Rattle.std.specs.List.{cons_option, reduce}
+use Rattle.wal_world.proofs.Common.{◌≡◌, ℕ, suc, ◌+◌, ◌-◌, ◌^◌, ◌≤◌, ◌<◌, ◌||◌, min, Bool, true, false, cond, List, [], ◌∷◌, ◌++◌, length, length-append, fold, sum_by, filter_map, Option, Some, None, option_map, option_to_list, is_some, unwrap_or, btree_set_len, BTreeSet, refl, sym, ap, ap₂, subst, ◌∙◌, append-nil, arith, cons_option, reduce, texts_ties, IsFromIterResult, IsOrdered, Updates, BlobId, id_cmp, id_eq, Line, ids_total, certified_in, bytes_in, sliver_in, holders_in, IsSummary, Counts, IsTally, Tally, Summary}
 use Rattle.std.specs.Ordering.{eq_by_cmp}
-use Rattle.std.specs.Cmp.Lexicographic.{texts_ties}
-use Rattle.std.specs.BTreeSet.{IsFromIterResult, IsOrdered, Updates}
 use Rattle.std.specs.Set.{distinct_count, is_member, unique_keys}
 use Rattle.std.proofs.lemmas.Cmp.{eq_by_cmp_equiv}
 use Rattle.std.proofs.lemmas.List.Elements.{filter_map-append}
 use Rattle.std.proofs.lemmas.List.Folds.{list_any-append}
 use Rattle.std.proofs.lemmas.List.Sums.{fold-append, sum_by_push}
 use Rattle.std.proofs.lemmas.Map.Views.{btree_set_len-from_list, btree_set_len-le_from_list}
-use Rattle.wal_shape.specs.declared.metadata.BlobId.{BlobId}
-use Rattle.wal_shape.specs.Identifiers.{id_cmp, id_eq}
-use Rattle.wal_event.specs.declared.line.Line.{Line}
-use Rattle.wal_ledger.proofs.Order.{ids_total}
-use Rattle.wal_world.specs.Summary.{certified_in, bytes_in, sliver_in, holders_in, IsSummary}
-use Rattle.wal_world.specs.inside.Tally.{Counts, IsTally}
-use Rattle.wal_world.specs.declared.tally.Tally.{Tally}
-use Rattle.wal_world.specs.declared.summary.Summary.{Summary}
 
 module _ {Y : Type 0} (h : Line → Option Y) where
   one_at_most : (o : Option Y) → cons_option o [] ≡ option_to_list o

@@ -1,34 +1,12 @@
 -- A network whose epoch begins to change, or has changed.
-use Rattle.std.proofs.Common.{◌≡◌, ℕ, zero, suc, ◌+◌, ◌<◌, ◌≤◌, Bool, true, false, cond, ◌&&◌, nat_le, List, [], ◌∷◌, ◌++◌, length, map, take, drop, slice_index_or, slice_set, Option, Some, IsTrue, ◌↔◌, refl, sym, ap, ◌∙◌, subst, arith}
-use Rattle.std.specs.List.{range_with_len}
+use Rattle.wal_world.proofs.Common.{◌≡◌, ℕ, zero, suc, ◌+◌, ◌<◌, ◌≤◌, Bool, true, false, cond, ◌&&◌, nat_le, List, [], ◌∷◌, ◌++◌, length, map, take, drop, slice_index_or, slice_set, Option, Some, IsTrue, ◌↔◌, refl, sym, ap, ◌∙◌, subst, arith, range_with_len, from_sorted, empty_of_len, entries-from_sorted, len-entries, length-map, Format, Now, Next, id_cmp, committee_size, Log, LedgerState, is_moving, entered, takes_in, Contents, ShardState, room_of, IsReady, without_dead, MayBegin, First, World, nobody, contents_of, held, side_of, HoldsAll, is_carried_over, next_committee, after_dropping, IsFresh, ledger_of, faulty_on, AreBooks, IsBegun, IsBeginError, IsFinished, world_of, contents_in, AreNext, AreShards, IsShardAt, IsNetwork, dropped, shard_with, shards_with, Books, Serving, Network}
 use Rattle.std.specs.FinMap as finmap
-use Rattle.std.specs.FinMap.{from_sorted, empty_of_len, entries-from_sorted, len-entries}
 use Rattle.std.specs.BTreeMap.{IsOrdered}
-use Rattle.std.proofs.lemmas.List.{length-map}
 use Rattle.std.proofs.lemmas.List.FromFn.{get_or-map-range_with_len, length-map-range_with_len, map-range_with_len_more}
-use Rattle.wal_shape.specs.declared.shape.Format.{Format}
-use Rattle.wal_shape.specs.declared.axis.Side.TheVariants.{Now, Next}
-use Rattle.wal_shape.specs.Identifiers.{id_cmp}
 use Rattle.wal_ledger.specs.declared.entry.Body.TheVariants as entry
-use Rattle.wal_ledger.specs.Shards.{committee_size}
-use Rattle.wal_ledger.specs.Ledger.{Log, LedgerState, is_moving, entered, takes_in}
-use Rattle.wal_store.specs.Contents.{Contents}
-use Rattle.wal_shard.specs.State.{ShardState}
-use Rattle.wal_shard.specs.Replying.{room_of}
-use Rattle.wal_shard.specs.Vouching.{IsReady, without_dead}
-use Rattle.wal_epoch.specs.Moves.{MayBegin}
 use Rattle.wal_epoch.specs.States.{ServingState}
 use Rattle.wal_epoch.specs.declared.answers.BeginError.{BeginError}
 use Rattle.wal_epoch.specs.declared.answers.BeginError.TheVariants as beginning
-use Rattle.wal_protocol.specs.declared.first.First.{First}
-use Rattle.wal_protocol.specs.State.{World, nobody, contents_of, held, side_of}
-use Rattle.wal_protocol.specs.Step.{HoldsAll, is_carried_over, next_committee, after_dropping}
-use Rattle.wal_world.specs.inside.Creating.{IsFresh}
-use Rattle.wal_world.specs.inside.Books.{ledger_of, faulty_on, AreBooks, IsBegun, IsBeginError, IsFinished}
-use Rattle.wal_world.specs.inside.Network.{world_of, contents_in, AreNext, AreShards, IsShardAt, IsNetwork, dropped, shard_with, shards_with}
-use Rattle.wal_world.specs.declared.books.Books.{Books}
-use Rattle.wal_world.specs.declared.books.Books.TheVariants.{Serving}
-use Rattle.wal_world.specs.declared.network.Network.{Network}
 use Rattle.wal_world.proofs.Shards.{side_shards}
 
 -- one more element is changed

@@ -1,24 +1,10 @@
 -- Worlds: their state has all facts.
-use Rattle.std.proofs.Common.{◌≡◌, ℕ, ◌≤◌, Bool, true, false, nat_le, List, [], length, subst, sym, ap, ◌∙◌, arith}
-use Rattle.std.proofs.lemmas.Bool.{and_parts, leb-true}
-use Rattle.wal_shape.specs.declared.shape.Format.{Format}
-use Rattle.wal_shape.specs.Owners.{is_committee}
-use Rattle.wal_event.specs.Event.{IsEventWithin}
-use Rattle.wal_event.specs.declared.event.Event.{Event}
-use Rattle.wal_event.specs.declared.line.Line.{Line}
-use Rattle.wal_epoch.specs.Moves.{IsFit}
-use Rattle.wal_ledger.specs.Shards.{committee_size}
+use Rattle.wal_world.proofs.Common.{◌≡◌, ℕ, ◌≤◌, Bool, true, false, nat_le, List, [], length, subst, sym, ap, ◌∙◌, arith, and_parts, leb-true, Format, is_committee, IsEventWithin, Event, Line, IsFit, committee_size, Steps, rules_of, IsNetwork, world_of, spare_of, IsFirst, Network, facts_start, facts_kept}
 use Rattle.wal_protocol.specs.State as state
-use Rattle.wal_protocol.specs.Step.{Steps}
 use Rattle.wal_protocol.specs.Facts.{Facts}
-use Rattle.wal_theorem.specs.Instance.{rules_of}
-use Rattle.wal_world.specs.inside.Network.{IsNetwork, world_of, spare_of}
 use Rattle.wal_world.specs.Creating.{first_of}
-use Rattle.wal_world.specs.inside.Creating.{IsFirst}
 use Rattle.wal_world.specs.World.{WorldState}
 use Rattle.wal_world.specs.inside.World.{IsWorld}
-use Rattle.wal_world.specs.declared.network.Network.{Network}
-use Rattle.wal_theorem.proofs.Headline.{facts_start, facts_kept}
 
 -- facts are of the committee's own number of faults
 own_faults : (digest : List ℕ → List ℕ) (f : ℕ) (w : state.World) → Facts (rules_of digest f) w → Facts (rules_of digest w.log.f) w

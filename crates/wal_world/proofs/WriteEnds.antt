@@ -1,17 +1,6 @@
 -- How an honest write ends: it is done, or a put or the first completed answer ends it in a collision.
-use Rattle.std.proofs.Common.{◌≡◌, ℕ, true, false, List, Option, Some, None, is_some, ap, ◌∙◌, subst, arith}
-use Rattle.wal_shape.specs.declared.axis.Side.{Side}
-use Rattle.wal_shape.specs.declared.metadata.BlobId.{BlobId}
-use Rattle.wal_shape.specs.declared.text.Collision.{Collision}
-use Rattle.wal_tree.specs.Collision.{IsCollision}
-use Rattle.wal_frame.specs.Frame.{Frame}
-use Rattle.wal_ledger.specs.Ledger.{Log}
+use Rattle.wal_world.proofs.Common.{◌≡◌, ℕ, true, false, List, Option, Some, None, is_some, ap, ◌∙◌, subst, arith, Side, BlobId, Collision, IsCollision, Frame, Log, World, Committee, with_side, writing_side, IsWrite, WriteCollides, WriteStep, letters, stored_at, rules_of, PutsTo, IsCompared}
 use Rattle.wal_protocol.specs.declared.first.First.TheVariants as first
-use Rattle.wal_protocol.specs.State.{World, Committee, with_side, writing_side}
-use Rattle.wal_protocol.specs.Step.{IsWrite, WriteCollides, WriteStep, letters, stored_at}
-use Rattle.wal_theorem.specs.Instance.{rules_of}
-use Rattle.wal_world.specs.inside.Letters.{PutsTo}
-use Rattle.wal_world.specs.inside.Replies.{IsCompared}
 use Rattle.wal_world.proofs.LetterLaws.{side_log}
 
 answers_same : (side : Side) (w : World) (c : Committee) → (with_side side w c).answers ≡ w.answers

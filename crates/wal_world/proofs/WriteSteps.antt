@@ -1,36 +1,10 @@
 -- What is sent to shards, one after the other, and what one of them holds of it.
-use Rattle.std.proofs.Common.{nat_lt, nat_le, ◌≡◌, ℕ, ◌+◌, ◌<◌, ◌≤◌, Bool, true, false, cond, ◌&&◌, not, nat_eq, List, [], ◌∷◌, ◌++◌, length, map, drop, get_or, Option, Some, None, is_some, IsTrue, ◌↔◌, refl, sym, ap, arith}
-use Rattle.std.specs.List.{AllByRecursion}
-use Rattle.std.specs.Cmp.Lexicographic.{pointwise}
+use Rattle.wal_world.proofs.Common.{nat_lt, nat_le, ◌≡◌, ℕ, ◌+◌, ◌<◌, ◌≤◌, Bool, true, false, cond, ◌&&◌, not, nat_eq, List, [], ◌∷◌, ◌++◌, length, map, drop, get_or, Option, Some, None, is_some, IsTrue, ◌↔◌, refl, sym, ap, arith, AllByRecursion, pointwise, and_parts, leb-true, ltb-true, drop_more, BlobId, Side, Now, Next, Collision, BlobMetadata, among, ascends_from, metadata_text, Frame, IsFrame, frame_text, is_moving, Parts, Contents, parts_at, PutAnswer, CanBePut, Written, messages_of, Books, Network, ledger_of, faulty_on, World, contents_of, held, is_correct, keeps, side_of, PutsFrame, has_frames, is_bytes, world_of, AreParts, PutsTo, SpellsPart, TellsClash, addressed, frame_in, letters_in, letters}
 use Rattle.std.proofs.Math.ListN.{drop_of_length-le}
-use Rattle.std.proofs.lemmas.Bool.{and_parts, leb-true, ltb-true}
-use Rattle.std.proofs.lemmas.List.{drop_more}
 use Rattle.std.proofs.lemmas.Slice.Eq.{bytes_eq-Decides}
-use Rattle.wal_shape.specs.declared.metadata.BlobId.{BlobId}
-use Rattle.wal_shape.specs.declared.axis.Side.{Side}
-use Rattle.wal_shape.specs.declared.axis.Side.TheVariants.{Now, Next}
-use Rattle.wal_shape.specs.declared.text.Collision.{Collision}
-use Rattle.wal_shape.specs.Metadata.{BlobMetadata}
-use Rattle.wal_shape.specs.Owners.{among, ascends_from}
-use Rattle.wal_shape.specs.Spelling.{metadata_text}
-use Rattle.wal_frame.specs.Frame.{Frame, IsFrame, frame_text}
-use Rattle.wal_ledger.specs.Ledger.{is_moving}
 use Rattle.wal_shape.specs.declared.part.Part.TheVariants as parts
-use Rattle.wal_store.specs.Parts.{Parts}
-use Rattle.wal_store.specs.Contents.{Contents, parts_at}
 use Rattle.wal_store.specs.Contents as store
-use Rattle.wal_shard.specs.declared.answers.PutAnswer.{PutAnswer}
 use Rattle.wal_shard.specs.declared.answers.PutAnswer.TheVariants as putting
-use Rattle.wal_shard.specs.Putting.{CanBePut}
-use Rattle.wal_writer.specs.Message.{Written, messages_of}
-use Rattle.wal_world.specs.declared.books.Books.{Books}
-use Rattle.wal_world.specs.declared.network.Network.{Network}
-use Rattle.wal_world.specs.inside.Books.{ledger_of, faulty_on}
-use Rattle.wal_protocol.specs.State.{World, contents_of, held, is_correct, keeps, side_of}
-use Rattle.wal_theorem.specs.Instance.{PutsFrame, has_frames, is_bytes}
-use Rattle.wal_world.specs.inside.Network.{world_of}
-use Rattle.wal_world.specs.inside.Letters.{AreParts, PutsTo, SpellsPart, TellsClash, addressed, frame_in, letters_in}
-use Rattle.wal_protocol.specs.Step.{letters}
 use Rattle.wal_world.proofs.LetterLaws.{frame_again, put_clashes, put_stays, puts_none}
 
 -- ---- what puts leave alone

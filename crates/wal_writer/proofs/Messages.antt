@@ -1,20 +1,16 @@
 -- An honest writer's frames have spellings.
-use Rattle.std.proofs.Common.{◌≡◌, ℕ, suc, ◌*◌, ◌<◌, ◌≤◌, List, length, sym, ap, subst, ◌∙◌, arith}
+use Rattle.wal_writer.proofs.Common.{◌≡◌, ℕ, suc, ◌*◌, ◌<◌, ◌≤◌, List, length, sym, ap, subst, ◌∙◌, arith, Primary, Secondary, BlobShape, IsShape, shard_count, column_count, sliver_symbols, symbol_size, most_bytes, BlobMetadata, IsMetadata, held_index, Commits, IsMetadataOf, metadata_over}
 use Rattle.std.specs.List.{AllByRecursion}
 use Rattle.std.proofs.Math.Nat.{mul-le-mul_left, mul-le-mul_right}
 use Rattle.wal_shape.specs.declared.metadata.BlobId.{BlobId}
 use Rattle.wal_shape.specs.declared.axis.Axis.{Axis}
-use Rattle.wal_shape.specs.declared.axis.Axis.TheVariants.{Primary, Secondary}
 use Rattle.wal_shape.specs.declared.shape.Format.{Format}
 use Rattle.wal_shape.specs.declared.shape.Format.TheVariants.{One, Two}
-use Rattle.wal_shape.specs.Shape.{BlobShape, IsShape, shard_count, column_count, sliver_symbols, symbol_size, most_bytes}
-use Rattle.wal_shape.specs.Metadata.{BlobMetadata, IsMetadata, held_index}
 use Rattle.wal_shape.specs.Spelling.{metadata_text, text_size}
 use Rattle.wal_shape.proofs.MetadataLaws.{held_index-within, length-metadata_text}
 use Rattle.wal_shape.proofs.ShapeLaws.{matrix_bytes-bound}
 use Rattle.wal_matrix.specs.Matrix.{IsExtended, sliver_of}
 use Rattle.wal_matrix.proofs.Words.{sliver_long}
-use Rattle.wal_commit.specs.Identifier.{Commits, IsMetadataOf, metadata_over}
 use Rattle.wal_commit.proofs.Clashes.{identifier_is}
 use Rattle.wal_commit.proofs.Commitments.{honest_metadata}
 use Rattle.wal_frame.specs.Frame.{Frame, IsFrame, metadata_frame, sliver_frame}

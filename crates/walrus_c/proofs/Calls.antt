@@ -1,19 +1,10 @@
 -- What a run over slices comes to, and what the call returns then.
-use Rattle.std.proofs.Common.{◌≡◌, ◌⊎◌, ℕ, ◌+◌, ◌-◌, ◌^◌, ◌<◌, ◌≤◌, min, List, [], ◌∷◌, ◌++◌, length, take, drop, refl, sym, ap, subst, ◌∙◌, inl, inr, arith, Some}
-use Rattle.std.proofs.lemmas.Bool.{cases_lt}
-use Rattle.std.proofs.lemmas.List.{append-nil, append_cancel_left}
-use Rattle.wal_port.specs.Faults.{Rose}
-use Rattle.wal_serve.specs.declared.serving.ServeEnd.{ServeEnd}
+use Rattle.walrus_c.proofs.Common.{◌≡◌, ◌⊎◌, ℕ, ◌+◌, ◌-◌, ◌^◌, ◌<◌, ◌≤◌, min, List, [], ◌∷◌, ◌++◌, length, take, drop, refl, sym, ap, subst, ◌∙◌, inl, inr, arith, Some, cases_lt, append_cancel_left, Rose, ServeEnd, Wrote, Around, Ends, whole, no_memory_for_words, no_memory, broke_off, source_failed, sink_failed, cut_off, serving_ended, Causes, HasOneAnswer, IsComplete, IsExact, IsUsage, AreWords, AreNoWords, around, Comes, IsFilled, IsUntouched, Returns}
+use Rattle.std.proofs.lemmas.List.{append-nil}
 use Rattle.wal_serve.specs.declared.serving.ServeEnd.TheVariants.{WriteFault}
-use Rattle.wal_serve.specs.Serving.{Wrote}
-use Rattle.wal_run.specs.Around.{Around}
-use Rattle.wal_run.specs.Answers.{Ends, whole, no_memory_for_words, no_memory, broke_off, source_failed, sink_failed, cut_off, serving_ended}
-use Rattle.wal_run.specs.Causes.{Causes, HasOneAnswer, IsComplete, IsExact, IsUsage}
 use Rattle.wal_run.specs.Headline.{Headline}
 use Rattle.wal_run.specs.Replaying.{IsReport}
 use Rattle.wal_port.proofs.Rooms.{room_holds, same_sink}
-use Rattle.walrus_c.specs.Words.{AreWords, AreNoWords}
-use Rattle.walrus_c.specs.Call.{around, Comes, IsFilled, IsUntouched, Returns}
 use Rattle.walrus_c.specs.Call as call
 use Rattle.walrus_c.specs.inside.Running.{Ran}
 use Rattle.walrus_c.proofs.Ends.{never}

@@ -1,14 +1,8 @@
 -- The two texts of a collision of metadata have at most 65 bytes.
-use Rattle.std.proofs.Common.{◌≡◌, ℕ, zero, suc, ◌*◌, ◌/◌, ◌%◌, ◌≤◌, List, [], ◌∷◌, ◌++◌, length, drop, length-append, length-take, ap, arith, inl, inr, if◌then◌else◌, ◌==◌, Bool, true, false}
-use Rattle.wal_shape.specs.declared.shape.Format.{Format}
-use Rattle.wal_shape.specs.declared.shape.Format.TheVariants.{One, Two}
-use Rattle.wal_shape.specs.Metadata.{BlobMetadata}
-use Rattle.wal_shape.specs.Spelling.{format_text}
+use Rattle.walrus_c.proofs.Common.{◌≡◌, ℕ, zero, suc, ◌*◌, ◌/◌, ◌%◌, ◌≤◌, List, [], ◌∷◌, ◌++◌, length, drop, length-append, length-take, ap, arith, inl, inr, if◌then◌else◌, ◌==◌, Bool, true, false, Format, One, Two, BlobMetadata, format_text, length-head, AreDigestedFor, head_text, held_pairs, identifier_text, pair_root}
 use Rattle.wal_tree.specs.Tree.{pieces}
 use Rattle.wal_tree.specs.Path.{MeetAbove, MeetInTrees, path_over, parent_text}
 use Rattle.wal_tree.proofs.Sizes.{length-root_over}
-use Rattle.wal_commit.proofs.Commitments.{length-head}
-use Rattle.wal_commit.specs.Identifier.{AreDigestedFor, head_text, held_pairs, identifier_text, pair_root}
 
 -- each has the size of a digest at most
 abbrev Short : List (List ℕ) → Type 0

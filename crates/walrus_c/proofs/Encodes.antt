@@ -1,21 +1,8 @@
 -- All envelopes of a blob have as many bytes as its length says.
-use Rattle.std.proofs.Common.{◌≡◌, ℕ, ◌+◌, ◌*◌, ◌<◌, ◌≤◌, min, List, length, length-append, refl, ap, sym, ◌∙◌, subst, arith}
-use Rattle.std.specs.List.{flat_map, range_with_len}
-use Rattle.wal_shape.specs.declared.axis.Axis.{Axis}
-use Rattle.wal_shape.specs.declared.axis.Axis.TheVariants.{Primary, Secondary}
-use Rattle.wal_shape.specs.declared.shape.Format.{Format}
-use Rattle.wal_shape.specs.declared.shape.Format.TheVariants.{One, Two}
-use Rattle.wal_shape.specs.Shape.{BlobShape, IsShape, column_count, most_bytes, row_count, shard_count, symbol_size}
-use Rattle.wal_shape.specs.Metadata.{BlobMetadata, IsMetadata, held_index}
-use Rattle.wal_shape.specs.Spelling.{metadata_text, text_size}
-use Rattle.wal_shape.proofs.MetadataLaws.{length-metadata_text}
+use Rattle.walrus_c.proofs.Common.{◌≡◌, ℕ, ◌+◌, ◌*◌, ◌<◌, ◌≤◌, min, List, length, length-append, refl, ap, sym, ◌∙◌, subst, arith, flat_map, range_with_len, Axis, Primary, Secondary, Format, One, Two, BlobShape, IsShape, column_count, most_bytes, row_count, shard_count, symbol_size, BlobMetadata, IsMetadata, held_index, metadata_text, text_size, length-metadata_text, identifier_of, metadata_over, IsMetadata-over, envelope, metadata_frame, sliver_frame, length-sliver_frame}
 use Rattle.wal_matrix.specs.Matrix.{primary_of, secondary_of}
 use Rattle.wal_matrix.proofs.Runs.{length-pieces}
 use Rattle.wal_matrix.proofs.Slivers.{primary_long, secondary_long}
-use Rattle.wal_commit.specs.Identifier.{identifier_of, metadata_over}
-use Rattle.wal_commit.proofs.Commitments.{IsMetadata-over}
-use Rattle.wal_frame.specs.Frame.{envelope, metadata_frame, sliver_frame}
-use Rattle.wal_frame.proofs.FrameLaws.{length-sliver_frame}
 use Rattle.wal_run.specs.Encoding.{encoding}
 use Rattle.wal_run.specs.Envelope.{encoded_text, shard_text}
 use Rattle.walrus_c.specs.Encoded.{encoded_bytes}

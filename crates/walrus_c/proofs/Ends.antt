@@ -1,16 +1,6 @@
 -- However a run ends, its text is that of the answer, or a front of it.
-use Rattle.std.proofs.Common.{◌≡◌, ℕ, ◌≤◌, List, [], ◌++◌, length, le_refl, ap, sym, ◌∙◌, subst, arith, inl, inr, Option, Some}
-use Rattle.std.proofs.lemmas.List.{append-nil, append_cancel_left}
-use Rattle.wal_port.specs.Faults.{Rose}
-use Rattle.wal_words.specs.declared.task.Service.{Service}
-use Rattle.wal_words.specs.declared.task.Task.{Task}
-use Rattle.wal_words.specs.declared.task.Task.TheVariants.{Serve}
-use Rattle.wal_words.specs.Task.{IsTask, NoTask}
-use Rattle.wal_run.specs.Answers.{Answers, Ends, usage, too_long, done, whole, no_memory_for_words, no_memory, broke_off, source_failed, sink_failed, cut_off, serving_ended, usage_text}
-use Rattle.wal_run.specs.Command.{Command, Grammar, IsTaken, IsTakenWhole, MayLeave, TakenBy, TakesInput, nothing}
-use Rattle.wal_run.specs.Commands.{command_of}
-use Rattle.wal_run.specs.Serving.{EndsServing}
-use Rattle.walrus_c.specs.Call.{around}
+use Rattle.walrus_c.proofs.Common.{◌≡◌, ℕ, ◌≤◌, List, [], ◌++◌, length, le_refl, ap, sym, ◌∙◌, subst, arith, inl, inr, Option, Some, append_cancel_left, Rose, Service, Task, Serve, IsTask, NoTask, Answers, Ends, usage, too_long, done, whole, no_memory_for_words, no_memory, broke_off, source_failed, sink_failed, cut_off, serving_ended, usage_text, Command, Grammar, IsTaken, IsTakenWhole, MayLeave, TakenBy, TakesInput, nothing, command_of, EndsServing, around}
+use Rattle.std.proofs.lemmas.List.{append-nil}
 use Rattle.walrus_c.proofs.Results.{HasLines, Tells, leaves, result_short}
 
 -- a count that stays at 0 did not rise

@@ -1,32 +1,13 @@
 -- What a shard holds that serves: it is sound, and of no blob it holds more bytes than were taken.
-use Rattle.std.proofs.Common.{◌≡◌, ℕ, ◌+◌, ◌≤◌, Bool, true, false, cond, List, length, Option, Some, None, Result, Ok, unwrap_or, refl, sym, ap, subst, arith}
+use Rattle.walrus_c.proofs.Common.{◌≡◌, ℕ, ◌+◌, ◌≤◌, Bool, true, false, cond, List, length, Option, Some, None, Result, Ok, unwrap_or, refl, sym, ap, subst, arith, eq_by_cmp, Primary, Secondary, BlobId, MetaClash, id_cmp, FrameError, Frame, Metadata, Sliver, Proof, Symbol, Ack, Attest, Forget, RegisterEntry, AckEntry, AttestEntry, Parts, no_parts, with_part, Contents, parts_at, part_at, with_bytes, without_part, PutAnswer, IsSound, CanBePut, IsAccepted, PutsOrWants, put_id, put_part, AreSound, desk, sliver_then, proof_then, empty_sound, metadata_sound, put_sound, without_slivers_sound, ServedState, holding, with_ledger, AnswersPut, AnswersRead, Service, at_start}
 use Rattle.std.specs.FinMap as map_of
 use Rattle.std.specs.FinMap.{get-empty}
-use Rattle.std.specs.Ordering.{eq_by_cmp}
-use Rattle.wal_shape.specs.declared.axis.Axis.TheVariants.{Primary, Secondary}
-use Rattle.wal_shape.specs.declared.metadata.BlobId.{BlobId}
 use Rattle.wal_shape.specs.declared.part.Part.TheVariants as parts
-use Rattle.wal_shape.specs.declared.text.MetaClash.{MetaClash}
-use Rattle.wal_shape.specs.Identifiers.{id_cmp}
-use Rattle.wal_frame.specs.declared.frame.FrameError.{FrameError}
-use Rattle.wal_frame.specs.Frame.{Frame, Metadata, Sliver, Proof, Symbol, Ack, Attest, Forget, RegisterEntry, AckEntry, AttestEntry}
 use Rattle.wal_frame.specs.Stored.{stored_bytes}
-use Rattle.wal_store.specs.Parts.{Parts, no_parts, with_part}
-use Rattle.wal_store.specs.Contents.{Contents, parts_at, part_at, with_bytes, without_part}
-use Rattle.wal_shard.specs.declared.answers.PutAnswer.{PutAnswer}
 use Rattle.wal_shard.specs.declared.answers.PutAnswer.TheVariants as putting
-use Rattle.wal_shard.specs.Holding.{IsSound}
-use Rattle.wal_shard.specs.Putting.{CanBePut, IsAccepted, PutsOrWants, put_id, put_part}
-use Rattle.wal_shard.specs.State.{AreSound, desk}
 use Rattle.wal_shard.specs.Vouching.{without_slivers}
 use Rattle.wal_shard.proofs.Changes.{ChangesAt, insert_changes, with_parts_changes}
-use Rattle.wal_shard.proofs.HeldLaws.{sliver_then, proof_then}
-use Rattle.wal_shard.proofs.Soundness.{empty_sound, metadata_sound, put_sound, without_slivers_sound}
-use Rattle.wal_serve.specs.State.{ServedState, holding, with_ledger}
 use Rattle.wal_serve.specs.Requests.{Forgets, forgotten, kept}
-use Rattle.wal_serve.specs.Answers.{AnswersPut, AnswersRead}
-use Rattle.wal_words.specs.declared.task.Service.{Service}
-use Rattle.wal_run.specs.Serving.{at_start}
 use Rattle.walrus_c.proofs.Payloads.{IsWithin, Reads}
 
 -- the bytes of a part in its envelope, with those that stand before it

@@ -1,19 +1,7 @@
 -- An image fits on its disk.
-use Rattle.std.proofs.Common.{◌≡◌, ℕ, ◌+◌, ◌≤◌, max, Bool, true, false, Option, Some, None, List, [], ◌∷◌, ◌++◌, length, length-append, codes, Result, Ok, Err, refl, subst, arith}
-use Rattle.std.specs.Prelude.{⊤, if◌then◌else◌, nat_lt, nat_le}
-use Rattle.std.specs.List.{AllByRecursion}
-use Rattle.std.proofs.lemmas.Bool.{and_parts, leb-true, ltb-false}
-use Rattle.wal_shape.specs.Shape.{most_bytes}
-use Rattle.wal_commit.specs.Identifier.{identifier_of}
-use Rattle.wal_frame.specs.declared.frame.FrameError.{FrameError}
-use Rattle.wal_frame.specs.Frame.{Frame, Metadata, Sliver, Proof}
-use Rattle.wal_frame.specs.Reading.{read_of}
-use Rattle.wal_store.specs.Contents.{Contents, part_at}
-use Rattle.wal_store.specs.Parts.{is_absent, is_fit}
-use Rattle.wal_store.specs.Calls.{Call, Put, DropPart, DropId, after_call, no_contents}
-use Rattle.wal_journal.specs.Record.{fields, records, spelling}
+use Rattle.walrus_c.proofs.Common.{◌≡◌, ℕ, ◌+◌, ◌≤◌, max, Bool, true, false, Option, Some, None, List, [], ◌∷◌, ◌++◌, length, length-append, codes, Result, Ok, Err, refl, subst, arith, ⊤, nat_lt, AllByRecursion, and_parts, leb-true, ltb-false, most_bytes, identifier_of, FrameError, Frame, Metadata, Sliver, Proof, read_of, Contents, part_at, is_absent, is_fit, Call, Put, DropPart, DropId, after_call, no_contents, fields, records, spelling, length-records-push, spelling_size}
+use Rattle.std.specs.Prelude.{if◌then◌else◌, nat_le}
 use Rattle.wal_journal.specs.Packing.{and_more, is_lawful, put_in, puts_of}
-use Rattle.wal_journal.proofs.Records.{length-records-push, spelling_size}
 use Rattle.wal_run.specs.Imaging.{image_from, image_of, imaging, room_behind, room_of}
 use Rattle.walrus_c.proofs.Lengths.{two_fits}
 use Rattle.walrus_c.proofs.Payloads.{Reads, reads}

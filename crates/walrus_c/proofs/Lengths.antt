@@ -1,12 +1,8 @@
 -- How many bytes numerals, lines and digests have.
-use Rattle.std.proofs.Common.{refl, ◌≡◌, ℕ, ◌+◌, ◌*◌, ◌<◌, ◌≤◌, List, [], ◌∷◌, ◌++◌, length, length-append, codes, decimal, ap, ◌∙◌, arith}
-use Rattle.std.specs.List.{flat_map}
+use Rattle.walrus_c.proofs.Common.{refl, ◌≡◌, ℕ, ◌+◌, ◌*◌, ◌<◌, ◌≤◌, List, [], ◌∷◌, ◌++◌, length, length-append, codes, decimal, ap, ◌∙◌, arith, flat_map, length-decimal-le, encode_lower, lower_digits, hex_text, collision_text}
 use Rattle.std.proofs.lemmas.List.Concat.{flat_map-cons}
-use Rattle.std.proofs.lemmas.Fmt.{length-decimal-le}
 use Rattle.hex.proofs.HexLemmas.{length-encode_with}
-use Rattle.hex.specs.Hex.{encode_lower, lower_digits}
-use Rattle.wal_event.specs.Report.{hex_text}
-use Rattle.wal_run.specs.Lines.{number_text, collision_text}
+use Rattle.wal_run.specs.Lines.{number_text}
 
 -- pieces of which one stands before the others
 pub length-flat_map-cons : {X A : Type 0} (f : X → List A) (x : X) (xs : List X)

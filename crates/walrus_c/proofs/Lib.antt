@@ -22,3 +22,4 @@ mod ServedTexts
 mod Shown
 mod Splits
 mod Streams
+mod Common

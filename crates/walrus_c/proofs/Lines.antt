@@ -1,22 +1,7 @@
 -- The commands whose every text is a line.
-use Rattle.std.proofs.Common.{◌≡◌, ℕ, ◌≤◌, List, [], ◌∷◌, length, length-append, codes, refl, ap, ◌∙◌, arith, inl, inr}
+use Rattle.walrus_c.proofs.Common.{◌≡◌, ℕ, ◌≤◌, List, [], ◌∷◌, length, length-append, codes, refl, ap, ◌∙◌, arith, inl, inr, Axis, Primary, Secondary, BlobId, Format, IsShape, sliver_symbols, EncodingProof, BlobMetadata, identifier_of, Checks, ProofVerdict, IsMetadataIn, claims_in, Audit, encode_lower, checking, verdict_text}
 use Rattle.std.proofs.lemmas.Option.{slice_get_within}
-use Rattle.wal_shape.specs.declared.axis.Axis.{Axis}
-use Rattle.wal_shape.specs.declared.axis.Axis.TheVariants.{Primary, Secondary}
-use Rattle.wal_shape.specs.declared.metadata.BlobId.{BlobId}
-use Rattle.wal_shape.specs.declared.shape.Format.{Format}
-use Rattle.wal_shape.specs.Shape.{IsShape, sliver_symbols}
-use Rattle.wal_shape.specs.EncodingProof.{EncodingProof}
-use Rattle.wal_shape.specs.Metadata.{BlobMetadata}
-use Rattle.wal_commit.specs.Identifier.{identifier_of}
-use Rattle.wal_evidence.specs.BadProof.{Checks}
-use Rattle.wal_evidence.specs.declared.proof.ProofVerdict.{ProofVerdict}
 use Rattle.wal_evidence.specs.declared.proof.ProofVerdict.TheVariants.{BadOpening}
-use Rattle.wal_reader.specs.Outcome.{IsMetadataIn}
-use Rattle.wal_reader.specs.Carried.{claims_in}
-use Rattle.wal_words.specs.declared.task.Audit.{Audit}
-use Rattle.hex.specs.Hex.{encode_lower}
-use Rattle.wal_run.specs.Checking.{checking, verdict_text}
 use Rattle.wal_run.specs.Identifying.{identifying}
 use Rattle.wal_run.specs.Verifying.{verifying}
 use Rattle.walrus_c.proofs.Lengths.{digits, one_fits, two_fits}

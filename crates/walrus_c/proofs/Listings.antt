@@ -1,29 +1,18 @@
 -- The lines of what an image holds have at most twice as many bytes as the image.
-use Rattle.std.proofs.Common.{◌≡◌, ℕ, ◌+◌, ◌*◌, ◌≤◌, min, max, Bool, true, false, cond, not, T, Option, Some, None, List, [], ◌∷◌, ◌++◌, length, length-append, map, codes, decimal, unwrap_or, inl, inr, ap, refl, sym, ◌∙◌, arith}
+use Rattle.walrus_c.proofs.Common.{◌≡◌, ℕ, ◌+◌, ◌*◌, ◌≤◌, min, max, Bool, true, false, cond, not, T, Option, Some, None, List, [], ◌∷◌, ◌++◌, length, length-append, map, codes, decimal, unwrap_or, inl, inr, ap, refl, sym, ◌∙◌, arith, is_eq, is_lt, eq_by_cmp, ordering_reverse, AllByRecursion, flat_map, length-decimal-le_succ, encode_lower, id_cmp, most_bytes, Parts, is_empty, no_parts, part_of, with_part, Contents, parts_at, with_bytes, with_parts, AreLawful, Call, DropId, DropPart, Put, after_calls, no_contents, AreWholeRecords, records, spelling, spelling_long}
 use Rattle.std.specs.Prelude.{if◌then◌else◌}
 use Rattle.std.specs.declared.cmp.Ordering.{Ordering}
 use Rattle.std.specs.declared.cmp.Ordering.TheVariants.{Less, Equal, Greater}
-use Rattle.std.specs.Ordering.{is_eq, is_lt, eq_by_cmp, ordering_reverse}
 use Rattle.std.specs.Cmp.{eq_by_cmp_equiv}
-use Rattle.std.specs.List.{AllByRecursion, flat_map}
 use Rattle.std.specs.FinMap as fin
 use Rattle.std.specs.FinMap.Entries.{below_all, by_order, find, find-where_key, is_sorted, is_sorted-where_key, put, where_key}
 use Rattle.std.proofs.lemmas.Cmp.{alike_right, tied_itself}
-use Rattle.std.proofs.lemmas.Fmt.{length-decimal-le_succ}
-use Rattle.hex.specs.Hex.{encode_lower}
 use Rattle.wal_shape.specs.declared.BlobId.{BlobId}
 use Rattle.wal_shape.specs.declared.part.Part.{Part}
 use Rattle.wal_shape.specs.declared.part.Part.TheVariants.{Metadata, Primary, Secondary, Proof}
-use Rattle.wal_shape.specs.Identifiers.{id_cmp}
-use Rattle.wal_shape.specs.Shape.{most_bytes}
-use Rattle.wal_store.specs.Parts.{Parts, is_empty, no_parts, part_of, with_part}
 use Rattle.wal_store.specs.Entries.{Entries}
-use Rattle.wal_store.specs.Contents.{Contents, parts_at, with_bytes, with_parts}
-use Rattle.wal_store.specs.Calls.{AreLawful, Call, DropId, DropPart, Put, after_calls, no_contents}
 use Rattle.wal_store.proofs.IdentifierLaws.{exact_ids, ids_total}
 use Rattle.wal_store.proofs.OrderLaws.{both_of, less_of}
-use Rattle.wal_journal.specs.Record.{AreWholeRecords, records, spelling}
-use Rattle.wal_journal.proofs.Records.{spelling_long}
 use Rattle.wal_run.specs.Lines.{number_text}
 use Rattle.wal_run.specs.Unpacking.{IsBrokenAt, contents_text, holding_text, part_line, part_text, part_word, unpacking}
 use Rattle.walrus_c.proofs.Lengths.{digits, length-flat_map-cons, one_fits}

@@ -1,16 +1,10 @@
 -- A bundle, and a member of one.
-use Rattle.std.proofs.Common.{◌≡◌, ℕ, ◌+◌, ◌-◌, ◌*◌, ◌%◌, ◌<◌, ◌≤◌, List, length, length-take, codes, get_or, inl, inr, ap, ◌∙◌, arith}
-use Rattle.std.proofs.Math.Nat.{mul-le-mul_left, mul-le-mul_right}
-use Rattle.std.proofs.lemmas.Bool.{cases_lt}
-use Rattle.wal_shape.specs.declared.metadata.BlobId.{BlobId}
-use Rattle.wal_shape.specs.Shape.{IsShape, cell_count, column_count, most_bytes, row_count, symbol_size}
-use Rattle.wal_shape.proofs.ShapeLaws.{symbol_size-least}
+use Rattle.walrus_c.proofs.Common.{◌≡◌, ℕ, ◌+◌, ◌-◌, ◌*◌, ◌%◌, ◌<◌, ◌≤◌, List, length, length-take, codes, get_or, inl, inr, ap, ◌∙◌, arith, mul-le-mul_left, mul-le-mul_right, cases_lt, BlobId, IsShape, cell_count, column_count, most_bytes, row_count, symbol_size, symbol_size-least, member_most}
 use Rattle.wal_bundle.specs.Layout.{column_bytes, columns_for, index_bytes}
 use Rattle.wal_bundle.specs.Member.{MissesColumn, count_in, of_start, of_index, of_member}
 use Rattle.wal_bundle.proofs.Room.{columns_for-close, member_within}
 use Rattle.wal_run.specs.Bundling.{bundling}
 use Rattle.wal_run.specs.Unbundling.{unbundling}
-use Rattle.walrus_c.specs.Room.{member_most}
 use Rattle.walrus_c.proofs.Lengths.{one_fits}
 use Rattle.walrus_c.proofs.Lines.{shape_of}
 use Rattle.walrus_c.proofs.Results.{Tells, succeeds, rejects, lacks}

@@ -1,25 +1,11 @@
 -- What a shard answers to a storage challenge: envelopes of openings, each with a symbol.
-use Rattle.std.proofs.Common.{◌≡◌, ℕ, zero, suc, ◌+◌, ◌*◌, ◌/◌, ◌≤◌, List, [], ◌∷◌, length, Some, slice_get, inl, inr, ap, refl, subst, sym, arith}
-use Rattle.std.specs.List.{flat_map}
-use Rattle.std.proofs.Math.Nat.{mul-le-mul_right}
-use Rattle.wal_shape.specs.declared.axis.Axis.TheVariants.{Primary, Secondary}
+use Rattle.walrus_c.proofs.Common.{◌≡◌, ℕ, zero, suc, ◌+◌, ◌*◌, ◌/◌, ◌≤◌, List, [], ◌∷◌, length, Some, slice_get, inl, inr, ap, refl, subst, sym, arith, flat_map, mul-le-mul_right, Primary, Secondary, IsShape, column_count, row_count, symbol_size, BlobMetadata, symbol_size-least, body_of, frame_text, IsStream, length-opening_frame, IsMetadataIn, Audit, Recorded, opening_most}
 use Rattle.wal_shape.specs.declared.opening.Opening.{Opening}
-use Rattle.wal_shape.specs.Shape.{IsShape, column_count, row_count, symbol_size}
-use Rattle.wal_shape.specs.Metadata.{BlobMetadata}
-use Rattle.wal_shape.proofs.ShapeLaws.{symbol_size-least}
-use Rattle.wal_commit.proofs.Bodies.{body_of}
 use Rattle.wal_frame.specs.Frame as frame
-use Rattle.wal_frame.specs.Frame.{frame_text}
-use Rattle.wal_frame.specs.Stream.{IsStream}
-use Rattle.wal_frame.proofs.FrameLaws.{length-opening_frame}
-use Rattle.wal_reader.specs.Outcome.{IsMetadataIn}
 use Rattle.wal_challenge.specs.Answer.{HoldsBoth}
 use Rattle.wal_challenge.specs.Verdict.{claim_of, claims_from}
 use Rattle.wal_challenge.proofs.AnswerLaws.{answer_holds}
-use Rattle.wal_words.specs.declared.task.Audit.{Audit}
 use Rattle.wal_run.specs.Challenging.{AnswersDraws, IsOwnSliver, challenging, claim_envelope}
-use Rattle.wal_run.specs.Command.{Recorded}
-use Rattle.walrus_c.specs.Room.{opening_most}
 use Rattle.walrus_c.proofs.Lengths.{length-flat_map-cons}
 use Rattle.walrus_c.proofs.Lines.{shape_of}
 use Rattle.walrus_c.proofs.Payloads.{sliver_among, sliver_sizes, slivers_within}

@@ -1,19 +1,8 @@
 -- What a payload is read as lies within it, whatever numbers stand for its bytes, and so do the slivers of a stream within the stream.
-use Rattle.std.proofs.Common.{◌≡◌, ℕ, ◌+◌, ◌≤◌, List, [], ◌∷◌, ◌++◌, length, Result, Ok, refl, ap, arith}
-use Rattle.std.specs.Prelude.{⊤, if◌then◌else◌}
+use Rattle.walrus_c.proofs.Common.{◌≡◌, ℕ, ◌+◌, ◌≤◌, List, [], ◌∷◌, ◌++◌, length, Result, Ok, refl, ap, arith, ⊤, Axis, Primary, Secondary, IsMetadata, IsProof, metadata_text, proof_text, FrameError, Frame, Metadata, Sliver, Proof, Read, Symbol, IsFrame, frame_text, envelope, read_of, IsStream, length-sliver_frame, frame_is, same_axis}
+use Rattle.std.specs.Prelude.{if◌then◌else◌}
 use Rattle.std.proofs.lemmas.List.{length-append}
-use Rattle.wal_shape.specs.declared.axis.Axis.{Axis}
-use Rattle.wal_shape.specs.declared.axis.Axis.TheVariants.{Primary, Secondary}
-use Rattle.wal_shape.specs.Metadata.{IsMetadata}
-use Rattle.wal_shape.specs.EncodingProof.{IsProof}
-use Rattle.wal_shape.specs.Spelling.{metadata_text, proof_text}
-use Rattle.wal_frame.specs.declared.frame.FrameError.{FrameError}
-use Rattle.wal_frame.specs.Frame.{Frame, Metadata, Sliver, Proof, Read, Symbol, IsFrame, frame_text, envelope}
-use Rattle.wal_frame.specs.Reading.{read_of}
-use Rattle.wal_frame.specs.Stream.{IsStream}
 use Rattle.wal_frame.proofs.FieldLaws.{length-target}
-use Rattle.wal_frame.proofs.FrameLaws.{length-sliver_frame, frame_is}
-use Rattle.wal_reader.specs.Carried.{same_axis}
 use Rattle.walrus_c.proofs.Streams.{envelope_long}
 
 -- ---- frames

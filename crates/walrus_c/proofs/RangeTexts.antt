@@ -1,19 +1,7 @@
 -- What a gateway writes: a line for each request, with a range of a blob that is no longer than what was taken.
-use Rattle.std.proofs.Common.{◌≡◌, ℕ, zero, suc, ◌+◌, ◌*◌, ◌/◌, ◌≤◌, min, Bool, true, false, cond, List, [], ◌∷◌, ◌++◌, length, length-append, length-take, length-drop, take, drop, codes, nat_eq, nat_le, slice_index, append-nil, ◌&&◌, Option, Some, None, MatchOption, refl, sym, ap, subst, ◌∙◌, arith}
-use Rattle.std.specs.List.{AllByRecursion}
+use Rattle.walrus_c.proofs.Common.{◌≡◌, ℕ, zero, suc, ◌+◌, ◌*◌, ◌/◌, ◌≤◌, min, Bool, true, false, cond, List, [], ◌∷◌, ◌++◌, length, length-append, length-take, length-drop, take, drop, codes, nat_eq, nat_le, slice_index, append-nil, ◌&&◌, Option, Some, None, MatchOption, refl, sym, ap, subst, ◌∙◌, arith, AllByRecursion, mul-le-mul_left, eqb-true, Primary, BlobId, MetaClash, id_eq, most_bytes, hex_text, envelope, IsStream, IsOutcome, collision_text, fetched_most}
 use Rattle.std.specs.Map.{lookup, remove_entry}
 use Rattle.std.specs.Option.{option_map_or}
-use Rattle.std.proofs.Math.Nat.{mul-le-mul_left}
-use Rattle.std.proofs.lemmas.Bool.{eqb-true}
-use Rattle.wal_shape.specs.declared.axis.Axis.TheVariants.{Primary}
-use Rattle.wal_shape.specs.declared.metadata.BlobId.{BlobId}
-use Rattle.wal_shape.specs.declared.text.MetaClash.{MetaClash}
-use Rattle.wal_shape.specs.Identifiers.{id_eq}
-use Rattle.wal_shape.specs.Shape.{most_bytes}
-use Rattle.wal_event.specs.Report.{hex_text}
-use Rattle.wal_frame.specs.Frame.{envelope}
-use Rattle.wal_frame.specs.Stream.{IsStream}
-use Rattle.wal_reader.specs.Outcome.{IsOutcome}
 use Rattle.wal_reader.specs.declared.outcome.Outcome.{Outcome}
 use Rattle.wal_reader.specs.declared.outcome.Outcome.TheVariants as read
 use Rattle.wal_gateway.specs.declared.answer.Found.{Found}
@@ -24,8 +12,6 @@ use Rattle.wal_gateway.specs.declared.request.Request.{Request}
 use Rattle.wal_gateway.specs.Getting.{AnswersAll, AnswersGet, Cache, Get, Hits, Leaves, Misses, blob_with, found_of, kept_blob, range_of}
 use Rattle.wal_gateway.specs.Requests.{get_of, gets_in, no_blobs, request_at, request_of}
 use Rattle.wal_run.specs.Fetching.{GoOn, answer_text, answers_text, fetching, found_text, is_collision}
-use Rattle.wal_run.specs.Lines.{collision_text}
-use Rattle.walrus_c.specs.Room.{fetched_most}
 use Rattle.walrus_c.proofs.Clashes.{texts_short}
 use Rattle.walrus_c.proofs.Lengths.{clash_line, hex_most, length-flat_map-cons, number_line, two_line}
 use Rattle.walrus_c.proofs.Lines.{shape_of}

@@ -1,8 +1,5 @@
 -- The numbers of a task are in their range.
-use Rattle.std.proofs.Common.{ℕ, List}
-use Rattle.wal_words.specs.declared.task.Task.{Task}
-use Rattle.wal_words.specs.Task.{IsTask, identify, encode, read, recover, check, serve, replay, sample, image, unpack, bundle, member, challenge, verify, gateway}
-use Rattle.walrus_c.specs.inside.Ranges.{InRange}
+use Rattle.walrus_c.proofs.Common.{ℕ, List, Task, IsTask, identify, encode, read, recover, check, serve, replay, sample, image, unpack, bundle, member, challenge, verify, gateway, InRange}
 
 pub in_range : (words : List (List ℕ)) (task : Task) → IsTask words task → InRange task
 in_range words task asked =

@@ -1,20 +1,11 @@
 -- A blob that is read has no more bytes than what it is read from, nor than any blob.
-use Rattle.std.proofs.Common.{◌≡◌, ℕ, ◌+◌, ◌*◌, ◌≤◌, List, [], ◌∷◌, ◌++◌, length, length-append, length-take, codes, ap, ◌∙◌, arith}
-use Rattle.std.specs.List.{flat_map}
-use Rattle.std.proofs.lemmas.Grind.{flat_map-append}
-use Rattle.wal_shape.specs.declared.axis.Axis.TheVariants.{Primary}
-use Rattle.wal_shape.specs.declared.metadata.BlobId.{BlobId}
-use Rattle.wal_shape.specs.Metadata.{BlobMetadata}
-use Rattle.wal_shape.specs.Shape.{cell_count, column_count, most_bytes, row_count, symbol_size}
-use Rattle.wal_shape.proofs.ShapeLaws.{symbol_size-least}
+use Rattle.walrus_c.proofs.Common.{◌≡◌, ℕ, ◌+◌, ◌*◌, ◌≤◌, List, [], ◌∷◌, ◌++◌, length, length-append, length-take, codes, ap, ◌∙◌, arith, flat_map, flat_map-append, Primary, BlobId, BlobMetadata, cell_count, column_count, most_bytes, row_count, symbol_size, symbol_size-least, Collects, Decides, GivesSliver, IndexedSliver, read_most}
 use Rattle.wal_matrix.specs.Through.{source_of}
 use Rattle.wal_evidence.specs.Evidence.{sliver_bytes}
 use Rattle.wal_evidence.specs.FirstOfEach.{Adds, TakesAfter, adds, keeps}
 use Rattle.wal_evidence.specs.declared.evidence.Verdict.TheVariants as told
-use Rattle.wal_reader.specs.Outcome.{Collects, Decides, GivesSliver, IndexedSliver}
 use Rattle.wal_reader.proofs.Collections.{collects_size}
 use Rattle.wal_run.specs.Reading.{reading}
-use Rattle.walrus_c.specs.Room.{read_most}
 use Rattle.walrus_c.proofs.Lengths.{length-flat_map-cons, two_fits}
 use Rattle.walrus_c.proofs.Lines.{shape_of}
 use Rattle.walrus_c.proofs.Payloads.{size_read, sliver_size, sliver_sizes, slivers_within}

@@ -1,26 +1,9 @@
 -- A sliver that is recovered, and a proof of bad encoding.
-use Rattle.std.proofs.Common.{◌≡◌, ℕ, suc, ◌+◌, ◌*◌, ◌≤◌, All, List, [], ◌∷◌, length, length-append, length-take, codes, ap, ◌∙◌, arith}
-use Rattle.std.specs.List.{flat_map}
+use Rattle.walrus_c.proofs.Common.{◌≡◌, ℕ, suc, ◌+◌, ◌*◌, ◌≤◌, All, List, [], ◌∷◌, length, length-append, length-take, codes, ap, ◌∙◌, arith, flat_map, mul-le-mul_right, mul-le-mul_left, Axis, Primary, Secondary, BlobId, IsShape, column_count, most_bytes, shard_count, sliver_symbols, symbol_size, BlobMetadata, body_text, proof_text, matrix_bytes-bound, HoldsOpening, identifier_of, body_of, IsBadProof, Proof, frame_text, sliver_frame, length-sliver_frame, IsMetadataIn, recovered_most}
 use Rattle.std.proofs.lemmas.List.Elements.{All-head, All-tail}
-use Rattle.std.proofs.Math.Nat.{mul-le-mul_right, mul-le-mul_left}
-use Rattle.wal_shape.specs.declared.axis.Axis.{Axis}
-use Rattle.wal_shape.specs.declared.axis.Axis.TheVariants.{Primary, Secondary}
-use Rattle.wal_shape.specs.declared.metadata.BlobId.{BlobId}
 use Rattle.wal_shape.specs.declared.opening.Opening.{Opening}
-use Rattle.wal_shape.specs.Shape.{IsShape, column_count, most_bytes, shard_count, sliver_symbols, symbol_size}
-use Rattle.wal_shape.specs.Metadata.{BlobMetadata}
-use Rattle.wal_shape.specs.Spelling.{body_text, proof_text}
 use Rattle.wal_shape.proofs.BodyLaws.{length-body_text}
-use Rattle.wal_shape.proofs.ShapeLaws.{matrix_bytes-bound}
-use Rattle.wal_commit.specs.Held.{HoldsOpening}
-use Rattle.wal_commit.specs.Identifier.{identifier_of}
-use Rattle.wal_commit.proofs.Bodies.{body_of}
-use Rattle.wal_evidence.specs.BadProof.{IsBadProof}
-use Rattle.wal_frame.specs.Frame.{Proof, frame_text, sliver_frame}
-use Rattle.wal_frame.proofs.FrameLaws.{length-sliver_frame}
-use Rattle.wal_reader.specs.Outcome.{IsMetadataIn}
 use Rattle.wal_run.specs.Recovering.{proof_of, recovering}
-use Rattle.walrus_c.specs.Room.{recovered_most}
 use Rattle.walrus_c.proofs.Lengths.{length-flat_map-cons, two_fits}
 use Rattle.walrus_c.proofs.Lines.{shape_of}
 use Rattle.walrus_c.proofs.Results.{Tells, succeeds, rejects, lacks}

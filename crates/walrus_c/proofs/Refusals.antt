@@ -1,10 +1,9 @@
 -- Each refusal of a command has a code of its own, and the line that tells it has that code.
-use Rattle.std.proofs.Common.{◌≡◌, ℕ, refl}
+use Rattle.walrus_c.proofs.Common.{◌≡◌, ℕ, refl, code_of, refusals}
 use Rattle.wal_evidence.specs.declared.proof.ProofVerdict.TheVariants as verdict
 use Rattle.wal_run.specs.declared.refusal.Refusal.{Refusal}
 use Rattle.wal_run.specs.declared.refusal.Refusal.TheVariants.{Reject, BadIndex, Wrong, Checked, NoMetadata, NoProof, NoShard, NoPrimary, NoSecondary, Short, WrongCount, MissingColumn, NoMember, TooManyMembers, BundleTooLong, DiskFull, Memory, Malformed, NotJson, BadSchedule, TooManyEvents, BadEvent, MetadataClash, Collision}
 use Rattle.wal_run.specs.inside.Refusals.{refusal_status, refusal_text}
-use Rattle.walrus_c.specs.Codes.{code_of, refusals}
 
 -- the code of a refusal
 abbrev pub refusal_code : Refusal → ℕ

@@ -1,8 +1,5 @@
 -- Whatever a command tells of its input has room: by the kinds of what it tells, and the lines of its grammar.
-use Rattle.std.proofs.Common.{◌≡◌, ℕ, ◌≤◌, List, ◌++◌, length, length-append, codes, ap, arith, inl, inr}
-use Rattle.std.specs.Prelude.{⊤}
-use Rattle.wal_run.specs.Command.{Command, Content, ClashesBehind, Grammar, HasNone, HasTwoMetadata, IsResult, Misspells, Spells, bytes, envelopes, envelopes_of, nothing, schedule, success, rejection, lacking, unreadable, collision}
-use Rattle.wal_run.specs.Lines.{collision_text}
+use Rattle.walrus_c.proofs.Common.{◌≡◌, ℕ, ◌≤◌, List, ◌++◌, length, length-append, codes, ap, arith, inl, inr, ⊤, Command, Content, ClashesBehind, Grammar, HasNone, HasTwoMetadata, IsResult, Misspells, Spells, bytes, envelopes, envelopes_of, nothing, schedule, success, rejection, lacking, unreadable, collision, collision_text}
 use Rattle.walrus_c.proofs.Clashes.{texts_short}
 use Rattle.walrus_c.proofs.Lengths.{clash_line, one_fits}
 use Rattle.walrus_c.proofs.Streams.{breaks_within}

@@ -1,18 +1,8 @@
 -- The room that is told suffices.
-use Rattle.std.proofs.Common.{◌≡◌, ◌⊎◌, inl, inr, ℕ, ◌<◌, ◌≤◌, List, [], length, sym, ap, subst, arith}
-use Rattle.wal_words.specs.declared.task.Service.{Service}
-use Rattle.wal_words.specs.declared.task.Task.{Task}
-use Rattle.wal_words.specs.declared.task.Task.TheVariants.{Whole, Read, Serve, Sample}
-use Rattle.wal_words.specs.declared.task.WholeTask.TheVariants.{Identify, Encode, Recover, Check, Replay, Image, Unpack, Bundle, Member, Challenge, Verify, Gateway}
-use Rattle.wal_words.specs.Task.{IsTask}
-use Rattle.wal_run.specs.Command.{bare, nothing}
-use Rattle.wal_run.specs.Commands.{command_of}
-use Rattle.walrus_c.specs.inside.Ranges.{InRange}
-use Rattle.walrus_c.specs.Words.{AreNoWords, AreWords}
-use Rattle.walrus_c.specs.Call.{Comes}
-use Rattle.walrus_c.specs.Room.{IsRoom, Suffices, fetched_most, most_taken, no_memory_told, none_given, opening_most, read_most, room_of}
+use Rattle.walrus_c.proofs.Common.{◌≡◌, ◌⊎◌, inl, inr, ℕ, ◌<◌, ◌≤◌, List, [], length, sym, ap, subst, arith, Service, Task, Whole, Serve, Sample, Identify, Encode, Recover, Check, Replay, Image, Unpack, Bundle, Member, Challenge, Verify, Gateway, IsTask, bare, nothing, command_of, InRange, AreNoWords, AreWords, Comes, IsRoom, Suffices, fetched_most, most_taken, no_memory_told, none_given, opening_most, read_most, room_of, IsTold, asked, nothing_asked}
+use Rattle.wal_words.specs.declared.task.Task.TheVariants.{Read}
 use Rattle.walrus_c.specs.Room as room
-use Rattle.walrus_c.specs.inside.Rooming.{IsTold, asked, nothing_asked, no_memory}
+use Rattle.walrus_c.specs.inside.Rooming.{no_memory}
 use Rattle.walrus_c.proofs.Encodes.{encoded}
 use Rattle.walrus_c.proofs.Ends.{EndsSo, HasRoom, end_short, for_whole, usage_short}
 use Rattle.walrus_c.proofs.Images.{imaged}

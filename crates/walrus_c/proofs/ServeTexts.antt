@@ -1,39 +1,13 @@
 -- What a shard answers that serves: few bytes to most envelopes, and what it holds of a blob to a request for its parts.
-use Rattle.std.proofs.Common.{◌≡◌, false, ℕ, ◌+◌, ◌*◌, ◌≤◌, min, List, [], ◌∷◌, ◌++◌, length, length-append, Option, Some, None, IsSome, Result, Ok, Err, unwrap_or, refl, sym, ap, subst, ◌∙◌, arith}
-use Rattle.std.specs.Int.{w32}
-use Rattle.std.proofs.Math.Nat.{mul-le-mul_right}
-use Rattle.std.proofs.lemmas.Grind.{flat_map-append}
-use Rattle.wal_shape.specs.declared.axis.Axis.{Axis}
-use Rattle.wal_shape.specs.declared.axis.Axis.TheVariants.{Primary, Secondary}
-use Rattle.wal_shape.specs.declared.text.MetaClash.{MetaClash}
-use Rattle.wal_shape.specs.Shape.{shard_count, column_count, crossing, most_bytes, sliver_symbols, symbol_size}
-use Rattle.wal_shape.specs.Metadata.{BlobMetadata}
+use Rattle.walrus_c.proofs.Common.{◌≡◌, false, ℕ, ◌+◌, ◌*◌, ◌≤◌, min, List, [], ◌∷◌, ◌++◌, length, length-append, Option, Some, None, IsSome, Result, Ok, Err, unwrap_or, refl, sym, ap, subst, ◌∙◌, arith, w32, mul-le-mul_right, flat_map-append, Axis, Primary, Secondary, MetaClash, shard_count, column_count, crossing, most_bytes, sliver_symbols, symbol_size, BlobMetadata, metadata_text, number_text, spelled_metadata-text, HoldsSliver, body_of, FrameError, Frame, Metadata, Sliver, Opening, Proof, Read, Symbol, Answer, Clash, envelope, frame_text, metadata_frame, sliver_frame, length-opening_frame, length-sliver_frame, Parts, part_of, parts_at, PutAnswer, IsSound, OpeningReply, SymbolReplies, given, metadata_reply, no_shard, not_held, payload_if, primary_reply, proof_reply, read_reply_of, ShowsTexts, IsOwnMetadata, metadata_fits, proof_fits, sliver_fits, one_metadata, ServedState, named, clash_in, clash_text, malformed, outcome_text, put_reply, reply, reply_text, sent, AnswersPut, AnswersRead, IsReplied, IsReplyOutcome}
 use Rattle.wal_shape.specs.MetadataReading.{spelled_metadata}
 use Rattle.wal_shape.specs.Part.{sliver_part}
-use Rattle.wal_shape.specs.Spelling.{metadata_text, number_text}
-use Rattle.wal_shape.proofs.MetadataLaws.{spelled_metadata-text}
-use Rattle.wal_commit.specs.Held.{HoldsSliver}
-use Rattle.wal_commit.proofs.Bodies.{body_of}
 use Rattle.wal_commit.proofs.HonestOpenings.{honest_opening}
-use Rattle.wal_frame.specs.declared.frame.FrameError.{FrameError}
 use Rattle.wal_frame.specs.Frame as frame
-use Rattle.wal_frame.specs.Frame.{Frame, Metadata, Sliver, Opening, Proof, Read, Symbol, Answer, Clash, envelope, frame_text, metadata_frame, sliver_frame}
-use Rattle.wal_frame.proofs.FrameLaws.{length-opening_frame, length-sliver_frame}
-use Rattle.wal_store.specs.Parts.{Parts, part_of}
-use Rattle.wal_store.specs.Contents.{parts_at}
-use Rattle.wal_shard.specs.declared.answers.PutAnswer.{PutAnswer}
 use Rattle.wal_shard.specs.declared.answers.PutAnswer.TheVariants as putting
-use Rattle.wal_shard.specs.Holding.{IsSound, OpeningReply, SymbolReplies, given, metadata_reply, no_shard, not_held, payload_if, primary_reply, proof_reply, read_reply_of}
-use Rattle.wal_shard.specs.Putting.{ShowsTexts}
-use Rattle.wal_shard.specs.State.{IsOwnMetadata}
 use Rattle.wal_shard.specs.Replying as shard
-use Rattle.wal_shard.proofs.HeldLaws.{metadata_fits, proof_fits, sliver_fits}
 use Rattle.wal_shard.proofs.ReplyLaws.{own_opening_fits}
-use Rattle.wal_shard.proofs.Soundness.{one_metadata}
-use Rattle.wal_serve.specs.State.{ServedState, named}
-use Rattle.wal_serve.specs.Reply.{clash_in, clash_text, done, malformed, outcome_text, put_reply, reply, reply_text}
-use Rattle.wal_serve.specs.Saying.{sent}
-use Rattle.wal_serve.specs.Answers.{AnswersPut, AnswersRead, IsReplied, IsReplyOutcome}
+use Rattle.wal_serve.specs.Reply.{done}
 use Rattle.walrus_c.proofs.Clashes.{texts_short}
 use Rattle.walrus_c.proofs.Holdings.{Holds, held_size, part_size}
 use Rattle.walrus_c.proofs.Lengths.{length-flat_map-cons}

@@ -1,23 +1,9 @@
 -- All that a shard answers that serves, by how many bytes it took.
-use Rattle.std.proofs.Common.{◌≡◌, false, ℕ, ◌+◌, ◌*◌, ◌/◌, ◌≤◌, min, List, [], ◌∷◌, ◌++◌, length, length-append, Option, Some, None, ap, subst, arith}
+use Rattle.walrus_c.proofs.Common.{◌≡◌, false, ℕ, ◌+◌, ◌*◌, ◌/◌, ◌≤◌, min, List, [], ◌∷◌, ◌++◌, length, length-append, Option, Some, None, ap, subst, arith, mul-le-mul_left, Rose, MetaClash, envelope, read_of, ServedState, AnswersRequest, overlong, reply_text, sent, BreaksOff, Replies, Served, Serves, Wrote, looked_at, read_past, ServeEnd, Service, EndsServing, at_start, serve_limit, served_most}
 use Rattle.std.specs.Io.KnownBytes.{IsAtEnd}
-use Rattle.std.proofs.Math.Nat.{mul-le-mul_left}
-use Rattle.wal_port.specs.Faults.{Rose}
-use Rattle.wal_shape.specs.declared.text.MetaClash.{MetaClash}
-use Rattle.wal_frame.specs.Frame.{envelope}
-use Rattle.wal_frame.specs.Reading.{read_of}
 use Rattle.wal_shard.specs.Replying as shard
-use Rattle.wal_serve.specs.State.{ServedState}
-use Rattle.wal_serve.specs.Answers.{AnswersRequest}
-use Rattle.wal_serve.specs.Reply.{overlong, reply_text}
 use Rattle.wal_serve.specs.Room.{desk_room}
-use Rattle.wal_serve.specs.Saying.{sent}
 use Rattle.wal_serve.specs.Serving as serving
-use Rattle.wal_serve.specs.Serving.{BreaksOff, Replies, Served, Serves, Wrote, looked_at, read_past}
-use Rattle.wal_serve.specs.declared.serving.ServeEnd.{ServeEnd}
-use Rattle.wal_words.specs.declared.task.Service.{Service}
-use Rattle.wal_run.specs.Serving.{EndsServing, at_start, serve_limit}
-use Rattle.walrus_c.specs.Room.{served_most}
 use Rattle.walrus_c.proofs.Ends.{behind, never}
 use Rattle.walrus_c.proofs.Holdings.{Holds, holds_first, holds_then}
 use Rattle.walrus_c.proofs.Payloads.{reads}

@@ -1,31 +1,13 @@
 -- What the code of a text shows of the run that wrote it.
-use Rattle.std.proofs.Common.{◌≡◌, ◌≢◌, ℕ, List, [], ◌∷◌, ◌++◌, codes, refl, sym, ap, ◌∙◌, subst, inl, inr, Err}
-use Rattle.std.proofs.lemmas.List.{append_cancel_left}
-use Rattle.wal_shape.specs.EncodingProof.{EncodingProof}
-use Rattle.wal_shape.specs.declared.metadata.BlobId.{BlobId}
-use Rattle.wal_evidence.specs.BadProof.{Checks}
-use Rattle.wal_evidence.specs.declared.proof.ProofVerdict.{ProofVerdict}
+use Rattle.walrus_c.proofs.Common.{◌≡◌, ◌≢◌, ℕ, List, [], ◌∷◌, ◌++◌, codes, refl, sym, ap, ◌∙◌, subst, inl, inr, Err, append_cancel_left, EncodingProof, BlobId, Checks, ProofVerdict, sent, IsFirstProof, Task, Whole, Recover, Check, Image, Unpack, Bundle, Member, Challenge, Verify, IsTask, usage_text, Around, Causes, ShowsCause, verdict_text, Command, Content, Grammar, HasNone, IsFault, IsLacking, IsRejection, IsTaken, IsUnreadable, Misspells, Recorded, Spelled, Spells, bytes, envelopes_of, nothing, schedule, command_of, around, code_of, refusals}
 use Rattle.wal_evidence.specs.declared.proof.ProofVerdict.TheVariants as verdict
-use Rattle.wal_serve.specs.Saying.{sent}
-use Rattle.wal_reader.specs.Carried.{IsFirstProof}
 use Rattle.wal_schedule.specs.Grammar.{IsRead}
 use Rattle.wal_schedule.specs.declared.read.ScheduleError.{ScheduleError}
 use Rattle.wal_schedule.specs.declared.read.ScheduleError.TheVariants.{NotJson, BadSchedule, TooMany, BadEvent, Memory}
-use Rattle.wal_words.specs.declared.task.Task.{Task}
-use Rattle.wal_words.specs.declared.task.Task.TheVariants.{Whole, Read}
-use Rattle.wal_words.specs.declared.task.WholeTask.TheVariants.{Recover, Check, Image, Unpack, Bundle, Member, Challenge, Verify}
-use Rattle.wal_words.specs.Task.{IsTask}
-use Rattle.wal_run.specs.Answers.{usage_text}
-use Rattle.wal_run.specs.Around.{Around}
+use Rattle.wal_words.specs.declared.task.Task.TheVariants.{Read}
 use Rattle.wal_run.specs.Causes as causes
-use Rattle.wal_run.specs.Causes.{Causes, ShowsCause}
-use Rattle.wal_run.specs.Checking.{verdict_text}
-use Rattle.wal_run.specs.Command.{Command, Content, Grammar, HasNone, IsFault, IsLacking, IsRejection, IsTaken, IsUnreadable, Misspells, Recorded, Spelled, Spells, bytes, envelopes_of, nothing, schedule}
-use Rattle.wal_run.specs.Commands.{command_of}
-use Rattle.walrus_c.specs.Call.{around}
 use Rattle.walrus_c.specs.Causes as shows
 use Rattle.walrus_c.specs.Causes.{Found, Shows, ShowsWhy, Took}
-use Rattle.walrus_c.specs.Codes.{code_of, refusals}
 
 module _ (digest : List ℕ → List ℕ) (words : List (List ℕ)) (a : Around) where
   -- the words ask for this task, which took an input

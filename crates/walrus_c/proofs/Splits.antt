@@ -1,11 +1,8 @@
 -- A text splits into words in one way.
-use Rattle.std.proofs.Common.{◌≡◌, ◌⊎◌, ℕ, suc, ◌+◌, ◌<◌, ◌≤◌, List, [], ◌∷◌, ◌++◌, length, drop, slice_index_or, refl, sym, ap, ap₂, subst, ◌∙◌, inl, inr, arith, length-append}
-use Rattle.std.specs.Prelude.{IsUtf8}
+use Rattle.walrus_c.proofs.Common.{◌≡◌, ◌⊎◌, ℕ, suc, ◌+◌, ◌<◌, ◌≤◌, List, [], ◌∷◌, ◌++◌, length, drop, slice_index_or, refl, sym, ap, ap₂, subst, ◌∙◌, inl, inr, arith, length-append, IsUtf8, append_assoc, HasNoZero, AreWords, AreNoWords, ReadSoFar}
 use Rattle.std.proofs.Math.ListN.{drop_of_length-le}
 use Rattle.std.proofs.Math.Seq.{drop-cons}
-use Rattle.std.proofs.lemmas.List.{append-nil, append_assoc}
-use Rattle.walrus_c.specs.Words.{HasNoZero, AreWords, AreNoWords}
-use Rattle.walrus_c.specs.inside.Reading.{ReadSoFar}
+use Rattle.std.proofs.lemmas.List.{append-nil}
 
 -- a word with one byte more that is not zero
 quiet_more : (word : List ℕ) (byte : ℕ) → HasNoZero word → 0 < byte → HasNoZero (word ++ byte ∷ [])

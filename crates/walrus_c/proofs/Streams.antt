@@ -1,14 +1,7 @@
 -- How many payloads a stream has, and where it breaks.
-use Rattle.std.proofs.Common.{◌≡◌, ℕ, ◌+◌, ◌≤◌, List, [], ◌∷◌, ◌++◌, length, length-append, nat_eq, Result, Ok, ap, arith, if◌then◌else◌, Bool, true, false}
-use Rattle.std.specs.Int.{w16, w32}
+use Rattle.walrus_c.proofs.Common.{◌≡◌, ℕ, ◌+◌, ◌≤◌, List, [], ◌∷◌, ◌++◌, length, length-append, nat_eq, Result, Ok, ap, arith, if◌then◌else◌, Bool, true, false, w16, w32, number_text, Frame, envelope, Opening, read_of, FrameError, IsStream, IsMalformed, claims_in, claim_for}
 use Rattle.std.specs.Cmp.Lexicographic.{pointwise}
 use Rattle.wal_shape.specs.declared.claim.Claim.{Claim}
-use Rattle.wal_shape.specs.Spelling.{number_text}
-use Rattle.wal_frame.specs.Frame.{Frame, envelope, Opening}
-use Rattle.wal_frame.specs.Reading.{read_of}
-use Rattle.wal_frame.specs.declared.frame.FrameError.{FrameError}
-use Rattle.wal_frame.specs.Stream.{IsStream, IsMalformed}
-use Rattle.wal_reader.specs.Carried.{claims_in, claim_for}
 use Rattle.walrus_c.proofs.Lengths.{length-flat_map-cons}
 
 -- an envelope has seven bytes more than its payload

@@ -1,6 +1,4 @@
-use Rattle.std.proofs.Common.{◌≡◌, ℕ, ◌+◌, ◌*◌, ◌/◌, ◌%◌, ◌^◌, ◌<◌, ◌≤◌, bit_xor, bit_and, ap, ap₂, ◌∙◌, arith, rules, pow_mono, pow-add, mul_comm}
-use Rattle.std.proofs.lemmas.Nat.{and_mask, xor_lt, xor_mod, xor_shr}
-use Rattle.wal_gf.specs.Field.{cancel, remainder}
+use Rattle.wal_gf.proofs.Common.{◌≡◌, ℕ, ◌+◌, ◌*◌, ◌/◌, ◌%◌, ◌^◌, ◌<◌, ◌≤◌, bit_xor, bit_and, ap, ap₂, ◌∙◌, arith, rules, pow_mono, pow-add, mul_comm, and_mask, xor_lt, xor_mod, xor_shr, cancel, remainder}
 use Rattle.wal_gf.proofs.Additive.{IsAdditive, shift-additive, sum-additive, same_by_table, all_below}
 use Rattle.wal_gf.proofs.Products.{remainder-xor}
 use Rattle.wal_gf.proofs.fold.Goals as goal

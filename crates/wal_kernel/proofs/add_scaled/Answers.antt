@@ -1,4 +1,4 @@
-use Rattle.std.proofs.Common.{arith}
+use Rattle.wal_kernel.proofs.Common.{arith}
 use Rattle.wal_kernel.proofs.Sums.{scaled_sum}
 use Rattle.wal_kernel.proofs.add_scaled.Goals as goal
 

@@ -1,6 +1,4 @@
-use Rattle.std.proofs.Common.{◌≡◌, ◌+◌, ◌-◌, ◌*◌, ◌/◌, length, subst, arith}
-use Rattle.sha2.specs.Sha256.{sha256}
-use Rattle.wal_lanes.specs.Pieces.{AreDigests}
+use Rattle.wal_lanes.proofs.Common.{◌≡◌, ◌+◌, ◌-◌, ◌*◌, ◌/◌, length, subst, arith, sha256, AreDigests}
 use Rattle.wal_lanes.proofs.digest_pieces.Goals as goal
 
 pub returns-then-count-gt0 : goal.returns-then-count-gt0

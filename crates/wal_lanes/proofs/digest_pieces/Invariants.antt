@@ -1,6 +1,4 @@
-use Rattle.std.proofs.Common.{◌*◌}
-use Rattle.sha2.specs.Sha256.{sha256}
-use Rattle.wal_lanes.specs.Pieces.{AreDigests}
+use Rattle.wal_lanes.proofs.Common.{◌*◌, sha256, AreDigests}
 use Rattle.wal_lanes.proofs.digest_pieces.Given as goal
 
 abbrev pub invariant-groups : goal.invariant-groups

@@ -1,6 +1,4 @@
-use Rattle.std.proofs.Common.{ap, ◌∙◌, arith, take}
-use Rattle.std.specs.Int.{w32, from_be_bytes}
-use Rattle.wal_pool.specs.inside.FreeList.{next}
+use Rattle.wal_pool.proofs.Common.{ap, ◌∙◌, arith, take, w32, from_be_bytes, next}
 use Rattle.wal_pool.proofs.PoolLaws.{four_bytes}
 use Rattle.wal_pool.proofs.number_at.Goals as goal
 

@@ -1,5 +1,4 @@
-use Rattle.std.proofs.Common.{◌≡◌, ◌+◌, ◌-◌, ◌*◌, ap, arith, take, drop}
-use Rattle.wal_pool.specs.inside.FreeList.{page_of}
+use Rattle.wal_pool.proofs.Common.{◌≡◌, ◌+◌, ◌-◌, ◌*◌, ap, arith, take, drop, page_of}
 use Rattle.wal_pool.proofs.page_in.Goals as goal
 
 pub returns-clause-value : goal.returns-clause-value

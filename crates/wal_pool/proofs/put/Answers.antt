@@ -1,4 +1,4 @@
-use Rattle.std.proofs.Common.{arith}
+use Rattle.wal_pool.proofs.Common.{arith}
 use Rattle.wal_pool.proofs.OverwriteLaws.{put_mid_is}
 use Rattle.wal_pool.proofs.put.Goals as goal
 

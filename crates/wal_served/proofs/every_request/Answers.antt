@@ -1,4 +1,4 @@
-use Rattle.std.specs.Prelude.{⊤}
+use Rattle.wal_served.proofs.Common.{⊤}
 use Rattle.wal_served.proofs.Reached.{serves_reached}
 use Rattle.wal_served.proofs.Steps.{answered_steps}
 use Rattle.wal_served.proofs.every_request.Goals as goal

@@ -1,5 +1,5 @@
 -- The code is that of the table, which shows the cause.
-use Rattle.sha2.specs.Sha256.{sha256}
+use Rattle.walrus_c.proofs.Common.{sha256}
 use Rattle.walrus_c.proofs.Shown.{shows_why}
 use Rattle.walrus_c.proofs.walrus_code.Goals as goal
 

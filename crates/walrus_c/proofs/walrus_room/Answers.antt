@@ -1,6 +1,5 @@
 -- The room is that of the words, and suffices.
-use Rattle.std.proofs.Common.{◌≡◌, ◌⊎◌, inl, inr, ℕ, map, string_bytes, subst, sym}
-use Rattle.sha2.specs.Sha256.{sha256}
+use Rattle.walrus_c.proofs.Common.{◌≡◌, ◌⊎◌, inl, inr, ℕ, map, string_bytes, subst, sym, sha256}
 use Rattle.sha2.proofs.Facts256.{length-sha256}
 use Rattle.walrus_c.proofs.Rooms.{suffices, told, untold_is, untold_suffices}
 use Rattle.walrus_c.proofs.walrus_room.Goals as goal

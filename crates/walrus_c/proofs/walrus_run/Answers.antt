@@ -1,6 +1,5 @@
 -- The status and the numbers follow from the run's status and the count of its text.
-use Rattle.std.proofs.Common.{◌<◌, ◌^◌, length, map, string_bytes, refl, rules}
-use Rattle.sha2.specs.Sha256.{sha256}
+use Rattle.walrus_c.proofs.Common.{◌<◌, ◌^◌, length, map, string_bytes, refl, rules, sha256}
 use Rattle.walrus_c.proofs.Calls.{refused, returned}
 use Rattle.walrus_c.proofs.walrus_run.Goals as goal
 

@@ -1,4 +1,4 @@
-use Rattle.std.proofs.Common.{sym}
+use Rattle.wal_bundle.proofs.Common.{sym}
 use Rattle.wal_bundle.proofs.HonestColumns.{own_column}
 use Rattle.wal_bundle.proofs.bundling.bundle_columns_are_slivers.Goals as goal
 

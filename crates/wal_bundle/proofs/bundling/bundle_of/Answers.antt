@@ -1,6 +1,4 @@
-use Rattle.std.proofs.Common.{ℕ, ◌*◌, List, length, arith}
-use Rattle.std.proofs.lemmas.List.{length-map}
-use Rattle.wal_bundle.specs.Layout.{lengths_of}
+use Rattle.wal_bundle.proofs.Common.{ℕ, ◌*◌, List, length, arith, length-map, lengths_of}
 use Rattle.wal_bundle.proofs.HonestColumns.{bundle_short}
 use Rattle.wal_bundle.proofs.Least.{some_least}
 use Rattle.wal_bundle.proofs.bundling.bundle_of.Goals as goal

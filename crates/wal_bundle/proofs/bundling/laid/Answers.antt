@@ -1,5 +1,4 @@
-use Rattle.std.proofs.Common.{◌*◌}
-use Rattle.wal_bundle.specs.Layout.{bundle_text, column_bytes}
+use Rattle.wal_bundle.proofs.Common.{◌*◌, bundle_text, column_bytes}
 use Rattle.wal_bundle.proofs.ColumnTexts.{text_long}
 use Rattle.wal_bundle.proofs.Room.{size_positive}
 use Rattle.wal_bundle.proofs.bundling.laid.Goals as goal

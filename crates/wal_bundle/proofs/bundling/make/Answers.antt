@@ -1,7 +1,4 @@
-use Rattle.std.proofs.Common.{ℕ, ◌*◌, ◌≤◌, List, length, ap, arith}
-use Rattle.std.proofs.lemmas.List.{length-map}
-use Rattle.wal_shape.specs.Shape.{most_bytes}
-use Rattle.wal_bundle.specs.Layout.{lengths_of}
+use Rattle.wal_bundle.proofs.Common.{ℕ, ◌*◌, ◌≤◌, List, length, ap, arith, length-map, most_bytes, lengths_of}
 use Rattle.wal_bundle.proofs.Least.{some_least, too_long}
 use Rattle.wal_bundle.proofs.bundling.make.Goals as goal
 

@@ -1,5 +1,4 @@
-use Rattle.std.proofs.Common.{◌+◌, ◌*◌, arith}
-use Rattle.wal_shape.specs.Shape.{most_bytes}
+use Rattle.wal_bundle.proofs.Common.{◌+◌, ◌*◌, arith, most_bytes}
 use Rattle.wal_bundle.proofs.Least.{most_half}
 use Rattle.wal_bundle.proofs.bundling.most_half.Goals as goal
 

@@ -1,7 +1,4 @@
-use Rattle.std.proofs.Common.{sym, ◌∙◌, inl, inr, rules}
-use Rattle.std.proofs.lemmas.Result.{IfOk-weaker}
-use Rattle.wal_shape.specs.MetaRef.{metadata_shown}
-use Rattle.wal_extract.proofs.OneIdentifier.{same_metadata}
+use Rattle.wal_bundle.proofs.Common.{sym, ◌∙◌, inl, inr, rules, IfOk-weaker, metadata_shown, same_metadata}
 use Rattle.wal_bundle.proofs.Found.{not_one, not_own, one_identifier, own_coded}
 use Rattle.wal_bundle.proofs.Truths.{contradicting_plain}
 use Rattle.wal_bundle.proofs.collisions.bundle_collision.Goals as goal

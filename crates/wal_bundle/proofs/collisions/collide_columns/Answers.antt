@@ -1,8 +1,4 @@
-use Rattle.std.proofs.Common.{◌∙◌, arith, below_more}
-use Rattle.std.proofs.lemmas.Result.{IfOk-weaker}
-use Rattle.wal_shape.specs.declared.axis.Axis.TheVariants.{Secondary}
-use Rattle.wal_shape.specs.MetaRef.{metadata_shown}
-use Rattle.wal_extract.proofs.OneRoot.{held_one_root}
+use Rattle.wal_bundle.proofs.Common.{◌∙◌, arith, below_more, IfOk-weaker, Secondary, metadata_shown, held_one_root}
 use Rattle.wal_bundle.proofs.OneColumn.{column_held}
 use Rattle.wal_bundle.proofs.collisions.collide_columns.Goals as goal
 

@@ -1,8 +1,5 @@
 -- The columns so far are the same wherever both are there.
-use Rattle.std.proofs.Common.{◌≡◌}
-use Rattle.wal_shape.specs.MetaRef.{metadata_shown}
-use Rattle.wal_bundle.specs.Columns.{IsColumn}
-use Rattle.wal_bundle.specs.Contradictions.{AgreeBelow}
+use Rattle.wal_bundle.proofs.Common.{◌≡◌, metadata_shown, IsColumn, AgreeBelow}
 use Rattle.wal_bundle.proofs.collisions.collide_columns.Given as goal
 
 abbrev pub invariant-loop-j : goal.invariant-loop-j

@@ -1,12 +1,4 @@
-use Rattle.std.proofs.Common.{◌<◌, sym, ap, ◌∙◌, arith, below_more}
-use Rattle.std.proofs.lemmas.Result.{IfOk-weaker}
-use Rattle.wal_shape.specs.declared.axis.Axis.TheVariants.{Secondary}
-use Rattle.wal_shape.specs.Shape.{shard_count}
-use Rattle.wal_shape.specs.MetaRef.{metadata_shown}
-use Rattle.wal_shape.specs.Metadata.{BlobMetadata}
-use Rattle.wal_commit.specs.Identifier.{metadata_over}
-use Rattle.wal_commit.proofs.HonestOpenings.{honest_sliver}
-use Rattle.wal_extract.proofs.OneRoot.{held_one_root}
+use Rattle.wal_bundle.proofs.Common.{◌<◌, sym, ap, ◌∙◌, arith, below_more, IfOk-weaker, Secondary, shard_count, metadata_shown, BlobMetadata, metadata_over, honest_sliver, held_one_root}
 use Rattle.wal_bundle.proofs.OneColumn.{column_held}
 use Rattle.wal_bundle.proofs.collisions.collide_own.Goals as goal
 

@@ -1,9 +1,5 @@
 -- The columns so far are the matrix's own.
-use Rattle.std.proofs.Common.{◌≡◌}
-use Rattle.wal_shape.specs.MetaRef.{metadata_shown}
-use Rattle.wal_matrix.specs.Matrix.{symbol_bytes}
-use Rattle.wal_bundle.specs.Columns.{IsColumn, IsOwnColumn}
-use Rattle.wal_bundle.specs.Contradictions.{AgreeBelow}
+use Rattle.wal_bundle.proofs.Common.{◌≡◌, metadata_shown, symbol_bytes, IsColumn, IsOwnColumn, AgreeBelow}
 use Rattle.wal_bundle.proofs.collisions.collide_own.Given as goal
 
 abbrev pub invariant-loop-j : goal.invariant-loop-j

@@ -1,5 +1,4 @@
-use Rattle.std.proofs.Common.{◌∙◌, sym}
-use Rattle.wal_shape.specs.MetaRef.{metadata_shown}
+use Rattle.wal_bundle.proofs.Common.{◌∙◌, sym, metadata_shown}
 use Rattle.wal_bundle.proofs.OneColumn.{one_column}
 use Rattle.wal_bundle.proofs.collisions.columns_apart.Goals as goal
 

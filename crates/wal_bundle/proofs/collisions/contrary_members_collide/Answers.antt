@@ -1,4 +1,4 @@
-use Rattle.wal_commit.proofs.OneDigest.{IsDigest}
+use Rattle.wal_bundle.proofs.Common.{IsDigest}
 use Rattle.wal_bundle.proofs.Collides.{bundle_collides, members_collide}
 use Rattle.wal_bundle.proofs.collisions.contrary_members_collide.Goals as goal
 

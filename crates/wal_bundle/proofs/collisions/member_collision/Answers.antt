@@ -1,7 +1,4 @@
-use Rattle.std.proofs.Common.{inl, inr, rules}
-use Rattle.std.proofs.lemmas.Result.{IfOk-weaker}
-use Rattle.wal_shape.specs.MetaRef.{metadata_shown}
-use Rattle.wal_extract.proofs.OneIdentifier.{same_metadata}
+use Rattle.wal_bundle.proofs.Common.{inl, inr, rules, IfOk-weaker, metadata_shown, same_metadata}
 use Rattle.wal_bundle.proofs.Found.{not_one}
 use Rattle.wal_bundle.proofs.Truths.{not_contrary}
 use Rattle.wal_bundle.proofs.collisions.member_collision.Goals as goal

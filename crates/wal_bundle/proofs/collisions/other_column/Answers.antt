@@ -1,5 +1,4 @@
-use Rattle.std.proofs.Common.{◌≡◌, ◌∙◌, sym, rules}
-use Rattle.wal_shape.specs.MetaRef.{metadata_shown}
+use Rattle.wal_bundle.proofs.Common.{◌≡◌, ◌∙◌, sym, rules, metadata_shown}
 use Rattle.wal_bundle.proofs.OneColumn.{one_column}
 use Rattle.wal_bundle.proofs.collisions.other_column.Goals as goal
 

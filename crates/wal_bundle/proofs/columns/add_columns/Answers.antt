@@ -1,5 +1,4 @@
-use Rattle.std.proofs.Common.{◌∙◌, arith}
-use Rattle.wal_shape.specs.MetaRef.{metadata_shown}
+use Rattle.wal_bundle.proofs.Common.{◌∙◌, arith, metadata_shown}
 use Rattle.wal_bundle.proofs.Added.{column_added, first_missing}
 use Rattle.wal_bundle.proofs.OneColumn.{column_held}
 use Rattle.wal_bundle.proofs.columns.add_columns.Goals as goal

@@ -1,9 +1,5 @@
 -- The columns so far.
-use Rattle.std.proofs.Common.{◌≡◌}
-use Rattle.wal_shape.specs.MetaRef.{metadata_shown}
-use Rattle.wal_shape.specs.Shape.{symbol_size}
-use Rattle.wal_bundle.specs.Layout.{column_bytes}
-use Rattle.wal_bundle.specs.Columns.{AreColumns, IsColumn}
+use Rattle.wal_bundle.proofs.Common.{◌≡◌, metadata_shown, symbol_size, column_bytes, AreColumns, IsColumn}
 use Rattle.wal_bundle.proofs.columns.add_columns.Given as goal
 
 abbrev pub invariant-loop-place : goal.invariant-loop-place

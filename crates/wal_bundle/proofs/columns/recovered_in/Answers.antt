@@ -1,4 +1,4 @@
-use Rattle.wal_shape.specs.MetaRef.{metadata_shown}
+use Rattle.wal_bundle.proofs.Common.{metadata_shown}
 use Rattle.wal_bundle.proofs.Found.{not_recovered, weaken_none}
 use Rattle.wal_bundle.proofs.columns.recovered_in.Goals as goal
 

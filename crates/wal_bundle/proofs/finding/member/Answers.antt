@@ -1,4 +1,4 @@
-use Rattle.wal_reader.proofs.Gathering.{weaken}
+use Rattle.wal_bundle.proofs.Common.{weaken}
 use Rattle.wal_bundle.proofs.Truths.{one_answer, same_or_contrary, true_or_contrary}
 use Rattle.wal_bundle.proofs.finding.member.Goals as goal
 

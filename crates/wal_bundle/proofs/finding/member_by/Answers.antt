@@ -1,4 +1,4 @@
-use Rattle.std.proofs.Common.{arith}
+use Rattle.wal_bundle.proofs.Common.{arith}
 use Rattle.wal_bundle.proofs.Behind.{few_columns, member_missing}
 use Rattle.wal_bundle.proofs.finding.member_by.Goals as goal
 

@@ -1,6 +1,5 @@
-use Rattle.wal_shape.specs.MetaRef.{metadata_shown}
+use Rattle.wal_bundle.proofs.Common.{metadata_shown, weaken}
 use Rattle.wal_bundle.proofs.Truths.{of_columns}
-use Rattle.wal_reader.proofs.Gathering.{weaken}
 use Rattle.wal_bundle.proofs.finding.member_of.Goals as goal
 
 pub returns-in-Missing : goal.returns-in-Missing

@@ -1,5 +1,4 @@
-use Rattle.std.proofs.Common.{◌≡◌, ◌∙◌, length, sym, arith, rules}
-use Rattle.wal_bundle.specs.Layout.{index_text}
+use Rattle.wal_bundle.proofs.Common.{◌≡◌, ◌∙◌, length, sym, arith, rules, index_text}
 use Rattle.wal_bundle.proofs.IndexTexts.{entry_added}
 use Rattle.wal_bundle.proofs.Room.{first_column-more, first_column-none, member_within}
 use Rattle.wal_bundle.proofs.index.index_text.Goals as goal

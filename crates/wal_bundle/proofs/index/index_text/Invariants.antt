@@ -1,8 +1,5 @@
 -- The entries so far, and the first column of the next member.
-use Rattle.std.proofs.Common.{◌≡◌, ◌++◌, length}
-use Rattle.std.specs.Int.{w16}
-use Rattle.wal_shape.specs.Spelling.{number_text}
-use Rattle.wal_bundle.specs.Layout.{entries_text, first_column}
+use Rattle.wal_bundle.proofs.Common.{◌≡◌, ◌++◌, length, w16, number_text, entries_text, first_column}
 use Rattle.wal_bundle.proofs.index.index_text.Given as goal
 
 abbrev pub invariant-loop-length : goal.invariant-loop-length

@@ -1,4 +1,4 @@
-use Rattle.std.proofs.Common.{◌≡◌, ◌+◌, ◌++◌, length, vec_len, rules}
+use Rattle.wal_bundle.proofs.Common.{◌≡◌, ◌+◌, ◌++◌, length, vec_len, rules}
 use Rattle.wal_bundle.proofs.ColumnTexts.{whole_added}
 use Rattle.wal_bundle.proofs.laying.add_whole.Goals as goal
 

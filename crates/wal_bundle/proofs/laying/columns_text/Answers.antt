@@ -1,6 +1,4 @@
-use Rattle.std.proofs.Common.{◌≡◌, [], length, vec_len, ◌∙◌, arith, rules}
-use Rattle.std.proofs.lemmas.List.{get_or_read, take_all}
-use Rattle.wal_bundle.specs.Layout.{columns_text}
+use Rattle.wal_bundle.proofs.Common.{◌≡◌, [], length, vec_len, ◌∙◌, arith, rules, get_or_read, take_all, columns_text}
 use Rattle.wal_bundle.proofs.ColumnTexts.{member_room, index_room}
 use Rattle.wal_bundle.proofs.laying.columns_text.Goals as goal
 

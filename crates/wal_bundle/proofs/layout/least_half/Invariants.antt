@@ -1,5 +1,5 @@
 -- No half below low has room, and high has, or is past the most.
-use Rattle.std.proofs.Common.{◌-◌}
+use Rattle.wal_bundle.proofs.Common.{◌-◌}
 use Rattle.wal_bundle.proofs.Least.{Narrows}
 use Rattle.wal_bundle.proofs.layout.least_half.Given as goal
 

@@ -1,4 +1,4 @@
-use Rattle.std.proofs.Common.{arith}
+use Rattle.wal_bundle.proofs.Common.{arith}
 use Rattle.wal_bundle.proofs.Room.{member_columns-more}
 use Rattle.wal_bundle.proofs.layout.member_columns.Goals as goal
 

@@ -1,6 +1,5 @@
 -- The columns of the members so far.
-use Rattle.std.proofs.Common.{◌≡◌, ◌*◌, ◌^◌, ◌≤◌, take}
-use Rattle.wal_bundle.specs.Layout.{member_columns}
+use Rattle.wal_bundle.proofs.Common.{◌≡◌, ◌*◌, ◌^◌, ◌≤◌, take, member_columns}
 use Rattle.wal_bundle.proofs.layout.member_columns.Given as goal
 
 abbrev pub invariant-loop-length : goal.invariant-loop-length

@@ -1,5 +1,4 @@
-use Rattle.std.proofs.Common.{arith}
-use Rattle.wal_shape.specs.MetaRef.{metadata_shown}
+use Rattle.wal_bundle.proofs.Common.{arith, metadata_shown}
 use Rattle.wal_bundle.proofs.Found.{four_bytes}
 use Rattle.wal_bundle.proofs.reading.column_size.Goals as goal
 

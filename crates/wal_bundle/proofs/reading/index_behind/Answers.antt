@@ -1,7 +1,4 @@
-use Rattle.std.proofs.Common.{◌*◌, ◌≤◌, length, ap, arith}
-use Rattle.wal_shape.specs.MetaRef.{metadata_shown}
-use Rattle.wal_shape.proofs.ShapeLaws.{symbol_size-least}
-use Rattle.wal_bundle.specs.Member.{of_many}
+use Rattle.wal_bundle.proofs.Common.{◌*◌, ◌≤◌, length, ap, arith, metadata_shown, symbol_size-least, of_many}
 use Rattle.wal_bundle.proofs.Behind.{count_kept, index_found, index_missing, no_index}
 use Rattle.wal_bundle.proofs.Added.{first_alone}
 use Rattle.wal_bundle.proofs.OneColumn.{column_held, one_column}

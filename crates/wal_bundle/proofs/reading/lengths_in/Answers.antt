@@ -1,6 +1,4 @@
-use Rattle.std.proofs.Common.{◌≡◌, [], ◌∷◌, ◌++◌, zero-add, rules}
-use Rattle.std.proofs.lemmas.List.FromFn.{map-range_with_len_more}
-use Rattle.wal_bundle.specs.inside.Reading.{spelled_length, spelled_lengths}
+use Rattle.wal_bundle.proofs.Common.{◌≡◌, [], ◌∷◌, ◌++◌, zero-add, rules, map-range_with_len_more, spelled_length, spelled_lengths}
 use Rattle.wal_bundle.proofs.reading.lengths_in.Goals as goal
 
 pub loop-k-init : goal.loop-k-init

@@ -1,6 +1,5 @@
 -- The lengths so far.
-use Rattle.std.proofs.Common.{◌≡◌}
-use Rattle.wal_bundle.specs.inside.Reading.{spelled_lengths}
+use Rattle.wal_bundle.proofs.Common.{◌≡◌, spelled_lengths}
 use Rattle.wal_bundle.proofs.reading.lengths_in.Given as goal
 
 abbrev pub invariant-loop-k : goal.invariant-loop-k

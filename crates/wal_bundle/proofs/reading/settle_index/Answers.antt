@@ -1,7 +1,4 @@
-use Rattle.std.proofs.Common.{length, ap, sym, ◌∙◌, arith}
-use Rattle.std.proofs.lemmas.Bool.{false≢true}
-use Rattle.wal_shape.specs.MetaRef.{metadata_shown}
-use Rattle.wal_bundle.specs.Member.{count_in}
+use Rattle.wal_bundle.proofs.Common.{length, ap, sym, ◌∙◌, arith, false≢true, metadata_shown, count_in}
 use Rattle.wal_bundle.proofs.Found.{twice_half}
 use Rattle.wal_bundle.proofs.IndexTexts.{lengths_read, spelled_count}
 use Rattle.wal_bundle.proofs.Truths.{cells_small}

@@ -1,7 +1,4 @@
-use Rattle.std.proofs.Common.{List, subst, sym}
-use Rattle.wal_shape.specs.declared.opening.Opening.{Opening}
-use Rattle.wal_shape.specs.MetaRef.{metadata_shown}
-use Rattle.wal_challenge.specs.Answer.{AreAnswers}
+use Rattle.wal_challenge.proofs.Common.{List, subst, sym, Opening, metadata_shown, AreAnswers}
 use Rattle.wal_challenge.proofs.AnswerLaws.{answer_holds, one_answer}
 use Rattle.wal_challenge.proofs.answering.answer.Goals as goal
 

@@ -1,7 +1,4 @@
-use Rattle.std.proofs.Common.{◌≡◌, ap, subst, ◌∙◌, arith}
-use Rattle.wal_shape.specs.MetaRef.{metadata_shown}
-use Rattle.wal_shape.specs.Shape.{shard_count}
-use Rattle.wal_challenge.specs.Answer.{AreAnswers}
+use Rattle.wal_challenge.proofs.Common.{◌≡◌, ap, subst, ◌∙◌, arith, metadata_shown, shard_count, AreAnswers}
 use Rattle.wal_challenge.proofs.AnswerLaws.{answers_more, same_draw}
 use Rattle.wal_challenge.proofs.answering.open_all.Goals as goal
 

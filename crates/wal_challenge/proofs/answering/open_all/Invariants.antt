@@ -1,7 +1,5 @@
 -- The openings so far answer their draws.
-use Rattle.std.proofs.Common.{ℕ, List}
-use Rattle.wal_shape.specs.MetaRef.{metadata_shown}
-use Rattle.wal_challenge.specs.Answer.{AreAnswers, AreWordsOf}
+use Rattle.wal_challenge.proofs.Common.{ℕ, List, metadata_shown, AreAnswers, AreWordsOf}
 use Rattle.wal_challenge.proofs.answering.open_all.Given as goal
 
 abbrev pub invariant-each : goal.invariant-each

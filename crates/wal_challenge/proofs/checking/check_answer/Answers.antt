@@ -1,6 +1,4 @@
-use Rattle.std.proofs.Common.{◌∙◌}
-use Rattle.wal_shape.specs.MetaRef.{metadata_shown}
-use Rattle.wal_challenge.specs.declared.checking.AnswerVerdict.TheVariants.{Accepted}
+use Rattle.wal_challenge.proofs.Common.{◌∙◌, metadata_shown, Accepted}
 use Rattle.wal_challenge.proofs.VerdictLaws.{accepted_as, one_verdict, own_or_false}
 use Rattle.wal_challenge.proofs.checking.check_answer.Goals as goal
 

@@ -1,9 +1,4 @@
-use Rattle.std.proofs.Common.{rules, ◌≡◌, ◌<◌, length, ap, refl, subst, ◌∙◌, arith}
-use Rattle.std.proofs.lemmas.Option.{slice_get_read}
-use Rattle.wal_shape.specs.MetaRef.{metadata_shown}
-use Rattle.wal_shape.specs.Shape.{shard_count}
-use Rattle.wal_challenge.specs.declared.drawing.Draw.{Draw}
-use Rattle.wal_challenge.specs.Verdict.{AnswersDraw, FirstAnswer}
+use Rattle.wal_challenge.proofs.Common.{rules, ◌≡◌, ◌<◌, length, ap, refl, subst, ◌∙◌, arith, slice_get_read, metadata_shown, shard_count, Draw, AnswersDraw, FirstAnswer}
 use Rattle.wal_challenge.proofs.AnswerLaws.{same_draw}
 use Rattle.wal_challenge.proofs.VerdictLaws.{first_more}
 use Rattle.wal_challenge.proofs.checking.first_wrong.Goals as goal

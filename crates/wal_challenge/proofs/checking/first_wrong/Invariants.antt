@@ -1,6 +1,5 @@
 -- The claims so far answer their draws.
-use Rattle.wal_shape.specs.MetaRef.{metadata_shown}
-use Rattle.wal_challenge.specs.Verdict.{FirstAnswer}
+use Rattle.wal_challenge.proofs.Common.{metadata_shown, FirstAnswer}
 use Rattle.wal_challenge.proofs.checking.first_wrong.Given as goal
 
 abbrev pub invariant-each : goal.invariant-each

@@ -1,4 +1,4 @@
-use Rattle.wal_commit.proofs.OneDigest.{IsDigest}
+use Rattle.wal_challenge.proofs.Common.{IsDigest}
 use Rattle.wal_challenge.proofs.Collides.{false_collides}
 use Rattle.wal_challenge.proofs.clash.false_claims_collide.Goals as goal
 

@@ -1,4 +1,4 @@
-use Rattle.std.proofs.Common.{◌∙◌}
+use Rattle.wal_challenge.proofs.Common.{◌∙◌}
 use Rattle.wal_challenge.proofs.LevelLaws.{above_evened}
 use Rattle.wal_challenge.proofs.levels.add_level.Goals as goal
 

@@ -1,7 +1,4 @@
-use Rattle.std.proofs.Common.{◌≡◌, ◌/◌, List, ℕ, length, ap, ◌∙◌}
-use Rattle.std.proofs.lemmas.List.{take_at}
-use Rattle.wal_tree.specs.Tree.{pieces}
-use Rattle.wal_tree.proofs.LevelPairs.{paired}
+use Rattle.wal_challenge.proofs.Common.{◌≡◌, ◌/◌, List, ℕ, length, ap, ◌∙◌, take_at, pieces, paired}
 use Rattle.wal_challenge.proofs.levels.join_pairs.Goals as goal
 
 pub returns-clause-joined : goal.returns-clause-joined

@@ -1,7 +1,4 @@
-use Rattle.std.proofs.Common.{◌≡◌, ◌/◌, List, ℕ, length, ap, ◌∙◌}
-use Rattle.std.proofs.lemmas.List.{take_at}
-use Rattle.wal_tree.specs.Tree.{pieces}
-use Rattle.wal_tree.proofs.LevelPairs.{leaves-pieces}
+use Rattle.wal_challenge.proofs.Common.{◌≡◌, ◌/◌, List, ℕ, length, ap, ◌∙◌, take_at, pieces, leaves-pieces}
 use Rattle.wal_challenge.proofs.levels.leaf_digests.Goals as goal
 
 pub returns-clause-leaves : goal.returns-clause-leaves

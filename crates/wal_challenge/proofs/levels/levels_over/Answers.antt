@@ -1,9 +1,5 @@
 -- One level more is kept, and the one above it comes.
-use Rattle.std.proofs.Common.{◌≡◌, ◌+◌, ◌/◌, ◌<◌, [], ◌∷◌, List, ℕ, length, length-append, ap, subst, sym, ◌∙◌, arith}
-use Rattle.wal_tree.specs.Tree.{leaves, pair_up}
-use Rattle.wal_tree.specs.inside.Tree.{level_above}
-use Rattle.wal_tree.proofs.Paths.{level_above-next}
-use Rattle.wal_challenge.specs.inside.Levels.{FirstLevels, evened}
+use Rattle.wal_challenge.proofs.Common.{◌≡◌, ◌+◌, ◌/◌, ◌<◌, [], ◌∷◌, List, ℕ, length, length-append, ap, subst, sym, ◌∙◌, arith, leaves, pair_up, level_above, level_above-next, FirstLevels, evened}
 use Rattle.wal_challenge.proofs.LevelLaws.{evened_level, first_more}
 use Rattle.wal_challenge.proofs.levels.levels_over.Goals as goal
 

@@ -1,8 +1,5 @@
 -- The levels so far, and the entries of the one above them.
-use Rattle.std.proofs.Common.{◌≡◌, ◌*◌, ◌/◌, ◌≤◌, length}
-use Rattle.wal_tree.specs.Tree.{leaves, pieces}
-use Rattle.wal_tree.specs.inside.Tree.{level_above}
-use Rattle.wal_challenge.specs.inside.Levels.{FirstLevels}
+use Rattle.wal_challenge.proofs.Common.{◌≡◌, ◌*◌, ◌/◌, ◌≤◌, length, leaves, pieces, level_above, FirstLevels}
 use Rattle.wal_challenge.proofs.levels.levels_over.Given as goal
 
 abbrev pub invariant-rise : goal.invariant-rise

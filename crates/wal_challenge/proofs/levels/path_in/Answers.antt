@@ -1,10 +1,5 @@
 -- A turn copies the sibling and goes on from the parent.
-use Rattle.std.proofs.Common.{◌≡◌, ◌≤◌, ◌/◌, ◌++◌, List, ℕ, length, ap, subst, sym, ◌∙◌, arith}
-use Rattle.std.specs.List.{concat}
-use Rattle.wal_tree.specs.Tree.{leaves}
-use Rattle.wal_tree.specs.inside.Tree.{level_above}
-use Rattle.wal_tree.specs.Path.{path_of, path_over}
-use Rattle.wal_tree.proofs.Paths.{length-leaves}
+use Rattle.wal_challenge.proofs.Common.{◌≡◌, ◌≤◌, ◌/◌, ◌++◌, List, ℕ, length, ap, subst, sym, ◌∙◌, arith, concat, leaves, level_above, path_of, path_over, length-leaves}
 use Rattle.wal_challenge.proofs.LevelLaws.{level_at, parent_within, path_end, path_more}
 use Rattle.wal_challenge.proofs.levels.path_in.Goals as goal
 

@@ -1,9 +1,5 @@
 -- The path is what was copied, and the path from the place that the loop has come to.
-use Rattle.std.proofs.Common.{◌≡◌, ◌/◌, ◌<◌, ◌++◌, length}
-use Rattle.std.specs.List.{concat}
-use Rattle.wal_tree.specs.Tree.{leaves}
-use Rattle.wal_tree.specs.inside.Tree.{level_above}
-use Rattle.wal_tree.specs.Path.{path_of}
+use Rattle.wal_challenge.proofs.Common.{◌≡◌, ◌/◌, ◌<◌, ◌++◌, length, concat, leaves, level_above, path_of}
 use Rattle.wal_challenge.proofs.levels.path_in.Given as goal
 
 abbrev pub invariant-climb : goal.invariant-climb

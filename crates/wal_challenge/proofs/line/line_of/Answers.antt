@@ -1,6 +1,4 @@
-use Rattle.std.proofs.Common.{◌∙◌, length, ap, refl, arith}
-use Rattle.wal_shape.specs.MetaRef.{metadata_shown}
-use Rattle.wal_shape.specs.Shape.{shard_count, symbol_size}
+use Rattle.wal_challenge.proofs.Common.{◌∙◌, length, ap, refl, arith, metadata_shown, shard_count, symbol_size}
 use Rattle.wal_commit.proofs.Holding.{symbols_fit}
 use Rattle.wal_commit.proofs.LeafTables.{whole_pieces}
 use Rattle.wal_challenge.proofs.line.line_of.Goals as goal

@@ -1,6 +1,5 @@
 -- The words are solved at the first places, and a list of words is extended in one way only.
-use Rattle.std.proofs.Common.{◌≡◌, ◌∙◌, ℕ, List, length, take, arith, length-take}
-use Rattle.std.proofs.lemmas.List.{get_or-take}
+use Rattle.wal_code.proofs.Common.{◌≡◌, ◌∙◌, ℕ, List, length, take, arith, length-take, get_or-take}
 use Rattle.wal_code.proofs.Codes.{extension_of_solution, extension_unique}
 use Rattle.wal_code.proofs.codewords.extend_words.Goals as goal
 

@@ -1,5 +1,5 @@
 -- Each place so far has its index.
-use Rattle.std.proofs.Common.{◌≡◌, ℕ, ◌<◌, slice_index}
+use Rattle.wal_code.proofs.Common.{◌≡◌, ℕ, ◌<◌, slice_index}
 use Rattle.wal_code.proofs.codewords.extend_words.Given as goal
 
 abbrev pub invariant-loop-place : goal.invariant-loop-place

@@ -1,9 +1,7 @@
 -- The combination of the values is the value of the one polynomial that passes through them.
-use Rattle.std.proofs.Common.{◌≡◌, ◌∙◌, sym, ℕ, List, slice_index, arith}
-use Rattle.wal_code.specs.Codeword.{combination}
+use Rattle.wal_code.proofs.Common.{◌≡◌, ◌∙◌, sym, ℕ, List, slice_index, arith, combination, common_steps}
 use Rattle.wal_code.proofs.Evaluation.{solution, combined}
 use Rattle.wal_code.proofs.Tables.{weighted}
-use Rattle.std.proofs.lemmas.Grind.{common_steps}
 use Rattle.wal_code.proofs.Points.{words_of}
 use Rattle.wal_code.proofs.codewords.solve_words.Goals as goal
 

@@ -1,6 +1,5 @@
 -- The coefficient as a product of differences over another.
-use Rattle.std.proofs.Common.{◌∙◌, sym, ap, ap₂, ℕ, List, get_or, arith}
-use Rattle.wal_gf.specs.Field.{times, inverse}
+use Rattle.wal_code.proofs.Common.{◌∙◌, sym, ap, ap₂, ℕ, List, get_or, arith, times, inverse}
 use Rattle.wal_code.proofs.Evaluation.{interpolates}
 use Rattle.wal_code.proofs.Points.{words_of}
 use Rattle.wal_code.proofs.Words.{coefficient-quotient}

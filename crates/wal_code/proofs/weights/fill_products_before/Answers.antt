@@ -1,8 +1,5 @@
 -- The product over the points before a place, and with it the next.
-use Rattle.std.proofs.Common.{◌≡◌, ◌∙◌, sym, ap, ℕ, List, ◌+◌, get_or, take, refl, lit<, arith, bit_xor}
-use Rattle.std.proofs.lemmas.Grind.{common_steps}
-use Rattle.wal_gf.specs.Field.{times}
-use Rattle.wal_code.specs.inside.Weights.{product_of_all}
+use Rattle.wal_code.proofs.Common.{◌≡◌, ◌∙◌, sym, ap, ℕ, List, ◌+◌, get_or, take, refl, lit<, arith, bit_xor, common_steps, times, product_of_all}
 use Rattle.wal_code.proofs.Differences.{product_of_all-take, product_of_all-lt}
 use Rattle.wal_code.proofs.Points.{words_of}
 use Rattle.wal_code.proofs.weights.fill_products_before.Goals as goal

@@ -1,7 +1,5 @@
 -- Each place so far has the product over the points before it, and so has the next.
-use Rattle.std.proofs.Common.{◌≡◌, ℕ, ◌<◌, take}
-use Rattle.wal_code.specs.Weights.{element_at}
-use Rattle.wal_code.specs.inside.Weights.{product_of_all}
+use Rattle.wal_code.proofs.Common.{◌≡◌, ℕ, ◌<◌, take, element_at, product_of_all}
 use Rattle.wal_code.proofs.weights.fill_products_before.Given as goal
 
 abbrev pub invariant-loop-place : goal.invariant-loop-place

@@ -1,7 +1,5 @@
 -- Each place so far has its scale.
-use Rattle.std.proofs.Common.{◌≡◌, ℕ, ◌<◌, slice_index}
-use Rattle.wal_gf.specs.Field.{inverse}
-use Rattle.wal_code.specs.Weights.{product_of_others, element_at}
+use Rattle.wal_code.proofs.Common.{◌≡◌, ℕ, ◌<◌, slice_index, inverse, product_of_others, element_at}
 use Rattle.wal_code.proofs.weights.fill_scales.Given as goal
 
 abbrev pub invariant-loop-place : goal.invariant-loop-place

@@ -1,10 +1,5 @@
 -- Going down, each place's product over the points before it is made its weight.
-use Rattle.std.proofs.Common.{◌≡◌, ◌∙◌, sym, ap, ℕ, List, ◌+◌, ◌-◌, ◌<◌, ◌≤◌, length, get_or, drop, refl, arith, bit_xor, drop_of_length-le}
-use Rattle.std.proofs.lemmas.Grind.{common_steps}
-use Rattle.wal_gf.specs.Field.{times}
-use Rattle.wal_code.specs.Weights.{element_at}
-use Rattle.wal_code.specs.inside.Weights.{product_of_all}
-use Rattle.wal_code.specs.Codeword.{coefficient}
+use Rattle.wal_code.proofs.Common.{◌≡◌, ◌∙◌, sym, ap, ℕ, List, ◌+◌, ◌-◌, ◌<◌, ◌≤◌, length, get_or, drop, refl, arith, bit_xor, drop_of_length-le, common_steps, times, element_at, product_of_all, coefficient}
 use Rattle.wal_code.proofs.Differences.{product_of_all-drop}
 use Rattle.wal_code.proofs.Points.{words_of}
 use Rattle.wal_code.proofs.Words.{weight}

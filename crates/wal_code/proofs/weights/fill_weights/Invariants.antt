@@ -1,8 +1,5 @@
 -- Places from here on have their weights, and those before them the products over the points before.
-use Rattle.std.proofs.Common.{◌≡◌, ℕ, ◌<◌, ◌≤◌, take, drop, length, slice_index}
-use Rattle.wal_code.specs.Codeword.{coefficient}
-use Rattle.wal_code.specs.Weights.{element_at}
-use Rattle.wal_code.specs.inside.Weights.{product_of_all}
+use Rattle.wal_code.proofs.Common.{◌≡◌, ℕ, ◌<◌, ◌≤◌, take, drop, length, slice_index, coefficient, element_at, product_of_all}
 use Rattle.wal_code.proofs.weights.fill_weights.Given as goal
 
 abbrev pub invariant-loop-place : goal.invariant-loop-place

@@ -1,7 +1,5 @@
 -- Each point other than the given one adds its difference to the product.
-use Rattle.std.proofs.Common.{◌∙◌, sym, ap, ℕ, List, ◌<◌, get_or, lit<, arith}
-use Rattle.wal_gf.proofs.Products.{one-times, times-one}
-use Rattle.wal_code.specs.Weights.{product_of_others}
+use Rattle.wal_code.proofs.Common.{◌∙◌, sym, ap, ℕ, List, ◌<◌, get_or, lit<, arith, one-times, times-one, product_of_others}
 use Rattle.wal_code.proofs.Differences.{product_of_others-lt, other-same, other-other, taken, whole}
 use Rattle.wal_code.proofs.Points.{words_of}
 use Rattle.wal_code.proofs.Words.{product_of_others-own}

@@ -1,7 +1,5 @@
 -- The product so far times the product over the points that are left is the whole product.
-use Rattle.std.proofs.Common.{◌≡◌, ◌<◌, drop}
-use Rattle.wal_gf.specs.Field.{times}
-use Rattle.wal_code.specs.Weights.{product_of_others}
+use Rattle.wal_code.proofs.Common.{◌≡◌, ◌<◌, drop, times, product_of_others}
 use Rattle.wal_code.proofs.weights.product_of_others.Given as goal
 
 abbrev pub invariant-loop-q : goal.invariant-loop-q

@@ -1,7 +1,5 @@
 -- Each place adds its weight times its value.
-use Rattle.std.proofs.Common.{◌∙◌, sym, ap₂, ℕ, bit_xor, refl, slice_index}
-use Rattle.wal_gf.specs.Field.{times, xor_below}
-use Rattle.wal_code.specs.Weights.{element_at}
+use Rattle.wal_code.proofs.Common.{◌∙◌, sym, ap₂, ℕ, bit_xor, refl, slice_index, times, xor_below, element_at}
 use Rattle.wal_code.proofs.Totals.{xor_below-more}
 use Rattle.wal_code.proofs.weights.weighted_sum.Goals as goal
 

@@ -1,8 +1,5 @@
 -- Texts that differ collide, and else the metadata have the same numbers and one root over different pairs.
-use Rattle.std.proofs.Common.{◌≡◌, ◌≢◌, ◌∙◌, inl, inr, sym, rules}
-use Rattle.wal_shape.specs.MetaRef.{metadata_shown}
-use Rattle.wal_commit.specs.Identifier.{identifier_text}
-use Rattle.wal_tree.proofs.Collisions.{are_bytes}
+use Rattle.wal_commit.proofs.Common.{◌≡◌, ◌≢◌, ◌∙◌, inl, inr, sym, rules, metadata_shown, identifier_text, are_bytes}
 use Rattle.wal_commit.proofs.Clashes.{one_digest, pairs_apart, same_heads}
 use Rattle.wal_commit.proofs.clash.collide_metadata.Goals as goal
 

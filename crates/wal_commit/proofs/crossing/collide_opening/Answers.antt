@@ -1,14 +1,7 @@
 -- The opening leads to the root of the line that crosses the target, as the line's own symbol does.
-use Rattle.std.proofs.Common.{rules, ◌≡◌, ◌∙◌, length, ap, arith}
+use Rattle.wal_commit.proofs.Common.{rules, ◌≡◌, ◌∙◌, length, ap, arith, region, MeetOnPaths, path_over, Axis, opening_shown, crossing, shard_count, symbol_size, line_of, symbol_bytes, line_long}
 use Rattle.std.proofs.lemmas.Result.{IfOk-weaker}
-use Rattle.wal_kernel.specs.Region.{region}
-use Rattle.wal_tree.specs.Path.{MeetOnPaths, path_over}
-use Rattle.wal_shape.specs.declared.axis.Axis.{Axis}
 use Rattle.wal_shape.specs.declared.text.Collision.{Collision}
-use Rattle.wal_shape.specs.Opening.{opening_shown}
-use Rattle.wal_shape.specs.Shape.{crossing, shard_count, symbol_size}
-use Rattle.wal_matrix.specs.Matrix.{line_of, symbol_bytes}
-use Rattle.wal_matrix.proofs.Words.{line_long}
 use Rattle.wal_commit.proofs.Crossings.{line_count, line_size, opening_leads, opening_within, part_within, some, symbols_apart, symbols_meet, texts_meet, within}
 use Rattle.wal_commit.proofs.Holding.{whole_pieces}
 use Rattle.wal_commit.proofs.crossing.collide_opening.Goals as goal

@@ -1,6 +1,4 @@
-use Rattle.std.proofs.Common.{◌∙◌, ap}
-use Rattle.wal_shape.specs.MetaRef.{metadata_shown}
-use Rattle.wal_shape.specs.Shape.{shard_count, symbol_size}
+use Rattle.wal_commit.proofs.Common.{◌∙◌, ap, metadata_shown, shard_count, symbol_size}
 use Rattle.wal_commit.proofs.Holding.{symbols_fit, whole_pieces}
 use Rattle.wal_commit.proofs.held.sliver_holds.Goals as goal
 

@@ -1,6 +1,4 @@
-use Rattle.std.proofs.Common.{sym, ap, subst, ◌∙◌}
-use Rattle.wal_shape.specs.Metadata.{BlobMetadata}
-use Rattle.wal_commit.specs.Identifier.{Commits, identifier_of}
+use Rattle.wal_commit.proofs.Common.{sym, ap, subst, ◌∙◌, BlobMetadata, Commits, identifier_of}
 use Rattle.wal_commit.proofs.Columns.{one_metadata}
 use Rattle.wal_commit.proofs.identifier.blob_id.Goals as goal
 

@@ -1,7 +1,4 @@
-use Rattle.std.proofs.Common.{◌≡◌, ◌++◌, ◌∷◌, ◌∙◌, ap, ap₂, List, ℕ}
-use Rattle.wal_shape.specs.MetaRef.{metadata_shown}
-use Rattle.wal_tree.specs.Tree.{root_over}
-use Rattle.wal_commit.specs.Identifier.{identifier_of, identifier_tag}
+use Rattle.wal_commit.proofs.Common.{◌≡◌, ◌++◌, ◌∷◌, ◌∙◌, ap, ap₂, List, ℕ, metadata_shown, root_over, identifier_of, identifier_tag}
 use Rattle.wal_commit.proofs.identifier.identify.Goals as goal
 
 pub returns : goal.returns

@@ -1,6 +1,4 @@
-use Rattle.std.proofs.Common.{◌∙◌, sym}
-use Rattle.wal_shape.proofs.MetadataLaws.{metadata_text-injective}
-use Rattle.wal_commit.specs.Identifier.{metadata_over}
+use Rattle.wal_commit.proofs.Common.{◌∙◌, sym, metadata_text-injective, metadata_over}
 use Rattle.wal_commit.proofs.Commitments.{IsMetadata-over}
 use Rattle.wal_commit.proofs.identifier.metadata_of.Goals as goal
 

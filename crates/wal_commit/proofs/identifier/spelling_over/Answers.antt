@@ -1,8 +1,4 @@
-use Rattle.std.proofs.Common.{◌≡◌, ◌++◌, ◌∙◌, sym, ap, arith}
-use Rattle.std.specs.List.{flat_map, range_with_len}
-use Rattle.wal_shape.specs.Shape.{shard_count}
-use Rattle.wal_commit.specs.Identifier.{head_text}
-use Rattle.wal_commit.specs.inside.Identifier.{pair_over}
+use Rattle.wal_commit.proofs.Common.{◌≡◌, ◌++◌, ◌∙◌, sym, ap, arith, flat_map, range_with_len, shard_count, head_text, pair_over}
 use Rattle.wal_commit.proofs.Commitments.{pairs_step, metadata_text-over}
 use Rattle.wal_commit.proofs.identifier.spelling_over.Goals as goal
 

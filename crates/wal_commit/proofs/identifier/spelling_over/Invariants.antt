@@ -1,9 +1,4 @@
-use Rattle.std.proofs.Common.{◌≡◌, ◌*◌, ◌++◌, ℕ, List, vec_len}
-use Rattle.std.specs.List.{flat_map, range_with_len}
-use Rattle.wal_shape.specs.Shape.{shard_count, symbol_size}
-use Rattle.wal_commit.specs.Identifier.{head_text}
-use Rattle.wal_commit.specs.inside.Identifier.{pair_over}
-use Rattle.wal_commit.specs.inside.Leaves.{AreLeafDigests}
+use Rattle.wal_commit.proofs.Common.{◌≡◌, ◌*◌, ◌++◌, ℕ, List, vec_len, flat_map, range_with_len, shard_count, symbol_size, head_text, pair_over, AreLeafDigests}
 use Rattle.wal_commit.proofs.identifier.spelling_over.Given as goal
 
 -- the pairs so far are spelled after the head, and the room of a column's digests stays

@@ -1,6 +1,4 @@
-use Rattle.std.proofs.Common.{◌+◌, ◌∙◌, ap, length, take, drop, arith}
-use Rattle.wal_shape.specs.MetaRef.{metadata_shown}
-use Rattle.wal_shape.specs.Spelling.{format_text}
+use Rattle.wal_commit.proofs.Common.{◌+◌, ◌∙◌, ap, length, take, drop, arith, metadata_shown, format_text}
 use Rattle.wal_commit.proofs.Commitments.{head_is, pairs_are, metadata_size}
 use Rattle.wal_commit.proofs.identifier.split_spelling.Goals as goal
 

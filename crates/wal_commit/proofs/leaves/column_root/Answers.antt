@@ -1,9 +1,4 @@
-use Rattle.std.proofs.Common.{◌≡◌, ◌/◌, ◌∙◌, sym, ap, length, arith, List, ℕ}
-use Rattle.wal_shape.specs.Shape.{shard_count, symbol_size}
-use Rattle.wal_shape.proofs.ShapeLaws.{symbol_size-least}
-use Rattle.wal_tree.specs.Tree.{pieces, root_of}
-use Rattle.wal_matrix.specs.Matrix.{column_of}
-use Rattle.wal_matrix.proofs.Slivers.{column_is}
+use Rattle.wal_commit.proofs.Common.{◌≡◌, ◌/◌, ◌∙◌, sym, ap, length, arith, List, ℕ, shard_count, symbol_size, symbol_size-least, pieces, root_of, column_of, column_is}
 use Rattle.wal_commit.proofs.LeafTables.{column_root}
 use Rattle.wal_commit.proofs.leaves.column_root.Goals as goal
 

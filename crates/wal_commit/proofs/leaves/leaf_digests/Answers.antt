@@ -1,9 +1,4 @@
-use Rattle.std.proofs.Common.{◌≡◌, ◌*◌, ◌<◌, length, vec_len, ap, sym, subst, ◌∙◌, arith}
-use Rattle.std.proofs.lemmas.List.{take_at}
-use Rattle.wal_shape.specs.Shape.{symbol_size}
-use Rattle.wal_shape.proofs.ShapeLaws.{symbol_size-least}
-use Rattle.wal_matrix.specs.Matrix.{shards, symbol_bytes}
-use Rattle.wal_commit.specs.inside.Leaves.{AreLeafDigests}
+use Rattle.wal_commit.proofs.Common.{◌≡◌, ◌*◌, ◌<◌, length, vec_len, ap, sym, subst, ◌∙◌, arith, take_at, symbol_size, symbol_size-least, shards, symbol_bytes, AreLeafDigests}
 use Rattle.wal_commit.proofs.LeafTables.{digested_are, whole_pieces}
 use Rattle.wal_commit.proofs.leaves.leaf_digests.Goals as goal
 

@@ -1,8 +1,4 @@
-use Rattle.std.proofs.Common.{◌≡◌, ◌*◌, ◌/◌, ◌∙◌, sym, ap, length, refl, arith, List, ℕ}
-use Rattle.wal_shape.specs.Shape.{shard_count, symbol_size}
-use Rattle.wal_shape.proofs.ShapeLaws.{symbol_size-least}
-use Rattle.wal_tree.specs.Tree.{pieces, root_of}
-use Rattle.wal_matrix.specs.Matrix.{row_of}
+use Rattle.wal_commit.proofs.Common.{◌≡◌, ◌*◌, ◌/◌, ◌∙◌, sym, ap, length, refl, arith, List, ℕ, shard_count, symbol_size, symbol_size-least, pieces, root_of, row_of}
 use Rattle.wal_commit.proofs.LeafTables.{row_part, row_root, row_within}
 use Rattle.wal_commit.proofs.leaves.row_root.Goals as goal
 

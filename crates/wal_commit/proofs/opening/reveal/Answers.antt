@@ -1,7 +1,4 @@
-use Rattle.std.proofs.Common.{rules, ◌∙◌, arith, ap}
-use Rattle.wal_shape.specs.MetaRef.{metadata_shown}
-use Rattle.wal_shape.specs.Shape.{shard_count, symbol_size}
-use Rattle.wal_commit.specs.Held.{IsOpeningOf}
+use Rattle.wal_commit.proofs.Common.{rules, ◌∙◌, arith, ap, metadata_shown, shard_count, symbol_size, IsOpeningOf}
 use Rattle.wal_commit.proofs.Holding.{symbols_fit, symbol_within, whole_pieces}
 use Rattle.wal_commit.proofs.HonestOpenings.{honest_opening}
 use Rattle.wal_commit.proofs.opening.reveal.Goals as goal

@@ -1,5 +1,4 @@
-use Rattle.std.proofs.Common.{◌≡◌, ◌*◌, ◌/◌, ℕ, length, refl, sym, ap, ◌∙◌}
-use Rattle.std.proofs.Math.Nat.{mul-div_left}
+use Rattle.wal_commit.proofs.Common.{◌≡◌, ◌*◌, ◌/◌, ℕ, length, refl, sym, ap, ◌∙◌, mul-div_left}
 use Rattle.wal_commit.proofs.Columns.{block_leaves}
 use Rattle.wal_commit.proofs.LeafTables.{whole_pieces}
 use Rattle.wal_commit.proofs.roots.add_block.Goals as goal

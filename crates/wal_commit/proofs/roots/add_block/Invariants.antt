@@ -1,5 +1,4 @@
-use Rattle.std.proofs.Common.{◌≡◌, ◌+◌, ◌*◌, ◌≤◌, ℕ, List, length}
-use Rattle.wal_commit.specs.inside.Seen.{AreSeen, HasColumns}
+use Rattle.wal_commit.proofs.Common.{◌≡◌, ◌+◌, ◌*◌, ◌≤◌, ℕ, List, length, AreSeen, HasColumns}
 use Rattle.wal_commit.proofs.roots.add_block.Given as goal
 
 abbrev pub invariant-loop-place : goal.invariant-loop-place

@@ -1,7 +1,4 @@
-use Rattle.std.proofs.Common.{◌≡◌, ◌/◌, ◌<◌, ℕ, List, [], ◌∷◌, ◌++◌, length, vec_len, ap, subst, ◌∙◌}
-use Rattle.std.proofs.lemmas.List.{take_at}
-use Rattle.wal_tree.specs.Stacks.{StandsFor, entry_of, row_stack}
-use Rattle.wal_tree.specs.Tree.{pieces, root_of}
+use Rattle.wal_commit.proofs.Common.{◌≡◌, ◌/◌, ◌<◌, ℕ, List, [], ◌∷◌, ◌++◌, length, vec_len, ap, subst, ◌∙◌, take_at, StandsFor, entry_of, row_stack, pieces, root_of}
 use Rattle.wal_commit.proofs.Columns.{seen_more}
 use Rattle.wal_commit.proofs.roots.add_column.Goals as goal
 

@@ -1,5 +1,4 @@
-use Rattle.std.proofs.Common.{◌≡◌, ◌+◌, ◌-◌, ◌*◌, ℕ, List, ◌++◌, take, drop, ap, append_assoc, arith, ◌∙◌}
-use Rattle.wal_shape.proofs.ShapeLaws.{symbol_size-least}
+use Rattle.wal_commit.proofs.Common.{◌≡◌, ◌+◌, ◌-◌, ◌*◌, ℕ, List, ◌++◌, take, drop, ap, append_assoc, arith, ◌∙◌, symbol_size-least}
 use Rattle.wal_commit.proofs.Columns.{pair_is}
 use Rattle.wal_commit.proofs.roots.append_roots.Goals as goal
 

@@ -1,9 +1,5 @@
-use Rattle.std.proofs.Common.{ℕ, ap, subst, sym, ◌∙◌}
-use Rattle.wal_shape.proofs.MetadataLaws.{metadata_text-injective}
-use Rattle.wal_shape.specs.Shape.{IsShape}
-use Rattle.wal_matrix.proofs.Existence.{extended_exists}
+use Rattle.wal_commit.proofs.Common.{ℕ, ap, subst, sym, ◌∙◌, metadata_text-injective, IsShape, extended_exists, metadata_over}
 use Rattle.wal_matrix.proofs.FrontLaws.{are_bytes}
-use Rattle.wal_commit.specs.Identifier.{metadata_over}
 use Rattle.wal_commit.proofs.Commitments.{IsMetadata-over}
 use Rattle.wal_commit.proofs.roots.blob_metadata.Goals as goal
 

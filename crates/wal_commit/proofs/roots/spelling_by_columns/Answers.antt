@@ -1,11 +1,5 @@
-use Rattle.std.proofs.Common.{◌≡◌, ◌*◌, ◌++◌, ℕ, length, ap, subst, sym, arith, ◌∙◌}
-use Rattle.std.specs.List.{flat_map, range_with_len}
-use Rattle.wal_shape.specs.Shape.{shard_count, symbol_size}
-use Rattle.wal_matrix.proofs.Existence.{extended_exists}
+use Rattle.wal_commit.proofs.Common.{◌≡◌, ◌*◌, ◌++◌, ℕ, length, ap, subst, sym, arith, ◌∙◌, flat_map, range_with_len, shard_count, symbol_size, extended_exists, head_text, pair_over, AreSeen}
 use Rattle.wal_matrix.proofs.FrontLaws.{are_bytes}
-use Rattle.wal_commit.specs.Identifier.{head_text}
-use Rattle.wal_commit.specs.inside.Identifier.{pair_over}
-use Rattle.wal_commit.specs.inside.Seen.{AreSeen}
 use Rattle.wal_commit.proofs.Columns.{roots_long, seen_none}
 use Rattle.wal_commit.proofs.Commitments.{pairs_step, metadata_text-over}
 use Rattle.wal_commit.proofs.roots.spelling_by_columns.Goals as goal

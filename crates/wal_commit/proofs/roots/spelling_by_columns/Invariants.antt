@@ -1,8 +1,4 @@
-use Rattle.std.proofs.Common.{◌≡◌, ◌++◌, ℕ, List}
-use Rattle.std.specs.List.{flat_map, range_with_len}
-use Rattle.wal_matrix.specs.Matrix.{IsExtended}
-use Rattle.wal_commit.specs.Identifier.{head_text}
-use Rattle.wal_commit.specs.inside.Identifier.{pair_over}
+use Rattle.wal_commit.proofs.Common.{◌≡◌, ◌++◌, ℕ, List, flat_map, range_with_len, IsExtended, head_text, pair_over}
 use Rattle.wal_commit.proofs.roots.spelling_by_columns.Given as goal
 
 abbrev pub invariant-loop-shard : goal.invariant-loop-shard

@@ -1,7 +1,4 @@
-use Rattle.std.proofs.Common.{rules, ◌≡◌, ℕ, ap, subst, sym, arith, ◌∙◌}
-use Rattle.wal_shape.specs.Shape.{shard_count, symbol_size}
-use Rattle.wal_matrix.specs.Front.{FrontState, IsFrontOf}
-use Rattle.wal_commit.specs.inside.Seen.{AreSeen}
+use Rattle.wal_commit.proofs.Common.{rules, ◌≡◌, ℕ, ap, subst, sym, arith, ◌∙◌, shard_count, symbol_size, FrontState, IsFrontOf, AreSeen}
 use Rattle.wal_commit.proofs.roots.take_blocks.Goals as goal
 
 pub loop-first-preserved : goal.loop-first-preserved

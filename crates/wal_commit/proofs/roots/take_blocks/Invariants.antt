@@ -1,8 +1,4 @@
-use Rattle.std.proofs.Common.{◌≡◌, ◌*◌, ◌-◌, ◌≤◌, ℕ, List, length}
-use Rattle.wal_shape.specs.Shape.{shard_count, symbol_size}
-use Rattle.wal_matrix.specs.Front.{IsFrontOf}
-use Rattle.wal_matrix.specs.Matrix.{IsExtended}
-use Rattle.wal_commit.specs.inside.Seen.{AreSeen}
+use Rattle.wal_commit.proofs.Common.{◌≡◌, ◌*◌, ◌-◌, ◌≤◌, ℕ, List, length, shard_count, symbol_size, IsFrontOf, IsExtended, AreSeen}
 use Rattle.wal_commit.proofs.roots.take_blocks.Given as goal
 
 abbrev pub invariant-loop-first : goal.invariant-loop-first

@@ -1,5 +1,4 @@
-use Rattle.std.proofs.Common.{◌*◌, sym, ap, arith, ◌∙◌}
-use Rattle.wal_shape.specs.Shape.{BlobShape, shard_count, symbol_size}
+use Rattle.wal_commit.proofs.Common.{◌*◌, sym, ap, arith, ◌∙◌, BlobShape, shard_count, symbol_size}
 use Rattle.wal_commit.proofs.roots.take_columns.Goals as goal
 
 pub columns-requires-clause-room : goal.columns-requires-clause-room

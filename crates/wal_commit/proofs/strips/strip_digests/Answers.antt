@@ -1,9 +1,4 @@
-use Rattle.std.proofs.Common.{◌≡◌, ◌*◌, ℕ, length, vec_len, sym, ap, subst, ◌∙◌}
-use Rattle.std.proofs.lemmas.List.{take_at}
-use Rattle.wal_shape.specs.Shape.{shard_count, symbol_size}
-use Rattle.wal_lanes.specs.Strips.{AreDigestsOf}
-use Rattle.wal_commit.specs.inside.Leaves.{AreLeafDigests}
-use Rattle.wal_commit.specs.inside.Strips.{BlobState, IsSymbolAt, symbols_of}
+use Rattle.wal_commit.proofs.Common.{◌≡◌, ◌*◌, ℕ, length, vec_len, sym, ap, subst, ◌∙◌, take_at, shard_count, symbol_size, AreDigestsOf, AreLeafDigests, BlobState, IsSymbolAt, symbols_of}
 use Rattle.wal_commit.proofs.Symbols.{symbols_digested}
 use Rattle.wal_commit.proofs.strips.strip_digests.Goals as goal
 

@@ -1,6 +1,4 @@
-use Rattle.std.proofs.Common.{◌≡◌, ◌-◌, ◌*◌, ◌^◌, ◌<◌, List, ◌++◌, length, ℕ, rules, arith, ap, ◌∙◌}
-use Rattle.wal_kernel.specs.Region.{word_at}
-use Rattle.wal_kernel.proofs.Words.{word_at-zeros}
+use Rattle.wal_erasure.proofs.Common.{◌≡◌, ◌-◌, ◌*◌, ◌^◌, ◌<◌, List, ◌++◌, length, ℕ, rules, arith, ap, ◌∙◌, word_at, word_at-zeros}
 use Rattle.wal_fft.proofs.Blocks.{whole_long, half_long}
 use Rattle.wal_erasure.proofs.Derived.{derived_none, derived_level}
 use Rattle.wal_erasure.proofs.derivative.+derive.Goals as goal

@@ -1,4 +1,4 @@
-use Rattle.wal_erasure.specs.inside.Locator.{AreFactors}
+use Rattle.wal_erasure.proofs.Common.{AreFactors}
 use Rattle.wal_erasure.proofs.locator.fill_factors.Given as goal
 
 abbrev pub invariant-loop-point : goal.invariant-loop-point

@@ -1,5 +1,4 @@
-use Rattle.std.proofs.Common.{◌≡◌, drop}
-use Rattle.wal_erasure.specs.inside.Locator.{is_known}
+use Rattle.wal_erasure.proofs.Common.{◌≡◌, drop, is_known}
 use Rattle.wal_erasure.proofs.locator.is_among.Given as goal
 
 abbrev pub invariant-loop-q : goal.invariant-loop-q

@@ -1,4 +1,4 @@
-use Rattle.wal_erasure.specs.inside.Locator.{AreMarks}
+use Rattle.wal_erasure.proofs.Common.{AreMarks}
 use Rattle.wal_erasure.proofs.locator.mark.Given as goal
 
 abbrev pub invariant-loop-point : goal.invariant-loop-point

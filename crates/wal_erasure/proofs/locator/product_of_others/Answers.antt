@@ -1,5 +1,4 @@
-use Rattle.std.proofs.Common.{◌∷◌, ◌∙◌, sym, ap, arith}
-use Rattle.wal_gf.specs.declared.Gf.{Gf}
+use Rattle.wal_erasure.proofs.Common.{◌∷◌, ◌∙◌, sym, ap, arith, Gf}
 use Rattle.wal_erasure.proofs.LocatorLaws.{locator-start}
 use Rattle.wal_erasure.proofs.Scans.{product_taken, product_own, product_known, product_nonzero}
 use Rattle.wal_erasure.proofs.locator.product_of_others.Goals as goal

@@ -1,5 +1,4 @@
-use Rattle.std.proofs.Common.{◌≡◌, ◌∷◌}
-use Rattle.wal_erasure.specs.inside.Locator.{locator}
+use Rattle.wal_erasure.proofs.Common.{◌≡◌, ◌∷◌, locator}
 use Rattle.wal_erasure.proofs.locator.product_of_others.Given as goal
 
 abbrev pub invariant-loop-place : goal.invariant-loop-place

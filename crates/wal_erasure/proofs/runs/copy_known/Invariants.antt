@@ -1,4 +1,4 @@
-use Rattle.wal_erasure.specs.inside.Run.{AreCopied}
+use Rattle.wal_erasure.proofs.Common.{AreCopied}
 use Rattle.wal_erasure.proofs.runs.copy_known.Given as goal
 
 abbrev pub invariant-loop-place : goal.invariant-loop-place

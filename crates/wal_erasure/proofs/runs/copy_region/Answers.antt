@@ -1,5 +1,4 @@
-use Rattle.std.proofs.Common.{◌+◌, ◌-◌, ◌*◌, rules, arith}
-use Rattle.wal_fft.proofs.Lanes.{copied_word}
+use Rattle.wal_erasure.proofs.Common.{◌+◌, ◌-◌, ◌*◌, rules, arith, copied_word}
 use Rattle.wal_erasure.proofs.RunLaws.{copy_one}
 use Rattle.wal_erasure.proofs.runs.copy_region.Goals as goal
 

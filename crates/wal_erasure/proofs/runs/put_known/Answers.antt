@@ -1,8 +1,4 @@
-use Rattle.std.proofs.Common.{◌≡◌, ◌+◌, ◌-◌, ◌*◌, ◌<◌, slice_index, length, take, drop, refl, ap, ◌∙◌, rules, arith}
-use Rattle.wal_gf.specs.Field.{times}
-use Rattle.wal_code.specs.Weights.{element_at}
-use Rattle.wal_kernel.specs.Region.{word_at}
-use Rattle.wal_fft.proofs.Lanes.{copied_word}
+use Rattle.wal_erasure.proofs.Common.{◌≡◌, ◌+◌, ◌-◌, ◌*◌, ◌<◌, slice_index, length, take, drop, refl, ap, ◌∙◌, rules, arith, times, element_at, word_at, copied_word}
 use Rattle.wal_erasure.proofs.RunLaws.{put_more, regions_fit}
 use Rattle.wal_erasure.proofs.runs.put_known.Goals as goal
 

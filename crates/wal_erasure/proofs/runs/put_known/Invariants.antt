@@ -1,4 +1,4 @@
-use Rattle.wal_erasure.specs.inside.Run.{ArePut}
+use Rattle.wal_erasure.proofs.Common.{ArePut}
 use Rattle.wal_erasure.proofs.runs.put_known.Given as goal
 
 abbrev pub invariant-loop-place : goal.invariant-loop-place

@@ -1,7 +1,4 @@
-use Rattle.std.proofs.Common.{◌≡◌, ◌+◌, ◌-◌, ◌*◌, length, take, drop, refl, ap, ◌∙◌, rules, arith}
-use Rattle.wal_gf.specs.Field.{times}
-use Rattle.wal_code.specs.Weights.{element_at}
-use Rattle.wal_fft.proofs.Lanes.{copied_word}
+use Rattle.wal_erasure.proofs.Common.{◌≡◌, ◌+◌, ◌-◌, ◌*◌, length, take, drop, refl, ap, ◌∙◌, rules, arith, times, element_at, copied_word}
 use Rattle.wal_erasure.proofs.RunLaws.{taken_more, regions_fit}
 use Rattle.wal_erasure.proofs.runs.take_wanted.Goals as goal
 

@@ -1,4 +1,4 @@
-use Rattle.wal_erasure.specs.inside.Run.{AreTaken}
+use Rattle.wal_erasure.proofs.Common.{AreTaken}
 use Rattle.wal_erasure.proofs.runs.take_wanted.Given as goal
 
 abbrev pub invariant-loop-place : goal.invariant-loop-place

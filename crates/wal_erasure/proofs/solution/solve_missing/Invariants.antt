@@ -1,5 +1,4 @@
-use Rattle.std.proofs.Common.{◌≤◌, ◌-◌}
-use Rattle.wal_erasure.specs.inside.Run.{AreSolved}
+use Rattle.wal_erasure.proofs.Common.{◌≤◌, ◌-◌, AreSolved}
 use Rattle.wal_erasure.proofs.solution.solve_missing.Given as goal
 
 abbrev pub invariant-loop-start : goal.invariant-loop-start

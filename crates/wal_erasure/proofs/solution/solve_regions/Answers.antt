@@ -1,4 +1,4 @@
-use Rattle.std.proofs.Common.{◌/◌, ◌<◌, slice_index, rules, arith}
+use Rattle.wal_erasure.proofs.Common.{◌/◌, ◌<◌, slice_index, rules, arith}
 use Rattle.wal_erasure.proofs.SolvedLaws.{all_solved}
 use Rattle.wal_erasure.proofs.solution.solve_regions.Goals as goal
 

@@ -1,4 +1,4 @@
-use Rattle.std.proofs.Common.{◌^◌, ◌≤◌, rules, arith, pow_mono}
+use Rattle.wal_erasure.proofs.Common.{◌^◌, ◌≤◌, rules, arith, pow_mono}
 use Rattle.wal_erasure.proofs.SolvedLaws.{strip_solved}
 use Rattle.wal_erasure.proofs.solution.solve_strip.Goals as goal
 

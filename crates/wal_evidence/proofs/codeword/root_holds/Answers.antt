@@ -1,6 +1,4 @@
-use Rattle.std.proofs.Common.{◌*◌, ap, sym, ◌∙◌}
-use Rattle.wal_shape.specs.Shape.{shard_count, symbol_size}
-use Rattle.wal_shape.specs.MetaRef.{metadata_shown}
+use Rattle.wal_evidence.proofs.Common.{◌*◌, ap, sym, ◌∙◌, shard_count, symbol_size, metadata_shown}
 use Rattle.wal_commit.proofs.Holding.{whole_pieces}
 use Rattle.wal_evidence.proofs.codeword.root_holds.Goals as goal
 

@@ -1,9 +1,4 @@
-use Rattle.std.proofs.Common.{◌<◌, ◌∙◌, Contains, true, get_or, refl, subst, sym, take, arith}
-use Rattle.std.specs.Prelude.{slice_set}
-use Rattle.std.proofs.lemmas.Bool.{false≢true}
-use Rattle.std.proofs.lemmas.List.{take_more}
-use Rattle.wal_code.specs.Codeword.{Distinct}
-use Rattle.wal_evidence.specs.inside.Marks.{Marks}
+use Rattle.wal_evidence.proofs.Common.{◌<◌, ◌∙◌, Contains, true, get_or, refl, subst, sym, take, arith, slice_set, false≢true, take_more, Distinct, Marks}
 use Rattle.wal_evidence.proofs.Marked.{distinct_more, marks_more, marks_none, repeated}
 use Rattle.wal_evidence.proofs.crosses.are_distinct.Goals as goal
 

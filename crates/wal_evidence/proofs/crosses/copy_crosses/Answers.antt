@@ -1,6 +1,4 @@
-use Rattle.std.proofs.Common.{ℕ, List, ◌<◌, All, subst, sym, arith}
-use Rattle.wal_shape.specs.Opening.{opening_shown}
-use Rattle.wal_shape.specs.ProofRef.{proof_shown}
+use Rattle.wal_evidence.proofs.Common.{ℕ, List, ◌<◌, All, subst, sym, arith, opening_shown, proof_shown}
 use Rattle.wal_evidence.proofs.Openings.{cross_written, crosses_below, crosses_written}
 use Rattle.wal_evidence.proofs.crosses.copy_crosses.Goals as goal
 

@@ -1,7 +1,5 @@
 -- The crosses so far are copied.
-use Rattle.std.proofs.Common.{◌≡◌, take}
-use Rattle.wal_shape.specs.ProofRef.{proof_shown}
-use Rattle.wal_evidence.specs.BadProof.{crosses_of}
+use Rattle.wal_evidence.proofs.Common.{◌≡◌, take, proof_shown, crosses_of}
 use Rattle.wal_evidence.proofs.crosses.copy_crosses.Given as goal
 
 abbrev pub invariant-loop-place : goal.invariant-loop-place

@@ -1,8 +1,4 @@
-use Rattle.wal_shape.specs.MetaRef.{metadata_shown}
-use Rattle.std.proofs.Common.{◌≡◌, ◌∙◌, take, ap}
-use Rattle.std.proofs.lemmas.Result.{IfOk-weaker}
-use Rattle.wal_evidence.specs.declared.evidence.Verdict.{Verdict}
-use Rattle.wal_evidence.specs.Evidence.{IsVerdictOn, Judges}
+use Rattle.wal_evidence.proofs.Common.{metadata_shown, ◌≡◌, ◌∙◌, take, ap, IfOk-weaker, Verdict, IsVerdictOn, Judges}
 use Rattle.wal_evidence.proofs.Verdicts.{blob_long, only_verdict}
 use Rattle.wal_evidence.proofs.judging.judge.Goals as goal
 

@@ -1,6 +1,4 @@
-use Rattle.std.proofs.Common.{rules}
-use Rattle.wal_shape.specs.MetaRef.{metadata_shown}
-use Rattle.wal_commit.specs.Identifier.{Commits}
+use Rattle.wal_evidence.proofs.Common.{rules, metadata_shown, Commits}
 use Rattle.wal_evidence.proofs.Verdicts.{other_identifier}
 use Rattle.wal_evidence.proofs.judging.judge_blob.Goals as goal
 

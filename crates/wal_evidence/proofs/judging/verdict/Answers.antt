@@ -1,8 +1,5 @@
-use Rattle.std.proofs.Common.{rules, ◌≡◌, ◌⊎◌, ℕ, List}
-use Rattle.std.proofs.lemmas.Result.{IfOk-weaker}
-use Rattle.wal_evidence.specs.declared.evidence.Verdict.{Verdict}
+use Rattle.wal_evidence.proofs.Common.{rules, ◌≡◌, ◌⊎◌, ℕ, List, IfOk-weaker, Verdict, CommitsMatrix, HasFalseSliver, IsJudgedBy}
 use Rattle.wal_evidence.specs.declared.evidence.Verdict.TheVariants as told
-use Rattle.wal_evidence.specs.Evidence.{CommitsMatrix, HasFalseSliver, IsJudgedBy}
 use Rattle.wal_evidence.proofs.FalseSlivers.{true_or_false}
 use Rattle.wal_evidence.proofs.judging.verdict.Goals as goal
 

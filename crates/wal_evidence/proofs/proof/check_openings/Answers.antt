@@ -1,12 +1,4 @@
-use Rattle.std.proofs.Common.{rules, ◌≡◌, ◌*◌, ◌<◌, ◌∙◌, ℕ, List, All, length, ap, subst, sym}
-use Rattle.wal_code.specs.Codeword.{Distinct}
-use Rattle.wal_shape.specs.Shape.{BlobShape, shard_count, sliver_symbols, symbol_size}
-use Rattle.wal_shape.specs.Metadata.{BlobMetadata}
-use Rattle.wal_shape.specs.EncodingProof.{EncodingProof}
-use Rattle.wal_shape.specs.MetaRef.{metadata_shown}
-use Rattle.wal_shape.specs.ProofRef.{proof_shown}
-use Rattle.wal_commit.specs.Held.{HoldsOpening}
-use Rattle.wal_evidence.specs.BadProof.{AreEnough, crosses_of, symbols_of}
+use Rattle.wal_evidence.proofs.Common.{rules, ◌≡◌, ◌*◌, ◌<◌, ◌∙◌, ℕ, List, All, length, ap, subst, sym, Distinct, BlobShape, shard_count, sliver_symbols, symbol_size, BlobMetadata, EncodingProof, metadata_shown, proof_shown, HoldsOpening, AreEnough, crosses_of, symbols_of}
 use Rattle.wal_evidence.proofs.FalseOpenings.{target_within}
 use Rattle.wal_evidence.proofs.OneLine.{crosses_within, line_shown, symbol_sizes, symbols_long}
 use Rattle.wal_evidence.proofs.proof.check_openings.Goals as goal

@@ -1,12 +1,5 @@
-use Rattle.std.proofs.Common.{rules, ◌≡◌, ◌*◌, ◌≤◌, ◌∙◌, length, ap, sym, arith}
-use Rattle.std.proofs.lemmas.List.{take_all}
-use Rattle.wal_shape.specs.declared.opening.Opening.{Opening}
-use Rattle.wal_shape.specs.Opening.{opening_shown}
-use Rattle.wal_shape.specs.Shape.{symbol_size}
-use Rattle.wal_shape.specs.MetaRef.{metadata_shown}
-use Rattle.wal_shape.specs.ProofRef.{proof_shown}
+use Rattle.wal_evidence.proofs.Common.{rules, ◌≡◌, ◌*◌, ◌≤◌, ◌∙◌, length, ap, sym, arith, take_all, Opening, opening_shown, symbol_size, metadata_shown, proof_shown, HoldsOpening}
 use Rattle.wal_matrix.proofs.Places.{run_fits}
-use Rattle.wal_commit.specs.Held.{HoldsOpening}
 use Rattle.wal_evidence.proofs.Openings.{held_more, symbol_written}
 use Rattle.wal_evidence.proofs.proof.copy_symbols.Goals as goal
 

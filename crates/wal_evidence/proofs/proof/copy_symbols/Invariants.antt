@@ -1,9 +1,5 @@
 -- The openings so far hold, and their symbols are copied.
-use Rattle.std.proofs.Common.{◌≡◌, ◌*◌, take, All}
-use Rattle.wal_shape.specs.MetaRef.{metadata_shown}
-use Rattle.wal_shape.specs.ProofRef.{proof_shown}
-use Rattle.wal_commit.specs.Held.{HoldsOpening}
-use Rattle.wal_evidence.specs.BadProof.{symbols_of}
+use Rattle.wal_evidence.proofs.Common.{◌≡◌, ◌*◌, take, All, metadata_shown, proof_shown, HoldsOpening, symbols_of}
 use Rattle.wal_evidence.proofs.proof.copy_symbols.Given as goal
 
 abbrev pub invariant-loop-place : goal.invariant-loop-place

@@ -1,5 +1,4 @@
-use Rattle.std.proofs.Common.{sym}
-use Rattle.wal_evidence.specs.declared.proof.ProofVerdict.TheVariants.{Inconsistent}
+use Rattle.wal_evidence.proofs.Common.{sym, Inconsistent}
 use Rattle.wal_evidence.proofs.proof.is_bad_proof.Goals as goal
 
 pub returns-clause-bad : goal.returns-clause-bad

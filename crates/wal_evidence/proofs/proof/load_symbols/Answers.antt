@@ -1,7 +1,4 @@
-use Rattle.std.proofs.Common.{◌∙◌, ap, arith}
-use Rattle.wal_shape.specs.Shape.{symbol_size}
-use Rattle.wal_shape.specs.MetaRef.{metadata_shown}
-use Rattle.wal_shape.specs.ProofRef.{proof_shown}
+use Rattle.wal_evidence.proofs.Common.{◌∙◌, ap, arith, symbol_size, metadata_shown, proof_shown}
 use Rattle.wal_evidence.proofs.Openings.{symbols_load}
 use Rattle.wal_evidence.proofs.proof.load_symbols.Goals as goal
 

@@ -1,7 +1,4 @@
-use Rattle.std.proofs.Common.{rules}
-use Rattle.wal_shape.specs.MetaRef.{metadata_shown}
-use Rattle.wal_shape.specs.ProofRef.{proof_shown}
-use Rattle.wal_evidence.specs.declared.proof.ProofVerdict.TheVariants.{Repeated}
+use Rattle.wal_evidence.proofs.Common.{rules, metadata_shown, proof_shown, Repeated}
 use Rattle.wal_evidence.proofs.OneCheck.{one_check}
 use Rattle.wal_evidence.proofs.proof.proof_check.Goals as goal
 

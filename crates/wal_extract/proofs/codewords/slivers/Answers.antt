@@ -1,9 +1,6 @@
 -- The size of a symbol is the one that the slivers have, and their codewords those that have one root.
-use Rattle.std.proofs.Common.{◌≡◌, ◌*◌, ◌∙◌, length, arith, rules}
-use Rattle.std.proofs.lemmas.Result.{IfOk-weaker}
-use Rattle.wal_shape.specs.Shape.{shard_count}
+use Rattle.wal_extract.proofs.Common.{◌≡◌, ◌*◌, ◌∙◌, length, arith, rules, IfOk-weaker, shard_count, some, within}
 use Rattle.wal_extract.proofs.OneRoot.{one_root, words_apart}
-use Rattle.wal_commit.proofs.Crossings.{some, within}
 use Rattle.wal_extract.proofs.Sizes.{size_short, whole}
 use Rattle.wal_extract.proofs.codewords.slivers.Goals as goal
 

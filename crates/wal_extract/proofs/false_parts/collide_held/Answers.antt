@@ -1,7 +1,5 @@
 -- The sliver at the place that was found has one root with the matrix's own.
-use Rattle.std.proofs.Common.{length}
-use Rattle.std.proofs.lemmas.Result.{IfOk-weaker}
-use Rattle.wal_commit.proofs.Crossings.{part_within}
+use Rattle.wal_extract.proofs.Common.{length, IfOk-weaker, part_within}
 use Rattle.wal_extract.proofs.false_parts.collide_held.Goals as goal
 
 pub part_at-given-requires : goal.part_at-given-requires

@@ -1,6 +1,5 @@
 -- The opening at the place that was found holds, and has not the symbol of the matrix.
-use Rattle.std.proofs.lemmas.Result.{IfOk-weaker}
-use Rattle.wal_shape.specs.Opening.{opening_shown}
+use Rattle.wal_extract.proofs.Common.{IfOk-weaker, opening_shown}
 use Rattle.wal_extract.proofs.false_parts.collide_openings.Goals as goal
 
 pub collide_opening-requires-clause-long : goal.collide_opening-requires-clause-long

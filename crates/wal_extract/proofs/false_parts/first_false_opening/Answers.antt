@@ -1,8 +1,5 @@
 -- Each opening's symbol is compared with the matrix's.
-use Rattle.std.proofs.Common.{◌≡◌, ◌∙◌, rules, arith, below_more}
-use Rattle.std.proofs.lemmas.Option.{slice_get_within}
-use Rattle.wal_shape.specs.Opening.{opening_shown}
-use Rattle.wal_shape.specs.ProofRef.{proof_shown}
+use Rattle.wal_extract.proofs.Common.{◌≡◌, ◌∙◌, rules, arith, below_more, slice_get_within, opening_shown, proof_shown}
 use Rattle.wal_extract.proofs.false_parts.first_false_opening.Goals as goal
 
 pub symbol_of-requires-clause-index : goal.symbol_of-requires-clause-index

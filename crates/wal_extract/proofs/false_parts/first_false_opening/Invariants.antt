@@ -1,9 +1,5 @@
 -- The openings so far have the symbols of the matrix.
-use Rattle.std.proofs.Common.{◌≡◌, ◌<◌, ℕ, Some, slice_get}
-use Rattle.wal_shape.specs.declared.opening.Opening.{Opening}
-use Rattle.wal_shape.specs.ProofRef.{proof_shown}
-use Rattle.wal_matrix.specs.Matrix.{symbol_bytes}
-use Rattle.wal_extract.specs.inside.FalseParts.{own_symbol}
+use Rattle.wal_extract.proofs.Common.{◌≡◌, ◌<◌, ℕ, Some, slice_get, Opening, proof_shown, symbol_bytes, own_symbol}
 use Rattle.wal_extract.proofs.false_parts.first_false_opening.Given as goal
 
 abbrev pub invariant-loop-place : goal.invariant-loop-place

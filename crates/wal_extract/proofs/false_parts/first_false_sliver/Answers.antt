@@ -1,6 +1,5 @@
 -- Each sliver is compared with the matrix's own.
-use Rattle.std.proofs.Common.{◌≡◌, ◌∙◌, length, sym, rules, below_more}
-use Rattle.wal_commit.proofs.Crossings.{part_within}
+use Rattle.wal_extract.proofs.Common.{◌≡◌, ◌∙◌, length, sym, rules, below_more, part_within}
 use Rattle.wal_extract.proofs.false_parts.first_false_sliver.Goals as goal
 
 pub part_at-requires : goal.part_at-requires

@@ -1,8 +1,5 @@
 -- The slivers so far are the matrix's own.
-use Rattle.std.proofs.Common.{◌≡◌, ◌*◌, ◌<◌, ℕ, slice_index}
-use Rattle.wal_kernel.specs.Region.{region}
-use Rattle.wal_shape.specs.Shape.{column_count}
-use Rattle.wal_matrix.specs.Matrix.{primary_of, symbol_bytes}
+use Rattle.wal_extract.proofs.Common.{◌≡◌, ◌*◌, ◌<◌, ℕ, slice_index, region, column_count, primary_of, symbol_bytes}
 use Rattle.wal_extract.proofs.false_parts.first_false_sliver.Given as goal
 
 abbrev pub invariant-loop-place : goal.invariant-loop-place

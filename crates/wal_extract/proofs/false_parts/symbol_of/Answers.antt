@@ -1,9 +1,6 @@
 -- A symbol of a column is that of the row that crosses it.
-use Rattle.wal_shape.specs.declared.axis.Axis.TheVariants.{Primary}
-use Rattle.wal_shape.specs.Shape.{shard_count}
-use Rattle.wal_matrix.specs.Matrix.{symbol_bytes}
+use Rattle.wal_extract.proofs.Common.{Primary, shard_count, symbol_bytes, part_within}
 use Rattle.wal_matrix.proofs.Words.{lines_cross}
-use Rattle.wal_commit.proofs.Crossings.{part_within}
 use Rattle.wal_extract.proofs.false_parts.symbol_of.Goals as goal
 
 pub part_at-requires : goal.part_at-requires

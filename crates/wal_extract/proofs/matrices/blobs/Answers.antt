@@ -1,6 +1,5 @@
 -- Both metadata have the identifier, and matrices of one metadata are of different blobs.
-use Rattle.std.proofs.Common.{◌∙◌, sym, inl, inr, rules}
-use Rattle.std.proofs.lemmas.Result.{IfOk-weaker}
+use Rattle.wal_extract.proofs.Common.{◌∙◌, sym, inl, inr, rules, IfOk-weaker}
 use Rattle.wal_extract.proofs.OneIdentifier.{matrices_apart, same_metadata, same_shape}
 use Rattle.wal_extract.proofs.matrices.blobs.Goals as goal
 

@@ -1,9 +1,6 @@
 -- Rows of one index have one root where the metadata are the same.
-use Rattle.std.proofs.Common.{◌≡◌, ◌∙◌, ◌*◌, length, arith, rules, sym}
-use Rattle.std.proofs.lemmas.Result.{IfOk-weaker}
-use Rattle.wal_shape.specs.Shape.{shard_count}
+use Rattle.wal_extract.proofs.Common.{◌≡◌, ◌∙◌, ◌*◌, length, arith, rules, sym, IfOk-weaker, shard_count, some, within}
 use Rattle.wal_extract.proofs.OneIdentifier.{rows_one_root, same_shape}
-use Rattle.wal_commit.proofs.Crossings.{some, within}
 use Rattle.wal_extract.proofs.Sizes.{whole}
 use Rattle.wal_extract.proofs.matrices.collide_rows.Goals as goal
 

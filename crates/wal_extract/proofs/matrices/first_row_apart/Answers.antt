@@ -1,6 +1,5 @@
 -- Matrices whose rows are all the same are the same.
-use Rattle.std.proofs.Common.{arith}
-use Rattle.wal_shape.proofs.ShapeLaws.{symbol_size-least}
+use Rattle.wal_extract.proofs.Common.{arith, symbol_size-least}
 use Rattle.wal_extract.proofs.OneIdentifier.{rows_all}
 use Rattle.wal_extract.proofs.matrices.first_row_apart.Goals as goal
 

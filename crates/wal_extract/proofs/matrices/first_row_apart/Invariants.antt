@@ -1,6 +1,5 @@
 -- The rows so far are the same.
-use Rattle.std.proofs.Common.{◌≡◌, ℕ, ◌<◌}
-use Rattle.wal_matrix.specs.Matrix.{row_of, shards, symbol_bytes}
+use Rattle.wal_extract.proofs.Common.{◌≡◌, ℕ, ◌<◌, row_of, shards, symbol_bytes}
 use Rattle.wal_extract.proofs.matrices.first_row_apart.Given as goal
 
 abbrev pub invariant-loop-index : goal.invariant-loop-index

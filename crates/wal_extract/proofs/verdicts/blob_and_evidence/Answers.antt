@@ -1,6 +1,5 @@
 -- The evidence's metadata is that over the blob's matrix.
-use Rattle.std.proofs.Common.{◌∙◌, sym, inl, inr, rules}
-use Rattle.std.proofs.lemmas.Result.{IfOk-weaker}
+use Rattle.wal_extract.proofs.Common.{◌∙◌, sym, inl, inr, rules, IfOk-weaker}
 use Rattle.wal_extract.proofs.Contradictions.{commits_matrix}
 use Rattle.wal_extract.proofs.OneIdentifier.{over_shape, same_metadata}
 use Rattle.wal_extract.proofs.verdicts.blob_and_evidence.Goals as goal

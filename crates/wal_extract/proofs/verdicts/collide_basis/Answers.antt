@@ -1,5 +1,5 @@
 -- What the metadata is judged by has a part that is not the matrix's own.
-use Rattle.std.proofs.lemmas.Result.{IfOk-weaker}
+use Rattle.wal_extract.proofs.Common.{IfOk-weaker}
 use Rattle.wal_extract.proofs.FalseParts.{false_one, false_sliver, openings_meet, slivers_meet}
 use Rattle.wal_extract.proofs.verdicts.collide_basis.Goals as goal
 

@@ -1,6 +1,5 @@
 -- Of two verdicts one is a blob, which the other evidence contradicts.
-use Rattle.std.proofs.Common.{sym, inl, inr}
-use Rattle.std.proofs.lemmas.Result.{IfOk-weaker}
+use Rattle.wal_extract.proofs.Common.{sym, inl, inr, IfOk-weaker}
 use Rattle.wal_extract.proofs.Contradictions.{contradicts, fits}
 use Rattle.wal_extract.proofs.verdicts.evidences.Goals as goal
 

@@ -1,4 +1,4 @@
-use Rattle.std.proofs.Common.{◌+◌, ◌/◌, arith}
+use Rattle.wal_fft.proofs.Common.{◌+◌, ◌/◌, arith}
 use Rattle.wal_fft.proofs.StripLaws.{strips_more, all_codewords, first_same}
 use Rattle.wal_fft.proofs.extension.extend_regions.Goals as goal
 

@@ -1,5 +1,4 @@
-use Rattle.std.proofs.Common.{◌≤◌, ◌-◌}
-use Rattle.wal_fft.specs.inside.Strip.{IsExtendedStrip}
+use Rattle.wal_fft.proofs.Common.{◌≤◌, ◌-◌, IsExtendedStrip}
 use Rattle.wal_fft.proofs.extension.extend_regions.Given as goal
 
 abbrev pub invariant-loop-start : goal.invariant-loop-start

@@ -1,4 +1,4 @@
-use Rattle.std.proofs.Common.{◌^◌, ◌≤◌, rules, arith, pow_mono}
+use Rattle.wal_fft.proofs.Common.{◌^◌, ◌≤◌, rules, arith, pow_mono}
 use Rattle.wal_fft.proofs.StripLaws.{strip_codewords}
 use Rattle.wal_fft.proofs.extension.extend_strip.Goals as goal
 

@@ -1,4 +1,4 @@
-use Rattle.std.proofs.Common.{ℕ, ◌-◌, ◌^◌, ◌≤◌}
+use Rattle.wal_fft.proofs.Common.{ℕ, ◌-◌, ◌^◌, ◌≤◌}
 use Rattle.wal_fft.proofs.levels.level_of.Given as goal
 
 abbrev pub invariant-loop-level : goal.invariant-loop-level

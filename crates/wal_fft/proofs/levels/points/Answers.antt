@@ -1,4 +1,4 @@
-use Rattle.std.proofs.Common.{◌^◌, ◌≤◌, arith, pow_mono}
+use Rattle.wal_fft.proofs.Common.{◌^◌, ◌≤◌, arith, pow_mono}
 use Rattle.wal_fft.proofs.levels.points.Goals as goal
 
 pub returns-clause-few : goal.returns-clause-few

@@ -1,9 +1,5 @@
-use Rattle.std.proofs.Common.{◌≡◌, ℕ, ◌+◌, ◌*◌, ◌<◌, bit_xor, refl, sym, ap, ap₂, ◌∙◌, arith, lit<}
-use Rattle.std.specs.Int.{bit_at}
-use Rattle.std.proofs.lemmas.Nat.{xor_lt}
-use Rattle.wal_gf.specs.Field.{xor_below}
+use Rattle.wal_fft.proofs.Common.{◌≡◌, ℕ, ◌+◌, ◌*◌, ◌<◌, bit_xor, refl, sym, ap, ap₂, ◌∙◌, arith, lit<, bit_at, xor_lt, xor_below, entry, skew}
 use Rattle.wal_code.proofs.Totals.{xor_below-more}
-use Rattle.wal_fft.specs.Transform.{entry, skew}
 use Rattle.wal_fft.proofs.SkewLaws.{term-lt}
 use Rattle.wal_fft.proofs.skews.skew.Goals as goal
 

@@ -1,7 +1,4 @@
-use Rattle.std.proofs.Common.{◌≡◌, ◌*◌, ◌<◌}
-use Rattle.std.specs.Int.{bit_at}
-use Rattle.wal_gf.specs.Field.{xor_below}
-use Rattle.wal_fft.specs.Transform.{entry}
+use Rattle.wal_fft.proofs.Common.{◌≡◌, ◌*◌, ◌<◌, bit_at, xor_below, entry}
 use Rattle.wal_fft.proofs.skews.skew.Given as goal
 
 abbrev pub invariant-loop-place : goal.invariant-loop-place

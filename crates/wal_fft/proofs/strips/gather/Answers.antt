@@ -1,5 +1,4 @@
-use Rattle.std.proofs.Common.{◌≡◌, ◌+◌, ◌-◌, ◌*◌, rules, arith, ◌∙◌, refl, ap}
-use Rattle.wal_kernel.specs.Region.{word_at}
+use Rattle.wal_fft.proofs.Common.{◌≡◌, ◌+◌, ◌-◌, ◌*◌, rules, arith, ◌∙◌, refl, ap, word_at}
 use Rattle.wal_fft.proofs.Lanes.{copied_word}
 use Rattle.wal_fft.proofs.StripLaws.{gathered_more, runs_fit}
 use Rattle.wal_fft.proofs.strips.gather.Goals as goal

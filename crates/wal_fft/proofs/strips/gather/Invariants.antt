@@ -1,4 +1,4 @@
-use Rattle.wal_fft.specs.inside.Strip.{IsGathered}
+use Rattle.wal_fft.proofs.Common.{IsGathered}
 use Rattle.wal_fft.proofs.strips.gather.Given as goal
 
 abbrev pub invariant-loop-place : goal.invariant-loop-place

@@ -1,4 +1,4 @@
-use Rattle.std.proofs.Common.{◌+◌, ◌-◌, ◌*◌, rules, arith}
+use Rattle.wal_fft.proofs.Common.{◌+◌, ◌-◌, ◌*◌, rules, arith}
 use Rattle.wal_fft.proofs.Lanes.{copied_word}
 use Rattle.wal_fft.proofs.StripLaws.{scattered_more, runs_fit}
 use Rattle.wal_fft.proofs.strips.scatter.Goals as goal

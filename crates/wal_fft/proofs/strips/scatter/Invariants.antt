@@ -1,4 +1,4 @@
-use Rattle.wal_fft.specs.inside.Strip.{IsScattered}
+use Rattle.wal_fft.proofs.Common.{IsScattered}
 use Rattle.wal_fft.proofs.strips.scatter.Given as goal
 
 abbrev pub invariant-loop-place : goal.invariant-loop-place

@@ -1,4 +1,4 @@
-use Rattle.std.proofs.Common.{◌*◌, ◌/◌, arith}
+use Rattle.wal_fft.proofs.Common.{◌*◌, ◌/◌, arith}
 use Rattle.wal_fft.proofs.Blocks.{strip_fits, widest_fits, widest_some}
 use Rattle.wal_fft.proofs.strips.strip_width.Goals as goal
 

@@ -1,8 +1,4 @@
-use Rattle.std.proofs.Common.{◌≡◌, ℕ, rules, ◌∙◌, ap}
-use Rattle.wal_gf.specs.Field.{times}
-use Rattle.wal_gf.proofs.Products.{zero-times}
-use Rattle.wal_kernel.specs.Region.{word_at}
-use Rattle.wal_fft.specs.Transform.{scaled}
+use Rattle.wal_fft.proofs.Common.{◌≡◌, ℕ, rules, ◌∙◌, ap, times, zero-times, word_at, scaled}
 use Rattle.wal_fft.proofs.Lanes.{product_from, added_nothing}
 use Rattle.wal_fft.proofs.sums.add_product.Goals as goal
 

@@ -1,5 +1,4 @@
-use Rattle.std.proofs.Common.{◌≡◌, ◌-◌, ◌*◌, ◌^◌, ◌<◌, inl, inr, ◌++◌, length, slice_index, ℕ, rules, arith, ◌∙◌, ap}
-use Rattle.wal_fft.specs.Transform.{skew}
+use Rattle.wal_fft.proofs.Common.{◌≡◌, ◌-◌, ◌*◌, ◌^◌, ◌<◌, inl, inr, ◌++◌, length, slice_index, ℕ, rules, arith, ◌∙◌, ap, skew}
 use Rattle.wal_fft.proofs.Blocks.{whole_long, half_long, last_point, lower_points, upper_points, some_points}
 use Rattle.wal_fft.proofs.Steps.{one_value, none_wanted, evaluated_level}
 use Rattle.wal_fft.proofs.transform.+evaluate.Goals as goal

@@ -1,5 +1,4 @@
-use Rattle.std.proofs.Common.{◌≡◌, ◌+◌, ◌-◌, ◌*◌, ◌^◌, ◌<◌, ◌++◌, length, ℕ, rules, arith, ◌∙◌, ap}
-use Rattle.wal_fft.specs.Transform.{skew}
+use Rattle.wal_fft.proofs.Common.{◌≡◌, ◌+◌, ◌-◌, ◌*◌, ◌^◌, ◌<◌, ◌++◌, length, ℕ, rules, arith, ◌∙◌, ap, skew}
 use Rattle.wal_fft.proofs.Blocks.{whole_long, half_long, last_point, lower_points, upper_points, some_points, double}
 use Rattle.wal_fft.proofs.Steps.{one_coefficient, lower_level, both_level}
 use Rattle.wal_fft.proofs.transform.+restore.Goals as goal

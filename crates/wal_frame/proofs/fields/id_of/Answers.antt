@@ -1,4 +1,4 @@
-use Rattle.wal_shape.proofs.BodyLaws.{run_size}
+use Rattle.wal_frame.proofs.Common.{run_size}
 use Rattle.wal_frame.proofs.fields.id_of.Goals as goal
 
 pub id_from-requires : goal.id_from-requires

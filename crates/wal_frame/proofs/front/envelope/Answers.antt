@@ -1,5 +1,4 @@
-use Rattle.std.proofs.Common.{ℕ, ◌++◌, sym, ap, ◌∙◌, arith}
-use Rattle.wal_frame.specs.Frame.{envelope}
+use Rattle.wal_frame.proofs.Common.{ℕ, ◌++◌, sym, ap, ◌∙◌, arith, envelope}
 use Rattle.wal_frame.proofs.StreamLaws.{shorter, envelope_spelled, envelope_only}
 use Rattle.wal_frame.proofs.front.envelope.Goals as goal
 

@@ -1,6 +1,4 @@
-use Rattle.std.proofs.Common.{◌^◌, arith, rules}
-use Rattle.std.specs.Int.{w16}
-use Rattle.wal_shape.proofs.Numbers.{wide16}
+use Rattle.wal_frame.proofs.Common.{◌^◌, arith, rules, w16, wide16}
 use Rattle.wal_frame.proofs.FieldLaws.{number_back}
 use Rattle.wal_frame.proofs.number.u16_in.Goals as goal
 

@@ -1,6 +1,4 @@
-use Rattle.std.proofs.Common.{◌^◌, arith, rules}
-use Rattle.std.specs.Int.{w32}
-use Rattle.wal_shape.proofs.Numbers.{wide32}
+use Rattle.wal_frame.proofs.Common.{◌^◌, arith, rules, w32, wide32}
 use Rattle.wal_frame.proofs.FieldLaws.{number_back}
 use Rattle.wal_frame.proofs.number.u32_in.Goals as goal
 

@@ -1,7 +1,5 @@
-use Rattle.std.proofs.Common.{List, ℕ, ◌+◌, ◌-◌, sym, ap, ◌∙◌, arith}
+use Rattle.wal_frame.proofs.Common.{List, ℕ, ◌+◌, ◌-◌, sym, ap, ◌∙◌, arith, opening_shown, bodies_at}
 use Rattle.wal_shape.specs.declared.opening.Opening.{Opening}
-use Rattle.wal_shape.specs.Opening.{opening_shown}
-use Rattle.wal_frame.specs.Reading.{bodies_at}
 use Rattle.wal_frame.proofs.KindLaws.{bodies_next, bodies_stop, bodies_done}
 use Rattle.wal_frame.proofs.reading.after_bodies.Goals as goal
 

@@ -1,5 +1,4 @@
-use Rattle.std.proofs.Common.{◌≡◌, ◌+◌, ◌-◌, ◌*◌, ◌≤◌}
-use Rattle.wal_frame.specs.Reading.{bodies_at}
+use Rattle.wal_frame.proofs.Common.{◌≡◌, ◌+◌, ◌-◌, ◌*◌, ◌≤◌, bodies_at}
 use Rattle.wal_frame.proofs.reading.after_bodies.Given as goal
 
 -- the bodies left, which begin at this place, end where all of them end

@@ -1,4 +1,4 @@
-use Rattle.std.proofs.Common.{arith}
+use Rattle.wal_frame.proofs.Common.{arith}
 use Rattle.wal_frame.proofs.FieldLaws.{text_short}
 use Rattle.wal_frame.proofs.reading.clash_of.Goals as goal
 

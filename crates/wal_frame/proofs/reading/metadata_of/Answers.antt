@@ -1,10 +1,4 @@
-use Rattle.std.proofs.Common.{◌∷◌, Ok, sym, ap, subst, ◌∙◌, arith}
-use Rattle.wal_shape.specs.declared.shape.Format.TheVariants.{One}
-use Rattle.wal_shape.specs.Metadata.{BlobMetadata}
-use Rattle.wal_shape.specs.MetadataReading.{spelled_metadata}
-use Rattle.wal_shape.specs.MetaRef.{metadata_shown}
-use Rattle.wal_shape.proofs.MetadataLaws.{spelled_by}
-use Rattle.wal_frame.specs.Frame.{Metadata}
+use Rattle.wal_frame.proofs.Common.{◌∷◌, Ok, sym, ap, subst, ◌∙◌, arith, One, BlobMetadata, spelled_metadata, metadata_shown, spelled_by, Metadata}
 use Rattle.wal_frame.proofs.KindLaws.{Outcome, metadata_is, metadata_found}
 use Rattle.wal_frame.proofs.reading.metadata_of.Goals as goal
 

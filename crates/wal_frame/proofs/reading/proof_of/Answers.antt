@@ -1,9 +1,4 @@
-use Rattle.std.proofs.Common.{Ok, sym, ap, ◌∙◌, arith}
-use Rattle.std.proofs.lemmas.Bool.{eqb-true}
-use Rattle.std.proofs.lemmas.List.{nil_from_length}
-use Rattle.wal_shape.specs.EncodingProof.{EncodingProof}
-use Rattle.wal_frame.specs.Frame.{Proof}
-use Rattle.wal_frame.specs.Reading.{in_frame}
+use Rattle.wal_frame.proofs.Common.{Ok, sym, ap, ◌∙◌, arith, eqb-true, nil_from_length, EncodingProof, Proof, in_frame}
 use Rattle.wal_frame.proofs.FieldLaws.{target_long}
 use Rattle.wal_frame.proofs.KindLaws.{proof_of_target, proof_read, proof_found}
 use Rattle.wal_frame.proofs.reading.proof_of.Goals as goal

@@ -1,7 +1,4 @@
-use Rattle.std.proofs.Common.{subst, ap, ◌∙◌, arith}
-use Rattle.wal_frame.specs.Shown.{frame_shown}
-use Rattle.wal_shape.specs.FieldReading.{Gives}
-use Rattle.wal_frame.specs.Reading.{read_of}
+use Rattle.wal_frame.proofs.Common.{subst, ap, ◌∙◌, arith, frame_shown, Gives, read_of}
 use Rattle.wal_frame.proofs.FrameLaws.{read_again, frame_found, frame_spelled, frame_alone, frame_place}
 use Rattle.wal_frame.proofs.reading.read_frame.Goals as goal
 

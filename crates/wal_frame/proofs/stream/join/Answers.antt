@@ -1,8 +1,4 @@
-use Rattle.std.proofs.Common.{List, ℕ, ◌≡◌, ◌++◌, length, ap, subst, sym, ◌∙◌}
-use Rattle.std.specs.List.{flat_map}
-use Rattle.std.proofs.lemmas.List.{take_all}
-use Rattle.wal_frame.specs.Frame.{envelope}
-use Rattle.wal_frame.specs.Stream.{stream_of, behind}
+use Rattle.wal_frame.proofs.Common.{List, ℕ, ◌≡◌, ◌++◌, length, ap, subst, sym, ◌∙◌, flat_map, take_all, envelope, stream_of, behind}
 use Rattle.wal_frame.proofs.StreamLaws.{stream_front, joined}
 use Rattle.wal_frame.proofs.stream.join.Goals as goal
 

@@ -1,6 +1,4 @@
-use Rattle.std.proofs.Common.{◌≡◌, take}
-use Rattle.std.specs.List.{flat_map}
-use Rattle.wal_frame.specs.Frame.{envelope}
+use Rattle.wal_frame.proofs.Common.{◌≡◌, take, flat_map, envelope}
 use Rattle.wal_frame.proofs.stream.join.Given as goal
 
 -- the envelopes of the payloads so far

@@ -1,4 +1,4 @@
-use Rattle.std.proofs.Common.{List, ℕ, ◌≡◌, ◌++◌, ◌∷◌, [], Ok, ◌∙◌, sym, ap, arith}
+use Rattle.wal_frame.proofs.Common.{List, ℕ, ◌≡◌, ◌++◌, ◌∷◌, [], Ok, ◌∙◌, sym, ap, arith}
 use Rattle.wal_frame.proofs.StreamLaws.{shorter, goes_on, stops, is_done}
 use Rattle.wal_frame.proofs.stream.payloads_of.Goals as goal
 

@@ -1,5 +1,4 @@
-use Rattle.std.proofs.Common.{◌≡◌, ◌-◌, ◌≤◌, length}
-use Rattle.wal_frame.specs.Stream.{behind, stream_of}
+use Rattle.wal_frame.proofs.Common.{◌≡◌, ◌-◌, ◌≤◌, length, behind, stream_of}
 use Rattle.wal_frame.proofs.stream.payloads_of.Given as goal
 
 -- the payloads so far and those of the bytes left are those of all bytes

@@ -1,5 +1,4 @@
-use Rattle.std.proofs.Common.{List, ℕ, Result, subst, arith}
-use Rattle.wal_frame.specs.Stream.{Splits}
+use Rattle.wal_frame.proofs.Common.{List, ℕ, Result, subst, arith, Splits}
 use Rattle.wal_frame.proofs.StreamLaws.{split_payloads, split_malformed, stream_all, stream_broken}
 use Rattle.wal_frame.proofs.stream.split.Goals as goal
 

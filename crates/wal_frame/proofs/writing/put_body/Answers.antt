@@ -1,4 +1,4 @@
-use Rattle.wal_shape.specs.Opening.{opening_shown}
+use Rattle.wal_frame.proofs.Common.{opening_shown}
 use Rattle.wal_frame.proofs.BufferLaws.{body_written}
 use Rattle.wal_frame.proofs.writing.put_body.Goals as goal
 

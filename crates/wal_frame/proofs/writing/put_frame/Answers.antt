@@ -1,6 +1,4 @@
-use Rattle.std.proofs.Common.{ap, arith}
-use Rattle.wal_shape.specs.Opening.{opening_shown}
-use Rattle.wal_frame.specs.Shown.{frame_shown}
+use Rattle.wal_frame.proofs.Common.{ap, arith, opening_shown, frame_shown}
 use Rattle.wal_frame.proofs.BufferLaws.{opening_size}
 use Rattle.wal_frame.proofs.writing.put_frame.Goals as goal
 

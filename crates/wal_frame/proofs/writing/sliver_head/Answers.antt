@@ -1,5 +1,4 @@
-use Rattle.std.proofs.Common.{List, ℕ, ◌++◌, sym, ap, ◌∙◌}
-use Rattle.wal_frame.specs.Frame.{sliver_front}
+use Rattle.wal_frame.proofs.Common.{List, ℕ, ◌++◌, sym, ap, ◌∙◌, sliver_front}
 use Rattle.wal_frame.proofs.writing.sliver_head.Goals as goal
 
 pub returns-clause-joins : goal.returns-clause-joins

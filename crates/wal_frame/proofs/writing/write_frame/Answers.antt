@@ -1,6 +1,4 @@
-use Rattle.std.proofs.Common.{ℕ, ◌<◌, ◌^◌, subst}
-use Rattle.wal_frame.specs.Frame.{frame_text}
-use Rattle.wal_frame.specs.Shown.{frame_shown}
+use Rattle.wal_frame.proofs.Common.{ℕ, ◌<◌, ◌^◌, subst, frame_text, frame_shown}
 use Rattle.wal_frame.proofs.FrameLaws.{read_again}
 use Rattle.wal_frame.proofs.StreamLaws.{stream_one}
 use Rattle.wal_frame.proofs.writing.write_frame.Goals as goal

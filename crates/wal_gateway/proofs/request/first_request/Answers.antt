@@ -1,7 +1,5 @@
 -- A request, an envelope without one, and the end.
-use Rattle.std.proofs.Common.{◌≡◌, None, ◌++◌, ◌-◌, length, refl, sym, subst, take, List, ℕ, ◌∙◌, arith}
-use Rattle.wal_frame.specs.Frame.{envelope}
-use Rattle.wal_frame.specs.Front.{whole_in}
+use Rattle.wal_gateway.proofs.Common.{◌≡◌, None, ◌++◌, ◌-◌, length, refl, sym, subst, take, List, ℕ, ◌∙◌, arith, envelope, whole_in}
 use Rattle.wal_frame.specs.declared.frame.Envelope.{Envelope}
 use Rattle.wal_frame.specs.declared.frame.Envelope.TheVariants.{Part, Whole, Wrong}
 use Rattle.wal_gateway.proofs.RequestLaws.{Passes, asks, asks_nothing, asks_shorter, before_rest, none_of, passes_more}

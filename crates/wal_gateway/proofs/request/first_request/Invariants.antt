@@ -1,5 +1,5 @@
 -- Whole envelopes without a request stand before the rest.
-use Rattle.std.proofs.Common.{◌≤◌, ◌-◌, length, take}
+use Rattle.wal_gateway.proofs.Common.{◌≤◌, ◌-◌, length, take}
 use Rattle.wal_gateway.proofs.RequestLaws.{Passes}
 use Rattle.wal_gateway.proofs.request.first_request.Given as goal
 

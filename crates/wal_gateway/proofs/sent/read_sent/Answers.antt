@@ -1,5 +1,5 @@
 -- The reader stands for the whole stream.
-use Rattle.std.proofs.Common.{[]}
+use Rattle.wal_gateway.proofs.Common.{[]}
 use Rattle.wal_gateway.proofs.RequestLaws.{read_answer}
 use Rattle.wal_gateway.proofs.sent.read_sent.Goals as goal
 

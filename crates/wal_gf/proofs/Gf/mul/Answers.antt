@@ -1,8 +1,4 @@
-use Rattle.std.proofs.Common.{◌≡◌, ℕ, ◌+◌, ◌*◌, ◌%◌, ◌^◌, ◌<◌, ◌≤◌, bit_xor, bit_and, refl, sym, ap, ap₂, ◌∙◌, arith, rules, lit≤, add-one, mul_assoc}
-use Rattle.std.specs.Int.{bit_at}
-use Rattle.std.proofs.lemmas.Nat.{one_shl}
-use Rattle.std.proofs.lemmas.Nat.Bits.{and_pow}
-use Rattle.wal_gf.specs.Field.{xor_below, product, remainder, times}
+use Rattle.wal_gf.proofs.Common.{◌≡◌, ℕ, ◌+◌, ◌*◌, ◌%◌, ◌^◌, ◌<◌, ◌≤◌, bit_xor, bit_and, refl, sym, ap, ap₂, ◌∙◌, arith, rules, lit≤, add-one, mul_assoc, bit_at, one_shl, and_pow, xor_below, product, remainder, times}
 use Rattle.wal_gf.proofs.Remainders.{word-left}
 use Rattle.wal_gf.proofs.Gf.mul.Goals as goal
 

@@ -1,5 +1,4 @@
-use Rattle.std.proofs.Common.{◌≡◌}
-use Rattle.wal_gf.specs.Field.{product}
+use Rattle.wal_gf.proofs.Common.{◌≡◌, product}
 use Rattle.wal_gf.proofs.Gf.mul.Given as goal
 
 -- the sum for the lower bits

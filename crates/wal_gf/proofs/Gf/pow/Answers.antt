@@ -1,8 +1,6 @@
-use Rattle.std.proofs.Common.{◌≡◌, ℕ, suc, ◌+◌, ◌/◌, ◌%◌, ◌<◌, ◌≤◌, ap, ap₂, ◌∙◌, arith, rules, lit<}
-use Rattle.wal_gf.specs.Field.{times, power}
+use Rattle.wal_gf.proofs.Common.{◌≡◌, ℕ, suc, ◌+◌, ◌/◌, ◌%◌, ◌<◌, ◌≤◌, ap, ap₂, ◌∙◌, arith, rules, lit<, times, power, Gf}
 use Rattle.wal_gf.proofs.Products.{times-lt, times-one, one-times, times_assoc}
 use Rattle.wal_gf.proofs.Powers.{power-zero, power-suc, power-lt, power-square}
-use Rattle.wal_gf.specs.declared.Gf.{Gf}
 use Rattle.wal_gf.proofs.Gf.pow.Goals as goal
 use Rattle.wal_gf.proofs.Gf.pow.Goals.{then-rest-eq1, else-rest-eq1}
 

@@ -1,5 +1,4 @@
-use Rattle.std.proofs.Common.{◌≡◌, ◌<◌}
-use Rattle.wal_gf.specs.Field.{times, power}
+use Rattle.wal_gf.proofs.Common.{◌≡◌, ◌<◌, times, power}
 use Rattle.wal_gf.proofs.Gf.pow.Given as goal
 
 -- what is multiplied up, and the power of the square that is left, are the power together

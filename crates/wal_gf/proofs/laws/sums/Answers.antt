@@ -1,4 +1,4 @@
-use Rattle.std.proofs.lemmas.Nat.{xor_comm, xor_lt}
+use Rattle.wal_gf.proofs.Common.{xor_comm, xor_lt}
 use Rattle.wal_gf.proofs.laws.sums.Goals as goal
 
 pub returns-clause-closed : goal.returns-clause-closed

@@ -1,12 +1,4 @@
-use Rattle.std.proofs.Common.{◌≡◌, ℕ, suc, ◌+◌, ◌<◌, List, [], length, set, take, get_or, All, sym, ap, ap₂, ◌∙◌, arith, rules, bit_xor, add-one}
-use Rattle.std.specs.List.{take-map}
-use Rattle.std.specs.Int.Bits.{xor_assoc, xor_zero_r}
-use Rattle.std.proofs.lemmas.List.{map-set}
-use Rattle.std.proofs.lemmas.List.Elements.{All-set}
-use Rattle.wal_gf.specs.Field.{IsWord, times, power}
-use Rattle.wal_gf.specs.Polynomial.{evaluate}
-use Rattle.wal_gf.specs.Interpolation.{words_of}
-use Rattle.wal_gf.specs.declared.Gf.{Gf}
+use Rattle.wal_gf.proofs.Common.{◌≡◌, ℕ, suc, ◌+◌, ◌<◌, List, [], length, set, take, get_or, All, sym, ap, ap₂, ◌∙◌, arith, rules, bit_xor, add-one, take-map, xor_assoc, xor_zero_r, map-set, All-set, IsWord, times, power, evaluate, words_of, Gf}
 use Rattle.wal_gf.proofs.Products.{times-xor_right, times-lt, times-zero, times_left_comm}
 use Rattle.wal_gf.proofs.Powers.{power-lt}
 use Rattle.wal_gf.proofs.Elements.{zero_element, number_at, length-words_of, element_word}

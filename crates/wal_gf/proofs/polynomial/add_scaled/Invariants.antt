@@ -1,7 +1,4 @@
-use Rattle.std.proofs.Common.{◌≡◌, ℕ, take, All, bit_xor}
-use Rattle.wal_gf.specs.Field.{IsWord, times}
-use Rattle.wal_gf.specs.Polynomial.{evaluate}
-use Rattle.wal_gf.specs.Interpolation.{words_of}
+use Rattle.wal_gf.proofs.Common.{◌≡◌, ℕ, take, All, bit_xor, IsWord, times, evaluate, words_of}
 use Rattle.wal_gf.proofs.polynomial.add_scaled.Given as goal
 
 -- a multiple of the lower coefficients is added

@@ -1,6 +1,4 @@
-use Rattle.std.proofs.Common.{◌≡◌, ◌≢◌, ℕ, ◌<◌, sym, ◌∙◌, rules, bit_xor}
-use Rattle.wal_gf.specs.Field.{times, inverse}
-use Rattle.wal_gf.specs.Polynomial.{evaluate}
+use Rattle.wal_gf.proofs.Common.{◌≡◌, ◌≢◌, ℕ, ◌<◌, sym, ◌∙◌, rules, bit_xor, times, inverse, evaluate}
 use Rattle.wal_gf.proofs.Additive.{xor_back}
 use Rattle.wal_gf.proofs.Products.{times_assoc, times_comm, times-one}
 use Rattle.wal_gf.proofs.Inverses.{times-inverse, inverse-lt}

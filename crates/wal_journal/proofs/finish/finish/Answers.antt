@@ -1,4 +1,4 @@
-use Rattle.std.proofs.Common.{◌+◌, length, get_or, refl, ap, ◌∙◌, arith}
+use Rattle.wal_journal.proofs.Common.{◌+◌, length, get_or, refl, ap, ◌∙◌, arith}
 use Rattle.wal_journal.proofs.Staged.{gate_behind, append_only, torn_only, either_way, accepts_more}
 use Rattle.wal_journal.proofs.Moments.{weaker}
 use Rattle.wal_journal.proofs.HeldLaws.{journal_more}

@@ -1,7 +1,4 @@
-use Rattle.std.proofs.Common.{◌≡◌, [], take, refl, ◌∙◌, arith}
-use Rattle.std.proofs.lemmas.List.{append-nil, take_all}
-use Rattle.wal_journal.specs.Journal.{Takes}
-use Rattle.wal_journal.specs.Packing.{puts_of}
+use Rattle.wal_journal.proofs.Common.{◌≡◌, [], take, refl, ◌∙◌, arith, append-nil, take_all, Takes, puts_of}
 use Rattle.wal_journal.proofs.Moments.{started, at_rest, holds_settled}
 use Rattle.wal_journal.proofs.PackLaws.{puts_at, puts_next, takes_kept, takes_both, packs_refused, front_none, front_run, keeps_both}
 use Rattle.wal_journal.proofs.packing.pack.Goals as goal

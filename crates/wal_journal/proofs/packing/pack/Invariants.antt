@@ -1,9 +1,4 @@
-use Rattle.std.proofs.Common.{◌≡◌, ◌≤◌, true, List, take}
-use Rattle.wal_store.specs.Calls.{Call}
-use Rattle.wal_journal.specs.Crash.{LeavesOnly, Keeps}
-use Rattle.wal_journal.specs.Record.{Accepts}
-use Rattle.wal_journal.specs.Journal.{Takes}
-use Rattle.wal_journal.specs.Packing.{puts_of, AcceptsFront}
+use Rattle.wal_journal.proofs.Common.{◌≡◌, ◌≤◌, true, List, take, Call, LeavesOnly, Keeps, Accepts, Takes, puts_of, AcceptsFront}
 use Rattle.wal_journal.proofs.packing.pack.Given as goal
 
 -- the puts of the payloads so far are made

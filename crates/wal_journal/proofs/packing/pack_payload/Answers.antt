@@ -1,4 +1,4 @@
-use Rattle.std.proofs.Common.{sym, ◌∙◌}
+use Rattle.wal_journal.proofs.Common.{sym, ◌∙◌}
 use Rattle.wal_journal.proofs.Moments.{weaker, at_rest, after_run, holds_settled}
 use Rattle.wal_journal.proofs.PackLaws.{puts_one, packs_put, front_none, front_one}
 use Rattle.wal_journal.proofs.packing.pack_payload.Goals as goal

@@ -1,4 +1,4 @@
-use Rattle.std.proofs.Common.{rules, ◌+◌, refl, arith, length-drop}
+use Rattle.wal_journal.proofs.Common.{rules, ◌+◌, refl, arith, length-drop}
 use Rattle.wal_journal.proofs.ReadLaws.{too_short, no_head, too_long}
 use Rattle.wal_journal.proofs.reading.read_record.Goals as goal
 

@@ -1,6 +1,4 @@
-use Rattle.std.proofs.Common.{ℕ, List, ◌++◌, ◌∷◌, [], Option, Some, Ok, ◌∙◌, subst, arith}
-use Rattle.wal_store.specs.Calls.{no_contents}
-use Rattle.wal_journal.specs.inside.Reading.{Steps}
+use Rattle.wal_journal.proofs.Common.{ℕ, List, ◌++◌, ◌∷◌, [], Option, Some, Ok, ◌∙◌, subst, arith, no_contents, Steps}
 use Rattle.wal_journal.proofs.ReadLaws.{read_more, room_both}
 use Rattle.wal_journal.proofs.NeverBad.{still_both}
 use Rattle.wal_journal.proofs.reading.read_records.Goals as goal

@@ -1,7 +1,4 @@
-use Rattle.std.proofs.Common.{◌≡◌, ◌-◌, ◌≤◌, true, List, length}
-use Rattle.wal_store.specs.Calls.{Call, no_contents}
-use Rattle.wal_journal.specs.Reading.{HadRoomForPuts, ReadTo}
-use Rattle.wal_journal.specs.inside.Reading.{Still}
+use Rattle.wal_journal.proofs.Common.{◌≡◌, ◌-◌, ◌≤◌, true, List, length, Call, no_contents, HadRoomForPuts, ReadTo, Still}
 use Rattle.wal_journal.proofs.reading.read_records.Given as goal
 
 -- the records of some changes end at the tail, the keep holds what they make, and nothing is written

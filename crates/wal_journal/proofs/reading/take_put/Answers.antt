@@ -1,4 +1,4 @@
-use Rattle.std.proofs.Common.{rules, refl, ◌∙◌, arith}
+use Rattle.wal_journal.proofs.Common.{rules, refl, ◌∙◌, arith}
 use Rattle.wal_journal.proofs.ReadLaws.{unlawful, put_step, put_full}
 use Rattle.wal_journal.proofs.reading.take_put.Goals as goal
 

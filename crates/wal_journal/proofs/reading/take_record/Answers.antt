@@ -1,4 +1,4 @@
-use Rattle.std.proofs.Common.{rules}
+use Rattle.wal_journal.proofs.Common.{rules}
 use Rattle.wal_journal.proofs.ReadLaws.{drop_part_step, drop_id_step}
 use Rattle.wal_journal.proofs.reading.take_record.Goals as goal
 

@@ -1,4 +1,4 @@
-use Rattle.std.proofs.Common.{arith}
+use Rattle.wal_journal.proofs.Common.{arith}
 use Rattle.wal_journal.proofs.ReadLaws.{head_bytes}
 use Rattle.wal_journal.proofs.record.head_of.Goals as goal
 

@@ -1,6 +1,4 @@
-use Rattle.std.proofs.Common.{inr, ℕ, List, [], ◌∷◌, subst}
-use Rattle.std.proofs.lemmas.Result.{on_err_weaker}
-use Rattle.wal_journal.specs.Disk.{Agrees}
+use Rattle.wal_journal.proofs.Common.{inr, ℕ, List, [], ◌∷◌, subst, on_err_weaker, Agrees}
 use Rattle.wal_journal.proofs.Moments.{both_runs}
 use Rattle.wal_journal.proofs.Writing.{behind_gate, gate_itself}
 use Rattle.wal_journal.proofs.write.append.Goals as goal

@@ -1,5 +1,4 @@
-use Rattle.std.proofs.Common.{◌∙◌}
-use Rattle.std.proofs.lemmas.Result.{on_err_weaker}
+use Rattle.wal_journal.proofs.Common.{◌∙◌, on_err_weaker}
 use Rattle.wal_journal.proofs.Images.{put_agrees, write_left, sync_left}
 use Rattle.wal_journal.proofs.Moments.{goes_on}
 use Rattle.wal_journal.proofs.Writing.{write_run}

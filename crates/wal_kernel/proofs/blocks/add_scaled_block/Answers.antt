@@ -1,6 +1,4 @@
-use Rattle.std.proofs.Common.{arith}
-use Rattle.wal_gf.specs.Field.{times}
-use Rattle.wal_kernel.specs.inside.Region.{scaled_byte}
+use Rattle.wal_kernel.proofs.Common.{arith, times, scaled_byte}
 use Rattle.wal_kernel.proofs.ProductLemmas.{block_high, block_low, nibble_high, nibble_low}
 use Rattle.wal_kernel.proofs.blocks.add_scaled_block.Goals as goal
 

@@ -1,5 +1,4 @@
-use Rattle.std.proofs.Common.{◌≡◌, ◌+◌, ◌*◌, ◌/◌, length, subst, arith}
-use Rattle.wal_kernel.specs.inside.Region.{IsSumBelow, scaled_byte}
+use Rattle.wal_kernel.proofs.Common.{◌≡◌, ◌+◌, ◌*◌, ◌/◌, length, subst, arith, IsSumBelow, scaled_byte}
 use Rattle.wal_kernel.proofs.Sums.{none_added}
 use Rattle.wal_kernel.proofs.blocks.add_scaled_blocks.Goals as goal
 

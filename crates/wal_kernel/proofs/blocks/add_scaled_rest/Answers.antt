@@ -1,5 +1,4 @@
-use Rattle.std.proofs.Common.{◌*◌, ◌+◌, arith, length-drop}
-use Rattle.wal_kernel.specs.inside.Region.{scaled_byte}
+use Rattle.wal_kernel.proofs.Common.{◌*◌, ◌+◌, arith, length-drop, scaled_byte}
 use Rattle.wal_kernel.proofs.LaneLemmas.{part_added}
 use Rattle.wal_kernel.proofs.Sums.{scaled_byte-part, none_added}
 use Rattle.wal_kernel.proofs.blocks.add_scaled_rest.Goals as goal

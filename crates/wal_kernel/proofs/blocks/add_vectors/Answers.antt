@@ -1,5 +1,4 @@
-use Rattle.std.proofs.Common.{◌≡◌, ◌+◌, ◌*◌, subst, arith, slice_index}
-use Rattle.wal_kernel.specs.inside.Region.{IsSumBelow}
+use Rattle.wal_kernel.proofs.Common.{◌≡◌, ◌+◌, ◌*◌, subst, arith, slice_index, IsSumBelow}
 use Rattle.wal_kernel.proofs.Sums.{none_added}
 use Rattle.wal_kernel.proofs.blocks.add_vectors.Goals as goal
 

@@ -1,5 +1,4 @@
-use Rattle.std.proofs.Common.{◌*◌, slice_index}
-use Rattle.wal_kernel.specs.inside.Region.{IsSumBelow}
+use Rattle.wal_kernel.proofs.Common.{◌*◌, slice_index, IsSumBelow}
 use Rattle.wal_kernel.proofs.blocks.add_vectors.Given as goal
 
 abbrev pub invariant-loop-vector : goal.invariant-loop-vector

@@ -1,5 +1,4 @@
-use Rattle.std.proofs.Common.{refl, ◌∙◌}
-use Rattle.std.proofs.lemmas.List.{take_rest}
+use Rattle.wal_kernel.proofs.Common.{refl, ◌∙◌, take_rest}
 use Rattle.wal_kernel.proofs.LaneLemmas.{padded_at}
 use Rattle.wal_kernel.proofs.blocks.padded.Goals as goal
 

@@ -1,4 +1,4 @@
-use Rattle.std.proofs.Common.{ap₂, bit_xor, ℕ}
+use Rattle.wal_kernel.proofs.Common.{ap₂, bit_xor, ℕ}
 use Rattle.wal_kernel.proofs.LaneLemmas.{HasLanes-zip2, HasLanes-same, stored}
 use Rattle.wal_kernel.proofs.lanes.add.Goals as goal
 

@@ -1,5 +1,4 @@
-use Rattle.std.proofs.Common.{◌≡◌, ◌+◌, subst, arith}
-use Rattle.wal_kernel.specs.inside.Region.{IsSumBelow}
+use Rattle.wal_kernel.proofs.Common.{◌≡◌, ◌+◌, subst, arith, IsSumBelow}
 use Rattle.wal_kernel.proofs.lanes.add_merged.Goals as goal
 
 pub returns : goal.returns

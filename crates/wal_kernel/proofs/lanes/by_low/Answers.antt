@@ -1,4 +1,4 @@
-use Rattle.std.proofs.Common.{arith}
+use Rattle.wal_kernel.proofs.Common.{arith}
 use Rattle.wal_kernel.proofs.LaneLemmas.{low_nibbles, SwzOk-nibbles, HasLanes-look_up}
 use Rattle.wal_kernel.proofs.lanes.by_low.Goals as goal
 

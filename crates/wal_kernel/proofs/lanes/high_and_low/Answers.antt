@@ -1,4 +1,4 @@
-use Rattle.std.proofs.Common.{arith, ap, slice_index}
+use Rattle.wal_kernel.proofs.Common.{arith, ap, slice_index}
 use Rattle.wal_kernel.proofs.LaneLemmas.{HasLanes-alternate, HasLanes-same}
 use Rattle.wal_kernel.proofs.lanes.high_and_low.Goals as goal
 

@@ -1,4 +1,4 @@
-use Rattle.std.proofs.Common.{ℕ, ◌∙◌, ap₂, bit_xor}
+use Rattle.wal_kernel.proofs.Common.{ℕ, ◌∙◌, ap₂, bit_xor}
 use Rattle.wal_kernel.proofs.lanes.looked_up.Goals as goal
 
 pub returns : goal.returns

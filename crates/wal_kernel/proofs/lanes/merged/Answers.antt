@@ -1,4 +1,4 @@
-use Rattle.std.proofs.Common.{◌+◌, arith}
+use Rattle.wal_kernel.proofs.Common.{◌+◌, arith}
 use Rattle.wal_kernel.proofs.LaneLemmas.{HasLanes-by_turns}
 use Rattle.wal_kernel.proofs.lanes.merged.Goals as goal
 

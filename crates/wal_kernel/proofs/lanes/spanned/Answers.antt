@@ -1,4 +1,4 @@
-use Rattle.std.proofs.Common.{ℕ, ◌/◌, ◌%◌, ◌∙◌, ap₂, arith, bit_xor}
+use Rattle.wal_kernel.proofs.Common.{ℕ, ◌/◌, ◌%◌, ◌∙◌, ap₂, arith, bit_xor}
 use Rattle.wal_kernel.proofs.LaneLemmas.{HasLanes-masked}
 use Rattle.wal_kernel.proofs.lanes.spanned.Goals as goal
 

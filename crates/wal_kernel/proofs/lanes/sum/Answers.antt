@@ -1,4 +1,4 @@
-use Rattle.std.proofs.Common.{bit_xor}
+use Rattle.wal_kernel.proofs.Common.{bit_xor}
 use Rattle.wal_kernel.proofs.LaneLemmas.{HasLanes-zip2}
 use Rattle.wal_kernel.proofs.lanes.sum.Goals as goal
 

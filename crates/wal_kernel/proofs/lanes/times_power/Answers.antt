@@ -1,4 +1,4 @@
-use Rattle.std.proofs.Common.{ℕ, ◌*◌, ◌^◌, ◌%◌}
+use Rattle.wal_kernel.proofs.Common.{ℕ, ◌*◌, ◌^◌, ◌%◌}
 use Rattle.wal_kernel.proofs.LaneLemmas.{HasLanes-splat}
 use Rattle.wal_kernel.proofs.lanes.times_power.Goals as goal
 

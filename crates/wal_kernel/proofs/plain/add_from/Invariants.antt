@@ -1,5 +1,4 @@
-use Rattle.std.proofs.Common.{List, ℕ, slice_index}
-use Rattle.wal_kernel.specs.inside.Region.{IsSumBelow}
+use Rattle.wal_kernel.proofs.Common.{List, ℕ, slice_index, IsSumBelow}
 use Rattle.wal_kernel.proofs.plain.add_from.Given as goal
 
 abbrev pub invariant-loop-k : goal.invariant-loop-k

@@ -1,5 +1,4 @@
-use Rattle.std.proofs.Common.{◌*◌, ap, ◌∙◌, arith}
-use Rattle.wal_gf.specs.Field.{times}
+use Rattle.wal_kernel.proofs.Common.{◌*◌, ap, ◌∙◌, arith, times}
 use Rattle.wal_kernel.proofs.Sums.{none_added, scaled_step, scaled_sum}
 use Rattle.wal_kernel.proofs.plain.add_scaled.Goals as goal
 

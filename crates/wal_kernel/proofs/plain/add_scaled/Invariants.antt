@@ -1,5 +1,4 @@
-use Rattle.std.proofs.Common.{◌*◌}
-use Rattle.wal_kernel.specs.inside.Region.{IsSumBelow, scaled_byte}
+use Rattle.wal_kernel.proofs.Common.{◌*◌, IsSumBelow, scaled_byte}
 use Rattle.wal_kernel.proofs.plain.add_scaled.Given as goal
 
 abbrev pub invariant-loop-i : goal.invariant-loop-i

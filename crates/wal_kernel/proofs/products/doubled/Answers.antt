@@ -1,4 +1,4 @@
-use Rattle.std.proofs.Common.{arith}
+use Rattle.wal_kernel.proofs.Common.{arith}
 use Rattle.wal_kernel.proofs.ProductLemmas.{doubled-word}
 use Rattle.wal_kernel.proofs.products.doubled.Goals as goal
 

@@ -1,5 +1,4 @@
-use Rattle.std.proofs.Common.{ℕ, ◌/◌, ◌%◌, ◌∙◌, ap, arith, rules}
-use Rattle.wal_gf.specs.Field.{times}
+use Rattle.wal_kernel.proofs.Common.{ℕ, ◌/◌, ◌%◌, ◌∙◌, ap, arith, rules, times}
 use Rattle.wal_kernel.proofs.ProductLemmas.{first_byte, second_byte, multiples-high, multiples-low}
 use Rattle.wal_kernel.proofs.products.multiples_of.Goals as goal
 

@@ -1,6 +1,4 @@
-use Rattle.std.proofs.Common.{subst}
-use Rattle.wal_gf.specs.Field.{times}
-use Rattle.wal_kernel.specs.inside.Lanes.{AreMultiples}
+use Rattle.wal_kernel.proofs.Common.{subst, times, AreMultiples}
 use Rattle.wal_kernel.proofs.ProductLemmas.{times-256, times-4096}
 use Rattle.wal_kernel.proofs.products.tables_of.Goals as goal
 

@@ -1,6 +1,4 @@
-use Rattle.std.proofs.Common.{◌≡◌, ℕ, ◌+◌, ◌*◌, ◌<◌, length, take, drop, slice_index}
-use Rattle.sha2.specs.Sha256.{IsRoundsAt, word_at}
-use Rattle.wal_lanes.specs.inside.Lanes.{lane, words_of}
+use Rattle.wal_lanes.proofs.Common.{◌≡◌, ℕ, ◌+◌, ◌*◌, ◌<◌, length, take, drop, slice_index, IsRoundsAt, word_at, lane, words_of}
 use Rattle.wal_lanes.proofs.block.compress.Given as goal
 
 abbrev pub invariant-words : goal.invariant-words

@@ -1,5 +1,4 @@
-use Rattle.std.proofs.Common.{ap, ◌∙◌, arith}
-use Rattle.sha2.specs.Sha256.{rounds, schedule}
+use Rattle.wal_lanes.proofs.Common.{ap, ◌∙◌, arith, rounds, schedule}
 use Rattle.wal_lanes.proofs.block.first_four_steps.Goals as goal
 
 pub returns : goal.returns

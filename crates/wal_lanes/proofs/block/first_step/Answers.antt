@@ -1,7 +1,5 @@
-use Rattle.std.proofs.Common.{refl, sym}
-use Rattle.sha2.proofs.Schedule256.{rounds_first}
+use Rattle.wal_lanes.proofs.Common.{refl, sym, rounds_first, lane, words_of}
 use Rattle.wal_lanes.proofs.LaneLemmas.{word_of}
-use Rattle.wal_lanes.specs.inside.Lanes.{lane, words_of}
 use Rattle.wal_lanes.proofs.block.first_step.Goals as goal
 
 pub returns : goal.returns

@@ -1,7 +1,5 @@
-use Rattle.std.proofs.Common.{◌≡◌, ℕ, ◌+◌, ◌%◌, ◌∙◌, ap, sym, arith, slice_index}
-use Rattle.sha2.specs.Sha256.{small_sigma0, small_sigma1}
+use Rattle.wal_lanes.proofs.Common.{◌≡◌, ℕ, ◌+◌, ◌%◌, ◌∙◌, ap, sym, arith, slice_index, small_sigma0, small_sigma1, words_of}
 use Rattle.wal_lanes.proofs.LaneLemmas.{sum_of, word_of, words_of_set}
-use Rattle.wal_lanes.specs.inside.Lanes.{words_of}
 use Rattle.wal_lanes.proofs.block.next_word.Goals as goal
 
 pub returns-clause-value : goal.returns-clause-value

@@ -1,4 +1,4 @@
-use Rattle.std.proofs.Common.{ℕ, [], ◌∷◌, ap₂, slice_index}
+use Rattle.wal_lanes.proofs.Common.{ℕ, [], ◌∷◌, ap₂, slice_index}
 use Rattle.wal_lanes.proofs.LaneLemmas.{own, sum_of}
 use Rattle.wal_lanes.proofs.block.round.Goals as goal
 

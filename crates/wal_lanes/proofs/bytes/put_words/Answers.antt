@@ -1,8 +1,6 @@
-use Rattle.std.proofs.Common.{◌≡◌, ap, ◌∙◌, arith}
-use Rattle.sha2.specs.Sha256.{digest_bytes}
+use Rattle.wal_lanes.proofs.Common.{◌≡◌, ap, ◌∙◌, arith, digest_bytes, put_at}
 use Rattle.wal_lanes.proofs.Parts.{put_none}
 use Rattle.wal_lanes.proofs.Written.{word_put}
-use Rattle.wal_lanes.specs.inside.Lanes.{put_at}
 use Rattle.wal_lanes.proofs.bytes.put_words.Goals as goal
 
 pub each-init : goal.each-init

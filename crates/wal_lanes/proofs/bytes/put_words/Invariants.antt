@@ -1,6 +1,4 @@
-use Rattle.std.proofs.Common.{◌≡◌}
-use Rattle.sha2.specs.Sha256.{digest_bytes}
-use Rattle.wal_lanes.specs.inside.Lanes.{put_at}
+use Rattle.wal_lanes.proofs.Common.{◌≡◌, digest_bytes, put_at}
 use Rattle.wal_lanes.proofs.bytes.put_words.Given as goal
 
 abbrev pub invariant-each : goal.invariant-each

@@ -1,8 +1,6 @@
-use Rattle.std.proofs.Common.{◌≡◌, ℕ, ◌*◌, ◌∷◌, List, take, drop, ap, subst, ◌∙◌, refl, arith}
-use Rattle.sha2.specs.Sha256.{sha256}
+use Rattle.wal_lanes.proofs.Common.{◌≡◌, ℕ, ◌*◌, ◌∷◌, List, take, drop, ap, subst, ◌∙◌, refl, arith, sha256, AreDigests}
 use Rattle.wal_lanes.proofs.Parts.{pieces_within}
 use Rattle.wal_lanes.proofs.Written.{are_more, are_none}
-use Rattle.wal_lanes.specs.Pieces.{AreDigests}
 use Rattle.wal_lanes.proofs.pieces.write_each.Goals as goal
 
 pub each-init : goal.each-init

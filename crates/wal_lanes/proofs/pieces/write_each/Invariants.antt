@@ -1,5 +1,4 @@
-use Rattle.sha2.specs.Sha256.{sha256}
-use Rattle.wal_lanes.specs.Pieces.{AreDigests}
+use Rattle.wal_lanes.proofs.Common.{sha256, AreDigests}
 use Rattle.wal_lanes.proofs.pieces.write_each.Given as goal
 
 abbrev pub invariant-each : goal.invariant-each

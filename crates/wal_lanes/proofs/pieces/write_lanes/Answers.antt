@@ -1,8 +1,6 @@
-use Rattle.std.proofs.Common.{◌≡◌, ℕ, ◌+◌, ◌*◌, List, ap, subst, ◌∙◌, refl, arith}
-use Rattle.sha2.specs.Sha256.{digest_bytes, sha256}
+use Rattle.wal_lanes.proofs.Common.{◌≡◌, ℕ, ◌+◌, ◌*◌, List, ap, subst, ◌∙◌, refl, arith, digest_bytes, sha256, AreDigests}
 use Rattle.wal_lanes.proofs.Parts.{piece_within}
 use Rattle.wal_lanes.proofs.Written.{are_fewer, are_more, length-digest_bytes, text_within}
-use Rattle.wal_lanes.specs.Pieces.{AreDigests}
 use Rattle.wal_lanes.proofs.pieces.write_lanes.Goals as goal
 
 pub each_lane-init : goal.each_lane-init

@@ -1,6 +1,4 @@
-use Rattle.std.proofs.Common.{ℕ, ◌+◌, ◌≤◌}
-use Rattle.sha2.specs.Sha256.{sha256}
-use Rattle.wal_lanes.specs.Pieces.{AreDigests}
+use Rattle.wal_lanes.proofs.Common.{ℕ, ◌+◌, ◌≤◌, sha256, AreDigests}
 use Rattle.wal_lanes.proofs.pieces.write_lanes.Given as goal
 
 abbrev pub invariant-each_lane : goal.invariant-each_lane

@@ -1,5 +1,4 @@
-use Rattle.std.proofs.Common.{replicate}
-use Rattle.std.proofs.lemmas.List.{get_or-replicate}
+use Rattle.wal_lanes.proofs.Common.{replicate, get_or-replicate}
 use Rattle.wal_lanes.proofs.Taken.{taken_none}
 use Rattle.wal_lanes.proofs.strips.begun.Goals as goal
 

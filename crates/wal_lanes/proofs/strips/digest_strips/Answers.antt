@@ -1,11 +1,6 @@
-use Rattle.std.proofs.Common.{◌≡◌, ℕ, ◌*◌, List, length, subst, sym, ◌∙◌}
-use Rattle.std.proofs.lemmas.List.{take_at}
+use Rattle.wal_lanes.proofs.Common.{◌≡◌, ℕ, ◌*◌, List, length, subst, sym, ◌∙◌, take_at, sha256, AreDigestsOf, Group, HaveTaken}
 use Rattle.std.specs.Vec.{vec_len}
-use Rattle.sha2.specs.Sha256.{sha256}
 use Rattle.wal_lanes.proofs.Taken.{begun_groups}
-use Rattle.wal_lanes.specs.Strips.{AreDigestsOf}
-use Rattle.wal_lanes.specs.declared.strips.Group.{Group}
-use Rattle.wal_lanes.specs.inside.Strips.{HaveTaken}
 use Rattle.wal_lanes.proofs.strips.digest_strips.Goals as goal
 
 pub returns-clause-digests : goal.returns-clause-digests

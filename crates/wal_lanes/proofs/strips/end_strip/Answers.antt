@@ -1,4 +1,4 @@
-use Rattle.std.proofs.Common.{◌∙◌, arith}
+use Rattle.wal_lanes.proofs.Common.{◌∙◌, arith}
 use Rattle.wal_lanes.proofs.Taken.{part_ended}
 use Rattle.wal_lanes.proofs.strips.end_strip.Goals as goal
 

@@ -1,4 +1,4 @@
-use Rattle.std.proofs.Common.{◌≡◌, ℕ, ◌<◌, length}
+use Rattle.wal_lanes.proofs.Common.{◌≡◌, ℕ, ◌<◌, length}
 use Rattle.wal_lanes.proofs.Taken.{EndsPart}
 use Rattle.wal_lanes.proofs.strips.end_strip.Given as goal
 

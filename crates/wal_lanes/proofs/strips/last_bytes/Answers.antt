@@ -1,5 +1,5 @@
 use Rattle.wal_lanes.proofs.LaneLemmas.{HasLanes-listed}
-use Rattle.std.proofs.Common.{ℕ, ◌+◌, ◌*◌, ◌-◌, slice_index}
+use Rattle.wal_lanes.proofs.Common.{ℕ, ◌+◌, ◌*◌, ◌-◌, slice_index}
 use Rattle.wal_lanes.proofs.strips.last_bytes.Goals as goal
 
 pub returns : goal.returns

@@ -1,4 +1,4 @@
-use Rattle.std.proofs.Common.{◌-◌, ◌/◌}
+use Rattle.wal_lanes.proofs.Common.{◌-◌, ◌/◌}
 use Rattle.wal_lanes.proofs.Taken.{blocks_before}
 use Rattle.wal_lanes.proofs.strips.strips_before.Goals as goal
 

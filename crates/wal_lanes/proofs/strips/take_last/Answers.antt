@@ -1,5 +1,4 @@
-use Rattle.std.proofs.Common.{◌*◌, length, refl, ◌∙◌}
-use Rattle.std.proofs.Math.Nat.{mul-le-mul_right}
+use Rattle.wal_lanes.proofs.Common.{◌*◌, length, refl, ◌∙◌, mul-le-mul_right}
 use Rattle.wal_lanes.proofs.Taken.{strips_ended}
 use Rattle.wal_lanes.proofs.strips.take_last.Goals as goal
 

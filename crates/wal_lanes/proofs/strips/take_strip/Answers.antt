@@ -1,6 +1,4 @@
-use Rattle.std.proofs.Common.{◌∙◌, arith}
-use Rattle.std.proofs.lemmas.List.{length-set}
-use Rattle.std.proofs.lemmas.Option.{slice_get_within}
+use Rattle.wal_lanes.proofs.Common.{◌∙◌, arith, length-set, slice_get_within}
 use Rattle.wal_lanes.proofs.Taken.{other_group, part_taken}
 use Rattle.wal_lanes.proofs.strips.take_strip.Goals as goal
 

@@ -1,4 +1,4 @@
-use Rattle.std.proofs.Common.{◌≡◌, ℕ, ◌<◌, ◌≤◌, length, slice_get}
+use Rattle.wal_lanes.proofs.Common.{◌≡◌, ℕ, ◌<◌, ◌≤◌, length, slice_get}
 use Rattle.wal_lanes.proofs.Taken.{TakesPart}
 use Rattle.wal_lanes.proofs.strips.take_strip.Given as goal
 

@@ -1,8 +1,5 @@
-use Rattle.std.proofs.Common.{◌≡◌, ℕ, ◌+◌, ◌*◌, ◌≤◌, refl, subst, ◌∙◌, arith}
-use Rattle.std.proofs.Math.Nat.{mul-le-mul_right}
+use Rattle.wal_lanes.proofs.Common.{◌≡◌, ℕ, ◌+◌, ◌*◌, ◌≤◌, refl, subst, ◌∙◌, arith, mul-le-mul_right, IsStrip, HaveTaken}
 use Rattle.wal_lanes.proofs.Taken.{strip_taken}
-use Rattle.wal_lanes.specs.Strips.{IsStrip}
-use Rattle.wal_lanes.specs.inside.Strips.{HaveTaken}
 use Rattle.wal_lanes.proofs.strips.take_strips.Goals as goal
 
 pub each-init : goal.each-init

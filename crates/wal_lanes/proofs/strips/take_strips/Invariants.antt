@@ -1,5 +1,4 @@
-use Rattle.std.proofs.Common.{◌≡◌, ℕ, ◌*◌, ◌%◌, length}
-use Rattle.wal_lanes.specs.inside.Strips.{HaveTaken}
+use Rattle.wal_lanes.proofs.Common.{◌≡◌, ℕ, ◌*◌, ◌%◌, length, HaveTaken}
 use Rattle.wal_lanes.proofs.strips.take_strips.Given as goal
 
 abbrev pub invariant-each : goal.invariant-each

@@ -1,8 +1,6 @@
-use Rattle.std.proofs.Common.{◌≡◌, ℕ, ◌+◌, ◌*◌, List, length, refl, ap, ◌∙◌, arith}
-use Rattle.sha2.specs.Sha256.{digest_bytes}
+use Rattle.wal_lanes.proofs.Common.{◌≡◌, ℕ, ◌+◌, ◌*◌, List, length, refl, ap, ◌∙◌, arith, digest_bytes, lane}
 use Rattle.wal_lanes.proofs.Parts.{length-put_at, part_before, parts_put_from}
 use Rattle.wal_lanes.proofs.Written.{length-digest_bytes}
-use Rattle.wal_lanes.specs.inside.Lanes.{lane}
 use Rattle.wal_lanes.proofs.strips.write_digests.Goals as goal
 
 pub each_lane-preserved : goal.each_lane-preserved

@@ -1,6 +1,4 @@
-use Rattle.std.proofs.Common.{◌≡◌, ℕ, ◌+◌, ◌*◌, ◌<◌, length, take, drop}
-use Rattle.sha2.specs.Sha256.{digest_bytes}
-use Rattle.wal_lanes.specs.inside.Lanes.{lane}
+use Rattle.wal_lanes.proofs.Common.{◌≡◌, ℕ, ◌+◌, ◌*◌, ◌<◌, length, take, drop, digest_bytes, lane}
 use Rattle.wal_lanes.proofs.strips.write_digests.Given as goal
 
 abbrev pub invariant-each_lane : goal.invariant-each_lane

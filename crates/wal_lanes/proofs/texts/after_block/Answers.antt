@@ -1,7 +1,5 @@
-use Rattle.std.proofs.Common.{◌≡◌, ℕ, ◌+◌, ◌*◌, length, take, drop, ap, ◌∙◌, refl, arith}
-use Rattle.sha2.specs.Sha256.{compress}
+use Rattle.wal_lanes.proofs.Common.{◌≡◌, ℕ, ◌+◌, ◌*◌, length, take, drop, ap, ◌∙◌, refl, arith, compress, lane}
 use Rattle.wal_lanes.proofs.Parts.{length-put_at, parts_put, piece_within}
-use Rattle.wal_lanes.specs.inside.Lanes.{lane}
 use Rattle.wal_lanes.proofs.texts.after_block.Goals as goal
 
 pub part-requires : goal.part-requires

@@ -1,4 +1,4 @@
-use Rattle.std.proofs.Common.{◌≡◌, ℕ, ◌+◌, ◌*◌, ◌<◌, length, take, drop}
+use Rattle.wal_lanes.proofs.Common.{◌≡◌, ℕ, ◌+◌, ◌*◌, ◌<◌, length, take, drop}
 use Rattle.wal_lanes.proofs.texts.after_block.Given as goal
 
 abbrev pub invariant-each_block : goal.invariant-each_block

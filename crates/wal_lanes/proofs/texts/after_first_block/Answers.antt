@@ -1,9 +1,6 @@
-use Rattle.std.proofs.Common.{◌≡◌, ℕ, List, ◌+◌, ◌*◌, ◌∷◌, take, drop, length, slice_index, ap, ◌∙◌, refl, arith}
-use Rattle.std.proofs.lemmas.List.{length-take-le}
+use Rattle.wal_lanes.proofs.Common.{◌≡◌, ℕ, List, ◌+◌, ◌*◌, ◌∷◌, take, drop, length, slice_index, ap, ◌∙◌, refl, arith, length-take-le, lane, text}
 use Rattle.wal_lanes.proofs.Parts.{length-put_at, parts_put, piece_within}
 use Rattle.wal_lanes.proofs.Blocks.{hash_next, hash_none}
-use Rattle.wal_lanes.specs.inside.Lanes.{lane}
-use Rattle.wal_lanes.specs.Pieces.{text}
 use Rattle.wal_lanes.proofs.texts.after_first_block.Goals as goal
 
 pub part-requires : goal.part-requires

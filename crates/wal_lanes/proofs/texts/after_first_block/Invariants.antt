@@ -1,5 +1,4 @@
-use Rattle.std.proofs.Common.{◌≡◌, ℕ, ◌*◌, ◌<◌, length, take, drop, slice_index}
-use Rattle.wal_lanes.specs.Pieces.{text}
+use Rattle.wal_lanes.proofs.Common.{◌≡◌, ℕ, ◌*◌, ◌<◌, length, take, drop, slice_index, text}
 use Rattle.wal_lanes.proofs.texts.after_first_block.Given as goal
 
 abbrev pub invariant-each_first : goal.invariant-each_first

@@ -1,9 +1,6 @@
-use Rattle.std.proofs.Common.{◌≡◌, ℕ, List, ◌+◌, ◌*◌, ◌≤◌, ◌∷◌, length, slice_index, ap, sym, ◌∙◌, refl, arith}
-use Rattle.sha2.specs.Sha256.{initial_hash_256}
+use Rattle.wal_lanes.proofs.Common.{◌≡◌, ℕ, List, ◌+◌, ◌*◌, ◌≤◌, ◌∷◌, length, slice_index, ap, sym, ◌∙◌, refl, arith, initial_hash_256, last_blocks, tail_length, text}
 use Rattle.wal_lanes.proofs.Parts.{length-put_at, parts_put, piece_within}
 use Rattle.wal_lanes.proofs.Blocks.{last_blocks_behind, last_one, last_two, length-last_blocks_of, length-text, tail_of_message}
-use Rattle.wal_lanes.specs.inside.Lanes.{last_blocks, tail_length}
-use Rattle.wal_lanes.specs.Pieces.{text}
 use Rattle.wal_lanes.proofs.texts.after_last_blocks.Goals as goal
 
 pub part-requires : goal.part-requires

@@ -1,6 +1,4 @@
-use Rattle.std.proofs.Common.{◌≡◌, ℕ, ◌*◌, ◌<◌, length, take, drop, slice_index}
-use Rattle.wal_lanes.specs.inside.Lanes.{last_blocks}
-use Rattle.wal_lanes.specs.Pieces.{text}
+use Rattle.wal_lanes.proofs.Common.{◌≡◌, ℕ, ◌*◌, ◌<◌, length, take, drop, slice_index, last_blocks, text}
 use Rattle.wal_lanes.proofs.texts.after_last_blocks.Given as goal
 
 abbrev pub invariant-each_tail : goal.invariant-each_tail

@@ -1,8 +1,5 @@
-use Rattle.std.proofs.Common.{◌≡◌, ◌+◌, ◌/◌, slice_index, ap, ◌∙◌, refl, arith}
-use Rattle.sha2.specs.Sha256.{hash_after}
+use Rattle.wal_lanes.proofs.Common.{◌≡◌, ◌+◌, ◌/◌, slice_index, ap, ◌∙◌, refl, arith, hash_after, lane, text}
 use Rattle.wal_lanes.proofs.Blocks.{hash_next, hash_none, middle_block}
-use Rattle.wal_lanes.specs.inside.Lanes.{lane}
-use Rattle.wal_lanes.specs.Pieces.{text}
 use Rattle.wal_lanes.proofs.texts.after_whole_blocks.Goals as goal
 
 pub returns-then-blocks-eq0 : goal.returns-then-blocks-eq0

@@ -1,7 +1,4 @@
-use Rattle.std.proofs.Common.{◌≡◌, ℕ, ◌<◌, slice_index}
-use Rattle.sha2.specs.Sha256.{hash_after}
-use Rattle.wal_lanes.specs.inside.Lanes.{lane}
-use Rattle.wal_lanes.specs.Pieces.{text}
+use Rattle.wal_lanes.proofs.Common.{◌≡◌, ℕ, ◌<◌, slice_index, hash_after, lane, text}
 use Rattle.wal_lanes.proofs.texts.after_whole_blocks.Given as goal
 
 abbrev pub invariant-middle : goal.invariant-middle

@@ -1,8 +1,5 @@
-use Rattle.std.proofs.Common.{◌≡◌, ℕ, ◌+◌, List, length, sym, ap, arith}
-use Rattle.std.proofs.lemmas.List.{get_or-replicate}
-use Rattle.sha2.specs.Sha256.{digest_bytes, initial_hash_256, sha256}
+use Rattle.wal_lanes.proofs.Common.{◌≡◌, ℕ, ◌+◌, List, length, sym, ap, arith, get_or-replicate, digest_bytes, initial_hash_256, sha256, text}
 use Rattle.wal_lanes.proofs.Blocks.{length-text, padded_after}
-use Rattle.wal_lanes.specs.Pieces.{text}
 use Rattle.wal_lanes.proofs.texts.hash_lanes.Goals as goal
 
 pub returns : goal.returns

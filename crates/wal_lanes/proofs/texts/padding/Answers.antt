@@ -1,5 +1,4 @@
-use Rattle.std.proofs.Common.{arith}
-use Rattle.sha2.proofs.Absorbing256.{padding-take}
+use Rattle.wal_lanes.proofs.Common.{arith, padding-take}
 use Rattle.wal_lanes.proofs.texts.padding.Goals as goal
 
 pub returns : goal.returns

@@ -1,6 +1,5 @@
-use Rattle.std.proofs.Common.{ℕ, List, [], ◌∷◌, ◌+◌, ap, ◌∙◌, arith}
+use Rattle.wal_lanes.proofs.Common.{ℕ, List, [], ◌∷◌, ◌+◌, ap, ◌∙◌, arith, put_at}
 use Rattle.wal_lanes.proofs.Parts.{put_put}
-use Rattle.wal_lanes.specs.inside.Lanes.{put_at}
 use Rattle.wal_lanes.proofs.texts.put_first.Goals as goal
 
 pub returns : goal.returns

@@ -1,7 +1,6 @@
-use Rattle.std.proofs.Common.{[], ◌∷◌, ◌+◌, ap, ◌∙◌, arith}
+use Rattle.wal_lanes.proofs.Common.{[], ◌∷◌, ◌+◌, ap, ◌∙◌, arith, put_at}
 use Rattle.wal_lanes.proofs.Parts.{put_put}
 use Rattle.wal_lanes.proofs.Blocks.{rest_long, rest_short}
-use Rattle.wal_lanes.specs.inside.Lanes.{put_at}
 use Rattle.wal_lanes.proofs.texts.put_rest.Goals as goal
 
 pub returns-then-whole-gt0 : goal.returns-then-whole-gt0

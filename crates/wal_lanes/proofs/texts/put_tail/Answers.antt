@@ -1,4 +1,4 @@
-use Rattle.std.proofs.Common.{◌∷◌, ◌+◌, ◌*◌, ◌/◌, ap, arith, drop, length}
+use Rattle.wal_lanes.proofs.Common.{◌∷◌, ◌+◌, ◌*◌, ◌/◌, ap, arith, drop, length}
 use Rattle.wal_lanes.proofs.Blocks.{tail_put}
 use Rattle.wal_lanes.proofs.texts.put_tail.Goals as goal
 

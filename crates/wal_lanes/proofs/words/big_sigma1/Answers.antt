@@ -1,4 +1,4 @@
-use Rattle.std.proofs.Common.{bit_xor}
+use Rattle.wal_lanes.proofs.Common.{bit_xor}
 use Rattle.wal_lanes.proofs.LaneLemmas.{HasLanes-zip2}
 use Rattle.wal_lanes.proofs.words.big_sigma1.Goals as goal
 

@@ -1,4 +1,4 @@
-use Rattle.std.proofs.Common.{bit_and, bit_xor, w32}
+use Rattle.wal_lanes.proofs.Common.{bit_and, bit_xor, w32}
 use Rattle.wal_lanes.proofs.ChMaj.{ch_short}
 use Rattle.wal_lanes.proofs.LaneLemmas.{HasLanes-own, HasLanes-same, HasLanes-zip2, lane_fits}
 use Rattle.wal_lanes.proofs.words.ch.Goals as goal

@@ -1,5 +1,4 @@
-use Rattle.std.proofs.Common.{ℕ, ap, ◌∙◌, arith}
-use Rattle.sha2.specs.Sha256.{word_at}
+use Rattle.wal_lanes.proofs.Common.{ℕ, ap, ◌∙◌, arith, word_at}
 use Rattle.wal_lanes.proofs.LaneLemmas.{HasLanes-listed}
 use Rattle.wal_lanes.proofs.words.load.Goals as goal
 

@@ -1,4 +1,4 @@
-use Rattle.std.proofs.Common.{bit_and, bit_xor, slice_index}
+use Rattle.wal_lanes.proofs.Common.{bit_and, bit_xor, slice_index}
 use Rattle.wal_lanes.proofs.ChMaj.{maj_short}
 use Rattle.wal_lanes.proofs.LaneLemmas.{HasLanes-own, HasLanes-same, HasLanes-zip2}
 use Rattle.wal_lanes.proofs.words.maj.Goals as goal

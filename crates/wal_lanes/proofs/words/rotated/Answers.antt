@@ -1,4 +1,4 @@
-use Rattle.std.proofs.Common.{bit_or, ◌-◌, ◌*◌, ◌/◌, ◌%◌, ◌^◌}
+use Rattle.wal_lanes.proofs.Common.{bit_or, ◌-◌, ◌*◌, ◌/◌, ◌%◌, ◌^◌}
 use Rattle.wal_lanes.proofs.LaneLemmas.{HasLanes-own, HasLanes-same, HasLanes-splat, HasLanes-zip2, rotation}
 use Rattle.wal_lanes.proofs.words.rotated.Goals as goal
 

@@ -1,5 +1,4 @@
-use Rattle.std.proofs.Common.{ℕ}
-use Rattle.sha2.specs.Sha256.{add32}
+use Rattle.wal_lanes.proofs.Common.{ℕ, add32}
 use Rattle.wal_lanes.proofs.LaneLemmas.{HasLanes-own, HasLanes-zip2}
 use Rattle.wal_lanes.proofs.words.sum.Goals as goal
 

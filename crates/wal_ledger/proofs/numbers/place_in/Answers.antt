@@ -1,7 +1,4 @@
-use Rattle.std.proofs.Common.{◌≡◌, rules}
-use Rattle.std.proofs.lemmas.Fn.{always_returns_same}
-use Rattle.wal_shape.specs.Identifiers.{id_cmp}
-use Rattle.wal_ledger.specs.inside.Rows.{id_of}
+use Rattle.wal_ledger.proofs.Common.{◌≡◌, rules, always_returns_same, id_cmp, id_of}
 use Rattle.wal_ledger.proofs.RowsNumbers.{numbers_found, numbers_missed}
 use Rattle.wal_ledger.proofs.numbers.place_in.Goals as goal
 

@@ -1,6 +1,4 @@
-use Rattle.std.proofs.Common.{◌≡◌, ◌≤◌}
-use Rattle.wal_ledger.specs.Shards.{count_below}
-use Rattle.wal_ledger.specs.Ledger.{same_node}
+use Rattle.wal_ledger.proofs.Common.{◌≡◌, ◌≤◌, count_below, same_node}
 use Rattle.wal_ledger.proofs.owners.node_size.Given as goal
 
 abbrev pub invariant-loop-other : goal.invariant-loop-other

@@ -1,6 +1,4 @@
-use Rattle.std.proofs.Common.{◌||◌, ap, sym, ◌∙◌, arith}
-use Rattle.std.proofs.lemmas.Bool.{or_left}
-use Rattle.wal_shape.specs.Owners.{has_neighbour}
+use Rattle.wal_ledger.proofs.Common.{◌||◌, ap, sym, ◌∙◌, arith, or_left, has_neighbour}
 use Rattle.wal_ledger.proofs.TallyLaws.{walks, walk_end}
 use Rattle.wal_ledger.proofs.tally.is_linked.Goals as goal
 

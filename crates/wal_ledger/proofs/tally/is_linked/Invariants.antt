@@ -1,6 +1,4 @@
-use Rattle.std.proofs.Common.{◌≡◌, ◌<◌, ◌^◌, List, ℕ}
-use Rattle.wal_ledger.specs.inside.Tally.{Chain, HasChain}
-use Rattle.wal_shape.specs.Owners.{has_neighbour}
+use Rattle.wal_ledger.proofs.Common.{◌≡◌, ◌<◌, ◌^◌, List, ℕ, Chain, HasChain, has_neighbour}
 use Rattle.wal_ledger.proofs.tally.is_linked.Given as goal
 
 abbrev pub invariant-loop-next : goal.invariant-loop-next

@@ -1,6 +1,4 @@
-use Rattle.std.proofs.Common.{rules, ℕ, List, subst}
-use Rattle.wal_shape.specs.Shape.{row_count, shard_count}
-use Rattle.wal_matrix.specs.inside.Turned.{IsTurnedExtension}
+use Rattle.wal_matrix.proofs.Common.{rules, ℕ, List, subst, row_count, shard_count, IsTurnedExtension}
 use Rattle.wal_matrix.proofs.MatrixLaws.{extended_twice}
 use Rattle.wal_matrix.proofs.blocks.extended_block.Goals as goal
 

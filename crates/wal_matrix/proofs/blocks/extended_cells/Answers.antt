@@ -1,5 +1,4 @@
-use Rattle.std.proofs.Common.{ℕ, length, ap, sym, ◌∙◌}
-use Rattle.wal_shape.specs.Shape.{symbol_size}
+use Rattle.wal_matrix.proofs.Common.{ℕ, length, ap, sym, ◌∙◌, symbol_size}
 use Rattle.wal_matrix.proofs.blocks.extended_cells.Goals as goal
 
 pub extended_rows-requires-clause-size : goal.extended_rows-requires-clause-size

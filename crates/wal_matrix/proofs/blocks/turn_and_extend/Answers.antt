@@ -1,4 +1,4 @@
-use Rattle.std.proofs.Common.{rules, ◌*◌, ◌≤◌, arith, refl, ◌∙◌, length-take-le}
+use Rattle.wal_matrix.proofs.Common.{rules, ◌*◌, ◌≤◌, arith, refl, ◌∙◌, length-take-le}
 use Rattle.wal_matrix.proofs.Places.{part_fits, even_product}
 use Rattle.wal_matrix.proofs.TurnedLaws.{turned_extension_at}
 use Rattle.wal_matrix.proofs.blocks.turn_and_extend.Goals as goal

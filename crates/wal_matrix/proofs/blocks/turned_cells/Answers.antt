@@ -1,5 +1,4 @@
-use Rattle.std.proofs.Common.{◌≡◌, ℕ, ◌*◌, length, ap, ap₂, sym, ◌∙◌}
-use Rattle.wal_shape.specs.Shape.{row_count, column_count, symbol_size}
+use Rattle.wal_matrix.proofs.Common.{◌≡◌, ℕ, ◌*◌, length, ap, ap₂, sym, ◌∙◌, row_count, column_count, symbol_size}
 use Rattle.wal_matrix.proofs.PaddedLaws.{padded_long}
 use Rattle.wal_matrix.proofs.blocks.turned_cells.Goals as goal
 

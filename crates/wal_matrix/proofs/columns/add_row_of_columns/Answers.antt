@@ -1,6 +1,5 @@
 -- The row is laid as zeros, and the given symbols are copied over its front.
-use Rattle.std.proofs.Common.{rules, ◌≡◌, ◌+◌, ◌-◌, ◌*◌, length, ◌++◌, replicate, vec_len, ◌∙◌, arith}
-use Rattle.std.proofs.lemmas.List.{take_at}
+use Rattle.wal_matrix.proofs.Common.{rules, ◌≡◌, ◌+◌, ◌-◌, ◌*◌, length, ◌++◌, replicate, vec_len, ◌∙◌, arith, take_at}
 use borrow.Rule.Slice.PartMut.{put_mid}
 use Rattle.wal_matrix.proofs.ColumnLaws.{row_added, laid_zeros}
 use Rattle.wal_matrix.proofs.columns.add_row_of_columns.Goals as goal

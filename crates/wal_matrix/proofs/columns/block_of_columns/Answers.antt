@@ -1,6 +1,5 @@
 -- Row by row, and what the columns of the block then are.
-use Rattle.std.proofs.Common.{rules, ◌≡◌, ◌*◌, ◌≤◌, length, vec_len, ap, ◌∙◌, arith}
-use Rattle.wal_shape.specs.Shape.{row_count}
+use Rattle.wal_matrix.proofs.Common.{rules, ◌≡◌, ◌*◌, ◌≤◌, length, vec_len, ap, ◌∙◌, arith, row_count}
 use Rattle.wal_matrix.proofs.ColumnLaws.{all_rows, block_column, block_long, block_rest, block_symbol, more_rows, rows_fit}
 use Rattle.wal_matrix.proofs.columns.block_of_columns.Goals as goal
 

@@ -1,6 +1,4 @@
-use Rattle.std.proofs.Common.{◌≡◌}
-use Rattle.std.specs.List.{flat_map, range_with_len}
-use Rattle.wal_matrix.specs.Columns.{row_of_columns}
+use Rattle.wal_matrix.proofs.Common.{◌≡◌, flat_map, range_with_len, row_of_columns}
 use Rattle.wal_matrix.proofs.columns.block_of_columns.Given as goal
 
 -- the rows so far

@@ -1,7 +1,4 @@
-use Rattle.std.proofs.Common.{rules, ◌≡◌, ℕ, ◌*◌, List, arith, sym, ap₂, ◌∙◌, subst}
-use Rattle.wal_shape.specs.Shape.{column_count, symbol_size}
-use Rattle.wal_shape.proofs.ShapeLaws.{symbol_size-least}
-use Rattle.wal_matrix.specs.Through.{IsMatrixThrough, source_of}
+use Rattle.wal_matrix.proofs.Common.{rules, ◌≡◌, ℕ, ◌*◌, List, arith, sym, ap₂, ◌∙◌, subst, column_count, symbol_size, symbol_size-least, IsMatrixThrough, source_of}
 use Rattle.wal_matrix.proofs.Decoded.{AreSlivers, AreSums, sums_source, sums_decoded, sums_by_sizes}
 use Rattle.wal_matrix.proofs.decoding.decode_primaries.Goals as goal
 

@@ -1,6 +1,4 @@
-use Rattle.std.proofs.Common.{rules, ◌≡◌, ℕ, ◌-◌, ◌*◌, List, length, vec_len, take, replicate, sym, ap, ◌∙◌, subst}
-use Rattle.std.proofs.lemmas.List.{take_at}
-use Rattle.wal_matrix.specs.Word.{BeginsCodeword}
+use Rattle.wal_matrix.proofs.Common.{rules, ◌≡◌, ℕ, ◌-◌, ◌*◌, List, length, vec_len, take, replicate, sym, ap, ◌∙◌, subst, take_at, BeginsCodeword}
 use Rattle.wal_matrix.proofs.expansion.fill_word.Goals as goal
 
 pub returns-clause-word : goal.returns-clause-word

@@ -1,4 +1,4 @@
-use Rattle.std.proofs.Common.{rules, ◌≡◌, ◌-◌, length, refl, arith, ◌∙◌}
+use Rattle.wal_matrix.proofs.Common.{rules, ◌≡◌, ◌-◌, length, refl, arith, ◌∙◌}
 use Rattle.wal_matrix.proofs.FrontLaws.{laid_bytes, rest_to_fill}
 use Rattle.wal_matrix.proofs.front.put_bytes.Goals as goal
 

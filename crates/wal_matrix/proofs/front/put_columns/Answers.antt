@@ -1,7 +1,4 @@
-use Rattle.std.proofs.Common.{rules, ◌≡◌, ◌+◌, ◌*◌, ◌<◌, ◌≤◌, ℕ, length, arith, subst}
-use Rattle.std.proofs.lemmas.Nat.{div_below, mod_below}
-use Rattle.wal_shape.specs.Shape.{row_count}
-use Rattle.wal_matrix.specs.inside.Front.{ArePut}
+use Rattle.wal_matrix.proofs.Common.{rules, ◌≡◌, ◌+◌, ◌*◌, ◌<◌, ◌≤◌, ℕ, length, arith, subst, div_below, mod_below, row_count, ArePut}
 use Rattle.wal_matrix.proofs.FrontLaws.{put_more}
 use Rattle.wal_matrix.proofs.Places.{run_fits}
 use Rattle.wal_matrix.proofs.front.put_columns.Goals as goal

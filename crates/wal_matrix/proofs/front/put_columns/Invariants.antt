@@ -1,5 +1,4 @@
-use Rattle.std.proofs.Common.{◌≡◌, length}
-use Rattle.wal_matrix.specs.inside.Front.{ArePut}
+use Rattle.wal_matrix.proofs.Common.{◌≡◌, length, ArePut}
 use Rattle.wal_matrix.proofs.front.put_columns.Given as goal
 
 abbrev pub invariant-loop-place : goal.invariant-loop-place

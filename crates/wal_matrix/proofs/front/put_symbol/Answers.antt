@@ -1,6 +1,4 @@
-use Rattle.std.proofs.Common.{◌≡◌, ◌+◌, ◌-◌, ◌<◌, ℕ, sym, ap, arith, ◌∙◌}
-use Rattle.wal_shape.specs.Shape.{shard_count, column_count}
-use Rattle.wal_matrix.specs.Matrix.{symbol}
+use Rattle.wal_matrix.proofs.Common.{◌≡◌, ◌+◌, ◌-◌, ◌<◌, ℕ, sym, ap, arith, ◌∙◌, shard_count, column_count, symbol}
 use Rattle.wal_matrix.proofs.FrontLaws.{put_source, source_place}
 use Rattle.wal_matrix.proofs.Symbols.{symbol_is}
 use Rattle.wal_matrix.proofs.front.put_symbol.Goals as goal

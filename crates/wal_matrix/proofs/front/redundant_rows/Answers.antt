@@ -1,6 +1,4 @@
-use Rattle.std.proofs.Common.{◌≡◌, ◌+◌, ◌*◌, ◌<◌, ℕ, List, length, drop, vec_len, ap, subst, sym, arith, ◌∙◌}
-use Rattle.wal_shape.specs.Shape.{shard_count, row_count, column_count}
-use Rattle.wal_matrix.specs.inside.Row.{IsRowFrom}
+use Rattle.wal_matrix.proofs.Common.{◌≡◌, ◌+◌, ◌*◌, ◌<◌, ℕ, List, length, drop, vec_len, ap, subst, sym, arith, ◌∙◌, shard_count, row_count, column_count, IsRowFrom}
 use Rattle.wal_matrix.proofs.FrontLaws.{KeptRows, kept_long, kept_more}
 use Rattle.wal_matrix.proofs.front.redundant_rows.Goals as goal
 

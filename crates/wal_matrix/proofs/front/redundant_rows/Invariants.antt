@@ -1,4 +1,4 @@
-use Rattle.std.proofs.Common.{◌≡◌, ◌*◌, length}
+use Rattle.wal_matrix.proofs.Common.{◌≡◌, ◌*◌, length}
 use Rattle.wal_matrix.proofs.FrontLaws.{KeptRows}
 use Rattle.wal_matrix.proofs.front.redundant_rows.Given as goal
 

@@ -1,6 +1,4 @@
-use Rattle.std.proofs.Common.{rules, ◌≡◌, ℕ, ◌+◌, ◌*◌, List, length, take, drop, vec_len, subst, sym, ap, ◌∙◌}
-use Rattle.std.proofs.lemmas.List.{take_at}
-use Rattle.wal_matrix.specs.inside.Row.{IsRowFrom}
+use Rattle.wal_matrix.proofs.Common.{rules, ◌≡◌, ℕ, ◌+◌, ◌*◌, List, length, take, drop, vec_len, subst, sym, ap, ◌∙◌, take_at, IsRowFrom}
 use Rattle.wal_matrix.proofs.RowLaws.{row_from, rows_kept, laid_long}
 use Rattle.wal_matrix.proofs.rows.add_row.Goals as goal
 

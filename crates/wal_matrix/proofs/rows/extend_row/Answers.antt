@@ -1,4 +1,4 @@
-use Rattle.std.proofs.Common.{◌≡◌, ◌-◌, ◌*◌, length, arith, refl, ◌∙◌}
+use Rattle.wal_matrix.proofs.Common.{◌≡◌, ◌-◌, ◌*◌, length, arith, refl, ◌∙◌}
 use Rattle.wal_matrix.proofs.Places.{part_fits}
 use Rattle.wal_matrix.proofs.TailLaws.{tail_long, tail_kept, tail_codeword}
 use Rattle.wal_matrix.proofs.rows.extend_row.Goals as goal

@@ -1,7 +1,4 @@
-use Rattle.std.proofs.Common.{rules, ◌≡◌, ℕ, ◌-◌, ◌*◌, List, length, take, vec_len, arith, subst, sym, ap, ◌∙◌}
-use Rattle.std.proofs.lemmas.List.{take_at}
-use Rattle.wal_shape.specs.Shape.{shard_count, row_count, symbol_size}
-use Rattle.wal_matrix.specs.Matrix.{IsMatrixOf, padded}
+use Rattle.wal_matrix.proofs.Common.{rules, ◌≡◌, ℕ, ◌-◌, ◌*◌, List, length, take, vec_len, arith, subst, sym, ap, ◌∙◌, take_at, shard_count, row_count, symbol_size, IsMatrixOf, padded}
 use Rattle.wal_matrix.proofs.Places.{even_product}
 use Rattle.wal_matrix.proofs.RowLaws.{extended_in_place}
 use Rattle.wal_matrix.proofs.rows.extended_rows.Goals as goal

@@ -1,4 +1,4 @@
-use Rattle.std.proofs.Common.{rules, ◌≡◌, ℕ, ◌+◌, ◌*◌, length, vec_len, arith, ap, ◌∙◌}
+use Rattle.wal_matrix.proofs.Common.{rules, ◌≡◌, ℕ, ◌+◌, ◌*◌, length, vec_len, arith, ap, ◌∙◌}
 use Rattle.wal_matrix.proofs.RowLaws.{rows_more}
 use Rattle.wal_matrix.proofs.rows.first_rows.Goals as goal
 

@@ -1,6 +1,4 @@
-use Rattle.std.proofs.Common.{◌≡◌, ◌*◌, ◌<◌, ℕ, vec_len}
-use Rattle.wal_kernel.specs.Region.{region}
-use Rattle.wal_matrix.specs.inside.Row.{IsRowFrom}
+use Rattle.wal_matrix.proofs.Common.{◌≡◌, ◌*◌, ◌<◌, ℕ, vec_len, region, IsRowFrom}
 use Rattle.wal_matrix.proofs.rows.first_rows.Given as goal
 
 -- the rows so far are extended, and the scratch keeps its length

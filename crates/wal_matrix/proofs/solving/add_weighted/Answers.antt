@@ -1,4 +1,4 @@
-use Rattle.std.proofs.Common.{rules}
+use Rattle.wal_matrix.proofs.Common.{rules}
 use Rattle.wal_matrix.proofs.Sums.{scaled_by_zero}
 use Rattle.wal_matrix.proofs.solving.add_weighted.Goals as goal
 

@@ -1,6 +1,4 @@
-use Rattle.std.proofs.Common.{◌≡◌, ℕ, List, rules, arith, ◌∙◌, refl, subst, slice_index}
-use Rattle.wal_code.specs.Codeword.{coefficient}
-use Rattle.wal_kernel.specs.Region.{region, IsScaledSum}
+use Rattle.wal_matrix.proofs.Common.{◌≡◌, ℕ, List, rules, arith, ◌∙◌, refl, subst, slice_index, coefficient, region, IsScaledSum}
 use Rattle.wal_matrix.proofs.Sums.{sum_none, sum_more}
 use Rattle.wal_matrix.proofs.solving.combine_weighted.Goals as goal
 

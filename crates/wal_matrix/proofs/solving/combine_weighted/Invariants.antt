@@ -1,6 +1,4 @@
-use Rattle.std.proofs.Common.{slice_index}
-use Rattle.wal_code.specs.Codeword.{coefficient}
-use Rattle.wal_matrix.specs.inside.Sum.{IsWeightedSum}
+use Rattle.wal_matrix.proofs.Common.{slice_index, coefficient, IsWeightedSum}
 use Rattle.wal_matrix.proofs.solving.combine_weighted.Given as goal
 
 abbrev pub invariant-loop-k : goal.invariant-loop-k

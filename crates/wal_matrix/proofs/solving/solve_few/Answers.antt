@@ -1,6 +1,4 @@
-use Rattle.std.proofs.Common.{◌≡◌, ◌+◌, ◌*◌, ◌≤◌, ℕ, List, length, rules, arith, sym, subst, below_more, slice_index}
-use Rattle.wal_code.specs.Codeword.{coefficient}
-use Rattle.wal_matrix.specs.inside.Sum.{IsWeightedSum}
+use Rattle.wal_matrix.proofs.Common.{◌≡◌, ◌+◌, ◌*◌, ◌≤◌, ℕ, List, length, rules, arith, sym, subst, below_more, slice_index, coefficient, IsWeightedSum}
 use Rattle.wal_matrix.proofs.Runs.{region-put_other, region-put_same}
 use Rattle.wal_matrix.proofs.Places.{run_fits}
 use Rattle.wal_matrix.proofs.solving.solve_few.Goals as goal

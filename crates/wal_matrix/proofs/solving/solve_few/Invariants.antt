@@ -1,7 +1,4 @@
-use Rattle.std.proofs.Common.{ℕ, ◌<◌, slice_index, length}
-use Rattle.wal_code.specs.Codeword.{coefficient}
-use Rattle.wal_kernel.specs.Region.{region}
-use Rattle.wal_matrix.specs.inside.Sum.{IsWeightedSum}
+use Rattle.wal_matrix.proofs.Common.{ℕ, ◌<◌, slice_index, length, coefficient, region, IsWeightedSum}
 use Rattle.wal_matrix.proofs.solving.solve_few.Given as goal
 
 abbrev pub invariant-loop-place : goal.invariant-loop-place

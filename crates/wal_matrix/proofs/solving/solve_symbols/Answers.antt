@@ -1,4 +1,4 @@
-use Rattle.std.proofs.Common.{rules}
+use Rattle.wal_matrix.proofs.Common.{rules}
 use Rattle.wal_matrix.proofs.Solved.{known_symbols, solved_is_word, solved_unique}
 use Rattle.wal_matrix.proofs.solving.solve_symbols.Goals as goal
 

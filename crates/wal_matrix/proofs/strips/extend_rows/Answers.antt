@@ -1,4 +1,4 @@
-use Rattle.std.proofs.Common.{◌+◌, ◌*◌, ◌∙◌}
+use Rattle.wal_matrix.proofs.Common.{◌+◌, ◌*◌, ◌∙◌}
 use Rattle.wal_matrix.proofs.FrontLaws.{are_bytes}
 use Rattle.wal_matrix.proofs.Places.{even_product}
 use Rattle.wal_matrix.proofs.StripLaws.{strip_extended}

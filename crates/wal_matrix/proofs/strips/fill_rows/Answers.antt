@@ -1,5 +1,4 @@
-use Rattle.std.proofs.Common.{rules, ◌≡◌, ◌+◌, ◌*◌, ◌<◌, ◌≤◌, length, refl, arith, ◌∙◌}
-use Rattle.wal_shape.specs.Shape.{shard_count, row_count}
+use Rattle.wal_matrix.proofs.Common.{rules, ◌≡◌, ◌+◌, ◌*◌, ◌<◌, ◌≤◌, length, refl, arith, ◌∙◌, shard_count, row_count}
 use Rattle.wal_matrix.proofs.Places.{run_fits}
 use Rattle.wal_matrix.proofs.StripLaws.{row_strips_more, part_long}
 use Rattle.wal_matrix.proofs.strips.fill_rows.Goals as goal

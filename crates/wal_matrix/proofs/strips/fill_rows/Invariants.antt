@@ -1,5 +1,4 @@
-use Rattle.std.proofs.Common.{◌≡◌, length}
-use Rattle.wal_matrix.specs.inside.Strips.{AreRowStrips}
+use Rattle.wal_matrix.proofs.Common.{◌≡◌, length, AreRowStrips}
 use Rattle.wal_matrix.proofs.strips.fill_rows.Given as goal
 
 abbrev pub invariant-loop-row : goal.invariant-loop-row

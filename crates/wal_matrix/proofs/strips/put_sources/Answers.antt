@@ -1,5 +1,4 @@
-use Rattle.std.proofs.Common.{rules, ◌≡◌, ◌+◌, ◌*◌, ◌<◌, ◌≤◌, length, arith, ◌∙◌}
-use Rattle.wal_shape.specs.Shape.{column_count}
+use Rattle.wal_matrix.proofs.Common.{rules, ◌≡◌, ◌+◌, ◌*◌, ◌<◌, ◌≤◌, length, arith, ◌∙◌, column_count}
 use Rattle.wal_matrix.proofs.Places.{run_fits}
 use Rattle.wal_matrix.proofs.StripLaws.{sources_more, strip_place, part_most, part_long}
 use Rattle.wal_matrix.proofs.strips.put_sources.Goals as goal

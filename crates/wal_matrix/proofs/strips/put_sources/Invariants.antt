@@ -1,5 +1,4 @@
-use Rattle.std.proofs.Common.{◌≡◌, length}
-use Rattle.wal_matrix.specs.inside.Strips.{AreSources}
+use Rattle.wal_matrix.proofs.Common.{◌≡◌, length, AreSources}
 use Rattle.wal_matrix.proofs.strips.put_sources.Given as goal
 
 abbrev pub invariant-loop-column : goal.invariant-loop-column

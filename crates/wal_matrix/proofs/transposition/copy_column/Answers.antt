@@ -1,4 +1,4 @@
-use Rattle.std.proofs.Common.{rules, ◌<◌, ◌^◌, length, arith, sym, ap, ◌∙◌}
+use Rattle.wal_matrix.proofs.Common.{rules, ◌<◌, ◌^◌, length, arith, sym, ap, ◌∙◌}
 use Rattle.wal_matrix.proofs.Places.{place_fits, number_fits, run_fits}
 use Rattle.wal_matrix.proofs.Symbols.{symbol_is, copied_more, column_none, column_all}
 use Rattle.wal_matrix.proofs.transposition.copy_column.Goals as goal

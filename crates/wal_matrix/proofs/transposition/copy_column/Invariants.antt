@@ -1,5 +1,4 @@
-use Rattle.std.proofs.Common.{◌≡◌, ◌*◌, take}
-use Rattle.wal_matrix.specs.Matrix.{column_part}
+use Rattle.wal_matrix.proofs.Common.{◌≡◌, ◌*◌, take, column_part}
 use Rattle.wal_matrix.proofs.transposition.copy_column.Given as goal
 
 abbrev pub invariant-loop-row : goal.invariant-loop-row

@@ -1,4 +1,4 @@
-use Rattle.std.proofs.Common.{◌≡◌, ◌+◌, ◌*◌, ◌<◌, ◌≤◌, ◌^◌, length, rules, arith, ◌∙◌, below_more}
+use Rattle.wal_matrix.proofs.Common.{◌≡◌, ◌+◌, ◌*◌, ◌<◌, ◌≤◌, ◌^◌, length, rules, arith, ◌∙◌, below_more}
 use Rattle.wal_matrix.proofs.Runs.{region-put_other, region-put_same}
 use Rattle.wal_matrix.proofs.Places.{run_fits, product_fits}
 use Rattle.wal_matrix.proofs.Symbols.{turned}

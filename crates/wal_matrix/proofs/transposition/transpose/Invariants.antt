@@ -1,6 +1,4 @@
-use Rattle.std.proofs.Common.{◌≡◌, ◌<◌, ℕ}
-use Rattle.wal_kernel.specs.Region.{region}
-use Rattle.wal_matrix.specs.Matrix.{column_part}
+use Rattle.wal_matrix.proofs.Common.{◌≡◌, ◌<◌, ℕ, region, column_part}
 use Rattle.wal_matrix.proofs.transposition.transpose.Given as goal
 
 abbrev pub invariant-loop-column : goal.invariant-loop-column

@@ -1,6 +1,4 @@
-use Rattle.std.proofs.Common.{Some, ◌∙◌, ap, sym, arith, length}
-use Rattle.wal_pool.specs.inside.FreeList.{page_of}
-use Rattle.wal_pool.specs.Pages.{Taken, page_bytes}
+use Rattle.wal_pool.proofs.Common.{Some, ◌∙◌, ap, sym, arith, length, page_of, Taken, page_bytes}
 use Rattle.wal_pool.proofs.PoolLaws.{taken_within, taken_bytes, pages_whole}
 use Rattle.wal_pool.proofs.Pool.bytes.Goals as goal
 

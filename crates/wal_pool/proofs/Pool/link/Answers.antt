@@ -1,5 +1,4 @@
-use Rattle.std.proofs.Common.{◌∙◌, refl, ap, arith, ◌+◌, lit≤, rules, length}
-use Rattle.std.proofs.lemmas.List.{with_items_is}
+use Rattle.wal_pool.proofs.Common.{◌∙◌, refl, ap, arith, ◌+◌, lit≤, rules, length, with_items_is}
 use Rattle.wal_pool.proofs.OverwriteLaws.{length-overwrite}
 use Rattle.wal_pool.proofs.PoolLaws.{taken_within, linked, pages_whole}
 use Rattle.wal_pool.proofs.Pool.link.Goals as goal

@@ -1,5 +1,4 @@
-use Rattle.std.proofs.Common.{◌∙◌, refl, ap, rules, length, length-set}
-use Rattle.wal_pool.specs.inside.FreeList.{next}
+use Rattle.wal_pool.proofs.Common.{◌∙◌, refl, ap, rules, length, length-set, next}
 use Rattle.wal_pool.proofs.PoolLaws.{took, pages_whole}
 use Rattle.wal_pool.proofs.Pool.take.Goals as goal
 

@@ -1,6 +1,5 @@
-use Rattle.std.proofs.Common.{◌∙◌, ap, slice_set, refl, arith, length}
-use Rattle.std.proofs.lemmas.List.{length-set, with_items_is}
-use Rattle.wal_pool.specs.Pages.{Taken, page_bytes, overwrite}
+use Rattle.wal_pool.proofs.Common.{◌∙◌, ap, slice_set, refl, arith, length, with_items_is, Taken, page_bytes, overwrite}
+use Rattle.std.proofs.lemmas.List.{length-set}
 use Rattle.wal_pool.proofs.OverwriteLaws.{length-overwrite}
 use Rattle.wal_pool.proofs.PoolLaws.{taken_within, wrote, pages_whole}
 use Rattle.wal_pool.proofs.Pool.write.Goals as goal

@@ -1,5 +1,5 @@
 -- The next piece goes right after the pieces before it.
-use Rattle.std.proofs.Common.{length, ap, arith, length-drop}
+use Rattle.wal_port.proofs.Common.{length, ap, arith, length-drop}
 use Rattle.wal_port.proofs.Pieces.{Appends-next, take-rest}
 use Rattle.wal_port.proofs.transfers.put_all.Goals as goal
 

@@ -1,6 +1,5 @@
 -- The bytes that were written are the first ones, and the count of faults never fell.
-use Rattle.std.proofs.Common.{length, ◌-◌, ◌≤◌, take}
-use Rattle.std.specs.Io.KnownBytes.{Appends}
+use Rattle.wal_port.proofs.Common.{length, ◌-◌, ◌≤◌, take, Appends}
 use Rattle.wal_port.proofs.transfers.put_all.Given as goal
 
 abbrev pub invariant-writes : goal.invariant-writes

@@ -1,6 +1,5 @@
 -- What the last piece took counts with the pieces before it.
-use Rattle.std.proofs.Common.{◌≡◌, ◌+◌, ◌≤◌, length, arith}
-use Rattle.std.proofs.lemmas.List.{length-take}
+use Rattle.wal_port.proofs.Common.{◌≡◌, ◌+◌, ◌≤◌, length, arith, length-take}
 use Rattle.wal_port.proofs.Pieces.{Consumes-next, Consumes-within}
 use Rattle.wal_port.proofs.transfers.take_all.Goals as goal
 

@@ -1,7 +1,6 @@
 -- The bytes that were taken are those that the source lost, no more than the limit,
 -- and the count of faults never fell.
-use Rattle.std.proofs.Common.{◌+◌, ◌-◌, ◌≤◌, vec_len}
-use Rattle.std.specs.Io.KnownBytes.{Consumes}
+use Rattle.wal_port.proofs.Common.{◌+◌, ◌-◌, ◌≤◌, vec_len, Consumes}
 use Rattle.wal_port.proofs.transfers.take_all.Given as goal
 
 abbrev pub invariant-reads : goal.invariant-reads

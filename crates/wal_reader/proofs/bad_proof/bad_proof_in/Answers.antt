@@ -1,8 +1,4 @@
-use Rattle.std.proofs.Common.{◌∙◌}
-use Rattle.wal_shape.specs.MetaRef.{metadata_shown}
-use Rattle.wal_shape.specs.ProofRef.{proof_shown}
-use Rattle.wal_reader.specs.Carried.{CarriesBadProof}
-use Rattle.std.proofs.lemmas.List.{take_all}
+use Rattle.wal_reader.proofs.Common.{◌∙◌, metadata_shown, proof_shown, CarriesBadProof, take_all}
 use Rattle.wal_reader.proofs.FirstOnes.{first_at, none_more}
 use Rattle.wal_reader.proofs.bad_proof.bad_proof_in.Goals as goal
 

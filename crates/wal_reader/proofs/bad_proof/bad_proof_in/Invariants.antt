@@ -1,7 +1,5 @@
 -- No payload so far carries a bad proof of the identifier.
-use Rattle.std.proofs.Common.{◌≡◌, take}
-use Rattle.wal_shape.specs.MetaRef.{metadata_shown}
-use Rattle.wal_reader.specs.Carried.{NoBadProof}
+use Rattle.wal_reader.proofs.Common.{◌≡◌, take, metadata_shown, NoBadProof}
 use Rattle.wal_reader.proofs.bad_proof.bad_proof_in.Given as goal
 
 abbrev pub invariant-loop-payload : goal.invariant-loop-payload

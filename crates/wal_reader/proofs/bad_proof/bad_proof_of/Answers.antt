@@ -1,6 +1,4 @@
-use Rattle.std.proofs.Common.{rules}
-use Rattle.wal_shape.specs.MetaRef.{metadata_shown}
-use Rattle.wal_shape.specs.ProofRef.{proof_shown}
+use Rattle.wal_reader.proofs.Common.{rules, metadata_shown, proof_shown}
 use Rattle.wal_reader.proofs.FirstOnes.{not_bad}
 use Rattle.wal_reader.proofs.bad_proof.bad_proof_of.Goals as goal
 

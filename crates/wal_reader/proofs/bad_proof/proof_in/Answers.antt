@@ -1,6 +1,4 @@
-use Rattle.wal_shape.specs.ProofRef.{proof_shown}
-use Rattle.wal_reader.specs.Carried.{CarriesProof}
-use Rattle.std.proofs.lemmas.List.{take_all}
+use Rattle.wal_reader.proofs.Common.{proof_shown, CarriesProof, take_all}
 use Rattle.wal_reader.proofs.FirstOnes.{first_at, none_more}
 use Rattle.wal_reader.proofs.bad_proof.proof_in.Goals as goal
 

@@ -1,6 +1,5 @@
 -- No payload so far carries a proof of the identifier.
-use Rattle.std.proofs.Common.{take}
-use Rattle.wal_reader.specs.Carried.{NoProof}
+use Rattle.wal_reader.proofs.Common.{take, NoProof}
 use Rattle.wal_reader.proofs.bad_proof.proof_in.Given as goal
 
 abbrev pub invariant-loop-payload : goal.invariant-loop-payload

@@ -1,6 +1,4 @@
-use Rattle.std.proofs.Common.{◌≡◌, ◌+◌, ◌<◌, ◌≤◌, length, refl, ap, arith}
-use Rattle.wal_shape.specs.Shape.{row_count}
-use Rattle.wal_shape.specs.Metadata.{BlobMetadata}
+use Rattle.wal_reader.proofs.Common.{◌≡◌, ◌+◌, ◌<◌, ◌≤◌, length, refl, ap, arith, row_count, BlobMetadata}
 use Rattle.wal_reader.proofs.Answered.{refuted, settled, short}
 use Rattle.wal_reader.proofs.Collections.{collects_counted, held_as}
 use Rattle.wal_reader.proofs.closing.answer_one.Goals as goal

@@ -1,5 +1,4 @@
-use Rattle.std.proofs.Common.{rules}
-use Rattle.wal_shape.specs.MetaRef.{metadata_shown}
+use Rattle.wal_reader.proofs.Common.{rules, metadata_shown}
 use Rattle.wal_reader.proofs.Collections.{collects_passed, collects_taken, collects_unwanted}
 use Rattle.wal_reader.proofs.collecting.add_sliver.Goals as goal
 

@@ -1,7 +1,4 @@
-use Rattle.std.proofs.Common.{◌≤◌, length, take, drop, ◌∙◌, arith}
-use Rattle.std.proofs.lemmas.List.{take-append-drop}
-use Rattle.wal_shape.specs.Shape.{row_count}
-use Rattle.wal_shape.specs.MetaRef.{metadata_shown}
+use Rattle.wal_reader.proofs.Common.{◌≤◌, length, take, drop, ◌∙◌, arith, take-append-drop, row_count, metadata_shown}
 use Rattle.wal_reader.proofs.Collections.{collects_full, collects_none}
 use Rattle.wal_reader.proofs.Gathering.{front_more}
 use Rattle.wal_reader.proofs.collecting.collect.Goals as goal

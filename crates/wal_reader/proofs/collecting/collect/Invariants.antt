@@ -1,7 +1,5 @@
 -- The slivers of the payloads so far are collected.
-use Rattle.std.proofs.Common.{◌≡◌, take}
-use Rattle.wal_shape.specs.MetaRef.{metadata_shown}
-use Rattle.wal_reader.specs.Outcome.{Collects}
+use Rattle.wal_reader.proofs.Common.{◌≡◌, take, metadata_shown, Collects}
 use Rattle.wal_reader.proofs.collecting.collect.Given as goal
 
 abbrev pub invariant-loop-payload : goal.invariant-loop-payload

@@ -1,5 +1,4 @@
-use Rattle.std.proofs.Common.{◌+◌, take, drop}
-use Rattle.std.proofs.lemmas.List.{take_all}
+use Rattle.wal_reader.proofs.Common.{◌+◌, take, drop, take_all}
 use Rattle.wal_reader.proofs.FirstOnes.{parted}
 use Rattle.wal_reader.proofs.Gathering.{only_more}
 use Rattle.wal_reader.proofs.finding.first_metadata.Goals as goal

@@ -1,7 +1,5 @@
 -- No payload so far carries a metadata of the identifier.
-use Rattle.std.proofs.Common.{take}
-use Rattle.wal_shape.specs.Metadata.{BlobMetadata}
-use Rattle.wal_reader.specs.Outcome.{HasMetadata}
+use Rattle.wal_reader.proofs.Common.{take, BlobMetadata, HasMetadata}
 use Rattle.wal_reader.proofs.finding.first_metadata.Given as goal
 
 abbrev pub invariant-loop-payload : goal.invariant-loop-payload

@@ -1,4 +1,4 @@
-use Rattle.wal_shape.specs.MetaRef.{metadata_shown}
+use Rattle.wal_reader.proofs.Common.{metadata_shown}
 use Rattle.wal_reader.proofs.FirstOnes.{first_two, found_one}
 use Rattle.wal_reader.proofs.finding.metadata_in.Goals as goal
 

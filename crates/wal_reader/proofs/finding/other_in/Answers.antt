@@ -1,8 +1,4 @@
-use Rattle.std.proofs.Common.{◌≡◌, ◌∙◌, sym, rules}
-use Rattle.wal_shape.specs.MetaRef.{metadata_shown}
-use Rattle.wal_shape.proofs.MetadataLaws.{metadata_text-injective}
-use Rattle.wal_commit.specs.Identifier.{Commits}
-use Rattle.wal_frame.specs.Reading.{read_of}
+use Rattle.wal_reader.proofs.Common.{◌≡◌, ◌∙◌, sym, rules, metadata_shown, metadata_text-injective, Commits, read_of}
 use Rattle.wal_reader.proofs.Gathering.{one_metadata}
 use Rattle.wal_reader.proofs.finding.other_in.Goals as goal
 use Rattle.wal_reader.proofs.finding.other_in.Goals.{else-ne-via-then-ne+else-metadata_holds, else-ne-via-else-ne}

@@ -1,6 +1,4 @@
-use Rattle.std.proofs.Common.{◌≡◌, ◌+◌, take, drop}
-use Rattle.wal_shape.specs.MetaRef.{metadata_shown}
-use Rattle.std.proofs.lemmas.List.{take_all}
+use Rattle.wal_reader.proofs.Common.{◌≡◌, ◌+◌, take, drop, metadata_shown, take_all}
 use Rattle.wal_reader.proofs.FirstOnes.{parted}
 use Rattle.wal_reader.proofs.Gathering.{only_more}
 use Rattle.wal_reader.proofs.finding.other_metadata.Goals as goal

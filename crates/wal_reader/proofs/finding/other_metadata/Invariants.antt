@@ -1,8 +1,5 @@
 -- No payload so far carries another metadata of the identifier.
-use Rattle.std.proofs.Common.{◌≡◌, take}
-use Rattle.wal_shape.specs.Metadata.{BlobMetadata}
-use Rattle.wal_shape.specs.MetaRef.{metadata_shown}
-use Rattle.wal_reader.specs.Outcome.{HasMetadata}
+use Rattle.wal_reader.proofs.Common.{◌≡◌, take, BlobMetadata, metadata_shown, HasMetadata}
 use Rattle.wal_reader.proofs.finding.other_metadata.Given as goal
 
 abbrev pub invariant-loop-payload : goal.invariant-loop-payload

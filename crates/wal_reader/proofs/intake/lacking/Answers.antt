@@ -1,4 +1,4 @@
-use Rattle.std.proofs.Common.{arith}
+use Rattle.wal_reader.proofs.Common.{arith}
 use Rattle.wal_reader.proofs.IntakeLaws.{unfinished_long, lacking_whole}
 use Rattle.wal_reader.proofs.intake.lacking.Goals as goal
 

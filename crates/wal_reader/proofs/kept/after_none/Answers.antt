@@ -1,4 +1,4 @@
-use Rattle.wal_shape.specs.MetaRef.{metadata_shown}
+use Rattle.wal_reader.proofs.Common.{metadata_shown}
 use Rattle.wal_reader.proofs.HeardLaws.{known_new, none_still}
 use Rattle.wal_reader.proofs.kept.after_none.Goals as goal
 

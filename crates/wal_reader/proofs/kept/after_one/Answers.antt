@@ -1,5 +1,4 @@
-use Rattle.std.proofs.Common.{sym, ◌∙◌}
-use Rattle.wal_shape.specs.MetaRef.{metadata_shown}
+use Rattle.wal_reader.proofs.Common.{sym, ◌∙◌, metadata_shown}
 use Rattle.wal_reader.proofs.HeardLaws.{known_still, two_new}
 use Rattle.wal_reader.proofs.kept.after_one.Goals as goal
 

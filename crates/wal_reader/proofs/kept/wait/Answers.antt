@@ -1,6 +1,4 @@
-use Rattle.std.proofs.Common.{◌≡◌, ◌++◌, ◌∷◌, [], List, ℕ, sym, ap, ◌∙◌, append-nil}
-use Rattle.std.proofs.lemmas.Bool.{false≢true}
-use Rattle.wal_reader.specs.Heard.{kept, dropped, none}
+use Rattle.wal_reader.proofs.Common.{◌≡◌, ◌++◌, ◌∷◌, [], List, ℕ, sym, ap, ◌∙◌, append-nil, false≢true, kept, dropped, none}
 use Rattle.wal_reader.proofs.SiftLaws.{sift_both}
 use Rattle.wal_reader.proofs.kept.wait.Goals as goal
 

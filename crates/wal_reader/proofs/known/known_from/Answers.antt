@@ -1,5 +1,4 @@
-use Rattle.std.proofs.Common.{◌≡◌, ◌+◌, ◌∷◌, drop, ◌∙◌}
-use Rattle.std.proofs.lemmas.List.{drop_more, drop_all}
+use Rattle.wal_reader.proofs.Common.{◌≡◌, ◌+◌, ◌∷◌, drop, ◌∙◌, drop_more, drop_all}
 use Rattle.wal_reader.proofs.SiftLaws.{reaches_all, reaches_more, reaches_none}
 use Rattle.wal_reader.proofs.known.known_from.Goals as goal
 

@@ -1,7 +1,5 @@
 -- The parts so far are held.
-use Rattle.std.proofs.Common.{◌≡◌, ℕ, List, drop}
-use Rattle.wal_shape.specs.MetaRef.{metadata_shown}
-use Rattle.wal_reader.specs.Heard.{Sifts}
+use Rattle.wal_reader.proofs.Common.{◌≡◌, ℕ, List, drop, metadata_shown, Sifts}
 use Rattle.wal_reader.proofs.SiftLaws.{Reaches}
 use Rattle.wal_reader.proofs.known.known_from.Given as goal
 

@@ -1,5 +1,4 @@
-use Rattle.std.proofs.Common.{None, refl, sym, ap, ◌∙◌}
-use Rattle.wal_shape.specs.Metadata.{BlobMetadata}
+use Rattle.wal_reader.proofs.Common.{None, refl, sym, ap, ◌∙◌, BlobMetadata}
 use Rattle.wal_reader.proofs.KnownLaws.{parts_none}
 use Rattle.wal_reader.proofs.known.known_of.Goals as goal
 

@@ -1,7 +1,4 @@
-use Rattle.std.proofs.Common.{◌++◌, ◌∷◌, [], sym, ◌∙◌, None}
-use Rattle.std.proofs.lemmas.Bool.{false≢true}
-use Rattle.std.proofs.lemmas.Result.{on_ok_weaker}
-use Rattle.wal_reader.specs.Heard.{HasParts, IsEnough, IsProofFound}
+use Rattle.wal_reader.proofs.Common.{◌++◌, ◌∷◌, [], sym, ◌∙◌, None, false≢true, on_ok_weaker, HasParts, IsEnough, IsProofFound}
 use Rattle.wal_reader.proofs.KnownLaws.{parts_enough, parts_found, parts_more}
 use Rattle.wal_reader.proofs.known.take_part.Goals as goal
 

@@ -1,6 +1,4 @@
-use Rattle.std.proofs.Common.{sym, ap, ◌∙◌, Option, is_some}
-use Rattle.std.proofs.lemmas.Bool.{false≢true}
-use Rattle.wal_shape.specs.EncodingProof.{EncodingProof}
+use Rattle.wal_reader.proofs.Common.{sym, ap, ◌∙◌, Option, is_some, false≢true, EncodingProof}
 use Rattle.wal_reader.proofs.KnownLaws.{proof_more}
 use Rattle.wal_reader.proofs.known.take_proof.Goals as goal
 

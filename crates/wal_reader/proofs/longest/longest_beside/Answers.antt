@@ -1,6 +1,4 @@
-use Rattle.std.proofs.Common.{◌≡◌, ◌<◌, length, ap, ◌∙◌, arith}
-use Rattle.wal_shape.specs.Metadata.{BlobMetadata}
-use Rattle.wal_reader.specs.inside.Longest.{longest_part}
+use Rattle.wal_reader.proofs.Common.{◌≡◌, ◌<◌, length, ap, ◌∙◌, arith, BlobMetadata, longest_part}
 use Rattle.wal_reader.proofs.LongestLaws.{past_enough, past_known}
 use Rattle.wal_reader.proofs.longest.longest_beside.Goals as goal
 

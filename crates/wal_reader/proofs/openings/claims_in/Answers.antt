@@ -1,6 +1,4 @@
-use Rattle.std.proofs.Common.{ℕ, List, ap, ◌∙◌}
-use Rattle.std.proofs.lemmas.List.{take_all}
-use Rattle.wal_reader.specs.Carried.{claims_in}
+use Rattle.wal_reader.proofs.Common.{ℕ, List, ap, ◌∙◌, take_all, claims_in}
 use Rattle.wal_reader.proofs.openings.claims_in.Goals as goal
 
 pub returns : goal.returns

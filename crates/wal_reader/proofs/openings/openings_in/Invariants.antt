@@ -1,6 +1,5 @@
 -- The openings of the payloads so far.
-use Rattle.std.proofs.Common.{◌≡◌, take}
-use Rattle.wal_reader.specs.Carried.{openings_in}
+use Rattle.wal_reader.proofs.Common.{◌≡◌, take, openings_in}
 use Rattle.wal_reader.proofs.openings.openings_in.Given as goal
 
 abbrev pub invariant-loop-payload : goal.invariant-loop-payload

@@ -1,4 +1,4 @@
-use Rattle.wal_shape.specs.MetaRef.{metadata_shown}
+use Rattle.wal_reader.proofs.Common.{metadata_shown}
 use Rattle.wal_reader.proofs.Answered.{absent, collided}
 use Rattle.wal_reader.proofs.reading.answer.Goals as goal
 

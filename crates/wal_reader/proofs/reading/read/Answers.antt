@@ -1,8 +1,5 @@
-use Rattle.std.proofs.Common.{List, ℕ, Result, Ok, Err, IfOk}
-use Rattle.wal_shape.specs.Metadata.{BlobMetadata}
-use Rattle.wal_reader.specs.Outcome.{HasEnough, HasEvidence, IsAnswer, IsVerdict, IsMetadataIn, IsOnlyOutcome, IsOutcome}
+use Rattle.wal_reader.proofs.Common.{List, ℕ, Result, Ok, Err, IfOk, BlobMetadata, HasEnough, HasEvidence, IsAnswer, IsVerdict, IsMetadataIn, IsOnlyOutcome, IsOutcome, ReadAnswer}
 use Rattle.wal_reader.proofs.Enough.{enough}
-use Rattle.wal_reader.specs.declared.outcome.ReadAnswer.{ReadAnswer}
 use Rattle.wal_reader.proofs.reading.read.Goals as goal
 
 -- what an answer is, of a result

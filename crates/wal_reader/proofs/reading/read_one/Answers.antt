@@ -1,6 +1,4 @@
-use Rattle.std.proofs.Common.{◌≡◌, ◌<◌, length, arith}
-use Rattle.wal_shape.specs.Shape.{row_count}
-use Rattle.wal_shape.specs.MetaRef.{metadata_shown}
+use Rattle.wal_reader.proofs.Common.{◌≡◌, ◌<◌, length, arith, row_count, metadata_shown}
 use Rattle.wal_reader.proofs.Collections.{collects_counted}
 use Rattle.wal_reader.proofs.reading.read_one.Goals as goal
 

@@ -1,4 +1,4 @@
-use Rattle.wal_shape.specs.MetaRef.{metadata_shown}
+use Rattle.wal_reader.proofs.Common.{metadata_shown}
 use Rattle.wal_reader.proofs.Answered.{settled}
 use Rattle.wal_reader.proofs.Collections.{held_as}
 use Rattle.wal_reader.proofs.reading.settled.Goals as goal

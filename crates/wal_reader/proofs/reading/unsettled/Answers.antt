@@ -1,7 +1,4 @@
-use Rattle.std.proofs.Common.{◌≡◌, ◌+◌, arith}
-use Rattle.wal_shape.specs.Shape.{row_count}
-use Rattle.wal_shape.specs.MetaRef.{metadata_shown}
-use Rattle.wal_shape.specs.ProofRef.{proof_shown}
+use Rattle.wal_reader.proofs.Common.{◌≡◌, ◌+◌, arith, row_count, metadata_shown, proof_shown}
 use Rattle.wal_reader.proofs.Answered.{refuted, short}
 use Rattle.wal_reader.proofs.reading.unsettled.Goals as goal
 

@@ -1,5 +1,4 @@
-use Rattle.std.proofs.Common.{rules}
-use Rattle.wal_shape.specs.MetaRef.{metadata_shown}
+use Rattle.wal_reader.proofs.Common.{rules, metadata_shown}
 use Rattle.wal_reader.proofs.HeldSlivers.{is_carried, not_held}
 use Rattle.wal_reader.proofs.slivers.held_sliver_of.Goals as goal
 

@@ -1,7 +1,4 @@
-use Rattle.std.proofs.Common.{◌∙◌}
-use Rattle.wal_shape.specs.MetaRef.{metadata_shown}
-use Rattle.wal_reader.specs.Carried.{CarriesHeldSliver}
-use Rattle.std.proofs.lemmas.List.{take_all}
+use Rattle.wal_reader.proofs.Common.{◌∙◌, metadata_shown, CarriesHeldSliver, take_all}
 use Rattle.wal_reader.proofs.FirstOnes.{first_at, none_more}
 use Rattle.wal_reader.proofs.slivers.sliver_in.Goals as goal
 

@@ -1,7 +1,5 @@
 -- No payload so far carries a held sliver of the axis and index.
-use Rattle.std.proofs.Common.{◌≡◌, take}
-use Rattle.wal_shape.specs.MetaRef.{metadata_shown}
-use Rattle.wal_reader.specs.Carried.{NoHeldSliver}
+use Rattle.wal_reader.proofs.Common.{◌≡◌, take, metadata_shown, NoHeldSliver}
 use Rattle.wal_reader.proofs.slivers.sliver_in.Given as goal
 
 abbrev pub invariant-loop-payload : goal.invariant-loop-payload

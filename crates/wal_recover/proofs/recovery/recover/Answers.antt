@@ -1,8 +1,4 @@
-use Rattle.std.proofs.Common.{rules, ◌≡◌, ℕ, List, ap, subst, ◌∙◌}
-use Rattle.wal_shape.specs.declared.opening.Opening.{Opening}
-use Rattle.wal_shape.specs.Shape.{BlobShape, sliver_symbols}
-use Rattle.wal_shape.specs.MetaRef.{metadata_shown}
-use Rattle.wal_recover.specs.Recovery.{OpeningsComeTo, Takes}
+use Rattle.wal_recover.proofs.Common.{rules, ◌≡◌, ℕ, List, ap, subst, ◌∙◌, Opening, BlobShape, sliver_symbols, metadata_shown, OpeningsComeTo, Takes}
 use Rattle.wal_recover.proofs.OneRecovery.{committed, list_held, one_recovery, own_or_false}
 use Rattle.wal_recover.proofs.recovery.recover.Goals as goal
 

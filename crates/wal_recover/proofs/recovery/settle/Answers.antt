@@ -1,7 +1,4 @@
-use Rattle.std.proofs.Common.{◌≡◌, length, ap, arith, subst, sym, ◌∙◌}
-use Rattle.wal_shape.specs.Shape.{BlobShape, sliver_symbols}
-use Rattle.wal_shape.specs.MetaRef.{metadata_shown}
-use Rattle.wal_evidence.specs.BadProof.{AreEnough}
+use Rattle.wal_recover.proofs.Common.{◌≡◌, length, ap, arith, subst, sym, ◌∙◌, BlobShape, sliver_symbols, metadata_shown, AreEnough}
 use Rattle.wal_recover.proofs.OneRecovery.{enough}
 use Rattle.wal_recover.proofs.recovery.settle.Goals as goal
 

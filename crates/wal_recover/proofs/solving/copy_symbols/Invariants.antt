@@ -1,6 +1,5 @@
 -- The symbols so far are copied.
-use Rattle.std.proofs.Common.{◌≡◌, ◌*◌, take}
-use Rattle.wal_evidence.specs.BadProof.{symbols_of}
+use Rattle.wal_recover.proofs.Common.{◌≡◌, ◌*◌, take, symbols_of}
 use Rattle.wal_recover.proofs.solving.copy_symbols.Given as goal
 
 abbrev pub invariant-loop-place : goal.invariant-loop-place

@@ -1,13 +1,4 @@
-use Rattle.std.proofs.Common.{rules, ◌≡◌, ◌*◌, ◌<◌, ◌∙◌, ℕ, List, All, length, ap, arith, refl, subst, sym}
-use Rattle.std.proofs.lemmas.List.{length-take-le}
-use Rattle.wal_shape.specs.declared.opening.Opening.{Opening}
-use Rattle.wal_shape.specs.Shape.{BlobShape, shard_count, sliver_symbols, symbol_size}
-use Rattle.wal_shape.specs.MetaRef.{metadata_shown}
-use Rattle.wal_matrix.proofs.Places.{part_fits}
-use Rattle.wal_matrix.proofs.Words.{symbols_fit}
-use Rattle.wal_evidence.specs.BadProof.{HasRoot, IsBadProof, ShowLine, symbols_of}
-use Rattle.wal_evidence.proofs.FalseOpenings.{target_within}
-use Rattle.wal_evidence.proofs.OneLine.{crosses_within, line_shown, symbol_sizes, symbols_long}
+use Rattle.wal_recover.proofs.Common.{rules, ◌≡◌, ◌*◌, ◌<◌, ◌∙◌, ℕ, List, All, length, ap, arith, refl, subst, sym, length-take-le, Opening, BlobShape, shard_count, sliver_symbols, symbol_size, metadata_shown, part_fits, symbols_fit, HasRoot, IsBadProof, ShowLine, symbols_of, target_within, crosses_within, line_shown, symbol_sizes, symbols_long}
 use Rattle.wal_recover.proofs.Proved.{proof_fits, sliver_loads}
 use Rattle.wal_recover.proofs.solving.solved.Goals as goal
 

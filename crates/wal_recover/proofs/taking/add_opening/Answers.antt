@@ -1,6 +1,4 @@
-use Rattle.std.proofs.Common.{rules, ◌≡◌, ◌++◌, ◌∷◌, [], ◌∙◌, sym, arith}
-use Rattle.std.proofs.lemmas.Bool.{false≢true}
-use Rattle.wal_shape.specs.MetaRef.{metadata_shown}
+use Rattle.wal_recover.proofs.Common.{rules, ◌≡◌, ◌++◌, ◌∷◌, [], ◌∙◌, sym, arith, false≢true, metadata_shown}
 use Rattle.wal_recover.proofs.OneTaking.{addition_new, addition_none}
 use Rattle.wal_recover.proofs.taking.add_opening.Goals as goal
 use Rattle.wal_recover.proofs.taking.add_opening.Goals.{else-len-most-via-then-len-most+else-is_new, else-len-most-via-else-len-most}

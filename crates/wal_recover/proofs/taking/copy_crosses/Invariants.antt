@@ -1,6 +1,5 @@
 -- The crosses so far are copied.
-use Rattle.std.proofs.Common.{◌≡◌, take}
-use Rattle.wal_evidence.specs.BadProof.{crosses_of}
+use Rattle.wal_recover.proofs.Common.{◌≡◌, take, crosses_of}
 use Rattle.wal_recover.proofs.taking.copy_crosses.Given as goal
 
 abbrev pub invariant-loop-opening : goal.invariant-loop-opening

@@ -1,12 +1,4 @@
-use Rattle.std.proofs.Common.{◌≡◌, ◌+◌, ◌++◌, ◌∷◌, [], ◌∙◌, List, ap, get_or, replicate, false, subst, sym, take}
-use Rattle.std.proofs.lemmas.List.{take_more}
-use Rattle.wal_shape.specs.declared.opening.Opening.{Opening}
-use Rattle.wal_shape.specs.MetaRef.{metadata_shown}
-use Rattle.wal_evidence.specs.BadProof.{crosses_of}
-use Rattle.wal_evidence.specs.inside.Marks.{Marks, most_shards}
-use Rattle.wal_evidence.proofs.Marked.{marks_none}
-use Rattle.wal_recover.specs.Recovery.{GivesOpening, Takes}
-use Rattle.wal_evidence.proofs.FirstOfEach.{takes_more}
+use Rattle.wal_recover.proofs.Common.{◌≡◌, ◌+◌, ◌++◌, ◌∷◌, [], ◌∙◌, List, ap, get_or, replicate, false, subst, sym, take, take_more, Opening, metadata_shown, crosses_of, Marks, most_shards, marks_none, GivesOpening, Takes, takes_more}
 use Rattle.wal_recover.proofs.taking.take_openings.Goals as goal
 
 pub loop-opening-init : goal.loop-opening-init

@@ -1,9 +1,5 @@
 -- What is taken from the openings so far, and the flags of its crosses.
-use Rattle.std.proofs.Common.{take}
-use Rattle.wal_shape.specs.MetaRef.{metadata_shown}
-use Rattle.wal_evidence.specs.BadProof.{crosses_of}
-use Rattle.wal_evidence.specs.inside.Marks.{Marks}
-use Rattle.wal_recover.specs.Recovery.{Takes}
+use Rattle.wal_recover.proofs.Common.{take, metadata_shown, crosses_of, Marks, Takes}
 use Rattle.wal_recover.proofs.taking.take_openings.Given as goal
 
 abbrev pub invariant-loop-opening : goal.invariant-loop-opening

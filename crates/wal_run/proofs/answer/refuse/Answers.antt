@@ -1,6 +1,4 @@
-use Rattle.std.proofs.Common.{◌∙◌}
-use Rattle.std.proofs.KnownBytes.{Keeps-refl}
-use Rattle.wal_run.specs.inside.Writing.{finished, out_of_memory}
+use Rattle.wal_run.proofs.Common.{◌∙◌, Keeps-refl, finished, out_of_memory}
 use Rattle.wal_run.proofs.Endings.{finishes_as}
 use Rattle.wal_run.proofs.answer.refuse.Goals as goal
 

@@ -1,5 +1,4 @@
-use Rattle.std.proofs.Common.{◌∙◌}
-use Rattle.wal_run.specs.inside.Writing.{finished}
+use Rattle.wal_run.proofs.Common.{◌∙◌, finished}
 use Rattle.wal_run.proofs.Endings.{finishes_as}
 use Rattle.wal_run.proofs.answer.write_answer.Goals as goal
 

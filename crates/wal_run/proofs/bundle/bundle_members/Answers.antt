@@ -1,4 +1,4 @@
-use Rattle.wal_run.specs.Bundling.{bundling}
+use Rattle.wal_run.proofs.Common.{bundling}
 use Rattle.wal_run.proofs.Says.{broken, passed, says_told}
 use Rattle.wal_run.proofs.bundle.bundle_members.Goals as goal
 

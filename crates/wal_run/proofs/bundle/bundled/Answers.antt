@@ -1,5 +1,4 @@
-use Rattle.std.proofs.Common.{inl, inr, refl}
-use Rattle.wal_run.specs.inside.Command.{lacks, succeeds}
+use Rattle.wal_run.proofs.Common.{inl, inr, refl, lacks, succeeds}
 use Rattle.wal_run.proofs.bundle.bundled.Goals as goal
 
 pub returns-in-Ok : goal.returns-in-Ok

@@ -1,8 +1,4 @@
-use Rattle.std.proofs.Common.{refl}
-use Rattle.wal_shape.specs.MetaRef.{metadata_shown}
-use Rattle.wal_run.specs.Challenging.{challenging}
-use Rattle.wal_run.specs.inside.Command.{recorded}
-use Rattle.wal_run.specs.inside.Writing.{performed}
+use Rattle.wal_run.proofs.Common.{refl, metadata_shown, challenging, recorded, performed}
 use Rattle.wal_run.proofs.Challenges.{answered_so}
 use Rattle.wal_run.proofs.Says.{performs_refused, unrecorded}
 use Rattle.wal_run.proofs.challenge.challenge_in.Goals as goal

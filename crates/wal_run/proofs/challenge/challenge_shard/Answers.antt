@@ -1,5 +1,4 @@
-use Rattle.wal_run.specs.Challenging.{challenging}
-use Rattle.wal_run.specs.inside.Writing.{performed}
+use Rattle.wal_run.proofs.Common.{challenging, performed}
 use Rattle.wal_run.proofs.Says.{broken, performs_refused}
 use Rattle.wal_run.proofs.challenge.challenge_shard.Goals as goal
 

@@ -1,6 +1,4 @@
-use Rattle.wal_shape.specs.MetaRef.{metadata_shown}
-use Rattle.wal_run.specs.inside.Command.{recorded}
-use Rattle.wal_run.specs.inside.Writing.{performed}
+use Rattle.wal_run.proofs.Common.{metadata_shown, recorded, performed}
 use Rattle.wal_run.proofs.Challenges.{answered_as, own_held}
 use Rattle.wal_run.proofs.Says.{performs_refused}
 use Rattle.wal_run.proofs.challenge.challenge_under.Goals as goal

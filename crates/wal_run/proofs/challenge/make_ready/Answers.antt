@@ -1,8 +1,4 @@
-use Rattle.std.proofs.Common.{◌≡◌, ◌+◌, ap, ◌∙◌, arith}
-use Rattle.wal_shape.specs.MetaRef.{metadata_shown}
-use Rattle.wal_shape.specs.Shape.{BlobShape, symbol_size}
-use Rattle.wal_frame.specs.Buffer.{Buffer}
-use Rattle.wal_run.specs.inside.Command.{recorded}
+use Rattle.wal_run.proofs.Common.{◌≡◌, ◌+◌, ap, ◌∙◌, arith, metadata_shown, BlobShape, symbol_size, Buffer, recorded}
 use Rattle.wal_run.proofs.Challenges.{own_held, primeless_is, secondless_is}
 use Rattle.wal_run.proofs.challenge.make_ready.Goals as goal
 

@@ -1,17 +1,6 @@
 -- The draw is the one of the metadata, and the opening is the one that was made.
-use Rattle.std.proofs.Common.{◌≡◌, ◌+◌, ◌<◌, ℕ, List, length, ap, subst, sym, ◌∙◌, arith}
-use Rattle.wal_shape.specs.declared.axis.Axis.{Axis}
+use Rattle.wal_run.proofs.Common.{◌≡◌, ◌+◌, ◌<◌, ℕ, List, length, ap, subst, sym, ◌∙◌, arith, Axis, metadata_shown, IsBody, opening_shown, BlobShape, crossing, shard_count, held_body, Opening, envelope, frame_text, Draw, ShowsDrawn, draw_of, claim_of, same_draw, shown_holds, claim_envelope}
 use Rattle.wal_shape.specs.declared.opening.Opening as single
-use Rattle.wal_shape.specs.MetaRef.{metadata_shown}
-use Rattle.wal_shape.specs.Opening.{IsBody, opening_shown}
-use Rattle.wal_shape.specs.Shape.{BlobShape, crossing, shard_count}
-use Rattle.wal_commit.proofs.Bodies.{held_body}
-use Rattle.wal_frame.specs.Frame.{Opening, envelope, frame_text}
-use Rattle.wal_challenge.specs.declared.drawing.Draw.{Draw}
-use Rattle.wal_challenge.specs.Answer.{ShowsDrawn, draw_of}
-use Rattle.wal_challenge.specs.Verdict.{claim_of}
-use Rattle.wal_challenge.proofs.AnswerLaws.{same_draw, shown_holds}
-use Rattle.wal_run.specs.Challenging.{claim_envelope}
 use Rattle.wal_run.proofs.AnswerTexts.{opening_room}
 use Rattle.wal_run.proofs.Endings.{piece_cut}
 use Rattle.wal_run.proofs.challenge.put_answer.Goals as goal

@@ -1,9 +1,5 @@
 -- One opening more is written, one is not written whole, or all are.
-use Rattle.std.proofs.Common.{refl, sym, subst, arith}
-use Rattle.wal_port.specs.Faults.{Rose}
-use Rattle.wal_shape.specs.MetaRef.{metadata_shown}
-use Rattle.wal_serve.proofs.TakingLaws.{rose_since}
-use Rattle.wal_run.specs.inside.Challenging.{DoesAnswer}
+use Rattle.wal_run.proofs.Common.{refl, sym, subst, arith, Rose, metadata_shown, rose_since, DoesAnswer}
 use Rattle.wal_run.proofs.Challenges.{answered_all, answered_more, answered_none, ends_piece}
 use Rattle.wal_run.proofs.challenge.put_answers.Goals as goal
 

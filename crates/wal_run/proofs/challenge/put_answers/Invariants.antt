@@ -1,7 +1,5 @@
 -- The envelopes of the openings before this one were written.
-use Rattle.std.proofs.Common.{◌≡◌, ◌≤◌, ◌+◌, ℕ, List, length}
-use Rattle.wal_shape.specs.MetaRef.{metadata_shown}
-use Rattle.wal_challenge.specs.Answer.{AreWordsOf}
+use Rattle.wal_run.proofs.Common.{◌≡◌, ◌≤◌, ◌+◌, ℕ, List, length, metadata_shown, AreWordsOf}
 use Rattle.wal_run.proofs.Challenges.{Answered}
 use Rattle.wal_run.proofs.challenge.put_answers.Given as goal
 

@@ -1,7 +1,4 @@
-use Rattle.std.proofs.Common.{◌≡◌, ap, ◌∙◌, arith}
-use Rattle.wal_shape.specs.MetaRef.{metadata_shown}
-use Rattle.wal_shape.specs.Shape.{BlobShape, shard_count}
-use Rattle.wal_run.specs.inside.Command.{recorded}
+use Rattle.wal_run.proofs.Common.{◌≡◌, ap, ◌∙◌, arith, metadata_shown, BlobShape, shard_count, recorded}
 use Rattle.wal_run.proofs.Challenges.{shardless_is}
 use Rattle.wal_run.proofs.challenge.ready_under.Goals as goal
 

@@ -1,6 +1,5 @@
-use Rattle.wal_shape.specs.MetaRef.{metadata_shown}
+use Rattle.wal_run.proofs.Common.{metadata_shown, recorded}
 use Rattle.wal_shape.specs.ProofRef.{proof_shown}
-use Rattle.wal_run.specs.inside.Command.{recorded}
 use Rattle.wal_run.proofs.Checks.{judged_is, unproved_is}
 use Rattle.wal_run.proofs.Says.{no_memory}
 use Rattle.wal_run.proofs.check.check_under.Goals as goal

@@ -1,8 +1,4 @@
-use Rattle.std.proofs.Common.{sym, subst, ◌∙◌, ap}
-use Rattle.wal_shape.specs.Shape.{BlobShape, IsShape}
-use Rattle.wal_shape.specs.Metadata.{BlobMetadata}
-use Rattle.wal_run.specs.inside.Writing.{written, cut, finished, out_of_memory}
-use Rattle.std.proofs.KnownBytes.{Keeps-refl}
+use Rattle.wal_run.proofs.Common.{sym, subst, ◌∙◌, ap, BlobShape, IsShape, BlobMetadata, written, cut, finished, out_of_memory, Keeps-refl}
 use Rattle.wal_run.proofs.Blobs.{metadata_over-f, metadata_over-format, encoded_is, matrix_long}
 use Rattle.wal_run.proofs.encode.encode.Goals as goal
 

@@ -1,10 +1,4 @@
-use Rattle.std.proofs.Common.{◌++◌, sym, ap}
-use Rattle.std.specs.List.{flat_map, range_with_len}
-use Rattle.wal_shape.specs.Metadata.{BlobMetadata}
-use Rattle.wal_shape.specs.MetaRef.{metadata_shown}
-use Rattle.wal_shape.specs.Shape.{shard_count}
-use Rattle.wal_frame.specs.Frame.{envelope, metadata_frame}
-use Rattle.wal_run.specs.Envelope.{shard_text}
+use Rattle.wal_run.proofs.Common.{◌++◌, sym, ap, flat_map, range_with_len, BlobMetadata, metadata_shown, shard_count, envelope, metadata_frame, shard_text}
 use Rattle.wal_run.proofs.Parts.{failed_before, failed_after}
 use Rattle.wal_run.proofs.encode.put_parcel.Goals as goal
 

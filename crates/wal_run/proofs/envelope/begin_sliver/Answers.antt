@@ -1,6 +1,4 @@
-use Rattle.std.proofs.Common.{rules, ◌≡◌, ◌+◌, ◌++◌, ◌∙◌, length, ap, arith}
-use Rattle.wal_frame.specs.Frame.{sliver_frame}
-use Rattle.wal_frame.proofs.FrameLaws.{length-sliver_frame}
+use Rattle.wal_run.proofs.Common.{rules, ◌≡◌, ◌+◌, ◌++◌, ◌∙◌, length, ap, arith, sliver_frame, length-sliver_frame}
 use Rattle.wal_run.proofs.ShardTexts.{envelope_joins}
 use Rattle.wal_run.proofs.envelope.begin_sliver.Goals as goal
 

@@ -1,5 +1,4 @@
-use Rattle.std.proofs.Common.{◌≤◌, ◌<◌, arith, ◌∙◌}
-use Rattle.wal_shape.specs.Shape.{row_count, symbol_size}
+use Rattle.wal_run.proofs.Common.{◌≤◌, ◌<◌, arith, ◌∙◌, row_count, symbol_size}
 use Rattle.wal_run.proofs.ShardTexts.{laid_short, laid_long}
 use Rattle.wal_run.proofs.envelope.laid_room.Goals as goal
 

@@ -1,6 +1,4 @@
-use Rattle.std.proofs.Common.{rules, ◌≡◌, length, arith}
-use Rattle.wal_shape.specs.Opening.{opening_shown}
-use Rattle.wal_frame.proofs.FrameLaws.{length-opening_frame}
+use Rattle.wal_run.proofs.Common.{rules, ◌≡◌, length, arith, opening_shown, length-opening_frame}
 use Rattle.wal_run.proofs.envelope.put_opening.Goals as goal
 
 pub put_frame-requires-clause-frame : goal.put_frame-requires-clause-frame

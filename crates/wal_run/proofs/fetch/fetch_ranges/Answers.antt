@@ -1,4 +1,4 @@
-use Rattle.wal_run.specs.inside.Writing.{performed}
+use Rattle.wal_run.proofs.Common.{performed}
 use Rattle.wal_run.proofs.Fetches.{done_spelled, malformed_is}
 use Rattle.wal_run.proofs.Says.{performs_refused}
 use Rattle.wal_run.proofs.fetch.fetch_ranges.Goals as goal

@@ -1,5 +1,4 @@
-use Rattle.std.proofs.Common.{◌≡◌, ◌+◌, ◌-◌, ◌++◌, List, ℕ, length, length-append, take, ap, sym, subst, ◌∙◌, arith}
-use Rattle.wal_frame.specs.Frame.{envelope}
+use Rattle.wal_run.proofs.Common.{◌≡◌, ◌+◌, ◌-◌, ◌++◌, List, ℕ, length, length-append, take, ap, sym, subst, ◌∙◌, arith, envelope}
 use Rattle.wal_gateway.proofs.RequestLaws.{before_rest}
 use Rattle.wal_run.proofs.Envelopes.{Walks, walks_more}
 use Rattle.wal_run.proofs.fetch.malformed_at.Goals as goal

@@ -1,5 +1,5 @@
 -- Whole envelopes stand before the rest.
-use Rattle.std.proofs.Common.{◌≤◌, ◌-◌, length, take}
+use Rattle.wal_run.proofs.Common.{◌≤◌, ◌-◌, length, take}
 use Rattle.wal_run.proofs.Envelopes.{Walks}
 use Rattle.wal_run.proofs.fetch.malformed_at.Given as goal
 

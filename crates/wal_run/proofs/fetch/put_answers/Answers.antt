@@ -1,10 +1,5 @@
 -- One request more is answered, a line is not written whole, a collision stops, memory runs out, or no request is left.
-use Rattle.std.proofs.Common.{sym, subst, ◌∙◌, arith}
-use Rattle.std.proofs.KnownBytes.{Keeps-refl}
-use Rattle.wal_port.specs.Faults.{Rose}
-use Rattle.wal_serve.proofs.TakingLaws.{rose_since}
-use Rattle.wal_run.specs.Fetching.{fetching}
-use Rattle.wal_run.specs.inside.Writing.{DoesTold}
+use Rattle.wal_run.proofs.Common.{sym, subst, ◌∙◌, arith, Keeps-refl, Rose, rose_since, fetching, DoesTold}
 use Rattle.wal_run.proofs.Fetches.{ends, ends_piece, fetched_more, fetched_none, no_asked, no_memory, stops}
 use Rattle.wal_run.proofs.fetch.put_answers.Goals as goal
 

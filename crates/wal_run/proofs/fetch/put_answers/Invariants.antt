@@ -1,7 +1,5 @@
 -- The requests before the rest were answered, none by a collision, and their lines written.
-use Rattle.std.proofs.Common.{◌≡◌, ◌≤◌, ℕ, List, length}
-use Rattle.wal_frame.specs.Stream.{IsStream}
-use Rattle.wal_gateway.specs.Requests.{no_blobs}
+use Rattle.wal_run.proofs.Common.{◌≡◌, ◌≤◌, ℕ, List, length, IsStream, no_blobs}
 use Rattle.wal_run.proofs.Fetches.{Fetched}
 use Rattle.wal_run.proofs.fetch.put_answers.Given as goal
 

@@ -1,5 +1,4 @@
-use Rattle.std.proofs.KnownBytes.{Keeps-refl}
-use Rattle.wal_run.specs.inside.Writing.{out_of_memory, performed}
+use Rattle.wal_run.proofs.Common.{Keeps-refl, out_of_memory, performed}
 use Rattle.wal_run.proofs.fetch.put_fetched.Goals as goal
 
 pub returns-in-Ok-clause-does : goal.returns-in-Ok-clause-does

@@ -1,5 +1,4 @@
-use Rattle.std.proofs.Common.{refl}
-use Rattle.wal_run.specs.inside.Writing.{written, cut}
+use Rattle.wal_run.proofs.Common.{refl, written, cut}
 use Rattle.wal_run.proofs.finish.finish.Goals as goal
 
 pub returns-in-Ok-clause-finishes : goal.returns-in-Ok-clause-finishes

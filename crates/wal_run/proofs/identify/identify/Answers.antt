@@ -1,6 +1,4 @@
-use Rattle.std.proofs.Common.{subst, ◌∙◌}
-use Rattle.wal_shape.specs.Shape.{BlobShape}
-use Rattle.wal_commit.specs.Identifier.{IsIdentifierOf}
+use Rattle.wal_run.proofs.Common.{subst, ◌∙◌, BlobShape, IsIdentifierOf}
 use Rattle.wal_run.proofs.Blobs.{identified_is}
 use Rattle.wal_run.proofs.Says.{no_memory}
 use Rattle.wal_run.proofs.identify.identify.Goals as goal

@@ -1,6 +1,4 @@
-use Rattle.std.proofs.Common.{rules, ◌≡◌, List, ℕ, [], replicate, sym, subst}
-use Rattle.wal_journal.specs.FlatDisk.{flat_bytes}
-use Rattle.wal_journal.specs.Record.{Accepts}
+use Rattle.wal_run.proofs.Common.{rules, ◌≡◌, List, ℕ, [], replicate, sym, subst, flat_bytes, Accepts}
 use Rattle.wal_run.proofs.ImageLaws.{zeros_accept}
 use Rattle.wal_run.proofs.image.blank_journal.Goals as goal
 

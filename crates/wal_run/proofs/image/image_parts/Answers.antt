@@ -1,4 +1,4 @@
-use Rattle.wal_run.specs.Imaging.{imaging}
+use Rattle.wal_run.proofs.Common.{imaging}
 use Rattle.wal_run.proofs.Says.{broken, passed, says_told}
 use Rattle.wal_run.proofs.image.image_parts.Goals as goal
 

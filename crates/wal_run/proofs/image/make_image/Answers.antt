@@ -1,9 +1,4 @@
-use Rattle.std.proofs.Common.{◌≡◌, ℕ, Ok, take, refl, sym, ap, subst, ◌∙◌}
-use Rattle.wal_journal.specs.FlatDisk.{flat_bytes}
-use Rattle.wal_journal.specs.Packing.{puts_of}
-use Rattle.wal_store.specs.Calls.{no_contents}
-use Rattle.wal_run.specs.Imaging.{image_of}
-use Rattle.wal_run.specs.inside.Command.{lacks, succeeds}
+use Rattle.wal_run.proofs.Common.{◌≡◌, ℕ, Ok, take, refl, sym, ap, subst, ◌∙◌, flat_bytes, puts_of, no_contents, image_of, lacks, succeeds}
 use Rattle.wal_run.proofs.ImageLaws.{packed_made, packed_refused}
 use Rattle.wal_run.proofs.image.make_image.Goals as goal
 

@@ -1,6 +1,4 @@
-use Rattle.std.proofs.Common.{ℕ, subst}
-use Rattle.wal_bundle.specs.Member.{IsMember}
-use Rattle.wal_run.specs.Unbundling.{unbundling}
+use Rattle.wal_run.proofs.Common.{ℕ, subst, IsMember, unbundling}
 use Rattle.wal_run.proofs.Members.{member_as}
 use Rattle.wal_run.proofs.Says.{broken, no_memory, passed, says_as}
 use Rattle.wal_run.proofs.member.read_member.Goals as goal

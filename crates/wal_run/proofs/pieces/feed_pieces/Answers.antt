@@ -1,9 +1,6 @@
-use Rattle.std.proofs.Common.{◌≡◌, ◌++◌, ◌≤◌, [], length, take, refl, arith}
-use Rattle.std.proofs.KnownBytes.{Consumes-nil, Consumes-trans}
+use Rattle.wal_run.proofs.Common.{◌≡◌, ◌++◌, ◌≤◌, [], length, take, refl, arith, Consumes-nil, Consumes-trans, Rose, rose_since}
 use Rattle.std.proofs.lemmas.List.{length-append}
 use Rattle.std.proofs.Math.Seq.{length-take-le}
-use Rattle.wal_port.specs.Faults.{Rose}
-use Rattle.wal_serve.proofs.TakingLaws.{rose_since}
 use Rattle.wal_run.proofs.PieceLaws.{none_given, piece_failed, feed_failed}
 use Rattle.wal_run.proofs.pieces.feed_pieces.Goals as goal
 

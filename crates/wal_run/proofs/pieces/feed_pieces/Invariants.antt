@@ -1,8 +1,5 @@
 -- What was taken is what the reader stands for, unless it is malformed, and the count of faults never fell.
-use Rattle.std.proofs.Common.{◌≡◌, ℕ, ◌-◌, ◌<◌, ◌≤◌, List, [], length}
-use Rattle.std.specs.Io.KnownBytes.{Consumes}
-use Rattle.wal_reader.specs.Standing.{StandsFor}
-use Rattle.wal_run.specs.inside.Pieces.{Stands}
+use Rattle.wal_run.proofs.Common.{◌≡◌, ℕ, ◌-◌, ◌<◌, ◌≤◌, List, [], length, Consumes, StandsFor, Stands}
 use Rattle.wal_run.proofs.pieces.feed_pieces.Given as goal
 
 abbrev pub invariant-pieces : goal.invariant-pieces

@@ -1,6 +1,4 @@
-use Rattle.std.proofs.KnownBytes.{Keeps-refl}
-use Rattle.wal_words.specs.declared.task.Task.TheVariants.{Read}
-use Rattle.wal_run.specs.Answers.{no_memory}
+use Rattle.wal_run.proofs.Common.{Keeps-refl, Read, no_memory}
 use Rattle.wal_run.proofs.PieceLaws.{none_taken}
 use Rattle.wal_run.proofs.read.read_stream.Goals as goal
 

@@ -1,6 +1,4 @@
-use Rattle.std.proofs.KnownBytes.{Keeps-refl}
-use Rattle.wal_words.specs.declared.task.Task.TheVariants.{Read}
-use Rattle.wal_run.specs.Answers.{no_memory, source_failed, too_long}
+use Rattle.wal_run.proofs.Common.{Keeps-refl, Read, no_memory, source_failed, too_long}
 use Rattle.wal_run.proofs.Endings.{ends_finished, ends_performed, long_input}
 use Rattle.wal_run.proofs.PieceLaws.{tells_all, tells_more}
 use Rattle.wal_run.proofs.Says.{performs_said}

@@ -1,5 +1,4 @@
-use Rattle.std.proofs.Common.{inl, refl}
-use Rattle.wal_run.specs.Command.{unreadable}
+use Rattle.wal_run.proofs.Common.{inl, refl, unreadable}
 use Rattle.wal_run.proofs.read.refusal_of.Goals as goal
 
 pub returns-in-Malformed : goal.returns-in-Malformed

@@ -1,6 +1,4 @@
-use Rattle.std.proofs.Common.{[], inl, refl}
-use Rattle.wal_run.specs.Command.{collision, lacking}
-use Rattle.wal_shape.specs.MetaRef.{metadata_shown}
+use Rattle.wal_run.proofs.Common.{[], inl, refl, collision, lacking, metadata_shown}
 use Rattle.wal_run.proofs.recorded.metadata_of.Goals as goal
 
 pub returns-in-Absent-clause-refusal : goal.returns-in-Absent-clause-refusal

@@ -1,7 +1,4 @@
-use Rattle.std.proofs.Common.{◌≡◌, ap, ◌∙◌}
-use Rattle.wal_shape.specs.MetaRef.{metadata_shown}
-use Rattle.wal_shape.specs.Shape.{BlobShape, sliver_symbols}
-use Rattle.wal_run.specs.inside.Command.{recorded}
+use Rattle.wal_run.proofs.Common.{◌≡◌, ap, ◌∙◌, metadata_shown, BlobShape, sliver_symbols, recorded}
 use Rattle.wal_run.proofs.Recoveries.{recovered_as}
 use Rattle.wal_run.proofs.Says.{no_memory, says_as}
 use Rattle.wal_run.proofs.recover.recover_under.Goals as goal

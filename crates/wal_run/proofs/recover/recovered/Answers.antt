@@ -1,4 +1,4 @@
-use Rattle.wal_shape.specs.MetaRef.{metadata_shown}
+use Rattle.wal_run.proofs.Common.{metadata_shown}
 use Rattle.wal_run.proofs.Sizes.{recovery_fits}
 use Rattle.wal_run.proofs.recover.recovered.Goals as goal
 

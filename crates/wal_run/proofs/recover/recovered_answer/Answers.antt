@@ -1,5 +1,4 @@
-use Rattle.std.proofs.Common.{ℕ, refl, ap}
-use Rattle.wal_run.specs.Lines.{short_text}
+use Rattle.wal_run.proofs.Common.{ℕ, refl, ap, short_text}
 use Rattle.wal_run.proofs.recover.recovered_answer.Goals as goal
 
 pub returns-in-Short : goal.returns-in-Short

@@ -1,5 +1,4 @@
-use Rattle.std.proofs.Common.{rules, ◌≡◌, length, arith}
-use Rattle.wal_frame.proofs.FrameLaws.{length-sliver_frame}
+use Rattle.wal_run.proofs.Common.{rules, ◌≡◌, length, arith, length-sliver_frame}
 use Rattle.wal_run.proofs.recover.sliver_envelope.Goals as goal
 
 pub frame_envelope-requires-clause-frame : goal.frame_envelope-requires-clause-frame

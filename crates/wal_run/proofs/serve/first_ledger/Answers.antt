@@ -1,4 +1,4 @@
-use Rattle.std.proofs.Common.{◌∙◌}
+use Rattle.wal_run.proofs.Common.{◌∙◌}
 use Rattle.wal_run.proofs.Services.{committee_fits}
 use Rattle.wal_run.proofs.serve.first_ledger.Goals as goal
 

@@ -1,4 +1,4 @@
-use Rattle.std.proofs.Common.{refl}
+use Rattle.wal_run.proofs.Common.{refl}
 use Rattle.wal_run.proofs.Services.{nodes_more}
 use Rattle.wal_run.proofs.serve.own_nodes.Goals as goal
 

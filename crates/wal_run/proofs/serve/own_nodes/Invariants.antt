@@ -1,5 +1,4 @@
-use Rattle.std.proofs.Common.{◌≡◌}
-use Rattle.std.specs.List.{range_with_len}
+use Rattle.wal_run.proofs.Common.{◌≡◌, range_with_len}
 use Rattle.wal_run.proofs.serve.own_nodes.Given as goal
 
 abbrev pub invariant-loop-node : goal.invariant-loop-node

@@ -1,5 +1,4 @@
-use Rattle.std.proofs.Common.{ap}
-use Rattle.wal_shard.specs.State.{ShardState}
+use Rattle.wal_run.proofs.Common.{ap, ShardState}
 use Rattle.wal_run.proofs.Services.{starts_owned, starts, starts_shard, ends_serving}
 use Rattle.wal_run.proofs.serve.serve_pool.Goals as goal
 

@@ -1,6 +1,4 @@
-use Rattle.std.proofs.KnownBytes.{Keeps-refl}
-use Rattle.wal_words.specs.declared.task.Task.TheVariants.{Serve}
-use Rattle.wal_run.specs.Answers.{no_memory, serving_ended}
+use Rattle.wal_run.proofs.Common.{Keeps-refl, Serve, no_memory, serving_ended}
 use Rattle.wal_run.proofs.Endings.{nothing_taken}
 use Rattle.wal_run.proofs.serve.serve_shard.Goals as goal
 

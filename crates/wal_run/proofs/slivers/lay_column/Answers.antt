@@ -1,7 +1,4 @@
-use Rattle.std.proofs.Common.{◌≡◌, ap, arith}
-use Rattle.wal_shape.specs.Shape.{BlobShape, row_count}
-use Rattle.wal_frame.specs.Buffer.{Buffer}
-use Rattle.wal_matrix.specs.Matrix.{shards, symbol_bytes}
+use Rattle.wal_run.proofs.Common.{◌≡◌, ap, arith, BlobShape, row_count, Buffer, shards, symbol_bytes}
 use Rattle.wal_run.proofs.ShardTexts.{laid_none, laid_more, laid_all}
 use Rattle.wal_run.proofs.slivers.lay_column.Goals as goal
 

@@ -1,7 +1,4 @@
-use Rattle.std.proofs.Common.{◌≡◌, ◌≤◌, ◌+◌, ◌*◌}
-use Rattle.wal_shape.specs.Shape.{row_count}
-use Rattle.wal_matrix.specs.Matrix.{column_part, shards, symbol_bytes}
-use Rattle.wal_frame.specs.Buffer.{appended}
+use Rattle.wal_run.proofs.Common.{◌≡◌, ◌≤◌, ◌+◌, ◌*◌, row_count, column_part, shards, symbol_bytes, appended}
 use Rattle.wal_run.proofs.slivers.lay_column.Given as goal
 
 -- the symbols above this row were laid, and there is room for the others

@@ -1,5 +1,4 @@
-use Rattle.std.proofs.Common.{◌++◌, ap, sym}
-use Rattle.wal_matrix.specs.Matrix.{secondary_of, symbol_bytes}
+use Rattle.wal_run.proofs.Common.{◌++◌, ap, sym, secondary_of, symbol_bytes}
 use Rattle.wal_run.proofs.Parts.{failed_before, failed_after, put_both}
 use Rattle.wal_run.proofs.slivers.put_apart.Goals as goal
 

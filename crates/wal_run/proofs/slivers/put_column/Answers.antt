@@ -1,8 +1,4 @@
-use Rattle.std.proofs.Common.{◌≡◌, ◌<◌, ap, sym, subst, arith}
-use Rattle.std.proofs.KnownBytes.{Appends-nil, Appends-trans}
-use Rattle.std.specs.Io.KnownBytes.{Appends}
-use Rattle.wal_shape.specs.Shape.{BlobShape, row_count}
-use Rattle.wal_matrix.specs.Matrix.{secondary_of, symbol_bytes}
+use Rattle.wal_run.proofs.Common.{◌≡◌, ◌<◌, ap, sym, subst, arith, Appends-nil, Appends-trans, Appends, BlobShape, row_count, secondary_of, symbol_bytes}
 use Rattle.wal_run.proofs.Parts.{failed_within}
 use Rattle.wal_run.proofs.ShardTexts.{column_split, column_text-all, column_text-more, column_text-none}
 use Rattle.wal_run.proofs.slivers.put_column.Goals as goal

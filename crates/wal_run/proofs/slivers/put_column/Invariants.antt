@@ -1,6 +1,4 @@
-use Rattle.std.proofs.Common.{◌≤◌}
-use Rattle.std.specs.Io.KnownBytes.{Appends}
-use Rattle.wal_matrix.specs.Matrix.{symbol_bytes}
+use Rattle.wal_run.proofs.Common.{◌≤◌, Appends, symbol_bytes}
 use Rattle.wal_run.proofs.ShardTexts.{column_text}
 use Rattle.wal_run.proofs.slivers.put_column.Given as goal
 

@@ -1,9 +1,4 @@
-use Rattle.std.proofs.Common.{◌≡◌, ◌++◌, List, ℕ, OnOk, OnErr, length, length-append, ap, subst, ◌∙◌, arith}
-use Rattle.std.specs.Io.KnownBytes.{Appends}
-use Rattle.wal_port.specs.Appending.{AppendsPart}
-use Rattle.wal_frame.specs.Buffer.{Buffer}
-use Rattle.wal_matrix.specs.Matrix.{secondary_of, symbol_bytes}
-use Rattle.wal_matrix.proofs.Slivers.{secondary_long}
+use Rattle.wal_run.proofs.Common.{◌≡◌, ◌++◌, List, ℕ, OnOk, OnErr, length, length-append, ap, subst, ◌∙◌, arith, Appends, AppendsPart, Buffer, secondary_of, symbol_bytes, secondary_long}
 use Rattle.wal_run.proofs.slivers.put_laid.Goals as goal
 
 pub returns-clause-whole : goal.returns-clause-whole

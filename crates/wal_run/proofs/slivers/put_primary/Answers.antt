@@ -1,7 +1,4 @@
-use Rattle.std.proofs.Common.{◌*◌, ◌++◌, ◌∙◌, ap, sym, arith}
-use Rattle.wal_shape.specs.declared.axis.Axis.TheVariants.{Primary}
-use Rattle.wal_shape.specs.Shape.{BlobShape, column_count, symbol_size}
-use Rattle.wal_matrix.specs.Matrix.{primary_of, symbol_bytes}
+use Rattle.wal_run.proofs.Common.{◌*◌, ◌++◌, ◌∙◌, ap, sym, arith, Primary, BlobShape, column_count, symbol_size, primary_of, symbol_bytes}
 use Rattle.wal_run.proofs.Parts.{failed_before, failed_after, put_both}
 use Rattle.wal_run.proofs.ShardTexts.{sliver_fits, sliver_parts}
 use Rattle.wal_run.proofs.slivers.put_primary.Goals as goal

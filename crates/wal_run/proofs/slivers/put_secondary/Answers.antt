@@ -1,9 +1,4 @@
-use Rattle.std.proofs.Common.{◌≡◌, ◌<◌, ◌*◌, List, ℕ, OnOk, OnErr, length, ap, sym, subst, ◌∙◌, arith}
-use Rattle.std.specs.Io.KnownBytes.{Appends}
-use Rattle.wal_port.specs.Appending.{AppendsPart}
-use Rattle.wal_shape.specs.Shape.{BlobShape, row_count, symbol_size}
-use Rattle.wal_matrix.specs.Matrix.{secondary_of, symbol_bytes}
-use Rattle.wal_matrix.proofs.Slivers.{secondary_long}
+use Rattle.wal_run.proofs.Common.{◌≡◌, ◌<◌, ◌*◌, List, ℕ, OnOk, OnErr, length, ap, sym, subst, ◌∙◌, arith, Appends, AppendsPart, BlobShape, row_count, symbol_size, secondary_of, symbol_bytes, secondary_long}
 use Rattle.wal_run.proofs.ShardTexts.{laid_short, sliver_fits}
 use Rattle.wal_run.proofs.slivers.put_secondary.Goals as goal
 

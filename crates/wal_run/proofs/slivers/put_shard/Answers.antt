@@ -1,8 +1,4 @@
-use Rattle.std.proofs.Common.{◌≡◌, ℕ, ◌∙◌, refl, ap, ap₂}
-use Rattle.wal_shape.specs.declared.axis.Axis.TheVariants.{Primary, Secondary}
-use Rattle.wal_shape.specs.declared.shape.Format.{Format}
-use Rattle.wal_shape.specs.Metadata.{BlobMetadata, held_index}
-use Rattle.wal_run.specs.Envelope.{shard_text}
+use Rattle.wal_run.proofs.Common.{◌≡◌, ℕ, ◌∙◌, refl, ap, ap₂, Primary, Secondary, Format, BlobMetadata, held_index, shard_text}
 use Rattle.wal_run.proofs.Parts.{failed_before, failed_after, put_both}
 use Rattle.wal_run.proofs.ShardTexts.{shard_parts}
 use Rattle.wal_run.proofs.slivers.put_shard.Goals as goal

@@ -1,10 +1,4 @@
-use Rattle.std.proofs.Common.{◌<◌, ap, sym, subst, arith}
-use Rattle.std.proofs.KnownBytes.{Appends-trans}
-use Rattle.std.specs.Io.KnownBytes.{Appends}
-use Rattle.std.specs.List.{flat_map, range_with_len}
-use Rattle.wal_shape.specs.Shape.{shard_count}
-use Rattle.wal_commit.proofs.Commitments.{flat_map-more}
-use Rattle.wal_run.specs.Envelope.{shard_text}
+use Rattle.wal_run.proofs.Common.{◌<◌, ap, sym, subst, arith, Appends-trans, Appends, flat_map, range_with_len, shard_count, flat_map-more, shard_text}
 use Rattle.wal_run.proofs.Parts.{failed_within}
 use Rattle.wal_run.proofs.ShardTexts.{flat_map-split}
 use Rattle.wal_run.proofs.slivers.put_slivers.Goals as goal

@@ -1,7 +1,4 @@
-use Rattle.std.proofs.Common.{◌≤◌, ◌≡◌, ◌+◌, length}
-use Rattle.std.specs.Io.KnownBytes.{Appends}
-use Rattle.std.specs.List.{flat_map, range_with_len}
-use Rattle.wal_run.specs.Envelope.{shard_text}
+use Rattle.wal_run.proofs.Common.{◌≤◌, ◌≡◌, ◌+◌, length, Appends, flat_map, range_with_len, shard_text}
 use Rattle.wal_run.proofs.slivers.put_slivers.Given as goal
 
 -- the envelopes of the shards before this one were written

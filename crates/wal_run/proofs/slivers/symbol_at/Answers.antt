@@ -1,6 +1,4 @@
-use Rattle.std.proofs.Common.{◌+◌, ◌*◌, refl, ap, ◌∙◌}
-use Rattle.wal_shape.specs.Shape.{BlobShape, symbol_size}
-use Rattle.wal_matrix.specs.Matrix.{shards, symbol_bytes}
+use Rattle.wal_run.proofs.Common.{◌+◌, ◌*◌, refl, ap, ◌∙◌, BlobShape, symbol_size, shards, symbol_bytes}
 use Rattle.wal_run.proofs.ShardTexts.{symbol_of_row}
 use Rattle.wal_run.proofs.slivers.symbol_at.Goals as goal
 

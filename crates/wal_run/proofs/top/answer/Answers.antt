@@ -1,5 +1,4 @@
-use Rattle.std.proofs.KnownBytes.{Keeps-refl}
-use Rattle.wal_run.specs.Answers.{no_memory_for_words, usage}
+use Rattle.wal_run.proofs.Common.{Keeps-refl, no_memory_for_words, usage}
 use Rattle.wal_run.proofs.Endings.{ends_finished}
 use Rattle.wal_run.proofs.Tasks.{in_range}
 use Rattle.wal_run.proofs.top.answer.Goals as goal

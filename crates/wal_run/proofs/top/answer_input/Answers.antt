@@ -1,10 +1,4 @@
-use Rattle.std.proofs.Common.{◌≡◌, ◌<◌, ◌≤◌, ◌+◌, ℕ, length, ap, Err, inl, inr, subst, arith}
-use Rattle.std.proofs.KnownBytes.{Keeps-refl}
-use Rattle.std.specs.Io.KnownBytes.{Consumes}
-use Rattle.wal_words.specs.declared.task.Task.TheVariants.{Whole}
-use Rattle.wal_run.specs.Answers.{no_memory, source_failed, too_long}
-use Rattle.wal_run.specs.Command.{IsTakenWhole, TakesAtMost, IsAllOf}
-use Rattle.wal_run.specs.Commands.{whole_command}
+use Rattle.wal_run.proofs.Common.{◌≡◌, ◌<◌, ◌≤◌, ◌+◌, ℕ, length, ap, Err, inl, inr, subst, arith, Keeps-refl, Consumes, Whole, no_memory, source_failed, too_long, IsTakenWhole, TakesAtMost, IsAllOf, whole_command}
 use Rattle.wal_run.proofs.Endings.{ends_done, ends_finished, long_input, not_too_long, taken_by, told_long}
 use Rattle.wal_run.proofs.Tasks.{whole_takes}
 use Rattle.wal_run.proofs.top.answer_input.Goals as goal

@@ -1,7 +1,4 @@
-use Rattle.std.proofs.Common.{subst, refl}
-use Rattle.std.proofs.KnownBytes.{Keeps-refl}
-use Rattle.wal_words.specs.declared.task.Task.{Task}
-use Rattle.wal_words.specs.Task.{IsTask}
+use Rattle.wal_run.proofs.Common.{subst, refl, Keeps-refl, Task, IsTask}
 use Rattle.wal_run.proofs.Endings.{ends_performed}
 use Rattle.wal_run.proofs.Says.{performs_said}
 use Rattle.wal_run.proofs.top.answer_task.Goals as goal

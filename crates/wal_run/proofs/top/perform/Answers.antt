@@ -1,4 +1,4 @@
-use Rattle.wal_run.specs.inside.Writing.{performed}
+use Rattle.wal_run.proofs.Common.{performed}
 use Rattle.wal_run.proofs.Says.{performs_said}
 use Rattle.wal_run.proofs.top.perform.Goals as goal
 

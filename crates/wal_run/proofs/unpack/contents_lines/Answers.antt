@@ -1,4 +1,4 @@
-use Rattle.std.proofs.Common.{◌≡◌, suc, length, Some, sym, ap, ◌∙◌, arith}
+use Rattle.wal_run.proofs.Common.{◌≡◌, suc, length, Some, sym, ap, ◌∙◌, arith}
 use Rattle.wal_run.proofs.ListingLaws.{to_come, none_listed, one_next, one_listed, all_listed}
 use Rattle.wal_run.proofs.unpack.contents_lines.Goals as goal
 

@@ -1,4 +1,4 @@
-use Rattle.std.proofs.Common.{length}
+use Rattle.wal_run.proofs.Common.{length}
 use Rattle.wal_run.proofs.ListingLaws.{IsListedTo, to_come}
 use Rattle.wal_run.proofs.unpack.contents_lines.Given as goal
 

@@ -1,9 +1,5 @@
-use Rattle.std.proofs.Common.{rules, ◌≡◌, ℕ, length, sym, ap, subst, ◌∙◌}
+use Rattle.wal_run.proofs.Common.{rules, ◌≡◌, ℕ, length, sym, ap, subst, ◌∙◌, flat_bytes, IsResult, malformed_text, unpacking}
 use Rattle.wal_journal.specs.declared.open.OpenFault.TheVariants.{BadRecord}
-use Rattle.wal_journal.specs.FlatDisk.{flat_bytes}
-use Rattle.wal_run.specs.Command.{IsResult}
-use Rattle.wal_run.specs.Lines.{malformed_text}
-use Rattle.wal_run.specs.Unpacking.{unpacking}
 use Rattle.wal_run.proofs.ListingLaws.{no_bytes, listed_is, empty_is, broken_is}
 use Rattle.wal_run.proofs.Says.{no_memory}
 use Rattle.wal_run.proofs.unpack.unpack_image.Goals as goal

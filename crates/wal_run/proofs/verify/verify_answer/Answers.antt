@@ -1,7 +1,4 @@
-use Rattle.std.proofs.Common.{refl}
-use Rattle.wal_shape.specs.MetaRef.{metadata_shown}
-use Rattle.wal_run.specs.inside.Command.{recorded}
-use Rattle.wal_run.specs.Verifying.{verifying}
+use Rattle.wal_run.proofs.Common.{refl, metadata_shown, recorded, verifying}
 use Rattle.wal_run.proofs.Says.{broken, passed, says_told, unrecorded}
 use Rattle.wal_run.proofs.verify.verify_answer.Goals as goal
 

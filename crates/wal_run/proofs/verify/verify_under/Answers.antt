@@ -1,9 +1,4 @@
-use Rattle.std.proofs.Common.{◌≡◌, ap, subst, ◌∙◌, arith}
-use Rattle.wal_shape.specs.MetaRef.{metadata_shown}
-use Rattle.wal_shape.specs.Shape.{BlobShape, shard_count}
-use Rattle.wal_challenge.specs.Verdict.{AnswersComeTo}
-use Rattle.wal_run.specs.Challenging.{HasShard}
-use Rattle.wal_run.specs.inside.Command.{recorded}
+use Rattle.wal_run.proofs.Common.{◌≡◌, ap, subst, ◌∙◌, arith, metadata_shown, BlobShape, shard_count, AnswersComeTo, HasShard, recorded}
 use Rattle.wal_run.proofs.Says.{no_memory, says_as}
 use Rattle.wal_run.proofs.Verifications.{shardless_is, verdict_as}
 use Rattle.wal_run.proofs.verify.verify_under.Goals as goal

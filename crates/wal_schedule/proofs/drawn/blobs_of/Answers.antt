@@ -1,8 +1,4 @@
-use Rattle.std.proofs.Common.{◌≡◌, ◌+◌, ◌*◌, List, ℕ, length, refl, sym, ap, ◌∙◌, arith, subst}
-use Rattle.wal_shape.specs.declared.shape.Format.TheVariants.{One}
-use Rattle.wal_commit.specs.Identifier.{IsIdentifierOf}
-use Rattle.wal_schedule.specs.declared.drawn.SampleBlob.{SampleBlob}
-use Rattle.wal_schedule.specs.Sample.{AreBlobs, blob_from, state_after}
+use Rattle.wal_schedule.proofs.Common.{◌≡◌, ◌+◌, ◌*◌, List, ℕ, length, refl, sym, ap, ◌∙◌, arith, subst, One, IsIdentifierOf, SampleBlob, AreBlobs, blob_from, state_after}
 use Rattle.wal_schedule.proofs.Drawing.{before_first, more_blobs, no_blobs, state_before-more}
 use Rattle.wal_schedule.proofs.drawn.blobs_of.Goals as goal
 

@@ -1,5 +1,4 @@
-use Rattle.std.proofs.Common.{◌≡◌}
-use Rattle.wal_schedule.specs.Sample.{AreBlobs, state_before}
+use Rattle.wal_schedule.proofs.Common.{◌≡◌, AreBlobs, state_before}
 use Rattle.wal_schedule.proofs.drawn.blobs_of.Given as goal
 
 abbrev pub invariant-loop-b : goal.invariant-loop-b

@@ -1,5 +1,4 @@
-use Rattle.std.proofs.Common.{◌++◌, ◌∷◌, [], ◌%◌, ◌+◌, length, refl, sym, ap, ◌∙◌}
-use Rattle.wal_schedule.specs.Sample.{next_state}
+use Rattle.wal_schedule.proofs.Common.{◌++◌, ◌∷◌, [], ◌%◌, ◌+◌, length, refl, sym, ap, ◌∙◌, next_state}
 use Rattle.wal_schedule.proofs.Drawing.{none_drawn, pushed_byte, pushed_count, state_after-more}
 use Rattle.wal_schedule.proofs.drawn.bytes_of.Goals as goal
 

@@ -1,6 +1,4 @@
-use Rattle.std.proofs.Common.{◌≡◌, ◌+◌, ◌%◌, ◌∷◌, map, length}
-use Rattle.std.specs.List.{range_with_len}
-use Rattle.wal_schedule.specs.Sample.{drawn, state_after}
+use Rattle.wal_schedule.proofs.Common.{◌≡◌, ◌+◌, ◌%◌, ◌∷◌, map, length, range_with_len, drawn, state_after}
 use Rattle.wal_schedule.proofs.drawn.bytes_of.Given as goal
 
 abbrev pub invariant-loop-k : goal.invariant-loop-k

@@ -1,4 +1,4 @@
-use Rattle.wal_event.specs.declared.event.Event.TheVariants.{Ack}
+use Rattle.wal_schedule.proofs.Common.{Ack}
 use Rattle.wal_schedule.proofs.Drawing.{pushed_map}
 use Rattle.wal_schedule.proofs.drawn.put_acks.Goals as goal
 

@@ -1,6 +1,4 @@
-use Rattle.std.proofs.Common.{◌≡◌, ◌++◌, map}
-use Rattle.std.specs.List.{range_with_len}
-use Rattle.wal_event.specs.declared.event.Event.TheVariants.{Ack}
+use Rattle.wal_schedule.proofs.Common.{◌≡◌, ◌++◌, map, range_with_len, Ack}
 use Rattle.wal_schedule.proofs.drawn.put_acks.Given as goal
 
 abbrev pub invariant-loop-shard : goal.invariant-loop-shard

@@ -1,6 +1,4 @@
-use Rattle.std.proofs.Common.{◌≡◌, ◌++◌, take}
-use Rattle.std.specs.List.{flat_map}
-use Rattle.wal_schedule.specs.Sample.{asked_events}
+use Rattle.wal_schedule.proofs.Common.{◌≡◌, ◌++◌, take, flat_map, asked_events}
 use Rattle.wal_schedule.proofs.drawn.put_asked.Given as goal
 
 abbrev pub invariant-loop-blob : goal.invariant-loop-blob

@@ -1,5 +1,4 @@
-use Rattle.std.proofs.Common.{◌≡◌, ◌++◌, take}
-use Rattle.wal_schedule.specs.Sample.{earlier_events}
+use Rattle.wal_schedule.proofs.Common.{◌≡◌, ◌++◌, take, earlier_events}
 use Rattle.wal_schedule.proofs.drawn.put_earlier.Given as goal
 
 abbrev pub invariant-loop-blob : goal.invariant-loop-blob

@@ -1,4 +1,4 @@
-use Rattle.wal_event.specs.declared.event.Event.TheVariants.{Ready}
+use Rattle.wal_schedule.proofs.Common.{Ready}
 use Rattle.wal_schedule.proofs.Drawing.{pushed_map}
 use Rattle.wal_schedule.proofs.drawn.put_readies.Goals as goal
 

@@ -1,4 +1,4 @@
-use Rattle.wal_schedule.specs.Sample.{recovered_by}
+use Rattle.wal_schedule.proofs.Common.{recovered_by}
 use Rattle.wal_schedule.proofs.Drawing.{pushed_pieces}
 use Rattle.wal_schedule.proofs.drawn.put_recovered.Goals as goal
 

@@ -1,6 +1,4 @@
-use Rattle.std.proofs.Common.{◌≡◌, ◌++◌}
-use Rattle.std.specs.List.{flat_map, range_with_len}
-use Rattle.wal_schedule.specs.Sample.{recovered_by}
+use Rattle.wal_schedule.proofs.Common.{◌≡◌, ◌++◌, flat_map, range_with_len, recovered_by}
 use Rattle.wal_schedule.proofs.drawn.put_recovered.Given as goal
 
 abbrev pub invariant-loop-shard : goal.invariant-loop-shard

@@ -1,5 +1,4 @@
-use Rattle.std.proofs.Common.{◌≡◌, ◌++◌, take}
-use Rattle.wal_schedule.specs.Sample.{recovered_by}
+use Rattle.wal_schedule.proofs.Common.{◌≡◌, ◌++◌, take, recovered_by}
 use Rattle.wal_schedule.proofs.drawn.put_recovered_by.Given as goal
 
 abbrev pub invariant-loop-blob : goal.invariant-loop-blob

@@ -1,6 +1,4 @@
-use Rattle.std.proofs.Common.{◌≡◌, List, IfOk, subst}
-use Rattle.wal_schedule.specs.declared.drawn.SampleBlob.{SampleBlob}
-use Rattle.wal_schedule.specs.Sample.{sample_with}
+use Rattle.wal_schedule.proofs.Common.{◌≡◌, List, IfOk, subst, SampleBlob, sample_with}
 use Rattle.wal_schedule.proofs.Drawing.{if_sample}
 use Rattle.wal_schedule.proofs.SampleRange.{if_in_range}
 use Rattle.wal_schedule.proofs.drawn.sample.Goals as goal

@@ -1,5 +1,4 @@
-use Rattle.std.proofs.Common.{[]}
-use Rattle.wal_shape.specs.declared.axis.Side.TheVariants.{Now}
+use Rattle.wal_schedule.proofs.Common.{[], Now}
 use Rattle.wal_event.specs.declared.event.Reply.TheVariants.{True}
 use Rattle.wal_schedule.proofs.Drawing.{pushed_map}
 use Rattle.wal_schedule.proofs.drawn.truths.Goals as goal

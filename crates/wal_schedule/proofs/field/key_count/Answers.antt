@@ -1,5 +1,4 @@
-use Rattle.std.proofs.Common.{sym, ◌∙◌}
-use Rattle.serde_json.proofs.Views.{members_len-members_view}
+use Rattle.wal_schedule.proofs.Common.{sym, ◌∙◌, members_len-members_view}
 use Rattle.wal_schedule.proofs.field.key_count.Goals as goal
 
 pub returns-in-Some : goal.returns-in-Some

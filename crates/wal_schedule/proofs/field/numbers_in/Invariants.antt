@@ -1,7 +1,4 @@
-use Rattle.std.proofs.Common.{◌≡◌, drop}
-use Rattle.serde_json.specs.View.{items_view}
-use Rattle.wal_schedule.specs.Reading.{numbers_of}
-use Rattle.wal_schedule.specs.inside.Reading.{before}
+use Rattle.wal_schedule.proofs.Common.{◌≡◌, drop, items_view, numbers_of, before}
 use Rattle.wal_schedule.proofs.field.numbers_in.Given as goal
 
 abbrev pub invariant-loop-item : goal.invariant-loop-item

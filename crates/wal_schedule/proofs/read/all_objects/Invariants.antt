@@ -1,6 +1,4 @@
-use Rattle.std.proofs.Common.{◌≡◌, drop}
-use Rattle.serde_json.specs.View.{items_view}
-use Rattle.wal_schedule.specs.Grammar.{all_objects}
+use Rattle.wal_schedule.proofs.Common.{◌≡◌, drop, items_view, all_objects}
 use Rattle.wal_schedule.proofs.read.all_objects.Given as goal
 
 abbrev pub invariant-loop-item : goal.invariant-loop-item

@@ -1,7 +1,5 @@
-use Rattle.std.proofs.Common.{◌+◌, ◌∷◌, [], length, length-append, ap, sym, ◌∙◌}
+use Rattle.wal_schedule.proofs.Common.{◌+◌, ◌∷◌, [], length, length-append, ap, sym, ◌∙◌, shard_count, IsEventWithin}
 use Rattle.std.specs.Prelude.{Ok}
-use Rattle.wal_shape.specs.Shape.{shard_count}
-use Rattle.wal_event.specs.Event.{IsEventWithin}
 use Rattle.wal_schedule.proofs.Elements.{all_more, event_all, event_more}
 use Rattle.wal_schedule.proofs.read.events_in.Goals as goal
 

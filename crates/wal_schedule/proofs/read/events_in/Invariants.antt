@@ -1,10 +1,4 @@
-use Rattle.std.proofs.Common.{◌≡◌, ◌+◌, length, drop}
-use Rattle.std.specs.List.{AllByRecursion}
-use Rattle.serde_json.specs.View.{items_view}
-use Rattle.wal_shape.specs.Shape.{shard_count}
-use Rattle.wal_event.specs.Event.{IsEventWithin}
-use Rattle.wal_schedule.specs.Grammar.{events_of}
-use Rattle.wal_schedule.specs.inside.Grammar.{after}
+use Rattle.wal_schedule.proofs.Common.{◌≡◌, ◌+◌, length, drop, AllByRecursion, items_view, shard_count, IsEventWithin, events_of, after}
 use Rattle.wal_schedule.proofs.read.events_in.Given as goal
 
 abbrev pub invariant-loop-item : goal.invariant-loop-item

@@ -1,8 +1,4 @@
-use Rattle.std.proofs.Common.{Result, Err, sym, ap, ◌∙◌, subst}
-use Rattle.wal_event.specs.declared.event.Schedule.{Schedule}
-use Rattle.wal_schedule.specs.declared.read.ScheduleError.{ScheduleError}
-use Rattle.wal_schedule.specs.Grammar.{schedule_with}
-use Rattle.wal_schedule.specs.inside.Grammar.{Tells}
+use Rattle.wal_schedule.proofs.Common.{Result, Err, sym, ap, ◌∙◌, subst, Schedule, ScheduleError, schedule_with, Tells}
 use Rattle.wal_schedule.proofs.Reading.{too_many, of_parts, tells_error, in_range}
 use Rattle.wal_schedule.proofs.read.schedule_in.Goals as goal
 

@@ -1,4 +1,4 @@
-use Rattle.std.proofs.Common.{◌++◌, ◌∷◌, [], sym, ap, ◌∙◌}
+use Rattle.wal_schedule.proofs.Common.{◌++◌, ◌∷◌, [], sym, ap, ◌∙◌}
 use Rattle.wal_schedule.proofs.Reading.{range_more}
 use Rattle.wal_schedule.proofs.spelled.own_numbers.Goals as goal
 

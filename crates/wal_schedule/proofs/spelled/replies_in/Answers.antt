@@ -1,6 +1,5 @@
-use Rattle.std.proofs.Common.{refl, ◌∙◌, sym, ap}
+use Rattle.wal_schedule.proofs.Common.{refl, ◌∙◌, sym, ap, replies_of, reply_of}
 use Rattle.std.specs.Prelude.{Some}
-use Rattle.wal_schedule.specs.Grammar.{replies_of, reply_of}
 use Rattle.wal_schedule.proofs.Elements.{read_all, read_more}
 use Rattle.wal_schedule.proofs.spelled.replies_in.Goals as goal
 

@@ -1,7 +1,4 @@
-use Rattle.std.proofs.Common.{◌≡◌, drop}
-use Rattle.serde_json.specs.View.{items_view}
-use Rattle.wal_schedule.specs.inside.Reading.{before}
-use Rattle.wal_schedule.specs.Grammar.{replies_of}
+use Rattle.wal_schedule.proofs.Common.{◌≡◌, drop, items_view, before, replies_of}
 use Rattle.wal_schedule.proofs.spelled.replies_in.Given as goal
 
 abbrev pub invariant-loop-item : goal.invariant-loop-item

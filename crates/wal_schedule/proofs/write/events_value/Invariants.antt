@@ -1,7 +1,4 @@
-use Rattle.std.proofs.Common.{◌≡◌, map, take}
-use Rattle.std.specs.List.{AllByRecursion}
-use Rattle.serde_json.specs.View.{view}
-use Rattle.wal_schedule.specs.Writing.{HasBytes, event_data}
+use Rattle.wal_schedule.proofs.Common.{◌≡◌, map, take, AllByRecursion, view, HasBytes, event_data}
 use Rattle.wal_schedule.proofs.write.events_value.Given as goal
 
 abbrev pub invariant-loop-event : goal.invariant-loop-event

@@ -1,6 +1,4 @@
-use Rattle.std.proofs.Common.{◌≡◌, map, take}
-use Rattle.serde_json.specs.View.{view}
-use Rattle.wal_schedule.specs.Writing.{number_data}
+use Rattle.wal_schedule.proofs.Common.{◌≡◌, map, take, view, number_data}
 use Rattle.wal_schedule.proofs.write.list_value.Given as goal
 
 abbrev pub invariant-loop-number : goal.invariant-loop-number

@@ -1,7 +1,4 @@
-use Rattle.std.proofs.Common.{◌≡◌, map, take}
-use Rattle.std.specs.List.{AllByRecursion}
-use Rattle.serde_json.specs.View.{view}
-use Rattle.wal_schedule.specs.Writing.{HasReplyBytes, reply_data}
+use Rattle.wal_schedule.proofs.Common.{◌≡◌, map, take, AllByRecursion, view, HasReplyBytes, reply_data}
 use Rattle.wal_schedule.proofs.write.replies_value.Given as goal
 
 abbrev pub invariant-loop-reply : goal.invariant-loop-reply

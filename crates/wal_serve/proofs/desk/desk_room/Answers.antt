@@ -1,4 +1,4 @@
-use Rattle.std.proofs.Common.{arith}
+use Rattle.wal_serve.proofs.Common.{arith}
 use Rattle.wal_serve.proofs.RoomLaws.{asks, enough, metadata_most}
 use Rattle.wal_serve.proofs.desk.desk_room.Goals as goal
 

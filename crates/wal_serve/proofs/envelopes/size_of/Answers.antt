@@ -1,6 +1,4 @@
-use Rattle.std.proofs.Common.{◌≡◌, ℕ, List, [], ◌∷◌, ◌++◌, ap, sym, subst, ◌∙◌, append-nil, arith}
-use Rattle.wal_frame.specs.Stream.{size_in}
-use Rattle.wal_serve.specs.inside.Envelopes.{IsHead}
+use Rattle.wal_serve.proofs.Common.{◌≡◌, ℕ, List, [], ◌∷◌, ◌++◌, ap, sym, subst, ◌∙◌, append-nil, arith, size_in, IsHead}
 use Rattle.wal_serve.proofs.EnvelopeLaws.{head_of}
 use Rattle.wal_serve.proofs.envelopes.size_of.Goals as goal
 

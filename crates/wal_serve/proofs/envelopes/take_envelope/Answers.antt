@@ -1,4 +1,4 @@
-use Rattle.std.proofs.Common.{◌++◌, sym, ◌∙◌}
+use Rattle.wal_serve.proofs.Common.{◌++◌, sym, ◌∙◌}
 use Rattle.wal_serve.proofs.TakingLaws.{rose_since}
 use Rattle.wal_serve.proofs.EnvelopeLaws.{lacks_payload, takes_envelope}
 use Rattle.wal_serve.proofs.envelopes.take_envelope.Goals as goal

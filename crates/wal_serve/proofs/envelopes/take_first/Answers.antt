@@ -1,4 +1,4 @@
-use Rattle.std.proofs.Common.{sym, ap}
+use Rattle.wal_serve.proofs.Common.{sym, ap}
 use Rattle.wal_serve.proofs.EnvelopeLaws.{first_lack, first_wrong, first_lacks}
 use Rattle.wal_serve.proofs.envelopes.take_first.Goals as goal
 

@@ -1,4 +1,4 @@
-use Rattle.std.proofs.Common.{◌++◌, sym, ◌∙◌}
+use Rattle.wal_serve.proofs.Common.{◌++◌, sym, ◌∙◌}
 use Rattle.wal_serve.proofs.TakingLaws.{rose_since}
 use Rattle.wal_serve.proofs.EnvelopeLaws.{lacks_head, takes_head}
 use Rattle.wal_serve.proofs.envelopes.take_head.Goals as goal

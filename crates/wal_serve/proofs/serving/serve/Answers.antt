@@ -1,6 +1,4 @@
-use Rattle.std.proofs.Common.{rules}
-use Rattle.wal_serve.specs.State.{ServedState}
-use Rattle.wal_serve.specs.Answers.{AnswersRequest}
+use Rattle.wal_serve.proofs.Common.{rules, ServedState, AnswersRequest}
 use Rattle.wal_serve.proofs.ServingLaws.{served_ends}
 use Rattle.wal_serve.proofs.OneEnd.{one_serving}
 use Rattle.wal_serve.proofs.OneTaken.{answers_once}

@@ -1,5 +1,4 @@
-use Rattle.std.proofs.Common.{◌≡◌, ◌++◌, ◌≤◌, length, refl, arith}
-use Rattle.std.proofs.Math.Seq.{length-take-le}
+use Rattle.wal_serve.proofs.Common.{◌≡◌, ◌++◌, ◌≤◌, length, refl, arith, length-take-le}
 use Rattle.wal_serve.proofs.TakingLaws.{rose_since, took_whole, took_of, takes_past, front_long}
 use Rattle.wal_serve.proofs.taking.fill.Goals as goal
 

@@ -1,6 +1,5 @@
 -- Each piece goes right after the pieces before it.
-use Rattle.std.proofs.Common.{◌≡◌, ◌-◌, ◌<◌, ◌≤◌, length, take, ◌∙◌, arith}
-use Rattle.std.proofs.Math.Seq.{length-take-le}
+use Rattle.wal_serve.proofs.Common.{◌≡◌, ◌-◌, ◌<◌, ◌≤◌, length, take, ◌∙◌, arith, length-take-le}
 use Rattle.wal_serve.proofs.TakingLaws.{rose_since, ends_behind, fails_behind, next_consumed, rest_long, written_long, taken_whole}
 use Rattle.wal_serve.proofs.taking.fill_all.Goals as goal
 

@@ -1,6 +1,5 @@
 -- The bytes that were taken are the first ones of the slice, and the count of faults never fell.
-use Rattle.std.proofs.Common.{length, ◌-◌, ◌≤◌, take}
-use Rattle.std.specs.Io.KnownBytes.{Consumes}
+use Rattle.wal_serve.proofs.Common.{length, ◌-◌, ◌≤◌, take, Consumes}
 use Rattle.wal_serve.proofs.taking.fill_all.Given as goal
 
 abbrev pub invariant-pieces : goal.invariant-pieces

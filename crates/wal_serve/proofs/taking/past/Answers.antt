@@ -1,4 +1,4 @@
-use Rattle.std.proofs.Common.{[], arith}
+use Rattle.wal_serve.proofs.Common.{[], arith}
 use Rattle.wal_serve.proofs.TakingLaws.{past_ends, past_more, past_fails}
 use Rattle.wal_serve.proofs.taking.past.Goals as goal
 

@@ -1,4 +1,4 @@
-use Rattle.std.proofs.Common.{◌++◌, refl, arith}
+use Rattle.wal_serve.proofs.Common.{◌++◌, refl, arith}
 use Rattle.wal_serve.proofs.TakingLaws.{rose_since, took_whole, took_of, takes_past}
 use Rattle.wal_serve.proofs.taking.skip.Goals as goal
 

@@ -1,8 +1,4 @@
-use Rattle.std.proofs.Common.{◌≡◌, ◌++◌, ◌<◌, ◌≤◌, length, take, arith}
-use Rattle.std.proofs.lemmas.List.{length-append}
-use Rattle.std.proofs.Math.Seq.{length-take-le}
-use Rattle.std.proofs.KnownBytes.{Consumes-trans}
-use Rattle.wal_serve.specs.inside.Taking.{whole}
+use Rattle.wal_serve.proofs.Common.{◌≡◌, ◌++◌, ◌<◌, ◌≤◌, length, take, arith, length-append, length-take-le, Consumes-trans, whole}
 use Rattle.wal_serve.proofs.TakingLaws.{rose_since, ends_behind, fails_behind, front_long}
 use Rattle.wal_serve.proofs.taking.skip_all.Goals as goal
 

@@ -1,6 +1,5 @@
 -- So many bytes were taken, and the count of faults never fell.
-use Rattle.std.proofs.Common.{◌≡◌, ℕ, List, length, ◌-◌, ◌<◌, ◌≤◌}
-use Rattle.std.specs.Io.KnownBytes.{Consumes}
+use Rattle.wal_serve.proofs.Common.{◌≡◌, ℕ, List, length, ◌-◌, ◌<◌, ◌≤◌, Consumes}
 use Rattle.wal_serve.proofs.taking.skip_all.Given as goal
 
 abbrev pub invariant-pieces : goal.invariant-pieces

@@ -1,7 +1,4 @@
-use Rattle.std.proofs.Common.{List, ℕ, ◌++◌, Ok, sym, ap, ◌∙◌, arith}
-use Rattle.wal_shape.specs.declared.opening.Opening.{Opening}
-use Rattle.wal_shape.specs.Opening.{opening_shown}
-use Rattle.wal_shape.specs.Spelling.{body_text}
+use Rattle.wal_shape.proofs.Common.{List, ℕ, ◌++◌, Ok, sym, ap, ◌∙◌, arith, Opening, opening_shown, body_text}
 use Rattle.wal_shape.proofs.BodyLaws.{body_taken, body_rest, body_read, length-body_text}
 use Rattle.wal_shape.proofs.body.read_body.Goals as goal
 

@@ -1,5 +1,4 @@
-use Rattle.std.proofs.Common.{◌≡◌, ℕ, ◌<◌, false, get_or, take}
-use Rattle.wal_shape.specs.Owners.{among}
+use Rattle.wal_shape.proofs.Common.{◌≡◌, ℕ, ◌<◌, false, get_or, take, among}
 use Rattle.wal_shape.proofs.owners.flags_of.Given as goal
 
 abbrev pub invariant-loop-number : goal.invariant-loop-number

@@ -1,5 +1,4 @@
-use Rattle.std.proofs.Common.{◌≡◌, ◌≤◌, drop}
-use Rattle.wal_shape.specs.Owners.{ascends_from}
+use Rattle.wal_shape.proofs.Common.{◌≡◌, ◌≤◌, drop, ascends_from}
 use Rattle.wal_shape.proofs.owners.is_ascending.Given as goal
 
 abbrev pub invariant-loop-shard : goal.invariant-loop-shard

@@ -1,5 +1,4 @@
-use Rattle.std.proofs.Common.{not, ◌||◌, length, sym, ◌∙◌, arith}
-use Rattle.wal_shape.specs.Owners.{among, has_neighbour}
+use Rattle.wal_shape.proofs.Common.{not, ◌||◌, length, sym, ◌∙◌, arith, among, has_neighbour}
 use Rattle.wal_shape.proofs.OwnersLaws.{every_below-fails}
 use Rattle.wal_shape.proofs.owners.is_closed.Goals as goal
 

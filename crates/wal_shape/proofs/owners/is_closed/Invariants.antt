@@ -1,5 +1,4 @@
-use Rattle.std.proofs.Common.{◌≡◌, true, not, ◌||◌}
-use Rattle.wal_shape.specs.Owners.{among, every_below, has_neighbour}
+use Rattle.wal_shape.proofs.Common.{◌≡◌, true, not, ◌||◌, among, every_below, has_neighbour}
 use Rattle.wal_shape.proofs.owners.is_closed.Given as goal
 
 abbrev pub invariant-loop-shard : goal.invariant-loop-shard

@@ -1,6 +1,4 @@
-use Rattle.std.proofs.Common.{◌≡◌, ℕ, List, true, nat_eq, nat_lt, length, sym, ◌∙◌, subst}
-use Rattle.std.specs.List.{list_all}
-use Rattle.std.proofs.lemmas.Bool.{and_parts}
+use Rattle.wal_shape.proofs.Common.{◌≡◌, ℕ, List, true, nat_eq, nat_lt, length, sym, ◌∙◌, subst, list_all, and_parts}
 use Rattle.wal_shape.proofs.OwnersLaws.{nodes_below}
 use Rattle.wal_shape.proofs.owners.is_committee.Goals as goal
 

@@ -1,6 +1,4 @@
-use Rattle.std.proofs.Common.{◌≡◌, ℕ, ◌<◌, false, nat_eq, get_or, take}
-use Rattle.std.specs.List.{list_any}
-use Rattle.wal_shape.specs.Owners.{node_of}
+use Rattle.wal_shape.proofs.Common.{◌≡◌, ℕ, ◌<◌, false, nat_eq, get_or, take, list_any, node_of}
 use Rattle.wal_shape.proofs.owners.nodes_of.Given as goal
 
 abbrev pub invariant-loop-shard : goal.invariant-loop-shard

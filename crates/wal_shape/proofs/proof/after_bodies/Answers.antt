@@ -1,6 +1,4 @@
-use Rattle.std.proofs.Common.{List, ℕ, sym, ◌∙◌}
-use Rattle.wal_shape.specs.declared.opening.Opening.{Opening}
-use Rattle.wal_shape.specs.Opening.{opening_shown}
+use Rattle.wal_shape.proofs.Common.{List, ℕ, sym, ◌∙◌, Opening, opening_shown}
 use Rattle.wal_shape.proofs.ProofLaws.{bodies_end-next, bodies_end-stop, bodies_end-done}
 use Rattle.wal_shape.proofs.proof.after_bodies.Goals as goal
 

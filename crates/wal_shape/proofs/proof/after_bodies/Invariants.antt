@@ -1,5 +1,4 @@
-use Rattle.std.proofs.Common.{◌≡◌, ◌-◌}
-use Rattle.wal_shape.specs.inside.ProofReading.{bodies_end}
+use Rattle.wal_shape.proofs.Common.{◌≡◌, ◌-◌, bodies_end}
 use Rattle.wal_shape.proofs.proof.after_bodies.Given as goal
 
 -- where the bodies left end is where all of them end

@@ -1,5 +1,4 @@
-use Rattle.std.proofs.Common.{[]}
-use Rattle.wal_shape.specs.Opening.{opening_shown}
+use Rattle.wal_shape.proofs.Common.{[], opening_shown}
 use Rattle.wal_shape.proofs.BodyLaws.{body_taken}
 use Rattle.wal_shape.proofs.ProofLaws.{bodies_end-before, body_at-before, read_opening}
 use Rattle.wal_shape.proofs.proof.opening_at.Goals as goal

@@ -1,4 +1,4 @@
-use Rattle.std.proofs.Common.{arith}
+use Rattle.wal_shape.proofs.Common.{arith}
 use Rattle.wal_shape.proofs.ProofLaws.{head_found, head_unread}
 use Rattle.wal_shape.proofs.proof.proof_head.Goals as goal
 

@@ -1,9 +1,4 @@
-use Rattle.std.proofs.Common.{◌++◌, ◌∷◌, [], List, ap, ◌∙◌}
-use Rattle.std.specs.Int.{w16}
-use Rattle.std.specs.List.{flat_map}
-use Rattle.std.proofs.lemmas.List.{take_all}
-use Rattle.wal_shape.specs.declared.opening.Opening.{Opening}
-use Rattle.wal_shape.specs.Spelling.{number_text, axis_number, body_text}
+use Rattle.wal_shape.proofs.Common.{◌++◌, ◌∷◌, [], List, ap, ◌∙◌, w16, flat_map, take_all, Opening, number_text, axis_number, body_text}
 use Rattle.wal_shape.proofs.ProofLaws.{written_proof}
 use Rattle.wal_shape.proofs.proof.spelling_of.Goals as goal
 

@@ -1,7 +1,4 @@
-use Rattle.std.proofs.Common.{◌≡◌, ◌++◌, ◌∷◌, [], take}
-use Rattle.std.specs.Int.{w16}
-use Rattle.std.specs.List.{flat_map}
-use Rattle.wal_shape.specs.Spelling.{number_text, axis_number, body_text}
+use Rattle.wal_shape.proofs.Common.{◌≡◌, ◌++◌, ◌∷◌, [], take, w16, flat_map, number_text, axis_number, body_text}
 use Rattle.wal_shape.proofs.proof.spelling_of.Given as goal
 
 -- the head, and the bodies of the openings so far

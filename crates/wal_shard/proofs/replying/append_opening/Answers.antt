@@ -1,7 +1,5 @@
-use Rattle.std.proofs.Common.{rules, ◌≡◌, arith}
+use Rattle.wal_shard.proofs.Common.{rules, ◌≡◌, arith, Opening, frame_text, envelope, appended}
 use Rattle.wal_shape.specs.Opening.{opening_shown}
-use Rattle.wal_frame.specs.Frame.{Opening, frame_text, envelope}
-use Rattle.wal_frame.specs.Buffer.{appended}
 use Rattle.wal_frame.proofs.FrameLaws.{length-opening_frame}
 use Rattle.wal_shard.proofs.ReplyLaws.{length-envelope, room_left}
 use Rattle.wal_shard.proofs.replying.append_opening.Goals as goal

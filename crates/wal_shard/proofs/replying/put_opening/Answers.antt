@@ -1,6 +1,4 @@
-use Rattle.std.proofs.Common.{◌∙◌, arith, ap}
-use Rattle.wal_shape.specs.MetaRef.{metadata_shown}
-use Rattle.wal_shape.specs.Shape.{shard_count, symbol_size}
+use Rattle.wal_shard.proofs.Common.{◌∙◌, arith, ap, metadata_shown, shard_count, symbol_size}
 use Rattle.wal_commit.proofs.Holding.{symbols_fit, symbol_within, whole_pieces}
 use Rattle.wal_shard.proofs.replying.put_opening.Goals as goal
 

@@ -1,4 +1,4 @@
-use Rattle.std.proofs.Common.{rules, ap, length, arith}
+use Rattle.wal_shard.proofs.Common.{rules, ap, length, arith}
 use Rattle.wal_shard.proofs.ReplyLaws.{path_short}
 use Rattle.wal_shard.proofs.replying.write_opening.Goals as goal
 

@@ -1,5 +1,4 @@
-use Rattle.std.proofs.Common.{◌∙◌, sym, refl, arith}
-use Rattle.wal_store.specs.Contents.{Contents}
+use Rattle.wal_store.proofs.Common.{◌∙◌, sym, refl, arith, Contents}
 use Rattle.wal_store.proofs.RetainLaws.{none_passed, next_passed, none_next, all_passed, all_to_come}
 use Rattle.wal_store.proofs.choice.retain.Goals as goal
 

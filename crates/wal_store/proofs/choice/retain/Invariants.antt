@@ -1,6 +1,5 @@
-use Rattle.std.proofs.Common.{◌≡◌, ◌+◌, ◌≤◌, filter, length}
+use Rattle.wal_store.proofs.Common.{◌≡◌, ◌+◌, ◌≤◌, filter, length, is_past}
 use Rattle.std.specs.FinMap as map
-use Rattle.wal_store.specs.Places.{is_past}
 use Rattle.wal_store.proofs.RetainLaws.{Passed}
 use Rattle.wal_store.proofs.choice.retain.Given as goal
 

@@ -1,6 +1,4 @@
-use Rattle.std.proofs.Common.{◌+◌, ◌≤◌, [], length, unwrap_or, ap, arith, ◌∙◌, sym}
-use Rattle.wal_store.specs.Parts.{pages_for}
-use Rattle.wal_store.specs.inside.Chain.{links, joined}
+use Rattle.wal_store.proofs.Common.{◌+◌, ◌≤◌, [], length, unwrap_or, ap, arith, ◌∙◌, sym, pages_for, links, joined}
 use Rattle.wal_store.proofs.ChainLaws.{pages_hold}
 use Rattle.wal_store.proofs.KeptLaws.{part_gap, part_at, slot_at, part_none, within_front}
 use Rattle.wal_store.proofs.kept.copy_part.Goals as goal

@@ -1,4 +1,4 @@
-use Rattle.std.proofs.Common.{◌∙◌, sym}
+use Rattle.wal_store.proofs.Common.{◌∙◌, sym}
 use Rattle.wal_store.proofs.KeptLaws.{found_gap, dropped_none, part_gone}
 use Rattle.wal_store.proofs.kept.drop_one.Goals as goal
 

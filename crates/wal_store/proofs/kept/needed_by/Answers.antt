@@ -1,4 +1,4 @@
-use Rattle.std.proofs.Common.{ℕ, is_some, cond, ap, arith}
+use Rattle.wal_store.proofs.Common.{ℕ, is_some, cond, ap, arith}
 use Rattle.wal_store.proofs.KeptLaws.{some_row, found_gap}
 use Rattle.wal_store.proofs.kept.needed_by.Goals as goal
 

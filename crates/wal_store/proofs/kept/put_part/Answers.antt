@@ -1,6 +1,4 @@
-use Rattle.std.proofs.Common.{◌∙◌, ap, Some}
-use Rattle.wal_store.specs.Parts.{part_of, with_part}
-use Rattle.wal_store.specs.inside.Rows.{parts_of}
+use Rattle.wal_store.proofs.Common.{◌∙◌, ap, Some, part_of, with_part, parts_of}
 use Rattle.wal_store.proofs.KeptLaws.{some_row, slot_free}
 use Rattle.wal_store.proofs.kept.put_part.Goals as goal
 

@@ -1,4 +1,4 @@
-use Rattle.std.proofs.Common.{◌∙◌, ℕ, is_some, cond, slice_get, ap, arith}
+use Rattle.wal_store.proofs.Common.{◌∙◌, ℕ, is_some, cond, slice_get, ap, arith}
 use Rattle.wal_store.proofs.KeptLaws.{some_row, found_gap, slice_get-insert, made}
 use Rattle.wal_store.proofs.kept.row_for.Goals as goal
 

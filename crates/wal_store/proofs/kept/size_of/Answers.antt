@@ -1,4 +1,4 @@
-use Rattle.std.proofs.Common.{arith, Some, ap, sym}
+use Rattle.wal_store.proofs.Common.{arith, Some, ap, sym}
 use Rattle.wal_store.proofs.KeptLaws.{part_gap, part_at, slot_at}
 use Rattle.wal_store.proofs.kept.size_of.Goals as goal
 

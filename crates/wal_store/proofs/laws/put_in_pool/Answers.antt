@@ -1,8 +1,5 @@
 -- The put is a run of one call, and no put of a run wants memory.
-use Rattle.std.proofs.Common.{◌≢◌, [], ◌∷◌, Err, refl}
-use Rattle.std.proofs.lemmas.List.Elements.{All-head}
-use Rattle.wal_store.specs.declared.contract.KeepError.TheVariants.{Memory}
-use Rattle.wal_store.specs.Calls.{Put, PutAnswer}
+use Rattle.wal_store.proofs.Common.{◌≢◌, [], ◌∷◌, Err, refl, All-head, Memory, Put, PutAnswer}
 use Rattle.wal_store.proofs.CallLaws.{never_wants}
 use Rattle.wal_store.proofs.laws.put_in_pool.Goals as goal
 

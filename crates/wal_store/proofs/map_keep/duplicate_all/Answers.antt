@@ -1,4 +1,4 @@
-use Rattle.wal_shape.specs.Identifiers.{id_cmp}
+use Rattle.wal_store.proofs.Common.{id_cmp}
 use Rattle.wal_store.proofs.EntriesLaws.{one_taken_over}
 use Rattle.wal_store.proofs.IdentifierLaws.{ids_total}
 use Rattle.wal_store.proofs.map_keep.duplicate_all.Goals as goal

@@ -1,5 +1,4 @@
-use Rattle.std.proofs.Common.{◌∙◌, sym, ap}
-use Rattle.std.specs.Option.{option_copied_mut}
+use Rattle.wal_store.proofs.Common.{◌∙◌, sym, ap, option_copied_mut}
 use Rattle.wal_store.proofs.IdentifierLaws.{part_written}
 use Rattle.wal_store.proofs.map_keep.unset.Goals as goal
 

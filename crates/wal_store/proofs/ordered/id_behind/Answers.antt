@@ -1,5 +1,4 @@
-use Rattle.std.proofs.Common.{◌∙◌, sym}
-use Rattle.wal_store.specs.inside.Rows.{ids_of}
+use Rattle.wal_store.proofs.Common.{◌∙◌, sym, ids_of}
 use Rattle.wal_store.proofs.NextLaws.{past_found, past_gap}
 use Rattle.wal_store.proofs.ordered.id_behind.Goals as goal
 

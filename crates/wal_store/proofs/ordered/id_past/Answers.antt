@@ -1,7 +1,4 @@
-use Rattle.std.proofs.Common.{◌∙◌, Option, filter, slice_get, sym, ap}
-use Rattle.wal_shape.specs.declared.BlobId.{BlobId}
-use Rattle.wal_store.specs.Places.{is_past}
-use Rattle.wal_store.specs.inside.Rows.{ids_of}
+use Rattle.wal_store.proofs.Common.{◌∙◌, Option, filter, slice_get, sym, ap, BlobId, is_past, ids_of}
 use Rattle.wal_store.proofs.NextLaws.{past_none}
 use Rattle.wal_store.proofs.ordered.id_past.Goals as goal
 

@@ -1,4 +1,4 @@
-use Rattle.std.proofs.Common.{◌∙◌, [], ◌∷◌, ◌++◌, ap, sym, arith}
+use Rattle.wal_store.proofs.Common.{◌∙◌, [], ◌∷◌, ◌++◌, ap, sym, arith}
 use Rattle.wal_store.proofs.OrderedLaws.{range_more}
 use Rattle.wal_store.proofs.ordered.numbers_below.Goals as goal
 

@@ -1,5 +1,4 @@
-use Rattle.std.proofs.Common.{◌≡◌, ◌≤◌, vec_len, vec_capacity}
-use Rattle.std.specs.List.{range_with_len}
+use Rattle.wal_store.proofs.Common.{◌≡◌, ◌≤◌, vec_len, vec_capacity, range_with_len}
 use Rattle.wal_store.proofs.ordered.numbers_below.Given as goal
 
 abbrev pub invariant-loop-number : goal.invariant-loop-number

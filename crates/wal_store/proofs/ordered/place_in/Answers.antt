@@ -1,7 +1,5 @@
-use Rattle.std.proofs.Common.{◌≡◌, rules}
+use Rattle.wal_store.proofs.Common.{◌≡◌, rules, id_cmp, row_of}
 use Rattle.std.proofs.lemmas.Fn.{always_returns_same}
-use Rattle.wal_shape.specs.Identifiers.{id_cmp}
-use Rattle.wal_store.specs.inside.Ordered.{row_of}
 use Rattle.wal_store.proofs.NextLaws.{numbers_found, numbers_missed}
 use Rattle.wal_store.proofs.ordered.place_in.Goals as goal
 

@@ -1,5 +1,4 @@
-use Rattle.std.proofs.Common.{◌<◌, length, refl, arith}
-use Rattle.std.proofs.lemmas.Option.{slice_get_read}
+use Rattle.wal_store.proofs.Common.{◌<◌, length, refl, arith, slice_get_read}
 use Rattle.wal_store.proofs.KeptLaws.{first_gone}
 use Rattle.wal_store.proofs.pool_keep.empty.Goals as goal
 

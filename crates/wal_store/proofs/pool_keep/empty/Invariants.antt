@@ -1,5 +1,4 @@
-use Rattle.std.proofs.Common.{length}
-use Rattle.wal_store.specs.inside.Rows.{Owns}
+use Rattle.wal_store.proofs.Common.{length, Owns}
 use Rattle.wal_store.proofs.pool_keep.empty.Given as goal
 
 abbrev pub invariant-loop-rows : goal.invariant-loop-rows

@@ -1,4 +1,4 @@
-use Rattle.std.proofs.Common.{◌≡◌, arith}
+use Rattle.wal_store.proofs.Common.{◌≡◌, arith}
 use Rattle.wal_store.proofs.TokenLaws.{tokens_of-replicate}
 use Rattle.wal_store.proofs.shelf.no_tokens.Goals as goal
 

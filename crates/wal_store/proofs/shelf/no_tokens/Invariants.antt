@@ -1,4 +1,4 @@
-use Rattle.std.proofs.Common.{◌≡◌, ◌≤◌, replicate, None, vec_len, vec_capacity}
+use Rattle.wal_store.proofs.Common.{◌≡◌, ◌≤◌, replicate, None, vec_len, vec_capacity}
 use Rattle.wal_store.proofs.shelf.no_tokens.Given as goal
 
 abbrev pub invariant-loop : goal.invariant-loop

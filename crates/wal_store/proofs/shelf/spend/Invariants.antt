@@ -1,4 +1,4 @@
-use Rattle.std.proofs.Common.{◌≡◌, None, All, vec_len}
+use Rattle.wal_store.proofs.Common.{◌≡◌, None, All, vec_len}
 use Rattle.wal_store.proofs.shelf.spend.Given as goal
 
 abbrev pub invariant-loop-token : goal.invariant-loop-token

@@ -1,4 +1,4 @@
-use Rattle.std.proofs.Common.{◌*◌, arith}
+use Rattle.wal_store.proofs.Common.{◌*◌, arith}
 use Rattle.wal_store.proofs.ChainLaws.{chunk_is}
 use Rattle.wal_store.proofs.stored.chunk_at.Goals as goal
 

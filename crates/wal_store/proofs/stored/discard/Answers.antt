@@ -1,4 +1,4 @@
-use Rattle.std.proofs.Common.{◌-◌, arith}
+use Rattle.wal_store.proofs.Common.{◌-◌, arith}
 use Rattle.wal_store.proofs.ChainLaws.{giving_more}
 use Rattle.wal_store.proofs.stored.discard.Goals as goal
 

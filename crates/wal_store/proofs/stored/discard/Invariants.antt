@@ -1,6 +1,4 @@
-use Rattle.std.proofs.Common.{◌≡◌, ◌+◌, count_by}
-use Rattle.wal_pool.specs.Pages.{is_free}
-use Rattle.wal_store.specs.inside.Chain.{links}
+use Rattle.wal_store.proofs.Common.{◌≡◌, ◌+◌, count_by, is_free, links}
 use Rattle.wal_store.proofs.ChainLaws.{Giving}
 use Rattle.wal_store.proofs.stored.discard.Given as goal
 

@@ -1,6 +1,4 @@
-use Rattle.std.proofs.Common.{◌≡◌, ◌∙◌, ℕ, List, ◌+◌, ◌-◌, ◌<◌, min, length, take, drop, arith, length-take, length-drop}
-use Rattle.wal_pool.specs.Pages.{page_bytes}
-use Rattle.wal_store.specs.inside.Chain.{links, joined}
+use Rattle.wal_store.proofs.Common.{◌≡◌, ◌∙◌, ℕ, List, ◌+◌, ◌-◌, ◌<◌, min, length, take, drop, arith, length-take, length-drop, page_bytes, links, joined}
 use Rattle.wal_store.proofs.ChainLaws.{walking_more, reading_more, reading_first, pasted}
 use Rattle.wal_store.proofs.stored.read.Goals as goal
 

@@ -1,5 +1,4 @@
-use Rattle.std.proofs.Common.{◌≡◌, ◌-◌, ◌≤◌, length, take, drop}
-use Rattle.wal_store.specs.inside.Chain.{links, joined}
+use Rattle.wal_store.proofs.Common.{◌≡◌, ◌-◌, ◌≤◌, length, take, drop, links, joined}
 use Rattle.wal_store.proofs.ChainLaws.{Walking, Reading}
 use Rattle.wal_store.proofs.stored.read.Given as goal
 

@@ -1,5 +1,4 @@
-use Rattle.std.proofs.Common.{◌≡◌, ◌-◌, suc, ℕ, length, arith}
-use Rattle.wal_store.specs.Parts.{pages_for}
+use Rattle.wal_store.proofs.Common.{◌≡◌, ◌-◌, suc, ℕ, length, arith, pages_for}
 use Rattle.wal_store.proofs.ChainLaws.{stored_none, stored_more, pages_reach, pages_hold}
 use Rattle.wal_store.proofs.stored.store.Goals as goal
 

@@ -1,5 +1,4 @@
-use Rattle.std.proofs.Common.{◌-◌, ◌≤◌, length}
-use Rattle.wal_store.specs.Parts.{pages_for}
+use Rattle.wal_store.proofs.Common.{◌-◌, ◌≤◌, length, pages_for}
 use Rattle.wal_store.proofs.ChainLaws.{Stored}
 use Rattle.wal_store.proofs.stored.store.Given as goal
 

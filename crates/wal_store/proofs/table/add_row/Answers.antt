@@ -1,5 +1,4 @@
-use Rattle.std.proofs.Common.{◌∙◌, ap, rules}
-use Rattle.wal_store.specs.inside.Table.{all_pages}
+use Rattle.wal_store.proofs.Common.{◌∙◌, ap, rules, all_pages}
 use Rattle.wal_store.proofs.TableLaws.{added}
 use Rattle.wal_store.proofs.table.add_row.Goals as goal
 

@@ -1,6 +1,4 @@
-use Rattle.std.proofs.Common.{◌∙◌, refl, ap, rules}
-use Rattle.std.proofs.lemmas.Option.{slice_get_read}
-use Rattle.wal_store.specs.inside.Table.{all_pages}
+use Rattle.wal_store.proofs.Common.{◌∙◌, refl, ap, rules, slice_get_read, all_pages}
 use Rattle.wal_store.proofs.TableLaws.{cleared, slot_costs, slot_taken}
 use Rattle.wal_store.proofs.table.clear.Goals as goal
 

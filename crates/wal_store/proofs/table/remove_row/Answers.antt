@@ -1,6 +1,4 @@
-use Rattle.std.proofs.Common.{◌∙◌, refl, ap, rules}
-use Rattle.std.proofs.lemmas.Option.{slice_get_read}
-use Rattle.wal_store.specs.inside.Table.{all_pages}
+use Rattle.wal_store.proofs.Common.{◌∙◌, refl, ap, rules, slice_get_read, all_pages}
 use Rattle.wal_store.proofs.TableLaws.{removed}
 use Rattle.wal_store.proofs.table.remove_row.Goals as goal
 

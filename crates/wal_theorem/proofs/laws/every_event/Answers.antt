@@ -1,4 +1,4 @@
-use Rattle.wal_commit.proofs.OneDigest.{IsDigest}
+use Rattle.wal_theorem.proofs.Common.{IsDigest}
 use Rattle.wal_theorem.proofs.EveryRun.{step_exists, run_exists}
 use Rattle.wal_theorem.proofs.KeptBytes.{bytes_start, bytes_kept}
 use Rattle.wal_theorem.proofs.laws.every_event.Goals as goal

@@ -1,6 +1,4 @@
-use Rattle.wal_protocol.specs.Run.{first_state}
-use Rattle.wal_theorem.specs.Instance.{rules_of}
-use Rattle.wal_protocol.proofs.OneStep.{one_run, one_step}
+use Rattle.wal_theorem.proofs.Common.{first_state, rules_of, one_run, one_step}
 use Rattle.wal_theorem.proofs.OneWorld.{only_rules}
 use Rattle.wal_theorem.proofs.laws.one_run.Goals as goal
 

@@ -1,7 +1,6 @@
 -- One level higher the entries still differ, and the paths still lead to one root.
-use Rattle.std.proofs.Common.{◌≡◌, ◌≢◌, ◌+◌, ◌/◌, ◌∙◌, length, refl, sym, ap, arith, rules}
+use Rattle.wal_tree.proofs.Common.{◌≡◌, ◌≢◌, ◌+◌, ◌/◌, ◌∙◌, length, refl, sym, ap, arith, rules, parent_text}
 use Rattle.std.proofs.lemmas.List.{length-drop}
-use Rattle.wal_tree.specs.Path.{parent_text}
 use Rattle.wal_tree.proofs.Collisions.{alone, are_bytes, meet_here, meet_next, one_above, texts_apart_above, way_on}
 use Rattle.wal_tree.proofs.collide.+collide_nodes.Goals as goal
 

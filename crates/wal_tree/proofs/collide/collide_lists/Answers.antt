@@ -1,8 +1,5 @@
 -- The texts that meet on the paths of the first piece that differs do so in the trees.
-use Rattle.std.proofs.Common.{◌∙◌}
-use Rattle.std.proofs.lemmas.Result.{IfOk-weaker}
-use Rattle.wal_shape.specs.declared.text.Collision.{Collision}
-use Rattle.wal_tree.specs.Path.{MeetInTrees, MeetOnPaths}
+use Rattle.wal_tree.proofs.Common.{◌∙◌, IfOk-weaker, Collision, MeetInTrees, MeetOnPaths}
 use Rattle.wal_tree.proofs.Collisions.{in_trees}
 use Rattle.wal_tree.proofs.collide.collide_lists.Goals as goal
 

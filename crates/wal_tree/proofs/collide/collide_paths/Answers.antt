@@ -1,7 +1,5 @@
 -- Leaves of one digest collide, and else the entries above them differ and lead to one root.
-use Rattle.std.proofs.Common.{◌≡◌, ◌∷◌, List, ℕ, arith, sym, rules}
-use Rattle.wal_tree.specs.Collision.{IsCollision}
-use Rattle.wal_tree.specs.Path.{MeetOnPaths}
+use Rattle.wal_tree.proofs.Common.{◌≡◌, ◌∷◌, List, ℕ, arith, sym, rules, IsCollision, MeetOnPaths}
 use Rattle.wal_tree.proofs.Collisions.{copies_too, leaves_collide, leaves_meet, ways_long, ways_meet}
 use Rattle.wal_tree.proofs.collide.collide_paths.Goals as goal
 

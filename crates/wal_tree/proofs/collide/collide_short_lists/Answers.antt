@@ -1,6 +1,5 @@
 -- The texts of the leaves meet, and else those that do so on their paths.
-use Rattle.std.proofs.Common.{◌≡◌, ◌∷◌, ◌∙◌, List, ℕ, append-nil, ap, refl, sym, rules}
-use Rattle.wal_tree.specs.Path.{path_over}
+use Rattle.wal_tree.proofs.Common.{◌≡◌, ◌∷◌, ◌∙◌, List, ℕ, append-nil, ap, refl, sym, rules, path_over}
 use Rattle.wal_tree.proofs.Collisions.{in_trees, leaves_meet}
 use Rattle.wal_tree.proofs.collide.collide_short_lists.Goals as goal
 

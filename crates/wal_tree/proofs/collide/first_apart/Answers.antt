@@ -1,4 +1,4 @@
-use Rattle.std.proofs.Common.{◌≡◌, ◌∙◌, sym, rules}
+use Rattle.wal_tree.proofs.Common.{◌≡◌, ◌∙◌, sym, rules}
 use Rattle.wal_tree.proofs.Collisions.{pieces_step}
 use Rattle.wal_tree.proofs.collide.first_apart.Goals as goal
 

@@ -1,5 +1,5 @@
 -- The pieces so far are the same.
-use Rattle.std.proofs.Common.{◌≡◌, ◌*◌, take}
+use Rattle.wal_tree.proofs.Common.{◌≡◌, ◌*◌, take}
 use Rattle.wal_tree.proofs.collide.first_apart.Given as goal
 
 abbrev pub invariant-loop-place : goal.invariant-loop-place

@@ -1,7 +1,5 @@
 -- Each lane with what is still to be added to it is what it will be.
-use Rattle.std.proofs.Common.{◌≡◌, ℕ, ◌+◌, ◌<◌, get_or, drop}
-use Rattle.std.specs.Prelude.{bit_xor}
-use Rattle.wal_tree.specs.Digests.{lane_sum}
+use Rattle.wal_tree.proofs.Common.{◌≡◌, ℕ, ◌+◌, ◌<◌, get_or, drop, bit_xor, lane_sum}
 use Rattle.wal_tree.proofs.hash.add_to_lanes.Given as goal
 
 abbrev pub invariant-loop-index : goal.invariant-loop-index

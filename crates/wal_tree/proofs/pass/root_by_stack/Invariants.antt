@@ -1,9 +1,5 @@
 -- The stack stands for the digests so far, and it and the digests still to come have the root of them all.
-use Rattle.std.proofs.Common.{◌≡◌, ◌+◌, ◌/◌, ◌≤◌, length}
-use Rattle.std.specs.Slice.Iter.{chunks_exact_rest, chunks_exact_size}
-use Rattle.wal_tree.specs.Tree.{pieces, root_of}
-use Rattle.wal_tree.specs.Stack.{climb}
-use Rattle.wal_tree.specs.inside.Stack.{weight}
+use Rattle.wal_tree.proofs.Common.{◌≡◌, ◌+◌, ◌/◌, ◌≤◌, length, chunks_exact_rest, chunks_exact_size, pieces, root_of, climb, weight}
 use Rattle.wal_tree.proofs.pass.root_by_stack.Given as goal
 
 abbrev pub invariant-loop-piece : goal.invariant-loop-piece

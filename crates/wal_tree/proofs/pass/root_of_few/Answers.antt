@@ -1,6 +1,4 @@
-use Rattle.std.proofs.Common.{◌≡◌, ◌*◌, ◌/◌, ℕ, length, take, ap, ◌∙◌, arith}
-use Rattle.std.proofs.lemmas.List.{length-take-le}
-use Rattle.wal_tree.specs.Tree.{pieces, root_of}
+use Rattle.wal_tree.proofs.Common.{◌≡◌, ◌*◌, ◌/◌, ℕ, length, take, ap, ◌∙◌, arith, length-take-le, pieces, root_of}
 use Rattle.wal_tree.proofs.LevelPairs.{pieces-front}
 use Rattle.wal_tree.proofs.pass.root_of_few.Goals as goal
 

@@ -1,5 +1,4 @@
-use Rattle.std.proofs.Common.{◌≡◌, ◌*◌, ◌/◌, ℕ, List, length, ap, ◌∙◌, arith}
-use Rattle.wal_tree.specs.Tree.{pieces, root_of}
+use Rattle.wal_tree.proofs.Common.{◌≡◌, ◌*◌, ◌/◌, ℕ, List, length, ap, ◌∙◌, arith, pieces, root_of}
 use Rattle.wal_tree.proofs.LevelPairs.{pieces-put}
 use Rattle.wal_tree.proofs.pass.root_of_leaves_in_room.Goals as goal
 

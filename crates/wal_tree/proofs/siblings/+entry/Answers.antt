@@ -1,5 +1,5 @@
 -- An entry past the end, a leaf, and a parent.
-use Rattle.std.proofs.Common.{◌-◌, ◌/◌, length, arith, ◌∙◌}
+use Rattle.wal_tree.proofs.Common.{◌-◌, ◌/◌, length, arith, ◌∙◌}
 use Rattle.wal_tree.proofs.PathSteps.{entry-leaf, entry-node, entry-past}
 use Rattle.wal_tree.proofs.siblings.+entry.Goals as goal
 

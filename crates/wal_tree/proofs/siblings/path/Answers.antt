@@ -1,10 +1,5 @@
 -- A turn writes the sibling and goes on from the parent.
-use Rattle.std.proofs.Common.{◌+◌, ◌/◌, ◌≤◌, List, ℕ, ◌++◌, length, get_or, refl, arith, ap, sym, ◌∙◌}
-use Rattle.std.specs.List.{concat}
-use Rattle.std.proofs.Math.Nat.{div-le_of_le-mul}
-use Rattle.wal_tree.specs.Tree.{empty_entry, leaves}
-use Rattle.wal_tree.specs.inside.Tree.{level_above}
-use Rattle.wal_tree.specs.Path.{path_of}
+use Rattle.wal_tree.proofs.Common.{◌+◌, ◌/◌, ◌≤◌, List, ℕ, ◌++◌, length, get_or, refl, arith, ap, sym, ◌∙◌, concat, div-le_of_le-mul, empty_entry, leaves, level_above, path_of}
 use Rattle.wal_tree.proofs.Honest.{IsPathTo-path_of}
 use Rattle.wal_tree.proofs.Paths.{height-le, height-step, length-leaves, length-pair_up-half, level_above-next}
 use Rattle.wal_tree.proofs.PathSteps.{path-end, path-step}

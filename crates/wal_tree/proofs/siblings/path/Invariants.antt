@@ -1,9 +1,5 @@
 -- The path is what was found so far and the path from the place that the loop has come to.
-use Rattle.std.proofs.Common.{◌≡◌, ◌+◌, ◌*◌, ◌/◌, ◌<◌, ◌≤◌, ◌++◌, length}
-use Rattle.std.specs.List.{concat}
-use Rattle.wal_tree.specs.Tree.{leaves}
-use Rattle.wal_tree.specs.inside.Tree.{level_above}
-use Rattle.wal_tree.specs.Path.{height, path_of}
+use Rattle.wal_tree.proofs.Common.{◌≡◌, ◌+◌, ◌*◌, ◌/◌, ◌<◌, ◌≤◌, ◌++◌, length, concat, leaves, level_above, height, path_of}
 use Rattle.wal_tree.proofs.siblings.path.Given as goal
 
 abbrev pub invariant-loop-width : goal.invariant-loop-width

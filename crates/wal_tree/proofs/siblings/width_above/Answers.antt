@@ -1,5 +1,5 @@
 -- One level higher there are half as many entries.
-use Rattle.std.proofs.Common.{◌+◌, arith, refl}
+use Rattle.wal_tree.proofs.Common.{◌+◌, arith, refl}
 use Rattle.wal_tree.proofs.Paths.{width_of-next}
 use Rattle.wal_tree.proofs.siblings.width_above.Goals as goal
 

@@ -1,6 +1,5 @@
 -- The width of the level that the loop has come to.
-use Rattle.std.proofs.Common.{◌≡◌, ◌≤◌}
-use Rattle.wal_tree.specs.inside.Path.{width_of}
+use Rattle.wal_tree.proofs.Common.{◌≡◌, ◌≤◌, width_of}
 use Rattle.wal_tree.proofs.siblings.width_above.Given as goal
 
 abbrev pub invariant-loop-level : goal.invariant-loop-level

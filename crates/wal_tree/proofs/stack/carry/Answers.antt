@@ -1,7 +1,6 @@
 -- Each place that the carry comes to is free or taken.
-use Rattle.std.proofs.Common.{◌+◌, arith, length-set, sym, ◌∙◌}
+use Rattle.wal_tree.proofs.Common.{◌+◌, arith, length-set, sym, ◌∙◌, take-set_at}
 use Rattle.std.specs.Prelude.{None, Some}
-use Rattle.std.proofs.lemmas.Grind.{take-set_at}
 use Rattle.wal_tree.proofs.Carries.{carry_free, carry_out, carry_room, carry_taken}
 use Rattle.wal_tree.proofs.stack.carry.Goals as goal
 

@@ -1,6 +1,5 @@
 -- Below `level` the places are free; the entry is still to be pushed onto the rest.
-use Rattle.std.proofs.Common.{◌≡◌, ◌++◌, length, take, drop}
-use Rattle.wal_tree.specs.Stack.{pushed}
+use Rattle.wal_tree.proofs.Common.{◌≡◌, ◌++◌, length, take, drop, pushed}
 use Rattle.wal_tree.proofs.stack.carry.Given as goal
 
 abbrev pub invariant-loop-level : goal.invariant-loop-level

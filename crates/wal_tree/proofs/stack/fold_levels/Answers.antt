@@ -1,5 +1,5 @@
 -- The loop ends only where no place is in use.
-use Rattle.std.proofs.Common.{arith}
+use Rattle.wal_tree.proofs.Common.{arith}
 use Rattle.wal_tree.proofs.Passes.{climb-none}
 use Rattle.wal_tree.proofs.stack.fold_levels.Goals as goal
 

@@ -1,6 +1,5 @@
 -- The places from `level` on, with the pending entry of that level, have the root of the whole stack.
-use Rattle.std.proofs.Common.{◌≡◌, ◌<◌, ◌⊎◌, [], take, drop}
-use Rattle.wal_tree.specs.Stack.{climb, entries}
+use Rattle.wal_tree.proofs.Common.{◌≡◌, ◌<◌, ◌⊎◌, [], take, drop, climb, entries}
 use Rattle.wal_tree.proofs.stack.fold_levels.Given as goal
 
 abbrev pub invariant-loop-level : goal.invariant-loop-level

@@ -1,9 +1,5 @@
 -- Each place that the carry comes to is free or taken.
-use Rattle.std.proofs.Common.{◌≡◌, ◌+◌, ◌<◌, ℕ, List, Some, None, arith, ap, ap₂, get_or, length, length-set, map, set, sym, ◌∙◌}
-use Rattle.std.proofs.lemmas.List.{get_or_default}
-use Rattle.wal_tree.specs.Tree.{node}
-use Rattle.wal_tree.specs.Stacks.{entry_of}
-use Rattle.wal_tree.specs.inside.Stacks.{column_bytes}
+use Rattle.wal_tree.proofs.Common.{◌≡◌, ◌+◌, ◌<◌, ℕ, List, Some, None, arith, ap, ap₂, get_or, length, length-set, map, set, sym, ◌∙◌, get_or_default, node, entry_of, column_bytes}
 use Rattle.wal_tree.proofs.Columns.{column_free, column_taken, level_has, levels_set, lost_any, lost_level}
 use Rattle.wal_tree.proofs.stacks.carry.Goals as goal
 

@@ -1,8 +1,5 @@
 -- Below `level` the places are free; the column is still to be pushed onto the rest.
-use Rattle.std.proofs.Common.{◌≡◌, ◌*◌, ◌<◌, ◌++◌, ℕ, All, length, map, take, drop}
-use Rattle.wal_tree.specs.Stack.{pushed}
-use Rattle.wal_tree.specs.Stacks.{emptied, entry_of, row_stack}
-use Rattle.wal_tree.specs.inside.Stacks.{HasRows, column_bytes}
+use Rattle.wal_tree.proofs.Common.{◌≡◌, ◌*◌, ◌<◌, ◌++◌, ℕ, All, length, map, take, drop, pushed, emptied, entry_of, row_stack, HasRows, column_bytes}
 use Rattle.wal_tree.proofs.stacks.carry.Given as goal
 
 abbrev pub invariant-loop-level : goal.invariant-loop-level

@@ -1,4 +1,4 @@
-use Rattle.std.proofs.Common.{ap, length, sym, ◌∙◌}
+use Rattle.wal_tree.proofs.Common.{ap, length, sym, ◌∙◌}
 use Rattle.wal_tree.proofs.Columns.{entry_long}
 use Rattle.wal_tree.proofs.stacks.digest_at.Goals as goal
 

@@ -1,6 +1,5 @@
-use Rattle.std.proofs.Common.{None, ap, length, sym, ◌∙◌}
+use Rattle.wal_tree.proofs.Common.{None, ap, length, sym, ◌∙◌, get_or_default}
 use Rattle.wal_tree.proofs.Columns.{entry_within, level_has}
-use Rattle.std.proofs.lemmas.List.{get_or_default}
 use Rattle.wal_tree.proofs.stacks.entry_at.Goals as goal
 
 pub digest_at-requires : goal.digest_at-requires

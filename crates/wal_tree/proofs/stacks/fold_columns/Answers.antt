@@ -1,6 +1,4 @@
-use Rattle.std.proofs.Common.{map, arith, inl, ◌∙◌}
-use Rattle.wal_tree.specs.Stacks.{row_stack}
-use Rattle.wal_tree.specs.inside.Stacks.{column_bytes}
+use Rattle.wal_tree.proofs.Common.{map, arith, inl, ◌∙◌, row_stack, column_bytes}
 use Rattle.wal_tree.proofs.Columns.{climb_nothing, climb_step, row_held, row_long}
 use Rattle.wal_tree.proofs.stacks.fold_columns.Goals as goal
 

@@ -1,8 +1,5 @@
 -- The places from `level` on, with the pending entry of that level, have the root of the whole stack.
-use Rattle.std.proofs.Common.{◌≡◌, ◌<◌, ◌⊎◌, [], drop, map}
-use Rattle.wal_tree.specs.Stack.{climb, entries}
-use Rattle.wal_tree.specs.Stacks.{row_stack}
-use Rattle.wal_tree.specs.inside.Stacks.{column_bytes}
+use Rattle.wal_tree.proofs.Common.{◌≡◌, ◌<◌, ◌⊎◌, [], drop, map, climb, entries, row_stack, column_bytes}
 use Rattle.wal_tree.proofs.stacks.fold_columns.Given as goal
 
 abbrev pub invariant-loop-level : goal.invariant-loop-level

@@ -1,6 +1,4 @@
-use Rattle.std.proofs.Common.{◌≡◌, ◌*◌, ◌++◌, ℕ, length, refl, ◌∙◌, arith, length-append}
-use Rattle.wal_lanes.proofs.Parts.{parts_put}
-use Rattle.wal_tree.specs.Stacks.{entry_of}
+use Rattle.wal_tree.proofs.Common.{◌≡◌, ◌*◌, ◌++◌, ℕ, length, refl, ◌∙◌, arith, length-append, parts_put, entry_of}
 use Rattle.wal_tree.proofs.Columns.{entry_long}
 use Rattle.wal_tree.proofs.stacks.interleave.Goals as goal
 

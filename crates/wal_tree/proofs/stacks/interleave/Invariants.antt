@@ -1,5 +1,4 @@
-use Rattle.std.proofs.Common.{◌≡◌, ◌*◌, ◌<◌, ◌++◌, ℕ, length, take, drop}
-use Rattle.wal_tree.specs.Stacks.{entry_of}
+use Rattle.wal_tree.proofs.Common.{◌≡◌, ◌*◌, ◌<◌, ◌++◌, ℕ, length, take, drop, entry_of}
 use Rattle.wal_tree.proofs.stacks.interleave.Given as goal
 
 abbrev pub invariant-loop-row : goal.invariant-loop-row

@@ -1,6 +1,4 @@
-use Rattle.std.proofs.Common.{◌≡◌, ◌+◌, ◌*◌, ◌++◌, List, ℕ, length, ap, ap₂, ◌∙◌, arith}
-use Rattle.wal_lanes.specs.inside.Lanes.{put_at}
-use Rattle.wal_lanes.proofs.Parts.{put_put}
+use Rattle.wal_tree.proofs.Common.{◌≡◌, ◌+◌, ◌*◌, ◌++◌, List, ℕ, length, ap, ap₂, ◌∙◌, arith, put_at, put_put}
 use Rattle.wal_tree.proofs.Columns.{entry_long}
 use Rattle.wal_tree.proofs.stacks.put_pair.Goals as goal
 

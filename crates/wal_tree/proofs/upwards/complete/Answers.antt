@@ -1,5 +1,4 @@
-use Rattle.std.proofs.Common.{◌≡◌, ℕ, suc, ◌+◌, ◌*◌, ◌/◌, ap, refl, ◌∙◌, arith}
-use Rattle.wal_tree.specs.Tree.{pair_up, pieces}
+use Rattle.wal_tree.proofs.Common.{◌≡◌, ℕ, suc, ◌+◌, ◌*◌, ◌/◌, ap, refl, ◌∙◌, arith, pair_up, pieces}
 use Rattle.wal_tree.proofs.LevelPairs.{completed}
 use Rattle.wal_tree.proofs.upwards.complete.Goals as goal
 

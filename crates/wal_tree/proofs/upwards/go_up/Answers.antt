@@ -1,5 +1,4 @@
-use Rattle.std.proofs.Common.{◌≡◌, ℕ, ◌*◌, List, ap, ◌∙◌, arith}
-use Rattle.wal_tree.specs.Tree.{pair_up, pieces}
+use Rattle.wal_tree.proofs.Common.{◌≡◌, ℕ, ◌*◌, List, ap, ◌∙◌, arith, pair_up, pieces}
 use Rattle.wal_tree.proofs.LevelPairs.{pieces-front, pieces-put}
 use Rattle.wal_tree.proofs.upwards.go_up.Goals as goal
 

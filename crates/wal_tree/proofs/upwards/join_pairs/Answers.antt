@@ -1,5 +1,5 @@
 use Rattle.wal_tree.proofs.LevelPairs.{paired}
-use Rattle.std.proofs.Common.{◌≡◌, ◌/◌, length, arith}
+use Rattle.wal_tree.proofs.Common.{◌≡◌, ◌/◌, length, arith}
 use Rattle.wal_tree.proofs.upwards.join_pairs.Goals as goal
 
 pub returns-clause-joined : goal.returns-clause-joined

@@ -1,4 +1,4 @@
-use Rattle.std.proofs.Common.{◌/◌, length, ◌∙◌}
+use Rattle.wal_tree.proofs.Common.{◌/◌, length, ◌∙◌}
 use Rattle.wal_tree.proofs.LevelPairs.{leaves-pieces, pieces-append}
 use Rattle.wal_tree.proofs.upwards.put_leaves.Goals as goal
 

@@ -1,5 +1,4 @@
-use Rattle.std.proofs.Common.{ap, sym, ◌∙◌, arith}
-use Rattle.wal_tree.specs.Tree.{root_of}
+use Rattle.wal_tree.proofs.Common.{ap, sym, ◌∙◌, arith, root_of}
 use Rattle.wal_tree.proofs.LevelPairs.{root_one, root_up}
 use Rattle.wal_tree.proofs.upwards.root_above.Goals as goal
 

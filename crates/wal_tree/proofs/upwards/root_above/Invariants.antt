@@ -1,5 +1,4 @@
-use Rattle.std.proofs.Common.{◌≡◌, ◌≤◌, ◌+◌, ◌-◌, ◌*◌, ◌/◌, length}
-use Rattle.wal_tree.specs.Tree.{pieces, root_of}
+use Rattle.wal_tree.proofs.Common.{◌≡◌, ◌≤◌, ◌+◌, ◌-◌, ◌*◌, ◌/◌, length, pieces, root_of}
 use Rattle.wal_tree.proofs.upwards.root_above.Given as goal
 
 abbrev pub invariant-levels : goal.invariant-levels

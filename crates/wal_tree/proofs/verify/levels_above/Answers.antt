@@ -1,5 +1,5 @@
 -- A turn of the loop is a level.
-use Rattle.std.proofs.Common.{arith}
+use Rattle.wal_tree.proofs.Common.{arith}
 use Rattle.wal_tree.proofs.Paths.{height-end, height-le, height-step}
 use Rattle.wal_tree.proofs.verify.levels_above.Goals as goal
 

@@ -1,6 +1,5 @@
 -- The levels so far and those above what is left.
-use Rattle.std.proofs.Common.{◌≡◌, ◌+◌, ◌≤◌}
-use Rattle.wal_tree.specs.Path.{height}
+use Rattle.wal_tree.proofs.Common.{◌≡◌, ◌+◌, ◌≤◌, height}
 use Rattle.wal_tree.proofs.verify.levels_above.Given as goal
 
 abbrev pub invariant-loop-width : goal.invariant-loop-width

@@ -1,7 +1,5 @@
 -- A turn of the loop leads to the parent.
-use Rattle.std.proofs.Common.{ap, sym, ◌∙◌, arith}
-use Rattle.std.specs.Slice.Iter.{chunks_exact_rest}
-use Rattle.wal_tree.specs.Path.{folded}
+use Rattle.wal_tree.proofs.Common.{ap, sym, ◌∙◌, arith, chunks_exact_rest, folded}
 use Rattle.wal_tree.proofs.Roots.{pieces-short}
 use Rattle.wal_tree.proofs.PathSteps.{fold-step}
 use Rattle.wal_tree.proofs.verify.top_of.Goals as goal

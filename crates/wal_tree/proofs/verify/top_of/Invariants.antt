@@ -1,8 +1,5 @@
 -- What is left of the path leads from the entry so far to the same entry.
-use Rattle.std.proofs.Common.{◌≡◌, ◌/◌, length}
-use Rattle.std.specs.Slice.Iter.{chunks_exact_rest, chunks_exact_size}
-use Rattle.wal_tree.specs.Tree.{pieces}
-use Rattle.wal_tree.specs.Path.{folded}
+use Rattle.wal_tree.proofs.Common.{◌≡◌, ◌/◌, length, chunks_exact_rest, chunks_exact_size, pieces, folded}
 use Rattle.wal_tree.proofs.verify.top_of.Given as goal
 
 abbrev pub invariant-loop-sibling : goal.invariant-loop-sibling

@@ -1,5 +1,4 @@
-use Rattle.std.proofs.Common.{◌≡◌, decimal, sym, ◌∙◌, ap, arith}
-use Rattle.std.proofs.lemmas.Fmt.{parse-decimal}
+use Rattle.wal_words.proofs.Common.{◌≡◌, decimal, sym, ◌∙◌, ap, arith, parse-decimal}
 use Rattle.std.proofs.lemmas.Slice.Eq.{bytes_eq-Decides}
 use Rattle.wal_words.proofs.number.any_number.Goals as goal
 

@@ -1,5 +1,4 @@
-use Rattle.std.proofs.Common.{◌≡◌, sym, ◌∙◌, arith}
-use Rattle.std.proofs.lemmas.Fmt.{decimal_injective}
+use Rattle.wal_words.proofs.Common.{◌≡◌, sym, ◌∙◌, arith, decimal_injective}
 use Rattle.wal_words.proofs.number.read_number.Goals as goal
 
 pub returns-else-least-number-clause-none : goal.returns-else-least-number-clause-none

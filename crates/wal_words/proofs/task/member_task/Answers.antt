@@ -1,4 +1,4 @@
-use Rattle.wal_words.specs.Task.{member}
+use Rattle.wal_words.proofs.Common.{member}
 use Rattle.wal_words.proofs.task.member_task.Goals as goal
 
 pub returns-clause-found : goal.returns-clause-found

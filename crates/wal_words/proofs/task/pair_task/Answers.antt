@@ -1,6 +1,5 @@
-use Rattle.std.proofs.Common.{codes}
+use Rattle.wal_words.proofs.Common.{codes, identify, encode, read, check, sample, image, bundle, gateway}
 use Rattle.wal_words.proofs.Rows.{named_row}
-use Rattle.wal_words.specs.Task.{identify, encode, read, check, sample, image, bundle, gateway}
 use Rattle.wal_words.proofs.task.pair_task.Goals as goal
 
 pub returns-in_ok-read_small-in-id-clause-found : goal.returns-in_ok-read_small-in-id-clause-found

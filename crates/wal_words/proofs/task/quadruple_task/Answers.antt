@@ -1,6 +1,5 @@
-use Rattle.std.proofs.Common.{codes, rules}
+use Rattle.wal_words.proofs.Common.{codes, rules, recover}
 use Rattle.wal_words.proofs.Rows.{named_row}
-use Rattle.wal_words.specs.Task.{recover}
 use Rattle.wal_words.proofs.task.quadruple_task.Goals as goal
 
 pub returns-clause-found : goal.returns-clause-found

@@ -1,6 +1,5 @@
-use Rattle.std.proofs.Common.{codes}
+use Rattle.wal_words.proofs.Common.{codes, challenge, verify}
 use Rattle.wal_words.proofs.Rows.{named_row}
-use Rattle.wal_words.specs.Task.{challenge, verify}
 use Rattle.wal_words.proofs.task.quintuple_task.Goals as goal
 
 pub returns-in_ok-read_audit-in-challenge-clause-found : goal.returns-in_ok-read_audit-in-challenge-clause-found

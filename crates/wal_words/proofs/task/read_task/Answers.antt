@@ -1,6 +1,5 @@
-use Rattle.std.proofs.Common.{rules, ◌≡◌, ap, sym, ◌∙◌, List, String, Global, map}
+use Rattle.wal_words.proofs.Common.{rules, ◌≡◌, ap, sym, ◌∙◌, List, String, Global, map, found_of}
 use Rattle.wal_words.proofs.Rows.{task_found, none_found, only_task, found_rows, no_fault, no_task}
-use Rattle.clap.specs.Words.{found_of}
 use Rattle.std.specs.String.{string_bytes}
 use Rattle.wal_words.proofs.task.read_task.Goals as goal
 

@@ -1,5 +1,5 @@
 use Rattle.wal_words.proofs.Rows.{no_shard}
-use Rattle.wal_words.specs.Task.{serve}
+use Rattle.wal_words.proofs.Common.{serve}
 use Rattle.wal_words.proofs.task.serve_task.Goals as goal
 
 pub returns-in_err-shard-clause-none : goal.returns-in_err-shard-clause-none

@@ -1,6 +1,5 @@
-use Rattle.std.proofs.Common.{codes}
+use Rattle.wal_words.proofs.Common.{codes, replay, unpack}
 use Rattle.wal_words.proofs.Rows.{named_row}
-use Rattle.wal_words.specs.Task.{replay, unpack}
 use Rattle.wal_words.proofs.task.single_task.Goals as goal
 
 pub returns-in-replay-clause-found : goal.returns-in-replay-clause-found

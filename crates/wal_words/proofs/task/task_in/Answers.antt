@@ -1,5 +1,4 @@
-use Rattle.std.proofs.Common.{refl}
-use Rattle.clap.specs.Words.{found_of}
+use Rattle.wal_words.proofs.Common.{refl, found_of}
 use Rattle.wal_words.proofs.Rows.{none_asked, values_found, moved_values}
 use Rattle.wal_words.proofs.task.task_in.Goals as goal
 

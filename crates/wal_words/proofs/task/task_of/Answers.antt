@@ -1,4 +1,4 @@
-use Rattle.std.proofs.Common.{[]}
+use Rattle.wal_words.proofs.Common.{[]}
 use Rattle.wal_words.proofs.Rows.{four_values, five_values}
 use Rattle.wal_words.proofs.task.task_of.Goals as goal
 

@@ -1,7 +1,4 @@
-use Rattle.std.proofs.Common.{rules, ◌≡◌, ℕ, List, sym, ap, ◌∙◌, subst}
-use Rattle.wal_shape.specs.declared.shape.Format.TheVariants.{One, Two}
-use Rattle.wal_shape.specs.Shape.{BlobShape}
-use Rattle.wal_commit.specs.Identifier.{IsIdentifierOf}
+use Rattle.wal_world.proofs.Common.{rules, ◌≡◌, ℕ, List, sym, ap, ◌∙◌, subst, One, Two, BlobShape, IsIdentifierOf}
 use Rattle.wal_world.proofs.Firsts.{other_format}
 use Rattle.wal_world.proofs.answering.shape_for.Goals as goal
 

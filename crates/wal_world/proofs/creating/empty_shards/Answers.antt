@@ -1,7 +1,5 @@
-use Rattle.std.proofs.Common.{ap, ◌∙◌}
+use Rattle.wal_world.proofs.Common.{ap, ◌∙◌, StoreState, ShardState}
 use Rattle.std.specs.FinMap as finmap
-use Rattle.wal_store.specs.Contents.{StoreState}
-use Rattle.wal_shard.specs.State.{ShardState}
 use Rattle.wal_world.proofs.Turning.{one_more}
 use Rattle.wal_world.proofs.creating.empty_shards.Goals as goal
 

@@ -1,7 +1,5 @@
-use Rattle.std.proofs.Common.{◌≡◌, map}
-use Rattle.std.specs.List.{range_with_len}
+use Rattle.wal_world.proofs.Common.{◌≡◌, map, range_with_len, shard_with}
 use Rattle.std.specs.FinMap as finmap
-use Rattle.wal_world.specs.inside.Network.{shard_with}
 use Rattle.wal_world.proofs.creating.empty_shards.Given as goal
 
 abbrev pub invariant-loop-index : goal.invariant-loop-index

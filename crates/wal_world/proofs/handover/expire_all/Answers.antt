@@ -1,4 +1,4 @@
-use Rattle.wal_world.specs.inside.Network.{dropped}
+use Rattle.wal_world.proofs.Common.{dropped}
 use Rattle.wal_world.proofs.Turning.{changed_more}
 use Rattle.wal_world.proofs.handover.expire_all.Goals as goal
 

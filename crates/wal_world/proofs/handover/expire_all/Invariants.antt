@@ -1,5 +1,4 @@
-use Rattle.std.proofs.Common.{◌≡◌, ◌++◌, map, take, drop}
-use Rattle.wal_world.specs.inside.Network.{dropped}
+use Rattle.wal_world.proofs.Common.{◌≡◌, ◌++◌, map, take, drop, dropped}
 use Rattle.wal_world.proofs.handover.expire_all.Given as goal
 
 abbrev pub invariant-loop-place : goal.invariant-loop-place

@@ -1,6 +1,4 @@
-use Rattle.std.proofs.Common.{rules, ◌≡◌, sym, ◌∙◌}
-use Rattle.wal_shape.specs.MetaRef.{metadata_shown}
-use Rattle.wal_shape.specs.Spelling.{metadata_text}
+use Rattle.wal_world.proofs.Common.{rules, ◌≡◌, sym, ◌∙◌, metadata_shown, metadata_text}
 use Rattle.wal_shape.proofs.MetadataLaws.{metadata_text-injective}
 use Rattle.wal_world.proofs.Recoveries.{only_beside, only_first}
 use Rattle.wal_world.proofs.knowing.known_beside.Goals as goal

@@ -1,5 +1,4 @@
-use Rattle.std.proofs.Common.{rules, ◌≡◌, ℕ, List, Result, Ok, Err, ◌<◌, ◌^◌, length, sym, arith}
-use Rattle.wal_frame.specs.Stream.{IsStream}
+use Rattle.wal_world.proofs.Common.{rules, ◌≡◌, ℕ, List, Result, Ok, Err, ◌<◌, ◌^◌, length, sym, arith, IsStream}
 use Rattle.wal_world.proofs.ReplyTexts.{is_stream, not_malformed}
 use Rattle.wal_world.proofs.reading.take_payloads.Goals as goal
 

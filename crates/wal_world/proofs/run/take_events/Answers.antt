@@ -1,8 +1,4 @@
-use Rattle.std.proofs.Common.{ap, length, arith, List, drop, ◌+◌, Ok, Err, ◌∙◌}
-use Rattle.wal_event.specs.declared.event.Event.{Event}
-use Rattle.wal_port.specs.Faults.{Rose}
-use Rattle.wal_theorem.specs.Instance.{rules_of}
-use Rattle.wal_protocol.specs.State.{World}
+use Rattle.wal_world.proofs.Common.{ap, length, arith, List, drop, ◌+◌, Ok, Err, ◌∙◌, Event, Rose, rules_of, World}
 use Rattle.wal_world.proofs.Replaying.{all_events, event_at, replaying_first, replaying_more, replays_as, replays_failed, replays_stopped, replays_whole, rose_since, takes_as}
 use Rattle.wal_world.proofs.run.take_events.Goals as goal
 

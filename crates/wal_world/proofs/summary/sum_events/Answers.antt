@@ -1,8 +1,4 @@
-use Rattle.std.proofs.Common.{◌<◌, ◌+◌, List, length, drop, Option, None, Some, is_some, ap, ◌∙◌, arith}
-use Rattle.wal_shape.specs.declared.text.Collision.{Collision}
-use Rattle.wal_event.specs.declared.event.Event.{Event}
-use Rattle.wal_theorem.specs.Instance.{rules_of}
-use Rattle.wal_protocol.specs.State.{World}
+use Rattle.wal_world.proofs.Common.{◌<◌, ◌+◌, List, length, drop, Option, None, Some, is_some, ap, ◌∙◌, arith, Collision, Event, rules_of, World}
 use Rattle.wal_world.proofs.Replaying.{all_events, event_at}
 use Rattle.wal_world.proofs.Summaries.{summed_collision, summed_whole, summing_certified, summing_first, summing_more, summing_room, tallied_as}
 use Rattle.wal_world.proofs.summary.sum_events.Goals as goal

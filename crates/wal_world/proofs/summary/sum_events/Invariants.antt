@@ -1,5 +1,4 @@
-use Rattle.std.proofs.Common.{◌≡◌, ◌≤◌, ◌+◌, false, length}
-use Rattle.wal_theorem.specs.Instance.{rules_of}
+use Rattle.wal_world.proofs.Common.{◌≡◌, ◌≤◌, ◌+◌, false, length, rules_of}
 use Rattle.wal_world.proofs.Summaries.{IsSumming}
 use Rattle.wal_world.proofs.summary.sum_events.Given as goal
 

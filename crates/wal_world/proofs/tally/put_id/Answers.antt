@@ -1,7 +1,4 @@
-use Rattle.std.proofs.Common.{Option, option_to_list, ◌++◌, subst, sym}
-use Rattle.std.specs.BTreeSet.{IsFromIterResult}
-use Rattle.wal_shape.specs.declared.metadata.BlobId.{BlobId}
-use Rattle.wal_shape.specs.Identifiers.{id_cmp}
+use Rattle.wal_world.proofs.Common.{Option, option_to_list, ◌++◌, subst, sym, IsFromIterResult, BlobId, id_cmp}
 use Rattle.wal_world.proofs.Tallies.{put_one}
 use Rattle.wal_world.proofs.tally.put_id.Goals as goal
 

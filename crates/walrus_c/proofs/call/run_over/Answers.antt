@@ -1,6 +1,5 @@
 -- The sink that `run` leaves is the one over this room, since its text follows what stood in that one.
-use Rattle.std.proofs.Common.{◌<◌, ◌^◌, length, map, string_bytes, rules}
-use Rattle.sha2.specs.Sha256.{sha256}
+use Rattle.walrus_c.proofs.Common.{◌<◌, ◌^◌, length, map, string_bytes, rules, sha256}
 use Rattle.wal_port.specs.Slices.{slice_mark, slice_text}
 use Rattle.walrus_c.proofs.Calls.{ran}
 use Rattle.walrus_c.proofs.call.run_over.Goals as goal

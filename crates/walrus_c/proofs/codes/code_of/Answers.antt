@@ -1,7 +1,5 @@
 -- The rows of the code are those of the table.
-use Rattle.std.proofs.Common.{rules, arith}
-use Rattle.std.proofs.lemmas.Grind.{common_steps}
-use Rattle.walrus_c.specs.Codes.{code_of, refusals}
+use Rattle.walrus_c.proofs.Common.{rules, arith, common_steps, code_of, refusals}
 use Rattle.walrus_c.proofs.codes.code_of.Goals as goal
 
 pub returns : goal.returns

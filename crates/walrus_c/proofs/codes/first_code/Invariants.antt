@@ -1,6 +1,5 @@
 -- The code is that by the rows that are left.
-use Rattle.std.proofs.Common.{◌≡◌, map, length}
-use Rattle.walrus_c.specs.Codes.{first_code}
+use Rattle.walrus_c.proofs.Common.{◌≡◌, map, length, first_code}
 use Rattle.walrus_c.proofs.codes.first_code.Given as goal
 
 abbrev pub invariant-loop-rows : goal.invariant-loop-rows

@@ -1,6 +1,6 @@
 -- The room is that of the task which the words ask for.
-use Rattle.std.proofs.Common.{map, string_bytes, subst, sym}
-use Rattle.walrus_c.specs.inside.Rooming.{IsTold, asked, nothing_asked, no_memory}
+use Rattle.walrus_c.proofs.Common.{map, string_bytes, subst, sym, IsTold, asked, nothing_asked}
+use Rattle.walrus_c.specs.inside.Rooming.{no_memory}
 use Rattle.walrus_c.proofs.Ranges.{in_range}
 use Rattle.walrus_c.proofs.room.room_for.Goals as goal
 

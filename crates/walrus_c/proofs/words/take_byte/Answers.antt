@@ -1,5 +1,5 @@
 -- A zero byte ends a word; another byte is one of it.
-use Rattle.std.proofs.Common.{◌<◌, arith, map, string_bytes}
+use Rattle.walrus_c.proofs.Common.{◌<◌, arith, map, string_bytes}
 use Rattle.walrus_c.proofs.Splits.{byte_added, word_added, word_refused}
 use Rattle.walrus_c.proofs.words.take_byte.Goals as goal
 

@@ -1,5 +1,5 @@
 -- Each byte that is taken brings the place one further.
-use Rattle.std.proofs.Common.{◌≡◌, ◌<◌, ◌+◌, length, drop, arith, ap, map, string_bytes, inr, refl, rules}
+use Rattle.walrus_c.proofs.Common.{◌≡◌, ◌<◌, ◌+◌, length, drop, arith, ap, map, string_bytes, inr, refl, rules}
 use Rattle.walrus_c.proofs.Splits.{at_last, at_start, byte_refused, next_byte, no_end, none_begun}
 use Rattle.walrus_c.proofs.words.words_of.Goals as goal
 

@@ -1,6 +1,5 @@
 -- What was read of the text, and what is left.
-use Rattle.std.proofs.Common.{length, ◌-◌, ◌≤◌, map, string_bytes, drop}
-use Rattle.walrus_c.specs.inside.Reading.{ReadSoFar}
+use Rattle.walrus_c.proofs.Common.{length, ◌-◌, ◌≤◌, map, string_bytes, drop, ReadSoFar}
 use Rattle.walrus_c.proofs.words.words_of.Given as goal
 
 abbrev pub invariant-bytes : goal.invariant-bytes

@@ -1,10 +1,6 @@
 -- The line of the drawn axis is the codeword of the shard's own sliver.
-use Rattle.std.proofs.Common.{◌≡◌, ◌*◌, ℕ, length, ap, subst, sym, ◌∙◌}
-use Rattle.wal_shape.specs.MetaRef.{metadata_shown}
-use Rattle.wal_shape.specs.Shape.{BlobShape, shard_count, symbol_size}
+use Rattle.wal_challenge.proofs.Common.{◌≡◌, ◌*◌, ℕ, length, ap, subst, sym, ◌∙◌, metadata_shown, BlobShape, shard_count, symbol_size, OwnWords, among, AreLevels}
 use Rattle.wal_challenge.specs.declared.line.Line.{Line}
-use Rattle.wal_challenge.specs.Answer.{OwnWords, among}
-use Rattle.wal_challenge.specs.inside.Levels.{AreLevels}
 use Rattle.wal_challenge.proofs.AnswerLaws.{of_either, part_of_either, shows_if}
 use Rattle.wal_challenge.proofs.answering.Answerer.open.Goals as goal
 

@@ -1,6 +1,5 @@
 -- The table's points are distinct words.
-use Rattle.std.proofs.Common.{ℕ, ◌<◌, length, slice_index, subst}
-use Rattle.wal_code.specs.Codeword.{Places, Interpolates}
+use Rattle.wal_code.proofs.Common.{ℕ, ◌<◌, length, slice_index, subst, Places, Interpolates}
 use Rattle.wal_code.proofs.Tables.{table_interpolates}
 use Rattle.wal_code.proofs.coefficients.Coeffs.at.Goals as goal
 

@@ -1,6 +1,5 @@
 -- Each wanted point adds its row.
-use Rattle.std.proofs.Common.{◌≡◌, ◌∙◌, sym, ℕ, List, ◌+◌, length, arith, subst}
-use Rattle.wal_gf.specs.declared.Gf.{Gf}
+use Rattle.wal_code.proofs.Common.{◌≡◌, ◌∙◌, sym, ℕ, List, ◌+◌, length, arith, subst, Gf}
 use Rattle.wal_code.proofs.Tables.{HasRows, row_added, table_of_rows}
 use Rattle.wal_code.proofs.coefficients.Coeffs.new.Goals as goal
 

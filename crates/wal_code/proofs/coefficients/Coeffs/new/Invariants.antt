@@ -1,5 +1,5 @@
 -- The rows so far have their coefficients.
-use Rattle.std.proofs.Common.{◌≡◌, length}
+use Rattle.wal_code.proofs.Common.{◌≡◌, length}
 use Rattle.wal_code.proofs.Tables.{HasRows}
 use Rattle.wal_code.proofs.coefficients.Coeffs.new.Given as goal
 

@@ -1,6 +1,4 @@
-use Rattle.std.proofs.Common.{subst}
-use Rattle.wal_lanes.specs.Strips.{IsStrip}
-use Rattle.wal_commit.specs.inside.Strips.{BlobState, IsSymbolAt, symbols_of}
+use Rattle.wal_commit.proofs.Common.{subst, IsStrip, BlobState, IsSymbolAt, symbols_of}
 use Rattle.wal_commit.proofs.Symbols.{strip_of_symbols}
 use Rattle.wal_commit.proofs.strips.MatrixPiecesPieces.fill.Goals as goal
 

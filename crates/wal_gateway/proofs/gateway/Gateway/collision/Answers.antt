@@ -1,10 +1,7 @@
 -- The evidence contradicts the blob that is in the list.
-use Rattle.std.proofs.Common.{◌∙◌, sym, ap, length}
+use Rattle.wal_gateway.proofs.Common.{◌∙◌, sym, ap, length, option_copied, AreDigestedForEvidence, AreDigestedForKept}
 use Rattle.std.proofs.lemmas.Result.{IfOk-weaker}
-use Rattle.std.specs.Option.{option_copied}
 use Rattle.wal_shape.specs.declared.text.Collision.{Collision}
-use Rattle.wal_extract.specs.Contrary.{AreDigestedForEvidence}
-use Rattle.wal_gateway.specs.Kept.{AreDigestedForKept}
 use Rattle.wal_gateway.proofs.Kept.{contradicts_bytes, found_checked, kept_texts}
 use Rattle.wal_gateway.proofs.gateway.Gateway.collision.Goals as goal
 

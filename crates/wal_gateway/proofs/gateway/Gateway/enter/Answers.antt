@@ -1,9 +1,5 @@
 -- The list after a blob entered, and after memory was wanted.
-use Rattle.std.proofs.Common.{◌≤◌, sym, subst}
-use Rattle.lru.specs.LruCache.{LruCache}
-use Rattle.wal_shape.specs.declared.metadata.BlobId.{BlobId}
-use Rattle.wal_gateway.specs.declared.checked.CheckedBlob.{CheckedBlob}
-use Rattle.wal_gateway.specs.Kept.{AreChecked}
+use Rattle.wal_gateway.proofs.Common.{◌≤◌, sym, subst, LruCache, BlobId, CheckedBlob, AreChecked}
 use Rattle.wal_gateway.proofs.Kept.{entered_invariant, entered_shown}
 use Rattle.wal_gateway.proofs.gateway.Gateway.enter.Goals as goal
 

@@ -1,5 +1,5 @@
 -- What follows from how a get ends.
-use Rattle.wal_gateway.specs.Getting.{asked}
+use Rattle.wal_gateway.proofs.Common.{asked}
 use Rattle.wal_gateway.proofs.Endings.{ends_all, ends_fresh, ends_only}
 use Rattle.wal_gateway.proofs.gateway.Gateway.get.Goals as goal
 

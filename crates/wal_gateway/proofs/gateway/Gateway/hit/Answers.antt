@@ -1,5 +1,5 @@
 -- A hit.
-use Rattle.wal_gateway.specs.Getting.{asked}
+use Rattle.wal_gateway.proofs.Common.{asked}
 use Rattle.wal_gateway.proofs.Kept.{used_invariant, used_shown}
 use Rattle.wal_gateway.proofs.Endings.{ends_hit, none_kept}
 use Rattle.wal_gateway.proofs.gateway.Gateway.hit.Goals as goal

@@ -1,6 +1,5 @@
 -- A blob in the list is checked.
-use Rattle.std.proofs.Common.{◌∙◌, sym, ap}
-use Rattle.std.specs.Option.{option_copied}
+use Rattle.wal_gateway.proofs.Common.{◌∙◌, sym, ap, option_copied}
 use Rattle.wal_gateway.proofs.Kept.{found_checked}
 use Rattle.wal_gateway.proofs.gateway.Gateway.kept_range.Goals as goal
 

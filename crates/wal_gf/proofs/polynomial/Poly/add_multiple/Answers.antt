@@ -1,9 +1,4 @@
-use Rattle.std.proofs.Common.{◌≡◌, ℕ, List, [], ◌∷◌, ◌++◌, length, drop, ap, ap₂, ◌∙◌, arith, bit_xor}
-use Rattle.std.proofs.lemmas.List.{map-append}
-use Rattle.wal_gf.specs.Field.{times}
-use Rattle.wal_gf.specs.Polynomial.{evaluate}
-use Rattle.wal_gf.specs.Interpolation.{words_of}
-use Rattle.wal_gf.specs.declared.Gf.{Gf}
+use Rattle.wal_gf.proofs.Common.{◌≡◌, ℕ, List, [], ◌∷◌, ◌++◌, length, drop, ap, ap₂, ◌∙◌, arith, bit_xor, map-append, times, evaluate, words_of, Gf}
 use Rattle.wal_gf.proofs.Elements.{zero_element, take-written}
 use Rattle.wal_gf.proofs.Coefficients.{evaluate-more_zeros}
 use Rattle.wal_gf.proofs.polynomial.Poly.add_multiple.Goals as goal

@@ -1,8 +1,4 @@
-use Rattle.std.proofs.Common.{◌≡◌, ℕ, suc, ◌-◌, ◌<◌, ◌≤◌, List, ◌∷◌, length, drop, slice_index_or, sym, ap, ap₂, ◌∙◌, arith, bit_xor, drop-cons, drop_of_length-le}
-use Rattle.wal_gf.specs.Field.{times}
-use Rattle.wal_gf.specs.Polynomial.{evaluate}
-use Rattle.wal_gf.specs.Interpolation.{words_of}
-use Rattle.wal_gf.specs.declared.Gf.{Gf}
+use Rattle.wal_gf.proofs.Common.{◌≡◌, ℕ, suc, ◌-◌, ◌<◌, ◌≤◌, List, ◌∷◌, length, drop, slice_index_or, sym, ap, ap₂, ◌∙◌, arith, bit_xor, drop-cons, drop_of_length-le, times, evaluate, words_of, Gf}
 use Rattle.wal_gf.proofs.polynomial.Poly.eval.Goals as goal
 
 no_coefficient : (gs : List Gf) (n x : ℕ) → length gs ≤ n → 0 ≡ evaluate (words_of (drop n gs)) x

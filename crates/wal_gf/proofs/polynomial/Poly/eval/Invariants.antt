@@ -1,6 +1,4 @@
-use Rattle.std.proofs.Common.{◌≡◌, drop}
-use Rattle.wal_gf.specs.Polynomial.{evaluate}
-use Rattle.wal_gf.specs.Interpolation.{words_of}
+use Rattle.wal_gf.proofs.Common.{◌≡◌, drop, evaluate, words_of}
 use Rattle.wal_gf.proofs.polynomial.Poly.eval.Given as goal
 
 -- the value of the higher coefficients

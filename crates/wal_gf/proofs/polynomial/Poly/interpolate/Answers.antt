@@ -1,12 +1,4 @@
-use Rattle.std.proofs.Common.{◌≡◌, ◌≢◌, ℕ, ◌<◌, List, [], ◌∷◌, length, get_or, All, AllPairs, subst, sym, ap, ◌∙◌, arith, lit<, bit_xor, below_more}
-use Rattle.std.specs.Int.Bits.{xor_self, xor_zero_r}
-use Rattle.std.proofs.lemmas.Nat.{xor_lt}
-use Rattle.std.proofs.lemmas.List.{get_or_default}
-use Rattle.std.proofs.lemmas.List.Elements.{recursion_from_All, All-cons, All-nil}
-use Rattle.wal_gf.specs.Field.{IsWord, times}
-use Rattle.wal_gf.specs.Polynomial.{evaluate}
-use Rattle.wal_gf.specs.Interpolation.{words_of, HasValues, IsOnlyWithValues, with_zeros}
-use Rattle.wal_gf.specs.declared.Gf.{Gf}
+use Rattle.wal_gf.proofs.Common.{◌≡◌, ◌≢◌, ℕ, ◌<◌, List, [], ◌∷◌, length, get_or, All, AllPairs, subst, sym, ap, ◌∙◌, arith, lit<, bit_xor, below_more, xor_self, xor_zero_r, xor_lt, get_or_default, recursion_from_All, All-cons, All-nil, IsWord, times, evaluate, words_of, HasValues, IsOnlyWithValues, with_zeros, Gf}
 use Rattle.wal_gf.proofs.Additive.{xor_back}
 use Rattle.wal_gf.proofs.Products.{times-zero, zero-times}
 use Rattle.wal_gf.proofs.Inverses.{zero_factor}

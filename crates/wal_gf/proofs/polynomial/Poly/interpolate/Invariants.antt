@@ -1,7 +1,4 @@
-use Rattle.std.proofs.Common.{◌≡◌, ◌≢◌, ℕ, ◌+◌, ◌<◌, length, get_or, All}
-use Rattle.wal_gf.specs.Field.{IsWord}
-use Rattle.wal_gf.specs.Polynomial.{evaluate}
-use Rattle.wal_gf.specs.Interpolation.{words_of}
+use Rattle.wal_gf.proofs.Common.{◌≡◌, ◌≢◌, ℕ, ◌+◌, ◌<◌, length, get_or, All, IsWord, evaluate, words_of}
 use Rattle.wal_gf.proofs.polynomial.Poly.interpolate.Given as goal
 
 -- `found` has the values at the points so far, and `vanishing` has just these points as roots

@@ -1,8 +1,4 @@
-use Rattle.std.proofs.Common.{◌≡◌, ℕ, List, [], ◌∷◌, ◌++◌, length, drop, sym, ap, ap₂, ◌∙◌, arith, bit_xor}
-use Rattle.wal_gf.specs.Field.{times}
-use Rattle.wal_gf.specs.Polynomial.{evaluate}
-use Rattle.wal_gf.specs.Interpolation.{words_of}
-use Rattle.wal_gf.specs.declared.Gf.{Gf}
+use Rattle.wal_gf.proofs.Common.{◌≡◌, ℕ, List, [], ◌∷◌, ◌++◌, length, drop, sym, ap, ap₂, ◌∙◌, arith, bit_xor, times, evaluate, words_of, Gf}
 use Rattle.wal_gf.proofs.Products.{times-xor_left}
 use Rattle.wal_gf.proofs.Elements.{zero_element, take-written}
 use Rattle.wal_gf.proofs.Coefficients.{evaluate-shift}

@@ -1,5 +1,4 @@
-use Rattle.std.proofs.Common.{inl}
-use Rattle.wal_store.specs.Calls.{DropPart}
+use Rattle.wal_journal.proofs.Common.{inl, DropPart}
 use Rattle.wal_journal.proofs.Moments.{at_rest}
 use Rattle.wal_journal.proofs.HeldLaws.{with_one, ready, keeps_change}
 use Rattle.wal_journal.proofs.EndLaws.{ends_of, held_after}

@@ -1,6 +1,5 @@
-use Rattle.std.proofs.Common.{Err, subst}
+use Rattle.wal_journal.proofs.Common.{Err, subst, Opens}
 use Rattle.wal_journal.specs.declared.open.OpenFault.{OpenFault}
-use Rattle.wal_journal.specs.Reading.{Opens}
 use Rattle.wal_journal.proofs.NeverBad.{never_bad, gives}
 use Rattle.wal_journal.proofs.Moments.{holds_settled}
 use Rattle.wal_journal.proofs.NeverFull.{never_full}

@@ -1,6 +1,4 @@
-use Rattle.std.proofs.Common.{inl, sym, subst, ◌∙◌, Option, ℕ}
-use Rattle.wal_store.specs.Calls.{Put}
-use Rattle.wal_journal.specs.inside.Held.{FitsSome}
+use Rattle.wal_journal.proofs.Common.{inl, sym, subst, ◌∙◌, Option, ℕ, Put, FitsSome}
 use Rattle.wal_journal.proofs.Moments.{at_rest, weaker}
 use Rattle.wal_journal.proofs.HeldLaws.{HasSome, with_one, ready, keeps_change, with_room, either_of}
 use Rattle.wal_journal.proofs.EndLaws.{ends_of, held_after}

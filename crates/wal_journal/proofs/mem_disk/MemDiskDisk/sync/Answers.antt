@@ -1,5 +1,4 @@
-use Rattle.std.proofs.Common.{rules, ◌≡◌, ◌*◌, [], ◌∷◌, length, refl, arith, length-append}
-use Rattle.wal_journal.specs.declared.mem_disk.Step.TheVariants.{Synced}
+use Rattle.wal_journal.proofs.Common.{rules, ◌≡◌, ◌*◌, [], ◌∷◌, length, refl, arith, length-append, Synced}
 use Rattle.wal_journal.proofs.Past.{pending_synced, elapses_step}
 use Rattle.wal_journal.proofs.mem_disk.MemDiskDisk.sync.Goals as goal
 

@@ -1,5 +1,4 @@
-use Rattle.std.proofs.Common.{rules, ◌≡◌, ◌*◌, [], ◌∷◌, length, ap, ◌∙◌, arith, length-append}
-use Rattle.wal_journal.specs.declared.mem_disk.Step.TheVariants.{Written}
+use Rattle.wal_journal.proofs.Common.{rules, ◌≡◌, ◌*◌, [], ◌∷◌, length, ap, ◌∙◌, arith, length-append, Written}
 use Rattle.wal_journal.proofs.Images.{length-put}
 use Rattle.wal_journal.proofs.Past.{pending_push, elapses_step}
 use Rattle.wal_journal.proofs.mem_disk.MemDiskDisk.write_at.Goals as goal

@@ -1,9 +1,4 @@
-use Rattle.std.proofs.Common.{◌≡◌, ◌+◌, ◌<◌, List, true, length, sym, ap, subst, ◌∙◌}
-use Rattle.wal_shape.specs.Owners.{are_owners}
-use Rattle.wal_ledger.specs.declared.entry.Entry.{Entry}
-use Rattle.wal_ledger.specs.Shards.{committee_size}
-use Rattle.wal_ledger.specs.Ledger.{Log, LedgerState, writing, is_moving, reading}
-use Rattle.wal_ledger.specs.inside.Kept.{log_of}
+use Rattle.wal_ledger.proofs.Common.{◌≡◌, ◌+◌, ◌<◌, List, true, length, sym, ap, subst, ◌∙◌, are_owners, Entry, committee_size, Log, LedgerState, writing, is_moving, reading, log_of}
 use Rattle.wal_ledger.proofs.RowsKept.{kept_begin}
 use Rattle.wal_ledger.proofs.ledger.Ledger.begin.Goals as goal
 

@@ -1,7 +1,4 @@
-use Rattle.std.proofs.Common.{◌≡◌, true, ap, ◌∙◌, arith}
-use Rattle.std.proofs.lemmas.Bool.{lt-ltb}
-use Rattle.wal_ledger.specs.declared.entry.Kind.TheVariants.{Holds}
-use Rattle.wal_ledger.specs.Ledger.{LedgerState, reading, until_of, is_live, owners_at, own_entries}
+use Rattle.wal_ledger.proofs.Common.{◌≡◌, true, ap, ◌∙◌, arith, lt-ltb, Holds, LedgerState, reading, until_of, is_live, owners_at, own_entries}
 use Rattle.wal_ledger.proofs.RowsRead.{certificate_some, certificate_none}
 use Rattle.wal_ledger.proofs.ledger.Ledger.certificate.Goals as goal
 

@@ -1,7 +1,4 @@
-use Rattle.std.proofs.Common.{◌≡◌, ℕ, sym, ap, ◌∙◌}
-use Rattle.wal_ledger.specs.inside.Claims.{count_among}
-use Rattle.wal_ledger.specs.inside.Kept.{log_of}
-use Rattle.wal_ledger.specs.Ledger.{Log, LedgerState, writing, signer_count, owners_at, own_entries}
+use Rattle.wal_ledger.proofs.Common.{◌≡◌, ℕ, sym, ap, ◌∙◌, count_among, log_of, Log, LedgerState, writing, signer_count, owners_at, own_entries}
 use Rattle.wal_ledger.proofs.RowsRead.{own_within}
 use Rattle.wal_ledger.proofs.ledger.Ledger.count.Goals as goal
 

@@ -1,12 +1,4 @@
-use Rattle.std.proofs.Common.{◌≡◌, ◌<◌, ℕ, false, List, length, sym, ap, subst, ◌∙◌, arith}
-use Rattle.wal_shape.specs.declared.axis.Side.TheVariants.{Next}
-use Rattle.wal_ledger.specs.declared.entry.Entry.{Entry}
-use Rattle.wal_ledger.specs.declared.tally.Tally.{Tally}
-use Rattle.wal_ledger.specs.Shards.{committee_size}
-use Rattle.wal_ledger.specs.inside.Tally.{node_size, tally_after}
-use Rattle.wal_ledger.specs.inside.Rows.{row_in, tally_of, with_tally}
-use Rattle.wal_ledger.specs.Ledger.{Log, LedgerState, writing, same_node, owners_at, owners_of, signers, own_entries}
-use Rattle.wal_ledger.specs.inside.Kept.{log_of}
+use Rattle.wal_ledger.proofs.Common.{◌≡◌, ◌<◌, ℕ, false, List, length, sym, ap, subst, ◌∙◌, arith, Next, Entry, Tally, committee_size, node_size, tally_after, row_in, tally_of, with_tally, Log, LedgerState, writing, same_node, owners_at, owners_of, signers, own_entries, log_of}
 use Rattle.wal_ledger.proofs.TallyLaws.{tally_most, count_below-most}
 use Rattle.wal_ledger.proofs.RowsEnter.{kept_claim}
 use Rattle.wal_ledger.proofs.ledger.Ledger.enter_claim.Goals as goal

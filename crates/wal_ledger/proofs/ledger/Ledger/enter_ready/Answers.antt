@@ -1,10 +1,4 @@
-use Rattle.std.proofs.Common.{◌≡◌, ◌<◌, false, sym, ap, subst, ◌∙◌, arith}
-use Rattle.wal_shape.specs.declared.axis.Side.TheVariants.{Next}
-use Rattle.wal_shape.specs.Owners.{node_of}
-use Rattle.wal_ledger.specs.Shards.{committee_size}
-use Rattle.wal_ledger.specs.inside.Tally.{node_size}
-use Rattle.wal_ledger.specs.Ledger.{Log, LedgerState, writing, owners_of, same_node, ready_shards}
-use Rattle.wal_ledger.specs.inside.Kept.{log_of}
+use Rattle.wal_ledger.proofs.Common.{◌≡◌, ◌<◌, false, sym, ap, subst, ◌∙◌, arith, Next, node_of, committee_size, node_size, Log, LedgerState, writing, owners_of, same_node, ready_shards, log_of}
 use Rattle.wal_ledger.proofs.TallyLaws.{count_below-most}
 use Rattle.wal_ledger.proofs.RowsEnter.{kept_ready}
 use Rattle.wal_ledger.proofs.ledger.Ledger.enter_ready.Goals as goal

@@ -1,7 +1,4 @@
-use Rattle.std.proofs.Common.{◌≡◌, ◌<◌, sym, ap, subst, ◌∙◌}
-use Rattle.wal_ledger.specs.inside.Rows.{row_in, row_registered}
-use Rattle.wal_ledger.specs.Ledger.{Log, LedgerState, writing}
-use Rattle.wal_ledger.specs.inside.Kept.{log_of}
+use Rattle.wal_ledger.proofs.Common.{◌≡◌, ◌<◌, sym, ap, subst, ◌∙◌, row_in, row_registered, Log, LedgerState, writing, log_of}
 use Rattle.wal_ledger.proofs.RowsEnter.{kept_registered}
 use Rattle.wal_ledger.proofs.ledger.Ledger.enter_registration.Goals as goal
 

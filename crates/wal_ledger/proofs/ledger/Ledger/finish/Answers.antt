@@ -1,6 +1,4 @@
-use Rattle.std.proofs.Common.{◌≡◌, ◌<◌, sym, ap, subst, ◌∙◌}
-use Rattle.wal_ledger.specs.Ledger.{LedgerState, writing, is_moving}
-use Rattle.wal_ledger.specs.inside.Kept.{log_of}
+use Rattle.wal_ledger.proofs.Common.{◌≡◌, ◌<◌, sym, ap, subst, ◌∙◌, LedgerState, writing, is_moving, log_of}
 use Rattle.wal_ledger.proofs.RowsKept.{kept_finish}
 use Rattle.wal_ledger.proofs.ledger.Ledger.finish.Goals as goal
 

@@ -1,7 +1,4 @@
-use Rattle.std.proofs.Common.{◌≡◌, ℕ, List, sym, ap, ◌∙◌}
-use Rattle.wal_shape.specs.declared.axis.Side.TheVariants.{Next}
-use Rattle.wal_ledger.specs.inside.Kept.{log_of}
-use Rattle.wal_ledger.specs.Ledger.{Log, LedgerState, writing, owners_at, owners_of, own_entries, signers, is_signer_among}
+use Rattle.wal_ledger.proofs.Common.{◌≡◌, ℕ, List, sym, ap, ◌∙◌, Next, log_of, Log, LedgerState, writing, owners_at, owners_of, own_entries, signers, is_signer_among}
 use Rattle.wal_ledger.proofs.RowsRead.{own_within}
 use Rattle.wal_ledger.proofs.ledger.Ledger.is_signer.Goals as goal
 

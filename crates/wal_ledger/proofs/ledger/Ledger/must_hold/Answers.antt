@@ -1,9 +1,4 @@
-use Rattle.std.proofs.Common.{◌≡◌, true, sym, subst, ap, ◌∙◌, arith}
-use Rattle.wal_ledger.specs.declared.entry.Kind.TheVariants.{Holds}
-use Rattle.wal_ledger.specs.Handover.{IsDated}
-use Rattle.wal_ledger.specs.Kept.{IsLawful}
-use Rattle.wal_ledger.specs.inside.Kept.{log_of}
-use Rattle.wal_ledger.specs.Ledger.{LedgerState, writing, is_moving, owners_at, own_entries}
+use Rattle.wal_ledger.proofs.Common.{◌≡◌, true, sym, subst, ap, ◌∙◌, arith, Holds, IsDated, IsLawful, log_of, LedgerState, writing, is_moving, owners_at, own_entries}
 use Rattle.wal_ledger.proofs.Handover.{must_hold_now}
 use Rattle.wal_ledger.proofs.ledger.Ledger.must_hold.Goals as goal
 

@@ -1,7 +1,4 @@
-use Rattle.std.proofs.Common.{ℕ, List, ap, ◌∙◌}
-use Rattle.wal_ledger.specs.Shards.{count_below}
-use Rattle.wal_ledger.specs.Ledger.{same_node}
-use Rattle.wal_ledger.specs.inside.Tally.{node_size}
+use Rattle.wal_ledger.proofs.Common.{ℕ, List, ap, ◌∙◌, count_below, same_node, node_size}
 use Rattle.wal_ledger.proofs.Nodes.{owners_length}
 use Rattle.wal_ledger.proofs.ledger.Ledger.node_size.Goals as goal
 

@@ -1,7 +1,4 @@
-use Rattle.std.proofs.Common.{sym, subst}
-use Rattle.wal_ledger.specs.inside.Rows.{IsRow}
-use Rattle.wal_ledger.specs.inside.Kept.{log_of}
-use Rattle.wal_ledger.specs.Ledger.{Log, LedgerState, owners_at, own_entries}
+use Rattle.wal_ledger.proofs.Common.{sym, subst, IsRow, log_of, Log, LedgerState, owners_at, own_entries}
 use Rattle.wal_ledger.proofs.ledger.Ledger.row.Goals as goal
 
 pub returns-clause-row : goal.returns-clause-row

@@ -1,4 +1,4 @@
-use Rattle.std.proofs.Common.{arith}
+use Rattle.wal_ledger.proofs.Common.{arith}
 use Rattle.wal_ledger.proofs.RowsTable.{table_new}
 use Rattle.wal_ledger.proofs.rows.Table.create.Goals as goal
 

@@ -1,5 +1,4 @@
-use Rattle.std.proofs.Common.{ap, ◌∙◌, sym}
-use Rattle.wal_ledger.specs.inside.Rows.{Rows, IsPlace, IsInsertionPoint, row_in}
+use Rattle.wal_ledger.proofs.Common.{ap, ◌∙◌, sym, Rows, IsPlace, IsInsertionPoint, row_in}
 use Rattle.wal_ledger.proofs.RowsPlace.{beside_none}
 use Rattle.wal_ledger.proofs.RowsTable.{find_row, same_lists}
 use Rattle.wal_ledger.proofs.rows.Table.find.Goals as goal

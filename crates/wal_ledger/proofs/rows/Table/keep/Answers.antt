@@ -1,8 +1,4 @@
-use Rattle.std.proofs.Common.{List, cond, length, ap, ◌∙◌, arith}
-use Rattle.wal_shape.specs.declared.metadata.BlobId.{BlobId}
-use Rattle.wal_shape.specs.Identifiers.{id_eq, id_cmp}
-use Rattle.std.specs.BTreeSet.{insert_key}
-use Rattle.wal_ledger.specs.inside.Rows.{Rows, IsPlace, row_in}
+use Rattle.wal_ledger.proofs.Common.{List, cond, length, ap, ◌∙◌, arith, BlobId, id_eq, id_cmp, insert_key, Rows, IsPlace, row_in}
 use Rattle.wal_ledger.proofs.RowsTable.{rows_set, same_lists, pushed}
 use Rattle.wal_ledger.proofs.rows.Table.keep.Goals as goal
 

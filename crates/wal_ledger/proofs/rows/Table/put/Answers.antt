@@ -1,5 +1,4 @@
-use Rattle.std.proofs.Common.{Contains, List, inl, refl, sym, subst}
-use Rattle.wal_shape.specs.declared.metadata.BlobId.{BlobId}
+use Rattle.wal_ledger.proofs.Common.{Contains, List, inl, refl, sym, subst, BlobId}
 use Rattle.wal_ledger.proofs.Living.{put_in}
 use Rattle.wal_ledger.proofs.rows.Table.put.Goals as goal
 

@@ -1,7 +1,4 @@
-use Rattle.std.proofs.Common.{rules, filter, nat_lt, arith}
-use Rattle.std.proofs.lemmas.Fn.{filter_same}
-use Rattle.wal_ledger.specs.declared.rows.Row.{Row}
-use Rattle.wal_ledger.specs.inside.Rows.{row_of, row_in}
+use Rattle.wal_ledger.proofs.Common.{rules, filter, nat_lt, arith, filter_same, Row, row_of, row_in}
 use Rattle.wal_ledger.proofs.RowsTable.{retires, live_changed}
 use Rattle.wal_ledger.proofs.rows.Table.retire.Goals as goal
 

@@ -1,7 +1,4 @@
-use Rattle.std.proofs.Common.{cond, sym, ap, ◌∙◌, arith}
-use Rattle.wal_shape.specs.Identifiers.{id_eq}
-use Rattle.wal_ledger.specs.declared.rows.Row.{Row}
-use Rattle.wal_ledger.specs.inside.Rows.{Rows, IsPlace, IsInsertionPoint, row_in}
+use Rattle.wal_ledger.proofs.Common.{cond, sym, ap, ◌∙◌, arith, id_eq, Row, Rows, IsPlace, IsInsertionPoint, row_in}
 use Rattle.wal_ledger.proofs.RowsPlace.{beside_none}
 use Rattle.wal_ledger.proofs.RowsTable.{rows_set, same_lists}
 use Rattle.wal_ledger.proofs.rows.Table.set.Goals as goal

@@ -1,7 +1,4 @@
-use Rattle.std.proofs.Common.{ℕ, List, length, ap, refl, arith}
-use Rattle.std.specs.BTreeSet.{insert_key}
-use Rattle.wal_shape.specs.declared.metadata.BlobId.{BlobId}
-use Rattle.wal_shape.specs.Identifiers.{id_cmp}
+use Rattle.wal_ledger.proofs.Common.{ℕ, List, length, ap, refl, arith, insert_key, BlobId, id_cmp}
 use Rattle.wal_ledger.proofs.RowsTable.{wakes, live_changed}
 use Rattle.wal_ledger.proofs.rows.Table.wake.Goals as goal
 

@@ -1,5 +1,4 @@
-use Rattle.std.proofs.Common.{◌≡◌, ◌+◌, ◌∷◌, ◌++◌, [], ℕ, ap, sym, ◌∙◌, subst}
-use Rattle.wal_ledger.specs.inside.Tally.{IsTally, link_in, node_size, tally_after}
+use Rattle.wal_ledger.proofs.Common.{◌≡◌, ◌+◌, ◌∷◌, ◌++◌, [], ℕ, ap, sym, ◌∙◌, subst, IsTally, link_in, node_size, tally_after}
 use Rattle.wal_ledger.proofs.TallyLaws.{tally_signed}
 use Rattle.wal_ledger.proofs.tally.Tally.after.Goals as goal
 

@@ -1,5 +1,4 @@
-use Rattle.std.proofs.Common.{sym, ◌∙◌}
-use Rattle.std.proofs.lemmas.Bool.{cond-false, ne_eqb}
+use Rattle.wal_ledger.proofs.Common.{sym, ◌∙◌, cond-false, ne_eqb}
 use Rattle.wal_ledger.proofs.TallyLaws.{tally_counts}
 use Rattle.wal_ledger.proofs.tally.Tally.count_in.Goals as goal
 

@@ -1,8 +1,5 @@
-use Rattle.std.proofs.Common.{ℕ, List, ap, sym, ◌∙◌}
-use Rattle.std.proofs.lemmas.Bool.{and_left, ne_eqb}
-use Rattle.wal_ledger.specs.Ledger.{is_signer_among}
+use Rattle.wal_ledger.proofs.Common.{ℕ, List, ap, sym, ◌∙◌, and_left, ne_eqb, is_signer_among, has_neighbour}
 use Rattle.wal_ledger.proofs.TallyLaws.{tally_signers}
-use Rattle.wal_shape.specs.Owners.{has_neighbour}
 use Rattle.wal_ledger.proofs.tally.Tally.is_signer.Goals as goal
 
 pub returns-then-self-epoch : goal.returns-then-self-epoch

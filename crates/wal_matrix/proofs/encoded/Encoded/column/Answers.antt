@@ -1,4 +1,4 @@
-use Rattle.wal_shape.specs.Shape.{shard_count, symbol_size}
+use Rattle.wal_matrix.proofs.Common.{shard_count, symbol_size}
 use Rattle.wal_matrix.proofs.Slivers.{column_is}
 use Rattle.wal_matrix.proofs.encoded.Encoded.column.Goals as goal
 

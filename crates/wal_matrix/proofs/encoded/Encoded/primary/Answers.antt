@@ -1,4 +1,4 @@
-use Rattle.wal_shape.specs.Shape.{symbol_size}
+use Rattle.wal_matrix.proofs.Common.{symbol_size}
 use Rattle.wal_matrix.proofs.Slivers.{primary_is}
 use Rattle.wal_matrix.proofs.encoded.Encoded.primary.Goals as goal
 

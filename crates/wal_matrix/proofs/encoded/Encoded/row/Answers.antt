@@ -1,5 +1,4 @@
-use Rattle.std.proofs.Common.{rules, ◌≡◌, ℕ, ◌*◌, length, arith, sym, ap, ap₂, ◌∙◌}
-use Rattle.wal_shape.specs.Shape.{shard_count, symbol_size}
+use Rattle.wal_matrix.proofs.Common.{rules, ◌≡◌, ℕ, ◌*◌, length, arith, sym, ap, ap₂, ◌∙◌, shard_count, symbol_size}
 use Rattle.wal_matrix.proofs.Slivers.{row_is, row_fits}
 use Rattle.wal_matrix.proofs.encoded.Encoded.row.Goals as goal
 

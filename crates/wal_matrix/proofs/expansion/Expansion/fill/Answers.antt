@@ -1,4 +1,4 @@
-use Rattle.std.proofs.Common.{rules, ◌≡◌, arith}
+use Rattle.wal_matrix.proofs.Common.{rules, ◌≡◌, arith}
 use Rattle.wal_matrix.proofs.Words.{word_unique}
 use Rattle.wal_matrix.proofs.expansion.Expansion.fill.Goals as goal
 

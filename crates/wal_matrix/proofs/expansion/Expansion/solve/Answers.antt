@@ -1,4 +1,4 @@
-use Rattle.std.proofs.Common.{rules, ◌≡◌, vec_capacity}
+use Rattle.wal_matrix.proofs.Common.{rules, ◌≡◌, vec_capacity}
 use Rattle.wal_matrix.proofs.ToolsLaws.{codeword-fits}
 use Rattle.wal_matrix.proofs.expansion.Expansion.solve.Goals as goal
 

@@ -1,4 +1,4 @@
-use Rattle.std.proofs.Common.{rules, ◌≡◌, ◌∙◌}
+use Rattle.wal_matrix.proofs.Common.{rules, ◌≡◌, ◌∙◌}
 use Rattle.wal_matrix.proofs.StripLaws.{room_by_rows}
 use Rattle.wal_matrix.proofs.strips.Strips.fill.Goals as goal
 

@@ -1,5 +1,5 @@
 -- An empty body. The borrow is opened and closed at another ghost value.
-use Rattle.std.proofs.Common.{ℕ, List, [], ◌∷◌, refl, MutBor}
+use Rattle.wal_port.proofs.Common.{ℕ, List, [], ◌∷◌, refl, MutBor, Noted, ◌<◌, ◌^◌, ◌++◌, length}
 use seplogic.Ra.Ura.{Ura}
 use mir.Syntax.{named}
 use mir.Val.{Val, vunit, vptr}
@@ -25,7 +25,6 @@ use denote.Triple.Entry.{on_entry}
 use denote.Triple.Spec.{Meets, triple_of}
 use denote.Triple.Table.{entered}
 use denote.Triple.Walked.{says, Stays, stay_ref, walk_of, AllGo, Goes-ref, Walks, ends_at, walked, walk_Meets}
-use Rattle.wal_port.specs.declared.noted.Noted.{Noted}
 use Rattle.wal_port.specs.contracts.noted.Noted as T
 use Rattle.wal_port.specs.contracts.noted.Noted.add.Key.{name as #it}
 use Rattle.wal_port.specs.contracts.noted.Noted.add as it
@@ -36,7 +35,6 @@ use denote.Builtin.{u8}
 use denote.Exit.{yes}
 use denote.Slice.{ShrSlice, slice_val, shr_slice_vals, shr_slice_Tells}
 use denote.Triple.Walked.{stay_none_slice, Goes-none_slice}
-use Rattle.std.proofs.Common.{◌<◌, ◌^◌, ◌++◌, length}
 
 abbrev Arg : Type 0
 Arg = MutBor Noted × (Bor (List ℕ) × Unit {0})

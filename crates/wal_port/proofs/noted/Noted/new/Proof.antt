@@ -21,7 +21,7 @@ use denote.Triple.Entry.{on_entry}
 use denote.Triple.Spec.{Meets, triple_of}
 use denote.Triple.Table.{entered}
 use denote.Triple.Walked.{says, ends_at, walked, walk_Meets}
-use Rattle.wal_port.specs.declared.noted.Noted.{Noted}
+use Rattle.wal_port.proofs.Common.{Noted}
 use Rattle.wal_port.specs.contracts.noted.Noted as T
 use Rattle.wal_port.specs.contracts.noted.Noted.new.Key.{name as #it}
 use Rattle.wal_port.specs.contracts.noted.Noted.new as it

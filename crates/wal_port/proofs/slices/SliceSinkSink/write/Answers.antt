@@ -1,5 +1,5 @@
 -- A piece more is taken: the count, what stands in the room and what is beyond go on together.
-use Rattle.std.proofs.Common.{◌≡◌, ◌+◌, ◌-◌, ◌≤◌, ◌^◌, min, length, arith, ap, ◌∙◌, sym}
+use Rattle.wal_port.proofs.Common.{◌≡◌, ◌+◌, ◌-◌, ◌≤◌, ◌^◌, min, length, arith, ap, ◌∙◌, sym}
 use Rattle.wal_port.proofs.Rooms.{beyond_more, counted_more, drop_further, mark_more, text_put, untouched_put}
 use Rattle.wal_port.proofs.slices.SliceSinkSink.write.Goals as goal
 

@@ -1,4 +1,4 @@
-use Rattle.std.proofs.Common.{[], refl}
+use Rattle.wal_reader.proofs.Common.{[], refl}
 use Rattle.wal_reader.proofs.HeardLaws.{kept_none}
 use Rattle.wal_reader.proofs.heard.Heard.create.Goals as goal
 

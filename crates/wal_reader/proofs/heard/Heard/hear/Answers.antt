@@ -1,4 +1,4 @@
-use Rattle.std.proofs.Common.{[]}
+use Rattle.wal_reader.proofs.Common.{[]}
 use Rattle.wal_reader.proofs.HeardLaws.{kept_none}
 use Rattle.wal_reader.proofs.heard.Heard.hear.Goals as goal
 

@@ -1,5 +1,4 @@
-use Rattle.std.proofs.Common.{◌↔◌, IsTrue, subst}
-use Rattle.wal_reader.specs.Heard.{HeardState, IsSettledState}
+use Rattle.wal_reader.proofs.Common.{◌↔◌, IsTrue, subst, HeardState, IsSettledState}
 use Rattle.wal_reader.proofs.SettledLaws.{settled_heard}
 use Rattle.wal_reader.proofs.heard.Heard.is_settled.Goals as goal
 

@@ -1,4 +1,4 @@
-use Rattle.std.proofs.Common.{◌++◌, [], append-nil, arith}
+use Rattle.wal_reader.proofs.Common.{◌++◌, [], append-nil, arith}
 use Rattle.wal_reader.proofs.intake.Intake.advance.Goals as goal
 
 pub returns-then-is_too_long-clause-moves : goal.returns-then-is_too_long-clause-moves

@@ -1,5 +1,4 @@
-use Rattle.std.proofs.Common.{arith}
-use Rattle.wal_frame.specs.Frame.{envelope}
+use Rattle.wal_reader.proofs.Common.{arith, envelope}
 use Rattle.wal_reader.proofs.intake.Intake.begin.Goals as goal
 
 pub returns-in_ok-hear-in-Whole-clause-moves : goal.returns-in_ok-hear-in-Whole-clause-moves

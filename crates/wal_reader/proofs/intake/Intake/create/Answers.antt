@@ -1,4 +1,4 @@
-use Rattle.std.proofs.Common.{refl, arith}
+use Rattle.wal_reader.proofs.Common.{refl, arith}
 use Rattle.wal_reader.proofs.IntakeLaws.{stands_new, sound_empty}
 use Rattle.wal_reader.proofs.intake.Intake.create.Goals as goal
 

@@ -1,7 +1,4 @@
-use Rattle.std.proofs.Common.{◌≡◌, ◌∙◌, vec_len, sym, arith}
-use Rattle.std.proofs.lemmas.Bool.{eqb-true}
-use Rattle.std.proofs.lemmas.List.{nil_from_length}
-use Rattle.wal_reader.specs.inside.Intake.{shown}
+use Rattle.wal_reader.proofs.Common.{◌≡◌, ◌∙◌, vec_len, sym, arith, eqb-true, nil_from_length, shown}
 use Rattle.wal_reader.proofs.StandingLaws.{past_malformed, finishes_whole}
 use Rattle.wal_reader.proofs.intake.Intake.finish.Goals as goal
 

@@ -1,5 +1,4 @@
-use Rattle.std.proofs.Common.{◌++◌, List, ℕ, refl, ap, arith}
-use Rattle.wal_frame.specs.Frame.{envelope}
+use Rattle.wal_reader.proofs.Common.{◌++◌, List, ℕ, refl, ap, arith, envelope}
 use Rattle.wal_reader.proofs.IntakeLaws.{ends_kept}
 use Rattle.wal_reader.proofs.intake.Intake.hear.Goals as goal
 

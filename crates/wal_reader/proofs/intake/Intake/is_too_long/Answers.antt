@@ -1,6 +1,4 @@
-use Rattle.std.proofs.Common.{ap, arith}
-use Rattle.std.proofs.lemmas.Bool.{ltb-true}
-use Rattle.wal_frame.specs.Stream.{size_in}
+use Rattle.wal_reader.proofs.Common.{ap, arith, ltb-true, size_in}
 use Rattle.wal_reader.proofs.intake.Intake.is_too_long.Goals as goal
 
 pub returns-then-len-ge-HEAD-clause-too_long : goal.returns-then-len-ge-HEAD-clause-too_long

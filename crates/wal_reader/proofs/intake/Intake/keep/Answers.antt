@@ -1,5 +1,4 @@
-use Rattle.std.proofs.Common.{◌≤◌, ◌∙◌, length, take, refl, arith}
-use Rattle.std.proofs.lemmas.List.{length-take-le}
+use Rattle.wal_reader.proofs.Common.{◌≤◌, ◌∙◌, length, take, refl, arith, length-take-le}
 use Rattle.wal_reader.proofs.IntakeLaws.{kept_whole, kept_part, moved, sound_empty}
 use Rattle.wal_reader.proofs.intake.Intake.keep.Goals as goal
 

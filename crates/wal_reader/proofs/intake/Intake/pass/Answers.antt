@@ -1,5 +1,4 @@
-use Rattle.std.proofs.Common.{◌≡◌, ◌-◌, ◌≤◌, length, take, refl, arith}
-use Rattle.std.proofs.lemmas.List.{length-take-le}
+use Rattle.wal_reader.proofs.Common.{◌≡◌, ◌-◌, ◌≤◌, length, take, refl, arith, length-take-le}
 use Rattle.wal_reader.proofs.IntakeLaws.{goes_past, ends_past, moved, sound_empty, taken_bytes}
 use Rattle.wal_reader.proofs.intake.Intake.pass.Goals as goal
 

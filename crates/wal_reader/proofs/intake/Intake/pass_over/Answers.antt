@@ -1,4 +1,4 @@
-use Rattle.std.proofs.Common.{◌≤◌, length, refl, ap, arith}
+use Rattle.wal_reader.proofs.Common.{◌≤◌, length, refl, ap, arith}
 use Rattle.wal_reader.proofs.IntakeLaws.{begins_past, sound_empty}
 use Rattle.wal_reader.proofs.intake.Intake.pass_over.Goals as goal
 

@@ -1,6 +1,5 @@
-use Rattle.std.proofs.Common.{◌++◌, ◌∙◌, List, ℕ, ap, sym, append_assoc, length, arith}
+use Rattle.wal_reader.proofs.Common.{◌++◌, ◌∙◌, List, ℕ, ap, sym, append_assoc, length, arith, err_from_is_err_and}
 use Rattle.std.proofs.lemmas.List.{length-append}
-use Rattle.std.proofs.lemmas.Result.{err_from_is_err_and}
 use Rattle.wal_reader.proofs.IntakeLaws.{refuses_all}
 use Rattle.wal_reader.proofs.intake.Intake.take.Goals as goal
 

@@ -1,7 +1,5 @@
 -- What was taken so far stands before what is left of the piece.
-use Rattle.std.proofs.Common.{◌≡◌, ◌+◌, ◌≤◌, ◌++◌, List, ℕ, length}
-use Rattle.wal_reader.specs.Heard.{IsSettledState}
-use Rattle.wal_reader.specs.inside.Intake.{IsSound, Takes, shown}
+use Rattle.wal_reader.proofs.Common.{◌≡◌, ◌+◌, ◌≤◌, ◌++◌, List, ℕ, length, IsSettledState, IsSound, Takes, shown}
 use Rattle.wal_reader.proofs.intake.Intake.take.Given as goal
 
 abbrev pub invariant-envelopes : goal.invariant-envelopes

@@ -1,5 +1,4 @@
-use Rattle.std.proofs.Common.{Some, refl}
-use Rattle.wal_reader.specs.inside.Intake.{shown}
+use Rattle.wal_reader.proofs.Common.{Some, refl, shown}
 use Rattle.wal_reader.proofs.StandingLaws.{feeds_ok, feeds_err}
 use Rattle.wal_reader.proofs.reader.Reader.feed.Goals as goal
 

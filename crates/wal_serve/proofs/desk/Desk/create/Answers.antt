@@ -1,5 +1,4 @@
-use Rattle.std.proofs.Common.{arith}
-use Rattle.wal_shard.proofs.Sizes.{columns_most}
+use Rattle.wal_serve.proofs.Common.{arith, columns_most}
 use Rattle.wal_serve.proofs.desk.Desk.create.Goals as goal
 
 pub overflow_add-reply_room : goal.overflow_add-reply_room

@@ -1,6 +1,4 @@
-use Rattle.wal_ledger.specs.declared.entry.Kind.TheVariants.{Holds}
-use Rattle.wal_serve.specs.Requests.{Vouched}
-use Rattle.wal_serve.specs.inside.Session.{served}
+use Rattle.wal_serve.proofs.Common.{Holds, Vouched, served}
 use Rattle.wal_serve.proofs.RequestLaws.{entry_row, vouched_not, vouched}
 use Rattle.wal_serve.proofs.session.Session.acknowledge.Goals as goal
 

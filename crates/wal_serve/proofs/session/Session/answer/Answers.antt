@@ -1,7 +1,4 @@
-use Rattle.std.proofs.Common.{Ok}
-use Rattle.wal_frame.specs.Reading.{read_of}
-use Rattle.wal_serve.specs.Answers.{AnswersRead}
-use Rattle.wal_serve.specs.inside.Session.{served}
+use Rattle.wal_serve.proofs.Common.{Ok, read_of, AnswersRead, served}
 use Rattle.wal_serve.proofs.AnswerLaws.{fault_row, says_row}
 use Rattle.wal_serve.proofs.session.Session.answer.Goals as goal
 

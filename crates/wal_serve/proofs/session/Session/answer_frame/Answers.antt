@@ -1,8 +1,5 @@
-use Rattle.std.proofs.Common.{Ok, ap}
+use Rattle.wal_serve.proofs.Common.{Ok, ap, frame_shown, AnswersFrame, served}
 use Rattle.wal_frame.specs.Frame as frame
-use Rattle.wal_frame.specs.Shown.{frame_shown}
-use Rattle.wal_serve.specs.Answers.{AnswersFrame}
-use Rattle.wal_serve.specs.inside.Session.{served}
 use Rattle.wal_serve.proofs.AnswerLaws.{at_frame, put_row, refused_row, says_row}
 use Rattle.wal_serve.proofs.session.Session.answer_frame.Goals as goal
 

@@ -1,9 +1,4 @@
-use Rattle.std.proofs.Common.{Ok, arith}
-use Rattle.wal_frame.specs.Reading.{read_of}
-use Rattle.wal_serve.specs.State.{ServedState}
-use Rattle.wal_serve.specs.Answers.{AnswersRequest}
-use Rattle.wal_serve.specs.inside.Serving.{AnswersInto}
-use Rattle.wal_serve.specs.inside.Session.{served}
+use Rattle.wal_serve.proofs.Common.{Ok, arith, read_of, ServedState, AnswersRequest, AnswersInto, served}
 use Rattle.wal_serve.proofs.AnswerLaws.{looked_into, overlong_into, read_stops, says_row}
 use Rattle.wal_serve.proofs.session.Session.answer_in.Goals as goal
 

@@ -1,8 +1,4 @@
-use Rattle.std.proofs.Common.{refl, [], ◌∷◌, ◌++◌, length}
-use Rattle.wal_store.specs.Contents.{parts_at}
-use Rattle.wal_shard.specs.Holding.{read_reply_of}
-use Rattle.wal_shard.specs.Replying.{room_of}
-use Rattle.wal_serve.specs.Reply.{done, reply_text}
+use Rattle.wal_serve.proofs.Common.{refl, [], ◌∷◌, ◌++◌, length, parts_at, read_reply_of, room_of, done, reply_text}
 use Rattle.wal_serve.proofs.AnswerLaws.{says_replied}
 use Rattle.wal_serve.proofs.session.Session.answer_read.Goals as goal
 

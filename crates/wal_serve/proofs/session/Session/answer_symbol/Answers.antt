@@ -1,6 +1,4 @@
-use Rattle.std.proofs.Common.{refl, [], ◌∷◌, ◌++◌, length}
-use Rattle.wal_shard.specs.Replying.{room_of}
-use Rattle.wal_serve.specs.Reply.{done, reply_text}
+use Rattle.wal_serve.proofs.Common.{refl, [], ◌∷◌, ◌++◌, length, room_of, done, reply_text}
 use Rattle.wal_serve.proofs.AnswerLaws.{says_replied}
 use Rattle.wal_serve.proofs.session.Session.answer_symbol.Goals as goal
 

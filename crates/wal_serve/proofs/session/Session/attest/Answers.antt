@@ -1,6 +1,4 @@
-use Rattle.wal_ledger.specs.declared.entry.Kind.TheVariants.{Denies}
-use Rattle.wal_serve.specs.Requests.{Vouched}
-use Rattle.wal_serve.specs.inside.Session.{served}
+use Rattle.wal_serve.proofs.Common.{Denies, Vouched, served}
 use Rattle.wal_serve.proofs.RequestLaws.{entry_row, vouched_not, vouched}
 use Rattle.wal_serve.proofs.session.Session.attest.Goals as goal
 

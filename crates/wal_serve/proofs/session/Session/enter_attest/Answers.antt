@@ -1,6 +1,4 @@
-use Rattle.wal_ledger.specs.declared.entry.Kind.TheVariants.{Denies}
-use Rattle.wal_serve.specs.Requests.{Entered, of_committee}
-use Rattle.wal_serve.specs.inside.Session.{served}
+use Rattle.wal_serve.proofs.Common.{Denies, Entered, of_committee, served}
 use Rattle.wal_serve.proofs.RequestLaws.{entry_row, entered_none}
 use Rattle.wal_serve.proofs.session.Session.enter_attest.Goals as goal
 

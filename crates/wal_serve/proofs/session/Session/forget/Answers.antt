@@ -1,4 +1,4 @@
-use Rattle.wal_serve.specs.inside.Session.{served}
+use Rattle.wal_serve.proofs.Common.{served}
 use Rattle.wal_serve.proofs.RequestLaws.{forgets_done, forgets_not}
 use Rattle.wal_serve.proofs.session.Session.forget.Goals as goal
 

@@ -1,5 +1,4 @@
-use Rattle.wal_frame.specs.Shown.{frame_shown}
-use Rattle.wal_serve.specs.inside.Session.{served}
+use Rattle.wal_serve.proofs.Common.{frame_shown, served}
 use Rattle.wal_serve.proofs.RequestLaws.{gives_put}
 use Rattle.wal_serve.proofs.session.Session.put.Goals as goal
 

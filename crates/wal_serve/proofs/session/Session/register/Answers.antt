@@ -1,5 +1,4 @@
-use Rattle.wal_serve.specs.Requests.{Registered}
-use Rattle.wal_serve.specs.inside.Session.{served}
+use Rattle.wal_serve.proofs.Common.{Registered, served}
 use Rattle.wal_serve.proofs.RequestLaws.{entry_row}
 use Rattle.wal_serve.proofs.session.Session.register.Goals as goal
 

@@ -1,7 +1,5 @@
 -- One more envelope, and each way in which serving ends.
-use Rattle.std.proofs.Common.{refl, sym, ◌∙◌, arith}
-use Rattle.wal_serve.specs.State.{ServedState}
-use Rattle.wal_serve.specs.Answers.{AnswersRequest}
+use Rattle.wal_serve.proofs.Common.{refl, sym, ◌∙◌, arith, ServedState, AnswersRequest}
 use Rattle.wal_serve.proofs.TakingLaws.{rose_since}
 use Rattle.wal_serve.proofs.ServingLaws.{serving_nothing, envelope_long, serving_more, ends_without, ends_stopped, ends_write_fault, stays_at, stays_on}
 use Rattle.wal_serve.proofs.session.Session.serve_in.Goals as goal

@@ -1,9 +1,6 @@
 -- Whole envelopes were taken and answered, both rooms are as at first, and no count fell.
-use Rattle.std.proofs.Common.{◌≡◌, ◌-◌, ◌≤◌}
-use Rattle.wal_serve.specs.Answers.{AnswersRequest}
+use Rattle.wal_serve.proofs.Common.{◌≡◌, ◌-◌, ◌≤◌, AnswersRequest, IsServing, Stays, served}
 use Rattle.wal_serve.specs.inside.Room.{room_in}
-use Rattle.wal_serve.specs.inside.Serving.{IsServing}
-use Rattle.wal_serve.specs.inside.Session.{Stays, served}
 use Rattle.wal_serve.proofs.session.Session.serve_in.Given as goal
 
 abbrev pub invariant-envelopes : goal.invariant-envelopes

@@ -1,4 +1,4 @@
-use Rattle.std.proofs.Common.{◌≡◌, take}
+use Rattle.wal_shape.proofs.Common.{◌≡◌, take}
 use Rattle.wal_shape.proofs.claim.Claims.duplicate.Given as goal
 
 abbrev pub invariant-loop-claim : goal.invariant-loop-claim

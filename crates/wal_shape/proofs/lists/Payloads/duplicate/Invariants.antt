@@ -1,4 +1,4 @@
-use Rattle.std.proofs.Common.{◌≡◌, take}
+use Rattle.wal_shape.proofs.Common.{◌≡◌, take}
 use Rattle.wal_shape.proofs.lists.Payloads.duplicate.Given as goal
 
 abbrev pub invariant-loop-payload : goal.invariant-loop-payload

@@ -1,6 +1,4 @@
-use Rattle.std.proofs.Common.{length, sym, ap, ◌∙◌}
-use Rattle.wal_shape.specs.MetaRef.{metadata_shown}
-use Rattle.wal_shape.specs.MetadataReading.{spelled_metadata}
+use Rattle.wal_shape.proofs.Common.{length, sym, ap, ◌∙◌, metadata_shown, spelled_metadata}
 use Rattle.wal_shape.proofs.MetadataLaws.{IsMetadata-spelled, length-metadata_text}
 use Rattle.wal_shape.proofs.metadata.MetaRef.bytes.Goals as goal
 

@@ -1,5 +1,4 @@
-use Rattle.std.proofs.Common.{sym, ◌∙◌}
-use Rattle.wal_shape.specs.MetaRef.{metadata_shown}
+use Rattle.wal_shape.proofs.Common.{sym, ◌∙◌, metadata_shown}
 use Rattle.wal_shape.proofs.MetadataLaws.{spelled_metadata-format}
 use Rattle.wal_shape.proofs.metadata.MetaRef.format.Goals as goal
 

@@ -1,6 +1,4 @@
-use Rattle.std.proofs.Common.{sym, ap, ◌∙◌}
-use Rattle.wal_shape.specs.MetaRef.{metadata_shown}
-use Rattle.wal_shape.specs.MetadataReading.{spelled_length}
+use Rattle.wal_shape.proofs.Common.{sym, ap, ◌∙◌, metadata_shown, spelled_length}
 use Rattle.wal_shape.proofs.MetadataLaws.{IsMetadata-spelled, spelled_metadata-length}
 use Rattle.wal_shape.proofs.metadata.MetaRef.length.Goals as goal
 

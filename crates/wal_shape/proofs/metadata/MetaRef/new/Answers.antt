@@ -1,6 +1,4 @@
-use Rattle.std.proofs.Common.{arith}
-use Rattle.std.proofs.lemmas.Bool.{false≢true}
-use Rattle.wal_shape.specs.MetaRef.{metadata_shown}
+use Rattle.wal_shape.proofs.Common.{arith, false≢true, metadata_shown}
 use Rattle.wal_shape.proofs.MetadataLaws.{IsMetadata-spelled, metadata_text-spelled, no_metadata, spelled_by}
 use Rattle.wal_shape.proofs.metadata.MetaRef.new.Goals as goal
 

@@ -1,5 +1,4 @@
-use Rattle.std.proofs.Common.{ℕ, List, Some, sym, ap, ◌∙◌}
-use Rattle.wal_shape.specs.MetaRef.{metadata_shown}
+use Rattle.wal_shape.proofs.Common.{ℕ, List, Some, sym, ap, ◌∙◌, metadata_shown}
 use Rattle.wal_shape.proofs.MetadataLaws.{slice_get-roots_of, root_place-within}
 use Rattle.wal_shape.proofs.metadata.MetaRef.root.Goals as goal
 

@@ -1,7 +1,5 @@
-use Rattle.std.proofs.Common.{◌∙◌, ap, Some, sym}
-use Rattle.wal_shape.specs.MetaRef.{metadata_shown}
+use Rattle.wal_shape.proofs.Common.{◌∙◌, ap, Some, sym, metadata_shown, BlobMetadata}
 use Rattle.wal_shape.proofs.MetadataLaws.{spelled_by}
-use Rattle.wal_shape.specs.Metadata.{BlobMetadata}
 use Rattle.wal_shape.proofs.metadata.Metadata.create.Goals as goal
 
 pub invariant_of-result : goal.invariant_of-result

@@ -1,6 +1,4 @@
-use Rattle.std.proofs.Common.{ap, ◌∙◌}
-use Rattle.wal_shape.specs.MetaRef.{metadata_shown}
-use Rattle.wal_shape.specs.MetadataReading.{spelled_metadata}
+use Rattle.wal_shape.proofs.Common.{ap, ◌∙◌, metadata_shown, spelled_metadata}
 use Rattle.wal_shape.proofs.metadata.Metadata.of.Goals as goal
 
 pub returns : goal.returns

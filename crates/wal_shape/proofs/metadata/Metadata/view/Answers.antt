@@ -1,7 +1,4 @@
-use Rattle.std.proofs.Common.{◌∙◌, ap, subst}
-use Rattle.wal_shape.specs.MetadataReading.{spelled_metadata}
-use Rattle.wal_shape.specs.MetaRef.{metadata_shown}
-use Rattle.wal_shape.specs.Metadata.{IsMetadata}
+use Rattle.wal_shape.proofs.Common.{◌∙◌, ap, subst, spelled_metadata, metadata_shown, IsMetadata}
 use Rattle.wal_shape.proofs.MetadataLaws.{IsMetadata-spelled}
 use Rattle.wal_shape.proofs.metadata.Metadata.view.Goals as goal
 

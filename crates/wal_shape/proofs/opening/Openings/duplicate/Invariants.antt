@@ -1,4 +1,4 @@
-use Rattle.std.proofs.Common.{◌≡◌, take}
+use Rattle.wal_shape.proofs.Common.{◌≡◌, take}
 use Rattle.wal_shape.proofs.opening.Openings.duplicate.Given as goal
 
 abbrev pub invariant-loop-opening : goal.invariant-loop-opening

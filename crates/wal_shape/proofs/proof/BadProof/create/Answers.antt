@@ -1,7 +1,5 @@
-use Rattle.std.proofs.Common.{subst, ap, Some, sym, ◌∙◌}
-use Rattle.wal_shape.specs.inside.ProofReading.{SpellProof}
+use Rattle.wal_shape.proofs.Common.{subst, ap, Some, sym, ◌∙◌, SpellProof, EncodingProof}
 use Rattle.wal_shape.proofs.ProofLaws.{IsProof-spelled, proof_of-spelled}
-use Rattle.wal_shape.specs.EncodingProof.{EncodingProof}
 use Rattle.wal_shape.proofs.proof.BadProof.create.Goals as goal
 
 pub returns-in-Some-clause-proof : goal.returns-in-Some-clause-proof

@@ -1,8 +1,4 @@
-use Rattle.std.proofs.Common.{List, length, refl, sym, ap, subst, ◌∙◌}
-use Rattle.wal_shape.specs.declared.opening.Opening.{Opening}
-use Rattle.wal_shape.specs.declared.proof.Head.{Head}
-use Rattle.wal_shape.specs.EncodingProof.{IsProof}
-use Rattle.wal_shape.specs.ProofReading.{proof_with}
+use Rattle.wal_shape.proofs.Common.{List, length, refl, sym, ap, subst, ◌∙◌, Opening, Head, IsProof, proof_with}
 use Rattle.wal_shape.proofs.ProofLaws.{SpellProof-with}
 use Rattle.wal_shape.proofs.proof.BadProof.of.Goals as goal
 

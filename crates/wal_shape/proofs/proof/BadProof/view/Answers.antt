@@ -1,5 +1,4 @@
-use Rattle.std.proofs.Common.{subst}
-use Rattle.wal_shape.specs.EncodingProof.{IsProof}
+use Rattle.wal_shape.proofs.Common.{subst, IsProof}
 use Rattle.wal_shape.proofs.ProofLaws.{IsProof-spelled}
 use Rattle.wal_shape.proofs.proof.BadProof.view.Goals as goal
 

@@ -1,5 +1,4 @@
-use Rattle.std.proofs.Common.{sym}
-use Rattle.wal_shape.specs.ProofRef.{proof_shown}
+use Rattle.wal_shape.proofs.Common.{sym, proof_shown}
 use Rattle.wal_shape.proofs.proof.ProofRef.bytes.Goals as goal
 
 pub returns : goal.returns

@@ -1,5 +1,4 @@
-use Rattle.std.proofs.Common.{[], drop, sym}
-use Rattle.wal_shape.specs.ProofRef.{proof_shown}
+use Rattle.wal_shape.proofs.Common.{[], drop, sym, proof_shown}
 use Rattle.wal_shape.proofs.ProofLaws.{IsProof-spelled, length-openings_in}
 use Rattle.wal_shape.proofs.proof.ProofRef.count.Goals as goal
 

@@ -1,5 +1,4 @@
-use Rattle.std.proofs.Common.{refl}
-use Rattle.wal_shape.specs.ProofRef.{proof_shown}
+use Rattle.wal_shape.proofs.Common.{refl, proof_shown}
 use Rattle.wal_shape.proofs.ProofLaws.{IsProof-spelled}
 use Rattle.wal_shape.proofs.proof.ProofRef.index.Goals as goal
 

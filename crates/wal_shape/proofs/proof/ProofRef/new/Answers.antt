@@ -1,4 +1,4 @@
-use Rattle.wal_shape.specs.ProofRef.{proof_shown}
+use Rattle.wal_shape.proofs.Common.{proof_shown}
 use Rattle.wal_shape.proofs.ProofLaws.{IsProof-spelled, proof_of-spelled}
 use Rattle.wal_shape.proofs.proof.ProofRef.new.Goals as goal
 

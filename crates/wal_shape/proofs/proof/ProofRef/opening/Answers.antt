@@ -1,5 +1,4 @@
-use Rattle.std.proofs.Common.{[], drop}
-use Rattle.wal_shape.specs.ProofRef.{proof_shown}
+use Rattle.wal_shape.proofs.Common.{[], drop, proof_shown}
 use Rattle.wal_shape.proofs.ProofLaws.{length-head, length-openings_in}
 use Rattle.wal_shape.proofs.proof.ProofRef.opening.Goals as goal
 

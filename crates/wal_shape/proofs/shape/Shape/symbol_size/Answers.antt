@@ -1,5 +1,4 @@
-use Rattle.std.proofs.Common.{arith, rules}
-use Rattle.wal_shape.specs.Shape.{symbol_size}
+use Rattle.wal_shape.proofs.Common.{arith, rules, symbol_size}
 use Rattle.wal_shape.proofs.ShapeLaws.{symbol_size-least, matrix_bytes-bound}
 use Rattle.wal_shape.proofs.shape.Shape.symbol_size.Goals as goal
 

@@ -1,7 +1,4 @@
-use Rattle.std.proofs.Common.{rules, ◌≡◌}
-use Rattle.wal_shape.specs.MetaRef.{metadata_shown}
-use Rattle.wal_shape.specs.Spelling.{metadata_text}
-use Rattle.wal_store.specs.Contents.{parts_at}
+use Rattle.wal_shard.proofs.Common.{rules, ◌≡◌, metadata_shown, metadata_text, parts_at}
 use Rattle.wal_shard.proofs.Pieces.{another}
 use Rattle.wal_shard.proofs.shard.Shard.compare.Goals as goal
 

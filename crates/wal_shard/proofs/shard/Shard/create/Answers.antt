@@ -1,5 +1,4 @@
-use Rattle.std.proofs.Common.{sym, subst}
-use Rattle.wal_shard.specs.State.{AreSound}
+use Rattle.wal_shard.proofs.Common.{sym, subst, AreSound}
 use Rattle.wal_shard.proofs.Soundness.{empty_sound}
 use Rattle.wal_shard.proofs.shard.Shard.create.Goals as goal
 

@@ -1,6 +1,4 @@
-use Rattle.std.proofs.Common.{rules, ◌≡◌, sym, subst}
-use Rattle.wal_shard.specs.Vouching.{without_slivers}
-use Rattle.wal_shard.specs.State.{AreSound}
+use Rattle.wal_shard.proofs.Common.{rules, ◌≡◌, sym, subst, without_slivers, AreSound}
 use Rattle.wal_shard.proofs.Soundness.{without_slivers_sound}
 use Rattle.wal_shard.proofs.shard.Shard.drop_slivers.Goals as goal
 

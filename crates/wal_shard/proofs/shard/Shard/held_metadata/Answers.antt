@@ -1,5 +1,4 @@
-use Rattle.std.proofs.Common.{ap, ◌∙◌, List, ℕ, [], Option, unwrap_or}
-use Rattle.wal_shape.specs.MetaRef.{metadata_shown}
+use Rattle.wal_shard.proofs.Common.{ap, ◌∙◌, List, ℕ, [], Option, unwrap_or, metadata_shown}
 use Rattle.wal_shard.proofs.HeldLaws.{own_metadata, read_own}
 use Rattle.wal_shard.proofs.shard.Shard.held_metadata.Goals as goal
 

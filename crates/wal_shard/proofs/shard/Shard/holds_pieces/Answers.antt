@@ -1,5 +1,4 @@
-use Rattle.std.proofs.Common.{rules, ◌≡◌, ◌+◌, ◌≤◌, [], length, take, drop, unwrap_or}
-use Rattle.wal_store.specs.Contents.{part_at}
+use Rattle.wal_shard.proofs.Common.{rules, ◌≡◌, ◌+◌, ◌≤◌, [], length, take, drop, unwrap_or, part_at}
 use Rattle.wal_shard.proofs.Pieces.{same_more}
 use Rattle.wal_shard.proofs.shard.Shard.holds_pieces.Goals as goal
 

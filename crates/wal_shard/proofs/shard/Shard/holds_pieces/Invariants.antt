@@ -1,5 +1,4 @@
-use Rattle.std.proofs.Common.{◌≡◌, ◌≤◌, ◌-◌, [], length, take, unwrap_or}
-use Rattle.wal_store.specs.Contents.{part_at}
+use Rattle.wal_shard.proofs.Common.{◌≡◌, ◌≤◌, ◌-◌, [], length, take, unwrap_or, part_at}
 use Rattle.wal_shard.proofs.shard.Shard.holds_pieces.Given as goal
 
 abbrev pub invariant-pieces : goal.invariant-pieces

@@ -1,7 +1,4 @@
-use Rattle.std.proofs.Common.{rules, ◌≡◌, None, sym, subst}
-use Rattle.wal_store.specs.Contents.{part_at}
-use Rattle.wal_shard.specs.Keeping.{kept}
-use Rattle.wal_shard.specs.State.{AreSound, ShardState}
+use Rattle.wal_shard.proofs.Common.{rules, ◌≡◌, None, sym, subst, part_at, kept, AreSound, ShardState}
 use Rattle.wal_shard.proofs.KeepLaws.{after_keep}
 use Rattle.wal_shard.proofs.shard.Shard.keep_part.Goals as goal
 

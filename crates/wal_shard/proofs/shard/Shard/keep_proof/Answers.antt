@@ -1,6 +1,4 @@
-use Rattle.std.proofs.Common.{ap, length, arith}
-use Rattle.wal_shape.specs.MetaRef.{metadata_shown}
-use Rattle.wal_shape.specs.ProofRef.{proof_shown}
+use Rattle.wal_shard.proofs.Common.{ap, length, arith, metadata_shown, proof_shown}
 use Rattle.wal_shard.proofs.Sizes.{proof_some, proof_short}
 use Rattle.wal_shard.proofs.KeepLaws.{kept_metadata_sound, kept_proof_sound, kept_held}
 use Rattle.wal_shard.proofs.shard.Shard.keep_proof.Goals as goal

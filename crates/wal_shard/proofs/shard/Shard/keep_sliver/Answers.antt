@@ -1,4 +1,4 @@
-use Rattle.wal_shape.specs.MetaRef.{metadata_shown}
+use Rattle.wal_shard.proofs.Common.{metadata_shown}
 use Rattle.wal_shard.proofs.Sizes.{sliver_least, sliver_short}
 use Rattle.wal_shard.proofs.KeepLaws.{kept_metadata_sound, kept_sliver_sound, kept_held}
 use Rattle.wal_shard.proofs.shard.Shard.keep_sliver.Goals as goal

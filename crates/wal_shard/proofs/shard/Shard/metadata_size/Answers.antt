@@ -1,4 +1,4 @@
-use Rattle.std.proofs.Common.{arith}
+use Rattle.wal_shard.proofs.Common.{arith}
 use Rattle.wal_shard.proofs.HeldLaws.{metadata_short}
 use Rattle.wal_shard.proofs.shard.Shard.metadata_size.Goals as goal
 

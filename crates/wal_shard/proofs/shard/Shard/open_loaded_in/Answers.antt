@@ -1,9 +1,4 @@
-use Rattle.std.proofs.Common.{◌≡◌, ◌<◌, ap, ◌∙◌, arith}
-use Rattle.wal_shape.specs.MetaRef.{metadata_shown}
-use Rattle.wal_shape.specs.Shape.{shard_count, crossing}
-use Rattle.wal_shape.specs.Metadata.{held_index}
-use Rattle.wal_shard.specs.Holding.{given}
-use Rattle.wal_shard.specs.State.{ShardState}
+use Rattle.wal_shard.proofs.Common.{◌≡◌, ◌<◌, ap, ◌∙◌, arith, metadata_shown, shard_count, crossing, held_index, given, ShardState}
 use Rattle.wal_shard.proofs.ReplyLaws.{own_opening_fits}
 use Rattle.wal_shard.proofs.shard.Shard.open_loaded_in.Goals as goal
 

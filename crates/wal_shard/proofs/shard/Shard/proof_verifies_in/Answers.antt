@@ -1,7 +1,4 @@
-use Rattle.std.proofs.Common.{rules, ◌≡◌, Some}
-use Rattle.wal_shape.specs.MetaRef.{metadata_shown}
-use Rattle.wal_shape.specs.ProofRef.{proof_shown}
-use Rattle.wal_store.specs.Contents.{parts_at}
+use Rattle.wal_shard.proofs.Common.{rules, ◌≡◌, Some, metadata_shown, proof_shown, parts_at}
 use Rattle.wal_shard.proofs.HeldLaws.{held_proof_verifies, proof_fit, proof_verified}
 use Rattle.wal_shard.proofs.shard.Shard.proof_verifies_in.Goals as goal
 

@@ -1,6 +1,4 @@
-use Rattle.std.proofs.Common.{rules}
-use Rattle.wal_shape.specs.MetaRef.{metadata_shown}
-use Rattle.wal_shard.specs.State.{desk}
+use Rattle.wal_shard.proofs.Common.{rules, metadata_shown, desk}
 use Rattle.wal_shard.proofs.Soundness.{metadata_sound}
 use Rattle.wal_shard.proofs.PutLaws.{compared_puts}
 use Rattle.wal_shard.proofs.shard.Shard.put_metadata.Goals as goal

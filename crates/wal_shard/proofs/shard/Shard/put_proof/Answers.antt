@@ -1,8 +1,4 @@
-use Rattle.std.proofs.Common.{rules, ap, length, arith}
-use Rattle.wal_shape.specs.ProofRef.{proof_shown}
-use Rattle.wal_store.specs.Contents.{parts_at}
-use Rattle.wal_frame.specs.Frame.{Proof}
-use Rattle.wal_shard.specs.Putting.{Verifies}
+use Rattle.wal_shard.proofs.Common.{rules, ap, length, arith, proof_shown, parts_at, Proof, Verifies}
 use Rattle.wal_shard.proofs.Sizes.{proof_some, proof_short}
 use Rattle.wal_shard.proofs.HeldLaws.{proof_fit, proof_then}
 use Rattle.wal_shard.proofs.shard.Shard.put_proof.Goals as goal

@@ -1,7 +1,4 @@
-use Rattle.std.proofs.Common.{rules}
-use Rattle.wal_store.specs.Contents.{parts_at}
-use Rattle.wal_frame.specs.Frame.{Sliver}
-use Rattle.wal_shard.specs.Putting.{Verifies}
+use Rattle.wal_shard.proofs.Common.{rules, parts_at, Sliver, Verifies}
 use Rattle.wal_shard.proofs.Sizes.{sliver_least}
 use Rattle.wal_shard.proofs.HeldLaws.{sliver_then, verified_short}
 use Rattle.wal_shard.proofs.shard.Shard.put_sliver.Goals as goal

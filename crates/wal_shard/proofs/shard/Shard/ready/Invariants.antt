@@ -1,8 +1,4 @@
-use Rattle.std.proofs.Common.{◌≡◌, ℕ, ◌<◌, true, Some, slice_get}
-use Rattle.wal_shape.specs.declared.metadata.BlobId.{BlobId}
-use Rattle.wal_store.specs.Contents.{parts_at}
-use Rattle.wal_ledger.specs.Ledger.{MustHold, live_ids}
-use Rattle.wal_shard.specs.Holding.{settled}
+use Rattle.wal_shard.proofs.Common.{◌≡◌, ℕ, ◌<◌, true, Some, slice_get, BlobId, parts_at, MustHold, live_ids, settled}
 use Rattle.wal_shard.proofs.shard.Shard.ready.Given as goal
 
 abbrev pub invariant-loop-place : goal.invariant-loop-place

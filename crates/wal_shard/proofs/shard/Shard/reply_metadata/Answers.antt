@@ -1,7 +1,4 @@
-use Rattle.std.proofs.Common.{rules, ◌≡◌, ◌++◌, ◌∷◌, IsSome, [], length, unwrap_or, arith}
-use Rattle.wal_shape.specs.MetadataReading.{spelled_metadata}
-use Rattle.wal_store.specs.Contents.{parts_at}
-use Rattle.wal_frame.specs.Frame.{metadata_frame}
+use Rattle.wal_shard.proofs.Common.{rules, ◌≡◌, ◌++◌, ◌∷◌, IsSome, [], length, unwrap_or, arith, spelled_metadata, parts_at, metadata_frame}
 use Rattle.wal_shard.proofs.HeldLaws.{metadata_fits, metadata_long}
 use Rattle.wal_shard.proofs.ReplyLaws.{writes_held, metadata_frame_is}
 use Rattle.wal_shard.proofs.shard.Shard.reply_metadata.Goals as goal

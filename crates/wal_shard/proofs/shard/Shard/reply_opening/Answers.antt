@@ -1,9 +1,4 @@
-use Rattle.std.proofs.Common.{rules, ◌≡◌, IsSome, [], length, unwrap_or, arith}
-use Rattle.wal_shape.specs.Shape.{crossing}
-use Rattle.wal_store.specs.Parts.{part_of}
-use Rattle.wal_store.specs.Contents.{parts_at}
-use Rattle.wal_shape.specs.Part.{sliver_part}
-use Rattle.wal_shard.specs.Holding.{not_held, no_shard}
+use Rattle.wal_shard.proofs.Common.{rules, ◌≡◌, IsSome, [], length, unwrap_or, arith, crossing, part_of, parts_at, sliver_part, not_held, no_shard}
 use Rattle.wal_shard.proofs.HeldLaws.{own_metadata, beside, sliver_fits}
 use Rattle.wal_shard.proofs.ReplyLaws.{writes_none, too_many}
 use Rattle.wal_shard.proofs.shard.Shard.reply_opening.Goals as goal

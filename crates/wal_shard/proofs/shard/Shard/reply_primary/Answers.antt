@@ -1,6 +1,4 @@
-use Rattle.std.proofs.Common.{rules, ◌≡◌, [], length, unwrap_or, arith}
-use Rattle.wal_shape.specs.declared.axis.Axis.TheVariants.{Primary}
-use Rattle.wal_store.specs.Contents.{parts_at}
+use Rattle.wal_shard.proofs.Common.{rules, ◌≡◌, [], length, unwrap_or, arith, Primary, parts_at}
 use Rattle.wal_shard.proofs.HeldLaws.{sliver_fits}
 use Rattle.wal_shard.proofs.shard.Shard.reply_primary.Goals as goal
 

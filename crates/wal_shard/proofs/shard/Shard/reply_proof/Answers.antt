@@ -1,5 +1,4 @@
-use Rattle.std.proofs.Common.{rules, ◌≡◌, [], length, unwrap_or, arith}
-use Rattle.wal_store.specs.Contents.{parts_at}
+use Rattle.wal_shard.proofs.Common.{rules, ◌≡◌, [], length, unwrap_or, arith, parts_at}
 use Rattle.wal_shard.proofs.HeldLaws.{proof_fits}
 use Rattle.wal_shard.proofs.shard.Shard.reply_proof.Goals as goal
 

@@ -1,7 +1,4 @@
-use Rattle.std.proofs.Common.{rules, ◌≡◌, Some, IsTrue, nat_eq}
-use Rattle.wal_shape.specs.MetaRef.{metadata_shown}
-use Rattle.wal_store.specs.Parts.{part_of}
-use Rattle.wal_store.specs.Contents.{parts_at}
+use Rattle.wal_shard.proofs.Common.{rules, ◌≡◌, Some, IsTrue, nat_eq, metadata_shown, part_of, parts_at}
 use Rattle.wal_shard.proofs.HeldLaws.{held_verifies, sliver_verified, sliver_misplaced}
 use Rattle.wal_shard.proofs.shard.Shard.sliver_verifies_in.Goals as goal
 

@@ -1,8 +1,4 @@
-use Rattle.std.proofs.Common.{Some, sym, subst}
-use Rattle.wal_store.specs.Parts.{with_part}
-use Rattle.wal_store.specs.Contents.{parts_at}
-use Rattle.wal_shard.specs.Holding.{IsSound}
-use Rattle.wal_shard.specs.State.{ShardState}
+use Rattle.wal_shard.proofs.Common.{Some, sym, subst, with_part, parts_at, IsSound, ShardState}
 use Rattle.wal_shard.proofs.Soundness.{after_put}
 use Rattle.wal_shard.proofs.shard.Shard.store.Goals as goal
 

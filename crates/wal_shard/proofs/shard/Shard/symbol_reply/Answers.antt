@@ -1,4 +1,4 @@
-use Rattle.std.proofs.Common.{refl}
+use Rattle.wal_shard.proofs.Common.{refl}
 use Rattle.wal_shard.proofs.ReplyLaws.{writes_three}
 use Rattle.wal_shard.proofs.shard.Shard.symbol_reply.Goals as goal
 

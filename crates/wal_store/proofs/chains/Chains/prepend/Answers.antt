@@ -1,5 +1,4 @@
-use Rattle.std.proofs.Common.{ap}
-use Rattle.wal_pool.proofs.PageLaws.{count-take}
+use Rattle.wal_store.proofs.Common.{ap, count-take}
 use Rattle.wal_store.proofs.chains.Chains.prepend.Goals as goal
 
 pub returns-clause-free : goal.returns-clause-free

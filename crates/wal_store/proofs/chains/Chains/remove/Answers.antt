@@ -1,5 +1,4 @@
-use Rattle.std.proofs.Common.{ap, arith}
-use Rattle.wal_pool.proofs.PageLaws.{count-give}
+use Rattle.wal_store.proofs.Common.{ap, arith, count-give}
 use Rattle.wal_store.proofs.ChainLaws.{taken_is}
 use Rattle.wal_store.proofs.chains.Chains.remove.Goals as goal
 

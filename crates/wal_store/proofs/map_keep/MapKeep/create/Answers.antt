@@ -1,7 +1,4 @@
-use Rattle.std.proofs.Common.{◌∙◌, ap, option_map}
-use Rattle.std.specs.FinMap.{from_sorted}
-use Rattle.wal_store.specs.declared.map_keep.Budget.{Budget}
-use Rattle.wal_shape.specs.Identifiers.{id_cmp}
+use Rattle.wal_store.proofs.Common.{◌∙◌, ap, option_map, from_sorted, Budget, id_cmp}
 use Rattle.wal_store.proofs.EntriesLaws.{empty_view}
 use Rattle.wal_store.proofs.StockLaws.{store_is, unused_limit}
 use Rattle.wal_store.proofs.map_keep.MapKeep.create.Goals as goal

@@ -1,4 +1,4 @@
-use Rattle.std.proofs.Common.{◌≡◌, ◌∙◌, [], ◌+◌, ◌-◌, subst, ap, length, unwrap_or, IsSome, arith, rules}
+use Rattle.wal_store.proofs.Common.{◌≡◌, ◌∙◌, [], ◌+◌, ◌-◌, subst, ap, length, unwrap_or, IsSome, arith, rules}
 use Rattle.wal_store.proofs.StockLaws.{shows_of, shown_held}
 use Rattle.wal_store.proofs.map_keep.MapKeepKeep.copy.Goals as goal
 

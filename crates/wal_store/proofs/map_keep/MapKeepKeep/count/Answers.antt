@@ -1,4 +1,4 @@
-use Rattle.std.proofs.Common.{◌∙◌, ap}
+use Rattle.wal_store.proofs.Common.{◌∙◌, ap}
 use Rattle.wal_store.proofs.StockLaws.{shows_of, shown_len, shown_budget, budget_most}
 use Rattle.wal_store.proofs.map_keep.MapKeepKeep.count.Goals as goal
 

@@ -1,5 +1,4 @@
-use Rattle.std.proofs.Common.{arith}
-use Rattle.wal_store.specs.inside.Entries.{cost_in}
+use Rattle.wal_store.proofs.Common.{arith, cost_in}
 use Rattle.wal_store.proofs.HeldLaws.{remove_cost, kept_remove}
 use Rattle.wal_store.proofs.StockLaws.{shows_of, shown_remove, recharged_less}
 use Rattle.wal_store.proofs.map_keep.MapKeepKeep.drop_id.Goals as goal

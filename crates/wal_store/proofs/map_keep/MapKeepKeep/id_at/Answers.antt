@@ -1,4 +1,4 @@
-use Rattle.std.proofs.Common.{arith}
+use Rattle.wal_store.proofs.Common.{arith}
 use Rattle.wal_store.proofs.StockLaws.{shows_of, shown_len, shown_keys, shown_kept}
 use Rattle.wal_store.proofs.map_keep.MapKeepKeep.id_at.Goals as goal
 

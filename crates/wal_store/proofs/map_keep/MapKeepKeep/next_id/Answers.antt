@@ -1,4 +1,4 @@
-use Rattle.std.proofs.Common.{◌∙◌}
+use Rattle.wal_store.proofs.Common.{◌∙◌}
 use Rattle.wal_store.proofs.StockLaws.{shows_of}
 use Rattle.wal_store.proofs.NextLaws.{shown_next, next_kept}
 use Rattle.wal_store.proofs.map_keep.MapKeepKeep.next_id.Goals as goal

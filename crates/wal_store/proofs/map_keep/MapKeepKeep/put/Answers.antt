@@ -1,6 +1,4 @@
-use Rattle.std.proofs.Common.{◌≡◌, ◌∙◌, ◌+◌, Err, true, sym, ap, arith, subst, Option, ℕ}
-use Rattle.wal_store.specs.Answer.{IsPutAnswer}
-use Rattle.wal_store.specs.inside.Entries.{cost_in}
+use Rattle.wal_store.proofs.Common.{◌≡◌, ◌∙◌, ◌+◌, Err, true, sym, ap, arith, subst, Option, ℕ, IsPutAnswer, cost_in}
 use Rattle.wal_store.proofs.HeldLaws.{put_cost, kept_put}
 use Rattle.wal_store.proofs.StockLaws.{shows_of, shown_held, shown_cost, shown_needed, shown_put, has_room, answer_room, answer_full, recharge_more, recharged_within}
 use Rattle.wal_store.proofs.map_keep.MapKeepKeep.put.Goals as goal

@@ -1,4 +1,4 @@
-use Rattle.std.proofs.Common.{◌≡◌, length, arith}
+use Rattle.wal_store.proofs.Common.{◌≡◌, length, arith}
 use Rattle.wal_store.proofs.OrderedLaws.{no_order}
 use Rattle.wal_store.proofs.ordered.OrderedRows.create.Goals as goal
 

@@ -1,4 +1,4 @@
-use Rattle.std.proofs.Common.{◌∙◌, ◌++◌, ap, arith, insert, option_to_list, length-set}
+use Rattle.wal_store.proofs.Common.{◌∙◌, ◌++◌, ap, arith, insert, option_to_list, length-set}
 use Rattle.wal_store.proofs.OrderedLaws.{last_within, row_put}
 use Rattle.wal_store.proofs.ordered.OrderedRows.insert.Goals as goal
 

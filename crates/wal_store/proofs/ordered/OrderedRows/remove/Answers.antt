@@ -1,4 +1,4 @@
-use Rattle.std.proofs.Common.{◌∙◌, get_or, ap, arith, remove}
+use Rattle.wal_store.proofs.Common.{◌∙◌, get_or, ap, arith, remove}
 use Rattle.wal_store.proofs.OrderedLaws.{number_at, row_there, row_gone}
 use Rattle.wal_store.proofs.ordered.OrderedRows.remove.Goals as goal
 

@@ -1,4 +1,4 @@
-use Rattle.std.proofs.Common.{◌∙◌, get_or, ap, arith}
+use Rattle.wal_store.proofs.Common.{◌∙◌, get_or, ap, arith}
 use Rattle.wal_store.proofs.OrderedLaws.{number_at, row_there}
 use Rattle.wal_store.proofs.ordered.OrderedRows.row.Goals as goal
 

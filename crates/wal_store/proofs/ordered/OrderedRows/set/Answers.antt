@@ -1,4 +1,4 @@
-use Rattle.std.proofs.Common.{◌∙◌, slice_set, ap, arith}
+use Rattle.wal_store.proofs.Common.{◌∙◌, slice_set, ap, arith}
 use Rattle.wal_store.proofs.OrderedLaws.{number_at, row_set}
 use Rattle.wal_store.proofs.ordered.OrderedRows.set.Goals as goal
 

@@ -1,7 +1,4 @@
-use Rattle.std.proofs.Common.{◌∙◌, refl, ap, arith}
-use Rattle.std.specs.FinMap.{from_sorted}
-use Rattle.wal_shape.specs.Identifiers.{id_cmp}
-use Rattle.wal_store.specs.inside.Rows.{entries_of}
+use Rattle.wal_store.proofs.Common.{◌∙◌, refl, ap, arith, from_sorted, id_cmp, entries_of}
 use Rattle.wal_store.proofs.EntriesLaws.{empty_view}
 use Rattle.wal_store.proofs.StockLaws.{store_is}
 use Rattle.wal_store.proofs.KeptLaws.{new_table}

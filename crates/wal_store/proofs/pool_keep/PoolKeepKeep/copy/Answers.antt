@@ -1,4 +1,4 @@
-use Rattle.std.proofs.Common.{IsSome, subst}
+use Rattle.wal_store.proofs.Common.{IsSome, subst}
 use Rattle.wal_store.proofs.KeptLaws.{entries_sorted}
 use Rattle.wal_store.proofs.StockLaws.{shows_of, shown_held}
 use Rattle.wal_store.proofs.pool_keep.PoolKeepKeep.copy.Goals as goal

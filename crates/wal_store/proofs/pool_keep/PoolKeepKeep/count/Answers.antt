@@ -1,4 +1,4 @@
-use Rattle.std.proofs.Common.{◌∙◌, Some, sym, ap, rules, arith, ◌≡◌, ◌≤◌, ℕ}
+use Rattle.wal_store.proofs.Common.{◌∙◌, Some, sym, ap, rules, arith, ◌≡◌, ◌≤◌, ℕ}
 use Rattle.wal_store.proofs.KeptLaws.{entries_sorted, rows_fit, length-entries_of}
 use Rattle.wal_store.proofs.StockLaws.{shows_of, shown_len, shown_budget}
 use Rattle.wal_store.proofs.pool_keep.PoolKeepKeep.count.Goals as goal

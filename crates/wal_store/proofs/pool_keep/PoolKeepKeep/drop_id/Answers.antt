@@ -1,4 +1,4 @@
-use Rattle.std.proofs.Common.{◌∙◌, arith}
+use Rattle.wal_store.proofs.Common.{◌∙◌, arith}
 use Rattle.wal_store.proofs.HeldLaws.{kept_remove}
 use Rattle.wal_store.proofs.KeptLaws.{entries_sorted}
 use Rattle.wal_store.proofs.StockLaws.{shows_of, shown_remove}

@@ -1,6 +1,4 @@
-use Rattle.std.proofs.Common.{◌≡◌, ◌<◌, Some, length, slice_get, arith}
-use Rattle.std.specs.Map.{keys_of}
-use Rattle.wal_store.specs.inside.Rows.{entries_of}
+use Rattle.wal_store.proofs.Common.{◌≡◌, ◌<◌, Some, length, slice_get, arith, keys_of, entries_of}
 use Rattle.wal_store.proofs.KeptLaws.{entries_sorted, length-entries_of}
 use Rattle.wal_store.proofs.TableLaws.{keys_of-entries_of}
 use Rattle.wal_store.proofs.NextLaws.{id_at}

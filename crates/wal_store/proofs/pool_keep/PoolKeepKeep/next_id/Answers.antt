@@ -1,4 +1,4 @@
-use Rattle.std.proofs.Common.{◌∙◌}
+use Rattle.wal_store.proofs.Common.{◌∙◌}
 use Rattle.wal_store.proofs.KeptLaws.{entries_sorted}
 use Rattle.wal_store.proofs.TableLaws.{keys_of-entries_of}
 use Rattle.wal_store.proofs.StockLaws.{shows_of}

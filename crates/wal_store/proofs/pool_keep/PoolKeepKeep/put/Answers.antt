@@ -1,5 +1,4 @@
-use Rattle.std.proofs.Common.{◌≡◌, ◌∙◌, ◌-◌, Some, length, sym, ap, arith}
-use Rattle.wal_store.specs.Contents.{cost}
+use Rattle.wal_store.proofs.Common.{◌≡◌, ◌∙◌, ◌-◌, Some, length, sym, ap, arith, cost}
 use Rattle.wal_store.proofs.HeldLaws.{kept_put}
 use Rattle.wal_store.proofs.KeptLaws.{entries_sorted, rows_fit}
 use Rattle.wal_store.proofs.ChainLaws.{pages_hold}

@@ -1,4 +1,4 @@
-use Rattle.std.proofs.Common.{arith}
+use Rattle.wal_store.proofs.Common.{arith}
 use Rattle.wal_store.proofs.TokenLaws.{token_within, token_read}
 use Rattle.wal_store.proofs.shelf.Shelf.bytes.Goals as goal
 

@@ -1,5 +1,4 @@
-use Rattle.std.proofs.Common.{◌≡◌, ℕ, List, ◌<◌, length, slice_index_or, sym, subst}
-use Rattle.wal_pool.specs.Pages.{PageState, Free}
+use Rattle.wal_store.proofs.Common.{◌≡◌, ℕ, List, ◌<◌, length, slice_index_or, sym, subst, PageState, Free}
 use Rattle.wal_store.proofs.TokenLaws.{all_none}
 use Rattle.wal_store.proofs.shelf.Shelf.close.Goals as goal
 

@@ -1,5 +1,4 @@
-use Rattle.std.proofs.Common.{◌≡◌, slice_set, arith}
-use Rattle.wal_pool.specs.Pages.{Free}
+use Rattle.wal_store.proofs.Common.{◌≡◌, slice_set, arith, Free}
 use Rattle.wal_store.proofs.TokenLaws.{token_within, token_read, token_changed}
 use Rattle.wal_store.proofs.shelf.Shelf.give.Goals as goal
 

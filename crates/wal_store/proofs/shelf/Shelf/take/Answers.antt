@@ -1,5 +1,4 @@
-use Rattle.std.proofs.Common.{sym, arith}
-use Rattle.wal_pool.specs.Pages.{Taken}
+use Rattle.wal_store.proofs.Common.{sym, arith, Taken}
 use Rattle.wal_store.proofs.TokenLaws.{token_within, token_read, token_changed, written}
 use Rattle.wal_store.proofs.shelf.Shelf.take.Goals as goal
 

@@ -1,6 +1,4 @@
-use Rattle.std.proofs.Common.{ℕ, ◌*◌, ◌∷◌, List, length, ap, subst, ◌∙◌, refl, arith}
-use Rattle.wal_lanes.specs.Pieces.{AreDigests}
-use Rattle.wal_lanes.proofs.Parts.{piece_within}
+use Rattle.wal_tree.proofs.Common.{ℕ, ◌*◌, ◌∷◌, List, length, ap, subst, ◌∙◌, refl, arith, AreDigests, piece_within}
 use Rattle.wal_lanes.proofs.Written.{are_more, are_none}
 use Rattle.wal_tree.proofs.hash.Hash32.digest_pieces.Goals as goal
 

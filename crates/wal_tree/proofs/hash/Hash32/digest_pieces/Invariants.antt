@@ -1,4 +1,4 @@
-use Rattle.wal_lanes.specs.Pieces.{AreDigests}
+use Rattle.wal_tree.proofs.Common.{AreDigests}
 use Rattle.wal_tree.proofs.hash.Hash32.digest_pieces.Given as goal
 
 abbrev pub invariant-each : goal.invariant-each

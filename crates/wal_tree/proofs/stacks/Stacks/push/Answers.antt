@@ -1,7 +1,4 @@
-use Rattle.std.proofs.Common.{◌<◌, map, subst, sym}
-use Rattle.std.proofs.lemmas.Result.{on_ok_weaker}
-use Rattle.wal_tree.specs.Stacks.{StacksState, StandsFor, entry_of, row_stack}
-use Rattle.wal_tree.specs.inside.Stacks.{column_bytes}
+use Rattle.wal_tree.proofs.Common.{◌<◌, map, subst, sym, on_ok_weaker, StacksState, StandsFor, entry_of, row_stack, column_bytes}
 use Rattle.wal_tree.proofs.Columns.{stands_more}
 use Rattle.wal_tree.proofs.stacks.Stacks.push.Goals as goal
 

@@ -1,4 +1,4 @@
-use Rattle.std.proofs.Common.{sym}
+use Rattle.wal_world.proofs.Common.{sym}
 use Rattle.wal_world.proofs.Placing.{shard_at, placed_by}
 use Rattle.wal_world.proofs.members.Members.keep_sliver.Goals as goal
 

@@ -1,4 +1,4 @@
-use Rattle.wal_frame.specs.Shown.{frame_shown}
+use Rattle.wal_world.proofs.Common.{frame_shown}
 use Rattle.wal_world.proofs.Placing.{placed_by}
 use Rattle.wal_world.proofs.Puts.{put_by}
 use Rattle.wal_world.proofs.members.Members.put.Goals as goal

@@ -1,8 +1,5 @@
-use Rattle.std.proofs.Common.{◌∙◌, ap, sym}
+use Rattle.wal_world.proofs.Common.{◌∙◌, ap, sym, backs, world_of, held, side_of, writing_side}
 use Rattle.wal_ledger.specs.declared.entry.Kind.TheVariants.{Denies, Holds}
-use Rattle.wal_shard.specs.Vouching.{backs}
-use Rattle.wal_world.specs.inside.Network.{world_of}
-use Rattle.wal_protocol.specs.State.{held, side_of, writing_side}
 use Rattle.wal_protocol.proofs.Vouched.{vouched}
 use Rattle.wal_world.proofs.network.Network.backs.Goals as goal
 

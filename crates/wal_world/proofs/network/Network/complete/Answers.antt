@@ -1,10 +1,5 @@
-use Rattle.std.proofs.Common.{ℕ, Some, sym, ap, subst}
+use Rattle.wal_world.proofs.Common.{ℕ, Some, sym, ap, subst, id_cmp, First, verdict_of, IsBackedBy, world_of}
 use Rattle.std.specs.FinMap as finmap
-use Rattle.wal_shape.specs.Identifiers.{id_cmp}
-use Rattle.wal_protocol.specs.declared.first.First.{First}
-use Rattle.wal_protocol.specs.State.{verdict_of}
-use Rattle.wal_theorem.specs.Instance.{IsBackedBy}
-use Rattle.wal_world.specs.inside.Network.{world_of}
 use Rattle.wal_world.proofs.Firsts.{found, compared_is, no_first, new_first}
 use Rattle.wal_world.proofs.network.Network.complete.Goals as goal
 

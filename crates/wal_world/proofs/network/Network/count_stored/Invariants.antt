@@ -1,9 +1,5 @@
 -- How many of the shards so far hold what was sent to them.
-use Rattle.std.proofs.Common.{◌≡◌, ◌≤◌, take}
-use Rattle.wal_writer.specs.Message.{messages_of}
-use Rattle.wal_theorem.specs.Instance.{rules_of}
-use Rattle.wal_world.specs.inside.Network.{world_of}
-use Rattle.wal_protocol.specs.Step.{stored_at}
+use Rattle.wal_world.proofs.Common.{◌≡◌, ◌≤◌, take, messages_of, rules_of, world_of, stored_at}
 use Rattle.wal_world.proofs.network.Network.count_stored.Given as goal
 
 abbrev pub invariant-loop-shard : goal.invariant-loop-shard

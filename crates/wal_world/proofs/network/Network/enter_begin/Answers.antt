@@ -1,4 +1,4 @@
-use Rattle.std.proofs.Common.{refl}
+use Rattle.wal_world.proofs.Common.{refl}
 use Rattle.wal_world.proofs.Turning.{begun_network, begun_world}
 use Rattle.wal_world.proofs.network.Network.enter_begin.Goals as goal
 

@@ -1,6 +1,4 @@
-use Rattle.std.proofs.Common.{◌≡◌, ◌∙◌, ap, sym, true}
-use Rattle.wal_ledger.specs.Ledger.{is_moving, writing}
-use Rattle.wal_world.specs.inside.Network.{world_of}
+use Rattle.wal_world.proofs.Common.{◌≡◌, ◌∙◌, ap, sym, true, is_moving, writing, world_of}
 use Rattle.wal_world.proofs.Turning.{network_finished, world_finished}
 use Rattle.wal_world.proofs.network.Network.finish.Goals as goal
 

@@ -1,7 +1,4 @@
-use Rattle.std.proofs.Common.{rules, ap, ◌∙◌}
-use Rattle.wal_store.specs.Contents.{Contents}
-use Rattle.wal_protocol.specs.State.{keeps}
-use Rattle.wal_world.specs.inside.Network.{world_of}
+use Rattle.wal_world.proofs.Common.{rules, ap, ◌∙◌, Contents, keeps, world_of}
 use Rattle.wal_world.proofs.Placing.{correct_is, keeps_same, places_network, places_world}
 use Rattle.wal_world.proofs.network.Network.forget.Goals as goal
 

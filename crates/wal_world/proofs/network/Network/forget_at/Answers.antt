@@ -1,5 +1,4 @@
-use Rattle.std.proofs.Common.{refl}
-use Rattle.wal_world.specs.inside.Placed.{LetsGo}
+use Rattle.wal_world.proofs.Common.{refl, LetsGo}
 use Rattle.wal_world.proofs.Placing.{members_are, members_reach, placed_at}
 use Rattle.wal_world.proofs.network.Network.forget_at.Goals as goal
 

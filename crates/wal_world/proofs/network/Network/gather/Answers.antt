@@ -1,10 +1,4 @@
-use Rattle.std.proofs.Common.{◌≡◌, ℕ, ◌+◌, List, [], ◌∷◌, ◌++◌, take, get_or, sym, ap, ◌∙◌}
-use Rattle.std.proofs.lemmas.List.{take_more}
-use Rattle.wal_event.specs.declared.event.Reply.{Reply}
-use Rattle.wal_protocol.specs.State.{World}
-use Rattle.wal_theorem.specs.Instance.{rules_of}
-use Rattle.wal_world.specs.inside.Network.{world_of}
-use Rattle.wal_protocol.specs.Step.{read_payloads, reply_payloads}
+use Rattle.wal_world.proofs.Common.{◌≡◌, ℕ, ◌+◌, List, [], ◌∷◌, ◌++◌, take, get_or, sym, ap, ◌∙◌, take_more, Reply, World, rules_of, world_of, read_payloads, reply_payloads}
 use Rattle.wal_world.proofs.ReplyTexts.{like_world, like_trans, payloads_more}
 use Rattle.wal_world.proofs.network.Network.gather.Goals as goal
 

@@ -1,9 +1,5 @@
 -- The payloads of the replies so far; the network is the same, but for its tables and its buffer.
-use Rattle.std.proofs.Common.{◌≡◌, take}
-use Rattle.wal_theorem.specs.Instance.{rules_of}
-use Rattle.wal_world.specs.inside.Network.{IsNetwork, world_of}
-use Rattle.wal_world.specs.inside.Replies.{IsLike}
-use Rattle.wal_protocol.specs.Step.{read_payloads}
+use Rattle.wal_world.proofs.Common.{◌≡◌, take, rules_of, IsNetwork, world_of, IsLike, read_payloads}
 use Rattle.wal_world.proofs.network.Network.gather.Given as goal
 
 abbrev pub invariant-loop-reply : goal.invariant-loop-reply

@@ -1,10 +1,4 @@
-use Rattle.std.proofs.Common.{◌≡◌, ℕ, ◌+◌, List, [], ◌∷◌, ◌++◌, take, get_or, sym, ap, ◌∙◌, subst}
-use Rattle.std.proofs.lemmas.List.{take_more}
-use Rattle.wal_event.specs.declared.event.Reply.{Reply}
-use Rattle.wal_protocol.specs.State.{World}
-use Rattle.wal_theorem.specs.Instance.{rules_of}
-use Rattle.wal_world.specs.inside.Network.{world_of}
-use Rattle.wal_protocol.specs.Step.{AreReplies, IsReplyOf}
+use Rattle.wal_world.proofs.Common.{◌≡◌, ℕ, ◌+◌, List, [], ◌∷◌, ◌++◌, take, get_or, sym, ap, ◌∙◌, subst, take_more, Reply, World, rules_of, world_of, AreReplies, IsReplyOf}
 use Rattle.wal_world.proofs.ReplyTexts.{like_world, like_trans}
 use Rattle.wal_world.proofs.Symbols.{replies_more}
 use Rattle.wal_world.proofs.network.Network.gather_symbols.Goals as goal

@@ -1,5 +1,4 @@
-use Rattle.std.proofs.Common.{arith}
-use Rattle.wal_world.specs.inside.Network.{world_of}
+use Rattle.wal_world.proofs.Common.{arith, world_of}
 use Rattle.wal_world.proofs.Entering.{counted_at}
 use Rattle.wal_world.proofs.network.Network.holders.Goals as goal
 

@@ -1,7 +1,4 @@
-use Rattle.std.proofs.Common.{◌≡◌, ◌≤◌}
-use Rattle.wal_ledger.specs.Shards.{count_below}
-use Rattle.wal_world.specs.inside.Network.{world_of}
-use Rattle.wal_protocol.specs.State.{settled_in, side_of}
+use Rattle.wal_world.proofs.Common.{◌≡◌, ◌≤◌, count_below, world_of, settled_in, side_of}
 use Rattle.wal_world.proofs.network.Network.holders.Given as goal
 
 abbrev pub invariant-loop-shard : goal.invariant-loop-shard

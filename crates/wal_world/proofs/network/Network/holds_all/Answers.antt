@@ -1,4 +1,4 @@
-use Rattle.wal_world.specs.inside.Network.{world_of}
+use Rattle.wal_world.proofs.Common.{world_of}
 use Rattle.wal_world.proofs.Turning.{ready_is}
 use Rattle.wal_world.proofs.network.Network.holds_all.Goals as goal
 

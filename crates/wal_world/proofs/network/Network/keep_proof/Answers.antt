@@ -1,8 +1,5 @@
-use Rattle.std.proofs.Common.{refl}
-use Rattle.wal_shape.specs.MetaRef.{metadata_shown}
+use Rattle.wal_world.proofs.Common.{refl, metadata_shown, kept_proof, with_members}
 use Rattle.wal_shape.specs.ProofRef.{proof_shown}
-use Rattle.wal_shard.specs.Keeping.{kept_proof}
-use Rattle.wal_world.specs.inside.Members.{with_members}
 use Rattle.wal_world.proofs.Placing.{members_are, members_reach}
 use Rattle.wal_world.proofs.Recoveries.{kept_at}
 use Rattle.wal_world.proofs.network.Network.keep_proof.Goals as goal

@@ -1,7 +1,4 @@
-use Rattle.std.proofs.Common.{refl}
-use Rattle.wal_shape.specs.MetaRef.{metadata_shown}
-use Rattle.wal_shard.specs.Keeping.{kept_sliver}
-use Rattle.wal_world.specs.inside.Members.{with_members}
+use Rattle.wal_world.proofs.Common.{refl, metadata_shown, kept_sliver, with_members}
 use Rattle.wal_world.proofs.Placing.{members_are, members_reach}
 use Rattle.wal_world.proofs.Recoveries.{kept_at}
 use Rattle.wal_world.proofs.network.Network.keep_sliver.Goals as goal

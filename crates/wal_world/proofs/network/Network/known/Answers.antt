@@ -1,5 +1,4 @@
-use Rattle.wal_protocol.specs.State.{side_of, held}
-use Rattle.wal_world.specs.inside.Network.{world_of}
+use Rattle.wal_world.proofs.Common.{side_of, held, world_of}
 use Rattle.wal_world.proofs.Puts.{if_ok}
 use Rattle.wal_world.proofs.Recoveries.{own_is}
 use Rattle.wal_world.proofs.network.Network.known.Goals as goal

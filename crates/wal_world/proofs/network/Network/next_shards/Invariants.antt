@@ -1,9 +1,5 @@
-use Rattle.std.proofs.Common.{◌≡◌, cond, map}
-use Rattle.std.specs.List.{range_with_len}
+use Rattle.wal_world.proofs.Common.{◌≡◌, cond, map, range_with_len, shard_with, world_of, contents_of, is_carried_over}
 use Rattle.std.specs.FinMap as finmap
-use Rattle.wal_world.specs.inside.Network.{shard_with, world_of}
-use Rattle.wal_protocol.specs.State.{contents_of}
-use Rattle.wal_protocol.specs.Step.{is_carried_over}
 use Rattle.wal_world.proofs.network.Network.next_shards.Given as goal
 
 abbrev pub invariant-loop-shard : goal.invariant-loop-shard

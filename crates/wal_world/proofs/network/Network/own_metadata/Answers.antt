@@ -1,5 +1,4 @@
-use Rattle.wal_protocol.specs.State.{side_of}
-use Rattle.wal_world.specs.inside.Network.{world_of}
+use Rattle.wal_world.proofs.Common.{side_of, world_of}
 use Rattle.wal_world.proofs.Symbols.{own_held, own_none}
 use Rattle.wal_world.proofs.network.Network.own_metadata.Goals as goal
 

@@ -1,10 +1,4 @@
-use Rattle.std.proofs.Common.{None, true, refl}
-use Rattle.wal_frame.specs.Shown.{frame_shown}
-use Rattle.wal_shard.specs.Putting.{PutsOrWants}
-use Rattle.wal_shard.specs.State.{desk_of}
-use Rattle.wal_protocol.specs.State.{side_of, contents_of}
-use Rattle.wal_world.specs.inside.Members.{with_members}
-use Rattle.wal_world.specs.inside.Network.{world_of}
+use Rattle.wal_world.proofs.Common.{None, true, refl, frame_shown, PutsOrWants, desk_of, side_of, contents_of, with_members, world_of}
 use Rattle.wal_world.proofs.Placing.{members_are, members_reach, placed_at}
 use Rattle.wal_world.proofs.Puts.{answered_is, put_is}
 use Rattle.wal_world.proofs.network.Network.put_at.Goals as goal

@@ -1,9 +1,4 @@
-use Rattle.std.proofs.Common.{rules, ◌≡◌, true, false, map}
-use Rattle.wal_frame.specs.Frame.{frame_text}
-use Rattle.wal_writer.specs.Message.{messages_of}
-use Rattle.wal_world.specs.inside.Letters.{addressed}
-use Rattle.wal_world.specs.inside.Network.{world_of}
-use Rattle.wal_protocol.specs.State.{is_correct}
+use Rattle.wal_world.proofs.Common.{rules, ◌≡◌, true, false, map, frame_text, messages_of, addressed, world_of, is_correct}
 use Rattle.wal_world.proofs.Puts.{if_ok}
 use Rattle.wal_world.proofs.WriteSteps.{message_none, message_some, spell_each}
 use Rattle.wal_world.proofs.network.Network.put_message.Goals as goal

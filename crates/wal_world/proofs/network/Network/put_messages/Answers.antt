@@ -1,6 +1,4 @@
-use Rattle.std.proofs.Common.{rules, ◌≡◌, ◌∙◌, None, get_or}
-use Rattle.wal_writer.specs.Message.{messages_of}
-use Rattle.wal_world.specs.inside.Network.{world_of}
+use Rattle.wal_world.proofs.Common.{rules, ◌≡◌, ◌∙◌, None, get_or, messages_of, world_of}
 use Rattle.wal_world.proofs.LetterLaws.{continues_done, continues_more, continues_stop}
 use Rattle.wal_world.proofs.WriteSteps.{letters_end, letters_next, same_correct}
 use Rattle.wal_world.proofs.network.Network.put_messages.Goals as goal

@@ -1,9 +1,5 @@
 -- What the puts to the shards from here come to is what those to all of them do.
-use Rattle.std.proofs.Common.{◌≡◌, drop}
-use Rattle.wal_writer.specs.Message.{messages_of}
-use Rattle.wal_world.specs.inside.Letters.{Continues}
-use Rattle.wal_world.specs.inside.Network.{IsNetwork, world_of}
-use Rattle.wal_protocol.specs.Step.{letters}
+use Rattle.wal_world.proofs.Common.{◌≡◌, drop, messages_of, Continues, IsNetwork, world_of, letters}
 use Rattle.wal_world.proofs.network.Network.put_messages.Given as goal
 
 abbrev pub invariant-loop-shard : goal.invariant-loop-shard

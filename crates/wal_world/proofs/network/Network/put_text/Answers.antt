@@ -1,6 +1,4 @@
-use Rattle.wal_frame.specs.Shown.{frame_shown}
-use Rattle.wal_world.specs.inside.Letters.{frame_in}
-use Rattle.wal_world.specs.inside.Network.{world_of}
+use Rattle.wal_world.proofs.Common.{frame_shown, frame_in, world_of}
 use Rattle.wal_world.proofs.Placing.{places_network, places_world}
 use Rattle.wal_world.proofs.Puts.{if_ok, on_ok}
 use Rattle.wal_world.proofs.WriteSteps.{text_put}

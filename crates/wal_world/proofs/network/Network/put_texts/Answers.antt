@@ -1,4 +1,4 @@
-use Rattle.std.proofs.Common.{rules, ◌≡◌, ◌∙◌, None}
+use Rattle.wal_world.proofs.Common.{rules, ◌≡◌, ◌∙◌, None}
 use Rattle.wal_world.proofs.LetterLaws.{continues_done, continues_more, continues_stop}
 use Rattle.wal_world.proofs.WriteSteps.{letter_end, letter_next}
 use Rattle.wal_world.proofs.network.Network.put_texts.Goals as goal

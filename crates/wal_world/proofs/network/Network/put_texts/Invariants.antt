@@ -1,7 +1,5 @@
 -- What the puts of the texts from here come to is what those of all of them do.
-use Rattle.std.proofs.Common.{◌≡◌, drop}
-use Rattle.wal_world.specs.inside.Letters.{Continues, letters_in}
-use Rattle.wal_world.specs.inside.Network.{IsNetwork, world_of}
+use Rattle.wal_world.proofs.Common.{◌≡◌, drop, Continues, letters_in, IsNetwork, world_of}
 use Rattle.wal_world.proofs.network.Network.put_texts.Given as goal
 
 abbrev pub invariant-loop-text : goal.invariant-loop-text

@@ -1,4 +1,4 @@
-use Rattle.wal_world.specs.inside.Network.{world_of}
+use Rattle.wal_world.proofs.Common.{world_of}
 use Rattle.wal_world.proofs.Puts.{if_ok}
 use Rattle.wal_world.proofs.ReadWords.{read_step}
 use Rattle.wal_world.proofs.ReplyTexts.{like_world}

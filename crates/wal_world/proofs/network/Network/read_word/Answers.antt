@@ -1,10 +1,5 @@
-use Rattle.std.proofs.Common.{ℕ, List, refl, sym, subst}
-use Rattle.wal_tree.specs.Collision.{IsCollision}
-use Rattle.wal_reader.specs.declared.outcome.Outcome.{Outcome}
-use Rattle.wal_reader.specs.Outcome.{IsOutcome}
+use Rattle.wal_world.proofs.Common.{ℕ, List, refl, sym, subst, IsCollision, Outcome, IsOutcome, both_metadata, world_of}
 use Rattle.wal_reader.proofs.FirstOnes.{first_two}
-use Rattle.wal_world.specs.inside.Replies.{both_metadata}
-use Rattle.wal_world.specs.inside.Network.{world_of}
 use Rattle.wal_event.specs.declared.line.ReadWord.TheVariants as reading
 use Rattle.wal_world.proofs.Puts.{if_ok}
 use Rattle.wal_world.proofs.ReadWords.{reads_is, told_bytes, told_reject}

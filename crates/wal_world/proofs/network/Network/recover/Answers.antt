@@ -1,6 +1,4 @@
-use Rattle.std.proofs.Common.{rules, ◌≡◌, true}
-use Rattle.wal_ledger.specs.Ledger.{is_live}
-use Rattle.wal_world.specs.inside.Network.{world_of}
+use Rattle.wal_world.proofs.Common.{rules, ◌≡◌, true, is_live, world_of}
 use Rattle.wal_world.proofs.Placing.{correct_is}
 use Rattle.wal_world.proofs.ReplyTexts.{like_world}
 use Rattle.wal_world.proofs.Recoveries.{recover_step}

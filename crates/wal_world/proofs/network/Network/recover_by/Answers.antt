@@ -1,7 +1,4 @@
-use Rattle.std.proofs.Common.{rules, ◌≢◌, IfOk, subst}
-use Rattle.wal_protocol.specs.State.{World}
-use Rattle.wal_world.specs.inside.Knowing.{RecoversInWorld}
-use Rattle.wal_world.specs.inside.Network.{world_of}
+use Rattle.wal_world.proofs.Common.{rules, ◌≢◌, IfOk, subst, World, RecoversInWorld, world_of}
 use Rattle.wal_world.proofs.ReplyTexts.{like_world}
 use Rattle.wal_world.proofs.Recoveries.{word_unfit}
 use Rattle.wal_world.proofs.network.Network.recover_by.Goals as goal

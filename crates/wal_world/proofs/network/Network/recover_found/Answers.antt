@@ -1,5 +1,4 @@
-use Rattle.wal_protocol.specs.State.{held}
-use Rattle.wal_world.specs.inside.Network.{world_of}
+use Rattle.wal_world.proofs.Common.{held, world_of}
 use Rattle.wal_world.proofs.Recoveries.{word_sliver, word_inconsistent}
 use Rattle.wal_world.proofs.network.Network.recover_found.Goals as goal
 

@@ -1,8 +1,5 @@
-use Rattle.std.proofs.Common.{subst}
+use Rattle.wal_world.proofs.Common.{subst, AreKnown, side_of, held, world_of}
 use Rattle.wal_world.specs.declared.knowing.Known.{Known}
-use Rattle.wal_world.specs.inside.Knowing.{AreKnown}
-use Rattle.wal_protocol.specs.State.{side_of, held}
-use Rattle.wal_world.specs.inside.Network.{world_of}
 use Rattle.wal_world.proofs.Recoveries.{absent_word}
 use Rattle.wal_world.proofs.network.Network.recover_from.Goals as goal
 

@@ -1,7 +1,4 @@
-use Rattle.std.proofs.Common.{◌∙◌, ap}
-use Rattle.wal_shape.specs.Shape.{BlobShape, sliver_symbols}
-use Rattle.wal_protocol.specs.State.{held}
-use Rattle.wal_world.specs.inside.Network.{world_of}
+use Rattle.wal_world.proofs.Common.{◌∙◌, ap, BlobShape, sliver_symbols, held, world_of}
 use Rattle.wal_world.proofs.ReplyTexts.{like_world}
 use Rattle.wal_world.proofs.Recoveries.{word_proof, word_short}
 use Rattle.wal_world.proofs.network.Network.recover_short.Goals as goal

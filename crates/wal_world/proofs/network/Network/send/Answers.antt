@@ -1,6 +1,4 @@
-use Rattle.std.proofs.Common.{rules}
-use Rattle.wal_frame.specs.Shown.{frame_shown}
-use Rattle.wal_world.specs.inside.Network.{world_of}
+use Rattle.wal_world.proofs.Common.{rules, frame_shown, world_of}
 use Rattle.wal_world.proofs.Placing.{correct_is, places_network, places_world}
 use Rattle.wal_world.proofs.Puts.{if_ok, on_ok, send_step}
 use Rattle.wal_world.proofs.network.Network.send.Goals as goal

@@ -1,7 +1,5 @@
-use Rattle.std.proofs.Common.{rules, ℕ, subst}
-use Rattle.wal_writer.specs.Message.{messages_of}
+use Rattle.wal_world.proofs.Common.{rules, ℕ, subst, messages_of, IsStarted}
 use Rattle.wal_writer.proofs.Messages.{message_fits}
-use Rattle.wal_world.specs.inside.Letters.{IsStarted}
 use Rattle.wal_world.proofs.network.Network.start.Goals as goal
 
 pub returns-in-Ok : goal.returns-in-Ok

@@ -1,5 +1,4 @@
-use Rattle.std.proofs.Common.{rules, ◌≡◌, ◌∙◌, true, false, refl}
-use Rattle.wal_world.specs.inside.Network.{world_of}
+use Rattle.wal_world.proofs.Common.{rules, ◌≡◌, ◌∙◌, true, false, refl, world_of}
 use Rattle.wal_world.proofs.WriteSteps.{stores_is}
 use Rattle.wal_world.proofs.network.Network.stores.Goals as goal
 

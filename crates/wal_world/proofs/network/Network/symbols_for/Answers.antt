@@ -1,9 +1,4 @@
-use Rattle.std.proofs.Common.{◌≡◌, ℕ, List, Option, None, IfSome, IfNone, sym, ap, ◌∙◌, subst}
-use Rattle.wal_shape.specs.Metadata.{BlobMetadata, held_index}
-use Rattle.wal_shard.specs.State.{IsOwnMetadata}
-use Rattle.wal_protocol.specs.State.{side_of, held}
-use Rattle.wal_world.specs.inside.Network.{world_of}
-use Rattle.wal_theorem.specs.Instance.{SymbolReply, silent}
+use Rattle.wal_world.proofs.Common.{◌≡◌, ℕ, List, Option, None, IfSome, IfNone, sym, ap, ◌∙◌, subst, BlobMetadata, held_index, IsOwnMetadata, side_of, held, world_of, SymbolReply, silent}
 use Rattle.wal_world.proofs.Symbols.{symbol_replies}
 use Rattle.wal_world.proofs.network.Network.symbols_for.Goals as goal
 

@@ -1,8 +1,5 @@
-use Rattle.std.proofs.Common.{Some, refl, ap, ◌∙◌}
+use Rattle.wal_world.proofs.Common.{Some, refl, ap, ◌∙◌, room_of, shards_with, Serving}
 use Rattle.std.specs.FinMap as finmap
-use Rattle.wal_shard.specs.Replying.{room_of}
-use Rattle.wal_world.specs.inside.Network.{shards_with}
-use Rattle.wal_world.specs.declared.books.Books.TheVariants.{Serving}
 use Rattle.wal_world.proofs.Turning.{fresh}
 use Rattle.wal_world.proofs.network.Network.with_books.Goals as goal
 

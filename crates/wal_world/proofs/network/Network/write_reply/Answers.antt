@@ -1,6 +1,4 @@
-use Rattle.std.proofs.Common.{◌≡◌, List, ap}
-use Rattle.wal_shard.specs.Holding.{read_reply_of}
-use Rattle.wal_world.specs.declared.members.Members.{Members}
+use Rattle.wal_world.proofs.Common.{◌≡◌, List, ap, read_reply_of, Members}
 use Rattle.wal_world.proofs.ReplyTexts.{written_by}
 use Rattle.wal_world.proofs.network.Network.write_reply.Goals as goal
 

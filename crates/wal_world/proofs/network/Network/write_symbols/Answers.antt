@@ -1,6 +1,4 @@
-use Rattle.std.proofs.Common.{ap}
-use Rattle.wal_shard.specs.Holding.{SymbolReplies}
-use Rattle.wal_world.specs.declared.members.Members.{Members}
+use Rattle.wal_world.proofs.Common.{ap, SymbolReplies, Members}
 use Rattle.wal_world.proofs.Symbols.{symbols_by}
 use Rattle.wal_world.proofs.network.Network.write_symbols.Goals as goal
 

@@ -1,8 +1,4 @@
-use Rattle.std.proofs.Common.{ℕ, ◌+◌, ◌-◌, ◌^◌, min, cond, Option, option_to_list, ◌++◌, refl, ap, subst, ◌∙◌}
-use Rattle.std.specs.BTreeSet.{IsFromIterResult}
-use Rattle.std.specs.List.{reduce}
-use Rattle.wal_shape.specs.declared.metadata.BlobId.{BlobId}
-use Rattle.wal_shape.specs.Identifiers.{id_cmp}
+use Rattle.wal_world.proofs.Common.{ℕ, ◌+◌, ◌-◌, ◌^◌, min, cond, Option, option_to_list, ◌++◌, refl, ap, subst, ◌∙◌, IsFromIterResult, reduce, BlobId, id_cmp}
 use Rattle.wal_world.proofs.Tallies.{tally_push}
 use Rattle.wal_world.proofs.tally.Tally.add.Goals as goal
 

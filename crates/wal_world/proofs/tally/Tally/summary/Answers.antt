@@ -1,4 +1,4 @@
-use Rattle.std.proofs.Common.{refl}
+use Rattle.wal_world.proofs.Common.{refl}
 use Rattle.wal_world.proofs.Tallies.{tally_summary}
 use Rattle.wal_world.proofs.tally.Tally.summary.Goals as goal
 

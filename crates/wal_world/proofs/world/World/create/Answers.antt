@@ -1,4 +1,4 @@
-use Rattle.std.proofs.Common.{refl}
+use Rattle.wal_world.proofs.Common.{refl}
 use Rattle.wal_world.proofs.Worlds.{first_world}
 use Rattle.wal_world.proofs.world.World.create.Goals as goal
 

@@ -1,5 +1,4 @@
-use Rattle.std.proofs.Common.{length}
-use Rattle.wal_shape.specs.declared.axis.Axis.TheVariants.{Primary}
+use Rattle.wal_writer.proofs.Common.{length, Primary}
 use Rattle.wal_writer.proofs.Messages.{own_sliver_short}
 use Rattle.wal_writer.proofs.write.Write.primary_text.Goals as goal
 

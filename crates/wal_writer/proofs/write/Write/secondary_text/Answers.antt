@@ -1,6 +1,4 @@
-use Rattle.std.proofs.Common.{◌∙◌, ◌*◌, ap, length}
-use Rattle.wal_shape.specs.declared.axis.Axis.TheVariants.{Secondary}
-use Rattle.wal_shape.specs.Shape.{BlobShape, sliver_symbols, symbol_size}
+use Rattle.wal_writer.proofs.Common.{◌∙◌, ◌*◌, ap, length, Secondary, BlobShape, sliver_symbols, symbol_size}
 use Rattle.wal_writer.proofs.Messages.{own_sliver_short}
 use Rattle.wal_writer.proofs.write.Write.secondary_text.Goals as goal
 

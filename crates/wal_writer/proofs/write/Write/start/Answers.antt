@@ -1,6 +1,4 @@
-use Rattle.std.proofs.Common.{subst}
-use Rattle.wal_shape.specs.Metadata.{BlobMetadata}
-use Rattle.wal_commit.specs.Identifier.{Commits}
+use Rattle.wal_writer.proofs.Common.{subst, BlobMetadata, Commits}
 use Rattle.wal_writer.proofs.Messages.{numbers_of, shape_over, written_message, written_metadata}
 use Rattle.wal_writer.proofs.write.Write.start.Goals as goal
 
