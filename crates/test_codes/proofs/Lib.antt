@@ -1,2 +1,1 @@
 mod Symbols
-mod Common

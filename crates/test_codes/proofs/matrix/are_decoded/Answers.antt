@@ -1,4 +1,6 @@
-use Rattle.test_codes.proofs.Common.{◌≡◌, ◌*◌, length, sym, ◌∙◌, subst, BlobShape, row_count, column_count, symbol_size, six_words}
+use Rattle.std.proofs.Common.{◌≡◌, ◌*◌, length, sym, ◌∙◌, subst}
+use Rattle.wal_shape.specs.Shape.{BlobShape, row_count, column_count, symbol_size}
+use Rattle.wal_matrix.proofs.ToolsLaws.{six_words}
 use Rattle.test_codes.proofs.matrix.are_decoded.Goals as goal
 
 pub decode_primaries-requires-clause-size : goal.decode_primaries-requires-clause-size

@@ -1,4 +1,4 @@
-use Rattle.test_codes.proofs.Common.{one_word-fits}
+use Rattle.wal_matrix.proofs.ToolsLaws.{one_word-fits}
 use Rattle.test_codes.proofs.matrix.are_expanded.Goals as goal
 
 pub expand-requires-clause-most : goal.expand-requires-clause-most

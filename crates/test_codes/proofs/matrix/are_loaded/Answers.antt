@@ -1,4 +1,6 @@
-use Rattle.test_codes.proofs.Common.{◌≤◌, ℕ, sym, subst, longest_sliver, four_bytes_fit, one_word-fits}
+use Rattle.std.proofs.Common.{◌≤◌, ℕ, sym, subst}
+use Rattle.wal_matrix.specs.Tools.{longest_sliver}
+use Rattle.wal_matrix.proofs.ToolsLaws.{four_bytes_fit, one_word-fits}
 use Rattle.test_codes.proofs.matrix.are_loaded.Goals as goal
 
 pub load_words-requires : goal.load_words-requires

@@ -1,4 +1,7 @@
-use Rattle.test_codes.proofs.Common.{◌≡◌, ◌≤◌, ℕ, ◌*◌, length, sym, ap, ◌∙◌, subst, BlobShape, row_count, symbol_size, longest_sliver, two_words, four_bytes_fit}
+use Rattle.std.proofs.Common.{◌≡◌, ◌≤◌, ℕ, ◌*◌, length, sym, ap, ◌∙◌, subst}
+use Rattle.wal_shape.specs.Shape.{BlobShape, row_count, symbol_size}
+use Rattle.wal_matrix.specs.Tools.{longest_sliver}
+use Rattle.wal_matrix.proofs.ToolsLaws.{two_words, four_bytes_fit}
 use Rattle.test_codes.proofs.matrix.are_solved.Goals as goal
 
 pub load_words-requires : goal.load_words-requires

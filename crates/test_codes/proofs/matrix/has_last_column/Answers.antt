@@ -1,4 +1,5 @@
-use Rattle.test_codes.proofs.Common.{◌≡◌, ◌*◌, ℕ, sym, ap₂, ◌∙◌, row_count, shard_count, symbol_size}
+use Rattle.std.proofs.Common.{◌≡◌, ◌*◌, ℕ, sym, ap₂, ◌∙◌}
+use Rattle.wal_shape.specs.Shape.{row_count, shard_count, symbol_size}
 use Rattle.test_codes.proofs.Symbols.{four_words, two_words}
 use Rattle.test_codes.proofs.matrix.has_last_column.Goals as goal
 
