@@ -53,9 +53,10 @@ evaluate-requires t c =
     let half = half_long (c.args.level - 1) c.half-points.result c.args.width c.half-points.ensures in
     let last = last_point c.args.level c.half-points.result c.args.index (omega arith) c.half-points.ensures c.requires.points in (
       omega (arith, c.decreases),
-      omega (arith, c.split_at_mut-low.ensures.front_len, c.add_product.ensures.long),
-      omega arith,
-      lower_points (c.args.level - 1) c.half-points.result c.args.index c.half-points.ensures last,
+      (
+        omega (arith, c.split_at_mut-low.ensures.front_len, c.add_product.ensures.long),
+        (omega arith, lower_points (c.args.level - 1) c.half-points.result c.args.index c.half-points.ensures last),
+      ),
     )
 
 pub evaluate-requires-2 : goal.evaluate-requires-2
@@ -64,9 +65,10 @@ evaluate-requires-2 t c =
     let half = half_long (c.args.level - 1) c.half-points.result c.args.width c.half-points.ensures in
     let last = last_point c.args.level c.half-points.result c.args.index (omega arith) c.half-points.ensures c.requires.points in (
       omega (arith, c.decreases),
-      omega (arith, c.split_at_mut-low.ensures.front_len, c.split_at_mut-low.ensures.back_len, c.add_words.ensures.long),
-      omega arith,
-      upper_points (c.args.level - 1) c.half-points.result c.args.index c.half-points.ensures last,
+      (
+        omega (arith, c.split_at_mut-low.ensures.front_len, c.split_at_mut-low.ensures.back_len, c.add_words.ensures.long),
+        (omega arith, upper_points (c.args.level - 1) c.half-points.result c.args.index c.half-points.ensures last),
+      ),
     )
 
 pub returns : goal.returns

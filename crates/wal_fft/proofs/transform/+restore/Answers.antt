@@ -36,10 +36,16 @@ restore-requires t c =
     let half = half_long (c.args.level - 1) c.half-points.result c.args.width c.half-points.ensures in
     let last = last_point c.args.level c.half-points.result c.args.index (omega arith) c.half-points.ensures c.requires.points in (
       omega (arith, c.decreases),
-      omega (arith, c.split_at_mut-low.ensures.front_len, c.add_product.ensures.long),
-      omega arith,
-      lower_points (c.args.level - 1) c.half-points.result c.args.index c.half-points.ensures last,
-      omega (arith, c.if-known-points.true, c.half-points.ensures),
+      (
+        omega (arith, c.split_at_mut-low.ensures.front_len, c.add_product.ensures.long),
+        (
+          omega arith,
+          (
+            lower_points (c.args.level - 1) c.half-points.result c.args.index c.half-points.ensures last,
+            omega (arith, c.if-known-points.true, c.half-points.ensures),
+          ),
+        ),
+      ),
     )
 
 pub add_product-requires-then-known-points-clause-equal : goal.add_product-requires-then-known-points-clause-equal
@@ -52,10 +58,16 @@ restore-requires-else-known-points t c =
     let half = half_long (c.args.level - 1) c.half-points.result c.args.width c.half-points.ensures in
     let last = last_point c.args.level c.half-points.result c.args.index (omega arith) c.half-points.ensures c.requires.points in (
       omega (arith, c.decreases),
-      omega (arith, c.split_at_mut-low.ensures.front_len),
-      omega arith,
-      lower_points (c.args.level - 1) c.half-points.result c.args.index c.half-points.ensures last,
-      omega (arith, c.half-points.ensures),
+      (
+        omega (arith, c.split_at_mut-low.ensures.front_len),
+        (
+          omega arith,
+          (
+            lower_points (c.args.level - 1) c.half-points.result c.args.index c.half-points.ensures last,
+            omega (arith, c.half-points.ensures),
+          ),
+        ),
+      ),
     )
 
 pub add_words-requires-clause-equal : goal.add_words-requires-clause-equal
@@ -70,10 +82,16 @@ restore-requires-else-known-points-2 t c =
     let both = double c.args.level c.half-points.result (omega arith) c.half-points.ensures in
     let last = last_point c.args.level c.half-points.result c.args.index (omega arith) c.half-points.ensures c.requires.points in (
       omega (arith, c.decreases),
-      omega (arith, c.split_at_mut-low.ensures.front_len, c.split_at_mut-low.ensures.back_len, c.add_words.ensures.long),
-      omega arith,
-      upper_points (c.args.level - 1) c.half-points.result c.args.index c.half-points.ensures last,
-      omega (arith, c.half-points.ensures, c.requires.known),
+      (
+        omega (arith, c.split_at_mut-low.ensures.front_len, c.split_at_mut-low.ensures.back_len, c.add_words.ensures.long),
+        (
+          omega arith,
+          (
+            upper_points (c.args.level - 1) c.half-points.result c.args.index c.half-points.ensures last,
+            omega (arith, c.half-points.ensures, c.requires.known),
+          ),
+        ),
+      ),
     )
 
 pub add_words-requires-else-known-points-clause-equal : goal.add_words-requires-else-known-points-clause-equal
