@@ -136,8 +136,8 @@ pub record IsClaim (s : ℕ) (id : BlobId) (b : Body) : Type 0 where
       (history_after q c x).own ≡ cond (id_eq id q) (c.own ++ x ∷ []) c.own
 
 pub is_claim : (kind : Kind) (s : ℕ) (id : BlobId) → IsClaim s id (claim_of kind s id)
-is_claim Holds s id = record { names_only = λ i h. sym (id_same id i h); quiet = λ o t. refl; of = λ n lt. lt; ids = λ l. refl; own = λ w q c. refl }
-is_claim Denies s id = record { names_only = λ i h. sym (id_same id i h); quiet = λ o t. refl; of = λ n lt. lt; ids = λ l. refl; own = λ w q c. refl }
+is_claim Holds s id = let same = λ (i : BlobId) (h : id_eq id i ≡ true). sym (id_same id i h) in assumption
+is_claim Denies s id = let same = λ (i : BlobId) (h : id_eq id i ≡ true). sym (id_same id i h) in assumption
 
 -- the shards for which a shard's claim counts
 abbrev pub ClaimsFor : Log → Kind → ℕ → BlobId → BlobId → Kind → ℕ → Type 0
@@ -161,7 +161,8 @@ pub claim_enters : (log : Log) (kind : Kind) (s : ℕ) (id : BlobId) → IsOrder
 claim_enters log kind s id orderly =
     unregistered_enters log (claim_of kind s id) (ClaimsFor log kind s id) (λ t. ⊥) orderly (claim_plain kind s id).0 (claim_plain kind s id).1
     (λ i k e t now. let claimed = signs_claim_for (owners_at log e) k kind s t id now.signed in
-    ((is_claim kind s id).names_only i now.named, claimed.0, subst (λ (n : ℕ). same_node (owners_at log n) s t ≡ true) now.now claimed.1))
+    let named = (is_claim kind s id).names_only i now.named in
+    (named, claimed.0, subst (λ (n : ℕ). same_node (owners_at log n) s t ≡ true) now.now claimed.1))
     (λ t h. both_ways _ ((is_claim kind s id).quiet (owners_of Next log) t) h)
 
 -- the readiness of a shard

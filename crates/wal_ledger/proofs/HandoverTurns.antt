@@ -39,7 +39,8 @@ begun log owners orderly serving = record {
   owners_kept = kept;
   owners_next = ap (λ (p : Phase). owners_in log.first log.owners p (writing new)) phase_is
       ∙ brought_last (log.owners ∷ (phase log).brought) owners (writing new - log.first) (omega (arith, next, balanced));
-  none_ready = λ s. ap (λ (p : Phase). list_any (λ (x : Entry). readies (owners_of Next new) s x.body) p.since) phase_is;
+  none_ready = λ s.
+      ap (λ (p : Phase). list_any (λ (x : Entry). readies (owners_of Next new) s x.body) p.since) phase_is;
   orderly = record {
     turns = omega (arith, ap (λ (p : Phase). length p.brought) phase_is, length-append (phase log).brought (owners ∷ []), ap (λ (p : Phase). p.finishes) phase_is, balanced, ap {B = ℕ} (λ m. cond m 1 0) moves);
     epochs = λ id. subst (All (λ (x : Entry). x.epoch ≤ writing new)) (sym (own id)) (λ k d lt. omega (arith, orderly.epochs id k d lt, next, serves));

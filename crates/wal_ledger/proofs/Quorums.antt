@@ -1,5 +1,5 @@
 -- Counts of shards below a number.
-use Rattle.wal_ledger.proofs.Common.{◌≡◌, ℕ, zero, suc, ◌+◌, ◌<◌, ◌≤◌, Bool, true, false, cond, not, ◌&&◌, ◌||◌, nat_eq, inl, inr, List, [], ◌∷◌, length, refl, ap, arith, list_any, nat_tests, cases_lt, cases_Bool, count_below, committee_size, quorum_size, ◌≢◌, All, cases_eq, and_left, ne_eqb, list_any_none, Entry, Kind, signs_for, is_signer_among, count_among, IsWithin, ◌-◌, ◌++◌, nat_lt, slice_index_or, sym, ◌∙◌, subst, list_all, eq-eqb, and_parts, both_ways, false_from_ne_true, get_or_append_left, length-append, node_of, are_owners, Body, Ack, Attest, Ready, Holds, Denies, Log, Phase, phase, phase_in, reading, is_moving, owners_at, same_node, readies, IsLawful}
+use Rattle.wal_ledger.proofs.Common.{◌≡◌, ℕ, zero, suc, ◌+◌, ◌<◌, ◌≤◌, Bool, true, false, cond, not, ◌&&◌, ◌||◌, nat_eq, inl, inr, List, [], ◌∷◌, length, refl, ap, arith, list_any, nat_tests, cases_lt, cases_Bool, count_below, committee_size, quorum_size, ◌≢◌, All, cases_eq, and_left, ne_eqb, list_any_none, Entry, Kind, signs_for, is_signer_among, count_among, IsWithin, ◌-◌, ◌++◌, nat_lt, slice_index_or, sym, ◌∙◌, subst, list_all, and_parts, both_ways, false_from_ne_true, get_or_append_left, length-append, node_of, are_owners, Body, Ack, Attest, Ready, Holds, Denies, Log, Phase, phase, phase_in, reading, is_moving, owners_at, same_node, readies, IsLawful}
 use Rattle.std.proofs.Math.Seq.{get_or-append_seam}
 
 -- none pass

@@ -1,5 +1,5 @@
 -- The rows after a claim, a registration, or another entry.
-use Rattle.wal_ledger.proofs.Common.{◌≡◌, ℕ, ◌+◌, ◌-◌, ◌<◌, ◌≤◌, max, Bool, true, false, cond, ◌&&◌, ◌||◌, nat_eq, nat_le, List, [], ◌∷◌, ◌++◌, length, slice_set, refl, sym, ap, ◌∙◌, subst, arith, list_any, insert_key, or_from, and_right, length-set, BlobId, Entry, Register, Ack, Attest, Ready, Kind, Holds, Denies, Row, Tally, Next, node_of, count_below, committee_size, flag_of, BookState, IsTally, IsFirstClaim, link_in, node_size, tally_after, Rows, IsRow, row_in, no_row, row_registered, tally_of, with_tally, IsOfCommittee, IsKept, log_of, claim_of, Log, phase, writing, owners_at, owners_of, until_among, same_node, signs_for, readies, ready_shards, signers, own_entries, History, history_of, history_after, with_registered, id_eq, id_cmp, Ascends}
+use Rattle.wal_ledger.proofs.Common.{◌≡◌, ℕ, ◌+◌, ◌-◌, ◌<◌, ◌≤◌, max, Bool, true, false, cond, ◌&&◌, ◌||◌, nat_eq, nat_le, List, [], ◌∷◌, ◌++◌, length, slice_set, refl, sym, ap, ◌∙◌, subst, arith, list_any, insert_key, or_from, and_right, length-set, BlobId, Entry, Register, Ack, Attest, Ready, Kind, Holds, Denies, Row, Tally, Next, node_of, count_below, committee_size, flag_of, BookState, IsTally, IsFirstClaim, link_in, node_size, tally_after, Rows, IsRow, row_in, no_row, row_registered, tally_of, with_tally, IsKept, log_of, claim_of, Log, phase, writing, owners_at, owners_of, until_among, same_node, signs_for, readies, ready_shards, signers, own_entries, history_of, id_eq, id_cmp, Ascends}
 use Rattle.wal_ledger.proofs.RowsPlace.{id_same}
 use Rattle.wal_ledger.proofs.Living.{registered_ascends, living_same, living_registered}
 use Rattle.wal_ledger.proofs.RowsKept.{pushed, nameless, kept_still, kept_quiet, row_kept, own_within}

@@ -165,7 +165,8 @@ module _ (f first : ℕ) (start : List ℕ) (e : ℕ) (m : Bool) (now next : ℕ
       let none_ahead : All (λ (y : Entry). y.epoch ≤ w) (entries body) = λ j d lt. (within j d lt).high in
       let dated : moves_in p ≡ true → IsDated (log_of f first start (pushed book x link)) =
       λ moving. record { earlier = (at.dated moving).0; later = (at.dated moving).1 } in
-      let members = All-push (λ (y : Entry). IsOfCommittee (committee_size f) y.body) book.entries x k.lawful.members of in
+      let members = All-push (λ (y : Entry). IsOfCommittee (committee_size f) y.body) book.entries x
+      k.lawful.members of in
       let ids_are = rows.ids ∙ ap (λ (l : List BlobId). with_registered l body) k.ids_are
       ∙ sym (fold_push (λ l (y : Entry). with_registered l y.body) [] book.entries x) in
       let ids_fit : book.spare - 1 ≤ new.spare = omega (arith, k.ids_fit, rows.spare) in
@@ -190,10 +191,12 @@ module _ (f first : ℕ) (start : List ℕ) (e : ℕ) (m : Bool) (now next : ℕ
       let made = All-push (IsMadeSince (writing old)) p.since x k.lawful.since_begin (λ plain. refl) in
       let dated : is_moving old ≡ true → All (λ (y : Entry). y.epoch ≤ reading old) p.before
       × All (IsMadeIn (writing old)) (p.since ++ x ∷ []) =
-      λ moving. let d = k.lawful.dated moving in (d.earlier, All-push (IsMadeIn (writing old)) p.since x d.later (λ id named. refl)) in
+      λ moving. let d = k.lawful.dated moving in
+      (d.earlier, All-push (IsMadeIn (writing old)) p.since x d.later (λ id named. refl)) in
       let now_at = stand_push start book.entries (x ∷ []) now (owners_of Now old) k.now_at in
       let next_at = stand_push start book.entries (x ∷ []) next (owners_of Next old) k.next_at in
-      let ready = λ (s : ℕ) (lt : s < committee_size f). more s lt ∙ ap (λ b. b || readies (owners_of Next old) s body) (k.ready s lt)
+      let ready = λ (s : ℕ) (lt : s < committee_size f). more s lt
+      ∙ ap (λ b. b || readies (owners_of Next old) s body) (k.ready s lt)
       ∙ sym (since_push (owners_of Next old) p.since x s) in
       kept_push body link e m now next new after sum (writing old) of same (ap (writes_in first) is) (omega arith)
       (subst (λ (q : Phase). Follows f first (owners_in first start q) book table new x link) is follows)

@@ -12,7 +12,9 @@ pub numbers_searched : (ids : List BlobId) (ns : List ℕ) (id : BlobId) (r : Re
     → IfOk r (IsPlace (ids_of ids ns) id) × IfErr r (IsInsertionPoint (ids_of ids ns) id)
 numbers_searched ids ns id (Ok place) ascends lt here =
     let within : place < length (ids_of ids ns) = omega (arith, lt, length-map ns (id_of ids)) in
-    (place_found (ids_of ids ns) id place ascends within (λ d. ap (λ y. id_cmp y id) (get_or-map (id_of ids) ns place 0 d lt) ∙ here 0), tt)
+    let found = place_found (ids_of ids ns) id place ascends within
+    (λ d. ap (λ y. id_cmp y id) (get_or-map (id_of ids) ns place 0 d lt) ∙ here 0) in
+    (found, tt)
 numbers_searched ids ns id (Err place) ascends le parted =
     let many : length (ids_of ids ns) ≡ length ns = length-map ns (id_of ids) in
     let point = parted (searchable_from_sorted ids_total (id_of ids) ns id (λ i d low high.
@@ -21,9 +23,10 @@ numbers_searched ids ns id (Err place) ascends le parted =
     let less : id_cmp x y ≡ Less = ap (λ z. id_cmp z y) (sym (get_or-map (id_of ids) ns i d x (omega arith))) ∙ ap (id_cmp (get_or (ids_of ids ns) i x)) (sym (get_or-map (id_of ids) ns (i + 1) d x high))
     ∙ Less-from_sorted id_cmp (ids_of ids ns) i (i + 1) x ascends (omega arith) (omega (arith, many, high)) in
     ap is_lt (ids_total.antisymm y x ∙ ap ordering_reverse less))) in
-    (tt, place_missed (ids_of ids ns) id place (omega (arith, le, many))
+    let missed = place_missed (ids_of ids ns) id place (omega (arith, le, many))
     (λ j d lt. ap (λ y. id_cmp y id) (get_or-map (id_of ids) ns j 0 d (omega (arith, le))) ∙ point.0 j 0 (omega arith) lt)
-    (λ j d ge lt. ap (λ y. id_cmp y id) (get_or-map (id_of ids) ns j 0 d (omega (arith, many))) ∙ point.1 j 0 ge (omega (arith, many))))
+    (λ j d ge lt. ap (λ y. id_cmp y id) (get_or-map (id_of ids) ns j 0 d (omega (arith, many))) ∙ point.1 j 0 ge (omega (arith, many))) in
+    (tt, missed)
 
 -- a number put at a place
 pub map-insert : {Y : Type 0} (f : ℕ → Y) (ns : List ℕ) (place n : ℕ) → map f (insert ns place n) ≡ insert (map f ns) place (f n)
