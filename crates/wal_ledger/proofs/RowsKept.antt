@@ -1,5 +1,6 @@
 -- What the row of an identifier tells.
-use Rattle.wal_ledger.proofs.Common.{◌≡◌, ℕ, zero, suc, ◌+◌, ◌-◌, ◌<◌, ◌≤◌, Bool, true, false, cond, ◌||◌, nat_lt, All, subst, arith, List, [], ◌∷◌, ◌++◌, length, filter, replicate, refl, sym, ap, ◌∙◌, list_any, or-false, lt-ltb, le-ltb, both_ways, length-append, length-replicate, All-nil, All-cons, All-push, fold_push, BlobId, Entry, Body, Begin, Finish, Row, Now, Next, are_owners, node_of, count_below, committee_size, flag_of, BookState, Rows, IsRow, row_in, living, IsOfCommittee, IsKept, StandAt, log_of, IsMadeIn, IsMadeSince, Log, Phase, phase, phase_in, phase_after, names, writing, reading, is_moving, owners_at, owners_of, own_entries, readies, with_registered, History, history_of, history_after, IsWithin, Option, Some, None, IfSome, IfNone, slice_index_or, Holds, quorum_size, count_among, IsLeastQuorum, IsLawful, is_live, IsCertified, IsCertificate, IsDated}
+use Rattle.wal_ledger.proofs.Common.{◌≡◌, ℕ, zero, suc, ◌+◌, ◌-◌, ◌<◌, ◌≤◌, Bool, true, false, cond, ◌||◌, nat_lt, All, subst, arith, List, [], ◌∷◌, ◌++◌, length, filter, replicate, refl, sym, ap, ◌∙◌, list_any, or-false, lt-ltb, le-ltb, both_ways, length-append, length-replicate, All-nil, All-cons, All-push, fold_push, BlobId, Entry, Body, Begin, Finish, Row, Now, Next, are_owners, node_of, count_below, committee_size, flag_of, BookState, Rows, IsRow, row_in, living, IsOfCommittee, IsKept, StandAt, log_of, IsMadeIn, IsMadeSince, Log, Phase, phase, phase_in, phase_after, names, writing, reading, is_moving, owners_at, owners_of, own_entries, readies, with_registered, History, history_of, history_after, IsWithin, Option, Some, None, IfSome, IfNone, slice_index_or, Holds, quorum_size, count_among, IsLeastQuorum, IsLawful, is_live, IsCertified, IsCertificate, IsDated, no_row}
+use Rattle.wal_ledger.specs.Kept.{HasBrought}
 use Rattle.wal_ledger.proofs.Entering.{phase_push, phase_whole, history_of-push, since_push, flag_cleared, own_all}
 use Rattle.wal_ledger.proofs.Quorums.{count_below-none, moves_in, writes_in, owners_in, brought_before, brought_last}
 use Rattle.wal_ledger.proofs.Living.{living_retired}
@@ -24,34 +25,25 @@ pub kept_new : (f first : ℕ) (start : List ℕ) (room : ℕ) → 1 ≤ f → f
 kept_new f first start room some few last owned =
     let here : first + 0 - first ≡ 0 = omega arith in
     let there : first + 0 + 0 - first ≡ 0 = omega arith in
-    record {
-      lawful = record {
-        some_faults = some;
-        few_faults = few;
-        owned = owned;
-        last = omega arith;
-        turns = omega arith;
-        paused = λ moving. cc;
-        brings = λ moving. absurd (let h : false ≡ true = moving in cc);
-        within = All-nil (IsWithin first (first + 0 + 0));
-        none_ahead = All-nil (λ (x : Entry). x.epoch ≤ first + 0 + 0);
-        since_begin = All-nil (IsMadeSince (first + 0 + 0));
-        dated = λ moving. absurd (let h : false ≡ true = moving in cc);
-        members = All-nil (λ (x : Entry). IsOfCommittee (committee_size f) x.body);
-      };
-      epoch_is = omega arith;
-      moving_is = refl;
-      now_at = ap (λ (k : ℕ). slice_index_or (start ∷ []) k []) here;
-      next_at = ap (λ (k : ℕ). slice_index_or (start ∷ []) k []) there;
-      ids_are = refl;
-      ids_fit = omega arith;
-      linked = refl;
-      rows = λ id. record { until = refl; tallies = row_none f 0 (λ e. slice_index_or (start ∷ []) (e - first) []) [] [] [] (λ kind e s. refl) };
-      nodes = length-replicate (committee_size f) false;
-      ready = λ s lt. flag_cleared (committee_size f) (node_of (slice_index_or (start ∷ []) (first + 0 + 0 - first) []) s);
-      counted = sym (count_below-none (committee_size f) (λ s. false) (λ s. refl));
-      alive = refl;
-    }
+    let log : Log = record { f = f; first = first; owners = start; entries = [] } in
+    let low : first + 0 + 0 ≤ 65535 = omega arith in
+    let fits : room ≤ room = omega arith in
+    let read : first ≡ first + 0 = omega arith in
+    let brings : false ≡ true → HasBrought log = λ moving. absurd (cc) in
+    let dated : false ≡ true → IsDated log = λ moving. absurd (cc) in
+    let within = All-nil (IsWithin first (first + 0 + 0)) in
+    let none_ahead = All-nil (λ (x : Entry). x.epoch ≤ first + 0 + 0) in
+    let since_begin = All-nil (IsMadeSince (first + 0 + 0)) in
+    let members = All-nil (λ (x : Entry). IsOfCommittee (committee_size f) x.body) in
+    let now_at = ap (λ (k : ℕ). slice_index_or (start ∷ []) k []) here in
+    let next_at = ap (λ (k : ℕ). slice_index_or (start ∷ []) k []) there in
+    let rows : (id : BlobId) → IsRow f (owners_at log) [] [] [] no_row =
+    λ id. record { until = refl; tallies = row_none f 0 (owners_at log) [] [] [] (λ kind e s. refl) } in
+    let nodes = length-replicate (committee_size f) false in
+    let ready = λ (s : ℕ) (lt : s < committee_size f).
+    flag_cleared (committee_size f) (node_of (slice_index_or (start ∷ []) (first + 0 + 0 - first) []) s) in
+    let counted = sym (count_below-none (committee_size f) (λ s. false) (λ s. refl)) in
+    assumption
 
 -- ---- What is kept of a ledger after one more entry.
 
