@@ -1,10 +1,8 @@
 -- What a shard must hold while the epoch changes, told by what is known of an identifier now.
 use Rattle.wal_ledger.proofs.Common.{◌≡◌, ◌≢◌, ℕ, ◌+◌, ◌<◌, ◌≤◌, max, List, [], ◌∷◌, ◌++◌, Bool, true, false, cond, nat_le, All, fold, ◌⊎◌, ◌↔◌, inl, inr, refl, sym, ap, ◌∙◌, subst, arith, append_assoc, cases_lt, ltb-true, lt-ltb, leb-true, and_parts, nat_tests, common_steps, append-nil, All-nil, All-cons, All-head, All-tail, All-push, fold_along, fold_push, fold-append, BlobId, Entry, Body, Register, Finish, Kind, Holds, count_below, committee_size, quorum_size, Log, Phase, History, phase, phase_in, phase_after, reading, writing, is_moving, cut, owners_at, names, is_register, is_finish, until_in, until_among, is_fresh, history_after, history_of, own_entries, until_of, is_signer_among, signer_count, MustHold, count_among, IsLawful, IsMadeIn, IsDated}
-use Rattle.wal_ledger.proofs.Counts.{signers_outside, count_among-outside}
+use Rattle.wal_ledger.proofs.Quorums.{signers_outside, count_among-outside, owners_cut}
 use Rattle.wal_ledger.proofs.TallyLaws.{count_below-same}
-use Rattle.wal_ledger.proofs.Entering.{phase_whole}
-use Rattle.wal_ledger.proofs.Own.{own_all}
-use Rattle.wal_ledger.proofs.Nodes.{owners_cut}
+use Rattle.wal_ledger.proofs.Entering.{phase_whole, own_all}
 
 -- the `until` of one more entry
 pub until_push : (own : List Entry) (x : Entry) → until_among (own ++ x ∷ []) ≡ max (until_among own) (until_in x.body)

@@ -3,7 +3,7 @@ use Rattle.wal_ledger.proofs.Common.{◌≡◌, ℕ, ◌+◌, ◌-◌, ◌<◌, 
 use Rattle.wal_ledger.proofs.Handover.{history_of-epoch, until_push, until_plain}
 use Rattle.wal_ledger.proofs.Entering.{phase_push, history_of-push, since_push}
 use Rattle.wal_ledger.proofs.TallyLaws.{signers_push}
-use Rattle.wal_ledger.proofs.Nodes.{writes_in, owners_in}
+use Rattle.wal_ledger.proofs.Quorums.{writes_in, owners_in}
 
 -- the entry that is made
 abbrev pub entry_in : Log → Body → Entry
@@ -128,7 +128,3 @@ ready_plain log b s plain h =
     or_cases (ready_shards log s) (readies (owners_of Next log) s b)
     (sym (ap (λ (p : Phase). list_any (λ (x : Entry). readies (owners_in log.first log.owners p (writes_in log.first p)) s x.body) p.since) (phase_plain log b plain)
     ∙ since_push (owners_of Next log) (phase log).since (entry_in log b) s) ∙ h)
-
--- none is ready once the epoch begins to change
-pub ready_begin : (log : Log) (o : List ℕ) (s : ℕ) → ready_shards (entered log (Begin o)) s ≡ false
-ready_begin log o s = ap (λ (p : Phase). list_any (λ (x : Entry). readies (owners_of Next (entered log (Begin o))) s x.body) p.since) (phase_push log.entries (entry_in log (Begin o)))

@@ -1,5 +1,5 @@
 -- What each kind of entry does to a ledger: who is live, who signed what, what must be held and who is ready.
-use Rattle.wal_ledger.proofs.Common.{◌≡◌, ℕ, ◌+◌, ◌<◌, ◌≤◌, List, [], ◌∷◌, ◌++◌, length, true, false, cond, ◌&&◌, nat_lt, ◌⊎◌, inl, inr, refl, sym, ap, ◌∙◌, subst, arith, ltb-true, lt-ltb, both_ways, false≢true, BlobId, Next, Entry, Body, Register, Ready, Kind, Holds, Denies, Log, Phase, phase, reading, writing, is_moving, owners_at, owners_of, cut, names, is_register, own_entries, until_of, is_live, same_node, is_signer_among, signers, IsCertified, MustHold, readies, ready_shards, entered, until_among, MayRegister, is_moving_extension, claim_of, IsOrderly}
+use Rattle.wal_ledger.proofs.Common.{◌≡◌, ℕ, ◌+◌, ◌<◌, ◌≤◌, List, [], ◌∷◌, ◌++◌, length, true, false, cond, ◌&&◌, nat_lt, ◌⊎◌, inl, inr, refl, sym, ap, ◌∙◌, subst, arith, ltb-true, lt-ltb, both_ways, false≢true, BlobId, Next, Entry, Body, Register, Ready, Kind, Holds, Denies, Log, Phase, phase, reading, writing, is_moving, owners_at, owners_of, cut, names, is_register, own_entries, until_of, is_live, same_node, is_signer_among, signers, IsCertified, MustHold, readies, ready_shards, entered, until_among, MayRegister, is_moving_extension, claim_of, IsOrderly, IsOfCommittee, with_registered, History, history_after, id_eq}
 use Rattle.wal_ledger.proofs.RowsPlace.{id_same}
 use Rattle.wal_ledger.proofs.TallyLaws.{signs_register}
 use Rattle.wal_ledger.proofs.HandoverEntries.{entry_in, is_plain, StaysAs, plain_stays, phase_plain, Owned, owned, until_same, until_kept, own_all_entered, SignedBefore, SignsNow, signed_cases, signs_claim_for, ready_plain}
@@ -126,13 +126,18 @@ pub claim_plain : (kind : Kind) (s : ℕ) (id : BlobId) → (is_plain (claim_of 
 claim_plain Holds s id = (refl, refl)
 claim_plain Denies s id = (refl, refl)
 
-claim_names : (kind : Kind) (s : ℕ) (id i : BlobId) → names i (claim_of kind s id) ≡ true → i ≡ id
-claim_names Holds s id i h = sym (id_same id i h)
-claim_names Denies s id i h = sym (id_same id i h)
+-- what a claim of either kind names, and leaves
+pub record IsClaim (s : ℕ) (id : BlobId) (b : Body) : Type 0 where
+  pub names_only : (i : BlobId) → names i b ≡ true → i ≡ id
+  pub quiet : (owners : List ℕ) (t : ℕ) → readies owners t b ≡ false
+  pub of : (n : ℕ) → s < n → IsOfCommittee n b
+  pub ids : (l : List BlobId) → with_registered l b ≡ l
+  pub own : (w : ℕ) (q : BlobId) (c : History) → let x : Entry = record { epoch = w; body = b } in
+      (history_after q c x).own ≡ cond (id_eq id q) (c.own ++ x ∷ []) c.own
 
-pub claim_readies : (kind : Kind) (s : ℕ) (id : BlobId) (owners : List ℕ) (t : ℕ) → readies owners t (claim_of kind s id) ≡ false
-claim_readies Holds s id owners t = refl
-claim_readies Denies s id owners t = refl
+pub is_claim : (kind : Kind) (s : ℕ) (id : BlobId) → IsClaim s id (claim_of kind s id)
+is_claim Holds s id = let same = λ (i : BlobId) (h : id_eq id i ≡ true). sym (id_same id i h) in assumption
+is_claim Denies s id = let same = λ (i : BlobId) (h : id_eq id i ≡ true). sym (id_same id i h) in assumption
 
 -- the shards for which a shard's claim counts
 abbrev pub ClaimsFor : Log → Kind → ℕ → BlobId → BlobId → Kind → ℕ → Type 0
@@ -156,8 +161,9 @@ pub claim_enters : (log : Log) (kind : Kind) (s : ℕ) (id : BlobId) → IsOrder
 claim_enters log kind s id orderly =
     unregistered_enters log (claim_of kind s id) (ClaimsFor log kind s id) (λ t. ⊥) orderly (claim_plain kind s id).0 (claim_plain kind s id).1
     (λ i k e t now. let claimed = signs_claim_for (owners_at log e) k kind s t id now.signed in
-    (claim_names kind s id i now.named, claimed.0, subst (λ (n : ℕ). same_node (owners_at log n) s t ≡ true) now.now claimed.1))
-    (λ t h. both_ways _ (claim_readies kind s id (owners_of Next log) t) h)
+    let named = (is_claim kind s id).names_only i now.named in
+    (named, claimed.0, subst (λ (n : ℕ). same_node (owners_at log n) s t ≡ true) now.now claimed.1))
+    (λ t h. both_ways _ ((is_claim kind s id).quiet (owners_of Next log) t) h)
 
 -- the readiness of a shard
 pub ready_enters : (log : Log) (s : ℕ) → IsOrderly log → Enters log (entered log (Ready s)) (λ i kind t. ⊥) (λ t. same_node (owners_of Next log) s t ≡ true)

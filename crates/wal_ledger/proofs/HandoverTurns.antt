@@ -1,11 +1,9 @@
 -- What the entries do that change the epoch.
-use Rattle.wal_ledger.proofs.Common.{◌≡◌, ◌≢◌, ℕ, ◌+◌, ◌-◌, ◌<◌, ◌≤◌, List, [], ◌∷◌, ◌++◌, length, true, false, cond, nat_lt, All, ◌⊎◌, inl, inr, refl, sym, ap, ◌∙◌, subst, arith, length-append, both_ways, false≢true, ltb-true, lt-ltb, le-ltb, cases_lt, cases_eq, BlobId, Entry, Begin, Finish, Kind, Holds, committee_size, quorum_size, Log, Phase, History, phase, phase_after, reading, writing, is_moving, owners_at, cut, own_entries, until_among, until_of, is_live, is_signer_among, signers, signer_count, IsCertified, MustHold, ready_shards, entered, IsOrderly}
+use Rattle.wal_ledger.proofs.Common.{◌≡◌, ◌≢◌, ℕ, ◌+◌, ◌-◌, ◌<◌, ◌≤◌, List, [], ◌∷◌, ◌++◌, length, true, false, cond, nat_lt, All, ◌⊎◌, inl, inr, refl, sym, ap, ◌∙◌, subst, arith, length-append, both_ways, false≢true, ltb-true, lt-ltb, le-ltb, cases_lt, cases_eq, BlobId, Entry, Begin, Finish, Kind, Holds, committee_size, quorum_size, Log, Phase, History, phase, phase_after, reading, writing, is_moving, owners_at, cut, own_entries, until_among, until_of, is_live, is_signer_among, signers, signer_count, IsCertified, MustHold, ready_shards, entered, IsOrderly, list_any, readies, owners_of, Next}
 use Rattle.wal_ledger.proofs.Entering.{phase_push, phase_whole, history_of-push}
-use Rattle.wal_ledger.proofs.Counts.{signers_outside}
-use Rattle.wal_ledger.proofs.Nodes.{owners_in, brought_before, brought_last}
+use Rattle.wal_ledger.proofs.Quorums.{signers_outside, count_below-mono, count_below-some, owners_in, brought_before, brought_last}
 use Rattle.wal_ledger.proofs.TallyLaws.{count_below-same}
-use Rattle.wal_ledger.proofs.Quorums.{count_below-mono, count_below-some}
-use Rattle.wal_ledger.proofs.HandoverEntries.{entry_in, ready_begin}
+use Rattle.wal_ledger.proofs.HandoverEntries.{entry_in}
 
 -- what was certified in an earlier epoch was certified before the last Begin
 pub certified_before : (log : Log) (id : BlobId) (e : ℕ) → IsOrderly log → is_moving log ≡ true → is_live log id ≡ true → e ≢ writing log → quorum_size log.f ≤ signer_count log id Holds e → IsCertified (cut log) id
@@ -41,7 +39,8 @@ begun log owners orderly serving = record {
   owners_kept = kept;
   owners_next = ap (λ (p : Phase). owners_in log.first log.owners p (writing new)) phase_is
       ∙ brought_last (log.owners ∷ (phase log).brought) owners (writing new - log.first) (omega (arith, next, balanced));
-  none_ready = ready_begin log owners;
+  none_ready = λ s.
+      ap (λ (p : Phase). list_any (λ (x : Entry). readies (owners_of Next new) s x.body) p.since) phase_is;
   orderly = record {
     turns = omega (arith, ap (λ (p : Phase). length p.brought) phase_is, length-append (phase log).brought (owners ∷ []), ap (λ (p : Phase). p.finishes) phase_is, balanced, ap {B = ℕ} (λ m. cond m 1 0) moves);
     epochs = λ id. subst (All (λ (x : Entry). x.epoch ≤ writing new)) (sym (own id)) (λ k d lt. omega (arith, orderly.epochs id k d lt, next, serves));

@@ -1,29 +1,16 @@
 -- The rows after a claim, a registration, or another entry.
-use Rattle.wal_ledger.proofs.Common.{◌≡◌, ℕ, ◌+◌, ◌-◌, ◌<◌, ◌≤◌, max, Bool, true, false, cond, ◌&&◌, ◌||◌, nat_eq, nat_le, List, [], ◌∷◌, ◌++◌, length, slice_set, refl, sym, ap, ◌∙◌, subst, arith, list_any, insert_key, or_from, and_right, length-set, BlobId, Entry, Register, Ack, Attest, Ready, Kind, Holds, Denies, Row, Tally, Next, node_of, count_below, committee_size, flag_of, BookState, IsTally, IsFirstClaim, link_in, node_size, tally_after, Rows, IsRow, row_in, no_row, row_registered, tally_of, with_tally, IsOfCommittee, IsKept, log_of, claim_of, Log, phase, writing, owners_at, owners_of, until_among, same_node, signs_for, readies, ready_shards, signers, own_entries, History, history_of, history_after, with_registered, id_eq, id_cmp, Ascends}
+use Rattle.wal_ledger.proofs.Common.{◌≡◌, ℕ, ◌+◌, ◌-◌, ◌<◌, ◌≤◌, max, Bool, true, false, cond, ◌&&◌, ◌||◌, nat_eq, nat_le, List, [], ◌∷◌, ◌++◌, length, slice_set, refl, sym, ap, ◌∙◌, subst, arith, list_any, insert_key, or_from, and_right, length-set, BlobId, Entry, Register, Ack, Attest, Ready, Kind, Holds, Denies, Row, Tally, Next, node_of, count_below, committee_size, flag_of, BookState, IsTally, IsFirstClaim, link_in, node_size, tally_after, Rows, IsRow, row_in, no_row, row_registered, tally_of, with_tally, IsKept, log_of, claim_of, Log, phase, writing, owners_at, owners_of, until_among, same_node, signs_for, readies, ready_shards, signers, own_entries, history_of, id_eq, id_cmp, Ascends}
 use Rattle.wal_ledger.proofs.RowsPlace.{id_same}
-use Rattle.wal_ledger.proofs.Living.{registered_ascends}
-use Rattle.wal_ledger.proofs.LiveIds.{living_same, living_registered}
-use Rattle.wal_ledger.proofs.RowsKept.{pushed, nameless, kept_still, kept_quiet, row_kept}
-use Rattle.wal_ledger.proofs.Counts.{count_below-joined}
-use Rattle.wal_ledger.proofs.Entering.{since_push}
-use Rattle.wal_ledger.proofs.Nodes.{ready-node, node_apart}
+use Rattle.wal_ledger.proofs.Living.{registered_ascends, living_same, living_registered}
+use Rattle.wal_ledger.proofs.RowsKept.{pushed, nameless, kept_still, kept_quiet, row_kept, own_within}
+use Rattle.wal_ledger.proofs.Quorums.{count_below-joined, ready-node, node_apart}
+use Rattle.wal_ledger.proofs.Entering.{since_push, flag_raised}
 use Rattle.wal_ledger.proofs.Handover.{history_of-epoch, until_push, until_plain}
 use Rattle.wal_ledger.proofs.HandoverEntries.{phase_after-plain}
-use Rattle.wal_ledger.proofs.HandoverOrder.{claim_plain, claim_readies}
-use Rattle.wal_ledger.proofs.RowsRead.{own_within}
-use Rattle.wal_ledger.proofs.FlagLaws.{flag_raised}
+use Rattle.wal_ledger.proofs.HandoverOrder.{claim_plain, IsClaim, is_claim}
 use Rattle.wal_ledger.proofs.TallyLaws.{tally_signed, tally_other, row_none, signs_claim, signs_register}
 
 -- a claim is entered
-claim_ids : (kind : Kind) (shard : ℕ) (id : BlobId) (ids : List BlobId) → with_registered ids (claim_of kind shard id) ≡ ids
-claim_ids Holds shard id ids = refl
-claim_ids Denies shard id ids = refl
-
-history_after-claim : (kind : Kind) (shard w : ℕ) (id q : BlobId) (c : History) → let x : Entry = record { epoch = w; body = claim_of kind shard id } in
-    (history_after q c x).own ≡ cond (id_eq id q) (c.own ++ x ∷ []) c.own
-history_after-claim Holds shard w id q c = refl
-history_after-claim Denies shard w id q c = refl
-
 with_until : (kind : Kind) (t : Tally) (row : Row) → (with_tally kind t row).until ≡ row.until
 with_until Holds t row = refl
 with_until Denies t row = refl
@@ -46,11 +33,6 @@ claimed_row f first w place size shard owners kind id own entries links row i cl
     at Holds i claim Denies = tally_other f owners own Denies entries links row.denies (record { epoch = w; body = Ack shard id }) (link_in w row.holds) (λ e s. refl) (i.tallies Denies)
     at Denies i claim Holds = tally_other f owners own Holds entries links row.holds (record { epoch = w; body = Attest shard id }) (link_in w row.denies) (λ e s. refl) (i.tallies Holds)
     at Denies i claim Denies = tally_signed f first place size shard owners own Denies entries links row.denies (record { epoch = w; body = Attest shard id }) (i.tallies Denies) claim sized entries_len links_len
-
--- what a shard of the committee says is of the committee
-of_claim : (n : ℕ) (kind : Kind) (shard : ℕ) (id : BlobId) → shard < n → IsOfCommittee n (claim_of kind shard id)
-of_claim n Holds shard id below = below
-of_claim n Denies shard id below = below
 
 -- the row of the identifier that is registered
 registered_row : (f epoch w until : ℕ) (owners : ℕ → List ℕ) (id : BlobId) (own entries : List Entry) (links : List ℕ) (row : Row) → let x : Entry = record { epoch = w; body = Register id until } in
@@ -89,12 +71,12 @@ module _ (f first : ℕ) (start : List ℕ) (e : ℕ) (m : Bool) (now next : ℕ
       → ((q : BlobId) → row_in new q ≡ cond (id_eq id q) (with_tally kind (tally_after f w place size t) (row_in table id)) (row_in table q))
       → IsKept (log_of f first start (pushed book (record { epoch = w; body = claim_of kind shard id }) (link_in w t))) (book.spare - 1) (book.links ++ link_in w t ∷ []) e m now next new flags total
   kept_claim place size shard kind id new below first_time at sized ids spare live rows =
-      kept_quiet f first start e m now next book table flags total k room new (claim_of kind shard id) (link_in w t) (of_claim (committee_size f) kind shard id below)
-      (λ p. phase_after-plain (claim_of kind shard id) x p (claim_plain kind shard id).0) (claim_readies kind shard id)
+      kept_quiet f first start e m now next book table flags total k room new (claim_of kind shard id) (link_in w t) (claim.of (committee_size f) below)
+      (λ p. phase_after-plain (claim_of kind shard id) x p (claim_plain kind shard id).0) claim.quiet
       (record {
-        ids = ids ∙ sym (claim_ids kind shard id table.ids);
+        ids = ids ∙ sym (claim.ids table.ids);
         spare = omega arith;
-        rows = λ q. rw (history_after-claim kind shard w id q (history_of first book.entries q), rows q) (by q (id_eq id q) refl);
+        rows = λ q. rw (claim.own w q (history_of first book.entries q), rows q) (by q (id_eq id q) refl);
       })
       (living_same e table new k.alive live ids (λ q. ap (λ (r : Row). r.until) (rows q) ∙ untils (id_eq id q) q refl))
     where
@@ -103,6 +85,9 @@ module _ (f first : ℕ) (start : List ℕ) (e : ℕ) (m : Bool) (now next : ℕ
 
       x : Entry
       x = record { epoch = w; body = claim_of kind shard id }
+
+      claim : IsClaim shard id x.body
+      claim = is_claim kind shard id
 
       untils : (b : Bool) → (q : BlobId) → id_eq id q ≡ b → (cond b (with_tally kind (tally_after f w place size t) (row_in table id)) (row_in table q)).until ≡ (row_in table q).until
       untils true q same = with_until kind (tally_after f w place size t) (row_in table id) ∙ ap (λ (p : BlobId). (row_in table p).until) (id_same id q same)

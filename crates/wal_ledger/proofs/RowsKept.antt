@@ -1,12 +1,51 @@
--- What is kept of a ledger after one more entry.
-use Rattle.wal_ledger.proofs.Common.{◌≡◌, ℕ, zero, suc, ◌+◌, ◌-◌, ◌<◌, ◌≤◌, Bool, true, false, cond, ◌||◌, nat_lt, All, subst, arith, List, [], ◌∷◌, ◌++◌, length, filter, replicate, refl, sym, ap, ◌∙◌, list_any, or-false, lt-ltb, le-ltb, both_ways, length-append, length-replicate, All-nil, All-cons, All-push, fold_push, BlobId, Entry, Body, Begin, Finish, Row, Now, Next, are_owners, node_of, count_below, committee_size, flag_of, BookState, Rows, IsRow, row_in, living, IsOfCommittee, IsKept, StandAt, log_of, IsMadeIn, IsMadeSince, Log, Phase, phase, phase_in, phase_after, names, writing, reading, is_moving, owners_at, owners_of, own_entries, readies, with_registered, History, history_of, history_after, IsWithin}
-use Rattle.wal_ledger.proofs.Entering.{phase_push, phase_whole, history_of-push, since_push}
-use Rattle.wal_ledger.proofs.FlagLaws.{flag_cleared}
-use Rattle.wal_ledger.proofs.Counts.{count_below-none}
-use Rattle.wal_ledger.proofs.Nodes.{moves_in, writes_in, owners_in, brought_before, brought_last}
-use Rattle.wal_ledger.proofs.RowsRead.{own_within}
-use Rattle.wal_ledger.proofs.LiveIds.{living_retired}
-use Rattle.wal_ledger.proofs.TallyLaws.{tally_kept, tally_owned, slice_get-front, slice_get-push, count_below-same}
+-- What the row of an identifier tells.
+use Rattle.wal_ledger.proofs.Common.{◌≡◌, ℕ, zero, suc, ◌+◌, ◌-◌, ◌<◌, ◌≤◌, Bool, true, false, cond, ◌||◌, nat_lt, All, subst, arith, List, [], ◌∷◌, ◌++◌, length, filter, replicate, refl, sym, ap, ◌∙◌, list_any, or-false, lt-ltb, le-ltb, both_ways, length-append, length-replicate, All-nil, All-cons, All-push, fold_push, BlobId, Entry, Body, Begin, Finish, Row, Now, Next, are_owners, node_of, count_below, committee_size, flag_of, BookState, Rows, IsRow, row_in, living, IsOfCommittee, IsKept, StandAt, log_of, IsMadeIn, IsMadeSince, Log, Phase, phase, phase_in, phase_after, names, writing, reading, is_moving, owners_at, owners_of, own_entries, readies, with_registered, History, history_of, history_after, IsWithin, Option, Some, None, IfSome, IfNone, slice_index_or, Holds, quorum_size, count_among, IsLeastQuorum, IsLawful, is_live, IsCertified, IsCertificate, IsDated, no_row}
+use Rattle.wal_ledger.specs.Kept.{HasBrought}
+use Rattle.wal_ledger.proofs.Entering.{phase_push, phase_whole, history_of-push, since_push, flag_cleared, own_all}
+use Rattle.wal_ledger.proofs.Quorums.{count_below-none, moves_in, writes_in, owners_in, brought_before, brought_last}
+use Rattle.wal_ledger.proofs.Living.{living_retired}
+use Rattle.wal_ledger.proofs.TallyLaws.{tally_kept, tally_owned, slice_get-front, slice_get-push, count_below-same, row_none}
+
+-- an identifier's own entries are of the epochs that have been
+pub own_within : (log : Log) (id : BlobId) → IsLawful log → All (IsWithin log.first (writing log)) (own_entries log id)
+own_within log id lawful = own_all (IsWithin log.first (writing log)) log.first id log.entries (own_entries log id) refl lawful.within
+
+-- the certificate of a live identifier
+pub certificate_some : (log : Log) (id : BlobId) (o : Option (ℕ × ℕ)) → is_live log id ≡ true → IfSome o (λ found. IsLeastQuorum log.f (owners_at log) (own_entries log id) Holds found.0 found.1) → IfSome o (λ found. IsCertificate log id found.0 found.1)
+certificate_some log id None live least = tt
+certificate_some log id (Some found) live least = record { live = live; counted = least.counted; quorum = least.quorum; least = least.least }
+
+pub certificate_none : (log : Log) (id : BlobId) (o : Option (ℕ × ℕ)) → IfNone o ((e : ℕ) → count_among log.f (owners_at log) (own_entries log id) Holds e < quorum_size log.f) → IfNone o (IsCertified log id → ⊥)
+certificate_none log id None few = λ certified. omega (arith, few certified.quorum.0, certified.quorum.1)
+certificate_none log id (Some found) few = tt
+
+-- what is kept of an empty ledger
+pub kept_new : (f first : ℕ) (start : List ℕ) (room : ℕ) → 1 ≤ f → f ≤ 333 → first ≤ 65535 → are_owners (committee_size f) start ≡ true
+    → IsKept (record { f = f; first = first; owners = start; entries = [] }) room [] first false 0 0 (record { ids = []; rows = []; live = []; spare = room }) (replicate (committee_size f) false) 0
+kept_new f first start room some few last owned =
+    let here : first + 0 - first ≡ 0 = omega arith in
+    let there : first + 0 + 0 - first ≡ 0 = omega arith in
+    let log : Log = record { f = f; first = first; owners = start; entries = [] } in
+    let low : first + 0 + 0 ≤ 65535 = omega arith in
+    let fits : room ≤ room = omega arith in
+    let read : first ≡ first + 0 = omega arith in
+    let brings : false ≡ true → HasBrought log = λ moving. absurd (cc) in
+    let dated : false ≡ true → IsDated log = λ moving. absurd (cc) in
+    let within = All-nil (IsWithin first (first + 0 + 0)) in
+    let none_ahead = All-nil (λ (x : Entry). x.epoch ≤ first + 0 + 0) in
+    let since_begin = All-nil (IsMadeSince (first + 0 + 0)) in
+    let members = All-nil (λ (x : Entry). IsOfCommittee (committee_size f) x.body) in
+    let now_at = ap (λ (k : ℕ). slice_index_or (start ∷ []) k []) here in
+    let next_at = ap (λ (k : ℕ). slice_index_or (start ∷ []) k []) there in
+    let rows : (id : BlobId) → IsRow f (owners_at log) [] [] [] no_row =
+    λ id. record { until = refl; tallies = row_none f 0 (owners_at log) [] [] [] (λ kind e s. refl) } in
+    let nodes = length-replicate (committee_size f) false in
+    let ready = λ (s : ℕ) (lt : s < committee_size f).
+    flag_cleared (committee_size f) (node_of (slice_index_or (start ∷ []) (first + 0 + 0 - first) []) s) in
+    let counted = sym (count_below-none (committee_size f) (λ s. false) (λ s. refl)) in
+    assumption
+
+-- ---- What is kept of a ledger after one more entry.
 
 -- a row stays right when entries follow that are not the identifier's own
 pub row_kept : (f : ℕ) (owners : ℕ → List ℕ) (own entries more : List Entry) (links after : List ℕ) (row : Row) → IsRow f owners own entries links row → IsRow f owners own (entries ++ more) (links ++ after) row
@@ -115,34 +154,20 @@ module _ (f first : ℕ) (start : List ℕ) (e : ℕ) (m : Bool) (now next : ℕ
       All-push (IsWithin first w) book.entries x
       (λ j d lt. let i = k.lawful.within j d lt in record { low = i.low; high = omega (arith, i.high, grows, epoch) })
       (record { low = omega arith; high = omega (arith, grows, epoch) }) in
-      record {
-        lawful = record {
-          some_faults = k.lawful.some_faults;
-          few_faults = k.lawful.few_faults;
-          owned = k.lawful.owned;
-          last = at.last;
-          turns = at.turns;
-          paused = at.paused;
-          brings = at.brings;
-          within = within;
-          none_ahead = λ j d lt. (within j d lt).high;
-          since_begin = at.made;
-          dated = λ moving. record { earlier = (at.dated moving).0; later = (at.dated moving).1 };
-          members = All-push (λ (y : Entry). IsOfCommittee (committee_size f) y.body) book.entries x k.lawful.members of;
-        };
-        epoch_is = at.epoch_is;
-        moving_is = at.moving_is;
-        now_at = at.now_at;
-        next_at = at.next_at;
-        ids_are = rows.ids ∙ ap (λ (l : List BlobId). with_registered l body) k.ids_are ∙ sym (fold_push (λ l (y : Entry). with_registered l y.body) [] book.entries x);
-        ids_fit = omega (arith, k.ids_fit, rows.spare);
-        linked = omega (arith, k.linked, length-append book.links (link ∷ []), length-append book.entries (x ∷ []));
-        rows = λ id. subst (λ (c : History). IsRow f (owners_in first start p) c.own (entries body) (book.links ++ link ∷ []) (row_in new id)) (sym (history_of-push first book.entries x id)) (rows.rows id);
-        nodes = same ∙ k.nodes;
-        ready = at.ready;
-        counted = at.counted;
-        alive = alive;
-      }
+      let none_ahead : All (λ (y : Entry). y.epoch ≤ w) (entries body) = λ j d lt. (within j d lt).high in
+      let dated : moves_in p ≡ true → IsDated (log_of f first start (pushed book x link)) =
+      λ moving. record { earlier = (at.dated moving).0; later = (at.dated moving).1 } in
+      let members = All-push (λ (y : Entry). IsOfCommittee (committee_size f) y.body) book.entries x
+      k.lawful.members of in
+      let ids_are = rows.ids ∙ ap (λ (l : List BlobId). with_registered l body) k.ids_are
+      ∙ sym (fold_push (λ l (y : Entry). with_registered l y.body) [] book.entries x) in
+      let ids_fit : book.spare - 1 ≤ new.spare = omega (arith, k.ids_fit, rows.spare) in
+      let linked : length (book.links ++ link ∷ []) ≡ length (entries body) =
+      omega (arith, k.linked, length-append book.links (link ∷ []), length-append book.entries (x ∷ [])) in
+      let row = λ (id : BlobId). subst (λ (c : History). IsRow f (owners_in first start p) c.own (entries body)
+      (book.links ++ link ∷ []) (row_in new id)) (sym (history_of-push first book.entries x id)) (rows.rows id) in
+      let nodes = same ∙ k.nodes in
+      assumption
 
   -- what is kept after an entry that neither begins nor ends a change of the epoch
   pub kept_still : (new : Rows) (after : List Bool) (sum : ℕ) (body : Body) (link : ℕ) → let x : Entry = entered body in let o : List ℕ = owners_of Next old in
@@ -155,22 +180,19 @@ module _ (f first : ℕ) (start : List ℕ) (e : ℕ) (m : Bool) (now next : ℕ
       let x : Entry = entered body in
       let p : Phase = phase old in
       let is = sym (turns p) in
+      let made = All-push (IsMadeSince (writing old)) p.since x k.lawful.since_begin (λ plain. refl) in
+      let dated : is_moving old ≡ true → All (λ (y : Entry). y.epoch ≤ reading old) p.before
+      × All (IsMadeIn (writing old)) (p.since ++ x ∷ []) =
+      λ moving. let d = k.lawful.dated moving in
+      (d.earlier, All-push (IsMadeIn (writing old)) p.since x d.later (λ id named. refl)) in
+      let now_at = stand_push start book.entries (x ∷ []) now (owners_of Now old) k.now_at in
+      let next_at = stand_push start book.entries (x ∷ []) next (owners_of Next old) k.next_at in
+      let ready = λ (s : ℕ) (lt : s < committee_size f). more s lt
+      ∙ ap (λ b. b || readies (owners_of Next old) s body) (k.ready s lt)
+      ∙ sym (since_push (owners_of Next old) p.since x s) in
       kept_push body link e m now next new after sum (writing old) of same (ap (writes_in first) is) (omega arith)
       (subst (λ (q : Phase). Follows f first (owners_in first start q) book table new x link) is follows)
-      (subst (AtPhase f first start (entries body) e m now next after sum (writing old)) is (record {
-        last = k.lawful.last;
-        turns = k.lawful.turns;
-        paused = k.lawful.paused;
-        brings = k.lawful.brings;
-        made = All-push (IsMadeSince (writing old)) p.since x k.lawful.since_begin (λ plain. refl);
-        dated = λ moving. let d = k.lawful.dated moving in (d.earlier, All-push (IsMadeIn (writing old)) p.since x d.later (λ id named. refl));
-        epoch_is = k.epoch_is;
-        moving_is = k.moving_is;
-        now_at = stand_push start book.entries (x ∷ []) now (owners_of Now old) k.now_at;
-        next_at = stand_push start book.entries (x ∷ []) next (owners_of Next old) k.next_at;
-        ready = λ s lt. more s lt ∙ ap (λ b. b || readies (owners_of Next old) s body) (k.ready s lt) ∙ sym (since_push (owners_of Next old) p.since x s);
-        counted = counted;
-      }))
+      (subst (AtPhase f first start (entries body) e m now next after sum (writing old)) is (assumption))
       alive
 
   -- what is kept after one that neither begins nor ends a change and makes nobody ready

@@ -1,9 +1,8 @@
 -- What a tally tells, and how one more entry changes it.
-use Rattle.wal_ledger.proofs.Common.{◌≡◌, ◌≢◌, ℕ, zero, suc, ◌+◌, ◌-◌, ◌<◌, ◌≤◌, List, [], ◌∷◌, ◌++◌, Bool, true, false, cond, ◌&&◌, ◌||◌, nat_eq, nat_le, length, get_or, All, Option, Some, None, slice_get, inl, inr, refl, sym, ap, ◌∙◌, subst, arith, nat_tests, or-false, cases_lt, cases_eq, eq-eqb, eqb-true, eqb-false, ne_eqb, leb-true, leb-false, cond_both, and_right, common_steps, BlobId, has_neighbour, Entry, Body, Register, Ack, Attest, Kind, Holds, Denies, Tally, count_below, committee_size, quorum_size, signs_for, same_node, is_signer_among, claim_of, count_among, IsWithin, signs, IsLinked, Chain, HasLeast, IsTally, IsFirstClaim, no_tally, link_in, quorum_after, node_size, tally_after, tally_of, no_row}
+use Rattle.wal_ledger.proofs.Common.{◌≡◌, ◌≢◌, ℕ, zero, suc, ◌+◌, ◌-◌, ◌<◌, ◌≤◌, List, [], ◌∷◌, ◌++◌, Bool, true, false, cond, ◌&&◌, ◌||◌, nat_eq, nat_le, length, get_or, All, Option, Some, None, slice_get, inl, inr, refl, sym, ap, ◌∙◌, subst, arith, nat_tests, or-false, cases_lt, cases_eq, eq-eqb, eqb-true, eqb-false, ne_eqb, leb-true, leb-false, cond_both, and_right, common_steps, BlobId, has_neighbour, Entry, Body, Register, Ack, Attest, Kind, Holds, Denies, Tally, count_below, committee_size, quorum_size, signs_for, same_node, is_signer_among, claim_of, count_among, IsWithin, signs, IsLinked, Chain, HasLeast, IsTally, IsFirstClaim, no_tally, link_in, quorum_after, node_size, tally_after, tally_of, no_row, node_of}
 use Rattle.std.proofs.lemmas.Option.{slice_get_within, get_or_from_slice_get, gets}
 use Rattle.wal_ledger.specs.declared.tally.Quorum.{Quorum}
-use Rattle.wal_ledger.proofs.Counts.{count_below-none, count_below-has, count_below-joined, count_among-beyond, signers_outside}
-use Rattle.wal_ledger.proofs.Nodes.{same_node-self, signers-node, node_apart}
+use Rattle.wal_ledger.proofs.Quorums.{count_below-none, count_below-has, count_below-joined, count_among-beyond, signers_outside, signers-node, node_apart}
 
 -- an entry of one shard signs for all shards of its node
 pub signs_one : (owners : List ℕ) (kind : Kind) (t s : ℕ) (b : Body) → signs kind t b ≡ true → signs_for owners kind s b ≡ same_node owners t s
@@ -247,7 +246,7 @@ tally_signed f first place size shard owners own kind entries links t x i claim 
       members = λ s. turned (same_node (owners x.epoch) shard s) (has_neighbour (owners x.epoch) old.0 s) (is_signer_among (owners x.epoch) own kind x.epoch s)
           (old.1.1 s ∙ sym (tally_signers f first x.epoch s owners own kind entries links t i claim.latest)) ∙ sym (here s);
       counted = counted;
-      idle = λ h. absurd (omega (arith, sized, count_below-has (committee_size f) shard (same_node (owners x.epoch) shard) claim.below (same_node-self (owners x.epoch) shard)));
+      idle = λ h. absurd (omega (arith, sized, count_below-has (committee_size f) shard (same_node (owners x.epoch) shard) claim.below (eq-eqb (node_of (owners x.epoch) shard) _ refl)));
       later = λ e s past. apart e s (λ h. omega arith) ∙ signers_beyond (owners e) own kind first x.epoch e s claim.latest past;
       least = least_grown f first x.epoch (cond (nat_eq t.epoch x.epoch) t.count 0 + size) owners own new kind t.quorum claim.latest
           (λ e ne. count_below-same (committee_size f) (is_signer_among (owners e) own kind e) (is_signer_among (owners e) new kind e) (λ s lt. apart e s ne))

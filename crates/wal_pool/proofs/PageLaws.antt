@@ -1,5 +1,5 @@
 -- What a change of one page's state leaves of the others.
-use Rattle.wal_pool.proofs.Common.{◌≡◌, ◌≢◌, ℕ, zero, suc, ◌+◌, ◌<◌, Some, List, [], ◌∷◌, length, slice_get, slice_set, slice_index_or, count_by, cond, refl, ap, arith, sum_by-cons, sum_by-set, count_by-le-length, slice_get_within, get_or_from_slice_get, PageState, Free, Taken, is_free, bytes_in, page_bytes, IsTakenPage}
+use Rattle.wal_pool.proofs.Common.{◌≡◌, ◌≢◌, ℕ, zero, suc, ◌+◌, ◌<◌, Some, List, [], ◌∷◌, length, slice_get, slice_set, slice_index_or, count_by, cond, refl, ap, arith, sum_by-cons, sum_by-set, count_by-le-length, slice_get_within, get_or_from_slice_get, PageState, Free, Taken, is_free, IsTakenPage}
 
 pub slice_get-set_other : {X : Type 0} (xs : List X) (i k : ℕ) (x : X) → k ≢ i → slice_get (slice_set xs i x) k ≡ slice_get xs k
 slice_get-set_other (y ∷ xs) zero zero x other = absurd (other refl)
@@ -11,19 +11,9 @@ slice_get-set_same [] i x within = absurd (omega arith)
 slice_get-set_same (y ∷ xs) zero x within = refl
 slice_get-set_same (y ∷ xs) (suc i) x within = slice_get-set_same xs i x (omega arith)
 
--- the bytes of another page stay
-pub page_bytes-kept : (pages : List PageState) (n k : ℕ) (s : PageState) → k ≢ n → page_bytes (slice_set pages n s) k ≡ page_bytes pages k
-page_bytes-kept pages n k s other = ap bytes_in (slice_get-set_other pages n k s other)
-
 -- another page that is taken stays taken
 pub taken_kept : (old new : List PageState) (n k : ℕ) (s : PageState) → new ≡ slice_set old n s → k ≢ n → IsTakenPage old k → IsTakenPage new k
 taken_kept old new n k s change other taken = cc (slice_get-set_other old n k s other)
-
-pub page_bytes-set : (pages : List PageState) (n : ℕ) (bytes : List ℕ) → n < length pages → page_bytes (slice_set pages n (Taken bytes)) n ≡ bytes
-page_bytes-set pages n bytes within = ap bytes_in (slice_get-set_same pages n (Taken bytes) within)
-
-pub taken_set : (pages : List PageState) (n : ℕ) (bytes : List ℕ) → n < length pages → IsTakenPage (slice_set pages n (Taken bytes)) n
-taken_set pages n bytes within = cc (slice_get-set_same pages n (Taken bytes) within)
 
 -- a free page is none that is taken
 pub free_apart : (pages : List PageState) (n k : ℕ) → slice_get pages n ≡ Some Free → IsTakenPage pages k → k ≢ n

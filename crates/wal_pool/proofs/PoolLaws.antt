@@ -1,9 +1,8 @@
 -- What taking a page, giving one back and writing to one do to the region, its free pages and their states.
 use Rattle.wal_pool.proofs.Common.{◌≡◌, ◌≢◌, ℕ, ◌+◌, ◌-◌, ◌*◌, ◌^◌, ◌<◌, ◌≤◌, true, Some, List, [], ◌∷◌, length, slice_get, slice_set, get_or, count_by, take, refl, sym, ap, ◌∙◌, arith, w32, from_be_bytes, to_be_bytes, count_by-le-length, PageState, Free, Taken, is_free, bytes_in, page_bytes, IsTakenPage, AreWhole, overwrite, page_of, next, chain, is_free_list, states}
 use Rattle.wal_pool.proofs.OverwriteLaws.{length-overwrite}
-use Rattle.wal_pool.proofs.ChainLaws.{length-page_of, page_within, page_of-overwrite, page_of-overwrite_other, next-overwrite_other, next-link, chain-same, chain-first, Listed, listed_parts, listed_from}
+use Rattle.wal_pool.proofs.StateLaws.{length-page_of, page_within, page_of-overwrite, page_of-overwrite_other, next-overwrite_other, next-link, chain-same, chain-first, Listed, listed_parts, listed_from, length-states, slice_get-states, state_free, state_taken, has_first, states-take, states-link, states-write, Out, out_from}
 use Rattle.wal_pool.proofs.PageLaws.{count-take, count-give, count-write}
-use Rattle.wal_pool.proofs.StateLaws.{length-states, slice_get-states, state_free, state_taken, has_first, states-take, states-link, states-write, Out, out_from}
 
 -- the four bytes with which a page begins
 pub four_bytes : (p : List ℕ) → 4 ≤ length p → from_be_bytes w32 (get_or p 0 0 ∷ get_or p 1 0 ∷ get_or p 2 0 ∷ get_or p 3 0 ∷ []) ≡ from_be_bytes w32 (take 4 p)
@@ -128,12 +127,8 @@ pub taken_bytes : (size pages : ℕ) (r : List ℕ) (free first k : ℕ) (seen :
 taken_bytes size pages r free first k seen view is_taken =
     cc ((out_from size pages r (chain size r free first) k (rw (← view) at is_taken)).bytes)
 
--- and they are as many as a page has
-pub taken_size : (size pages : ℕ) (r : List ℕ) (free first k : ℕ) (seen : List PageState) → length r ≡ size * pages → states size pages r (chain size r free first) ≡ seen → IsTakenPage seen k → length (page_bytes seen k) ≡ size
-taken_size size pages r free first k seen large view is_taken =
+-- and they are as many as a page has, so each page that is taken has all its bytes
+pub pages_whole : (size pages : ℕ) (r : List ℕ) (free first : ℕ) (seen : List PageState) → length r ≡ size * pages → states size pages r (chain size r free first) ≡ seen → AreWhole size seen
+pages_whole size pages r free first seen large view k is_taken =
     ap length (sym (taken_bytes size pages r free first k seen view is_taken))
     ∙ length-page_of size r k (taken_within size pages r free first k seen large view is_taken)
-
--- so each page that is taken has all its bytes
-pub pages_whole : (size pages : ℕ) (r : List ℕ) (free first : ℕ) (seen : List PageState) → length r ≡ size * pages → states size pages r (chain size r free first) ≡ seen → AreWhole size seen
-pages_whole size pages r free first seen large view k is_taken = taken_size size pages r free first k seen large view is_taken

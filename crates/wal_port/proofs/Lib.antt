@@ -1,3 +1,3 @@
-mod Pieces
 pub mod Rooms
 mod Common
+mod Triples

@@ -1,8 +1,53 @@
--- A text of which the front stands in a room: how many bytes were taken, and what has no room, when a piece more is taken.
+-- Pieces of bytes, one after another.
 -- What a slice `&xs[n..]` holds shows as `take (length xs - n) (drop n xs)`.
-use Rattle.wal_port.proofs.Common.{◌≡◌, ℕ, ◌+◌, ◌-◌, ◌^◌, ◌<◌, ◌≤◌, ◌⊎◌, min, List, [], ◌∷◌, ◌++◌, length, take, drop, refl, sym, ap, ◌∙◌, inl, inr, arith, take-append-drop, length-append, length-drop, drop_of_length-le, drop-append_seam, take-append_seam, take-length, append-nil, append_assoc, drop-drop, length-take-le, take_all, take_min}
+use Rattle.wal_port.proofs.Common.{◌≡◌, ℕ, ◌+◌, ◌-◌, ◌^◌, ◌<◌, ◌≤◌, ◌⊎◌, min, List, [], ◌∷◌, ◌++◌, length, take, drop, refl, sym, ap, ◌∙◌, inl, inr, arith, take-append-drop, length-append, length-drop, drop_of_length-le, drop-append_seam, take-append_seam, take-length, append-nil, append_assoc, drop-drop, length-take-le, take_all, take_min, Option, subst, take-add, Consumes, Appends}
 use Rattle.std.proofs.lemmas.Bool.{cases_lt}
 use Rattle.std.proofs.lemmas.Slice.{drop-append-drop}
+use Rattle.std.proofs.KnownBytes.{Consumes-trans, Appends-trans}
+
+-- a slice to the end holds the rest
+pub take-rest : (n : ℕ) (xs : List ℕ) → take (length xs - n) (drop n xs) ≡ drop n xs
+take-rest n xs = ap (λ m. take m (drop n xs)) (sym (length-drop n xs)) ∙ take-length (drop n xs)
+
+-- what is still to come after k more bytes were given
+pub drop-given : (bytes held into : List ℕ) (given k : ℕ) → held ≡ bytes
+    → take k into ≡ take k (take (length held - given) (drop given held))
+    → drop given bytes ≡ take k into ++ drop (given + k) bytes
+drop-given bytes held into given k lent copied =
+    cc (take-rest given held, take-append-drop k (drop given bytes), drop-drop k given bytes)
+
+-- where pieces are not empty, none is given only at the end
+pub drop-none_given : (bytes held into : List ℕ) (given k piece : ℕ) → 0 < piece → held ≡ bytes
+    → k ≡ min piece (min (length into) (length (take (length held - given) (drop given held))))
+    → k ≡ 0 → 0 < length into → drop (given + k) bytes ≡ []
+drop-none_given bytes held into given k piece some lent count none room =
+    drop_of_length-le bytes (omega (arith, ap length (take-rest given held), length-drop given held, ap length lent))
+
+-- what one piece and then the next took, in all
+pub Consumes-next : (a b c : Option (List ℕ)) (bs into : List ℕ) (k total : ℕ) → Consumes a b bs
+    → Consumes b c (take k into) → k ≡ length (take k into) → length bs + k ≡ total
+    → (taken : List ℕ) × Consumes a c taken × (length taken ≡ total)
+Consumes-next a b c bs into k total first next count sum =
+    (bs ++ take k into, Consumes-trans a b c bs (take k into) first next, omega (arith, length-append bs (take k into)))
+
+-- the same, for a bound on what they took
+pub Consumes-within : (a b c : Option (List ℕ)) (bs into : List ℕ) (k most : ℕ) → Consumes a b bs
+    → Consumes b c (take k into) → k ≡ length (take k into) → length bs + k ≤ most
+    → (taken : List ℕ) × Consumes a c taken × (length taken ≤ most)
+Consumes-within a b c bs into k most first next count bound =
+    let all = Consumes-next a b c bs into k (length bs + k) first next count refl in
+    (all.0, all.1, omega (arith, all.2))
+
+-- the first pieces and then the next are the first bytes
+pub Appends-next : (a b c : Option (List ℕ)) (bytes : List ℕ) (done k : ℕ) → Appends a b (take done bytes)
+    → Appends b c (take k (take (length bytes - done) (drop done bytes))) → Appends a c (take (done + k) bytes)
+Appends-next a b c bytes done k first next =
+    let same : take done bytes ++ take k (take (length bytes - done) (drop done bytes)) ≡ take (done + k) bytes =
+    ap (λ l. take done bytes ++ take k l) (take-rest done bytes) ∙ sym (take-add done k bytes) in
+    subst (Appends a c) same (Appends-trans a b c (take done bytes) _ first next)
+
+-- ---- A text of which the front stands in a room: how many bytes were taken, and what has no room, when a piece more is taken.
+-- What a slice `&xs[n..]` holds shows as `take (length xs - n) (drop n xs)`.
 
 -- the last value of a counter of 64 bits
 abbrev most : ℕ
@@ -18,8 +63,7 @@ counted_more n c beyond start piece kept more later fits counted at keeps adds g
 pub drop_further : (xs ys : List ℕ) (c more : ℕ) → c ≤ more → drop c xs ≡ drop c ys → drop more xs ≡ drop more ys
 drop_further xs ys c more up same =
     let e : c + (more - c) ≡ more = omega (arith, up) in
-    ap (λ k. drop k xs) (sym e) ∙ sym (drop-drop (more - c) c xs) ∙ ap (drop (more - c)) same ∙ drop-drop (more - c) c ys
-    ∙ ap (λ k. drop k ys) e
+    cc (drop-drop (more - c) c xs, drop-drop (more - c) c ys)
 
 -- a piece put into the room leaves what lies behind it
 pub drop_put : (room piece : List ℕ) (start more : ℕ) → start ≤ length room → start + length piece ≤ more
@@ -50,13 +94,11 @@ front_more room piece c start more fits at some adds =
     elim (cases_lt (length room - start) (length piece)) as (λ _. take more (take start room ++ take kept piece ++ drop (start + length (take kept piece)) room) ≡ take start room ++ take kept piece) [
       | inl past ↦
           let none : drop (start + length (take kept piece)) room ≡ [] = drop_of_length-le room (omega (arith, long, past, within)) in
-          ap (λ d. take more ((take start room ++ take kept piece) ++ d)) none
-          ∙ ap (take more) (append-nil (take start room ++ take kept piece))
-          ∙ take_all more (take start room ++ take kept piece) (omega (arith, whole, past, within, adds, at, fits))
+          let all = take_all more (take start room ++ take kept piece) (omega (arith, whole, past, within, adds, at, fits)) in
+          cc (none, all, append-nil (take start room ++ take kept piece))
       | inr room_for ↦
           let e : more ≡ length (take start room ++ take kept piece) = omega (arith, whole, room_for, within, adds, at, fits, some) in
-          ap (λ k. take k ((take start room ++ take kept piece) ++ drop (start + length (take kept piece)) room)) e
-          ∙ take-append_seam (take start room ++ take kept piece) (drop (start + length (take kept piece)) room)
+          cc (e, take-append_seam (take start room ++ take kept piece) (drop (start + length (take kept piece)) room))
     ]
 
 -- the text that was taken grows by the piece
@@ -73,23 +115,16 @@ text_more room beyond piece c start more fits counted at some adds =
     ap (λ m. take m (drop kept piece)) (sym (length-drop kept piece)) ∙ take-length (drop kept piece) in
     let long : length (take kept piece) ≡ kept = length-take-le kept piece (omega arith) in
     let front : take start room ≡ take c room = ap (λ k. take k room) at ∙ take_min c room in
-    let one : (length beyond ≡ 0) ⊎ (length (take kept piece) ≡ 0) =
-    elim (cases_lt c (length room)) as (λ _. (length beyond ≡ 0) ⊎ (length (take kept piece) ≡ 0)) [
-      | inl below ↦ inl (omega (arith, below, counted, fits))
-      | inr full ↦ inr (omega (arith, full, at, long))
-    ] in
-    ap (λ l. l ++ (beyond ++ take (length piece - kept) (drop kept piece))) (front_more room piece c start more fits at some adds)
-    ∙ ap (λ l. (take start room ++ take kept piece) ++ (beyond ++ l)) rest
-    ∙ swap (take start room) (take kept piece) beyond (drop kept piece) one
-    ∙ ap (λ l. (take start room ++ beyond) ++ l) (take-append-drop kept piece)
-    ∙ ap (λ l. (l ++ beyond) ++ piece) front
+    let one : (length beyond ≡ 0) ⊎ (length (take kept piece) ≡ 0) = grind arith in
+    let swapped = swap (take start room) (take kept piece) beyond (drop kept piece) one in
+    cc (front_more room piece c start more fits at some adds, rest, swapped, take-append-drop kept piece, front)
 
 -- how much is beyond
 pub beyond_more : (beyond piece later : List ℕ) (kept : ℕ) → later ≡ beyond ++ take (length piece - kept) (drop kept piece)
     → length later ≡ length beyond + (length piece - kept)
 beyond_more beyond piece later kept e =
-    ap length e ∙ length-append beyond (take (length piece - kept) (drop kept piece))
-    ∙ ap (λ k. length beyond + k) (length-take-le (length piece - kept) (drop kept piece) (omega (arith, length-drop kept piece)))
+    let rest : List ℕ = take (length piece - kept) (drop kept piece) in
+    omega (arith, ap length e, length-append beyond rest, length-take-le (length piece - kept) (drop kept piece), length-drop kept piece)
 
 -- the text that was taken, from what stands in the room and what is beyond
 pub text_put : (room beyond piece new later : List ℕ) (c start kept more : ℕ) → length room < 2 ^ 64
@@ -99,18 +134,13 @@ pub text_put : (room beyond piece new later : List ℕ) (c start kept more : ℕ
     → later ≡ beyond ++ take (length piece - kept) (drop kept piece)
     → take more new ++ later ≡ (take c room ++ beyond) ++ piece
 text_put room beyond piece new later c start kept more fits counted at some keeps adds puts goes =
-    ap (λ l. take more l ++ later) puts
-    ∙ ap (λ l. take more (take start room ++ take kept piece ++ drop (start + length (take kept piece)) room) ++ l) goes
-    ∙ ap (λ k. take more (take start room ++ take k piece ++ drop (start + length (take k piece)) room) ++ (beyond ++ take (length piece - k) (drop k piece))) keeps
-    ∙ text_more room beyond piece c start more fits counted at some adds
+    rw (puts, goes, keeps) (text_more room beyond piece c start more fits counted at some adds)
 
 -- the same behind what stands before it
 pub mark_more : (name : ℕ) (first room new text more piece : List ℕ) → length new ≡ length room → more ≡ text ++ piece
     → (name ∷ length new ∷ (first ++ more)) ≡ (name ∷ length room ∷ ((first ++ text) ++ take (length piece) piece))
 mark_more name first room new text more piece long same =
-    ap (λ n. name ∷ n ∷ (first ++ more)) long
-    ∙ ap (λ l. name ∷ length room ∷ l) (ap (λ m. first ++ m) same ∙ sym (append_assoc first text piece)
-    ∙ ap (λ p. (first ++ text) ++ p) (sym (take-length piece)))
+    cc (append_assoc first text piece, take-length piece)
 
 -- what lies behind the count then
 pub untouched_put : (room first piece new : List ℕ) (c start kept more : ℕ) → length room < 2 ^ 64
@@ -143,10 +173,8 @@ same_sink name other n first found text more long same =
     let tail : (n ∷ (found ++ more)) ≡ ((length first ∷ first) ++ text) = ap others_of same in
     let both : found ++ more ≡ first ++ text = ap others_of tail in
     let size : length found ≡ length first = long ∙ ap first_of tail in
-    let front : found ≡ first = sym (take-append_seam found more) ∙ ap (λ k. take k (found ++ more)) size ∙ ap (take (length first)) both
-    ∙ take-append_seam first text in
-    let rest : more ≡ text = sym (drop-append_seam found more) ∙ ap (λ k. drop k (found ++ more)) size ∙ ap (drop (length first)) both
-    ∙ drop-append_seam first text in
+    let front : found ≡ first = cc (take-append_seam found more, take-append_seam first text) in
+    let rest : more ≡ text = cc (drop-append_seam found more, drop-append_seam first text) in
     (sym (ap first_of same), front, rest)
 
 -- a list of no length is empty
@@ -162,15 +190,13 @@ room_holds room beyond first text c fits whole counted untouched is =
     elim (cases_lt c (length room)) as (λ _. room ≡ take (length first) text ++ drop (length text) first) [
       | inl below ↦
           let none : length beyond ≡ 0 = omega (arith, below, counted, fits) in
-          let front : take c room ≡ text = sym (append-nil (take c room)) ∙ ap (λ l. take c room ++ l) (sym (is_none beyond none)) ∙ is in
-          let long : length text ≡ c = sym (ap length front) ∙ length-take-le c room (omega (arith, below)) in
-          sym (take-append-drop c room) ∙ ap (λ l. l ++ drop c room) (front ∙ sym (take_all (length first) text (omega (arith, long, below, whole))))
-          ∙ ap (λ l. take (length first) text ++ l) (untouched ∙ ap (λ k. drop k first) (sym long))
+          let front : take c room ≡ text = cc (append-nil (take c room), is_none beyond none) in
+          let long : length text ≡ c = omega (arith, ap length front, length-take-le c room) in
+          let whole_text = take_all (length first) text (omega (arith, long, below, whole)) in
+          cc (take-append-drop c room, front, whole_text, long)
       | inr full ↦
           let all : take c room ≡ room = take_all c room full in
-          let parts : room ++ beyond ≡ text = ap (λ l. l ++ beyond) (sym all) ∙ is in
+          let parts : room ++ beyond ≡ text = cc in
           let long : length first ≤ length text = omega (arith, ap length parts, length-append room beyond, whole) in
-          sym (append-nil room)
-          ∙ ap (λ l. l ++ []) (sym (take-append_seam room beyond) ∙ ap (λ k. take k (room ++ beyond)) (sym whole) ∙ ap (take (length first)) parts)
-          ∙ ap (λ l. take (length first) text ++ l) (sym (drop_of_length-le first long))
+          cc (append-nil room, take-append_seam room beyond, whole, drop_of_length-le first long)
     ]

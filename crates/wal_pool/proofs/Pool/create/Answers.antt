@@ -1,5 +1,5 @@
 use Rattle.wal_pool.proofs.Common.{◌≡◌, ◌∙◌, refl, sym, arith, subst}
-use Rattle.wal_pool.proofs.CreateLaws.{Given, count-states-none, given_none, given_more, given_all, whole_free}
+use Rattle.wal_pool.proofs.StateLaws.{Given, count-states-none, given_none, given_more, given_all, whole_free}
 use Rattle.wal_pool.proofs.Pool.create.Goals as goal
 
 pub invariant_of-pool : goal.invariant_of-pool

@@ -1,4 +1,4 @@
-use Rattle.wal_pool.proofs.CreateLaws.{Given}
+use Rattle.wal_pool.proofs.StateLaws.{Given}
 use Rattle.wal_pool.proofs.Pool.create.Given as goal
 
 abbrev pub invariant-loop-number : goal.invariant-loop-number

@@ -1,6 +1,6 @@
 -- The next piece goes right after the pieces before it.
 use Rattle.wal_port.proofs.Common.{length, ap, arith, length-drop}
-use Rattle.wal_port.proofs.Pieces.{Appends-next, take-rest}
+use Rattle.wal_port.proofs.Rooms.{Appends-next, take-rest}
 use Rattle.wal_port.proofs.transfers.put_all.Goals as goal
 
 pub writes-preserved : goal.writes-preserved

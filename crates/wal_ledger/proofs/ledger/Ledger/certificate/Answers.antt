@@ -1,5 +1,5 @@
 use Rattle.wal_ledger.proofs.Common.{◌≡◌, true, ap, ◌∙◌, arith, lt-ltb, Holds, LedgerState, reading, until_of, is_live, owners_at, own_entries}
-use Rattle.wal_ledger.proofs.RowsRead.{certificate_some, certificate_none}
+use Rattle.wal_ledger.proofs.RowsKept.{certificate_some, certificate_none}
 use Rattle.wal_ledger.proofs.ledger.Ledger.certificate.Goals as goal
 
 pub returns-clause-some : goal.returns-clause-some

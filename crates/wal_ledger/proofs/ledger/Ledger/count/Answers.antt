@@ -1,5 +1,5 @@
 use Rattle.wal_ledger.proofs.Common.{◌≡◌, ℕ, sym, ap, ◌∙◌, count_among, log_of, Log, LedgerState, writing, signer_count, owners_at, own_entries}
-use Rattle.wal_ledger.proofs.RowsRead.{own_within}
+use Rattle.wal_ledger.proofs.RowsKept.{own_within}
 use Rattle.wal_ledger.proofs.ledger.Ledger.count.Goals as goal
 
 pub returns-clause-value : goal.returns-clause-value

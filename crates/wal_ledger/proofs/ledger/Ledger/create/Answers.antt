@@ -1,4 +1,4 @@
-use Rattle.wal_ledger.proofs.RowsRead.{kept_new}
+use Rattle.wal_ledger.proofs.RowsKept.{kept_new}
 use Rattle.wal_ledger.proofs.ledger.Ledger.create.Goals as goal
 
 pub invariant_of-result : goal.invariant_of-result

@@ -1,5 +1,5 @@
 use Rattle.wal_ledger.proofs.Common.{◌≡◌, ℕ, List, sym, ap, ◌∙◌, Next, log_of, Log, LedgerState, writing, owners_at, owners_of, own_entries, signers, is_signer_among}
-use Rattle.wal_ledger.proofs.RowsRead.{own_within}
+use Rattle.wal_ledger.proofs.RowsKept.{own_within}
 use Rattle.wal_ledger.proofs.ledger.Ledger.is_signer.Goals as goal
 
 pub returns : goal.returns

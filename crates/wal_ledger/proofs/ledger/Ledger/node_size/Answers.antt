@@ -1,5 +1,5 @@
 use Rattle.wal_ledger.proofs.Common.{ℕ, List, ap, ◌∙◌, count_below, same_node, node_size}
-use Rattle.wal_ledger.proofs.Nodes.{owners_length}
+use Rattle.wal_ledger.proofs.Quorums.{owners_length}
 use Rattle.wal_ledger.proofs.ledger.Ledger.node_size.Goals as goal
 
 pub returns : goal.returns

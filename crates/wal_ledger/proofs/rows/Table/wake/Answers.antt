@@ -5,8 +5,8 @@ use Rattle.wal_ledger.proofs.rows.Table.wake.Goals as goal
 pub insert-requires-clause-room : goal.insert-requires-clause-room
 insert-requires-clause-room c =
     let i = c.self.inside in
-    let after = wakes i.ids.items c.deref.result.now c.deref-3.result.now i.rows.items i.order.items i.live.items c.deref-4.result.now _ c.in-Err.place c.number_of-number.result c.args.id.now
-    c.self.invariant.0 c.deref-3.ensures.value c.deref-4.ensures.value c.in-Err.ensures.gap c.deref.ensures.value c.number_of-number.ensures.below c.number_of-number.ensures.id refl in
+    let after = wakes i.ids.items _ i.rows.items i.order.items i.live.items _ c.in-Err.place c.number_of-number.result c.args.id.now c.self.invariant.0
+    (rw (c.deref-3.ensures.value, c.deref-4.ensures.value) at c.in-Err.ensures.gap) c.deref.ensures.value c.number_of-number.ensures.below c.number_of-number.ensures.id refl in
     omega (
       arith,
       after.room,
@@ -19,13 +19,13 @@ insert-requires-clause-room c =
 pub invariant_of-self : goal.invariant_of-self
 invariant_of-self c =
     let i = c.self.inside in
-    let after = wakes i.ids.items c.deref.result.now c.deref-3.result.now i.rows.items i.order.items i.live.items c.deref-4.result.now c.insert.new.list.items c.in-Err.place c.number_of-number.result c.args.id.now
-    c.self.invariant.0 c.deref-3.ensures.value c.deref-4.ensures.value c.in-Err.ensures.gap c.deref.ensures.value c.number_of-number.ensures.below c.number_of-number.ensures.id c.insert.ensures.items in
+    let after = wakes i.ids.items _ i.rows.items i.order.items i.live.items c.insert.new.list.items c.in-Err.place c.number_of-number.result c.args.id.now c.self.invariant.0
+    (rw (c.deref-3.ensures.value, c.deref-4.ensures.value) at c.in-Err.ensures.gap) c.deref.ensures.value c.number_of-number.ensures.below c.number_of-number.ensures.id c.insert.ensures.items in
     search (arith, after.table, c.insert.ensures.capacity)
 
 pub returns-in-Err : goal.returns-in-Err
 returns-in-Err c =
     let i = c.self.inside in
-    let after = wakes i.ids.items c.deref.result.now c.deref-3.result.now i.rows.items i.order.items i.live.items c.deref-4.result.now c.insert.new.list.items c.in-Err.place c.number_of-number.result c.args.id.now
-    c.self.invariant.0 c.deref-3.ensures.value c.deref-4.ensures.value c.in-Err.ensures.gap c.deref.ensures.value c.number_of-number.ensures.below c.number_of-number.ensures.id c.insert.ensures.items in
+    let after = wakes i.ids.items _ i.rows.items i.order.items i.live.items c.insert.new.list.items c.in-Err.place c.number_of-number.result c.args.id.now c.self.invariant.0
+    (rw (c.deref-3.ensures.value, c.deref-4.ensures.value) at c.in-Err.ensures.gap) c.deref.ensures.value c.number_of-number.ensures.below c.number_of-number.ensures.id c.insert.ensures.items in
     live_changed _ _ (λ t. insert_key id_cmp t.live c.args.id.now) _ c.self.view_is after.lives

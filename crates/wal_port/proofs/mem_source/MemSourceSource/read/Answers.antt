@@ -1,5 +1,5 @@
 -- What was copied to the caller is the front of what is still to come.
-use Rattle.wal_port.proofs.Pieces.{drop-given, drop-none_given}
+use Rattle.wal_port.proofs.Rooms.{drop-given, drop-none_given}
 use Rattle.wal_port.proofs.mem_source.MemSourceSource.read.Goals as goal
 
 pub returns-clause-bytes : goal.returns-clause-bytes
