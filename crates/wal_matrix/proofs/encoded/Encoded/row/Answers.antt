@@ -10,4 +10,10 @@ region-requires c =
     row_fits c.n.result c.symbol_size.result c.deref.result.now c.args.i long (omega arith)
 
 pub returns-clause-value : goal.returns-clause-value
-returns-clause-value c = cc (row_is c.n.result c.symbol_size.result c.deref.result.now c.args.i, c.region.ensures.run)
+returns-clause-value c =
+    let cells : c.deref.result.now ≡ c.args.self.now.cells = search rules in
+    let n : c.n.result ≡ shard_count c.args.self.now.shape.f = search rules in
+    let s : c.symbol_size.result ≡ symbol_size c.args.self.now.shape.f c.args.self.now.shape.length = search rules in
+    let is = row_is c.n.result c.symbol_size.result c.deref.result.now c.args.i in
+    let run = c.region.ensures.run in
+    cc
