@@ -9,17 +9,13 @@ symbol_short f length short = (symbol_size-least f length).least most_bytes (ome
 pub body_of : (digest : List ℕ → List ℕ) (m : BlobMetadata) (axis : Axis) (index : ℕ) (o : Opening) → IsShape m.f m.length
     → HoldsOpening digest m axis index o → IsBody o
 body_of digest m axis index o shape holds =
-    let few = shape.1 in
-    let cross = holds.cross in
-    let size = holds.size in
     let short = symbol_short m.f m.length shape.2 in
-    let long = holds.leads.long in
     let levels = height-le 10 (shard_count m.f) (omega arith) in
     record {
       cross = omega arith;
-      symbol = omega (arith, size, short);
-      path = omega (arith, long, levels);
-      whole = omega (arith, long);
+      symbol = omega (arith, holds.size);
+      path = omega (arith, holds.leads.long);
+      whole = omega (arith, holds.leads.long);
     }
 
 -- the same for a metadata

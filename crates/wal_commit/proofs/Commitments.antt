@@ -1,5 +1,5 @@
 -- The spelling of a metadata in its two parts, and the pairs of roots one after the other.
-use Rattle.wal_commit.proofs.Common.{◌≡◌, ℕ, ◌+◌, ◌-◌, ◌*◌, ◌<◌, ◌≤◌, List, [], ◌∷◌, ◌++◌, length, length-append, get_or, map, take, drop, reverse, refl, sym, subst, ◌∙◌, ap, append_assoc, arith, length-map-range_with_len, get_or-map-range_with_len, take_at, drop_at, length-reverse, get_or-reverse, same_lists, AllByRecursion, flat_map, range_with_len, Secondary, Format, One, Two, BlobShape, IsShape, shard_count, symbol_size, BlobMetadata, IsMetadata, held_index, held_order, format_text, pairs_text, metadata_text, text_size, length-metadata_text, root_over, length-root_over, row_of, column_of, pieces_more, IsMetadataOf, head_text, held_pairs, metadata_over, pair_over}
+use Rattle.wal_commit.proofs.Common.{◌≡◌, ℕ, ◌+◌, ◌-◌, ◌*◌, ◌<◌, List, [], ◌∷◌, ◌++◌, length, length-append, get_or, map, take, drop, reverse, refl, sym, subst, ◌∙◌, ap, append_assoc, arith, length-map-range_with_len, get_or-map-range_with_len, take_at, drop_at, length-reverse, get_or-reverse, same_lists, AllByRecursion, flat_map, range_with_len, Secondary, Format, One, Two, BlobShape, IsShape, shard_count, symbol_size, BlobMetadata, IsMetadata, held_index, held_order, format_text, pairs_text, metadata_text, text_size, length-metadata_text, root_over, length-root_over, row_of, column_of, pieces_more, IsMetadataOf, head_text, held_pairs, metadata_over, pair_over}
 
 pub metadata_text-parts : (m : BlobMetadata) → metadata_text m ≡ head_text m.format m.f m.length ++ held_pairs m
 unfolding metadata_text
@@ -98,9 +98,6 @@ honest_metadata digest size format f bytes m is =
 
 pub metadata_size : (m : BlobMetadata) → IsMetadata m → length (metadata_text m) ≡ length (format_text m.format) + 10 + 64 * shard_count m.f
 metadata_size m is = length-metadata_text m is ∙ size_parts m.format m.f
-
-pub shards_within : (m : BlobMetadata) → IsMetadata m → shard_count m.f ≤ 1000
-shards_within m is = omega (arith, is.shape.1)
 
 -- one more pair is spelled
 pub pairs_step : (f : ℕ → List ℕ) (head old new : List ℕ) (i : ℕ) → old ≡ head ++ flat_map f (range_with_len 0 i) → new ≡ old ++ f i

@@ -1,6 +1,6 @@
 -- What the proofs of this crate cite from elsewhere, and of its own definitions, handed on from one place. Declares nothing.
 pub use Rattle.std.proofs.Common.{◌≡◌, ℕ, ◌+◌, ◌-◌, ◌*◌, ◌<◌, ◌≤◌, List, [], ◌∷◌, ◌++◌, length, length-append, get_or, map, take, drop, reverse, refl, sym, subst, ◌∙◌, ap, append_assoc, arith, zero, suc, ◌/◌, ◌%◌, ◌≢◌, ◌^◌, ap₂, slice_get, Some, option_map, All, ⊎_elim, inl, inr, take-append-drop, vec_len, rules}
-pub use Rattle.std.proofs.Math.Nat.{lt_of_mul-lt-mul_right, mul-mod_left, mul-le-mul_left, mul-div_left, mul-le-mul_right, mul_comm}
+pub use Rattle.std.proofs.Math.Nat.{lt_of_mul-lt-mul_right, mul-mod_left, mul-div_left, mul-le-mul_right, mul_comm}
 pub use Rattle.std.proofs.lemmas.List.{take_at, drop_at, length-reverse, get_or-reverse, same_lists, ext_get_or, length-take-le, length-drop, get_or_past}
 pub use Rattle.std.proofs.lemmas.List.FromFn.{length-map-range_with_len, get_or-map-range_with_len, get_or-range_with_len, length-range_with_len, map-range_with_len_more}
 pub use Rattle.std.proofs.lemmas.Nat.{div-add-mod', mod_below, mul-add-lt}
@@ -20,12 +20,12 @@ pub use Rattle.wal_matrix.specs.Front.{IsFrontOf, FrontState}
 pub use Rattle.wal_matrix.specs.Matrix.{IsExtended, line_of, IsCodedMatrix, sliver_of, column_part, symbol_bytes, shards}
 unfoldable pub use Rattle.wal_matrix.specs.Matrix.{row_of, column_of, symbol}
 pub use Rattle.wal_shape.proofs.MetadataLaws.{length-metadata_text, metadata_text-injective}
-pub use Rattle.wal_shape.proofs.Numbers.{wide16, IsBytes-drop}
+pub use Rattle.wal_shape.proofs.Numbers.{wide16, IsBytes-drop, IsBytes-take}
 pub use Rattle.wal_shape.proofs.ShapeLaws.{symbol_size-least}
 pub use Rattle.wal_shape.specs.MetaRef.{metadata_shown}
 pub use Rattle.wal_shape.specs.Metadata.{BlobMetadata, IsMetadata, held_index, held_order, roots_of}
 pub use Rattle.wal_shape.specs.Opening.{IsBody, opening_shown}
-pub use Rattle.wal_shape.specs.Shape.{BlobShape, IsShape, shard_count, column_count, most_bytes, crossing, sliver_symbols}
+pub use Rattle.wal_shape.specs.Shape.{BlobShape, IsShape, shard_count, most_bytes, crossing, sliver_symbols}
 unfoldable pub use Rattle.wal_shape.specs.Shape.{symbol_size}
 pub use Rattle.wal_shape.specs.Spelling.{format_text, text_size, number_text}
 unfoldable pub use Rattle.wal_shape.specs.Spelling.{pairs_text, metadata_text}

@@ -1,7 +1,7 @@
 -- A sliver's symbols are those for which the tools have room.
-use Rattle.wal_commit.proofs.Common.{◌≡◌, ℕ, ◌+◌, ◌*◌, ◌%◌, ◌<◌, ◌≤◌, ap₂, arith, mul-mod_left, mul-le-mul_left, column_count, most_bytes, symbol_size, run_fits}
-use Rattle.wal_matrix.specs.Tools.{longest_symbol, longest_sliver}
-use Rattle.wal_matrix.proofs.ToolsLaws.{symbol_size-longest, one_word-fits}
+use Rattle.wal_commit.proofs.Common.{◌≡◌, ℕ, ◌+◌, ◌*◌, ◌%◌, ◌<◌, ◌≤◌, ap₂, arith, mul-mod_left, most_bytes, symbol_size, run_fits}
+use Rattle.wal_matrix.specs.Tools.{longest_symbol}
+use Rattle.wal_matrix.proofs.ToolsLaws.{symbol_size-longest}
 
 pub symbols_fit : (size f length kept : ℕ) → size ≡ symbol_size f length → kept ≡ f → length ≤ most_bytes → size ≤ longest_symbol kept
 symbols_fit size f length kept size_is kept_is short = rw (size_is, kept_is) (symbol_size-longest f length short)
@@ -17,7 +17,3 @@ symbol_within n s i long e h = omega (arith, run_fits i n s h, e)
 pub two_bytes : (f length : ℕ) → f ≡ 1 → length ≡ 12 → symbol_size f length ≡ 2
 unfolding symbol_size
 two_bytes f length f_is length_is = ap₂ symbol_size f_is length_is
-
--- and the longest sliver is no shorter than their rows
-pub six_bytes_fit : (f : ℕ) → f ≡ 1 → 6 ≤ longest_sliver f
-six_bytes_fit f f_is = omega (arith, f_is, one_word-fits f, mul-le-mul_left (column_count f) (one_word-fits f))

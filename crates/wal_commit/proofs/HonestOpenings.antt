@@ -78,18 +78,6 @@ honest_opening digest size_is m axis index sliver o few h held is =
       leads = rw (is.symbol, is.path) (path_to_symbol digest size_is n s index is.word some long h);
     }
 
--- the opening that a sliver of a matrix gives has the symbol of the target's own line
-pub opening_of_line : (digest : List ℕ → List ℕ) (m : BlobMetadata) (axis : Axis) (index : ℕ) (e : List ℕ) (o : Opening) → m.f ≤ 333
-    → IsCodedMatrix m.f (symbol_size m.f m.length) e → index < shard_count m.f → o.cross < shard_count m.f
-    → IsOpeningOf digest m axis index (sliver_of (crossing axis) m.f (symbol_size m.f m.length) e o.cross) o
-    → o.symbol ≡ region (symbol_size m.f m.length) (line_of axis m.f (symbol_size m.f m.length) e index) o.cross
-opening_of_line digest m axis index e o few matrix h cross is =
-    let s = symbol_size m.f m.length in
-    let own = line_is_word (crossing axis) m.f s e o.cross matrix cross in
-    is.symbol
-    ∙ ap (λ (w : List ℕ). region s w index) (one_word (crossing axis) m.f m.length (sliver_of (crossing axis) m.f s e o.cross) is.word (line_of (crossing axis) m.f s e o.cross) few is.is_word own)
-    ∙ sym (lines_cross axis m.f s e index o.cross matrix.size h cross)
-
 -- a sliver gives one opening
 pub one_opening : (digest : List ℕ → List ℕ) (m : BlobMetadata) (axis : Axis) (index : ℕ) (sliver : List ℕ) (o p : Opening) → m.f ≤ 333
     → IsOpeningOf digest m axis index sliver o → IsOpeningOf digest m axis index sliver p → (o.symbol ≡ p.symbol) × (o.path ≡ p.path)

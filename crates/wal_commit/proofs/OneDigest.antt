@@ -1,8 +1,10 @@
 -- Where no two texts collide, a root has one content, a path one leaf, and an identifier one metadata.
-use Rattle.wal_commit.proofs.Common.{◌≡◌, ℕ, zero, suc, ◌+◌, ◌*◌, ◌/◌, ◌%◌, ◌<◌, ◌≤◌, List, [], ◌∷◌, ◌++◌, length, get_or, take, drop, All, refl, sym, ap, ap₂, subst, ◌∙◌, arith, ⊎_elim, inl, inr, take-append-drop, concat, mul-div_left, length-take-le, length-drop, get_or_past, Axis, Opening, Format, One, Two, shard_count, sliver_symbols, symbol_size, BlobMetadata, IsMetadata, metadata_text, symbol_size-least, metadata_text-injective, IsBytes-drop, empty_entry, leaf, leaves, node, pair_up, pieces, root_of, root_over, root_within, IsPathTo, beside, folded, height, parent, path_of, path_over, path_of-end, path_of-step, append_front, append_back, AreBytes, bytes_of_part, bytes_within, bytes_joined, HoldsSliver, HoldsOpening, head_text, held_pairs, identifier_of, identifier_tag, identifier_text, pair_root}
+use Rattle.wal_commit.proofs.Common.{◌≡◌, ℕ, zero, suc, ◌+◌, ◌*◌, ◌/◌, ◌%◌, ◌<◌, ◌≤◌, List, [], ◌∷◌, ◌++◌, length, get_or, take, drop, All, refl, sym, ap, ap₂, subst, ◌∙◌, arith, ⊎_elim, inl, inr, take-append-drop, concat, mul-div_left, length-take-le, length-drop, get_or_past, length-leaves, Axis, Opening, Format, One, Two, shard_count, sliver_symbols, symbol_size, BlobMetadata, IsMetadata, metadata_text, symbol_size-least, metadata_text-injective, IsBytes-drop, IsBytes-take, empty_entry, leaf, leaves, node, pair_up, pieces, root_of, root_over, root_within, IsPathTo, beside, folded, height, parent, path_of, path_over, path_of-end, path_of-step, append_front, append_back, AreBytes, bytes_within, bytes_joined, HoldsSliver, HoldsOpening, head_text, held_pairs, identifier_of, identifier_tag, identifier_text, pair_root}
 use Rattle.std.proofs.lemmas.Bool.{cases_lt}
 use Rattle.std.proofs.lemmas.List.Elements.{All-nil, All-cons, All-head, All-tail, All-from_get_or}
 use Rattle.wal_tree.specs.Digests.{IsByte}
+use Rattle.wal_tree.proofs.LevelPairs.{length-pieces}
+use Rattle.wal_tree.proofs.Paths.{length-pair_up-half}
 use Rattle.wal_tree.proofs.Roots.{length-pair_up}
 use Rattle.wal_matrix.proofs.RowLaws.{zeros_after}
 use Rattle.wal_commit.proofs.Clashes.{identifier_is, same_faults, same_heads, same_roots}
@@ -29,12 +31,6 @@ bytes_before (x ∷ xs) ys are (suc i) = bytes_before xs ys (λ j. are (suc j)) 
 pub byte_first : (x : ℕ) (xs : List ℕ) → x < 256 → AreBytes xs → AreBytes (x ∷ xs)
 byte_first x xs small are zero = small
 byte_first x xs small are (suc i) = are i
-
-bytes_taken : (n : ℕ) (xs : List ℕ) → AreBytes xs → AreBytes (take n xs)
-bytes_taken n xs are = bytes_of_part n 0 xs are
-
-bytes_dropped : (n : ℕ) (xs : List ℕ) → AreBytes xs → AreBytes (drop n xs)
-bytes_dropped n xs are = IsBytes-drop n xs are
 
 -- a digest, as 32 bytes
 pub record Is32 (d : List ℕ) : Type 0 where
@@ -86,8 +82,8 @@ module _ (digest : List ℕ → List ℕ) (is : IsDigest digest) where
   pub leaves_32 : (count s : ℕ) (xs : List ℕ) → AreBytes xs → All Is32 (leaves digest count s xs)
   leaves_32 zero s xs are = All-nil Is32
   leaves_32 (suc count) s xs are =
-      All-cons Is32 (leaf digest (take s xs)) (leaves digest count s (drop s xs)) (is_32 (0 ∷ take s xs) (leaf_bytes (take s xs) (bytes_taken s xs are)))
-      (leaves_32 count s (drop s xs) (bytes_dropped s xs are))
+      All-cons Is32 (leaf digest (take s xs)) (leaves digest count s (drop s xs)) (is_32 (0 ∷ take s xs) (leaf_bytes (take s xs) (IsBytes-take s xs are)))
+      (leaves_32 count s (drop s xs) (IsBytes-drop s xs are))
 
   -- the root over bytes is a digest
   pub root_over_32 : (s : ℕ) (xs : List ℕ) → AreBytes xs → Is32 (root_over digest s xs)
@@ -97,8 +93,8 @@ module _ (digest : List ℕ → List ℕ) (is : IsDigest digest) where
   pieces_32 : (count : ℕ) (xs : List ℕ) → length xs ≡ 32 * count → AreBytes xs → All Is32 (pieces count 32 xs)
   pieces_32 zero xs long are = All-nil Is32
   pieces_32 (suc count) xs long are =
-      All-cons Is32 (take 32 xs) (pieces count 32 (drop 32 xs)) (record { size = length-take-le 32 xs (omega arith); bytes = bytes_taken 32 xs are })
-      (pieces_32 count (drop 32 xs) (omega (arith, length-drop 32 xs)) (bytes_dropped 32 xs are))
+      All-cons Is32 (take 32 xs) (pieces count 32 (drop 32 xs)) (record { size = length-take-le 32 xs (omega arith); bytes = IsBytes-take 32 xs are })
+      (pieces_32 count (drop 32 xs) (omega (arith, length-drop 32 xs)) (IsBytes-drop 32 xs are))
 
   -- ---- what an identifier digests
 
@@ -155,13 +151,7 @@ module _ (digest : List ℕ → List ℕ) (is : IsOneToOne digest) where
       let here = a ∷ (b ∷ xs) in
       let there = c ∷ (d ∷ ys) in
       one_below here there long all_x all_y
-      (one_within levels (pair_up digest here) (pair_up digest there) (omega (arith, length-pair_up digest xs)) (up_long here there long) (all_up digest is.digests here all_x) (all_up digest is.digests there all_y) same)
-    where
-      up_long : (us vs : List (List ℕ)) → length us ≡ length vs → length (pair_up digest us) ≡ length (pair_up digest vs)
-      up_long [] [] e = refl
-      up_long (u ∷ []) (v ∷ []) e = refl
-      up_long (u ∷ (t ∷ us)) (v ∷ (w ∷ vs)) e = omega (arith, up_long us vs (omega arith))
-      up_long _ _ e = absurd (omega arith)
+      (one_within levels (pair_up digest here) (pair_up digest there) (omega (arith, length-pair_up digest xs)) (omega (arith, length-pair_up-half digest here, length-pair_up-half digest there)) (all_up digest is.digests here all_x) (all_up digest is.digests there all_y) same)
   one_within _ _ _ few long all_x all_y same = absurd (omega arith)
 
   same_leaf : (x y : List ℕ) → AreBytes x → AreBytes y → leaf digest x ≡ leaf digest y → x ≡ y
@@ -171,16 +161,12 @@ module _ (digest : List ℕ → List ℕ) (is : IsOneToOne digest) where
       → leaves digest count s x ≡ leaves digest count s y → x ≡ y
   one_content zero s [] [] long_x long_y bytes_x bytes_y same = refl
   one_content (suc count) s x y long_x long_y bytes_x bytes_y same =
-      let first = same_leaf (take s x) (take s y) (bytes_taken s x bytes_x) (bytes_taken s y bytes_y) (cc) in
+      let first = same_leaf (take s x) (take s y) (IsBytes-take s x bytes_x) (IsBytes-take s y bytes_y) (cc) in
       let next : suc count * s ≡ s + count * s = omega arith in
-      let rest = one_content count s (drop s x) (drop s y) (omega (arith, length-drop s x, next)) (omega (arith, length-drop s y, next)) (bytes_dropped s x bytes_x) (bytes_dropped s y bytes_y)
+      let rest = one_content count s (drop s x) (drop s y) (omega (arith, length-drop s x, next)) (omega (arith, length-drop s y, next)) (IsBytes-drop s x bytes_x) (IsBytes-drop s y bytes_y)
       (cc) in
       sym (take-append-drop s x) ∙ ap₂ ◌++◌ first rest ∙ take-append-drop s y
   one_content zero s _ _ long_x long_y bytes_x bytes_y same = absurd (omega arith)
-
-  count_leaves : (count s : ℕ) (xs : List ℕ) → length (leaves digest count s xs) ≡ count
-  count_leaves zero s xs = refl
-  count_leaves (suc count) s xs = omega (arith, count_leaves count s (drop s xs))
 
   -- a root has one content of n pieces
   pub one_root : (n s : ℕ) (x y : List ℕ) → 0 < s → length x ≡ n * s → length y ≡ n * s → AreBytes x → AreBytes y → root_over digest s x ≡ root_over digest s y → x ≡ y
@@ -189,7 +175,7 @@ module _ (digest : List ℕ → List ℕ) (is : IsOneToOne digest) where
       let count : (xs : List ℕ) → length xs ≡ n * s → length xs / s ≡ n = λ xs long. ap (λ (k : ℕ). k / s) long ∙ mul-div_left n some in
       let root : ℕ → List ℕ → List ℕ = λ k xs. root_of digest (leaves digest k s xs) in
       let roots : root n x ≡ root n y = ap (λ (k : ℕ). root k x) (sym (count x long_x)) ∙ same ∙ ap (λ (k : ℕ). root k y) (count y long_y) in
-      let levels : length (leaves digest n s y) ≡ length (leaves digest n s x) = count_leaves n s y ∙ sym (count_leaves n s x) in
+      let levels : length (leaves digest n s y) ≡ length (leaves digest n s x) = length-leaves digest n s y ∙ sym (length-leaves digest n s x) in
       one_content n s x y long_x long_y bytes_x bytes_y
       (one_within (length (leaves digest n s x)) (leaves digest n s x) (leaves digest n s y) (omega arith) (sym levels)
       (leaves_32 digest is.digests n s x bytes_x) (leaves_32 digest is.digests n s y bytes_y)
@@ -221,17 +207,13 @@ module _ (digest : List ℕ → List ℕ) (is : IsOneToOne digest) where
       (All-tail Is32 s ps all_a) (All-tail Is32 t qs all_b) same)
   one_way _ _ _ _ _ long is_e is_f all_a all_b same = absurd (omega arith)
 
-  count_pieces : (count : ℕ) (xs : List ℕ) → length (pieces count 32 xs) ≡ count
-  count_pieces zero xs = refl
-  count_pieces (suc count) xs = omega (arith, count_pieces count (drop 32 xs))
-
   -- a root has one leaf at a place
   pub one_leaf : (root : List ℕ) (count place : ℕ) (x p y q : List ℕ) → IsPathTo digest root count place x p → IsPathTo digest root count place y q
       → AreBytes x → AreBytes p → AreBytes y → AreBytes q → x ≡ y
   one_leaf root count place x p y q left right bytes_x bytes_p bytes_y bytes_q =
       same_leaf x y bytes_x bytes_y
       (one_way place (leaf digest x) (leaf digest y) (pieces (height count) 32 p) (pieces (height count) 32 q)
-      (count_pieces (height count) p ∙ sym (count_pieces (height count) q))
+      (length-pieces (height count) 32 p ∙ sym (length-pieces (height count) 32 q))
       (is_32 digest is.digests (0 ∷ x) (leaf_bytes digest is.digests x bytes_x)) (is_32 digest is.digests (0 ∷ y) (leaf_bytes digest is.digests y bytes_y))
       (pieces_32 digest is.digests (height count) p left.long bytes_p) (pieces_32 digest is.digests (height count) q right.long bytes_q) (left.leads ∙ sym right.leads))
 
@@ -253,7 +235,6 @@ module _ (digest : List ℕ → List ℕ) (is : IsOneToOne digest) where
   one_sliver m axis index a b held other =
       let s = symbol_size m.f m.length in
       let least = symbol_size-least m.f m.length in
-      let some = least.positive in
       let root : root_over digest s held.word ≡ root_over digest s other.word = cc (held.root, other.root) in
       let same = one_root (shard_count m.f) s held.word other.word (omega arith) held.is_word.coded.size other.is_word.coded.size
       (bytes_within held.word held.is_word.coded.fits) (bytes_within other.word other.is_word.coded.fits) root in

@@ -7,7 +7,8 @@ pub use Rattle.wal_code.proofs.Codes.{function, codeword_unique, codeword-word, 
 pub use Rattle.wal_code.specs.Codeword.{Distinct, IsCodeword, combination, coefficient}
 pub use Rattle.wal_code.specs.Weights.{element_at}
 pub use Rattle.wal_fft.proofs.Degrees.{IsPoint, skew-polynomial, value-polynomial}
-pub use Rattle.wal_fft.proofs.Lanes.{lane-left, lane-right, lane-sum, word_at-put_before, word_at-put_within, word_at-put_after, copied_word}
+pub use Rattle.wal_fft.proofs.Lanes.{lane-left, lane-right, lane-sum, copied_word}
+pub use Rattle.wal_fft.proofs.StripLaws.{runs_fit}
 pub use Rattle.wal_fft.proofs.ProductDegrees.{product_of}
 pub use Rattle.wal_fft.proofs.Values.{value-zero, value-suc, value-same, value-line, AreWords, value-lt}
 pub use Rattle.wal_fft.specs.Transform.{skew, value, lane, scaled, WasAdded, AreValues, AreCoefficients}

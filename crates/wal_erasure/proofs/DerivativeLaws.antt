@@ -59,13 +59,10 @@ pub quotient-lt : (j : ℕ) (c : ℕ → ℕ) (e x : ℕ) → AreWords c → quo
 unfolding quotient
 quotient-lt zero c e x low = lit< tt
 quotient-lt (suc j) c e x low =
-    let h : ℕ → ℕ = λ i. c (2 ^ j + i) in
-    let lowh : AreWords h = λ i. low (2 ^ j + i) in
-    let first : quotient j c e x < 65536 = quotient-lt j c e x low in
-    let second : times (skew j e) (quotient j h e x) < 65536 = times-lt (skew j e) (quotient j h e x) (quotient-lt j h e x lowh) in
-    let third : times (slope j (bit_xor x e)) (value j h x) < 65536 = times-lt (slope j (bit_xor x e)) (value j h x) (value-lt j h x lowh) in
-    xor_lt 16 (bit_xor (quotient j c e x) (times (skew j e) (quotient j h e x))) (times (slope j (bit_xor x e)) (value j h x))
-    (xor_lt 16 (quotient j c e x) (times (skew j e) (quotient j h e x)) first second) third
+    let higher : AreWords (λ i. c (2 ^ j + i)) = λ i. low (2 ^ j + i) in
+    xor_lt 16 _ _
+    (xor_lt 16 _ _ (quotient-lt j c e x low) (times-lt (skew j e) _ (quotient-lt j (λ i. c (2 ^ j + i)) e x higher)))
+    (times-lt (slope j (bit_xor x e)) _ (value-lt j (λ i. c (2 ^ j + i)) x higher))
 
 pub quotient-suc : (j : ℕ) (c : ℕ → ℕ) (e x : ℕ) → quotient (suc j) c e x
     ≡ bit_xor (bit_xor (quotient j c e x) (times (skew j e) (quotient j (λ i. c (2 ^ j + i)) e x))) (times (slope j (bit_xor x e)) (value j (λ i. c (2 ^ j + i)) x))

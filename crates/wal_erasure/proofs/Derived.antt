@@ -1,5 +1,5 @@
 -- What one level of the derivative does, from what the calls on the halves do.
-use Rattle.wal_erasure.proofs.Common.{◌≡◌, ℕ, suc, ◌+◌, ◌-◌, ◌*◌, ◌^◌, ◌<◌, List, ◌++◌, length, slice_index, bit_xor, sym, ap, ap₂, ◌∙◌, arith, xor_assoc, xor_comm, times, word_at, word_at-lt, skew, value, lane, scaled, WasAdded, value-zero, value-suc, value-same, value-line, lane-left, lane-right, lane-sum, rate, quotient, AreDerived}
+use Rattle.wal_erasure.proofs.Common.{◌≡◌, ℕ, suc, ◌+◌, ◌*◌, ◌^◌, ◌<◌, List, ◌++◌, length, slice_index, bit_xor, sym, ap, ap₂, ◌∙◌, xor_assoc, xor_comm, times, word_at, word_at-lt, skew, value, lane, scaled, WasAdded, value-zero, value-suc, value-same, value-line, lane-left, lane-right, lane-sum, rate, quotient, AreDerived}
 use Rattle.wal_fft.proofs.Steps.{AreHalves}
 use Rattle.wal_erasure.proofs.DerivativeLaws.{quotient-zero, quotient-same, quotient_own, rate-lt}
 
@@ -54,11 +54,9 @@ module _ (width j : ℕ) (low high low_derived low_sum high_derived : List ℕ) 
       ∙ xor_assoc q r t ∙ ap (bit_xor q) (xor_comm r t) ∙ sym (xor_assoc q t r)
       ∙ sym (whole_quotient w l x)
 
-pub derived_level : (width level : ℕ) (low high low_derived low_sum high_derived : List ℕ) → 0 < level
-    → Derives width (level - 1) low high low_derived low_sum high_derived → AreDerived width level (low ++ high) (low_sum ++ high_derived)
-derived_level width level low high low_derived low_sum high_derived some h =
-    let same : suc (level - 1) ≡ level = omega arith in
-    rw (← same) (derived width (level - 1) low high low_derived low_sum high_derived h)
+pub derived_level : {width level j : ℕ} {low high low_derived low_sum high_derived : List ℕ} → suc j ≡ level
+    → Derives width j low high low_derived low_sum high_derived → AreDerived width level (low ++ high) (low_sum ++ high_derived)
+derived_level up h = rw (← up) (derived _ _ _ _ _ _ _ h)
 
 -- one coefficient has the derivative 0
 pub derived_none : (width level : ℕ) (old new : List ℕ) → level ≡ 0 → ((p : ℕ) → word_at new p ≡ 0) → AreDerived width level old new

@@ -23,13 +23,13 @@ is_known-rest q x known other = ap (λ (b : Bool). cond b true (is_known known x
 either_point : (q x : ℕ) → (q ≡ x) ⊎ (q ≢ x)
 either_point q x = elim (either (eqb q x)) [ inl e ↦ inl (eqb-true q x e) | inr e ↦ inr (λ same. differ (eqb q x) (eq-eqb q x same) e) ]
 
-is_known-later : (b : Bool) (q x : ℕ) (known : List ℕ) → is_known known x ≡ true → is_known (q ∷ known) x ≡ true
-is_known-later b q x known e = elim (either_point q x) [ inl same ↦ is_known-first q x known same | inr other ↦ is_known-rest q x known other ∙ e ]
+is_known-later : (q x : ℕ) (known : List ℕ) → is_known known x ≡ true → is_known (q ∷ known) x ≡ true
+is_known-later q x known e = elim (either_point q x) [ inl same ↦ is_known-first q x known same | inr other ↦ is_known-rest q x known other ∙ e ]
 
 pub is_known-at : (known : List ℕ) (k : ℕ) → k < length known → is_known known (slice_index known k) ≡ true
 is_known-at [] k below = let b : ⊥ = omega arith in absurd b
 is_known-at (q ∷ known) zero below = is_known-first q q known refl
-is_known-at (q ∷ known) (suc k) below = is_known-later true q (slice_index known k) known (is_known-at known k (omega arith))
+is_known-at (q ∷ known) (suc k) below = is_known-later q (slice_index known k) known (is_known-at known k (omega arith))
 
 pub is_known-none : (x : ℕ) → is_known [] x ≡ false
 unfolding is_known
@@ -82,13 +82,10 @@ unfolding locator
 locator-start known x = refl
 
 -- at a known point nothing is multiplied, at a missing one the difference from it
-pub locator-known : (known : List ℕ) (n x : ℕ) → is_known known n ≡ true → locator known (suc n) x ≡ locator known n x
+pub locator-more : (known : List ℕ) (n x : ℕ) {b : Bool} → is_known known n ≡ b
+    → locator known (suc n) x ≡ cond b (locator known n x) (times (bit_xor x n) (locator known n x))
 unfolding locator
-locator-known known n x e = ap (λ (b : Bool). cond b (locator known n x) (times (bit_xor x n) (locator known n x))) e
-
-pub locator-missing : (known : List ℕ) (n x : ℕ) → is_known known n ≡ false → locator known (suc n) x ≡ times (bit_xor x n) (locator known n x)
-unfolding locator
-locator-missing known n x e = ap (λ (b : Bool). cond b (locator known n x) (times (bit_xor x n) (locator known n x))) e
+locator-more known n x e = rw e
 
 -- lists with the same tests have the same locator
 pub locator-same : (known other : List ℕ) (n x : ℕ) → ((q : ℕ) → q < n → is_known known q ≡ is_known other q) → locator known n x ≡ locator other n x
@@ -105,6 +102,11 @@ locator-own known n x e = locator-same (x ∷ known) known n x (λ q l. is_known
 late : (known : List ℕ) (n e x : ℕ) → n ≤ e → locator (e ∷ known) n x ≡ locator known n x
 late known n e x above = locator-same (e ∷ known) known n x (λ q l. is_known-rest e q known (λ same. absurd (omega arith)))
 
+-- a factor goes before both cases
+swapped : (b : Bool) (d m l : ℕ) → d < 65536 → m < 65536 → l < 65536 → cond b (times d l) (times m (times d l)) ≡ times d (cond b l (times m l))
+swapped true d m l d_low m_low l_low = refl
+swapped false d m l d_low m_low l_low = times_left_comm m d l m_low d_low l_low
+
 -- what a missing point brings
 pub locator-pulled : (known : List ℕ) (n e x : ℕ) → n ≤ 65536 → e < n → x < 65536 → is_known known e ≡ false
     → locator known n x ≡ times (bit_xor x e) (locator (e ∷ known) n x)
@@ -113,19 +115,14 @@ locator-pulled known (suc n) e x far below low missing =
     elim (either_point e n) [
       | inl same ↦
           rw same
-          (locator-missing known n x (sym (ap (is_known known) same) ∙ missing)
-          ∙ ap (times (bit_xor x n)) (sym (locator-known (n ∷ known) n x (is_known-first n n known refl) ∙ late known n n x (omega arith))))
+          (locator-more known n x (rw same at missing)
+          ∙ ap (times (bit_xor x n)) (sym (locator-more (n ∷ known) n x (is_known-first n n known refl) ∙ late known n n x (omega arith))))
       | inr other ↦
-          let before = locator-pulled known n e x (omega arith) (omega arith) low missing in
-          elim (either (is_known known n)) [
-            | inl taken ↦
-                locator-known known n x taken ∙ before
-                ∙ ap (times (bit_xor x e)) (sym (locator-known (e ∷ known) n x (is_known-rest e n known other ∙ taken)))
-            | inr free ↦
-                locator-missing known n x free ∙ ap (times (bit_xor x n)) before
-                ∙ times_left_comm (bit_xor x n) (bit_xor x e) (locator (e ∷ known) n x) (xor-lt x n low (omega arith)) (xor-lt x e low (omega arith)) (locator-lt (e ∷ known) n x)
-                ∙ ap (times (bit_xor x e)) (sym (locator-missing (e ∷ known) n x (is_known-rest e n known other ∙ free)))
-          ]
+          locator-more known n x refl
+          ∙ ap (λ (s : ℕ). cond (is_known known n) s (times (bit_xor x n) s)) (locator-pulled known n e x (omega arith) (omega arith) low missing)
+          ∙ swapped (is_known known n) (bit_xor x e) (bit_xor x n) (locator (e ∷ known) n x) (xor-lt x e low (omega arith))
+          (xor-lt x n low (omega arith)) (locator-lt (e ∷ known) n x)
+          ∙ ap (times (bit_xor x e)) (sym (locator-more (e ∷ known) n x (is_known-rest e n known other)))
     ]
 
 -- missing points are roots
@@ -140,11 +137,11 @@ locator-other known zero x far low e none = absurd (omega (arith, locator-start 
 locator-other known (suc n) x far low e none =
     let before = locator-other known n x (omega arith) low e in
     elim (either (is_known known n)) [
-      | inl taken ↦ before (sym (locator-known known n x taken) ∙ none)
+      | inl taken ↦ before (sym (locator-more known n x taken) ∙ none)
       | inr free ↦
           product-other (bit_xor x n) (locator known n x) (xor-lt x n low (omega arith)) (locator-lt known n x)
           (sum-other x n (λ same. differ (is_known known n) (sym (ap (is_known known) same) ∙ e) free)) before
-          (sym (locator-missing known n x free) ∙ none)
+          (sym (locator-more known n x free) ∙ none)
     ]
 
 -- ---- how many points are missing
@@ -153,31 +150,26 @@ unfoldable pub missing_count : List ℕ → ℕ → ℕ
 missing_count known zero = 0
 missing_count known (suc n) = cond (is_known known n) (missing_count known n) (suc (missing_count known n))
 
-count-start : (known : List ℕ) → missing_count known 0 ≡ 0
+count-more : (known : List ℕ) (n : ℕ) {b : Bool} → is_known known n ≡ b
+    → missing_count known (suc n) ≡ cond b (missing_count known n) (suc (missing_count known n))
 unfolding missing_count
-count-start known = refl
-
-count-known : (known : List ℕ) (n : ℕ) → is_known known n ≡ true → missing_count known (suc n) ≡ missing_count known n
-unfolding missing_count
-count-known known n e = ap (λ (b : Bool). cond b (missing_count known n) (suc (missing_count known n))) e
-
-count-missing : (known : List ℕ) (n : ℕ) → is_known known n ≡ false → missing_count known (suc n) ≡ suc (missing_count known n)
-unfolding missing_count
-count-missing known n e = ap (λ (b : Bool). cond b (missing_count known n) (suc (missing_count known n))) e
+count-more known n e = rw e
 
 count-none : (n : ℕ) → missing_count [] n ≡ n
-count-none zero = count-start []
-count-none (suc n) = count-missing [] n (is_known-none n) ∙ ap suc (count-none n)
+unfolding missing_count is_known
+count-none zero = refl
+count-none (suc n) = ap suc (count-none n)
 
 count-late : (known : List ℕ) (n e : ℕ) → n ≤ e → missing_count (e ∷ known) n ≡ missing_count known n
-count-late known zero e above = count-start (e ∷ known) ∙ sym (count-start known)
+unfolding missing_count
+count-late known zero e above = refl
 count-late known (suc n) e above =
-    let apart : e ≢ n = λ same. absurd (omega arith) in
-    let before = count-late known n e (omega arith) in
-    elim (either (is_known known n)) [
-      | inl taken ↦ count-known (e ∷ known) n (is_known-rest e n known apart ∙ taken) ∙ before ∙ sym (count-known known n taken)
-      | inr free ↦ count-missing (e ∷ known) n (is_known-rest e n known apart ∙ free) ∙ ap suc before ∙ sym (count-missing known n free)
-    ]
+    count-more (e ∷ known) n (is_known-rest e n known (λ same. absurd (omega arith)))
+    ∙ ap (λ (s : ℕ). cond (is_known known n) s (suc s)) (count-late known n e (omega arith))
+
+one_more : (b : Bool) (s : ℕ) → cond b (suc s) (suc (suc s)) ≡ suc (cond b s (suc s))
+one_more true s = refl
+one_more false s = refl
 
 -- one more known point is one missing point less
 pub count-suc : (known : List ℕ) (n e : ℕ) → e < n → is_known known e ≡ false → missing_count known n ≡ suc (missing_count (e ∷ known) n)
@@ -185,14 +177,13 @@ count-suc known zero e below missing = absurd (omega arith)
 count-suc known (suc n) e below missing =
     elim (either_point e n) [
       | inl same ↦
-          count-missing known n (sym (ap (is_known known) same) ∙ missing)
-          ∙ ap suc (sym (count-known (e ∷ known) n (is_known-first e n known same) ∙ count-late known n e (omega arith)))
+          count-more known n (rw same at missing)
+          ∙ ap suc (sym (count-more (e ∷ known) n (is_known-first e n known same) ∙ count-late known n e (omega arith)))
       | inr other ↦
-          let before = count-suc known n e (omega arith) missing in
-          elim (either (is_known known n)) [
-            | inl taken ↦ count-known known n taken ∙ before ∙ ap suc (sym (count-known (e ∷ known) n (is_known-rest e n known other ∙ taken)))
-            | inr free ↦ count-missing known n free ∙ ap suc (before ∙ sym (count-missing (e ∷ known) n (is_known-rest e n known other ∙ free)))
-          ]
+          count-more known n refl
+          ∙ ap (λ (s : ℕ). cond (is_known known n) s (suc s)) (count-suc known n e (omega arith) missing)
+          ∙ one_more (is_known known n) (missing_count (e ∷ known) n)
+          ∙ ap suc (sym (count-more (e ∷ known) n (is_known-rest e n known other)))
     ]
 
 -- known and missing points are all
@@ -212,7 +203,7 @@ locator_line known n x low free =
     ap (λ (y : Element). words.times (words.plus y (element_of n)) (function (locator known n) x)) (own-number x)
     ∙ ap (λ (y : Element). words.times y (function (locator known n) x)) (plus-number x.0 n x.1 low)
     ∙ times-number (bit_xor x.0 n) (locator known n x.0) (xor-lt x.0 n x.1 low) l
-    ∙ ap element_of (sym (locator-missing known n x.0 free))
+    ∙ ap element_of (sym (locator-more known n x.0 free))
 
 -- it has one coefficient more than there are missing points
 pub locator-polynomial : (known : List ℕ) (n : ℕ) → n ≤ 65536 → IsPolynomial words (suc (missing_count known n)) IsPoint (function (locator known n))
@@ -224,14 +215,14 @@ locator-polynomial known (suc n) far =
     elim (either (is_known known n)) [
       | inl taken ↦ (
         before.0,
-        omega (arith, before.1, count-known known n taken),
-        λ x point. before.2 x point ∙ ap element_of (sym (locator-known known n x.0 taken)),
+        omega (arith, before.1, count-more known n taken),
+        λ x point. before.2 x point ∙ ap element_of (sym (locator-more known n x.0 taken)),
       )
       | inr free ↦
           let p = IsPolynomial-line words (suc (missing_count known n)) IsPoint (function (locator known n))
           (element_of n) before in (
             p.0,
-            omega (arith, p.1, count-missing known n free),
+            omega (arith, p.1, count-more known n free),
             λ x point. p.2 x point ∙ locator_line known n x (omega arith) free,
           )
     ]

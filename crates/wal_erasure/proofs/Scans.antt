@@ -1,6 +1,6 @@
 -- What a loop over the known points, or over all points, keeps.
-use Rattle.wal_erasure.proofs.Common.{◌≡◌, ◌≢◌, ℕ, ◌+◌, ◌<◌, ◌≤◌, List, ◌∷◌, length, get_or, drop, true, false, bit_xor, refl, sym, ap, ◌∙◌, add-one, drop-cons, drop_of_length-le, times, is_known, locator}
-use Rattle.wal_erasure.proofs.LocatorLaws.{is_known-first, is_known-rest, is_known-none, locator-known, locator-missing, locator-other}
+use Rattle.wal_erasure.proofs.Common.{◌≡◌, ◌≢◌, ℕ, ◌+◌, ◌<◌, ◌≤◌, List, ◌∷◌, length, get_or, drop, Bool, cond, true, false, bit_xor, refl, sym, ◌∙◌, add-one, drop-cons, drop_of_length-le, times, is_known, locator}
+use Rattle.wal_erasure.proofs.LocatorLaws.{is_known-first, is_known-rest, is_known-none, locator-more, locator-other}
 
 is_known-drop : (known : List ℕ) (i x : ℕ) → i < length known → is_known (drop i known) x ≡ is_known (get_or known i 0 ∷ drop (i + 1) known) x
 is_known-drop known i x below = rw (add-one, drop-cons known i 0)
@@ -22,17 +22,9 @@ scan_end known i x past h = sym (is_known-none x) ∙ rw drop_of_length-le at h
 
 -- ---- the product over the others
 
-pub product_taken : (known : List ℕ) (n x p : ℕ) → x ≢ n → is_known known n ≡ false → p ≡ locator (x ∷ known) n x
-    → times (bit_xor x n) p ≡ locator (x ∷ known) (n + 1) x
-product_taken known n x p other free h =
-    ap (times (bit_xor x n)) h
-    ∙ rw add-one (sym (locator-missing (x ∷ known) n x (is_known-rest x n known other ∙ free)))
-
-pub product_own : (known : List ℕ) (n x p : ℕ) → x ≡ n → p ≡ locator (x ∷ known) n x → p ≡ locator (x ∷ known) (n + 1) x
-product_own known n x p same h = h ∙ rw add-one (sym (locator-known (x ∷ known) n x (is_known-first x n known same)))
-
-pub product_known : (known : List ℕ) (n x p : ℕ) → x ≢ n → is_known known n ≡ true → p ≡ locator (x ∷ known) n x → p ≡ locator (x ∷ known) (n + 1) x
-product_known known n x p other taken h = h ∙ rw add-one (sym (locator-known (x ∷ known) n x (is_known-rest x n known other ∙ taken)))
+pub product_step : (known : List ℕ) (n x p : ℕ) {b : Bool} → is_known (x ∷ known) n ≡ b → p ≡ locator (x ∷ known) n x
+    → cond b p (times (bit_xor x n) p) ≡ locator (x ∷ known) (n + 1) x
+product_step known n x p e h = rw (h, add-one) (sym (locator-more (x ∷ known) n x e))
 
 pub product_nonzero : (known : List ℕ) (n x : ℕ) → n ≤ 65536 → x < 65536 → locator (x ∷ known) n x ≢ 0
 product_nonzero known n x far low = locator-other (x ∷ known) n x far low (is_known-first x x known refl)

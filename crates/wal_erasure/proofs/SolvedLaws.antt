@@ -1,5 +1,5 @@
 -- Strips that are solved, and all regions.
-use Rattle.wal_erasure.proofs.Common.{◌≡◌, ℕ, ◌+◌, ◌-◌, ◌*◌, ◌^◌, ◌<◌, ◌≤◌, List, length, slice_index, Bool, true, false, cond, sym, ap, ap₂, ◌∙◌, arith, inl, inr, times, inverse, Gf, Distinct, combination, coefficient, element_at, combination-known, word_at, region, word_at-lt, word_at-region, value, lane, AreValues, AreCoefficients, AreDerived, is_known, others, AreFactors, ArePut, AreTaken, AreSolved, AreCopied}
+use Rattle.wal_erasure.proofs.Common.{◌≡◌, ℕ, ◌+◌, ◌-◌, ◌*◌, ◌^◌, ◌<◌, ◌≤◌, List, length, slice_index, Bool, false, cond, sym, ap, ap₂, ◌∙◌, arith, inl, inr, times, inverse, Gf, Distinct, combination, coefficient, element_at, combination-known, word_at, region, word_at-lt, word_at-region, value, lane, AreValues, AreCoefficients, AreDerived, is_known, others, AreFactors, ArePut, AreTaken, AreSolved, AreCopied}
 use Rattle.wal_code.proofs.Totals.{xor_below-same}
 use Rattle.wal_erasure.proofs.LocatorLaws.{either, is_known-at, is_known-found, is_known-apart}
 use Rattle.wal_erasure.proofs.Erased.{IsErasure, recovered}
@@ -22,12 +22,9 @@ pub record SolvesStrip (words start width wanted level : ℕ) (known : List ℕ)
 
 module _ (words start width wanted level : ℕ) (known : List ℕ) (factors : List Gf) (sources strip coeffs derived values old new : List ℕ)
     (h : SolvesStrip words start width wanted level known factors sources strip coeffs derived values old new) where
-  known_factor : (x : ℕ) → x < 2 ^ level → is_known known x ≡ true → element_at factors x ≡ others known (2 ^ level) x
-  known_factor x below e =
-      h.made x below ∙ ap (λ (b : Bool). cond b (others known (2 ^ level) x) (inverse (others known (2 ^ level) x))) e
-
-  missing_factor : (x : ℕ) → x < 2 ^ level → is_known known x ≡ false → element_at factors x ≡ inverse (others known (2 ^ level) x)
-  missing_factor x below e =
+  factor : {b : Bool} (x : ℕ) → x < 2 ^ level → is_known known x ≡ b
+      → element_at factors x ≡ cond b (others known (2 ^ level) x) (inverse (others known (2 ^ level) x))
+  factor x below e =
       h.made x below ∙ ap (λ (b : Bool). cond b (others known (2 ^ level) x) (inverse (others known (2 ^ level) x))) e
 
   at_point : (w : ℕ) → w < width → (x : ℕ) → x < 2 ^ level → value level (lane width coeffs w) x ≡ lane width strip w x
@@ -44,7 +41,7 @@ module _ (words start width wanted level : ℕ) (known : List ℕ) (factors : Li
     coefficients = λ i. word_at-lt coeffs (width * i + w) h.bytes;
     at_known = λ k i.
         at_point w l (slice_index known k) (h.below k i) ∙ h.put.products w l k i
-        ∙ ap (λ (s : ℕ). times s (word_at sources (words * k + (start + w)))) (known_factor (slice_index known k) (h.below k i) (is_known-at known k i));
+        ∙ ap (λ (s : ℕ). times s (word_at sources (words * k + (start + w)))) (factor (slice_index known k) (h.below k i) (is_known-at known k i));
     at_missing = λ x below missing. at_point w l x below ∙ h.put.zeros w l x (is_known-apart known x missing);
   }
 
@@ -55,7 +52,7 @@ module _ (words start width wanted level : ℕ) (known : List ℕ) (factors : Li
       let place : 0 * 2 ^ level + x ≡ x = omega arith in
       let within : x < 2 ^ level = omega arith in
       h.take.products w l x below
-      ∙ ap₂ (λ (s t : ℕ). times s t) (missing_factor x within missing)
+      ∙ ap₂ (λ (s t : ℕ). times s t) (factor x within missing)
       (h.evaluate w l x within (omega arith) (omega arith) ∙ ap (value level (lane width derived w)) place ∙ h.derive w l x)
       ∙ recovered known level (λ k. word_at sources (words * k + (start + w))) (lane width coeffs w) (erasure w l) x within missing
 

@@ -8,9 +8,6 @@ double level points some e =
     let same : suc (level - 1) ≡ level = omega arith in
     ap (λ (l : ℕ). 2 ^ l) (sym same) ∙ pow-suc 2 (level - 1) ∙ ap (λ (n : ℕ). n * 2) (sym e)
 
-pub some_points : (level points : ℕ) → points ≡ 2 ^ level → 0 < points
-some_points level points e = let some = pow_pos level in omega arith
-
 -- the bytes of a block, and of its halves
 pub whole_long : (level points width whole : ℕ) → 0 < level → points ≡ 2 ^ (level - 1) → whole ≡ 2 ^ level * (2 * width)
     → whole ≡ points * 2 * width + points * 2 * width
@@ -19,16 +16,32 @@ whole_long level points width whole some e long = rw (long, double level points 
 pub half_long : (level points width : ℕ) → points ≡ 2 ^ level → points * 2 * width ≡ 2 ^ level * (2 * width)
 half_long level points width e = rw (← e) (omega arith)
 
--- the points of a block lie below 1024
-pub last_point : (level points index : ℕ) → 0 < level → points ≡ 2 ^ (level - 1) → (index + 1) * 2 ^ level ≤ 1024
-    → 2 * index * points + 2 * points ≤ 1024
-last_point level points index some e within = omega (arith, rw (double level points some e) at within)
+-- what a block's number of points, and the size and number of the block, say of its halves
+pub record IsHalved (level points width whole index : ℕ) : Type 0 where
+  pub some : 0 < points
+  pub long : whole ≡ points * 2 * width + points * 2 * width
+  pub half : points * 2 * width ≡ 2 ^ (level - 1) * (2 * width)
+  pub same : points ≡ 2 ^ (level - 1)
+  pub both : 2 ^ level ≡ points * 2
+  pub last : 2 * index * points + 2 * points ≤ 1024
+  pub lower : (2 * index + 1) * 2 ^ (level - 1) ≤ 1024
+  pub upper : (2 * index + 1 + 1) * 2 ^ (level - 1) ≤ 1024
 
-pub lower_points : (level points index : ℕ) → points ≡ 2 ^ level → 2 * index * points + 2 * points ≤ 1024 → (2 * index + 1) * 2 ^ level ≤ 1024
-lower_points level points index e within = rw (← e) (omega arith)
-
-pub upper_points : (level points index : ℕ) → points ≡ 2 ^ level → 2 * index * points + 2 * points ≤ 1024 → (2 * index + 1 + 1) * 2 ^ level ≤ 1024
-upper_points level points index e within = rw (← e) (omega arith)
+pub halved : {level points width whole index : ℕ} → 0 < level → points ≡ 2 ^ (level - 1) → whole ≡ 2 ^ level * (2 * width)
+    → (index + 1) * 2 ^ level ≤ 1024 → IsHalved level points width whole index
+halved {level} {points} {width} {whole} {index} above same long within =
+    let both = double level points above same in
+    let last : 2 * index * points + 2 * points ≤ 1024 = omega (arith, rw both at within) in
+    record {
+      some = omega (arith, pow_pos (level - 1));
+      long = whole_long level points width whole above same long;
+      half = half_long (level - 1) points width same;
+      same = same;
+      both = both;
+      last = last;
+      lower = rw (← same) (omega arith);
+      upper = rw (← same) (omega arith);
+    }
 
 -- the widest strip for which there is room has some words
 pub widest_some : (room points : ℕ) → 1 ≤ points → points ≤ 1024 → 2048 ≤ room → 1 ≤ room / (2 * points)

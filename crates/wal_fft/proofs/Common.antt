@@ -1,5 +1,5 @@
 -- What the proofs of this crate cite from elsewhere, and of its own definitions, handed on from one place. Declares nothing.
-pub use Rattle.std.proofs.Common.{◌≡◌, ℕ, ◌+◌, ◌-◌, ◌*◌, ◌<◌, ◌≤◌, List, ◌++◌, length, take, drop, slice_index, bit_xor, refl, sym, ap, ap₂, ◌∙◌, arith, mul-le-mul_left, suc, ◌/◌, ◌^◌, pow_pos, pow-suc, eq-or-lt_of_le, inl, inr, zero, ◌%◌, [], ◌∷◌, Bool, cond, T, true, false, eqb, lit<, mod-lt, add-zero, zero-add, zero-mul, one-mul, eqb→eq, ◌⊎◌, subst, mul-le-mul_right, rules, pow_mono}
+pub use Rattle.std.proofs.Common.{◌≡◌, ◌≢◌, ℕ, ◌+◌, ◌-◌, ◌*◌, ◌<◌, ◌≤◌, List, ◌++◌, length, take, drop, slice_index, bit_xor, refl, sym, ap, ap₂, ◌∙◌, arith, mul-le-mul_left, suc, ◌/◌, ◌^◌, pow_pos, pow-suc, eq-or-lt_of_le, inl, inr, zero, ◌%◌, [], ◌∷◌, Bool, cond, T, true, false, eqb, lit<, mod-lt, add-zero, zero-add, zero-mul, one-mul, eqb→eq, ◌⊎◌, subst, mul-le-mul_right, rules, pow_mono}
 pub use Rattle.std.proofs.lemmas.Bool.{cases_lt}
 pub use Rattle.std.proofs.lemmas.List.{length-take-le, get_or-take, ext_get_or, length-map}
 pub use Rattle.std.proofs.lemmas.Nat.{xor_lt, xor_block, xor_comm}

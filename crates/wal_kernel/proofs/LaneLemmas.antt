@@ -1,5 +1,5 @@
 -- What the operations on vectors of bytes hold at each lane.
-use Rattle.wal_kernel.proofs.Common.{zero, suc, zero-mul, one-mul, mod-eq_of_lt, take, drop, length-drop, length-append, ◌≡◌, ℕ, ◌+◌, ◌-◌, ◌*◌, ◌/◌, ◌%◌, ◌^◌, ◌<◌, ◌≤◌, ◌⊎◌, inl, inr, List, ◌++◌, length, get_or, map, replicate, refl, sym, ap, ap₂, ◌∙◌, arith, w8, bit_and, bit_xor, Fits, slice_index, T, eqb, eqb→eq, and_zero_r, get_or-drop, get_or-take, length-take-le, get_or_append_left, get_or-append_right, and_mask, all_below, all_below-at, HasLanes, IsTable, word_of_lane, IsSumBelow}
+use Rattle.wal_kernel.proofs.Common.{zero, suc, zero-mul, one-mul, mod-eq_of_lt, take, drop, length-drop, length-append, ◌≡◌, ℕ, ◌+◌, ◌-◌, ◌*◌, ◌/◌, ◌%◌, ◌^◌, ◌<◌, ◌≤◌, ◌⊎◌, inl, inr, List, ◌++◌, length, get_or, map, replicate, refl, sym, ap, ap₂, ◌∙◌, arith, w8, bit_and, bit_xor, Fits, slice_index, eqb, eqb→eq, and_zero_r, get_or-drop, get_or-take, length-take-le, get_or_append_left, get_or-append_right, and_mask, all_below, all_below-at, HasLanes, IsTable, word_of_lane, IsSumBelow}
 use Rattle.std.specs.Simd.Lanes.{zip2, chunk, put_chunk, Each1}
 use Rattle.std.specs.List.{range_with_len}
 use Rattle.std.proofs.lemmas.Bool.{cases_lt}
@@ -28,8 +28,12 @@ HasLanes-zip2 n f a b p q = record {
 -- an operator on a vector and a splat
 pub HasLanes-splat : (f : ℕ → ℕ → ℕ) (a : List ℕ) (x : ℕ) → length a ≡ 32 → HasLanes 32 (zip2 f a (replicate 32 x)) (λ k. f (get_or a k 0) x)
 HasLanes-splat f a x p =
-    let h = HasLanes-zip2 32 f a (replicate 32 x) p refl in
-    record { long = h.long; each = λ k l. h.each k l ∙ ap (f (get_or a k 0)) (get_or-replicate 32 k x 0 l) }
+    HasLanes-same 32 _ _ _ (HasLanes-zip2 32 f a (replicate 32 x) p refl) (λ k l. ap (f (get_or a k 0)) (get_or-replicate 32 k x 0 l))
+
+-- the sums of two vectors
+pub HasLanes-sum : {v a b : List ℕ} {f g : ℕ → ℕ} → HasLanes 32 v (λ k. bit_xor (slice_index a k) (slice_index b k)) → HasLanes 32 a f → HasLanes 32 b g
+    → HasLanes 32 v (λ k. bit_xor (f k) (g k))
+HasLanes-sum h a_holds b_holds = HasLanes-same 32 _ _ _ h (λ k l. ap₂ (λ (s t : ℕ). bit_xor s t) (a_holds.each k l) (b_holds.each k l))
 
 -- a splat where a bit of the lane's number is set
 masked : (d x : ℕ) → d < 2 → x < 256 → bit_and x (d * 255) ≡ d * x
@@ -45,9 +49,7 @@ HasLanes-masked x bit byte small =
 
 -- the nibbles of a vector
 pub low_nibbles : (v : List ℕ) → length v ≡ 32 → HasLanes 32 (zip2 bit_and v (replicate 32 15)) (λ k. get_or v k 0 % 16)
-low_nibbles v long =
-    let h = HasLanes-splat bit_and v 15 long in
-    record { long = h.long; each = λ k l. h.each k l ∙ and_mask (get_or v k 0) 4 }
+low_nibbles v long = HasLanes-same 32 _ _ _ (HasLanes-splat bit_and v 15 long) (λ k l. and_mask (get_or v k 0) 4)
 
 pub high_nibbles : (v : List ℕ) → length v ≡ 32 → HasLanes 32 (zip2 (λ a b. a / 2 ^ b) v (replicate 32 4)) (λ k. get_or v k 0 / 16)
 high_nibbles v long = HasLanes-splat (λ a b. a / 2 ^ b) v 4 long
@@ -102,9 +104,9 @@ joined n at xs a b h h' j l = place (cases_lt j n)
     place (inr after) = get_or-append_right a b n j 0 h.long after ∙ h'.each (j - n) (omega arith) ∙ ap (λ k. slice_index xs k) (omega arith)
 
 -- the run of a word's lane, and the run of that lane's word
-there_and_back : T (all_below 32 (λ w. eqb (word_of_lane (word_of_lane w)) w))
+there_and_back : (w : ℕ) → w < 32 → word_of_lane (word_of_lane w) ≡ w
 unfolding all_below
-there_and_back = tt
+there_and_back w l = eqb→eq _ _ (all_below-at 32 (λ w. eqb (word_of_lane (word_of_lane w)) w) tt w l)
 
 -- every second byte of two loads, from the first or the second byte on
 pub HasLanes-alternate : (odd : ℕ) (xs a b : List ℕ) (at : ℕ) → odd < 2 → HasLanes 32 a (λ k. slice_index xs (at + k)) → HasLanes 32 b (λ k. slice_index xs (at + 32 + k))
@@ -123,19 +125,13 @@ HasLanes-by_turns f at from to high low small start h h' =
     place : (k : ℕ) → k < 32 → (k % 2 < 1) ⊎ (1 ≤ k % 2) → slice_index (high ++ low) (word_of_lane (from + k / 2) + 32 * (k % 2)) ≡ f (to + k)
     place k l (inl even) =
         let word = from + k / 2 in
-        let own : word_of_lane (word_of_lane word) ≡ word = eqb→eq _ _ (all_below-at 32 (λ w. eqb (word_of_lane (word_of_lane w)) w) there_and_back word (omega arith)) in
-        let within : word_of_lane word < 32 = omega arith in
-        let lane : word_of_lane word + 32 * (k % 2) ≡ word_of_lane word = omega arith in
-        ap (λ j. slice_index (high ++ low) j) lane ∙ get_or_append_left high low 0 (word_of_lane word) (omega (arith, h.long)) ∙ h.each (word_of_lane word) within
-        ∙ ap (λ w. f (at + 2 * w)) own ∙ ap f (omega arith)
+        ap (λ j. slice_index (high ++ low) j) (omega arith) ∙ get_or_append_left high low 0 (word_of_lane word) (omega (arith, h.long))
+        ∙ h.each (word_of_lane word) (omega arith) ∙ ap (λ w. f (at + 2 * w)) (there_and_back word (omega arith)) ∙ ap f (omega arith)
     place k l (inr odd) =
         let word = from + k / 2 in
-        let own : word_of_lane (word_of_lane word) ≡ word = eqb→eq _ _ (all_below-at 32 (λ w. eqb (word_of_lane (word_of_lane w)) w) there_and_back word (omega arith)) in
-        let within : word_of_lane word < 32 = omega arith in
-        let lane : word_of_lane word + 32 * (k % 2) ≡ 32 + word_of_lane word = omega arith in
-        let back : 32 + word_of_lane word - 32 ≡ word_of_lane word = omega arith in
-        ap (λ j. slice_index (high ++ low) j) lane ∙ get_or-append_right high low 32 (32 + word_of_lane word) 0 h.long (omega arith)
-        ∙ ap (λ j. slice_index low j) back ∙ h'.each (word_of_lane word) within ∙ ap (λ w. f (at + 2 * w + 1)) own ∙ ap f (omega arith)
+        ap (λ j. slice_index (high ++ low) j) (omega arith)
+        ∙ get_or-append_right high low 32 (32 + word_of_lane word) 0 h.long (omega arith) ∙ ap (λ j. slice_index low j) (omega arith)
+        ∙ h'.each (word_of_lane word) (omega arith) ∙ ap (λ w. f (at + 2 * w + 1)) (there_and_back word (omega arith)) ∙ ap f (omega arith)
 
 -- what stands from a place on, and zeros after it
 pub padded_at : (bytes part : List ℕ) (at n : ℕ) → at ≤ length bytes → n ≡ length bytes - at → part ≡ drop at bytes → (k : ℕ) → slice_index (part ++ drop n (replicate 64 0)) k ≡ slice_index bytes (at + k)

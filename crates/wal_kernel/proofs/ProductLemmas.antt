@@ -21,19 +21,15 @@ doubled-word w low =
     let top : w / 32768 % 2 ≡ w / 32768 = omega arith in
     sym (times-two w low ∙ ap (λ (s : ℕ). bit_xor (w * 2 % 65536) (s * 0x100B)) top)
 
-square_check : times 16 16 ≡ 256
+powers_check : (times 16 16 ≡ 256) × (times 256 16 ≡ 4096)
 unfolding times product xor_below remainder cancel
-square_check = refl
-
-cube_check : times 256 16 ≡ 4096
-unfolding times product xor_below remainder cancel
-cube_check = refl
+powers_check = (refl, refl)
 
 pub times-256 : (c : ℕ) → times (times c 16) 16 ≡ times c 256
-times-256 c = times_assoc c 16 16 (lit< tt) (lit< tt) ∙ ap (times c) square_check
+times-256 c = times_assoc c 16 16 (lit< tt) (lit< tt) ∙ ap (times c) powers_check.0
 
 pub times-4096 : (c : ℕ) → times (times c 256) 16 ≡ times c 4096
-times-4096 c = times_assoc c 256 16 (lit< tt) (lit< tt) ∙ ap (times c) cube_check
+times-4096 c = times_assoc c 256 16 (lit< tt) (lit< tt) ∙ ap (times c) powers_check.1
 
 -- ---- the products of one element and the numbers below 16
 
@@ -60,30 +56,24 @@ times_by_bits c k low small =
     (rw (zero-times (times by_8 2), xor_zero_r (k / 8 % 2 * by_8))))
 
 -- the bytes of a word, the most significant first
-pub first_byte : (word : ℕ) (bytes : List ℕ) → word < 65536 → bytes ≡ to_be_bytes w16 word → slice_index bytes 0 ≡ word / 256
-first_byte word bytes fits e = ap (λ bs. slice_index bs 0) e ∙ (let byte : word / 256 % 256 ≡ word / 256 = omega arith in byte)
-
-pub second_byte : (word : ℕ) (bytes : List ℕ) → bytes ≡ to_be_bytes w16 word → slice_index bytes 1 ≡ word % 256
-second_byte word bytes e = ap (λ bs. slice_index bs 1) e
+pub two_bytes : {word w : ℕ} {bytes : List ℕ} → word < 65536 → bytes ≡ to_be_bytes w16 word → word ≡ w
+    → (slice_index bytes 0 ≡ w / 256) × (slice_index bytes 1 ≡ w % 256)
+two_bytes {word} fits e same =
+    let byte : word / 256 % 256 ≡ word / 256 = omega arith in
+    rw (← same) (ap (λ bs. slice_index bs 0) e ∙ byte, ap (λ bs. slice_index bs 1) e)
 
 -- ---- a word's product, from its nibbles'
 
 -- a nibble at its place
-at_place : (c place n : ℕ) → n < 16 → T (all_below 16 (λ n. eqb (times place n) (n * place))) → place < 65536 → times c (n * place) ≡ times (times c place) n
-at_place c place n small check low =
-    ap (times c) (sym (eqb→eq _ _ (all_below-at 16 (λ n. eqb (times place n) (n * place)) check n small))) ∙ sym (times_assoc c place n low (omega arith))
-
-check_16 : T (all_below 16 (λ n. eqb (times 16 n) (n * 16)))
+place_check : T (all_below 3 (λ p. all_below 16 (λ n. eqb (times (16 * 16 ^ p) n) (n * (16 * 16 ^ p)))))
 unfolding all_below times product xor_below remainder cancel
-check_16 = tt
+place_check = tt
 
-check_256 : T (all_below 16 (λ n. eqb (times 256 n) (n * 256)))
-unfolding all_below times product xor_below remainder cancel
-check_256 = tt
-
-check_4096 : T (all_below 16 (λ n. eqb (times 4096 n) (n * 4096)))
-unfolding all_below times product xor_below remainder cancel
-check_4096 = tt
+at_place : (c p n : ℕ) → p < 3 → n < 16 → 16 * 16 ^ p < 65536 → times c (n * (16 * 16 ^ p)) ≡ times (times c (16 * 16 ^ p)) n
+at_place c p n few small low =
+    ap (times c) (sym (eqb→eq _ _ (all_below-at 16 (λ n. eqb (times (16 * 16 ^ p) n) (n * (16 * 16 ^ p)))
+    (all_below-at 3 (λ p. all_below 16 (λ n. eqb (times (16 * 16 ^ p) n) (n * (16 * 16 ^ p)))) place_check p few) n small)))
+    ∙ sym (times_assoc c (16 * 16 ^ p) n low (omega arith))
 
 split_at : (c n w : ℕ) → times c w ≡ bit_xor (times c (w / 2 ^ n * 2 ^ n)) (times c (w % 2 ^ n))
 split_at c n w = ap (times c) (top_split n w) ∙ times-xor_right c (w / 2 ^ n * 2 ^ n) (w % 2 ^ n)
@@ -97,23 +87,24 @@ nibble_products c high low h l =
     let n1 : w % 4096 % 256 / 16 ≡ low / 16 = omega arith in
     let n0 : w % 4096 % 256 % 16 ≡ low % 16 = omega arith in
     split_at c 12 w
-    ∙ ap₂ (λ (s t : ℕ). bit_xor s t) (ap (λ (n : ℕ). times c (n * 4096)) n3 ∙ at_place c 4096 (high / 16) (omega arith) check_4096 (lit< tt))
+    ∙ ap₂ (λ (s t : ℕ). bit_xor s t) (ap (λ (n : ℕ). times c (n * 4096)) n3 ∙ at_place c 2 (high / 16) (lit< tt) (omega arith) (lit< tt))
     (split_at c 8 (w % 4096)
-    ∙ ap₂ (λ (s t : ℕ). bit_xor s t) (ap (λ (n : ℕ). times c (n * 256)) n2 ∙ at_place c 256 (high % 16) (omega arith) check_256 (lit< tt))
+    ∙ ap₂ (λ (s t : ℕ). bit_xor s t) (ap (λ (n : ℕ). times c (n * 256)) n2 ∙ at_place c 1 (high % 16) (lit< tt) (omega arith) (lit< tt))
     (split_at c 4 (w % 4096 % 256)
-    ∙ ap₂ (λ (s t : ℕ). bit_xor s t) (ap (λ (n : ℕ). times c (n * 16)) n1 ∙ at_place c 16 (low / 16) (omega arith) check_16 (lit< tt)) (ap (times c) n0)))
+    ∙ ap₂ (λ (s t : ℕ). bit_xor s t) (ap (λ (n : ℕ). times c (n * 16)) n1 ∙ at_place c 0 (low / 16) (lit< tt) (omega arith) (lit< tt)) (ap (times c) n0)))
 
-xor-high : (a b : ℕ) → bit_xor a b / 256 ≡ bit_xor (a / 256) (b / 256)
-xor-high a b = xor_shr a b 8
+divided : (n : ℕ) → IsAdditive (λ a. a / 2 ^ n)
+divided n a b = xor_shr a b n
 
-xor-low : (a b : ℕ) → bit_xor a b % 256 ≡ bit_xor (a % 256) (b % 256)
-xor-low a b = xor_mod a b 8
+reduced : (n : ℕ) → IsAdditive (λ a. a % 2 ^ n)
+reduced n a b = xor_mod a b n
 
-pub high_sum : (a b c d : ℕ) → bit_xor a (bit_xor b (bit_xor c d)) / 256 ≡ bit_xor (a / 256) (bit_xor (b / 256) (bit_xor (c / 256) (d / 256)))
-high_sum a b c d = xor-high a (bit_xor b (bit_xor c d)) ∙ ap (bit_xor (a / 256)) (xor-high b (bit_xor c d) ∙ ap (bit_xor (b / 256)) (xor-high c d))
+-- the first byte of a word, and the second, keep sums
+pub first_of : IsAdditive (λ w. w / 256)
+first_of = divided 8
 
-pub low_sum : (a b c d : ℕ) → bit_xor a (bit_xor b (bit_xor c d)) % 256 ≡ bit_xor (a % 256) (bit_xor (b % 256) (bit_xor (c % 256) (d % 256)))
-low_sum a b c d = xor-low a (bit_xor b (bit_xor c d)) ∙ ap (bit_xor (a % 256)) (xor-low b (bit_xor c d) ∙ ap (bit_xor (b % 256)) (xor-low c d))
+pub second_of : IsAdditive (λ w. w % 256)
+second_of = reduced 8
 
 xor₄ : {a b c d a' b' c' d' : ℕ} → a ≡ a' → b ≡ b' → c ≡ c' → d ≡ d' → bit_xor a (bit_xor b (bit_xor c d)) ≡ bit_xor a' (bit_xor b' (bit_xor c' d'))
 xor₄ p q r s = ap₂ (λ (x y : ℕ). bit_xor x y) p (ap₂ (λ (x y : ℕ). bit_xor x y) q (ap₂ (λ (x y : ℕ). bit_xor x y) r s))
@@ -136,34 +127,27 @@ times_by_lane c k low =
     times_by_bits c (k % 16) low (omega arith)
     ∙ xor₄ (ap (λ (d : ℕ). d * c) bit_1) (ap (λ (d : ℕ). d * times c 2) bit_2) (ap (λ (d : ℕ). d * times (times c 2) 2) bit_4) (ap (λ (d : ℕ). d * times (times (times c 2) 2) 2) bit_8)
 
-module _ (c at_1 at_2 at_4 at_8 : ℕ) (v : List ℕ) (low : c < 65536)
-    (h : HasLanes 32 v (λ k. bit_xor (k % 2 * at_1) (bit_xor (k / 2 % 2 * at_2) (bit_xor (k / 4 % 2 * at_4) (k / 8 % 2 * at_8))))) where
-  pub multiples-high : at_1 ≡ c / 256 → at_2 ≡ times c 2 / 256 → at_4 ≡ times (times c 2) 2 / 256 → at_8 ≡ times (times (times c 2) 2) 2 / 256 → IsTable (λ k. times c k / 256) v
-  multiples-high e e' e'' e''' = HasLanes-same 32 v _ _ h (λ k l.
-      let part = scale-part (λ w. w / 256) refl in
-      xor₄ (part (k % 2) c at_1 (omega arith) e) (part (k / 2 % 2) (times c 2) at_2 (omega arith) e')
-      (part (k / 4 % 2) (times (times c 2) 2) at_4 (omega arith) e'')
-      (part (k / 8 % 2) (times (times (times c 2) 2) 2) at_8 (omega arith) e''')
-      ∙ sym (ap (λ (w : ℕ). w / 256) (times_by_lane c k low) ∙ high_sum (k % 2 * c) (k / 2 % 2 * times c 2) (k / 4 % 2 * times (times c 2) 2) (k / 8 % 2 * times (times (times c 2) 2) 2)))
+-- a sum of four, in a function that keeps sums
+sum₄ : (f : ℕ → ℕ) → IsAdditive f → (a b c d : ℕ) → f (bit_xor a (bit_xor b (bit_xor c d))) ≡ bit_xor (f a) (bit_xor (f b) (bit_xor (f c) (f d)))
+sum₄ f keeps a b c d =
+    keeps a (bit_xor b (bit_xor c d)) ∙ ap (bit_xor (f a)) (keeps b (bit_xor c d) ∙ ap (bit_xor (f b)) (keeps c d))
 
-  pub multiples-low : at_1 ≡ c % 256 → at_2 ≡ times c 2 % 256 → at_4 ≡ times (times c 2) 2 % 256 → at_8 ≡ times (times (times c 2) 2) 2 % 256 → IsTable (λ k. times c k % 256) v
-  multiples-low e e' e'' e''' = HasLanes-same 32 v _ _ h (λ k l.
-      let part = scale-part (λ w. w % 256) refl in
-      xor₄ (part (k % 2) c at_1 (omega arith) e) (part (k / 2 % 2) (times c 2) at_2 (omega arith) e')
-      (part (k / 4 % 2) (times (times c 2) 2) at_4 (omega arith) e'')
-      (part (k / 8 % 2) (times (times (times c 2) 2) 2) at_8 (omega arith) e''')
-      ∙ sym (ap (λ (w : ℕ). w % 256) (times_by_lane c k low) ∙ low_sum (k % 2 * c) (k / 2 % 2 * times c 2) (k / 4 % 2 * times (times c 2) 2) (k / 8 % 2 * times (times (times c 2) 2) 2)))
+pub multiples : (f : ℕ → ℕ) → f 0 ≡ 0 → IsAdditive f → (c at_1 at_2 at_4 at_8 : ℕ) (v : List ℕ) → c < 65536
+    → HasLanes 32 v (λ k. bit_xor (k % 2 * at_1) (bit_xor (k / 2 % 2 * at_2) (bit_xor (k / 4 % 2 * at_4) (k / 8 % 2 * at_8))))
+    → at_1 ≡ f c → at_2 ≡ f (times c 2) → at_4 ≡ f (times (times c 2) 2) → at_8 ≡ f (times (times (times c 2) 2) 2)
+    → IsTable (λ k. f (times c k)) v
+multiples f none keeps c at_1 at_2 at_4 at_8 v low h e_1 e_2 e_4 e_8 = HasLanes-same 32 v _ _ h (λ k l.
+    let part = scale-part f none in
+    xor₄ (part (k % 2) c at_1 (omega arith) e_1) (part (k / 2 % 2) (times c 2) at_2 (omega arith) e_2)
+    (part (k / 4 % 2) (times (times c 2) 2) at_4 (omega arith) e_4)
+    (part (k / 8 % 2) (times (times (times c 2) 2) 2) at_8 (omega arith) e_8)
+    ∙ sym (ap f (times_by_lane c k low)
+    ∙ sum₄ f keeps (k % 2 * c) (k / 2 % 2 * times c 2) (k / 4 % 2 * times (times c 2) 2) (k / 8 % 2 * times (times (times c 2) 2) 2)))
 
 -- ---- the bytes of x^4 times a word
 
 composed : (f g : ℕ → ℕ) → IsAdditive f → IsAdditive g → IsAdditive (λ a. f (g a))
 composed f g keeps keeps' a b = ap f (keeps' a b) ∙ keeps (g a) (g b)
-
-divided : (n : ℕ) → IsAdditive (λ a. a / 2 ^ n)
-divided n a b = xor_shr a b n
-
-reduced : (n : ℕ) → IsAdditive (λ a. a % 2 ^ n)
-reduced n a b = xor_mod a b n
 
 multiplied : (n : ℕ) → IsAdditive (λ a. a * 2 ^ n)
 multiplied n a b = mul_comm (bit_xor a b) (2 ^ n) ∙ shift-additive n a b ∙ ap₂ (λ (s t : ℕ). bit_xor s t) (mul_comm (2 ^ n) a) (mul_comm (2 ^ n) b)
@@ -194,13 +178,13 @@ low_part-additive =
     (sum-additive (λ w. w / 256 / 16 * 2 ^ 3 % 256) (λ w. bit_xor (w / 256 / 16 * 2 ^ 1 % 256) (w / 256 / 16)) (moved 3 (λ w. w / 256 / 16) top-additive)
     (sum-additive (λ w. w / 256 / 16 * 2 ^ 1 % 256) (λ w. w / 256 / 16) (moved 1 (λ w. w / 256 / 16) top-additive) top-additive))
 
-high_of_product : (w : ℕ) → w < 65536 → high_of_sixteenfold (w / 256) (w % 256) ≡ times w 16 / 256
+pub high_of_product : (w : ℕ) → w < 65536 → high_of_sixteenfold (w / 256) (w % 256) ≡ times w 16 / 256
 unfolding all_below times product xor_below remainder cancel high_part
 high_of_product w low =
     same_by_powers 16 high_part (λ a. times a 16 / 256) high_part-additive (composed (λ a. a / 256) (λ a. times a 16) (divided 8) (times-xor_left 16))
     (λ i l. eqb→eq _ _ (all_below-at 16 (λ i. eqb (high_part (2 ^ i)) (times (2 ^ i) 16 / 256)) tt i l)) w low
 
-low_of_product : (w : ℕ) → w < 65536 → low_of_sixteenfold (w / 256) (w % 256) ≡ times w 16 % 256
+pub low_of_product : (w : ℕ) → w < 65536 → low_of_sixteenfold (w / 256) (w % 256) ≡ times w 16 % 256
 unfolding all_below times product xor_below remainder cancel low_part
 low_of_product w low =
     same_by_powers 16 low_part (λ a. times a 16 % 256) low_part-additive (composed (λ a. a % 256) (λ a. times a 16) (reduced 8) (times-xor_left 16))
@@ -210,39 +194,23 @@ turned : (c k : ℕ) → k < 16 → times (times c k) 16 ≡ times (times c 16) 
 turned c k l = times_assoc c k 16 (omega arith) (lit< tt) ∙ ap (times c) (times_comm k 16 (omega arith) (lit< tt)) ∙ sym (times_assoc c 16 k (lit< tt) (omega arith))
 
 -- the tables of x^4 times c, from those of c
-module _ (c : ℕ) (high low : List ℕ) (highs : IsTable (λ i. times c i / 256) high) (lows : IsTable (λ i. times c i % 256) low) where
-  pub table-high : (v : List ℕ) → HasLanes 32 v (λ k. high_of_sixteenfold (slice_index high k) (slice_index low k)) → IsTable (λ i. times (times c 16) i / 256) v
-  table-high v h = HasLanes-same 32 v _ _ h (λ k l.
-      ap₂ high_of_sixteenfold (highs.each k l) (lows.each k l)
-      ∙ high_of_product (times c (k % 16)) (times-lt c (k % 16) (omega arith))
-      ∙ ap (λ (w : ℕ). w / 256) (turned c (k % 16) (omega arith)))
-
-  pub table-low : (v : List ℕ) → HasLanes 32 v (λ k. low_of_sixteenfold (slice_index high k) (slice_index low k)) → IsTable (λ i. times (times c 16) i % 256) v
-  table-low v h = HasLanes-same 32 v _ _ h (λ k l.
-      ap₂ low_of_sixteenfold (highs.each k l) (lows.each k l)
-      ∙ low_of_product (times c (k % 16)) (times-lt c (k % 16) (omega arith))
-      ∙ ap (λ (w : ℕ). w % 256) (turned c (k % 16) (omega arith)))
+pub table_of : (made : ℕ → ℕ → ℕ) (f : ℕ → ℕ) → ((w : ℕ) → w < 65536 → made (w / 256) (w % 256) ≡ f (times w 16)) → (c : ℕ) (high low v : List ℕ)
+    → IsTable (λ i. times c i / 256) high → IsTable (λ i. times c i % 256) low
+    → HasLanes 32 v (λ k. made (slice_index high k) (slice_index low k)) → IsTable (λ i. f (times (times c 16) i)) v
+table_of made f product c high low v highs lows h = HasLanes-same 32 v _ _ h (λ k l.
+    ap₂ made (highs.each k l) (lows.each k l) ∙ product (times c (k % 16)) (times-lt c (k % 16) (omega arith)) ∙ ap f (turned c (k % 16) (omega arith)))
 
 -- ---- what the products of a word's nibbles make
 
--- the bytes of the products of c and the numbers with one nibble
-abbrev pub nibble_high : ℕ → ℕ → ℕ
-nibble_high c i = times c i / 256
+-- a byte of the products of c and the numbers with one nibble
+abbrev pub nibble : (ℕ → ℕ) → ℕ → ℕ → ℕ
+nibble f c i = f (times c i)
 
-abbrev pub nibble_low : ℕ → ℕ → ℕ
-nibble_low c i = times c i % 256
-
-pub high_byte : (c high low : ℕ) → high < 256 → low < 256
-    → nibble_sum (nibble_high (times c 4096)) (nibble_high (times c 256)) (nibble_high (times c 16)) (nibble_high c) high low ≡ times c (high * 256 + low) / 256
-high_byte c high low small small' =
-    sym (ap (λ (w : ℕ). w / 256) (nibble_products c high low small small')
-    ∙ high_sum (times (times c 4096) (high / 16)) (times (times c 256) (high % 16)) (times (times c 16) (low / 16)) (times c (low % 16)))
-
-pub low_byte : (c high low : ℕ) → high < 256 → low < 256
-    → nibble_sum (nibble_low (times c 4096)) (nibble_low (times c 256)) (nibble_low (times c 16)) (nibble_low c) high low ≡ times c (high * 256 + low) % 256
-low_byte c high low small small' =
-    sym (ap (λ (w : ℕ). w % 256) (nibble_products c high low small small')
-    ∙ low_sum (times (times c 4096) (high / 16)) (times (times c 256) (high % 16)) (times (times c 16) (low / 16)) (times c (low % 16)))
+byte_of : (f : ℕ → ℕ) → IsAdditive f → (c high low : ℕ) → high < 256 → low < 256
+    → nibble_sum (nibble f (times c 4096)) (nibble f (times c 256)) (nibble f (times c 16)) (nibble f c) high low ≡ f (times c (high * 256 + low))
+byte_of f keeps c high low small small' =
+    sym (ap f (nibble_products c high low small small')
+    ∙ sum₄ f keeps (times (times c 4096) (high / 16)) (times (times c 256) (high % 16)) (times (times c 16) (low / 16)) (times c (low % 16)))
 
 module _ (c block : ℕ) (source high low v : List ℕ) (bytes : (k : ℕ) → slice_index source k < 256)
     (highs : HasLanes 32 high (λ k. slice_index source (64 * block + 2 * word_of_lane k))) (lows : HasLanes 32 low (λ k. slice_index source (64 * block + 2 * word_of_lane k + 1))) where
@@ -258,16 +226,16 @@ module _ (c block : ℕ) (source high low v : List ℕ) (bytes : (k : ℕ) → s
   byte_low : (k : ℕ) → k < 32 → slice_index low k < 256
   byte_low k l = omega (arith, lows.each k l, bytes (64 * block + 2 * word_of_lane k + 1))
 
-  pub block_high : HasLanes 32 v (λ k. nibble_sum (nibble_high (times c 4096)) (nibble_high (times c 256)) (nibble_high (times c 16)) (nibble_high c) (slice_index high k) (slice_index low k))
+  pub block_high : HasLanes 32 v (λ k. nibble_sum (nibble (λ w. w / 256) (times c 4096)) (nibble (λ w. w / 256) (times c 256)) (nibble (λ w. w / 256) (times c 16)) (nibble (λ w. w / 256) c) (slice_index high k) (slice_index low k))
       → HasLanes 32 v (λ k. scaled_byte c source (64 * block + 2 * word_of_lane k))
   block_high h = HasLanes-same 32 v _ _ h (λ k l.
       let place : 2 * (32 * block + word_of_lane k) ≡ 64 * block + 2 * word_of_lane k = omega arith in
-      high_byte c (slice_index high k) (slice_index low k) (byte_high k l) (byte_low k l)
+      byte_of (λ w. w / 256) first_of c (slice_index high k) (slice_index low k) (byte_high k l) (byte_low k l)
       ∙ ap (λ (w : ℕ). times c w / 256) (word_here k l) ∙ sym (scaled_byte-high c source (32 * block + word_of_lane k)) ∙ ap (λ j. scaled_byte c source j) place)
 
-  pub block_low : HasLanes 32 v (λ k. nibble_sum (nibble_low (times c 4096)) (nibble_low (times c 256)) (nibble_low (times c 16)) (nibble_low c) (slice_index high k) (slice_index low k))
+  pub block_low : HasLanes 32 v (λ k. nibble_sum (nibble (λ w. w % 256) (times c 4096)) (nibble (λ w. w % 256) (times c 256)) (nibble (λ w. w % 256) (times c 16)) (nibble (λ w. w % 256) c) (slice_index high k) (slice_index low k))
       → HasLanes 32 v (λ k. scaled_byte c source (64 * block + 2 * word_of_lane k + 1))
   block_low h = HasLanes-same 32 v _ _ h (λ k l.
       let place : 2 * (32 * block + word_of_lane k) + 1 ≡ 64 * block + 2 * word_of_lane k + 1 = omega arith in
-      low_byte c (slice_index high k) (slice_index low k) (byte_high k l) (byte_low k l)
+      byte_of (λ w. w % 256) second_of c (slice_index high k) (slice_index low k) (byte_high k l) (byte_low k l)
       ∙ ap (λ (w : ℕ). times c w % 256) (word_here k l) ∙ sym (scaled_byte-low c source (32 * block + word_of_lane k)) ∙ ap (λ j. scaled_byte c source j) place)

@@ -72,10 +72,7 @@ pub row_of_columns_long : (rows width s : ℕ) (columns : List ℕ) (given r : �
 unfolding row_of_columns
 row_of_columns_long rows width s columns given r fewer room hr =
     let split : (width - given) + given ≡ width = omega arith in
-    let both : (width - given) * s + given * s ≡ width * s = omega (arith, ap (λ (n : ℕ). n * s) split) in
-    let zeros : List ℕ = replicate ((width - given) * s) 0 in
-    let zeros_long : length zeros ≡ (width - given) * s = length-replicate ((width - given) * s) 0 in
-    omega (arith, length-append (column_part rows s columns given r) zeros, column_part_long rows s columns given r room hr, zeros_long)
+    rw (length-append, column_part_long rows s columns given r room hr, length-replicate) (omega (arith, ap (λ (n : ℕ). n * s) split))
 
 -- what a row of the block is
 row_of_block : (f s : ℕ) (columns : List ℕ) (given r : ℕ) → given ≤ column_count f → given * row_count f * s ≤ length columns → r < row_count f

@@ -78,5 +78,4 @@ extended_is_through f bytes indices joined e is begins =
 pub source_of_extended : (f : ℕ) (bytes e : List ℕ) → IsExtended f bytes e → source_of f (symbol_size f (length bytes)) e ≡ padded f bytes
 source_of_extended f bytes e is =
     let least = symbol_size-least f (length bytes) in
-    let some = least.positive in
     source_of_matrix f (symbol_size f (length bytes)) (padded f bytes) e (omega arith) (padded_long f bytes ∙ omega arith) is

@@ -1,5 +1,5 @@
 -- Each blob has an extended matrix.
-use Rattle.wal_matrix.proofs.Common.{◌≡◌, ℕ, ◌*◌, ◌%◌, ◌<◌, ◌≤◌, ◌-◌, List, length, get_or, sym, ap, ◌∙◌, arith, range_with_len, get_or-range_with_len, length-range_with_len, region, row_count, column_count, symbol_size, symbol_size-least, padded, primary_of, IsMatrixOf, IsExtended}
+use Rattle.wal_matrix.proofs.Common.{◌≡◌, ℕ, ◌*◌, ◌%◌, ◌<◌, ◌≤◌, List, length, get_or, sym, ap, ◌∙◌, arith, range_with_len, get_or-range_with_len, length-range_with_len, region, row_count, column_count, symbol_size, symbol_size-least, padded, primary_of, IsMatrixOf, IsExtended}
 use Rattle.wal_matrix.proofs.Codewords.{AreBytes, range_distinct}
 use Rattle.wal_matrix.proofs.PaddedLaws.{padded_long}
 use Rattle.wal_matrix.proofs.RowLaws.{zeros_after}
@@ -47,6 +47,5 @@ padded_bytes f bytes are i = rw zeros_after (are i)
 pub extended_exists : (f : ℕ) (bytes : List ℕ) → f ≤ 333 → AreBytes bytes → (e : List ℕ) × IsExtended f bytes e
 extended_exists f bytes few are =
     let least = symbol_size-least f (length bytes) in
-    let two = least.positive in
     block_extends f (symbol_size f (length bytes)) (padded f bytes) few least.even (omega arith)
     (padded_long f bytes ∙ omega arith) (padded_bytes f bytes are)

@@ -1,5 +1,5 @@
 -- The columns that are made a few at a time are those of the extended matrix.
-use Rattle.wal_matrix.proofs.Common.{◌≡◌, ℕ, ◌+◌, ◌-◌, ◌*◌, ◌/◌, ◌%◌, ◌<◌, ◌≤◌, min, List, ◌++◌, length, take, drop, get_or, sym, ap, ap₂, subst, ◌∙◌, arith, ⊎_elim, length-append, length-take, length-drop, Fits, w8, mul_comm, mul-le-mul_left, mul-le-mul_right, cases_lt, div-mul-add, mod-mul-add, mul-add-lt, get_or_append_left, get_or-append_right, get_or_past, get_or-take, get_or-drop, take_at, IsCodeword, word_at, region, region-append_left, region-drop, shard_count, row_count, column_count, symbol_size, ArePut, symbol, padded, IsMatrixOf, IsExtended, IsRowFrom}
+use Rattle.wal_matrix.proofs.Common.{◌≡◌, ℕ, ◌+◌, ◌-◌, ◌*◌, ◌/◌, ◌%◌, ◌<◌, ◌≤◌, min, List, ◌++◌, length, take, drop, get_or, sym, ap, subst, ◌∙◌, arith, ⊎_elim, length-append, length-take, length-drop, Fits, w8, mul_comm, mul-le-mul_left, mul-le-mul_right, cases_lt, div-mul-add, mod-mul-add, mul-add-lt, get_or_append_left, get_or-append_right, get_or_past, get_or-take, get_or-drop, take_at, IsCodeword, word_at, region, region-append_left, region-drop, shard_count, row_count, column_count, symbol_size, ArePut, symbol, padded, IsMatrixOf, IsExtended, IsRowFrom}
 use borrow.Rule.Slice.PartMut.{put_mid, post_of}
 use Rattle.wal_matrix.specs.Front.{AreColumns}
 use Rattle.wal_matrix.proofs.Codewords.{AreBytes, bytes_of_part, region_after}
@@ -13,14 +13,7 @@ use Rattle.wal_matrix.proofs.TurnedLaws.{symbol_kept, column_codeword}
 -- what is left to be filled with zeros
 pub rest_to_fill : (h : ℕ) (copied out : List ℕ) → length copied ≡ h → h ≤ length out
     → length (take (length (copied ++ drop h out) - h) (drop h (copied ++ drop h out))) ≡ length out - h
-rest_to_fill h copied out long within =
-    omega (
-      arith,
-      length-take (length (copied ++ drop h out) - h) (drop h (copied ++ drop h out)),
-      length-drop h (copied ++ drop h out),
-      length-append copied (drop h out),
-      length-drop h out,
-    )
+rest_to_fill h copied out long within = simp (length-take, length-drop, length-append) (omega arith)
 
 -- bytes that were copied, and zeros behind them
 pub laid_bytes : (start from to h m : ℕ) (bytes out copied zeros : List ℕ) → from ≡ min start (length bytes) → to ≡ min (start + length out) (length bytes)
@@ -123,21 +116,16 @@ pub put_more : (f s first count place m : ℕ) (bytes old part : List ℕ) → 1
 put_more f s first count place m bytes old part some room long own before =
     λ e is r k hk few.
     let at : place * s ≡ s * place = omega arith in
-    let new = put_mid (place * s) m old part in
-    symbol_is count s new r k
+    symbol_is count s (put_mid (place * s) m old part) r k
     ∙ ⊎_elim
     (λ less.
     region-put_other s (r * count + k) place (place * s) m old part less at (omega arith)
-    ∙ sym (symbol_is count s old r k)
-    ∙ before e is r k hk less)
+    ∙ sym (symbol_is count s old r k) ∙ before e is r k hk less)
     (λ more.
     let same : r * count + k ≡ place = omega arith in
     let row : place / count ≡ r = ap (λ (z : ℕ). z / count) (sym same) ∙ div-mul-add r count k hk in
     let column : place % count ≡ k = ap (λ (z : ℕ). z % count) (sym same) ∙ mod-mul-add r count k hk in
-    ap (λ (z : ℕ). region s new z) same
-    ∙ region-put_same s place (place * s) m old part at (omega arith) long
-    ∙ own e is
-    ∙ ap₂ (λ (a b : ℕ). symbol (shard_count f) s e a (first + b)) row column)
+    rw (same, region-put_same s place (place * s) m old part at (omega arith) long, ← row, ← column) (own e is))
     (cases_lt (r * count + k) place)
 
 -- columns that were extended from their first symbols

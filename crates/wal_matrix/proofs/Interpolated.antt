@@ -36,31 +36,27 @@ module _ (f s : ℕ) (indices joined : List ℕ) (are : AreSlivers f s indices j
   first_word : (i : ℕ) → i < length (range_with_len 0 (column_count f))
       → get_or (range_with_len 0 (column_count f)) i 0 < 65536
   first_word i l =
-      let few = are.few in
       let all = length-range_with_len 0 (column_count f) in
       omega (arith, first_place i (omega arith))
 
   along-codeword : (k w : ℕ) → IsCodeword (column_count f) (shard_count f) (λ c. along f s joined k c w)
   along-codeword k w =
       let m = column_count f in
-      let few = are.few in
       subst (λ (d : ℕ). IsCodeword d (shard_count f) (λ c. along f s joined k c w)) (length-range_with_len 0 m)
       (combination-codeword (shard_count f) (range_with_len 0 m) (λ j. given f s joined k j w) (omega arith)
       (range_distinct 0 m) first_word (λ i l. given-word k i w))
 
   along-word : (k c w : ℕ) → c < shard_count f → along f s joined k c w < 65536
   along-word k c w hc =
-      let few = are.few in
       codeword-word (column_count f) (shard_count f) (λ a. along f s joined k a w) (omega arith) (along-codeword k w) c
       hc
 
   pub index_word : (i : ℕ) → i < length indices → get_or indices i 0 < 65536
-  index_word i l = let few = are.few in omega (arith, are.below i 0 l)
+  index_word i l = omega (arith, are.below i 0 l)
 
   across-codeword : (c w : ℕ) → c < shard_count f
       → IsCodeword (length indices) (shard_count f) (λ r. across f s indices joined r c w)
   across-codeword c w hc =
-      let few = are.few in
       combination-codeword (shard_count f) indices (λ k. along f s joined k c w) (omega arith) are.distinct index_word
       (λ k l. along-word k c w hc)
 
@@ -77,7 +73,6 @@ module _ (f s : ℕ) (indices joined : List ℕ) (are : AreSlivers f s indices j
 
   pub across-word : (r c w : ℕ) → r < shard_count f → c < shard_count f → across f s indices joined r c w < 65536
   across-word r c w hr hc =
-      let few = are.few in
       codeword-word (length indices) (shard_count f) (λ a. across f s indices joined a c w) (omega arith)
       (across-codeword c w hc) r hr
 
@@ -86,7 +81,6 @@ module _ (f s : ℕ) (indices joined : List ℕ) (are : AreSlivers f s indices j
   across-row r w hr =
       let m = column_count f in
       let n = shard_count f in
-      let few = are.few in
       every_row m n n indices (λ a c. across f s indices joined a c w) are.distinct (λ i l. are.below i 0 l)
       (omega arith) (omega arith)
       (λ k hk.

@@ -88,7 +88,6 @@ extended_unique f bytes d e few hd he =
     let n = shard_count f in
     let s = symbol_size f (length bytes) in
     let size = symbol_size-least f (length bytes) in
-    let some = size.positive in
     same_matrix f s d e size.even (omega arith) hd.coded he.coded
     (λ r c w hr hc hw.
     table_unique_first (row_count f) (column_count f) n n (λ a b. word_at (symbol n s d a b) w) (λ a b. word_at (symbol n s e a b) w)

@@ -71,17 +71,7 @@ pub laid_long : (start known total size place : ℕ) (bytes old laid : List ℕ)
     → laid ≡ old ++ laid_row start (known * size) (total * size) bytes → length laid ≡ place + total * size
 unfolding laid_row
 laid_long start known total size place bytes old laid fewer at is =
-    let part = take (known * size) (drop start bytes) in
-    let zeros : List ℕ = replicate (total * size - length part) 0 in
-    let zeros_long : length zeros ≡ total * size - length part = length-replicate (total * size - length part) 0 in
-    omega (
-      arith,
-      part_fits known total size fewer,
-      ap length is,
-      length-append old (part ++ zeros),
-      length-append part zeros,
-      length-take (known * size) (drop start bytes),
-    )
+    omega (arith, part_fits known total size fewer, simp (length-append, length-replicate, length-take) at (ap length is))
 
 -- the row that was laid last is extended
 pub row_from : (known total size place start : ℕ) (bytes old laid new : List ℕ) → length old ≡ place
@@ -94,14 +84,13 @@ row_from known total size place start bytes old laid new long is kept codewords 
       let end = place + known * size in
       let near : place + k < end = omega arith in
       let number : place + k ≡ length old + k = omega arith in
-      get_or-drop place new k 0
-      ∙ sym (get_or-take end new (place + k) 0 near)
-      ∙ ap (λ (ys : List ℕ). get_or ys (place + k) 0) kept
-      ∙ get_or-take end laid (place + k) 0 near
-      ∙ ap (λ (ys : List ℕ). get_or ys (place + k) 0) is
-      ∙ ap (λ (j : ℕ). get_or (old ++ laid_row start (known * size) (total * size) bytes) j 0) number
-      ∙ get_or-append-add old (laid_row start (known * size) (total * size) bytes) k 0
-      ∙ laid_byte start (known * size) (total * size) bytes k h;
+      cc (
+        get_or-drop place new k 0,
+        get_or-take end new (place + k) 0 near,
+        get_or-take end laid (place + k) 0 near,
+        get_or-append-add old (laid_row start (known * size) (total * size) bytes) k 0,
+        laid_byte start (known * size) (total * size) bytes k h,
+      );
   codeword = codewords;
 }
 
@@ -110,11 +99,7 @@ pub rows_kept : (place more : ℕ) (old row laid new : List ℕ) → length old 
     → take place new ≡ old
 rows_kept place more old row laid new long is kept =
     let fewer : place ≤ place + more = omega arith in
-    sym (take-take place (place + more) new fewer)
-    ∙ ap (λ (ys : List ℕ). take place ys) kept
-    ∙ take-take place (place + more) laid fewer
-    ∙ ap (λ (ys : List ℕ). take place ys) is
-    ∙ take_at old row place long
+    cc (take-take place (place + more) new fewer, take-take place (place + more) laid fewer, take_at old row place long)
 
 -- one more row
 pub rows_more : (known total size row n : ℕ) (bytes old new : List ℕ) → n ≡ row * (total * size) → take n new ≡ old → length new ≡ n + total * size

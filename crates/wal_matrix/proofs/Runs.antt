@@ -82,10 +82,7 @@ pub part_of_part : (s a b d : ℕ) (xs : List ℕ) → a + s ≤ b → take s (d
 part_of_part s a b d xs h =
     let split : b ≡ a + (b - a) = omega arith in
     let few : s ≤ b - a = omega arith in
-    ap (λ (n : ℕ). take s (drop a (take n (drop d xs)))) split
-    ∙ ap (λ (ys : List ℕ). take s ys) (drop-take a (b - a) (drop d xs))
-    ∙ take-take s (b - a) (drop a (drop d xs)) few
-    ∙ ap (λ (ys : List ℕ). take s ys) (drop-drop a d xs)
+    rw (split, drop-take a (b - a) (drop d xs), take-take s (b - a) (drop a (drop d xs)) few, drop-drop a d xs)
 
 -- a run of the front of a list
 pub run_of_front : (s a m : ℕ) (xs : List ℕ) → a + s ≤ m → take s (drop a (take m xs)) ≡ take s (drop a xs)

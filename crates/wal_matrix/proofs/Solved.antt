@@ -56,25 +56,22 @@ module _ (n s : ℕ) (known loaded : List ℕ) (are : AreKnown n s known loaded)
 
     -- they are a codeword through the known symbols
     pub solved_is_word : PassesCodeword (length known) n s known loaded symbols
-    solved_is_word =
-        let few = are.few in
-        record {
-          coded = record {
-            size = solved.size;
-            fits = λ i _. solved.bytes i;
-            codeword = λ w hw.
-                IsCodeword-same (length known) n (combination known (λ k. word_at (region s loaded k) w)) (λ i. word_at (region s symbols i) w)
-                (λ i hi. solved-word i w hi hw)
-                (combination-codeword n known (λ k. word_at (region s loaded k) w) (omega arith) are.distinct index_word
-                (λ k l. loaded_word k w));
-          };
-          through = solved-through;
-        }
+    solved_is_word = record {
+      coded = record {
+        size = solved.size;
+        fits = λ i _. solved.bytes i;
+        codeword = λ w hw.
+            IsCodeword-same (length known) n (combination known (λ k. word_at (region s loaded k) w)) (λ i. word_at (region s symbols i) w)
+            (λ i hi. solved-word i w hi hw)
+            (combination-codeword n known (λ k. word_at (region s loaded k) w) (omega arith) are.distinct index_word
+            (λ k l. loaded_word k w));
+      };
+      through = solved-through;
+    }
 
   -- codewords through the same symbols are the same
   pub solved_unique : (a b : List ℕ) → PassesCodeword (length known) n s known loaded a → PassesCodeword (length known) n s known loaded b → a ≡ b
   solved_unique a b ha hb =
-      let few = are.few in
       same_by_words n s a b are.even are.some ha.coded.size hb.coded.size (bytes_within a ha.coded.fits)
       (bytes_within b hb.coded.fits)
       (λ i w hi hw.

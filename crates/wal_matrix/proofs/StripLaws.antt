@@ -36,15 +36,10 @@ sources_more f s row from long column m bytes old part room size own before =
     λ c k hc hk.
     let at : column * long ≡ long * column = omega arith in
     ⊎_elim
-    (λ less.
-    ap (λ (ys : List ℕ). get_or ys k 0) (region-put_other long c column (column * long) m old part less at (omega arith))
-    ∙ before c k less hk)
+    (λ less. rw (region-put_other long c column (column * long) m old part less at (omega arith)) (before c k less hk))
     (λ more.
     let same : column ≡ c = omega arith in
-    ap (λ (i : ℕ). get_or (region long (put_mid (column * long) m old part) i) k 0) (sym same)
-    ∙ ap (λ (ys : List ℕ). get_or ys k 0) (region-put_same long column (column * long) m old part at (omega arith) size)
-    ∙ own k hk
-    ∙ ap (λ (i : ℕ). get_or bytes ((row * column_count f + i) * s + from + k) 0) same)
+    rw (← same, region-put_same long column (column * long) m old part at (omega arith) size) (own k hk))
     (cases_lt c column)
 
 -- codewords of symbols are codewords of their strips
@@ -123,16 +118,10 @@ row_strips_more f s from long row at m bytes old part is_at room size own before
     row_symbol n long new r c hc
     ∙ ⊎_elim
     (λ less.
-    ap (λ (ys : List ℕ). take long (drop (c * long) ys)) (region-put_other (n * long) r row at m old part less place (omega arith))
-    ∙ sym (row_symbol n long old r c hc)
-    ∙ before e is r c less hc)
+    rw (region-put_other (n * long) r row at m old part less place (omega arith)) (sym (row_symbol n long old r c hc) ∙ before e is r c less hc))
     (λ more.
     let same : row ≡ r = omega arith in
-    ap (λ (i : ℕ). take long (drop (c * long) (region (n * long) new i))) (sym same)
-    ∙ ap (λ (ys : List ℕ). take long (drop (c * long) ys)) (region-put_same (n * long) row at m old part place (omega arith) size)
-    ∙ ap (λ (i : ℕ). take long (drop i part)) (mul_comm c long)
-    ∙ own e is c hc
-    ∙ ap (λ (i : ℕ). take long (drop from (symbol n s e i c))) same)
+    rw (← same, region-put_same (n * long) row at m old part place (omega arith) size, mul_comm c long) (own e is c hc))
     (cases_lt r row)
 
 -- strips of the first rows that were extended to all rows

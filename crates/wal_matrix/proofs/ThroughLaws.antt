@@ -47,9 +47,6 @@ module _ (f s : ℕ) (indices joined : List ℕ) (are : AreSlivers f s indices j
   through_some =
       let n = shard_count f in
       let m = column_count f in
-      let count = are.count in
-      let even = are.even in
-      let some = are.some in
       let half : 2 * (s / 2) ≡ s = omega arith in
       let P : ℕ → Type 0 = λ z. (e : List ℕ) × (length e ≡ n * n * z) × AreBytes e
       × ((r c w : ℕ) → r < n → c < n → w < s / 2 → word_at (symbol n z e r c) w ≡ across f s indices joined r c w) in
@@ -72,7 +69,7 @@ module _ (f s : ℕ) (indices joined : List ℕ) (are : AreSlivers f s indices j
           };
           begins = λ k hk.
               let below = are.below k 0 hk in
-              primary_by_words f s e (region (m * s) joined k) (get_or indices k 0) even some found.1 found.2 below
+              primary_by_words f s e (region (m * s) joined k) (get_or indices k 0) are.even are.some found.1 found.2 below
               (joined_long (row_count f) (m * s) k joined are.size (omega arith))
               (bytes_of_part (m * s) (m * s * k) joined are.bytes)
               (λ c w hc hw.
@@ -101,7 +98,6 @@ module _ (f s : ℕ) (indices joined : List ℕ) (are : AreSlivers f s indices j
         → word_at (symbol (shard_count f) s e r c) w ≡ combination indices (λ k. given f s joined k c w) r
     through-words r c w hr hc hw =
         let n = shard_count f in
-        let few = are.few in
         codeword_unique n indices (λ a. word_at (symbol n s e a c) w)
         (λ a. combination indices (λ k. given f s joined k c w) a) (omega arith)
         are.distinct (λ i l. are.below i 0 l) (through-column c w (omega arith) hw)
@@ -117,7 +113,6 @@ pub through_unique : (f s : ℕ) (indices joined d e : List ℕ) → AreSlivers 
     → IsMatrixThrough f s indices joined d → IsMatrixThrough f s indices joined e → d ≡ e
 through_unique f s indices joined d e are hd he =
     let n = shard_count f in
-    let few = are.few in
     same_matrix f s d e are.even are.some hd.coded he.coded
     (λ r c w hr hc hw.
     table_unique (column_count f) n n indices (λ a b. word_at (symbol n s d a b) w)
@@ -145,15 +140,6 @@ pub source_long : (f s : ℕ) (e : List ℕ) → length e ≡ shard_count f * sh
 unfolding source_of
 source_long f s e long =
     length-pieces (primary_of f s e) (column_count f * s) (row_count f) (λ i h. primary_long f s e i long (omega arith))
-
--- a symbol of the source block
-pub source-symbol : (f s : ℕ) (e : List ℕ) (r c : ℕ) → length e ≡ shard_count f * shard_count f * s → r < row_count f → c < column_count f
-    → symbol (column_count f) s (source_of f s e) r c ≡ symbol (shard_count f) s e r c
-source-symbol f s e r c long hr hc =
-    let m = column_count f in
-    sym (joined-symbol m s (source_of f s e) r c hc)
-    ∙ ap (λ (ys : List ℕ). region s ys c) (source-row f s e r long hr)
-    ∙ primary-symbol f s e r c hc
 
 -- a block whose rows are the first primary slivers
 pub source_by_rows : (f s : ℕ) (e block : List ℕ) → 0 < s → length e ≡ shard_count f * shard_count f * s

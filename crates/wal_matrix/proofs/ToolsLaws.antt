@@ -1,5 +1,5 @@
 -- The symbols for which the tools of a number of faults have room.
-use Rattle.wal_matrix.proofs.Common.{◌≡◌, ℕ, ◌*◌, ◌≤◌, arith, refl, Secondary, symbol_size, shard_count, row_count, column_count, most_bytes, sliver_symbols, mul-le-mul_left, row_fits, symbol_size-least}
+use Rattle.wal_matrix.proofs.Common.{◌≡◌, ℕ, ◌*◌, ◌≤◌, arith, refl, Secondary, symbol_size, shard_count, row_count, column_count, most_bytes, sliver_symbols, mul-le-mul_left, symbol_size-least}
 use Rattle.wal_matrix.specs.Tools.{longest_symbol, longest_sliver}
 
 -- the symbols of each blob
@@ -11,10 +11,6 @@ symbol_size-longest f length h =
 -- the symbols of one word
 pub one_word-fits : (f : ℕ) → 2 ≤ longest_symbol f
 one_word-fits f = (symbol_size-least f most_bytes).positive
-
--- a sliver of two bytes
-pub two_bytes_fit : (f : ℕ) → 2 ≤ longest_sliver f
-two_bytes_fit f = omega (arith, one_word-fits f, row_fits 0 (longest_symbol f) (column_count f) (longest_symbol f) (omega arith) (omega arith))
 
 -- twelve bytes are one word in each cell for one fault
 pub six_words : row_count 1 * (column_count 1 * symbol_size 1 12) ≡ 12

@@ -1,6 +1,6 @@
 use Rattle.wal_erasure.proofs.Common.{◌∷◌, ◌∙◌, sym, ap, arith, Gf}
-use Rattle.wal_erasure.proofs.LocatorLaws.{locator-start}
-use Rattle.wal_erasure.proofs.Scans.{product_taken, product_own, product_known, product_nonzero}
+use Rattle.wal_erasure.proofs.LocatorLaws.{is_known-first, is_known-rest, locator-start}
+use Rattle.wal_erasure.proofs.Scans.{product_step, product_nonzero}
 use Rattle.wal_erasure.proofs.locator.product_of_others.Goals as goal
 use Rattle.wal_erasure.proofs.locator.product_of_others.Goals.{then-other-point+then-not-marks-place, else-other-point, else-other-point-via-then-other-point+else-not-marks-place, else-other-point-via-else-other-point}
 
@@ -9,20 +9,17 @@ loop-place-init c = sym (locator-start (c.args.point ∷ c.args.known.now) c.arg
 
 pub loop-place-preserved : goal.loop-place-preserved
 loop-place-preserved c =
-    let known = c.args.known.now in
-    let n = c.loop-place.place in
-    let x = c.args.point in
     let mark = c.requires.marks c.loop-place.place (omega arith) in
     elim c.if-other-point.branch [
       | then-other-point+then-not-marks-place w ↦
           ap (λ (g : Gf). g.0) w.product-is ∙ w.mul-product.ensures
-          ∙ product_taken known n x c.loop-place.product.0 (λ same. w.if-other-point.true (sym same)) (sym mark ∙ w.if-not-marks-place.true) c.loop-place.invariant
+          ∙ product_step _ _ _ _ (is_known-rest _ _ _ (λ same. w.if-other-point.true (sym same)) ∙ sym mark ∙ w.if-not-marks-place.true) c.loop-place.invariant
       | else-other-point w ↦
           ap (λ (g : Gf). g.0) w.product-is
           ∙ elim w.else-other-point.branch [
             | else-other-point-via-then-other-point+else-not-marks-place v ↦
-                product_known known n x c.loop-place.product.0 (λ same. v.if-other-point.true (sym same)) (sym mark ∙ v.if-not-marks-place.false) c.loop-place.invariant
-            | else-other-point-via-else-other-point v ↦ product_own known n x c.loop-place.product.0 (sym v.if-other-point.false) c.loop-place.invariant
+                product_step _ _ _ _ (is_known-rest _ _ _ (λ same. v.if-other-point.true (sym same)) ∙ sym mark ∙ v.if-not-marks-place.false) c.loop-place.invariant
+            | else-other-point-via-else-other-point v ↦ product_step _ _ _ _ (is_known-first _ _ _ (sym v.if-other-point.false)) c.loop-place.invariant
           ]
     ]
 

@@ -1,5 +1,5 @@
-use Rattle.wal_erasure.proofs.Common.{◌≡◌, ◌+◌, ◌-◌, ◌*◌, ◌<◌, slice_index, length, take, drop, refl, ap, ◌∙◌, rules, arith, times, element_at, word_at, copied_word}
-use Rattle.wal_erasure.proofs.RunLaws.{put_more, regions_fit}
+use Rattle.wal_erasure.proofs.Common.{◌≡◌, ◌+◌, ◌-◌, ◌*◌, ◌<◌, slice_index, length, take, drop, refl, ap, ◌∙◌, rules, arith, times, element_at, word_at, copied_word, runs_fit}
+use Rattle.wal_erasure.proofs.RunLaws.{put_more}
 use Rattle.wal_erasure.proofs.runs.put_known.Goals as goal
 
 pub loop-place-preserved : goal.loop-place-preserved
@@ -13,9 +13,9 @@ loop-place-preserved c =
     let at = 2 * width * slice_index c.args.known.now c.loop-place.place in
     let from = 2 * (words * place + start) in
     let factor = element_at c.args.factors.now (slice_index c.args.known.now c.loop-place.place) in
-    let room = regions_fit place (length c.args.known.now) (2 * words) (omega arith) in
+    let room = runs_fit place (length c.args.known.now) (2 * words) (omega arith) in
     let inside : slice_index c.args.known.now c.loop-place.place < length c.args.factors.now = c.requires.below c.loop-place.place 0 (omega arith) in
-    let fits = regions_fit point (length c.args.factors.now) (2 * width) inside in
+    let fits = runs_fit point (length c.args.factors.now) (2 * width) inside in
     let long : length c.put_product.new.target ≡ at + 2 * width - at = search rules in
     put_more words start width place at (at + 2 * width - at) known c.args.factors.now c.args.regions.now c.loop-place.strip c.put_product.new.target
     c.requires.distinct (omega arith) refl (omega arith) (omega (arith, c.loop-place.auto.strip, c.requires.strip)) long

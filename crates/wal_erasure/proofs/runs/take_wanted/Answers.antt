@@ -1,5 +1,5 @@
-use Rattle.wal_erasure.proofs.Common.{◌≡◌, ◌+◌, ◌-◌, ◌*◌, length, take, drop, refl, ap, ◌∙◌, rules, arith, times, element_at, copied_word}
-use Rattle.wal_erasure.proofs.RunLaws.{taken_more, regions_fit}
+use Rattle.wal_erasure.proofs.Common.{◌≡◌, ◌+◌, ◌-◌, ◌*◌, length, take, drop, refl, ap, ◌∙◌, rules, arith, times, element_at, copied_word, runs_fit}
+use Rattle.wal_erasure.proofs.RunLaws.{taken_more}
 use Rattle.wal_erasure.proofs.runs.take_wanted.Goals as goal
 
 pub loop-place-preserved : goal.loop-place-preserved
@@ -11,8 +11,8 @@ loop-place-preserved c =
     let at = 2 * (words * place + start) in
     let from = 2 * width * place in
     let factor = element_at c.args.factors.now c.loop-place.place in
-    let room = regions_fit place c.args.wanted (2 * words) (omega arith) in
-    let fits = regions_fit place c.args.wanted (2 * width) (omega arith) in
+    let room = runs_fit place c.args.wanted (2 * words) (omega arith) in
+    let fits = runs_fit place c.args.wanted (2 * width) (omega arith) in
     let long : length c.put_product.new.target ≡ at + 2 * width - at = search rules in
     taken_more words start width place at (at + 2 * width - at) c.args.factors.now c.args.strip.now c.args.regions.now c.loop-place.regions c.put_product.new.target
     refl (omega arith) (omega (arith, c.loop-place.auto.regions, c.requires.regions)) long c.requires.within

@@ -1,16 +1,12 @@
-use Rattle.wal_erasure.proofs.Common.{◌^◌, ◌≤◌, rules, arith, pow_mono}
+use Rattle.wal_erasure.proofs.Common.{rules, arith, pow_mono}
 use Rattle.wal_erasure.proofs.SolvedLaws.{strip_solved}
 use Rattle.wal_erasure.proofs.solution.solve_strip.Goals as goal
 
 pub restore-requires-clause-points : goal.restore-requires-clause-points
-restore-requires-clause-points c =
-    let most : 2 ^ c.args.level ≤ 2 ^ 10 = pow_mono c.requires.level in
-    omega arith
+restore-requires-clause-points c = omega (arith, pow_mono c.requires.level)
 
 pub evaluate-requires-clause-points : goal.evaluate-requires-clause-points
-evaluate-requires-clause-points c =
-    let most : 2 ^ c.args.level ≤ 2 ^ 10 = pow_mono c.requires.level in
-    omega arith
+evaluate-requires-clause-points c = omega (arith, pow_mono c.requires.level)
 
 pub returns : goal.returns
 returns c =

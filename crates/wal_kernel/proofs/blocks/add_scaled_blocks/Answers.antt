@@ -8,8 +8,7 @@ loop-block-init c = none_added _ _ (λ k. omega (arith, c.type_inv.dst k))
 pub loop-block-preserved : goal.loop-block-preserved
 loop-block-preserved c =
     let end : 64 * c.loop-block.block + 64 ≡ 64 * (c.loop-block.block + 1) = omega arith in
-    subst (λ e. IsSumBelow (scaled_byte c.args.c.0 c.args.src.now) c.args.dst.now e c.add_scaled_block.new.dst) end
-    (c.add_scaled_block.ensures c.args.c.0 c.args.dst.now c.tables_of-tables.ensures c.loop-block.invariant)
+    rw end at (c.add_scaled_block.ensures c.args.c.0 c.args.dst.now c.tables_of-tables.ensures c.loop-block.invariant)
 
 pub returns-then-dst-gt0 : goal.returns-then-dst-gt0
 returns-then-dst-gt0 c =
