@@ -13,36 +13,33 @@ hash_next h p st r b n m held is block next = is ∙ (λ i. compress (held i) (b
 
 pub length-text : (prefix size : ℕ) (content : List ℕ) (k w : ℕ) → k < w → length content ≡ w * size → length (text prefix size content k) ≡ size + 1
 length-text prefix size content k w few all =
-    let room : k * size + size ≤ length content = piece_within k w size (length content) few all in
-    let long : length (take size (drop (k * size) content)) ≡ size = length-take-le size (drop (k * size) content) (omega (arith, length-drop (k * size) content)) in
-    omega (arith, long)
+    let room = piece_within k w size (length content) few all in
+    omega (arith, length-take-le size (drop (k * size) content) (omega (arith, length-drop (k * size) content)))
 
 -- the hash value after more blocks, which are those of a text that goes on behind the blocks before
-pub hash_more : (h p rest st r : List ℕ) (b n l m : ℕ) → rest ≡ take l (drop (b * 64) p) → n * 64 ≤ l → st ≡ hash_after h p b → r ≡ hash_after st rest n → m ≡ b + n → r ≡ hash_after h p m
+pub hash_more : (h p : List ℕ) (b n l : ℕ) → n * 64 ≤ l
+    → hash_after (hash_after h p b) (take l (drop (b * 64) p)) n ≡ hash_after h p (b + n)
 unfolding hash_after
-hash_more h p rest st r b zero l m is within before after all = after ∙ before ∙ ap (hash_after h p) (let e : b ≡ m = omega arith in e)
-hash_more h p rest st r b (suc n) l m is within before after all =
+hash_more h p b zero l within = let e : b + 0 ≡ b = omega arith in rw e
+hash_more h p b (suc n) l within =
     let e : b * 64 + n * 64 ≡ (b + n) * 64 = omega arith in
-    hash_next h p (hash_after st rest n) r (take 64 (drop (n * 64) rest)) (b + n) m
-    (hash_more h p rest st (hash_after st rest n) b n l (b + n) is (omega arith) before refl refl) after
-    (part_of_part (b * 64) (n * 64) 64 l p rest is (omega arith) ∙ ap (λ (i : ℕ). take 64 (drop i p)) e) (omega arith)
+    let up : b + suc n ≡ suc (b + n) = omega arith in
+    rw (hash_more h p b n l (omega arith), part_of_part (b * 64) (n * 64) 64 l p _ refl (omega arith), e, up)
 
 -- the front of a message is the front of the padded message
 pub front_padded : (m : List ℕ) (at n : ℕ) → at + n ≤ length m → take n (drop at m) ≡ take n (drop at (padded_message m))
 front_padded m at n within =
-    sym (ap (take n) (drop-append-le at m (padding (length m)) (omega arith))
-    ∙ take-append-le n (drop at m) (padding (length m)) (omega (arith, length-drop at m)))
+    rw (
+      drop-append-le at m (padding (length m)) (omega arith),
+      take-append-le n (drop at m) (padding (length m)) (omega (arith, length-drop at m)),
+    )
 
 -- a block behind the first lies within the piece
 pub middle_block : (prefix size : ℕ) (content : List ℕ) (k b at : ℕ) → 1 ≤ b → b * 64 + 64 ≤ size + 1 → at ≡ k * size + (64 * b - 1)
     → take 64 (drop at content) ≡ take 64 (drop (b * 64) (text prefix size content k))
 middle_block prefix size content k b at low high place =
-    let piece : List ℕ = take size (drop (k * size) content) in
     let one : b * 64 ≡ suc (64 * b - 1) = omega arith in
-    let inner : drop (b * 64) (prefix ∷ piece) ≡ drop (64 * b - 1) piece = ap (λ (n : ℕ). drop n (prefix ∷ piece)) one in
-    ap (λ (n : ℕ). take 64 (drop n content)) place
-    ∙ sym (part_of_part (k * size) (64 * b - 1) 64 size content piece refl (omega arith))
-    ∙ ap (take 64) (sym inner)
+    rw (place, one) (sym (part_of_part (k * size) (64 * b - 1) 64 size content _ refl (omega arith)))
 
 -- what follows the whole blocks of a message
 pub last_blocks_are : (seen : ℕ) (m : List ℕ) → last_blocks seen m ≡ drop (length m / 64 * 64) m ++ padding (seen + length m)
@@ -111,41 +108,34 @@ rest_long prefix piece (suc n) some within =
 pub rest_short : (prefix : ℕ) (piece : List ℕ) (whole : ℕ) → whole ≤ 0 → prefix ∷ piece ≡ drop whole (prefix ∷ piece)
 rest_short prefix piece whole none = let e : whole ≡ 0 = omega arith in rw e refl
 
--- block j of the last blocks, which lie at p
-tail_block : (m tails : List ℕ) (p j long : ℕ) → take long (drop p tails) ≡ drop (length m / 64 * 64) (padded_message m) → j * 64 + 64 ≤ long
-    → take 64 (drop (p + j * 64) tails) ≡ take 64 (drop ((length m / 64 + j) * 64) (padded_message m))
-tail_block m tails p j long held room =
-    let e : length m / 64 * 64 + j * 64 ≡ (length m / 64 + j) * 64 = omega arith in
-    sym (part_of_part p (j * 64) 64 long tails (drop (length m / 64 * 64) (padded_message m)) (sym held) room)
-    ∙ ap (take 64) (drop-drop (j * 64) (length m / 64 * 64) (padded_message m)) ∙ ap (λ (n : ℕ). take 64 (drop n (padded_message m))) e
-
 blocks_of : (m : List ℕ) → length (padded_message m) ≡ length m / 64 * 64 + tail_length (length m)
 blocks_of m = omega (arith, length-append m (padding (length m)), length-padding (length m))
 
--- the hash value after one last block
+-- the hash value after block j of the last blocks, which lie at p
+last_block : (h m st r tails : List ℕ) (p at j next long : ℕ) → take long (drop p tails) ≡ drop (length m / 64 * 64) (padded_message m)
+    → j * 64 + 64 ≤ long → st ≡ hash_after h (padded_message m) (length m / 64 + j) → at ≡ p + j * 64
+    → r ≡ compress st (take 64 (drop at tails)) → next ≡ length m / 64 + j + 1 → r ≡ hash_after h (padded_message m) next
+last_block h m st r tails p at j next long held room before place is up =
+    let e : length m / 64 * 64 + j * 64 ≡ (length m / 64 + j) * 64 = omega arith in
+    let rest = drop (length m / 64 * 64) (padded_message m) in
+    hash_next h (padded_message m) st r _ (length m / 64 + j) next before is
+    (rw (place, ← part_of_part p (j * 64) 64 long tails rest (sym held) room) (rw (drop-drop (j * 64) (length m / 64 * 64) (padded_message m), e))) up
+
+-- after one last block
 pub last_one : (h m st r tails : List ℕ) (p at long : ℕ) → long ≡ tail_length (length m) → long ≡ 64 → take long (drop p tails) ≡ drop (length m / 64 * 64) (padded_message m)
     → st ≡ hash_after h (padded_message m) (length m / 64) → at ≡ p → r ≡ compress st (take 64 (drop at tails)) → r ≡ final_hash h m
 last_one h m st r tails p at long is one held before place next =
-    let count : length (padded_message m) / 64 ≡ length m / 64 + 1 = omega (arith, blocks_of m) in
-    let here : at ≡ p + 0 * 64 = omega arith in
-    let zeroth : (length m / 64 + 0) * 64 ≡ length m / 64 * 64 = omega arith in
-    hash_next h (padded_message m) st r (take 64 (drop at tails)) (length m / 64) (length (padded_message m) / 64) before next
-    (ap (λ (n : ℕ). take 64 (drop n tails)) here ∙ tail_block m tails p 0 long held (omega arith) ∙ ap (λ (n : ℕ). take 64 (drop n (padded_message m))) zeroth) count
+    let none : length m / 64 + 0 ≡ length m / 64 = omega arith in
+    last_block h m st r tails p at 0 (length (padded_message m) / 64) long held (omega arith) (rw none before) (omega arith) next (omega (arith, blocks_of m))
 
--- the hash value after two last blocks
+-- after two last blocks
 pub last_two : (h m st r t tails : List ℕ) (p at after long : ℕ) → long ≡ tail_length (length m) → 64 < long → take long (drop p tails) ≡ drop (length m / 64 * 64) (padded_message m)
     → st ≡ hash_after h (padded_message m) (length m / 64) → at ≡ p → r ≡ compress st (take 64 (drop at tails)) → after ≡ p + 64 → t ≡ compress r (take 64 (drop after tails)) → t ≡ final_hash h m
 last_two h m st r t tails p at after long is two held before place next behind last =
-    let count : length (padded_message m) / 64 ≡ length m / 64 + 1 + 1 = omega (arith, blocks_of m) in
+    let none : length m / 64 + 0 ≡ length m / 64 = omega arith in
     let wide : 128 ≤ long = omega arith in
-    let here : at ≡ p + 0 * 64 = omega arith in
-    let there : after ≡ p + 1 * 64 = omega arith in
-    let zeroth : (length m / 64 + 0) * 64 ≡ length m / 64 * 64 = omega arith in
-    let first : r ≡ hash_after h (padded_message m) (length m / 64 + 1) =
-    hash_next h (padded_message m) st r (take 64 (drop at tails)) (length m / 64) (length m / 64 + 1) before next
-    (ap (λ (n : ℕ). take 64 (drop n tails)) here ∙ tail_block m tails p 0 long held (omega arith) ∙ ap (λ (n : ℕ). take 64 (drop n (padded_message m))) zeroth) refl in
-    hash_next h (padded_message m) r t (take 64 (drop after tails)) (length m / 64 + 1) (length (padded_message m) / 64) first last
-    (ap (λ (n : ℕ). take 64 (drop n tails)) there ∙ tail_block m tails p 1 long held (omega arith)) count
+    let first = last_block h m st r tails p at 0 (length m / 64 + 1) long held (omega arith) (rw none before) (omega arith) next (omega arith) in
+    last_block h m r t tails p after 1 (length (padded_message m) / 64) long held (omega arith) first (omega arith) last (omega (arith, blocks_of m))
 
 -- the tail of a message of which some blocks came before
 pub tail_of_message : (seen : ℕ) (m rest : List ℕ) (size : ℕ) → seen % 64 ≡ 0 → length rest ≡ size + 1 → drop seen m ≡ rest → tail_length (size + 1) ≡ tail_length (length m)
@@ -158,6 +148,4 @@ tail_of_message seen m rest size edge long is =
 pub padded_after : (h m st r text : List ℕ) (size : ℕ) → length m ≡ size + 1 → st ≡ h → r ≡ hash_after st text ((size + 1) / 64) → text ≡ m
     → r ≡ hash_after h (padded_message m) (length m / 64)
 padded_after h m st r text size long begin is same =
-    is ∙ (λ i. hash_after (begin i) (same i) ((size + 1) / 64))
-    ∙ sym (hash_after-append h m (padding (length m)) ((size + 1) / 64) (omega arith))
-    ∙ ap (λ (n : ℕ). hash_after h (padded_message m) (n / 64)) (sym long)
+    rw (is, begin, same, ← long, hash_after-append h m (padding (length m)) (length m / 64) (omega arith))

@@ -48,20 +48,22 @@ length-words_of (v ∷ w) k = ap suc (length-words_of w k)
 -- a word of a block that lies in longer bytes
 pub word_in : (bytes : List ℕ) (p i q : ℕ) → i < 16 → q ≡ p + 4 * i → word_at (take 64 (drop p bytes)) (4 * i) ≡ word_at bytes q
 word_in bytes p i q l e =
-    rw (e, first, at 1 (omega arith), at 2 (omega arith), at 3 (omega arith)) refl
+    rw (
+      at (4 * i) q (omega arith) (sym e),
+      at (4 * i + 1) (q + 1) (omega arith) (omega arith),
+      at (4 * i + 2) (q + 2) (omega arith) (omega arith),
+      at (4 * i + 3) (q + 3) (omega arith) (omega arith),
+    )
   where
-    first : slice_index (take 64 (drop p bytes)) (4 * i) ≡ slice_index bytes (p + 4 * i)
-    first = get_or-take 64 (drop p bytes) (4 * i) 0 (omega arith) ∙ get_or-drop p bytes (4 * i) 0
-
-    at : (j : ℕ) → j < 4 → slice_index (take 64 (drop p bytes)) (4 * i + j) ≡ slice_index bytes (p + 4 * i + j)
-    at j m = get_or-take 64 (drop p bytes) (4 * i + j) 0 (omega arith) ∙ get_or-drop p bytes (4 * i + j) 0 ∙ ap (λ (n : ℕ). slice_index bytes n) (omega arith)
+    at : (n m : ℕ) → n < 64 → p + n ≡ m → slice_index (take 64 (drop p bytes)) n ≡ slice_index bytes m
+    at n m small same = get_or-take 64 (drop p bytes) n 0 small ∙ get_or-drop p bytes n 0 ∙ ap (slice_index bytes) same
 
 -- a rotation by two shifts
 pub rotation : (x by : ℕ) → 0 < by → by < 32 → bit_or (x / 2 ^ by) (x * 2 ^ (32 - by) % 2 ^ 32) ≡ rotate_right w32 x by
 rotation x by some below =
     let near : by % 32 ≡ by = omega arith in
     let far : (32 - by) % 32 ≡ 32 - by = omega arith in
-    rw (near, far) refl
+    rw (near, far)
 
 pub lane_fits : (v : List ℕ) → length v ≡ 8 → Each1 (Fits w32) v → (k : ℕ) → k < 8 → slice_index v k < 2 ^ 32
 lane_fits v long fits k l = (Each1-get_or (Fits w32) v k 0 (omega arith) fits).fits
@@ -88,14 +90,12 @@ pub words_loaded : (w : List (List ℕ)) (v bytes : List ℕ) (at stride i : ℕ
     → ((j : ℕ) → j < i → (k : ℕ) → k < 8 → slice_index (words_of w k) j ≡ word_at bytes (at + 4 * j + k * stride))
     → (j : ℕ) → j < i + 1 → (k : ℕ) → k < 8 → slice_index (words_of (slice_set w i v) k) j ≡ word_at bytes (at + 4 * j + k * stride)
 words_loaded w v bytes at stride i small long new old j m k l =
-    let x : ℕ = slice_index v k in
-    ap (λ (u : List ℕ). slice_index u j) (words_of_set w i k v)
-    ∙ elim (cases_lt j i) [
-      | inl before ↦ get_or-set_other (words_of w k) i j x 0 (omega arith) ∙ old j before k l
+    rw (words_of_set w i k v) (elim (cases_lt j i) [
+      | inl before ↦ get_or-set_other (words_of w k) i j _ 0 (omega arith) ∙ old j before k l
       | inr after ↦
           let here : i ≡ j = omega arith in
-          rw (← here) (get_or-set_same (words_of w k) i x 0 (omega (arith, length-words_of w k)) ∙ new k l)
-    ]
+          rw (← here) (get_or-set_same (words_of w k) i _ 0 (omega (arith, length-words_of w k)) ∙ new k l)
+    ])
 
 -- eight words, one by one
 pub eight_words : {a b c d e f g h p q r s t u v w : ℕ} → a ≡ p → b ≡ q → c ≡ r → d ≡ s → e ≡ t → f ≡ u → g ≡ v → h ≡ w

@@ -1,5 +1,5 @@
 -- Texts that are hashed strip by strip: the hash value and the last byte of each, as strips come.
-use Rattle.wal_lanes.proofs.Common.{◌≡◌, ◌≢◌, ℕ, zero, suc, ◌+◌, ◌-◌, ◌*◌, ◌/◌, ◌%◌, ◌<◌, ◌≤◌, inl, inr, Some, List, [], ◌∷◌, length, take, drop, get_or, replicate, slice_get, slice_index, slice_set, refl, sym, ap, subst, ◌∙◌, arith, length-drop, cases_lt, drop_more, get_or-drop, get_or-replicate, get_or-set_same, get_or-take, length-replicate, take_all, get_or_from_slice_get, slice_get-get_or, slice_get_within, digest_bytes, final_hash, hash_after, initial_hash_256, padded_message, sha256, Group, lane, HasTaken, HaveTaken, text, AreDigestsOf, IsStrip}
+use Rattle.wal_lanes.proofs.Common.{◌≡◌, ◌≢◌, ℕ, zero, suc, ◌+◌, ◌-◌, ◌*◌, ◌/◌, ◌%◌, ◌<◌, ◌≤◌, inl, inr, Some, List, [], ◌∷◌, length, take, drop, get_or, replicate, slice_get, slice_index, slice_set, refl, sym, ap, ◌∙◌, arith, add-one, length-drop, cases_lt, drop_more, get_or-drop, get_or-replicate, get_or-set_same, get_or-take, length-replicate, take_all, get_or_from_slice_get, slice_get-get_or, slice_get_within, digest_bytes, final_hash, hash_after, initial_hash_256, padded_message, sha256, Group, lane, HasTaken, HaveTaken, text, AreDigestsOf, IsStrip}
 use Rattle.wal_lanes.proofs.Blocks.{front_padded, hash_more, hash_none}
 use Rattle.wal_lanes.proofs.Parts.{part_of_part, piece_within}
 use Rattle.wal_lanes.specs.declared.block.State.{State}
@@ -12,53 +12,35 @@ taken_none k prefix piece group begin first = record {
 }
 
 -- a strip of whole blocks goes on where the text stood
-goes_on : (k prefix seen long : ℕ) (piece strip : List ℕ) (group : Group) → take long (drop (k * long) strip) ≡ take long (drop seen piece)
-    → HasTaken prefix piece seen k group → text (slice_index group.last k) long strip k ≡ take (suc long) (drop seen (prefix ∷ piece))
-goes_on k prefix seen long piece strip group same held =
-    ap (λ (l : List ℕ). slice_index group.last k ∷ l) same ∙ ap (take (suc long)) (sym held.next)
-
 hash_on : (k prefix seen long : ℕ) (piece strip : List ℕ) (group : Group) (after : State) → seen % 64 ≡ 0 → seen + long ≤ length piece
     → take long (drop (k * long) strip) ≡ take long (drop seen piece) → HasTaken prefix piece seen k group
     → lane after k ≡ hash_after (lane group.state k) (text (slice_index group.last k) long strip k) ((long + 1) / 64)
     → lane after k ≡ hash_after initial_hash_256 (padded_message (prefix ∷ piece)) ((seen + long + 1) / 64)
 hash_on k prefix seen long piece strip group after edge within same held is =
     let m : List ℕ = prefix ∷ piece in
-    let at : seen ≡ seen / 64 * 64 = omega arith in
+    let at : seen / 64 * 64 ≡ seen = omega arith in
     let front : text (slice_index group.last k) long strip k ≡ take (suc long) (drop (seen / 64 * 64) (padded_message m)) =
-    goes_on k prefix seen long piece strip group same held ∙ front_padded m seen (suc long) (omega arith)
-    ∙ ap (λ (i : ℕ). take (suc long) (drop i (padded_message m))) at in
-    hash_more initial_hash_256 (padded_message m) (text (slice_index group.last k) long strip k) (lane group.state k) (lane after k) (seen / 64) ((long + 1) / 64) (suc long)
-    ((seen + long + 1) / 64) front (omega arith) held.hash is (omega arith)
+    rw (at, ← front_padded m seen (suc long) (omega arith), held.next, same) in
+    let count : seen / 64 + (long + 1) / 64 ≡ (seen + long + 1) / 64 = omega arith in
+    rw (is, held.hash, front, hash_more _ (padded_message m) (seen / 64) ((long + 1) / 64) (suc long) (omega arith), count)
 
 -- one strip more was taken
 pub taken_more : (k prefix seen long : ℕ) (piece strip : List ℕ) (group next : Group) → 64 ≤ long → long % 64 ≡ 0 → seen % 64 ≡ 0 → seen + long ≤ length piece
     → take long (drop (k * long) strip) ≡ take long (drop seen piece) → HasTaken prefix piece seen k group
     → lane next.state k ≡ hash_after (lane group.state k) (text (slice_index group.last k) long strip k) ((long + 1) / 64)
     → slice_index next.last k ≡ slice_index strip (k * long + (long - 1)) → HasTaken prefix piece (seen + long) k next
-taken_more k prefix seen long piece strip group next some whole edge within same held is byte = record {
-  hash = hash_on k prefix seen long piece strip group next.state edge within same held is
-      ∙ ap (hash_after initial_hash_256 (padded_message (prefix ∷ piece))) count;
-  next = ap (λ (n : ℕ). drop n (prefix ∷ piece)) up ∙ drop_more piece last 0 (omega arith) ∙ (λ i. begins i ∷ drop (down i) piece);
-}
-  where
-    last : ℕ
-    last = seen + (long - 1)
-
-    up : seen + long ≡ suc (seen + (long - 1))
-    up = omega arith
-
-    down : seen + (long - 1) + 1 ≡ seen + long
-    down = omega arith
-
-    count : (seen + long + 1) / 64 ≡ (seen + long) / 64
-    count = omega arith
-
-    begins : slice_index piece (seen + (long - 1)) ≡ slice_index next.last k
-    begins =
-        sym (get_or-take long (drop seen piece) (long - 1) 0 (omega arith) ∙ get_or-drop seen piece (long - 1) 0)
-        ∙ ap (λ (l : List ℕ). slice_index l (long - 1)) (sym same)
-        ∙ get_or-take long (drop (k * long) strip) (long - 1) 0 (omega arith) ∙ get_or-drop (k * long) strip (long - 1) 0
-        ∙ sym byte
+taken_more k prefix seen long piece strip group next some whole edge within same held is byte =
+    let count : (seen + long + 1) / 64 ≡ (seen + long) / 64 = omega arith in
+    let up : seen + long ≡ suc (seen + (long - 1)) = omega arith in
+    let begins : slice_index piece (seen + (long - 1)) ≡ slice_index next.last k =
+    sym (get_or-take long (drop seen piece) (long - 1) 0 (omega arith) ∙ get_or-drop seen piece (long - 1) 0)
+    ∙ ap (λ (l : List ℕ). slice_index l (long - 1)) (sym same)
+    ∙ get_or-take long (drop (k * long) strip) (long - 1) 0 (omega arith) ∙ get_or-drop (k * long) strip (long - 1) 0
+    ∙ sym byte in
+    record {
+      hash = rw count at (hash_on k prefix seen long piece strip group next.state edge within same held is);
+      next = rw (up, drop_more piece (seen + (long - 1)) 0 (omega arith), begins, add-one);
+    }
 
 -- the last strip has come
 pub taken_all : (k prefix seen long : ℕ) (piece strip : List ℕ) (group : Group) (whole r : State) → seen % 64 ≡ 0 → length piece ≡ seen + long
@@ -68,11 +50,10 @@ pub taken_all : (k prefix seen long : ℕ) (piece strip : List ℕ) (group : Gro
     → lane r k ≡ final_hash initial_hash_256 m)
     → lane r k ≡ final_hash initial_hash_256 (prefix ∷ piece)
 taken_all k prefix seen long piece strip group whole r edge all same held is end =
-    let all_of : take long (drop seen piece) ≡ drop seen piece = take_all long (drop seen piece) (omega (arith, length-drop seen piece)) in
+    let all_of = take_all long (drop seen piece) (omega (arith, length-drop seen piece)) in
     let count : (seen + long + 1) / 64 ≡ length (prefix ∷ piece) / 64 = omega arith in
-    end (prefix ∷ piece) (held.next ∙ ap (λ (l : List ℕ). slice_index group.last k ∷ l) (sym same))
-    (hash_on k prefix seen long piece strip group whole edge (omega arith) (same ∙ sym all_of) held is
-    ∙ ap (hash_after initial_hash_256 (padded_message (prefix ∷ piece))) count)
+    end (prefix ∷ piece) (rw same held.next)
+    (rw count at (hash_on k prefix seen long piece strip group whole edge (omega arith) (same ∙ sym all_of) held is))
 
 pub other_group : (groups : List Group) (i k : ℕ) (x : Group) → k ≢ i → slice_get (slice_set groups i x) k ≡ slice_get groups k
 other_group [] i k x other = refl
@@ -111,8 +92,7 @@ part_taken begin old place long strip part d next within after before are takes 
           let own : slice_get begin g ≡ Some (get_or old place d) =
           ap (slice_get begin) here ∙ sym (after place (omega arith)) ∙ slice_get-get_or old place d within in
           let bound : k * long + long ≤ 8 * long = piece_within k 8 long (8 * long) few refl in
-          subst (λ (x : Group). HasTaken prefix piece (seen + long) k x)
-          (same_group old place next group (ap (λ (i : ℕ). slice_get (slice_set old place next) i) (sym here) ∙ new) within)
+          rw (← same_group old place next group (rw here at new) within)
           (takes k few prefix seen piece edge room
           (part_of_part (8 * place * long) (k * long) long (8 * long) strip part are bound ∙ ap (λ (i : ℕ). take long (drop i strip)) at ∙ same)
           (held (get_or old place d) own))
@@ -160,7 +140,7 @@ module _ (prefix count size : ℕ) (Has : ℕ → List ℕ → Type 0) (sized : 
   pub strip_taken : (seen long next : ℕ) (old new : List Group) (strip : List ℕ) → seen % 64 ≡ 0 → next ≡ seen + long → next ≤ size → IsStrip Has count seen long strip
       → ((g : ℕ) → TakesPart old new strip long g) → HaveTaken prefix Has count seen old → HaveTaken prefix Has count next new
   strip_taken seen long next old new strip edge up within is takes held g k few below piece has group at =
-      subst (λ (n : ℕ). HasTaken prefix piece n k group) (sym up)
+      rw up
       (takes g k few prefix seen piece edge (omega (arith, sized (8 * g + k) piece has)) (is (8 * g + k) below piece has)
       (λ before here. held g k few below piece has before here) group at)
 
@@ -176,11 +156,10 @@ module _ (prefix count size : ℕ) (Has : ℕ → List ℕ → Type 0) (sized : 
         let within : k * long + long ≤ room = omega (arith, piece_within k count long (count * long) l refl, enough) in
         let zeroth : 0 + k * long ≡ k * long = omega arith in
         let same : take long (drop (k * long) part) ≡ drop seen piece =
-        part_of_part 0 (k * long) long room strip part front within ∙ ap (λ (i : ℕ). take long (drop i strip)) zeroth ∙ is k l piece has
-        ∙ take_all long (drop seen piece) (omega (arith, length-drop seen piece)) in
-        subst (λ (n : ℕ). take 32 (drop (n * 32) out) ≡ sha256 (prefix ∷ piece)) at
-        (ends (k / 8) (k % 8) (omega arith) (omega arith) prefix piece last (ap (λ (n : ℕ). take long (drop (n * long) part)) at ∙ same)
-        (λ group here. held (k / 8) (k % 8) (omega arith) (omega arith) piece (subst (λ (n : ℕ). Has n piece) (sym at) has) group here));
+        rw (part_of_part 0 (k * long) long room strip part front within, zeroth, is k l piece has)
+        (take_all long (drop seen piece) (omega (arith, length-drop seen piece))) in
+        rw at at (ends (k / 8) (k % 8) (omega arith) (omega arith) prefix piece last (rw at same)
+        (λ group here. held (k / 8) (k % 8) (omega arith) (omega arith) piece (rw at has) group here));
   }
 
 -- strips of whole blocks are whole blocks
@@ -196,4 +175,4 @@ pub begun_groups : (prefix count : ℕ) (Has : ℕ → List ℕ → Type 0) (som
 begun_groups prefix count Has some begin taken g k few below piece has group at =
     let within : g < some = omega (arith, slice_get_within (replicate some begin) g group at, length-replicate {A = Group} some begin) in
     let same : begin ≡ group = sym (get_or-replicate some g begin begin within) ∙ get_or_from_slice_get (replicate some begin) g group begin at in
-    subst (λ (x : Group). HasTaken prefix piece 0 k x) same (taken k few piece)
+    rw (← same) (taken k few piece)

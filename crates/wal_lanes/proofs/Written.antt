@@ -1,5 +1,5 @@
 -- Digests that are written one after the other.
-use Rattle.wal_lanes.proofs.Common.{◌≡◌, ℕ, zero, suc, ◌+◌, ◌*◌, ◌/◌, ◌<◌, ◌≤◌, List, ◌∷◌, ◌++◌, length, take, drop, slice_index, refl, ap, ◌∙◌, arith, add-one, to_be_bytes, digest_bytes, put_at, AreDigests, text}
+use Rattle.wal_lanes.proofs.Common.{◌≡◌, ℕ, zero, suc, ◌+◌, ◌*◌, ◌/◌, ◌<◌, ◌≤◌, List, length, take, drop, slice_index, refl, ap, ◌∙◌, arith, add-one, to_be_bytes, digest_bytes, put_at, AreDigests, text}
 use Rattle.std.proofs.lemmas.List.{length-append}
 use Rattle.std.specs.Int.{w32}
 use Rattle.wal_lanes.proofs.Parts.{length-put_at, part_of_part, parts_put, piece_within, put_put}
@@ -18,8 +18,7 @@ unfolding digest_bytes
 word_put at n old new h ys i held is next room =
     let four : length ys ≡ 4 = ap length is in
     let long = length-digest_bytes h i in
-    put_put at n old new (digest_bytes h i) ys held (omega arith) (omega arith)
-    ∙ ap (λ (l : List ℕ). put_at at old (digest_bytes h i ++ l)) is ∙ rw add-one refl
+    rw (put_put at n old new (digest_bytes h i) ys held (omega arith) (omega arith), is, add-one)
 
 module _ (digest : List ℕ → List ℕ) (prefix size : ℕ) (content : List ℕ) where
   pub are_none : (digests : List ℕ) → length digests ≡ length content / size * 32 → AreDigests digest prefix size content 0 digests
@@ -41,6 +40,4 @@ pub text_within : (prefix size : ℕ) (content pieces : List ℕ) (first w k : �
     → text prefix size pieces k ≡ text prefix size content (first + k)
 text_within prefix size content pieces first w k few are =
     let e : first * size + k * size ≡ (first + k) * size = omega arith in
-    ap (λ (l : List ℕ). prefix ∷ l)
-    (part_of_part (first * size) (k * size) size (w * size) content pieces are (piece_within k w size (w * size) few refl)
-    ∙ ap (λ (n : ℕ). take size (drop n content)) e)
+    rw (part_of_part (first * size) (k * size) size _ content pieces are (piece_within k w size (w * size) few refl), e)

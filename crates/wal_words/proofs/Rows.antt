@@ -1,5 +1,5 @@
 -- What rows of values ask for.
-use Rattle.wal_words.proofs.Common.{◌≡◌, ◌≤◌, ℕ, ◌*◌, List, [], ◌∷◌, get_or, codes, Option, Some, None, IfSome, IfNone, Result, Ok, sym, ap, ◌∙◌, arith, map, slice_index, refl, subst, length, ◌<◌, Err, unwrap_or, option_map, true, inl, inr, decimal_injective, found_of, kind_of, first_value, matched_of, raw_values, Asks, HasFormat, HasNumber, HasOptions, IsAudit, IsAxis, IsBeacon, IsFormat, IsTask, IsIdentifier, IsNumber, IsRow, identify, encode, read, recover, check, serve, replay, sample, image, unpack, bundle, member, challenge, verify, gateway, NoTask}
+use Rattle.wal_words.proofs.Common.{◌≡◌, ◌≤◌, ℕ, ◌*◌, List, [], ◌∷◌, get_or, codes, Option, Some, None, IfSome, IfNone, Result, Ok, sym, ap, ◌∙◌, arith, map, refl, subst, length, ◌<◌, Err, unwrap_or, option_map, true, inl, inr, decimal_injective, found_of, kind_of, first_value, matched_of, raw_values, HasFormat, HasNumber, HasOptions, IsAudit, IsAxis, IsBeacon, IsTask, IsIdentifier, IsNumber, IsRow, identify, encode, read, recover, check, serve, replay, sample, image, unpack, bundle, member, challenge, verify, gateway, NoTask}
 use Rattle.std.specs.Borrow.{Bor}
 use Rattle.clap.proofs.WalkLemmas.{first_value-rows, raw_values-rows}
 use Rattle.clap.specs.Faults.{fault_of, is_simple_and_free}
@@ -11,8 +11,7 @@ use Rattle.clap.specs.declared.error.Error.{Error}
 use Rattle.clap.specs.declared.error.kind.ErrorKind.TheVariants.{OutOfMemory}
 use Rattle.clap.specs.Walk.{rows_of}
 use Rattle.clap.specs.declared.parser.matches.Found.{Found}
-use Rattle.wal_words.specs.CommandLine.{program, values_in, option_in}
-use Rattle.hex.specs.Hex.{decode_sized}
+use Rattle.wal_words.specs.CommandLine.{program, values_in}
 use Rattle.wal_shape.specs.declared.metadata.BlobId.{BlobId}
 use Rattle.wal_shape.specs.declared.axis.Axis.{Axis}
 use Rattle.wal_shape.specs.declared.axis.Axis.TheVariants.{Primary, Secondary}
@@ -25,24 +24,14 @@ use Rattle.wal_words.specs.declared.task.Task.TheVariants.{Whole, Read, Sample}
 use Rattle.wal_words.specs.declared.task.WholeTask.TheVariants.{Identify, Encode, Check, Image, Bundle, Challenge, Verify, Gateway}
 use Rattle.wal_words.specs.inside.Task.{FoundAsks}
 
--- the value of this place in two equal lists
-place_same : (a b : List (List ℕ)) (k : ℕ) → a ≡ b → get_or a k [] ≡ get_or b k []
-place_same a b k e = ap (λ (l : List (List ℕ)). get_or l k []) e
-
 -- a word spells one number
 pub one_number : (least most : ℕ) (word : List ℕ) (m n : ℕ) → most ≤ 18446744073709551615 → IsNumber least most word m → IsNumber least most word n → m ≡ n
 one_number least most word m n small a b =
     decimal_injective m n (omega (arith, small, a.2)) (omega (arith, small, b.2)) (sym a.0 ∙ b.0)
 
-pub number_moved : (least most : ℕ) (v w : List ℕ) (n : ℕ) → v ≡ w → IsNumber least most v n → IsNumber least most w n
-number_moved least most v w n same is = (sym same ∙ is.0, is.1, is.2)
-
 -- a word spells one list of 32 bytes, and so one identifier
 one_spelled : (word x y : List ℕ) → IsBeacon word x → IsBeacon word y → x ≡ y
-one_spelled word x y a b = ok_is (decode_sized word 32) x y a b
-  where
-    ok_is : {X E : Type 0} (r : Result X E) (x y : X) → r ≡ Ok x → r ≡ Ok y → x ≡ y
-    ok_is r x y a b = cc
+one_spelled word x y a b = cc
 
 one_identifier : (word : List ℕ) (x y : BlobId) → IsIdentifier word x.0 → IsIdentifier word y.0 → x ≡ y
 one_identifier word x y a b = ap (λ (l : List ℕ). record { 0 = l }) (one_spelled word x.0 y.0 a b)
@@ -51,8 +40,7 @@ one_identifier word x y a b = ap (λ (l : List ℕ). record { 0 = l }) (one_spel
 one_axis : (word : List ℕ) (x y : Axis) → IsAxis word x → IsAxis word y → x ≡ y
 one_axis word Primary Primary a b = refl
 one_axis word Secondary Secondary a b = refl
-one_axis word Primary Secondary a b = let no : codes "primary" ≡ codes "secondary" = sym a ∙ b in cc
-one_axis word Secondary Primary a b = let no : codes "primary" ≡ codes "secondary" = sym b ∙ a in cc
+one_axis word x y a b = let no = sym a ∙ b in cc
 
 -- a word spells the number of one shard, of whatever committees
 pub one_shard : (f g : ℕ) (word : List ℕ) (m n : ℕ) → f ≤ 333 → g ≤ 333 → IsNumber 0 (3 * f) word m → IsNumber 0 (3 * g) word n → m ≡ n
@@ -62,15 +50,11 @@ one_shard f g word m n few also a b =
 -- words spell one storage challenge
 one_audit : (word place beacon amount : List ℕ) (x y : Audit) → IsAudit word place beacon amount x → IsAudit word place beacon amount y → x ≡ y
 one_audit word place beacon amount x y a b =
-    same_audit x.id y.id x.shard y.shard x.beacon y.beacon x.count y.count
-    (one_identifier word x.id y.id a.identifier b.identifier)
-    (one_number 0 999 place x.shard y.shard (omega arith) a.shard_number b.shard_number)
-    (one_spelled beacon x.beacon y.beacon a.beacon_bytes b.beacon_bytes)
-    (one_number 1 1000 amount x.count y.count (omega arith) a.symbol_count b.symbol_count)
-  where
-    same_audit : (i j : BlobId) (s t : ℕ) (l m : List ℕ) (c d : ℕ) → i ≡ j → s ≡ t → l ≡ m → c ≡ d
-        → ◌≡◌ {A = Audit} (record { id = i; shard = s; beacon = l; count = c }) (record { id = j; shard = t; beacon = m; count = d })
-    same_audit i j s t l m c d is_id is_shard is_beacon is_count = rw (is_id, is_shard, is_beacon, is_count) refl
+    let ids = one_identifier word x.id y.id a.identifier b.identifier in
+    let shards = one_number 0 999 place x.shard y.shard (omega arith) a.shard_number b.shard_number in
+    let beacons = one_spelled beacon x.beacon y.beacon a.beacon_bytes b.beacon_bytes in
+    let counts = one_number 1 1000 amount x.count y.count (omega arith) a.symbol_count b.symbol_count in
+    λ i. record { id = ids i; shard = shards i; beacon = beacons i; count = counts i }
 
 -- the word after the bound spells no shard's number, so the values ask for nothing
 pub no_shard : (options : Options) (first second : List ℕ) (f : ℕ) (r : Option Task) → IsNumber 1 333 first f → ((n : ℕ) → IsNumber 0 (3 * f) second n → ⊥)
@@ -91,23 +75,19 @@ one_row options _ _ _ (encode word f is) (encode _ g is') = ap (λ (n : ℕ). Wh
 one_row options _ _ _ (read word x is) (read _ y is') = ap Read (one_identifier word x y is is')
 one_row options _ _ _ (recover word direction place x a i is_x is_a is_i) (recover _ _ _ y b j is_y is_b is_j) =
     let ids = one_identifier word x y is_x is_y in
-    let axes = one_axis direction a b is_a is_b in
     let places = one_number 0 999 place i j (omega arith) is_i is_j in
-    cc
+    cc (one_axis direction a b is_a is_b)
 one_row options _ _ _ (check word x is) (check _ y is') = ap (λ (id : BlobId). Whole (Check id)) (one_identifier word x y is is')
 one_row options _ _ _ (serve word place f s is_f is_s) (serve _ _ g t is_g is_t) =
     let bounds = one_number 1 333 word f g (omega arith) is_f is_g in
-    let shards = one_shard f g place s t (omega (arith, is_f.2)) (omega (arith, is_g.2)) is_s is_t in
-    cc
+    cc (one_shard f g place s t (omega (arith, is_f.2)) (omega (arith, is_g.2)) is_s is_t)
 one_row options _ _ _ replay replay = refl
 one_row options _ _ _ (sample word k is) (sample _ m is') = ap Sample (one_number 0 18446744073709551615 word k m (omega arith) is is')
 one_row options _ _ _ (image word k is) (image _ m is') = ap (λ (n : ℕ). Whole (Image n)) (one_number 1 134217728 word k m (omega arith) is is')
 one_row options _ _ _ unpack unpack = refl
 one_row options _ _ _ (bundle word f is) (bundle _ g is') = ap (λ (n : ℕ). Whole (Bundle n)) (one_number 1 333 word f g (omega arith) is is')
 one_row options _ _ _ (member word place x k is_x is_k) (member _ _ y m is_y is_m) =
-    let ids = one_identifier word x y is_x is_y in
-    let numbers = one_number 0 65535 place k m (omega arith) is_k is_m in
-    cc
+    cc (one_identifier word x y is_x is_y, one_number 0 65535 place k m (omega arith) is_k is_m)
 one_row options _ _ _ (challenge word place beacon amount x is) (challenge _ _ _ _ y is') =
     ap (λ (a : Audit). Whole (Challenge a)) (one_audit word place beacon amount x y is is')
 one_row options _ _ _ (verify word place beacon amount x is) (verify _ _ _ _ y is') =
@@ -117,29 +97,20 @@ one_row options _ _ _ (gateway word k is) (gateway _ m is') = ap (λ (n : ℕ). 
 -- a command's row, where its first value is the command's name
 pub named_row : (options : Options) (name command : List ℕ) (more : List (List ℕ)) (t : Task) → command ≡ name
     → IsRow options (name ∷ more) t → IsRow options (command ∷ more) t
-named_row options name command more t same row = subst (λ (w : List ℕ). IsRow options (w ∷ more) t) (sym same) row
+named_row options name command more t same row = rw same row
 
 -- a list of four values, and of five
 pub four_values : (d : Bor (List ℕ)) (values : List (Bor (List ℕ))) → 4 ≤ length values → length values < 5
     → map (λ (v : Bor (List ℕ)). v.now) values
     ≡ (get_or values 0 d).now ∷ (get_or values 1 d).now ∷ (get_or values 2 d).now ∷ (get_or values 3 d).now ∷ []
-four_values d [] some few = absurd (omega (arith, some))
-four_values d (v ∷ []) some few = absurd (omega (arith, some))
-four_values d (v ∷ w ∷ []) some few = absurd (omega (arith, some))
-four_values d (v ∷ w ∷ x ∷ []) some few = absurd (omega (arith, some))
 four_values d (v ∷ w ∷ x ∷ y ∷ []) some few = refl
-four_values d (v ∷ w ∷ x ∷ y ∷ z ∷ vs) some few = absurd (omega (arith, few))
+four_values d values some few = absurd (omega arith)
 
 pub five_values : (d : Bor (List ℕ)) (values : List (Bor (List ℕ))) → 5 ≤ length values → length values < 6
     → map (λ (v : Bor (List ℕ)). v.now) values
     ≡ (get_or values 0 d).now ∷ (get_or values 1 d).now ∷ (get_or values 2 d).now ∷ (get_or values 3 d).now ∷ (get_or values 4 d).now ∷ []
-five_values d [] some few = absurd (omega (arith, some))
-five_values d (v ∷ []) some few = absurd (omega (arith, some))
-five_values d (v ∷ w ∷ []) some few = absurd (omega (arith, some))
-five_values d (v ∷ w ∷ x ∷ []) some few = absurd (omega (arith, some))
-five_values d (v ∷ w ∷ x ∷ y ∷ []) some few = absurd (omega (arith, some))
 five_values d (v ∷ w ∷ x ∷ y ∷ z ∷ []) some few = refl
-five_values d (v ∷ w ∷ x ∷ y ∷ z ∷ u ∷ vs) some few = absurd (omega (arith, few))
+five_values d values some few = absurd (omega arith)
 
 -- given options are in range in one way
 one_choice : (missing least most : ℕ) (given : Option (List ℕ)) (m n : ℕ) → most ≤ 18446744073709551615 → HasNumber missing least most given m
@@ -147,41 +118,38 @@ one_choice : (missing least most : ℕ) (given : Option (List ℕ)) (m n : ℕ) 
 one_choice missing least most None m n small a b = a ∙ sym b
 one_choice missing least most (Some word) m n small a b = one_number least most word m n small a b
 
-one_is_not_two : {A : Type 0} → codes "1" ≡ codes "2" → A
-one_is_not_two same = let no : 49 ≡ 50 = ap (λ (l : List ℕ). get_or l 0 0) same in absurd (omega (arith, no))
-
 one_format : (given : Option (List ℕ)) (x y : Format) → HasFormat given x → HasFormat given y → x ≡ y
 one_format None x y a b = a ∙ sym b
 one_format (Some word) One One a b = refl
 one_format (Some word) Two Two a b = refl
-one_format (Some word) One Two a b = one_is_not_two (sym a ∙ b)
-one_format (Some word) Two One a b = one_is_not_two (sym b ∙ a)
+one_format (Some word) x y a b = absurd (omega (arith, ap (λ (l : List ℕ). get_or l 0 0) (sym a ∙ b)))
 
 one_set : (blobs pages format : Option (List ℕ)) (x y : Options) → HasOptions blobs pages format x → HasOptions blobs pages format y → x ≡ y
 one_set blobs pages format x y a b =
-    same_options x.blobs y.blobs x.pages y.pages x.format y.format
-    (one_choice 1024 1 65536 blobs x.blobs y.blobs (omega arith) a.blob_count b.blob_count)
-    (one_choice 16384 1 262144 pages x.pages y.pages (omega arith) a.page_count b.page_count)
-    (one_format format x.format y.format a.identifier_format b.identifier_format)
-  where
-    same_options : (b b' p p' : ℕ) (f f' : Format) → b ≡ b' → p ≡ p' → f ≡ f'
-        → ◌≡◌ {A = Options} (record { blobs = b; pages = p; format = f }) (record { blobs = b'; pages = p'; format = f' })
-    same_options b b' p p' f f' is_b is_p is_f = rw (is_b, is_p, is_f) refl
+    let counts = one_choice 1024 1 65536 blobs x.blobs y.blobs (omega arith) a.blob_count b.blob_count in
+    let sizes = one_choice 16384 1 262144 pages x.pages y.pages (omega arith) a.page_count b.page_count in
+    let formats = one_format format x.format y.format a.identifier_format b.identifier_format in
+    λ i. record { blobs = counts i; pages = sizes i; format = formats i }
 
 -- words ask for one task
 pub one_task : (words : List (List ℕ)) (t u : Task) → IsTask words t → IsTask words u → t ≡ u
 one_task words t u a b =
     let same = one_set _ _ _ a.asks.options b.asks.options a.asks.has_options b.asks.has_options in
-    one_row b.asks.options (values_in words) t u (subst (λ (o : Options). IsRow o (values_in words) t) same a.asks.row) b.asks.row
+    one_row b.asks.options (values_in words) t u (rw same at a.asks.row) b.asks.row
 
 -- what clap found is what its definition gives
 pub from_found : (words : List (List ℕ)) (found : Found) (task : Task) → rows_of found ≡ matches_of program words → fault_of program words ≡ []
     → FoundAsks found task → IsTask words task
-from_found words found task same accepted asked = record { accepted = accepted; asks = moved words found task same asked }
-  where
-    moved : (words : List (List ℕ)) (found : Found) (task : Task) → rows_of found ≡ matches_of program words → FoundAsks found task
-        → Asks (values_in words) (option_in (codes "blobs") words) (option_in (codes "pages") words) (option_in (codes "format") words) task
-    moved words found task same asked = rw (← same, ← raw_values-rows found (codes "words"), ← first_value-rows found (codes "blobs"), ← first_value-rows found (codes "pages"), ← first_value-rows found (codes "format")) asked
+from_found words found task same accepted asked = record {
+  accepted = accepted;
+  asks = rw (
+    ← same,
+    ← raw_values-rows found (codes "words"),
+    ← first_value-rows found (codes "blobs"),
+    ← first_value-rows found (codes "pages"),
+    ← first_value-rows found (codes "format"),
+  ) asked;
+}
 
 pub to_found : (words : List (List ℕ)) (found : Found) (task : Task) → rows_of found ≡ matches_of program words → IsTask words task → FoundAsks found task
 to_found words found task same asked =
@@ -245,17 +213,11 @@ only_task words None asked = tt
 only_task words (Some t) asked = λ other also. one_task words other t also asked
 
 -- the values that were found, as a list of texts
-pub values_found : (r : Option (Bor (List (Bor (List ℕ))))) (d : Bor (List (Bor (List ℕ)))) (o : Option (List (List ℕ)))
-    → option_map (λ (s : Bor (List (Bor (List ℕ)))). map (λ (v : Bor (List ℕ)). v.now) s.now) r ≡ o → d.now ≡ []
-    → map (λ (v : Bor (List ℕ)). v.now) (unwrap_or r d).now ≡ unwrap_or o []
-values_found None d o same empty = rw (← same, empty) refl
-values_found (Some s) d o same empty = rw (← same) refl
-
 pub moved_values : (v d : Bor (List (Bor (List ℕ)))) (r : Option (Bor (List (Bor (List ℕ))))) (o : Option (List (List ℕ))) → v ≡ unwrap_or r d
     → option_map (λ (s : Bor (List (Bor (List ℕ)))). map (λ (w : Bor (List ℕ)). w.now) s.now) r ≡ o → d.now ≡ []
     → map (λ (w : Bor (List ℕ)). w.now) v.now ≡ unwrap_or o []
-moved_values v d r o is same empty =
-    ap (λ (x : Bor (List (Bor (List ℕ)))). map (λ (w : Bor (List ℕ)). w.now) x.now) is ∙ values_found r d o same empty
+moved_values v d None o is same empty = rw (is, ← same, empty)
+moved_values v d (Some s) o is same empty = rw (is, ← same)
 
 -- the values ask for nothing with the options that were found, so what was found asks for nothing
 pub none_asked : (found : Found) (options : Options) (values : List (List ℕ)) (o : Option Task)
@@ -265,6 +227,4 @@ pub none_asked : (found : Found) (options : Options) (values : List (List ℕ)) 
 none_asked found options values (Some t) has same none = tt
 none_asked found options values None has same none = λ t asked.
     let set = one_set _ _ _ asked.options options asked.has_options has in
-    let row : IsRow options (unwrap_or (option_map raw_values (matched_of found (codes "words"))) []) t =
-    subst (λ (x : Options). IsRow x (unwrap_or (option_map raw_values (matched_of found (codes "words"))) []) t) set asked.row in
-    none t (subst (λ (l : List (List ℕ)). IsRow options l t) (sym same) row)
+    none t (rw (same, ← set) asked.row)

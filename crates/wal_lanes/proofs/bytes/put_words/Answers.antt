@@ -1,4 +1,4 @@
-use Rattle.wal_lanes.proofs.Common.{◌≡◌, ap, ◌∙◌, arith, digest_bytes, put_at}
+use Rattle.wal_lanes.proofs.Common.{◌≡◌, ◌∙◌, arith, digest_bytes}
 use Rattle.wal_lanes.proofs.Parts.{put_none}
 use Rattle.wal_lanes.proofs.Written.{word_put}
 use Rattle.wal_lanes.proofs.bytes.put_words.Goals as goal
@@ -12,6 +12,4 @@ each-preserved c =
     c.put.ensures ∙ word_put c.args.at _ c.args.out.now c.each.out c.args.words.now _ c.each.word c.each.invariant c.to_be_bytes.ensures (omega arith) (omega arith)
 
 pub returns : goal.returns
-returns c =
-    let done : c.each.word ≡ 8 = omega arith in
-    c.each.invariant ∙ ap (λ n. put_at c.args.at c.args.out.now (digest_bytes c.args.words.now n)) done
+returns c = let done : c.each.word ≡ 8 = omega arith in rw done at c.each.invariant

@@ -1,4 +1,4 @@
-use Rattle.wal_lanes.proofs.Common.{◌≡◌, ℕ, ◌*◌, ◌∷◌, List, take, drop, ap, subst, ◌∙◌, refl, arith, sha256, AreDigests}
+use Rattle.wal_lanes.proofs.Common.{◌≡◌, ℕ, ◌*◌, ◌∷◌, List, take, drop, ap, ◌∙◌, refl, arith, sha256}
 use Rattle.wal_lanes.proofs.Parts.{pieces_within}
 use Rattle.wal_lanes.proofs.Written.{are_more, are_none}
 use Rattle.wal_lanes.proofs.pieces.write_each.Goals as goal
@@ -17,6 +17,4 @@ each-preserved c =
     (c.digest_of-digest.ensures.digest ∙ ap (λ (l : List ℕ). sha256 (c.args.prefix ∷ l)) (c.pieces.ensures.pieces ∙ ap (λ n. take n (drop (c.each.place * c.args.size) c.args.content.now)) one))
 
 pub returns : goal.returns
-returns c =
-    let done : c.each.place ≡ c.args.count = omega arith in
-    subst (λ n. AreDigests sha256 c.args.prefix c.args.size c.args.content.now n c.each.out) done c.each.invariant
+returns c = let done : c.each.place ≡ c.args.count = omega arith in rw done at c.each.invariant

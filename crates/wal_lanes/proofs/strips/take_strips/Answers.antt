@@ -1,4 +1,4 @@
-use Rattle.wal_lanes.proofs.Common.{◌≡◌, ℕ, ◌+◌, ◌*◌, ◌≤◌, refl, subst, ◌∙◌, arith, mul-le-mul_right, IsStrip, HaveTaken}
+use Rattle.wal_lanes.proofs.Common.{◌≡◌, ◌+◌, ◌*◌, ◌≤◌, refl, ◌∙◌, arith, mul-le-mul_right}
 use Rattle.wal_lanes.proofs.Taken.{strip_taken}
 use Rattle.wal_lanes.proofs.strips.take_strips.Goals as goal
 
@@ -9,7 +9,7 @@ each-init g c =
       refl,
       refl,
       omega arith,
-      λ prefix held. subst (λ (n : ℕ). HaveTaken prefix (g.P.Pieces.has c.args.pieces.now) c.args.count n c.args.groups.now) none held,
+      λ prefix held. rw (← none) held,
     )
 
 pub each-preserved : goal.each-preserved
@@ -25,11 +25,11 @@ each-preserved g c =
       λ prefix held.
           strip_taken prefix c.args.count (g.P.Pieces.size c.args.pieces.now) (g.P.Pieces.has c.args.pieces.now) (g.met.P.Pieces.sized c.args.pieces.now)
           (turn * width) width ((turn + 1) * width) c.each.groups c.take_strip.new.groups c.fill_front.new.strip c.each.invariant.3 up (omega (arith, c.requires.within))
-          (subst (λ p. IsStrip (g.P.Pieces.has p) c.args.count (turn * width) width c.fill_front.new.strip) c.each.invariant.0 c.fill_front.ensures.strip)
+          (rw c.each.invariant.0 at c.fill_front.ensures.strip)
           c.take_strip.ensures.each (c.each.invariant.4 prefix held),
     )
 
 pub returns-clause-taken : goal.returns-clause-taken
 returns-clause-taken g c = λ prefix held.
     let done : c.each.turn ≡ c.args.turns = omega arith in
-    subst (λ (n : ℕ). HaveTaken prefix (g.P.Pieces.has c.args.pieces.now) c.args.count (n * c.args.width) c.each.groups) done (c.each.invariant.4 prefix held)
+    rw done at (c.each.invariant.4 prefix held)

@@ -1,4 +1,4 @@
-use Rattle.wal_lanes.proofs.Common.{◌≡◌, ℕ, ◌+◌, ◌*◌, length, take, drop, ap, ◌∙◌, refl, arith, compress, lane}
+use Rattle.wal_lanes.proofs.Common.{◌≡◌, ℕ, ◌+◌, ◌*◌, length, take, drop, ap, ◌∙◌, refl, arith}
 use Rattle.wal_lanes.proofs.Parts.{length-put_at, parts_put, piece_within}
 use Rattle.wal_lanes.proofs.texts.after_block.Goals as goal
 
@@ -17,5 +17,4 @@ each_block-preserved c =
 pub returns : goal.returns
 returns c = λ k l.
     let at : 0 + k * 64 ≡ k * 64 = omega arith in
-    c.compress-2.ensures k (omega arith)
-    ∙ ap (compress (lane c.args.state k)) (ap (λ (n : ℕ). take 64 (drop n c.each_block.copies)) at ∙ c.each_block.invariant.1 k (omega arith))
+    rw (c.compress-2.ensures k (omega arith), at, c.each_block.invariant.1 k (omega arith))

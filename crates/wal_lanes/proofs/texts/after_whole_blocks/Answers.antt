@@ -1,4 +1,4 @@
-use Rattle.wal_lanes.proofs.Common.{◌≡◌, ◌+◌, ◌/◌, slice_index, ap, ◌∙◌, refl, arith, hash_after, lane, text}
+use Rattle.wal_lanes.proofs.Common.{◌≡◌, ◌+◌, ◌/◌, slice_index, refl, arith, lane, text}
 use Rattle.wal_lanes.proofs.Blocks.{hash_next, hash_none, middle_block}
 use Rattle.wal_lanes.proofs.texts.after_whole_blocks.Goals as goal
 
@@ -14,4 +14,4 @@ middle-preserved c = λ k l.
 pub returns : goal.returns
 returns c = λ k l.
     let done : c.middle.block ≡ (c.args.size + 1) / 64 = omega (arith, c.middle.auto.block-end (omega arith)) in
-    c.middle.invariant k l ∙ ap (hash_after (lane c.args.state k) (text (slice_index c.args.firsts.now k) c.args.size c.args.pieces.now k)) done
+    rw done at (c.middle.invariant k l)

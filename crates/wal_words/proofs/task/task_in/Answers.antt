@@ -1,5 +1,5 @@
 use Rattle.wal_words.proofs.Common.{refl, found_of}
-use Rattle.wal_words.proofs.Rows.{none_asked, values_found, moved_values}
+use Rattle.wal_words.proofs.Rows.{none_asked, moved_values}
 use Rattle.wal_words.proofs.task.task_in.Goals as goal
 
 pub returns-clause-none : goal.returns-clause-none
