@@ -1,5 +1,5 @@
 -- An opening body that is read is spelled so, and what is spelled so is read, whatever follows.
-use Rattle.wal_shape.proofs.Common.{◌≡◌, ℕ, ◌+◌, ◌*◌, ◌/◌, ◌<◌, ◌≤◌, Bool, true, false, cond, ltb, List, [], ◌∷◌, ◌++◌, length, take, drop, Result, Ok, Err, refl, sym, ap, subst, ◌∙◌, append_assoc, arith, ⊤, Width, w8, w16, w32, byte_len, from_be_bytes, to_be_bytes, ltb-false, le-ltb, take_at, drop_at, take-append-drop, length-append, length-take, length-drop, Opening, BodyFault, most_bytes, IsBody, number_text, body_text, ◌>>=◌, number_at, run_at, body_at}
+use Rattle.wal_shape.proofs.Common.{◌≡◌, ℕ, ◌+◌, ◌*◌, ◌/◌, ◌<◌, ◌≤◌, Bool, true, false, cond, ltb, List, [], ◌∷◌, ◌++◌, length, take, drop, Result, Ok, Err, refl, sym, append_assoc, arith, ⊤, Width, w8, w16, w32, byte_len, from_be_bytes, to_be_bytes, ltb-false, le-ltb, take_at, drop_at, take-append-drop, length-append, length-take, length-drop, Opening, BodyFault, most_bytes, IsBody, number_text, body_text, ◌>>=◌, number_at, run_at, body_at}
 use Rattle.wal_shape.specs.declared.body.BodyFault.TheVariants.{Truncated, BadField}
 use Rattle.wal_shape.proofs.Codecs.{ok_is, Takes, Reading, goes, fails, Codec, IsReader, taken_of, alone, both, seen, named_is}
 use Rattle.wal_shape.proofs.Numbers.{IsBytes, IsBytes-drop, IsBytes-take, IsWide, wide8, wide16, wide32, byte_text}
@@ -33,16 +33,11 @@ module _ {w : Width} {limit : ℕ} (wide : IsWide w limit) (place most : ℕ) wh
   number_by bytes false false some few =
       let long : byte_len w ≤ length bytes = ltb-false _ _ some in
       goes (from_be_bytes w (take (byte_len w) bytes), drop (byte_len w) bytes) (ltb-false _ _ few) (record {
-        size = omega (
-          arith,
-          long,
-          wide.len (from_be_bytes w (take (byte_len w) bytes)),
-          length-drop (byte_len w) bytes,
+        size = omega (arith, wide.len (from_be_bytes w (take (byte_len w) bytes)), length-drop (byte_len w) bytes);
+        parts = λ fits. rw (
+          wide.back _ (omega (arith, long, length-take (byte_len w) bytes)) (IsBytes-take (byte_len w) bytes fits),
+          take-append-drop (byte_len w) bytes,
         );
-        parts = λ fits. sym (
-            ap (λ (t : List ℕ). t ++ drop (byte_len w) bytes)
-            (wide.back _ (omega (arith, long, length-take (byte_len w) bytes)) (IsBytes-take (byte_len w) bytes fits))
-            ∙ take-append-drop (byte_len w) bytes);
         rest_fits = IsBytes-drop (byte_len w) bytes;
       }) refl
 
@@ -58,24 +53,20 @@ module _ {w : Width} {limit : ℕ} (wide : IsWide w limit) (place most : ℕ) wh
       let n = from_be_bytes w (take (byte_len w) bytes) in
       let long = guard_ok (ltb (length bytes) (byte_len w)) Truncated _ x e in
       let few = guard_ok (ltb most n) (BadField place) (Ok (n, drop (byte_len w) bytes)) x long.1 in
-      subst
-      (λ (y : ℕ × List ℕ). (byte_len w ≤ length bytes) × (y.0 ≤ most) × (n ≡ y.0) × (drop (byte_len w) bytes ≡ y.1))
-      (ok_is (n, drop (byte_len w) bytes) x few.1) (ltb-false _ _ long.0, ltb-false _ _ few.0, refl, refl)
+      rw (← ok_is (n, drop (byte_len w) bytes) x few.1) (ltb-false _ _ long.0, ltb-false _ _ few.0, refl, refl)
 
   pub number_again : most < limit → (n : ℕ) (rest : List ℕ) → n ≤ most
       → number_at w place most (number_text w n ++ rest) ≡ Ok (n, rest)
   number_again lt n rest le =
       let len = wide.len n in
-      let long : ltb (length (to_be_bytes w n ++ rest)) (byte_len w) ≡ false =
-      le-ltb _ _ (omega (arith, len, length-append (to_be_bytes w n) rest)) in
-      let within : ltb most n ≡ false = le-ltb _ _ le in
+      let long : byte_len w ≤ length (to_be_bytes w n ++ rest) = omega (arith, length-append (to_be_bytes w n) rest) in
       rw (
-        long,
+        le-ltb _ _ long,
         take_at (to_be_bytes w n) rest (byte_len w) len,
         drop_at (to_be_bytes w n) rest (byte_len w) len,
         wide.again n (omega (arith, le, lt)),
-        within,
-      ) refl
+        le-ltb _ _ le,
+      )
 
   abbrev pub number : most < limit → Codec IsBelow ℕ
   number lt = alone IsBelow (λ n. n ≤ most) (number_text w) place (number_at w place most) number_is (number_again lt)
@@ -100,8 +91,8 @@ module _ (k : ℕ) where
 
   pub run_again : (run rest : List ℕ) → length run ≡ k → run_at k (run ++ rest) ≡ Ok (run, rest)
   run_again run rest len =
-      let long : ltb (length (run ++ rest)) k ≡ false = le-ltb _ _ (omega (arith, len, length-append run rest)) in
-      rw (long, take_at run rest k len, drop_at run rest k len) refl
+      let long : k ≤ length (run ++ rest) = omega (arith, len, length-append run rest) in
+      rw (le-ltb _ _ long, take_at run rest k len, drop_at run rest k len)
 
   pub run_size : (bytes : List ℕ) (x : List ℕ × List ℕ) → run_at k bytes ≡ Ok x → length x.0 ≡ k
   run_size bytes x e = (taken_of IsBelow (λ run. length run ≡ k) (λ run. run) 0 (run_at k) (run_reads 0) bytes x e).0
@@ -140,9 +131,7 @@ fields_fit x fits =
         path = omega (arith, fits.0.1, fits.1);
         whole = omega (arith, fits.1);
       },
-      ap (λ (k : ℕ). number_text w16 x.0.0.0.0 ++ number_text w32 k ++ x.0.0.1 ++ number_text w8 x.0.1 ++ x.1) size
-          ∙ ap (λ (k : ℕ). number_text w16 x.0.0.0.0 ++ number_text w32 (length x.0.0.1) ++ x.0.0.1 ++ number_text w8 k ++ x.1)
-          count,
+      rw (size, count),
     )
 
 pub fields_back : (o : Opening) → IsBody o → body_fields.Fits (fields_of o)
@@ -177,31 +166,14 @@ pub body_rest : (bytes : List ℕ) (x : Opening × List ℕ) → IsBytes bytes �
 body_rest bytes x fits e =
     let taken = (body_taken bytes x e).1 in
     let len : length (body_text x.0) ≡ 7 + (length x.0.symbol + length x.0.path) = omega (arith, length-body_text x.0) in
-    ap (drop (7 + (length x.0.symbol + length x.0.path))) (taken.parts fits) ∙ drop_at (body_text x.0) x.1
-    (7 + (length x.0.symbol + length x.0.path)) len
+    rw (taken.parts fits) (drop_at (body_text x.0) x.1 _ len)
 
 -- what is spelled as a body is read
 pub body_read : (bytes : List ℕ) (o : Opening) (rest : List ℕ) → IsBody o → bytes ≡ body_text o ++ rest → body_at bytes ≡ Ok (o, rest)
-body_read bytes o rest h same = ap body_at same ∙ body_again o rest h
-
-body_text-parts : (o : Opening) → body_text o ≡ number_text w16 o.cross ++ (number_text w32 (length o.symbol) ++ (o.symbol ++ (number_text w8 (length o.path / 32) ++ o.path)))
-unfolding body_text
-body_text-parts o =
-    let cross = number_text w16 o.cross in
-    let size = number_text w32 (length o.symbol) in
-    let count = number_text w8 (length o.path / 32) in
-    append_assoc (cross ++ size ++ o.symbol) count o.path ∙ append_assoc (cross ++ size) o.symbol (count ++ o.path) ∙ append_assoc cross size (o.symbol ++ (count ++ o.path))
+body_read bytes o rest h same = rw same (body_again o rest h)
 
 -- what a writer appends field by field is the body
 pub put_text : (old : List ℕ) (o : Opening) → IsBody o → old ++ number_text w16 o.cross ++ number_text w32 (length o.symbol) ++ o.symbol ++ (length o.path / 32 ∷ []) ++ o.path ≡ old ++ body_text o
 unfolding body_text
 put_text old o h =
-    let cross = number_text w16 o.cross in
-    let size = number_text w32 (length o.symbol) in
-    let byte : length o.path / 32 ∷ [] ≡ number_text w8 (length o.path / 32) = byte_text (length o.path / 32) (omega (arith, h.path)) in
-    ap (λ (c : List ℕ). old ++ cross ++ size ++ o.symbol ++ c ++ o.path) byte
-    ∙ append_assoc (old ++ cross ++ size ++ o.symbol) (number_text w8 (length o.path / 32)) o.path
-    ∙ append_assoc (old ++ cross ++ size) o.symbol (number_text w8 (length o.path / 32) ++ o.path)
-    ∙ append_assoc (old ++ cross) size (o.symbol ++ (number_text w8 (length o.path / 32) ++ o.path))
-    ∙ append_assoc old cross (size ++ (o.symbol ++ (number_text w8 (length o.path / 32) ++ o.path)))
-    ∙ ap (λ (b : List ℕ). old ++ b) (sym (body_text-parts o))
+    rw (byte_text (length o.path / 32) (omega (arith, h.path))) (simp append_assoc)

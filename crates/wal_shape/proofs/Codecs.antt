@@ -1,5 +1,5 @@
 -- Readers that are made of readers of parts: what is read is spelled so, and read again, and a fault lies among the bytes.
-use Rattle.wal_shape.proofs.Common.{◌≡◌, ℕ, ◌+◌, ◌≤◌, Bool, true, false, not, List, [], ◌++◌, length, Result, Ok, Err, refl, sym, ap, subst, ◌∙◌, append_assoc, arith, ⊤, length-append, ◌>>=◌}
+use Rattle.wal_shape.proofs.Common.{◌≡◌, ℕ, ◌+◌, ◌≤◌, Bool, true, false, not, List, [], ◌++◌, length, Result, Ok, Err, refl, sym, ap, ◌∙◌, append_assoc, arith, ⊤, length-append, ◌>>=◌}
 use Rattle.wal_shape.proofs.Numbers.{IsBytes}
 
 pub ok_is : {A E : Type 0} (x y : A) → ◌≡◌ {A = Result A E} (Ok x) (Ok y) → x ≡ y
@@ -51,15 +51,14 @@ module _ {E : Type 0} (IsBelow : ℕ → E → Type 0) {A : Type 0} (Fits : A �
   pub alone_is : {C : Type 0} (bytes : List ℕ) (others : A × List ℕ → Result C E) (r : Result (A × List ℕ) E)
       → Reading IsBelow Fits text start (λ x. Ok x) bytes r
       → Reading IsBelow Fits text start others bytes (r >>= others)
-  alone_is bytes others r (goes x fits taken same) =
-      goes x fits taken (ap (λ (q : Result (A × List ℕ) E). q >>= others) same)
-  alone_is bytes others r (fails e below same) = fails e below (ap (λ (q : Result (A × List ℕ) E). q >>= others) same)
+  alone_is bytes others r (goes x fits taken same) = goes x fits taken (rw same)
+  alone_is bytes others r (fails e below same) = fails e below (rw same)
 
   taken_by : (r : Result (A × List ℕ) E) (bytes : List ℕ) → Reading IsBelow Fits text start (λ x. Ok x) bytes r
       → (x : A × List ℕ) → r ≡ Ok x → Fits x.0 × Takes bytes (text x.0) x.1
   taken_by r bytes (goes y fits taken same) x e =
-      subst (λ (z : A × List ℕ). Fits z.0 × Takes bytes (text z.0) z.1) (ok_is y x (sym same ∙ e)) (fits, taken)
-  taken_by r bytes (fails d below same) x e = absurd (let two : Err d ≡ Ok x = sym same ∙ e in cc)
+      let is : y ≡ x = cc in rw (← is) (fits, taken)
+  taken_by r bytes (fails d below same) x e = absurd cc
 
   -- what it has read fits, and was taken
   pub taken_of : IsReader → (bytes : List ℕ) (x : A × List ℕ) → read bytes ≡ Ok x
@@ -75,7 +74,7 @@ module _ {E : Type 0} (IsBelow : ℕ → E → Type 0) {A : Type 0} (Fits : A �
     start = start;
     read = λ C bytes others. read bytes >>= others;
     is = λ C bytes others. alone_is bytes others (read bytes) (is bytes);
-    again = λ C others x rest h. ap (λ (q : Result (A × List ℕ) E). q >>= others) (again x rest h);
+    again = λ C others x rest h. rw (again x rest h);
   }
 
 -- ---- readers of parts
@@ -117,9 +116,8 @@ module _ {E : Type 0} {IsBelow : ℕ → E → Type 0} {A B : Type 0} (a : Codec
       read = λ C bytes others. a.read C bytes (then C others);
       is = λ C bytes others. both_is bytes others (a.read C bytes (then C others)) (a.is C bytes (then C others));
       again = λ C others x rest h.
-          ap (λ (t : List ℕ). a.read C t (then C others)) (append_assoc (a.text x.0) ((b x.0).text x.1) rest)
-          ∙ a.again C (then C others) x.0 ((b x.0).text x.1 ++ rest) h.0
-          ∙ (b x.0).again C (λ y. others ((x.0, y.0), y.1)) x.1 rest h.1;
+          rw (append_assoc (a.text x.0), a.again C (then C others) x.0 ((b x.0).text x.1 ++ rest) h.0)
+          ((b x.0).again C (λ y. others ((x.0, y.0), y.1)) x.1 rest h.1);
     }
 
   -- the same part as another value
@@ -131,7 +129,7 @@ module _ {E : Type 0} {IsBelow : ℕ → E → Type 0} {A B : Type 0} (a : Codec
         → Reading IsBelow Fits text a.start others bytes r
     seen_is bytes others r (goes x fits taken same) =
         let are = there x.0 fits in
-        goes (to x.0, x.1) are.0 (subst (λ (t : List ℕ). Takes bytes t x.1) are.1 taken) same
+        goes (to x.0, x.1) are.0 (rw are.1 at taken) same
     seen_is bytes others r (fails e below same) = fails e below same
 
     abbrev pub seen : Codec IsBelow B
@@ -144,9 +142,7 @@ module _ {E : Type 0} {IsBelow : ℕ → E → Type 0} {A B : Type 0} (a : Codec
           (a.is C bytes (λ x. others (to x.0, x.1)));
       again = λ C others y rest h.
           let are = back y h in
-          ap (λ (t : List ℕ). a.read C (t ++ rest) (λ x. others (to x.0, x.1))) (sym are.1)
-          ∙ a.again C (λ x. others (to x.0, x.1)) (from y) rest are.0
-          ∙ ap (λ (z : B). others (z, rest)) are.2;
+          rw (← are.1, a.again C (λ x. others (to x.0, x.1)) (from y) rest are.0, are.2);
     }
 
 -- a test between two parts takes no bytes: it lets pass what is good, and else it is a fault at a byte before its start
@@ -156,12 +152,11 @@ module _ {E : Type 0} {IsBelow : ℕ → E → Type 0} (start : ℕ) (fault : E)
       → ((C : Type 0) (r : Result C E) → test (not good) C r ≡ Err fault) → (b : Bool)
       → (C : Type 0) (bytes : List ℕ) (others : ⊤ × List ℕ → Result C E)
       → Reading IsBelow (λ (u : ⊤). b ≡ good) (λ u. []) start others bytes (test b C (others (tt, bytes)))
-  test_is true pass stop true C bytes others = goes (tt, bytes) refl (Takes-none bytes) (pass C (others (tt, bytes)))
-  test_is false pass stop false C bytes others = goes (tt, bytes) refl (Takes-none bytes) (pass C (others (tt, bytes)))
   test_is true pass stop false C bytes others =
       fails fault (λ n le. below n (omega (arith, le))) (stop C (others (tt, bytes)))
   test_is false pass stop true C bytes others =
       fails fault (λ n le. below n (omega (arith, le))) (stop C (others (tt, bytes)))
+  test_is good pass stop b C bytes others = goes (tt, bytes) refl (Takes-none bytes) (pass C (others (tt, bytes)))
 
   abbrev pub checked : (good : Bool) → ((C : Type 0) (r : Result C E) → test good C r ≡ r)
       → ((C : Type 0) (r : Result C E) → test (not good) C r ≡ Err fault) → Bool → Codec IsBelow ⊤
@@ -171,7 +166,7 @@ module _ {E : Type 0} {IsBelow : ℕ → E → Type 0} (start : ℕ) (fault : E)
     start = start;
     read = λ C bytes others. test b C (others (tt, bytes));
     is = test_is good pass stop b;
-    again = λ C others u rest h. ap (λ (k : Bool). test k C (others (tt, rest))) h ∙ pass C (others (tt, rest));
+    again = λ C others u rest h. rw h (pass C (others (tt, rest)));
   }
 
 module _ {E : Type 0} {IsBelow : ℕ → E → Type 0} {A : Type 0} (a : Codec IsBelow A) where
@@ -180,8 +175,7 @@ module _ {E : Type 0} {IsBelow : ℕ → E → Type 0} {A : Type 0} (a : Codec I
       → ((bytes : List ℕ) → read bytes ≡ a.read (A × List ℕ) bytes (λ x. Ok x))
       → IsReader IsBelow a.Fits a.text a.start read
   named_is read same bytes =
-      subst (Reading IsBelow a.Fits a.text a.start (λ x. Ok x) bytes) (sym (same bytes))
-      (a.is (A × List ℕ) bytes (λ x. Ok x))
+      rw (same bytes) (a.is (A × List ℕ) bytes (λ x. Ok x))
 
   abbrev pub named : (read : List ℕ → Result (A × List ℕ) E)
       → ((bytes : List ℕ) → read bytes ≡ a.read (A × List ℕ) bytes (λ x. Ok x)) → Codec IsBelow A

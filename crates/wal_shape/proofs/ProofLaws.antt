@@ -1,7 +1,7 @@
 -- What is read as a proof is spelled so, and what is spelled so is read: each proof has one spelling of its own.
-use Rattle.wal_shape.proofs.Common.{◌≡◌, ℕ, zero, suc, ◌+◌, ◌<◌, ◌≤◌, ◌-◌, List, [], ◌∷◌, ◌++◌, length, drop, Option, Some, None, Result, Ok, Err, slice_get, refl, sym, ap, subst, ◌∙◌, append_assoc, arith, IfSome, IfNone, AllByRecursion, flat_map, w8, w16, append-nil, Axis, Primary, Secondary, Opening, BodyFault, Head, IsBody, EncodingProof, IsProof, number_text, body_text, axis_number, proof_text, body_at, axis_of, with_others, openings_in, proof_with, proof_of, head_at, behind, bodies_end, SpellProof, ended, whole_head, head_in}
+use Rattle.wal_shape.proofs.Common.{◌≡◌, ℕ, zero, suc, ◌+◌, ◌<◌, ◌≤◌, ◌-◌, List, [], ◌∷◌, ◌++◌, length, drop, Option, Some, None, Result, Ok, Err, slice_get, refl, sym, ap, ◌∙◌, append_assoc, arith, IfSome, IfNone, AllByRecursion, flat_map, w8, w16, append-nil, Axis, Opening, BodyFault, Head, IsBody, EncodingProof, IsProof, number_text, body_text, axis_number, proof_text, body_at, axis_of, openings_in, proof_with, proof_of, head_at, behind, bodies_end, SpellProof, ended, whole_head, head_in}
 use Rattle.std.proofs.lemmas.List.Concat.{flat_map-cons}
-use Rattle.wal_shape.proofs.Codecs.{ok_is, Takes, Takes-none, Takes-then, Codec, IsReader, taken_of, both, seen, named_is}
+use Rattle.wal_shape.proofs.Codecs.{Takes, Takes-none, Takes-then, Codec, IsReader, taken_of, both, seen, named_is}
 use Rattle.wal_shape.proofs.Numbers.{IsBytes, wide8, wide16, byte_text}
 use Rattle.wal_shape.proofs.BodyLaws.{IsBelow, number, body_taken, body_again}
 
@@ -18,53 +18,44 @@ bodies_end-step n bytes rest e = behind_some (body_at bytes) (bodies_end n) rest
 
 pub openings_in-step : (n : ℕ) (bytes : List ℕ) (x : Opening × List ℕ) → body_at bytes ≡ Ok x → openings_in (suc n) bytes ≡ x.0 ∷ openings_in n x.1
 unfolding openings_in
-openings_in-step n bytes x e = ap (λ (r : Result (Opening × List ℕ) BodyFault). with_others r (openings_in n)) e
+openings_in-step n bytes x e = rw e
 
 pub length-openings_in : (n : ℕ) (bytes rest : List ℕ) → bodies_end n bytes ≡ Some rest → length (openings_in n bytes) ≡ n
 length-openings_in zero bytes rest e = unfold openings_in in refl
 length-openings_in (suc n) bytes rest e =
     let x = bodies_end-step n bytes rest e in
-    ap length (openings_in-step n bytes x.0 x.1) ∙ ap suc (length-openings_in n x.0.1 rest x.2)
+    rw (openings_in-step n bytes x.0 x.1) (ap suc (length-openings_in n x.0.1 rest x.2))
 
 pub openings_in-fit : (n : ℕ) (bytes rest : List ℕ) → bodies_end n bytes ≡ Some rest → AllByRecursion IsBody (openings_in n bytes)
 openings_in-fit zero bytes rest e = unfold openings_in in tt
 openings_in-fit (suc n) bytes rest e =
     let x = bodies_end-step n bytes rest e in
-    let both : AllByRecursion IsBody (x.0.0 ∷ openings_in n x.0.1) =
-    ((body_taken bytes x.0 x.1).0, openings_in-fit n x.0.1 rest x.2) in
-    subst (AllByRecursion IsBody) (sym (openings_in-step n bytes x.0 x.1)) both
+    rw (openings_in-step n bytes x.0 x.1) ((body_taken bytes x.0 x.1).0, openings_in-fit n x.0.1 rest x.2)
 
 pub openings_in-take : (n : ℕ) (bytes rest : List ℕ) → bodies_end n bytes ≡ Some rest
     → Takes bytes (flat_map body_text (openings_in n bytes)) rest
 openings_in-take zero bytes rest e =
-    unfold openings_in bodies_end in (let same : bytes ≡ rest = cc in subst (Takes bytes []) same (Takes-none bytes))
+    unfold openings_in bodies_end in (let same : bytes ≡ rest = cc in rw same (Takes-none rest))
 openings_in-take (suc n) bytes rest e =
     let x = bodies_end-step n bytes rest e in
-    let first = (body_taken bytes x.0 x.1).1 in
-    let both = Takes-then bytes (body_text x.0.0) x.0.1 (flat_map body_text (openings_in n x.0.1)) rest first
-    (openings_in-take n x.0.1 rest x.2) in
-    subst (λ (t : List ℕ). Takes bytes t rest) (sym (ap (flat_map body_text) (openings_in-step n bytes x.0 x.1)
-    ∙ flat_map-cons body_text x.0.0 (openings_in n x.0.1))) both
+    rw (openings_in-step n bytes x.0 x.1, flat_map-cons body_text)
+    (Takes-then _ _ _ _ _ (body_taken bytes x.0 x.1).1 (openings_in-take n x.0.1 rest x.2))
 
 -- the bodies of openings are read as these openings, whatever follows
 pub regroup_bodies : (o : Opening) (os : List Opening) (rest : List ℕ) → flat_map body_text (o ∷ os) ++ rest ≡ body_text o ++ (flat_map body_text os ++ rest)
-regroup_bodies o os rest = ap (λ (b : List ℕ). b ++ rest) (flat_map-cons body_text o os) ∙ append_assoc (body_text o) (flat_map body_text os) rest
+regroup_bodies o os rest = rw (flat_map-cons body_text, append_assoc)
 
 bodies_end-again : (os : List Opening) (rest : List ℕ) → AllByRecursion IsBody os → bodies_end (length os) (flat_map body_text os ++ rest) ≡ Some rest
 unfolding bodies_end
 bodies_end-again [] rest fits = refl
 bodies_end-again (o ∷ os) rest fits =
-    ap (λ (b : List ℕ). behind (body_at b) (bodies_end (length os))) (regroup_bodies o os rest)
-    ∙ ap (λ (r : Result (Opening × List ℕ) BodyFault). behind r (bodies_end (length os))) (body_again o (flat_map body_text os ++ rest) fits.0)
-    ∙ bodies_end-again os rest fits.1
+    rw (regroup_bodies o os rest, body_again o (flat_map body_text os ++ rest) fits.0) (bodies_end-again os rest fits.1)
 
 pub openings_in-again : (os : List Opening) (rest : List ℕ) → AllByRecursion IsBody os → openings_in (length os) (flat_map body_text os ++ rest) ≡ os
 unfolding openings_in
 openings_in-again [] rest fits = refl
 openings_in-again (o ∷ os) rest fits =
-    ap (λ (b : List ℕ). with_others (body_at b) (openings_in (length os))) (regroup_bodies o os rest)
-    ∙ ap (λ (r : Result (Opening × List ℕ) BodyFault). with_others r (openings_in (length os))) (body_again o (flat_map body_text os ++ rest) fits.0)
-    ∙ ap (λ (others : List Opening). o ∷ others) (openings_in-again os rest fits.1)
+    rw (regroup_bodies o os rest, body_again o (flat_map body_text os ++ rest) fits.0, openings_in-again os rest fits.1)
 
 -- ---- heads
 
@@ -77,12 +68,10 @@ axis_number-of (suc zero) le = refl
 axis_number-of (suc (suc n)) le = absurd (omega arith)
 
 axis_of-number : (axis : Axis) → axis_of (axis_number axis) ≡ axis
-axis_of-number Primary = refl
-axis_of-number Secondary = refl
+axis_of-number axis = grind arith
 
 axis_number-le : (axis : Axis) → axis_number axis ≤ 1
-axis_number-le Primary = omega arith
-axis_number-le Secondary = omega arith
+axis_number-le axis = grind arith
 
 abbrev IsHead : Head → Type 0
 IsHead head = (head.index ≤ 999) × (head.count ≤ 1000)
@@ -101,20 +90,8 @@ head_with x = record { axis = axis_of x.0.0; index = x.0.1; count = x.1 }
 abbrev head_codec : Codec IsBelow Head
 head_codec =
     seen head_fields head_with (λ head. ((axis_number head.axis, head.index), head.count)) IsHead head_text
-    (λ x fits. (
-      (fits.0.1, fits.1),
-      ap (λ (k : ℕ). number_text w8 k ++ number_text w16 x.0.1 ++ number_text w16 x.1)
-          (axis_number-of x.0.0 fits.0.0),
-    ))
-    (λ head h. (
-      ((axis_number-le head.axis, h.0), h.1),
-      refl,
-      ap (λ (a : Axis). head_with_axis a head.index head.count)
-          (axis_of-number head.axis),
-    ))
-  where
-    head_with_axis : Axis → ℕ → ℕ → Head
-    head_with_axis a i c = record { axis = a; index = i; count = c }
+    (λ x fits. ((fits.0.1, fits.1), rw (← axis_number-of x.0.0 fits.0.0)))
+    (λ head h. (((axis_number-le head.axis, h.0), h.1), refl, rw (axis_of-number head.axis)))
 
 head_is : IsReader IsBelow IsHead head_text 0 head_at
 unfolding head_at
@@ -127,40 +104,32 @@ head_again h rest fits = head_codec.again (Head × List ℕ) (λ x. Ok x) h rest
 -- ---- proofs
 
 ended_some : (head found : Head) (rest : Option (List ℕ)) → ended head rest ≡ Some found → (head ≡ found) × (rest ≡ Some [])
-ended_some head found None e = absurd cc
 ended_some head found (Some []) e = (cc, refl)
-ended_some head found (Some (b ∷ bytes)) e = absurd cc
+ended_some head found rest e = absurd cc
 
 whole_head_some : (r : Result (Head × List ℕ) BodyFault) (found : Head) → whole_head r ≡ Some found → (rest : List ℕ) × (r ≡ Ok (found, rest)) × (bodies_end found.count rest ≡ Some [])
 whole_head_some (Ok x) found e =
     let end = ended_some x.0 found (bodies_end x.0.count x.1) e in
-    (x.1, ap (λ (h : Head). Ok (h, x.1)) end.0, subst (λ (h : Head). bodies_end h.count x.1 ≡ Some []) end.0 end.1)
+    (x.1, ap (λ (h : Head). Ok (h, x.1)) end.0, rw end.0 at end.1)
 whole_head_some (Err d) found e = absurd cc
 
 proof_text-parts : (p : EncodingProof) (head : Head) → axis_number head.axis ≡ axis_number p.axis → head.index ≡ p.index → head.count ≡ length p.openings → proof_text p ≡ head_text head ++ flat_map body_text p.openings
 unfolding proof_text
-proof_text-parts p head axis index count = rw (axis, index, count) refl
+proof_text-parts p head axis index count = rw (axis, index, count)
 
 -- what is read as a proof is spelled so
 pub SpellProof-in : (bytes : List ℕ) (head : Head) → IsBytes bytes → head_in bytes ≡ Some head → SpellProof head bytes
 unfolding head_in
 SpellProof-in bytes head fits e =
     let found = whole_head_some (head_at bytes) head e in
-    let rest = found.0 in
-    let taken = taken_of IsBelow IsHead head_text 0 head_at head_is bytes (head, rest) found.1 in
+    let taken = taken_of IsBelow IsHead head_text 0 head_at head_is bytes (head, found.0) found.1 in
     let parts = taken.1.parts fits in
-    let behind-is : drop 5 bytes ≡ rest = ap (drop 5) parts in
-    let ends : bodies_end head.count (drop 5 bytes) ≡ Some [] = rw behind-is found.2 in
-    let count : head.count ≡ length (openings_in head.count (drop 5 bytes)) = sym (length-openings_in head.count (drop 5 bytes) [] ends) in
-    let bodies : flat_map body_text (openings_in head.count (drop 5 bytes)) ≡ rest =
-    rw behind-is (sym ((openings_in-take head.count rest [] found.2).parts (taken.1.rest_fits fits)
-    ∙ append-nil (flat_map body_text (openings_in head.count rest)))) in (
-      taken.0.0,
-      taken.0.1,
-      ends,
-      proof_text-parts (proof_of head bytes) head refl refl count
-          ∙ ap (λ (b : List ℕ). head_text head ++ b) bodies ∙ sym parts,
-    )
+    let behind-is : drop 5 bytes ≡ found.0 = ap (drop 5) parts in
+    let bodies = (openings_in-take head.count found.0 [] found.2).parts (taken.1.rest_fits fits) in
+    let count = length-openings_in head.count found.0 [] found.2 in
+    let spelled = proof_text-parts (proof_with head (openings_in head.count found.0)) head refl refl (sym count) in
+    let none = append-nil (flat_map body_text (openings_in head.count found.0)) in
+    rw behind-is (taken.0.0, taken.0.1, found.2, cc (spelled, parts, bodies, none))
 
 -- and it is within the ranges
 pub IsProof-spelled : (head : Head) (bytes : List ℕ) → SpellProof head bytes → IsProof (proof_of head bytes)
@@ -178,40 +147,34 @@ head_of p = record { axis = p.axis; index = p.index; count = length p.openings }
 pub proof_of-text : (p : EncodingProof) → IsProof p → proof_of (head_of p) (proof_text p) ≡ p
 unfolding proof_text
 proof_of-text p h =
-    let again : openings_in (length p.openings) (flat_map body_text p.openings) ≡ p.openings = ap (openings_in (length p.openings)) (sym (append-nil (flat_map body_text p.openings))) ∙ openings_in-again p.openings [] h.bodies in
-    ap (λ (os : List Opening). proof_with p.axis p.index os) again
-  where
-    proof_with : Axis → ℕ → List Opening → EncodingProof
-    proof_with axis index openings = record { axis = axis; index = index; openings = openings }
-
-drop-proof_text : (p : EncodingProof) → drop 5 (proof_text p) ≡ flat_map body_text p.openings
-unfolding proof_text
-drop-proof_text p = refl
+    let again = rw append-nil at (openings_in-again p.openings [] h.bodies) in
+    rw again
 
 bodies_end-all : (os : List Opening) → AllByRecursion IsBody os → bodies_end (length os) (flat_map body_text os) ≡ Some []
-bodies_end-all os fits = ap (bodies_end (length os)) (sym (append-nil (flat_map body_text os))) ∙ bodies_end-again os [] fits
+bodies_end-all os fits = rw append-nil at (bodies_end-again os [] fits)
 
 pub SpellProof-text : (p : EncodingProof) → IsProof p → SpellProof (head_of p) (proof_text p)
-SpellProof-text p h = (h.index, h.count, ap (bodies_end (length p.openings)) (drop-proof_text p) ∙ bodies_end-all p.openings h.bodies, ap proof_text (proof_of-text p h))
+unfolding proof_text
+SpellProof-text p h = (h.index, h.count, bodies_end-all p.openings h.bodies, ap proof_text (proof_of-text p h))
 
 pub head_in-text : (p : EncodingProof) → IsProof p → head_in (proof_text p) ≡ Some (head_of p)
 unfolding head_in
 head_in-text p h =
-    let parts : proof_text p ≡ head_text (head_of p) ++ flat_map body_text p.openings = proof_text-parts p (head_of p) refl refl refl in
-    let read : head_at (proof_text p) ≡ Ok (head_of p, flat_map body_text p.openings) = ap head_at parts
-    ∙ head_again (head_of p) (flat_map body_text p.openings) (h.index, h.count) in
-    ap whole_head read ∙ ap (ended (head_of p)) (bodies_end-all p.openings h.bodies)
+    rw (
+      proof_text-parts p (head_of p) refl refl refl,
+      head_again (head_of p) (flat_map body_text p.openings) (h.index, h.count),
+      bodies_end-all p.openings h.bodies,
+    )
 
 -- bytes that are not read as a proof are the spelling of none
 pub no_proof : (bytes : List ℕ) → head_in bytes ≡ None → (p : EncodingProof) → IsProof p → proof_text p ≡ bytes → ⊥
-no_proof bytes unread p h same = let read : head_in bytes ≡ Some (head_of p) = ap head_in (sym same) ∙ head_in-text p h in cc
+no_proof bytes unread p h same = cc (head_in-text p h)
 
 -- no two proofs have one spelling
 pub proof_text-injective : (a b : EncodingProof) → IsProof a → IsProof b → proof_text a ≡ proof_text b → a ≡ b
 proof_text-injective a b first second same =
-    let heads : Some (head_of a) ≡ Some (head_of b) = sym (head_in-text a first) ∙ ap head_in same ∙ head_in-text b second in
-    let head : head_of a ≡ head_of b = cc in
-    sym (proof_of-text a first) ∙ ap (λ (h : Head). proof_of h (proof_text a)) head ∙ ap (proof_of (head_of b)) same ∙ proof_of-text b second
+    let head : head_of a ≡ head_of b = cc (head_in-text a first, head_in-text b second) in
+    cc (proof_of-text a first, proof_of-text b second)
 
 -- an opening is read where the bodies before it end
 pub record IsOpeningAt (place n : ℕ) (bytes : List ℕ) : Type 0 where
@@ -226,37 +189,31 @@ unfolding bodies_end
 opening_at-place place zero bytes rest lt e = absurd (omega arith)
 opening_at-place zero (suc n) bytes rest lt e =
     let x = bodies_end-step n bytes rest e in
-    record { from = bytes; read = x.0; ends = refl; reads = x.1; is = ap (λ (os : List Opening). slice_get os 0) (openings_in-step n bytes x.0 x.1) }
+    record { from = bytes; read = x.0; ends = refl; reads = x.1; is = rw (openings_in-step n bytes x.0 x.1) }
 opening_at-place (suc place) (suc n) bytes rest lt e =
     let x = bodies_end-step n bytes rest e in
     let inner = opening_at-place place n x.0.1 rest (omega arith) x.2 in
     record {
       from = inner.from;
       read = inner.read;
-      ends = ap (λ (r : Result (Opening × List ℕ) BodyFault). behind r (bodies_end place)) x.1 ∙ inner.ends;
+      ends = rw x.1 inner.ends;
       reads = inner.reads;
-      is = ap (λ (os : List Opening). slice_get os (suc place)) (openings_in-step n bytes x.0 x.1) ∙ inner.is;
+      is = rw (openings_in-step n bytes x.0 x.1) inner.is;
     }
 
 -- what is read where the bodies before it end
 pub read_opening : (place n : ℕ) (bytes end from : List ℕ) (x : Opening × List ℕ) → place < n → bodies_end n bytes ≡ Some end → Some from ≡ bodies_end place bytes → body_at from ≡ Ok x → slice_get (openings_in n bytes) place ≡ Some x.0
 read_opening place n bytes end from x lt e starts reads =
     let at = opening_at-place place n bytes end lt e in
-    let somes : Some from ≡ Some at.from = starts ∙ at.ends in
-    let same : from ≡ at.from = cc in
-    let read : Ok x ≡ Ok at.read = sym reads ∙ ap body_at same ∙ at.reads in
-    at.is ∙ ap (λ (y : Opening × List ℕ). Some y.0) (sym (ok_is x at.read read))
+    cc
 
 -- the bodies before it do end, and then an opening can be read
 pub bodies_end-before : (place n : ℕ) (bytes end : List ℕ) → place < n → bodies_end n bytes ≡ Some end → None ≡ bodies_end place bytes → ⊥
-bodies_end-before place n bytes end lt e ends = let at = opening_at-place place n bytes end lt e in let two : None ≡ Some at.from = ends ∙ at.ends in cc
+bodies_end-before place n bytes end lt e ends = let at = opening_at-place place n bytes end lt e in cc
 
 pub body_at-before : (place n : ℕ) (bytes end from : List ℕ) (fault : BodyFault) → place < n → bodies_end n bytes ≡ Some end → Some from ≡ bodies_end place bytes → body_at from ≡ Err fault → ⊥
 body_at-before place n bytes end from fault lt e starts reads =
     let at = opening_at-place place n bytes end lt e in
-    let somes : Some from ≡ Some at.from = starts ∙ at.ends in
-    let same : from ≡ at.from = cc in
-    let two : Err fault ≡ Ok at.read = sym reads ∙ ap body_at same ∙ at.reads in
     cc
 
 -- what the reader of heads finds
@@ -274,42 +231,27 @@ proof_of-spelled head bytes p whole h same = proof_text-injective (proof_of head
 
 -- ---- a loop over bodies
 
-pub bodies_end-next : (count i : ℕ) (bytes : List ℕ) (x : Opening × List ℕ) → i < count → body_at bytes ≡ Ok x → bodies_end (count - i) bytes ≡ bodies_end (count - (i + 1)) x.1
+pub bodies_end-next : (count i : ℕ) (bytes : List ℕ) (r : Result (Opening × List ℕ) BodyFault) → i < count
+    → body_at bytes ≡ r → bodies_end (count - i) bytes ≡ behind r (bodies_end (count - (i + 1)))
 unfolding bodies_end
-bodies_end-next count i bytes x lt e =
-    let k : count - i ≡ suc (count - (i + 1)) = omega arith in
-    ap (λ (n : ℕ). bodies_end n bytes) k ∙ ap (λ (r : Result (Opening × List ℕ) BodyFault). behind r (bodies_end (count - (i + 1)))) e
-
-pub bodies_end-stop : (count i : ℕ) (bytes : List ℕ) (fault : BodyFault) → i < count → body_at bytes ≡ Err fault → bodies_end (count - i) bytes ≡ None
-unfolding bodies_end
-bodies_end-stop count i bytes fault lt e =
-    let k : count - i ≡ suc (count - (i + 1)) = omega arith in
-    ap (λ (n : ℕ). bodies_end n bytes) k ∙ ap (λ (r : Result (Opening × List ℕ) BodyFault). behind r (bodies_end (count - (i + 1)))) e
+bodies_end-next count i bytes r lt e = let k : count - i ≡ suc (count - (i + 1)) = omega arith in rw (k, e)
 
 pub bodies_end-done : (count i : ℕ) (bytes : List ℕ) → count ≤ i → bodies_end (count - i) bytes ≡ Some bytes
 unfolding bodies_end
-bodies_end-done count i bytes le =
-    let k : count - i ≡ 0 = omega arith in
-    ap (λ (n : ℕ). bodies_end n bytes) k
+bodies_end-done count i bytes le = let k : count - i ≡ 0 = omega arith in rw k
 
 -- what a writer writes is the proof's spelling
 pub written_proof : (head : Head) (openings : List Opening) → head.count ≡ length openings → (axis_number head.axis ∷ []) ++ number_text w16 head.index ++ number_text w16 head.count ++ flat_map body_text openings ≡ proof_text (proof_with head openings)
 written_proof head openings count =
     let byte = byte_text (axis_number head.axis) (omega (arith, axis_number-le head.axis)) in
-    ap (λ (a : List ℕ). a ++ number_text w16 head.index ++ number_text w16 head.count ++ flat_map body_text openings) byte
-    ∙ sym (proof_text-parts (proof_with head openings) head refl refl count)
+    cc (proof_text-parts (proof_with head openings) head refl refl count, byte)
 
 -- a proof whose number of openings the head tells is spelled with this head
 pub SpellProof-with : (head : Head) (openings : List Opening) (bytes : List ℕ) → IsProof (proof_with head openings) → head.count ≡ length openings → bytes ≡ proof_text (proof_with head openings) → SpellProof head bytes × (proof_of head bytes ≡ proof_with head openings)
 SpellProof-with head openings bytes h count same =
     let p = proof_with head openings in
-    let heads : head_of p ≡ head = ap (λ (n : ℕ). head_with_count head n) (sym count) in
-    let spelled : SpellProof head (proof_text p) = subst (λ (x : Head). SpellProof x (proof_text p)) heads (SpellProof-text p h) in
-    let read : proof_of head (proof_text p) ≡ p = subst (λ (x : Head). proof_of x (proof_text p) ≡ p) heads (proof_of-text p h) in
-    (subst (SpellProof head) (sym same) spelled, ap (proof_of head) same ∙ read)
-  where
-    head_with_count : Head → ℕ → Head
-    head_with_count x n = record { axis = x.axis; index = x.index; count = n }
+    let heads : head_of p ≡ head = rw (← count) in
+    rw (same, ← heads) (SpellProof-text p h, proof_of-text p h)
 
 -- the head's bytes are there
 pub length-head : (head : Head) (bytes : List ℕ) → SpellProof head bytes → 5 ≤ length bytes

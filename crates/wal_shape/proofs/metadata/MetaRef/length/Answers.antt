@@ -1,10 +1,10 @@
-use Rattle.wal_shape.proofs.Common.{sym, ap, ◌∙◌, metadata_shown, spelled_length}
-use Rattle.wal_shape.proofs.MetadataLaws.{IsMetadata-spelled, spelled_metadata-length}
+use Rattle.wal_shape.proofs.Common.{metadata_shown, spelled_metadata, metadata_in}
+use Rattle.wal_shape.proofs.MetadataLaws.{IsMetadata-spelled}
 use Rattle.wal_shape.proofs.metadata.MetaRef.length.Goals as goal
 
 pub returns-clause-value : goal.returns-clause-value
-unfolding metadata_shown
-returns-clause-value c = c.length_in.ensures ∙ ap spelled_length c.split_format.ensures.behind ∙ sym (spelled_metadata-length c.args.self.now.bytes.now)
+unfolding metadata_shown spelled_metadata metadata_in
+returns-clause-value c = rw (c.length_in.ensures, c.split_format.ensures.behind)
 
 pub returns-clause-metadata : goal.returns-clause-metadata
 unfolding metadata_shown

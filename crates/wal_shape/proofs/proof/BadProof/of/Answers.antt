@@ -1,4 +1,4 @@
-use Rattle.wal_shape.proofs.Common.{List, length, refl, sym, ap, subst, ◌∙◌, Opening, Head, IsProof, proof_with}
+use Rattle.wal_shape.proofs.Common.{length, refl, ◌∙◌, Head, IsProof, proof_with}
 use Rattle.wal_shape.proofs.ProofLaws.{SpellProof-with}
 use Rattle.wal_shape.proofs.proof.BadProof.of.Goals as goal
 
@@ -6,13 +6,13 @@ pub invariant_of-result : goal.invariant_of-result
 invariant_of-result c =
     let openings = c.as_slice-openings.result.now in
     let head : Head = record { axis = c.args.axis; index = c.args.index; count = length openings } in
-    let fits : IsProof (proof_with head openings) = subst (λ (os : List Opening). IsProof (proof_with head os)) (sym c.as_slice-openings.ensures) c.requires in
+    let fits : IsProof (proof_with head openings) = rw c.as_slice-openings.ensures c.requires in
     (SpellProof-with head openings c.from_vec.result fits refl (c.from_vec.ensures ∙ c.in_ok-bytes.ensures)).0
 
 pub returns : goal.returns
 returns c =
     let openings = c.as_slice-openings.result.now in
     let head : Head = record { axis = c.args.axis; index = c.args.index; count = length openings } in
-    let fits : IsProof (proof_with head openings) = subst (λ (os : List Opening). IsProof (proof_with head os)) (sym c.as_slice-openings.ensures) c.requires in
+    let fits : IsProof (proof_with head openings) = rw c.as_slice-openings.ensures c.requires in
+    rw (← c.as_slice-openings.ensures)
     (SpellProof-with head openings c.from_vec.result fits refl (c.from_vec.ensures ∙ c.in_ok-bytes.ensures)).1
-    ∙ ap (λ (os : List Opening). proof_with head os) c.as_slice-openings.ensures
