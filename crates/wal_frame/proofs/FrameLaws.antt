@@ -1,5 +1,5 @@
 -- A frame that is read is spelled so, and what is spelled so is read: each frame has one spelling, and no spelling begins another.
-use Rattle.wal_frame.proofs.Common.{◌≡◌, ℕ, ◌+◌, Bool, true, false, cond, eqb, List, [], ◌∷◌, ◌++◌, length, Result, Ok, Err, refl, sym, ap, subst, ◌∙◌, arith, IfOk, IfErr, w32, eqb-true, append-nil, length-append, Axis, Format, One, Two, BlobMetadata, IsMetadata, number_text, metadata_text, body_text, IsBytes, IsBytes-drop, length-body_text, FrameError, BadKind, Frame, Metadata, Sliver, Opening, Proof, Read, Symbol, Ack, Attest, Forget, Answer, Clash, RegisterEntry, AckEntry, AttestEntry, IsFrame, metadata_kind, target_text, sliver_frame, frame_text, frame_shown, Gives, IsPlaceBelow, metadata_at, metadata2_at, sliver_at, opened_at, proof_at, name_at, symbol_at, answer_at, clash_at, register_at, entry_at, made, target_with, request_at, fields_at, ended, read_of}
+use Rattle.wal_frame.proofs.Common.{◌≡◌, ℕ, ◌+◌, Bool, true, false, cond, eqb, List, [], ◌∷◌, ◌++◌, length, Result, Ok, Err, refl, arith, IfOk, IfErr, w32, eqb-true, append-nil, length-append, Axis, Format, One, Two, BlobMetadata, IsMetadata, number_text, metadata_text, body_text, IsBytes, IsBytes-drop, length-body_text, FrameError, BadKind, Frame, Metadata, Sliver, Opening, Proof, Read, Symbol, Ack, Attest, Forget, Answer, Clash, RegisterEntry, AckEntry, AttestEntry, IsFrame, metadata_kind, target_text, sliver_frame, frame_text, frame_shown, Gives, IsPlaceBelow, metadata_at, metadata2_at, sliver_at, opened_at, proof_at, name_at, symbol_at, answer_at, clash_at, register_at, entry_at, made, target_with, request_at, fields_at, ended, read_of}
 use Rattle.wal_shape.specs.declared.opening.Opening as single
 use Rattle.wal_frame.specs.declared.frame.FrameRef.{FrameRef}
 use Rattle.wal_frame.proofs.FieldLaws.{ended_ok, target, length-target}
@@ -40,14 +40,14 @@ read_behind (AttestEntry shard id) rest h =
 
 -- what is spelled so is read
 pub read_again : (x : Frame) → IsFrame x → read_of (frame_text x) ≡ Ok x
-read_again x h = ap read_of (sym (append-nil (frame_text x))) ∙ read_behind x [] h
+read_again x h = rw append-nil at (read_behind x [] h)
 
 -- ---- what is read is spelled
 
 module _ (kind : ℕ) (bytes : List ℕ) where
   kind_on : (b : Bool) (k : ℕ) → eqb kind k ≡ b → (mine others : Result Frame FrameError) → Outcome (k ∷ bytes) mine
       → Outcome (kind ∷ bytes) others → Outcome (kind ∷ bytes) (cond b mine others)
-  kind_on true k e mine others is other = subst (λ (n : ℕ). Outcome (n ∷ bytes) mine) (sym (eqb-true kind k e)) is
+  kind_on true k e mine others is other = rw (eqb-true kind k e) is
   kind_on false k e mine others is other = other
 
   -- the bytes of this kind, or of another
@@ -88,7 +88,7 @@ outcome (kind ∷ bytes) = fields_are kind bytes
 
 -- whatever numbers stand for the bytes
 pub frame_is : (bytes : List ℕ) (x : Frame) → read_of bytes ≡ Ok x → IsRead bytes x
-frame_is bytes x e = subst (Outcome bytes) e (outcome bytes)
+frame_is bytes x e = rw e at (outcome bytes)
 
 -- what is read of bytes is in the ranges, and spelled so
 pub read_is : (bytes : List ℕ) (x : Frame) → IsBytes bytes → read_of bytes ≡ Ok x → IsFrame x × (bytes ≡ frame_text x)
@@ -96,7 +96,7 @@ read_is bytes x fits e = let is = frame_is bytes x e in (is.fits, is.spelled (Is
 
 -- no spelling begins another
 pub no_other : (x y : Frame) (rest : List ℕ) → IsFrame x → IsFrame y → frame_text x ≡ frame_text y ++ rest → (y ≡ x) × (rest ≡ [])
-no_other x y rest first second same = ended_ok y rest x (sym (read_behind y rest second) ∙ ap read_of (sym same) ∙ read_again x first)
+no_other x y rest first second same = ended_ok y rest x (cc (read_behind y rest second, read_again x first))
 
 -- ---- lengths
 
@@ -111,23 +111,15 @@ length-opening_frame id axis index o size =
 
 -- ---- what a reader returned
 
-pub frame_found : (bytes : List ℕ) (r : Result FrameRef FrameError) → IsBytes bytes → Gives frame_shown r (read_of bytes) → IfOk r (λ frame. IsFrame (frame_shown frame))
-frame_found bytes (Ok frame) fits e = (read_is bytes (frame_shown frame) fits e).0
-frame_found bytes (Err d) fits e = tt
-
-pub frame_spelled : (bytes : List ℕ) (r : Result FrameRef FrameError) → IsBytes bytes → Gives frame_shown r (read_of bytes) → IfOk r (λ frame. bytes ≡ frame_text (frame_shown frame))
-frame_spelled bytes (Ok frame) fits e = (read_is bytes (frame_shown frame) fits e).1
-frame_spelled bytes (Err d) fits e = tt
-
-pub frame_alone : (bytes : List ℕ) (r : Result FrameRef FrameError) → IsBytes bytes → Gives frame_shown r (read_of bytes)
-    → IfOk r (λ frame. (x : Frame) (rest : List ℕ) → IsFrame x → bytes ≡ frame_text x ++ rest → (x ≡ frame_shown frame) × (rest ≡ []))
-frame_alone bytes (Ok frame) fits e = λ x rest h same.
-    let is = read_is bytes (frame_shown frame) fits e in
-    no_other (frame_shown frame) x rest is.0 h (sym is.1 ∙ same)
-frame_alone bytes (Err d) fits e = tt
+-- what holds of each frame that the bytes may be read as holds of the one that is returned
+pub frame_found : (bytes : List ℕ) (r : Result FrameRef FrameError) (P : FrameRef → Type 0)
+    → ((frame : FrameRef) → read_of bytes ≡ Ok (frame_shown frame) → P frame) → Gives frame_shown r (read_of bytes)
+    → IfOk r P
+frame_found bytes (Ok frame) P of e = of frame e
+frame_found bytes (Err d) P of e = tt
 
 -- the place of a bad field is that of one of the bytes
 pub frame_place : (bytes : List ℕ) (r : Result FrameRef FrameError) → Gives frame_shown r (read_of bytes)
     → IfErr r (IsPlaceBelow (length bytes))
 frame_place bytes (Ok frame) h = tt
-frame_place bytes (Err e) h = subst (Outcome bytes) h (outcome bytes)
+frame_place bytes (Err e) h = rw h at (outcome bytes)

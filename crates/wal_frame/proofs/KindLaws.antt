@@ -1,5 +1,6 @@
 -- Each kind of frame that is read is spelled so, and a fault lies among the bytes.
-use Rattle.wal_frame.proofs.Common.{◌≡◌, ℕ, zero, suc, ◌+◌, ◌-◌, ◌*◌, ◌<◌, ◌≤◌, Bool, true, false, cond, eqb, List, [], ◌∷◌, ◌++◌, length, get_or, take, drop, Some, Result, Ok, Err, refl, sym, ap, subst, ◌∙◌, append_assoc, arith, w8, w16, w32, w64, from_be_bytes, AllByRecursion, flat_map, eqb-true, eqb-false, ne_eqb, append-nil, length-append, length-drop, drop_at, Axis, Primary, Secondary, BodyFault, Format, One, Two, BlobMetadata, IsMetadata, held_order, IsBody, EncodingProof, IsProof, ◌>>=◌, number_text, axis_number, pairs_text, format_text, metadata_text, body_text, proof_text, text_size, spelled_f, spelled_length, spelled_metadata, spelled_format, behind_format, body_at, openings_in, IsBytes, wide8, wide16, wide32, wide64, ok_is, taken_of, Reading, goes, fails, Codec, checked, both, seen, named, named_is, bind_ok, guard_ok, text_behind, metadata_text-format, length-behind, format_again, behind_again, size_by, spelled_metadata-format, spelled_metadata-f, spelled_metadata-text, IsMetadata-spelled, metadata_text-spelled, length-metadata_text, Target, FrameError, BadField, Frame, Metadata, Sliver, Opening, Proof, Symbol, Answer, Clash, RegisterEntry, IsId, IsTarget, IsFrame, metadata_kind, target_text, frame_text, IsPlaceBelow, field_at, bytes_at, from_place, target_at, opening_at, faults_at, roots_at, metadata_at, version_at, metadata2_at, sliver_at, opened_at, bodies_at, proof_with, proof_at, name_at, symbol_at, answer_at, clash_at, register_at, entry_at, made, ended}
+use Rattle.wal_frame.proofs.Common.{◌≡◌, ℕ, zero, suc, ◌+◌, ◌-◌, ◌*◌, ◌<◌, ◌≤◌, Bool, true, false, cond, eqb, List, [], ◌∷◌, ◌++◌, length, get_or, take, drop, Some, Result, Ok, Err, refl, sym, ap, ◌∙◌, append_assoc, arith, w8, w16, w64, from_be_bytes, AllByRecursion, flat_map, eqb-true, eqb-false, ne_eqb, append-nil, length-append, length-drop, drop_at, Axis, Primary, Secondary, BodyFault, Format, One, Two, BlobMetadata, IsMetadata, held_order, IsBody, EncodingProof, IsProof, ◌>>=◌, number_text, axis_number, pairs_text, format_text, text_size, metadata_text, body_text, proof_text, spelled_f, spelled_length, spelled_metadata, body_at, openings_in, IsBytes, wide8, wide16, wide32, wide64, ok_is, taken_of, Reading, goes, fails, Codec, checked, both, seen, named, named_is, bind_ok, guard_ok, text_behind, metadata_text-format, length-behind, format_again, behind_again, size_by, spelled_metadata-format, spelled_metadata-f, spelled_metadata-text, IsMetadata-spelled, metadata_text-spelled, length-metadata_text, Target, FrameError, BadField, Frame, Metadata, Sliver, Opening, Proof, Symbol, Answer, Clash, RegisterEntry, IsId, IsTarget, IsFrame, metadata_kind, target_text, frame_text, IsPlaceBelow, field_at, bytes_at, from_place, target_at, opening_at, faults_at, roots_at, metadata_at, version_at, metadata2_at, sliver_at, opened_at, bodies_at, proof_with, proof_at, name_at, symbol_at, answer_at, clash_at, register_at, entry_at, made, ended}
+use Rattle.std.proofs.Common.{ap₂}
 use Rattle.wal_shape.specs.declared.opening.Opening as single
 use Rattle.wal_shape.specs.Shape.{most_bytes, shard_count}
 use Rattle.wal_shape.specs.inside.MetadataReading.{SpellMetadata, AreNumbersAndRoots}
@@ -28,22 +29,19 @@ ending frame x = ended (frame x.0) x.1
 abbrev Spells : {A : Type 0} → ℕ → (A → Frame) → (A → Type 0) → (A → List ℕ) → Type 0
 Spells {A = A} kind frame Fits text = (x : A) → Fits x → IsFrame (frame x) × (kind ∷ text x ≡ frame_text (frame x))
 
-err_is : {A : Type 0} (d e : FrameError) → ◌≡◌ {A = Result A FrameError} (Err d) (Err e) → d ≡ e
-err_is d e h = cc
-
 outcome_of : {A : Type 0} {Fits : A → Type 0} {text : A → List ℕ} {start : ℕ} (kind : ℕ) (frame : A → Frame)
     → Spells kind frame Fits text → start ≤ 1 → (bytes : List ℕ) (r : Result Frame FrameError)
     → Reading IsPlaceBelow Fits text start (ending frame) bytes r → Outcome (kind ∷ bytes) r
 outcome_of kind frame spells first bytes r (goes (x, []) fits taken same) =
-    subst (Outcome (kind ∷ bytes)) (sym same) (record {
+    rw same (record {
       fits = (spells x fits).0;
       size = omega (arith, taken.size, ap length (spells x fits).1);
       spelled = λ all. ap (λ (t : List ℕ). kind ∷ t) (taken.parts all ∙ append-nil _) ∙ (spells x fits).1;
     })
 outcome_of kind frame spells first bytes r (goes (x, b ∷ rest) fits taken same) =
-    subst (Outcome (kind ∷ bytes)) (sym (same ∙ ended_not (frame x) b rest)) tt
+    rw (same, ended_not (frame x) b rest) tt
 outcome_of kind frame spells first bytes r (fails e below same) =
-    subst (Outcome (kind ∷ bytes)) (sym same) (below (suc (length bytes)) (omega (arith, first)))
+    rw same (below (suc (length bytes)) (omega (arith, first)))
 
 module _ {A : Type 0} (c : Codec IsPlaceBelow A) (kind : ℕ) (frame : A → Frame) where
   -- a frame of these parts
@@ -54,13 +52,13 @@ module _ {A : Type 0} (c : Codec IsPlaceBelow A) (kind : ℕ) (frame : A → Fra
 
 made_ended : {X : Type 0} (frame : X → Frame) (x : X) (rest : List ℕ) → made frame (ended x rest) ≡ ended (frame x) rest
 made_ended frame x [] = refl
-made_ended frame x (b ∷ rest) = ap (made frame) (ended_not x b rest) ∙ sym (ended_not (frame x) b rest)
+made_ended frame x (b ∷ rest) = rw (ended_not x b rest, ended_not (frame x) b rest)
 
 module _ {A X : Type 0} (c : Codec IsPlaceBelow A) (parts : A → X) (frame : X → Frame) where
   made_of : (bytes : List ℕ) (r : Result X FrameError)
       → Reading IsPlaceBelow c.Fits c.text c.start (ending parts) bytes r
       → Reading IsPlaceBelow c.Fits c.text c.start (ending (λ x. frame (parts x))) bytes (made frame r)
-  made_of bytes r (goes x fits taken same) = goes x fits taken (ap (made frame) same ∙ made_ended frame (parts x.0) x.1)
+  made_of bytes r (goes x fits taken same) = goes x fits taken (rw same (made_ended frame (parts x.0) x.1))
   made_of bytes r (fails e below same) = fails e below (ap (made frame) same)
 
   -- a frame that is made of what such parts are
@@ -72,7 +70,7 @@ module _ {A X : Type 0} (c : Codec IsPlaceBelow A) (parts : A → X) (frame : X 
 
   pub made_again : (x : A) (rest : List ℕ) → c.Fits x
       → made frame (c.read X (c.text x ++ rest) (ending parts)) ≡ ended (frame (parts x)) rest
-  made_again x rest h = ap (made frame) (c.again X (ending parts) x rest h) ∙ made_ended frame (parts x) rest
+  made_again x rest h = rw (c.again X (ending parts) x rest h) (made_ended frame (parts x) rest)
 
 -- ---- slivers, openings and symbols
 
@@ -92,7 +90,7 @@ sliver_is =
         index_most = fits.0.0.index_most;
         size_most = omega (arith, fits.1, fits.0.1);
       },
-      ap (λ (k : ℕ). 0x11 ∷ (text_of_target x.0.0 ++ number_text w32 k ++ x.1)) (sym fits.1),
+      rw fits.1,
     )) (omega arith)
 
 abbrev pub opened : Codec IsPlaceBelow (Target × single.Opening)
@@ -118,18 +116,17 @@ abbrev pub after_one : ℕ → ℕ → single.Opening × List ℕ → Result (Li
 after_one n place body = bodies_at n (place + length (body_text body.0)) body.1
 
 from_place_ok : {A : Type 0} (place : ℕ) (r : Result A BodyFault) (x : A) → from_place place r ≡ Ok x → r ≡ Ok x
-from_place_ok {A = A} place (Ok y) x e = ap (λ (z : A). Ok z) (ok_is y x e)
+from_place_ok place (Ok y) x e = cc
 from_place_ok place (Err d) x e = absurd cc
 
 -- where the bodies can be read, they end
 bodies_are : (n place : ℕ) (bytes rest : List ℕ) → bodies_at n place bytes ≡ Ok rest → bodies_end n bytes ≡ Some rest
 unfolding bodies_at bodies_end
-bodies_are zero place bytes rest e = ap (λ (b : List ℕ). Some b) (ok_is bytes rest e)
+bodies_are zero place bytes rest e = cc
 bodies_are (suc n) place bytes rest e =
     let body = bind_ok (opening_at place bytes) (after_one n place) rest e in
     let first = from_place_ok place (body_at bytes) body.0 body.1 in
-    ap (λ (r : Result (single.Opening × List ℕ) BodyFault). behind r (bodies_end n)) first
-    ∙ bodies_are n (place + length (body_text body.0.0)) body.0.1 rest body.2
+    rw first (bodies_are n (place + length (body_text body.0.0)) body.0.1 rest body.2)
 
 bodies_fault : (n place : ℕ) (bytes : List ℕ) (e : FrameError) → bodies_at n place bytes ≡ Err e → (most : ℕ)
     → place + length bytes ≤ most → IsPlaceBelow most e
@@ -142,20 +139,16 @@ bodies_fault (suc n) place bytes e h most le =
         → ((x : single.Opening × List ℕ) → after_one n place x ≡ Err e → place + length (body_text x.0) + length x.1 ≤ most
         → IsPlaceBelow most e) → IsPlaceBelow most e
     by (goes x fits taken same) others =
-        others x (ap (λ (r : Result (single.Opening × List ℕ) FrameError). r >>= after_one n place) (sym same) ∙ h)
-        (omega (arith, le, taken.size))
-    by (fails d below same) others =
-        let is : d ≡ e = err_is {A = List ℕ} d e
-        (ap (λ (r : Result (single.Opening × List ℕ) FrameError). r >>= after_one n place) (sym same) ∙ h) in
-        subst (IsPlaceBelow most) is (below most le)
+        others x (rw same at h) (omega (arith, le, taken.size))
+    by (fails d below same) others = let is : d ≡ e = cc (rw same at h) in rw (← is) (below most le)
 
 bodies_again : (os : List single.Opening) (place : ℕ) (rest : List ℕ) → AllByRecursion IsBody os → bodies_at (length os) place (flat_map body_text os ++ rest) ≡ Ok rest
 unfolding bodies_at
 bodies_again [] place rest fits = refl
 bodies_again (o ∷ os) place rest fits =
-    ap (bodies_at (suc (length os)) place) (regroup_bodies o os rest)
-    ∙ (opening place).again (List ℕ) (after_one (length os) place) o (flat_map body_text os ++ rest) fits.0
-    ∙ bodies_again os (place + length (body_text o)) rest fits.1
+    rw (regroup_bodies o os rest)
+    ((opening place).again (List ℕ) (after_one (length os) place) o (flat_map body_text os ++ rest) fits.0
+    ∙ bodies_again os (place + length (body_text o)) rest fits.1)
 
 abbrev pub AreBodies : ℕ → List single.Opening → Type 0
 AreBodies n os = (length os ≡ n) × AllByRecursion IsBody os
@@ -176,11 +169,7 @@ module _ (n place : ℕ) {C : Type 0} (others : List single.Opening × List ℕ 
       → (bodies_at n place (flat_map body_text os ++ rest) >>= after_all (flat_map body_text os ++ rest))
       ≡ others (os, rest)
   openings_again os rest h =
-      let bytes = flat_map body_text os ++ rest in
-      ap (λ (k : ℕ). bodies_at k place bytes >>= (λ r. others (openings_in k bytes, r))) (sym h.0)
-      ∙ ap (λ (r : Result (List ℕ) FrameError). r >>= (λ t. others (openings_in (length os) bytes, t)))
-      (bodies_again os place rest h.1)
-      ∙ ap (λ (q : List single.Opening). others (q, rest)) (openings_in-again os rest h.1)
+      rw (← h.0, bodies_again os place rest h.1, openings_in-again os rest h.1)
 
 -- n bodies, of which the first begins at this place
 abbrev pub openings : ℕ → ℕ → Codec IsPlaceBelow (List single.Opening)
@@ -195,24 +184,14 @@ openings n place = record {
 
 -- ---- a loop over bodies
 
-pub bodies_next : (count i place : ℕ) (bytes : List ℕ) (x : single.Opening × List ℕ) → i < count → opening_at place bytes ≡ Ok x
-    → bodies_at (count - i) place bytes ≡ bodies_at (count - (i + 1)) (place + length (body_text x.0)) x.1
+pub bodies_next : (count i place : ℕ) (bytes : List ℕ) (r : Result (single.Opening × List ℕ) FrameError) → i < count
+    → opening_at place bytes ≡ r → bodies_at (count - i) place bytes ≡ (r >>= after_one (count - (i + 1)) place)
 unfolding bodies_at
-bodies_next count i place bytes x lt e =
-    let k : count - i ≡ suc (count - (i + 1)) = omega arith in
-    ap (λ (n : ℕ). bodies_at n place bytes) k ∙ ap (λ (r : Result (single.Opening × List ℕ) FrameError). r >>= after_one (count - (i + 1)) place) e
-
-pub bodies_stop : (count i place : ℕ) (bytes : List ℕ) (fault : FrameError) → i < count → opening_at place bytes ≡ Err fault → bodies_at (count - i) place bytes ≡ Err fault
-unfolding bodies_at
-bodies_stop count i place bytes fault lt e =
-    let k : count - i ≡ suc (count - (i + 1)) = omega arith in
-    ap (λ (n : ℕ). bodies_at n place bytes) k ∙ ap (λ (r : Result (single.Opening × List ℕ) FrameError). r >>= after_one (count - (i + 1)) place) e
+bodies_next count i place bytes r lt e = let k : count - i ≡ suc (count - (i + 1)) = omega arith in rw (k, e)
 
 pub bodies_done : (count i place : ℕ) (bytes : List ℕ) → count ≤ i → bodies_at (count - i) place bytes ≡ Ok bytes
 unfolding bodies_at
-bodies_done count i place bytes le =
-    let k : count - i ≡ 0 = omega arith in
-    ap (λ (n : ℕ). bodies_at n place bytes) k
+bodies_done count i place bytes le = let k : count - i ≡ 0 = omega arith in rw k
 
 -- ---- the whole of a proof
 
@@ -224,14 +203,7 @@ proof_parts : (id : List ℕ) (p : EncodingProof)
     → target_text id p.axis p.index ++ number_text w16 (length p.openings) ++ flat_map body_text p.openings
     ≡ id ++ proof_text p
 unfolding proof_text
-proof_parts id p =
-    let a = byte_of (axis_number p.axis) in
-    let i = number_text w16 p.index in
-    let c = number_text w16 (length p.openings) in
-    let b = flat_map body_text p.openings in
-    ap (λ (t : List ℕ). t ++ b) (ap (λ (t : List ℕ). t ++ c) (append_assoc id a i) ∙ append_assoc id (a ++ i) c)
-    ∙ append_assoc id (a ++ i ++ c) b
-    ∙ ap (λ (t : List ℕ). id ++ (t ++ i ++ c ++ b)) (sym (axis_text p.axis))
+proof_parts id p = rw (← axis_text p.axis) (simp append_assoc)
 
 abbrev pub proof : Codec IsPlaceBelow ((Target × ℕ) × List single.Opening)
 proof =
@@ -253,8 +225,7 @@ proof_is =
           bodies = fits.1.1;
         },
       ),
-      ap (λ (k : ℕ). 0x13 ∷ (text_of_target x.0.0 ++ number_text w16 k ++ flat_map body_text x.1)) (sym fits.1.0)
-          ∙ ap (λ (t : List ℕ). 0x13 ∷ t) (proof_parts x.0.0.id.0 (proof_with x.0.0.axis x.0.0.index x.1)),
+      rw (← fits.1.0) (ap (λ (t : List ℕ). 0x13 ∷ t) (proof_parts x.0.0.id.0 (proof_with x.0.0.axis x.0.0.index x.1))),
     )) (omega arith)
 
 abbrev pub proof_of_target : Target → ℕ → List ℕ → EncodingProof
@@ -263,15 +234,14 @@ proof_of_target t count bytes = proof_with t.axis t.index (openings_in count byt
 pub proof_found : (bytes : List ℕ) (t : Target) (numbers : List ℕ) (count : ℕ) (bodies end : List ℕ) → target_at bytes ≡ Ok (t, numbers)
     → field_at w16 36 1000 numbers ≡ Ok (count, bodies) → bodies_at count 38 bodies ≡ Ok end → end ≡ [] → proof_at bytes ≡ Ok (Proof t.id.0 (proof_of_target t count bodies))
 unfolding proof_at
-proof_found bytes t numbers count bodies end e1 e2 e3 none = rw (e1, e2, e3, none) refl
+proof_found bytes t numbers count bodies end e1 e2 e3 none = rw (e1, e2, e3, none)
 
 -- what is read as a proof is one, and spelled behind the identifier
 pub proof_read : (bytes : List ℕ) (t : Target) (numbers : List ℕ) (count : ℕ) (bodies end : List ℕ) → IsBytes bytes → target_at bytes ≡ Ok (t, numbers)
     → field_at w16 36 1000 numbers ≡ Ok (count, bodies) → bodies_at count 38 bodies ≡ Ok end → end ≡ []
     → IsProof (proof_of_target t count bodies) × (proof_text (proof_of_target t count bodies) ≡ drop 32 bytes)
 proof_read bytes t numbers count bodies end fits e1 e2 e3 none =
-    let is = subst (Outcome (0x13 ∷ bytes)) (proof_found bytes t numbers count bodies end e1 e2 e3 none)
-    (proof_is bytes) in
+    let is = rw (proof_found bytes t numbers count bodies end e1 e2 e3 none) at (proof_is bytes) in
     let p = proof_of_target t count bodies in
     (is.fits.1, sym (ap (drop 33) (is.spelled fits) ∙ drop_at t.id.0 (proof_text p) 32 is.fits.0))
 
@@ -281,9 +251,9 @@ pub proof_behind : (t : Target) (os : List single.Opening) (rest : List ℕ) →
     ≡ ended (proof_of ((t, length os), os)) rest
 unfolding proof_at
 proof_behind t os rest size h =
-    ap (λ (b : List ℕ). proof_at (b ++ rest)) (sym (proof_parts t.id.0 (proof_with t.axis t.index os)))
-    ∙ proof.again Frame (ending proof_of) ((t, length os), os) rest
-    ((record { id_size = size; index_most = h.index }, h.count), (refl, h.bodies))
+    rw (← proof_parts t.id.0 (proof_with t.axis t.index os))
+    (proof.again Frame (ending proof_of) ((t, length os), os) rest
+    ((record { id_size = size; index_most = h.index }, h.count), (refl, h.bodies)))
 
 -- ---- identifiers, answers, texts and entries
 
@@ -384,10 +354,6 @@ abbrev roots : ℕ → Codec IsPlaceBelow ((ℕ × ℕ) × List ℕ)
 roots place = both (both (faults place) (λ f. number wide64 (place + 2) most_bytes (omega arith)) (λ f h. omega arith))
     (λ x. run (64 * shard_count x.0) 0) (λ x fits. omega arith)
 
-roots_read : (place : ℕ) (bytes : List ℕ) → roots_at place bytes ≡ (roots place).read (List ℕ) bytes (λ x. Ok x.1)
-unfolding roots_at
-roots_read place bytes = refl
-
 -- numbers and roots behind which nothing follows, whatever numbers stand for the bytes
 roots_are : (place : ℕ) (bytes : List ℕ) → roots_at place bytes ≡ Ok []
     → AreNumbersAndRoots bytes × (spelled_f bytes < 512)
@@ -423,47 +389,36 @@ roots_are place bytes e =
     rw (first.2, size-is) (((positive, first.1, second.1), long), small)
 
 -- the metadata that stands behind its format
-metadata_read : (format : Format) (bytes behind : List ℕ) → bytes ≡ format_text format ++ behind
-    → AreNumbersAndRoots behind × (spelled_f behind < 512)
-    → IsRead (metadata_kind format ∷ bytes) (Metadata (spelled_metadata bytes))
-metadata_read format bytes behind is roots =
-    let at : behind_format bytes ≡ behind = ap behind_format is ∙ behind_again format behind roots.1 in
-    let spell : SpellMetadata bytes = subst AreNumbersAndRoots (sym at) roots.0 in
-    let m = spelled_metadata bytes in
+metadata_read : (format : Format) (behind : List ℕ) → AreNumbersAndRoots behind × (spelled_f behind < 512)
+    → IsRead (metadata_kind format ∷ (format_text format ++ behind))
+    (Metadata (spelled_metadata (format_text format ++ behind)))
+metadata_read format behind roots =
+    let bytes = format_text format ++ behind in
+    let at = behind_again format behind roots.1 in
+    let spell : SpellMetadata bytes = rw at roots.0 in
     let fit = IsMetadata-spelled bytes spell in
-    let format-is : m.format ≡ format = spelled_metadata-format bytes ∙ ap spelled_format is
-    ∙ format_again format behind roots.1 in
-    let f-is : m.f ≡ spelled_f behind = spelled_metadata-f bytes ∙ ap spelled_f at in
-    let size : length bytes ≡ length (metadata_text m) =
-    ap length is ∙ size_by format (spelled_f behind) behind roots.0.1
-    ∙ sym (length-metadata_text m fit ∙ ap (λ (k : Format). text_size k m.f) format-is
-    ∙ ap (text_size format) f-is) in
+    let format-is = spelled_metadata-format bytes ∙ format_again format behind roots.1 in
+    let f-is = rw at at (spelled_metadata-f bytes) in
+    let sizes = ap₂ text_size format-is f-is in
     record {
       fits = fit;
-      size = ap suc size;
-      spelled = λ all. ap (λ (k : Format). metadata_kind k ∷ bytes) (sym format-is)
-          ∙ ap (λ (t : List ℕ). metadata_kind m.format ∷ t) (sym (metadata_text-spelled bytes all spell));
+      size = ap suc (size_by format (spelled_f behind) behind roots.0.1 ∙ sym (length-metadata_text _ fit ∙ sizes));
+      spelled = λ all. rw (metadata_text-spelled bytes all spell, format-is);
     }
 
 abbrev after_roots : List ℕ → List ℕ → Result Frame FrameError
 after_roots bytes rest = ended (Metadata (spelled_metadata bytes)) rest
 
-metadata_by : (format : Format) (bytes behind : List ℕ) (place : ℕ) → bytes ≡ format_text format ++ behind
-    → place + length behind ≤ 1 + length bytes
+metadata_by : (format : Format) (behind : List ℕ) (place : ℕ) → place ≤ 1 + length (format_text format)
     → Reading IsPlaceBelow (roots place).Fits (roots place).text place (λ x. Ok x.1) behind (roots_at place behind)
-    → Outcome (metadata_kind format ∷ bytes) (roots_at place behind >>= after_roots bytes)
-metadata_by format bytes behind place is long (goes (x, []) fits taken same) =
-    subst (Outcome (metadata_kind format ∷ bytes))
-    (sym (ap (λ (r : Result (List ℕ) FrameError). r >>= after_roots bytes) same))
-    (metadata_read format bytes behind is (roots_are place behind same))
-metadata_by format bytes behind place is long (goes (x, b ∷ rest) fits taken same) =
-    subst (Outcome (metadata_kind format ∷ bytes))
-    (sym (ap (λ (r : Result (List ℕ) FrameError). r >>= after_roots bytes) same
-    ∙ ended_not (Metadata (spelled_metadata bytes)) b rest)) tt
-metadata_by format bytes behind place is long (fails e below same) =
-    subst (Outcome (metadata_kind format ∷ bytes))
-    (sym (ap (λ (r : Result (List ℕ) FrameError). r >>= after_roots bytes) same))
-    (below (suc (length bytes)) (omega (arith, long)))
+    → Outcome (metadata_kind format ∷ (format_text format ++ behind))
+    (roots_at place behind >>= after_roots (format_text format ++ behind))
+metadata_by format behind place low (goes (x, []) fits taken same) =
+    rw same (metadata_read format behind (roots_are place behind same))
+metadata_by format behind place low (goes (x, b ∷ rest) fits taken same) =
+    rw (same, ended_not (Metadata (spelled_metadata (format_text format ++ behind))) b rest) tt
+metadata_by format behind place low (fails e below same) =
+    rw same (below _ (omega (arith, low, length-append (format_text format) behind)))
 
 roots_reading : (place : ℕ) (bytes : List ℕ)
     → Reading IsPlaceBelow (roots place).Fits (roots place).text place (λ x. Ok x.1) bytes (roots_at place bytes)
@@ -472,13 +427,10 @@ roots_reading place bytes = (roots place).is (List ℕ) bytes (λ x. Ok x.1)
 
 pub metadata_is : (bytes : List ℕ) → Outcome (0x10 ∷ bytes) (metadata_at bytes)
 unfolding metadata_at
-metadata_is bytes = metadata_by One bytes bytes 1 refl (omega arith) (roots_reading 1 bytes)
+metadata_is bytes = metadata_by One bytes 1 (omega arith) (roots_reading 1 bytes)
 
 one_format : (format k : Format) → metadata_kind format ≡ metadata_kind k → format ≡ k
-one_format One One e = refl
-one_format Two Two e = refl
-one_format One Two e = absurd (omega (arith, e))
-one_format Two One e = absurd (omega (arith, e))
+one_format format k e = grind arith
 
 -- a metadata that was read
 pub metadata_found : (format : Format) (bytes : List ℕ) (m : BlobMetadata) → IsBytes bytes
@@ -489,7 +441,7 @@ metadata_found format bytes m fits is =
     (is.fits, sym (ap (drop 1) spelled), sym (one_format format m.format (ap (λ (t : List ℕ). get_or t 0 0) spelled)))
 
 version_ok : (b : Bool) (version x : ℕ × List ℕ) → cond b (Ok version) (Err (BadField 1)) ≡ Ok x → (b ≡ true) × (version ≡ x)
-version_ok true version x e = (refl, ok_is version x e)
+version_ok true version x e = (refl, cc)
 version_ok false version x e = absurd cc
 
 version_read : (bytes : List ℕ) (v : ℕ × List ℕ) → version_at bytes ≡ Ok v → bytes ≡ 2 ∷ v.1
@@ -503,7 +455,7 @@ version_read bytes v e =
     by : (b : List ℕ) → 1 ≤ length b → from_be_bytes w8 (take 1 b) ≡ 2 → drop 1 b ≡ v.1 → b ≡ 2 ∷ v.1
     by [] long value rest = absurd (omega arith)
     by (first ∷ b) long value rest =
-        (let one : first ≡ 2 = omega arith in ap (λ (k : ℕ). k ∷ b) one ∙ ap (λ (r : List ℕ). 2 ∷ r) rest)
+        let one : first ≡ 2 = omega arith in rw (one, rest)
 
 abbrev after_version : List ℕ → ℕ × List ℕ → Result Frame FrameError
 after_version bytes version = roots_at 2 version.1 >>= after_roots bytes
@@ -512,24 +464,20 @@ metadata2_by : (bytes : List ℕ) (r : Result (ℕ × List ℕ) FrameError) → 
     → Reading IsPlaceBelow (λ v. v ≡ 2) byte_of 1 (λ x. Ok x) bytes r
     → Outcome (0x14 ∷ bytes) (r >>= after_version bytes)
 metadata2_by bytes r e (goes x fits taken same) =
-    let is = version_read bytes x (e ∙ same) in
-    subst (λ (q : Result (ℕ × List ℕ) FrameError). Outcome (0x14 ∷ bytes) (q >>= after_version bytes)) (sym same)
-    (metadata_by Two bytes x.1 2 is (omega (arith, ap length is)) (roots_reading 2 x.1))
-metadata2_by bytes r e (fails d below same) =
-    subst (λ (q : Result (ℕ × List ℕ) FrameError). Outcome (0x14 ∷ bytes) (q >>= after_version bytes)) (sym same)
-    (below (suc (length bytes)) (omega arith))
+    rw (same, version_read bytes x (e ∙ same)) (metadata_by Two x.1 2 (omega arith) (roots_reading 2 x.1))
+metadata2_by bytes r e (fails d below same) = rw same (below (suc (length bytes)) (omega arith))
 
 pub metadata2_is : (bytes : List ℕ) → Outcome (0x14 ∷ bytes) (metadata2_at bytes)
 unfolding metadata2_at
 metadata2_is bytes = metadata2_by bytes (version_at bytes) refl (named_is version_value version_at version_same bytes)
 
 metadata_end : (m : BlobMetadata) (rest : List ℕ) → IsMetadata m → ended (Metadata (spelled_metadata (metadata_text m ++ rest))) rest ≡ ended (Metadata m) rest
-metadata_end m [] h = ap (λ (t : List ℕ). Ok (Metadata (spelled_metadata t))) (append-nil (metadata_text m)) ∙ ap (λ (k : BlobMetadata). Ok (Metadata k)) (spelled_metadata-text m h)
-metadata_end m (b ∷ rest) h = ended_not (Metadata (spelled_metadata (metadata_text m ++ b ∷ rest))) b rest ∙ sym (ended_not (Metadata m) b rest)
+metadata_end m [] h = rw (append-nil, spelled_metadata-text m h)
+metadata_end m (b ∷ rest) h =
+    rw (ended_not (Metadata (spelled_metadata (metadata_text m ++ b ∷ rest))) b rest, ended_not (Metadata m) b rest)
 
 metadata_parts : (format : Format) (m : BlobMetadata) (rest : List ℕ) → m.format ≡ format → metadata_text m ++ rest ≡ format_text format ++ (text_behind m ++ rest)
-metadata_parts format m rest is =
-    ap (λ (t : List ℕ). t ++ rest) (metadata_text-format m ∙ ap (λ (k : Format). format_text k ++ text_behind m) is) ∙ append_assoc (format_text format) (text_behind m) rest
+metadata_parts format m rest is = rw (metadata_text-format m, is, append_assoc)
 
 roots_again : (place : ℕ) (m : BlobMetadata) (rest : List ℕ) → IsMetadata m → roots_at place (text_behind m ++ rest) ≡ Ok rest
 unfolding roots_at
@@ -541,16 +489,14 @@ roots_again place m rest h =
 pub metadata_behind : (m : BlobMetadata) (rest : List ℕ) → m.format ≡ One → IsMetadata m → metadata_at (metadata_text m ++ rest) ≡ ended (Metadata m) rest
 unfolding metadata_at
 metadata_behind m rest is h =
-    let bytes = metadata_text m ++ rest in
-    ap (λ (r : Result (List ℕ) FrameError). r >>= after_roots bytes) (ap (roots_at 1) (metadata_parts One m rest is) ∙ roots_again 1 m rest h)
-    ∙ metadata_end m rest h
+    let read : roots_at 1 (metadata_text m ++ rest) ≡ Ok rest =
+    rw (metadata_parts One m rest is) (roots_again 1 m rest h) in
+    rw read (metadata_end m rest h)
 
 pub metadata2_behind : (m : BlobMetadata) (rest : List ℕ) → m.format ≡ Two → IsMetadata m → metadata2_at (metadata_text m ++ rest) ≡ ended (Metadata m) rest
-unfolding metadata2_at version_at
+unfolding metadata2_at
 metadata2_behind m rest is h =
-    let bytes = metadata_text m ++ rest in
-    ap (λ (r : Result (ℕ × List ℕ) FrameError). r >>= after_version bytes)
-    (ap version_at (metadata_parts Two m rest is) ∙ version_value.again (ℕ × List ℕ) (λ x. Ok x) 2
-    (text_behind m ++ rest) refl)
-    ∙ ap (λ (r : Result (List ℕ) FrameError). r >>= after_roots bytes) (roots_again 2 m rest h)
-    ∙ metadata_end m rest h
+    let read : version_at (metadata_text m ++ rest) ≡ Ok (2, text_behind m ++ rest) =
+    rw (metadata_parts Two m rest is)
+    (unfold version_at in version_value.again (ℕ × List ℕ) (λ x. Ok x) 2 (text_behind m ++ rest) refl) in
+    rw (read, roots_again 2 m rest h) (metadata_end m rest h)

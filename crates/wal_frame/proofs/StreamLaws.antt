@@ -1,5 +1,5 @@
 -- A stream that is split is the envelopes of its payloads, and what is written as envelopes is split again, whatever follows.
-use Rattle.wal_frame.proofs.Common.{◌≡◌, ℕ, zero, suc, ◌+◌, ◌-◌, ◌^◌, ◌<◌, ◌≤◌, ◌⊎◌, inl, inr, Bool, true, false, cond, ltb, eqb, List, [], ◌∷◌, ◌++◌, length, take, drop, Option, Some, None, Result, Ok, Err, refl, sym, ap, subst, ◌∙◌, append_assoc, arith, slice_index, replicate, IfOk, IfErr, w16, w32, from_be_bytes, AllByRecursion, flat_map, cases_lt, ltb-false, le-ltb, eqb-true, eqb-false, take_at, drop_at, take-append-drop, length-append, length-take, length-drop, length-replicate, drop-drop, append-nil, nil_from_length, number_text, IsBytes, IsBytes-drop, IsBytes-take, wide16, wide32, envelope, IsPayload, size_in, payload_at, envelope_at, behind, front_of, payloads_in, stream_of, IsStream, IsMalformed, IfMalformed, Splits}
+use Rattle.wal_frame.proofs.Common.{◌≡◌, ℕ, zero, suc, ◌+◌, ◌-◌, ◌^◌, ◌<◌, ◌≤◌, ◌⊎◌, inl, inr, Bool, true, false, cond, ltb, eqb, List, [], ◌∷◌, ◌++◌, length, take, drop, Option, Some, None, Result, Ok, Err, refl, sym, ap, ◌∙◌, append_assoc, arith, slice_index, IfOk, IfErr, w16, w32, from_be_bytes, AllByRecursion, flat_map, ltb-false, le-ltb, eqb-true, eqb-false, take_at, drop_at, take-append-drop, length-append, length-take, length-drop, drop-drop, append-nil, nil_from_length, number_text, IsBytes, IsBytes-drop, IsBytes-take, wide16, wide32, envelope, IsPayload, size_in, payload_at, envelope_at, behind, front_of, payloads_in, stream_of, IsStream, IsMalformed, IfMalformed, Splits}
 use Rattle.std.proofs.lemmas.Nat.{from_be_bytes-to_be_bytes_4}
 use Rattle.std.proofs.lemmas.List.Concat.{flat_map-cons}
 use Rattle.wal_frame.specs.declared.stream.SplitError.{SplitError}
@@ -17,9 +17,6 @@ provided : {A : Type 0} (b : Bool) (r : Option A) (y : A) → cond b r None ≡ 
 provided true r y e = (refl, e)
 provided false r y e = absurd cc
 
-some_is : {A : Type 0} (x y : A) → Some x ≡ Some y → x ≡ y
-some_is x y e = cc
-
 -- an envelope that the bytes begin with
 record Begins (bytes : List ℕ) (e : List ℕ × List ℕ) : Type 0 where
   long : 7 ≤ length bytes
@@ -34,56 +31,44 @@ begins_of bytes e h =
     let a = unless (ltb (length bytes) 7) (cond (eqb (slice_index bytes 0) 0x57) (payload_at (size_in bytes) (drop 7 bytes)) None) e h in
     let b = provided (eqb (slice_index bytes 0) 0x57) (payload_at (size_in bytes) (drop 7 bytes)) e a.1 in
     let c = unless (ltb (length (drop 7 bytes)) (size_in bytes)) (Some (take (size_in bytes) (drop 7 bytes), drop (size_in bytes) (drop 7 bytes))) e b.1 in
-    let same = some_is (take (size_in bytes) (drop 7 bytes), drop (size_in bytes) (drop 7 bytes)) e c.1 in
     record {
       long = ltb-false _ _ a.0;
       first = eqb-true (slice_index bytes 0) 0x57 b.0;
       size = ltb-false _ _ c.0;
-      payload = ap (λ (p : List ℕ × List ℕ). p.0) same;
-      rest = ap (λ (p : List ℕ × List ℕ). p.1) same;
+      payload = cc c.1;
+      rest = cc c.1;
     }
 
 pub shorter : (bytes : List ℕ) (e : List ℕ × List ℕ) → envelope_at bytes ≡ Some e → length bytes ≡ 7 + length e.0 + length e.1
 shorter bytes e h =
     let b = begins_of bytes e h in
-    let n : length (take (size_in bytes) (drop 7 bytes)) ≡ length e.0 = ap length b.payload in
-    let m : length (drop (size_in bytes) (drop 7 bytes)) ≡ length e.1 = ap length b.rest in
-    omega (arith, b.long, b.size, n, m, length-take (size_in bytes) (drop 7 bytes), length-drop (size_in bytes) (drop 7 bytes), length-drop 7 bytes)
+    omega (arith, ap length b.payload, ap length b.rest, length-take {A = ℕ}, length-drop {A = ℕ})
+
+three_parts : {a b : List ℕ} (bytes : List ℕ) → a ≡ take 2 bytes → b ≡ take 4 (drop 2 bytes)
+    → a ++ b ++ drop 6 bytes ≡ bytes
+three_parts bytes p q =
+    rw (p, q, ← drop-drop 4 2 bytes, append_assoc, take-append-drop 4 (drop 2 bytes), take-append-drop 2 bytes)
 
 -- the envelope behind its first byte
 pub head_parts : (bytes : List ℕ) → IsBytes bytes → 6 ≤ length bytes → bytes ≡ number_text w16 (from_be_bytes w16 (take 2 bytes)) ++ number_text w32 (from_be_bytes w32 (take 4 (drop 2 bytes))) ++ drop 6 bytes
 head_parts bytes fits long =
     let rest = drop 2 bytes in
-    let sender-is : number_text w16 (from_be_bytes w16 (take 2 bytes)) ≡ take 2 bytes = wide16.back (take 2 bytes) (omega (arith, length-take 2 bytes)) (IsBytes-take 2 bytes fits) in
-    let size-is : number_text w32 (from_be_bytes w32 (take 4 rest)) ≡ take 4 rest = wide32.back (take 4 rest) (omega (arith, length-take 4 rest, length-drop 2 bytes)) (IsBytes-take 4 rest (IsBytes-drop 2 bytes fits)) in
-    let rest-is : drop 4 rest ≡ drop 6 bytes = drop-drop 4 2 bytes in
-    sym (
-    ap (λ (s : List ℕ). s ++ number_text w32 (from_be_bytes w32 (take 4 rest)) ++ drop 6 bytes) sender-is
-    ∙ ap (λ (s : List ℕ). take 2 bytes ++ s ++ drop 6 bytes) size-is
-    ∙ ap (λ (s : List ℕ). take 2 bytes ++ take 4 rest ++ s) (sym rest-is)
-    ∙ append_assoc (take 2 bytes) (take 4 rest) (drop 4 rest)
-    ∙ ap (λ (s : List ℕ). take 2 bytes ++ s) (take-append-drop 4 rest)
-    ∙ take-append-drop 2 bytes
-    )
+    sym (three_parts bytes (wide16.back (take 2 bytes) (omega (arith, length-take 2 bytes)) (IsBytes-take 2 bytes fits))
+    (wide32.back (take 4 rest) (omega (arith, length-take 4 rest, length-drop 2 bytes))
+    (IsBytes-take 4 rest (IsBytes-drop 2 bytes fits))))
 
 -- an envelope that is read is spelled so
 pub envelope_spelled : (bytes : List ℕ) (e : List ℕ × List ℕ) → IsBytes bytes → envelope_at bytes ≡ Some e → IsPayload e.0 × (bytes ≡ envelope (sender_in bytes) e.0 ++ e.1)
 envelope_spelled [] e fits h = (let b = begins_of [] e h in absurd (omega (arith, b.long)))
 envelope_spelled (first ∷ bytes) e fits h =
     let b = begins_of (first ∷ bytes) e h in
-    let sender = from_be_bytes w16 (take 2 bytes) in
     let size = size_in (first ∷ bytes) in
-    let parts = head_parts bytes (λ i. fits (suc i)) (omega (arith, b.long)) in
-    let size-is : size ≡ length e.0 = (let n : length (take size (drop 6 bytes)) ≡ length e.0 = ap length b.payload in omega (arith, b.size, n, length-take size (drop 6 bytes))) in
+    let size-is : size ≡ length e.0 = omega (arith, b.size, ap length b.payload, length-take size (drop 6 bytes)) in
     let content : drop 6 bytes ≡ e.0 ++ e.1 = rw (← b.payload, ← b.rest) (sym (take-append-drop size (drop 6 bytes))) in
-    let tail : bytes ≡ number_text w16 sender ++ number_text w32 (length e.0) ++ e.0 ++ e.1 =
-    parts
-    ∙ ap (λ (k : ℕ). number_text w16 sender ++ number_text w32 k ++ drop 6 bytes) size-is
-    ∙ ap (λ (t : List ℕ). number_text w16 sender ++ number_text w32 (length e.0) ++ t) content
-    ∙ sym (append_assoc (number_text w16 sender ++ number_text w32 (length e.0)) e.0 e.1) in
-    let short : size < 2 ^ 32 = wide32.below (take 4 (drop 2 bytes)) (IsBytes-take 4 (drop 2 bytes) (IsBytes-drop 2 bytes (λ i. fits (suc i)))) in
-    let small : IsPayload e.0 = omega arith in
-    (small, ap (λ (k : ℕ). k ∷ bytes) b.first ∙ ap (λ (t : List ℕ). 0x57 ∷ t) tail)
+    let short = wide32.below (take 4 (drop 2 bytes)) (IsBytes-take 4 _ (IsBytes-drop 2 bytes (λ i. fits (suc i)))) in
+    let small : IsPayload e.0 = omega (arith, short) in
+    let tail = head_parts bytes (λ i. fits (suc i)) (omega (arith, b.long)) ∙ rw (size-is, content) in
+    (small, rw b.first (ap (λ (t : List ℕ). 0x57 ∷ t) tail))
 
 pub envelope_is : (bytes : List ℕ) (e : List ℕ × List ℕ) → IsBytes bytes → envelope_at bytes ≡ Some e → (sender : ℕ) × IsPayload e.0 × (bytes ≡ envelope sender e.0 ++ e.1)
 envelope_is bytes e fits h = let is = envelope_spelled bytes e fits h in (sender_in bytes, is.0, is.1)
@@ -100,18 +85,14 @@ envelope_again sender payload rest fits =
 
 -- bytes that begin with a whole envelope are read as it
 pub envelope_read : (bytes : List ℕ) (sender : ℕ) (payload rest : List ℕ) → IsPayload payload → bytes ≡ envelope sender payload ++ rest → envelope_at bytes ≡ Some (payload, rest)
-envelope_read bytes sender payload rest fits same = ap envelope_at same ∙ envelope_again sender payload rest fits
-
-abbrev some_envelope : List ℕ × List ℕ → Option (List ℕ × List ℕ)
-some_envelope e = Some e
+envelope_read bytes sender payload rest fits same = rw same (envelope_again sender payload rest fits)
 
 -- and it is the only one
 pub envelope_only : (bytes : List ℕ) (e : List ℕ × List ℕ) (sender : ℕ) (payload rest : List ℕ) → envelope_at bytes ≡ Some e → sender < 2 ^ 16 → IsPayload payload
     → bytes ≡ envelope sender payload ++ rest → (sender_in bytes ≡ sender) × (e.0 ≡ payload) × (e.1 ≡ rest)
 envelope_only bytes e sender payload rest h small fits same =
-    let both : some_envelope e ≡ Some (payload, rest) = sym h ∙ envelope_read bytes sender payload rest fits same in
-    let is = some_is e (payload, rest) both in
-    (ap sender_in same ∙ wide16.again sender small, ap (λ (p : List ℕ × List ℕ). p.0) is, ap (λ (p : List ℕ × List ℕ). p.1) is)
+    let read = envelope_read bytes sender payload rest fits same in
+    (rw same (wide16.again sender small), cc, cc)
 
 -- bytes that begin with none are a part of one where their first byte is right
 pub part_here : (bytes : List ℕ) → slice_index bytes 0 ≡ 0x57 → envelope_at bytes ≡ None → IsPart bytes
@@ -119,17 +100,13 @@ part_here [] first none = tt
 part_here (b ∷ bytes) first none = (
   first,
   λ sender payload after fits same.
-      let two : some_envelope (payload, after) ≡ None = sym (envelope_read (b ∷ bytes) sender payload after fits same) ∙ none in
-      absurd cc,
+      cc (envelope_read (b ∷ bytes) sender payload after fits same),
 )
 
 -- ---- streams
 
 abbrev Stream : Type 0
 Stream = Result (List (List ℕ)) ℕ
-
-abbrev the_stream : List (List ℕ) → Stream
-the_stream payloads = Ok payloads
 
 pub behind_none : (r : Stream) → behind [] 0 r ≡ r
 behind_none (Ok others) = refl
@@ -141,52 +118,44 @@ behind_then front back n k total (Err place) e = ap (λ (p : ℕ). Err p) (omega
 
 front_same : (o : Option (List ℕ × List ℕ)) (f g : List ℕ → Stream) → ((e : List ℕ × List ℕ) → o ≡ Some e → f e.1 ≡ g e.1) → front_of o f ≡ front_of o g
 front_same None f g h = refl
-front_same (Some e) f g h = ap (λ (r : Stream). behind (e.0 ∷ []) (7 + length e.0) r) (h e refl)
+front_same (Some e) f g h = rw (h e refl)
 
 -- more envelopes than there are bytes make no difference
 enough : (n m : ℕ) (bytes : List ℕ) → length bytes ≤ n → length bytes ≤ m → payloads_in n bytes ≡ payloads_in m bytes
 unfolding payloads_in
-enough zero zero [] first second = refl
-enough zero (suc m) [] first second = refl
-enough (suc n) zero [] first second = refl
-enough (suc n) (suc m) [] first second = refl
-enough zero m (b ∷ bytes) first second = absurd (omega arith)
-enough (suc n) zero (b ∷ bytes) first second = absurd (omega arith)
 enough (suc n) (suc m) (b ∷ bytes) first second =
     front_same (envelope_at (b ∷ bytes)) (payloads_in n) (payloads_in m) (λ e h.
     let len = shorter (b ∷ bytes) e h in
     enough n m e.1 (omega (arith, len)) (omega (arith, len)))
+enough n m [] first second = refl
+enough n m (b ∷ bytes) first second = absurd (omega arith)
 
 -- the payload at the front, and those behind it
 pub stream_next : (bytes : List ℕ) (e : List ℕ × List ℕ) → envelope_at bytes ≡ Some e → stream_of bytes ≡ behind (e.0 ∷ []) (7 + length e.0) (stream_of e.1)
 unfolding payloads_in
-stream_next [] e h = (let len = shorter [] e h in absurd (omega (arith, len)))
+stream_next [] e h = absurd (omega (arith, shorter [] e h))
 stream_next (b ∷ bytes) e h =
     let len = shorter (b ∷ bytes) e h in
-    ap (λ (o : Option (List ℕ × List ℕ)). front_of o (payloads_in (length bytes))) h
-    ∙ ap (λ (r : Stream). behind (e.0 ∷ []) (7 + length e.0) r) (enough (length bytes) (length e.1) e.1 (omega (arith, len)) (omega arith))
+    rw (h, enough (length bytes) (length e.1) e.1 (omega (arith, len)) (omega arith))
 
 -- bytes that begin with no whole envelope
 pub stream_stop : (bytes : List ℕ) → 1 ≤ length bytes → envelope_at bytes ≡ None → stream_of bytes ≡ Err 0
 unfolding payloads_in
 stream_stop [] some h = absurd (omega arith)
-stream_stop (b ∷ bytes) some h = ap (λ (o : Option (List ℕ × List ℕ)). front_of o (payloads_in (length bytes))) h
+stream_stop (b ∷ bytes) some h = rw h
 
 -- envelopes are split, whatever follows
 pub stream_front : (payloads : List (List ℕ)) (front rest : List ℕ) → IsStream payloads front → stream_of (front ++ rest) ≡ behind payloads (length front) (stream_of rest)
-stream_front [] front rest none =
-    ap (λ (t : List ℕ). stream_of (t ++ rest)) none
-    ∙ sym (behind_none (stream_of rest))
-    ∙ ap (λ (t : List ℕ). behind [] (length t) (stream_of rest)) (sym none)
+stream_front [] front rest none = rw (none, behind_none)
 stream_front (p ∷ payloads) front rest h =
-    let sender = h.0 in
     let after = h.1 in
-    let len : length front ≡ 7 + length p + length after = ap length h.3 ∙ omega (arith, length-append (envelope sender p) after) in
-    ap (λ (t : List ℕ). stream_of (t ++ rest)) h.3
-    ∙ ap stream_of (append_assoc (envelope sender p) after rest)
-    ∙ stream_next (envelope sender p ++ (after ++ rest)) (p, after ++ rest) (envelope_again sender p (after ++ rest) h.2)
-    ∙ ap (λ (r : Stream). behind (p ∷ []) (7 + length p) r) (stream_front payloads after rest h.4)
-    ∙ behind_then (p ∷ []) payloads (7 + length p) (length after) (length front) (stream_of rest) len
+    let len : length front ≡ 7 + length p + length after =
+    omega (arith, ap length h.3, length-append (envelope h.0 p) after) in
+    rw (len, h.3)
+    (ap stream_of (append_assoc (envelope h.0 p) after rest)
+    ∙ stream_next (envelope h.0 p ++ (after ++ rest)) (p, after ++ rest) (envelope_again h.0 p (after ++ rest) h.2)
+    ∙ rw (stream_front payloads after rest h.4)
+    (behind_then (p ∷ []) payloads (7 + length p) (length after) _ (stream_of rest) refl))
 
 -- payloads from one sender make a stream
 pub joined : (sender : ℕ) (payloads : List (List ℕ)) → AllByRecursion IsPayload payloads → IsStream payloads (flat_map (envelope sender) payloads)
@@ -199,16 +168,16 @@ pub stream_one : (sender : ℕ) (payload rest : List ℕ) → IsPayload payload
     → stream_of (envelope sender payload ++ rest) ≡ behind (payload ∷ []) (length (envelope sender payload)) (stream_of rest)
 stream_one sender payload rest fits =
     let len : 7 + length payload ≡ length (envelope sender payload) = omega arith in
-    stream_next (envelope sender payload ++ rest) (payload, rest) (envelope_again sender payload rest fits)
-    ∙ ap (λ (n : ℕ). behind (payload ∷ []) n (stream_of rest)) len
+    rw (← len) (stream_next (envelope sender payload ++ rest) (payload, rest) (envelope_again sender payload rest fits))
 
 -- ---- streams that grow
 
 pub stream_append : (front back : List (List ℕ)) (bytes rest : List ℕ) → IsStream front bytes → IsStream back rest → IsStream (front ++ back) (bytes ++ rest)
-stream_append [] back bytes rest none h = subst (λ (t : List ℕ). IsStream back (t ++ rest)) (sym none) h
+stream_append [] back bytes rest none h = rw none h
 stream_append (p ∷ front) back bytes rest first h =
-    let text = ap (λ (t : List ℕ). t ++ rest) first.3 ∙ append_assoc (envelope first.0 p) first.1 rest in
-    (first.0, first.1 ++ rest, first.2, text, stream_append front back first.1 rest first.4 h)
+    let text = first.1 ++ rest in
+    let parts : bytes ++ rest ≡ envelope first.0 p ++ text = rw first.3 (append_assoc (envelope first.0 p) first.1 rest) in
+    (first.0, text, first.2, parts, stream_append front back first.1 rest first.4 h)
 
 -- a stream grows at its end by an envelope
 pub stream_grows : (payloads : List (List ℕ)) (bytes : List ℕ) (sender : ℕ) (payload : List ℕ) → IsStream payloads bytes → IsPayload payload
@@ -234,114 +203,9 @@ wrong_stays payloads front bytes more h wrong = record {
   parts = refl;
   size = refl;
   whole = h;
-  more = λ none. (let long = wrong_long bytes more wrong in let len = ap length none in absurd (omega (arith, long, len)));
+  more = λ none. omega (arith, wrong_long bytes more wrong, ap length none);
   unfit = wrong_begins bytes more wrong;
 }
-
--- and so is one that ends within an envelope
-pub part_ends : (payloads : List (List ℕ)) (front : List ℕ) (b : ℕ) (bytes : List ℕ) → IsStream payloads front → IsPart (b ∷ bytes) → IsMalformed (length front) (front ++ b ∷ bytes)
-part_ends payloads front b bytes h part = record {
-  front = front;
-  payloads = payloads;
-  rest = b ∷ bytes;
-  parts = refl;
-  size = refl;
-  whole = h;
-  more = λ none. absurd cc;
-  unfit = part.1;
-}
-
--- ---- a part of an envelope
-
-abbrev zeros : ℕ → List ℕ
-zeros n = replicate n 0
-
-IsBytes-zeros : (n : ℕ) → IsBytes (zeros n)
-IsBytes-zeros zero i = omega arith
-IsBytes-zeros (suc n) zero = omega arith
-IsBytes-zeros (suc n) (suc i) = IsBytes-zeros n i
-
-IsBytes-padded : (bytes : List ℕ) (n : ℕ) → IsBytes bytes → IsBytes (bytes ++ zeros n)
-IsBytes-padded [] n fits i = IsBytes-zeros n i
-IsBytes-padded (b ∷ bytes) n fits zero = fits 0
-IsBytes-padded (b ∷ bytes) n fits (suc i) = IsBytes-padded bytes n (λ j. fits (suc j)) i
-
--- an envelope whose front these bytes are
-pub record Heals (bytes : List ℕ) : Type 0 where
-  pub more : List ℕ
-  pub sender : ℕ
-  pub payload : List ℕ
-  pub fits : IsPayload payload
-  pub whole : bytes ++ more ≡ envelope sender payload
-
-abbrev no_sender : List ℕ → ℕ
-no_sender fields = from_be_bytes w16 (take 2 fields)
-
-abbrev no_size : List ℕ → ℕ
-no_size fields = from_be_bytes w32 (take 4 (drop 2 fields))
-
--- fields that are all there, and no more of the payload than they say
-heal_with : (bytes fields : List ℕ) (pad : ℕ) → IsBytes fields → 6 ≤ length fields → bytes ++ zeros pad ≡ fields → length (drop 6 fields) ≤ no_size fields → Heals (0x57 ∷ bytes)
-heal_with bytes fields pad fits long padded few =
-    let size = no_size fields in
-    let start = drop 6 fields in
-    let gap = size - length start in
-    let payload = start ++ zeros gap in
-    let len : size ≡ length payload = omega (arith, few, length-append start (zeros gap), length-replicate {A = ℕ} gap 0) in
-    let small : size < 2 ^ 32 = wide32.below (take 4 (drop 2 fields)) (IsBytes-take 4 (drop 2 fields) (IsBytes-drop 2 fields fits)) in
-    let head = number_text w16 (no_sender fields) in
-    record {
-      more = zeros pad ++ zeros gap;
-      sender = no_sender fields;
-      payload = payload;
-      fits = omega (arith, small, len);
-      whole = ap (λ (t : List ℕ). 0x57 ∷ t) (
-          sym (append_assoc bytes (zeros pad) (zeros gap))
-          ∙ ap (λ (t : List ℕ). t ++ zeros gap) (padded ∙ head_parts fields fits long)
-          ∙ append_assoc (head ++ number_text w32 size) start (zeros gap)
-          ∙ ap (λ (k : ℕ). head ++ number_text w32 k ++ payload) len
-          );
-    }
-
--- fields and a payload that are all there begin an envelope
-all_there : (bytes : List ℕ) → IsBytes bytes → 6 ≤ length bytes → no_size bytes ≤ length (drop 6 bytes) → BeginsNone (0x57 ∷ bytes) → ⊥
-all_there bytes fits long enough none =
-    let size = no_size bytes in
-    let start = drop 6 bytes in
-    let payload = take size start in
-    let len : size ≡ length payload = omega (arith, length-take size start, enough) in
-    let small : size < 2 ^ 32 = wide32.below (take 4 (drop 2 bytes)) (IsBytes-take 4 (drop 2 bytes) (IsBytes-drop 2 bytes fits)) in
-    let head = number_text w16 (no_sender bytes) in
-    none (no_sender bytes) payload (drop size start) (omega (arith, small, len)) (ap (λ (t : List ℕ). 0x57 ∷ t) (
-    head_parts bytes fits long
-    ∙ ap (λ (t : List ℕ). head ++ number_text w32 size ++ t) (sym (take-append-drop size start))
-    ∙ sym (append_assoc (head ++ number_text w32 size) payload (drop size start))
-    ∙ ap (λ (k : ℕ). head ++ number_text w32 k ++ payload ++ drop size start) len
-    ))
-
--- a stream that ends within an envelope may be healed by what follows
-pub part_heals : (bytes : List ℕ) → IsBytes bytes → IsPart bytes → Heals bytes
-part_heals [] fits part = record {
-  more = envelope 0 [];
-  sender = 0;
-  payload = [];
-  fits = omega arith;
-  whole = refl;
-}
-part_heals (b ∷ bytes) fits part =
-    let tail : IsBytes bytes = λ i. fits (suc i) in
-    subst (λ (k : ℕ). Heals (k ∷ bytes)) (sym part.0) (elim (cases_lt (length bytes) 6) [
-      | inl short ↦
-          let pad = 6 - length bytes in
-          let fields = bytes ++ zeros pad in
-          let len : length fields ≡ 6 = omega (arith, length-append bytes (zeros pad), length-replicate {A = ℕ} pad 0, short) in
-          heal_with bytes fields pad (IsBytes-padded bytes pad tail) (omega (arith, len)) refl (omega (arith, len, length-drop 6 fields))
-      | inr long ↦
-          elim (cases_lt (length (drop 6 bytes)) (no_size bytes)) [
-            | inl few ↦ heal_with bytes bytes 0 tail long (append-nil bytes) (omega (arith, few))
-            | inr enough ↦ absurd (all_there bytes tail long enough (subst (λ (k : ℕ). BeginsNone (k ∷ bytes)) part.0 part.1))
-          ]
-    ])
 
 -- ---- a loop over a stream
 
@@ -353,33 +217,25 @@ goes_on stream rest front e left h so_far =
     let len = shorter rest e h in
     let total : length stream - length e.1 ≡ length stream - length rest + (7 + length e.0) = omega (arith, len) in (
       omega (arith, len),
-      sym (behind_then front (e.0 ∷ []) (length stream - length rest) (7 + length e.0) (length stream - length e.1) (stream_of e.1) total)
-          ∙ ap (λ (r : Stream). behind front (length stream - length rest) r) (sym (stream_next rest e h))
-          ∙ so_far,
+      rw (← behind_then front (e.0 ∷ []) _ _ _ (stream_of e.1) total, ← stream_next rest e h) so_far,
     )
 
 -- no whole envelope begins here
 pub stops : (stream rest : List ℕ) (front : List (List ℕ)) → eqb (length rest) 0 ≡ false → envelope_at rest ≡ None
     → behind front (length stream - length rest) (stream_of rest) ≡ stream_of stream → stream_of stream ≡ Err (length stream - length rest)
 stops stream rest front some h so_far =
-    let more : 1 ≤ length rest = (let ne = eqb-false (length rest) 0 some in omega (arith, ne)) in
-    let n = length stream - length rest in
-    let place : n + 0 ≡ n = omega arith in
-    sym so_far ∙ ap (λ (r : Stream). behind front n r) (stream_stop rest more h) ∙ ap (λ (k : ℕ). Err k) place
+    let more : 1 ≤ length rest = omega (arith, eqb-false (length rest) 0 some) in
+    let place : length stream - length rest + 0 ≡ length stream - length rest = omega arith in
+    rw (← so_far, stream_stop rest more h, place)
 
 -- nothing is left
 pub is_done : (stream rest : List ℕ) (front : List (List ℕ)) → eqb (length rest) 0 ≡ true
     → behind front (length stream - length rest) (stream_of rest) ≡ stream_of stream → stream_of stream ≡ Ok front
 unfolding payloads_in
 is_done stream rest front none so_far =
-    let n = length stream - length rest in
-    let nil : rest ≡ [] = nil_from_length rest (eqb-true (length rest) 0 none) in
-    sym so_far ∙ ap (λ (r : List ℕ). behind front n (stream_of r)) nil ∙ ap (λ (ps : List (List ℕ)). Ok ps) (append-nil front)
+    rw (← so_far, nil_from_length rest (eqb-true (length rest) 0 none), append-nil)
 
 -- ---- what a stream is
-
-stream_is : (x y : List (List ℕ)) → the_stream x ≡ the_stream y → x ≡ y
-stream_is x y e = cc
 
 behind_ok : (p : List ℕ) (n : ℕ) (r : Stream) (all : List (List ℕ)) → behind (p ∷ []) n r ≡ Ok all → (others : List (List ℕ)) × (r ≡ Ok others) × (p ∷ others ≡ all)
 behind_ok p n (Ok others) all e = (others, refl, cc)
@@ -399,19 +255,19 @@ front_err None f place h = inl (refl, cc)
 front_err (Some e) f place h = (let b = behind_err e.0 (7 + length e.0) (f e.1) place h in inr (e, refl, b.0, b.1, b.2))
 
 rest_fits : (bytes : List ℕ) (e : List ℕ × List ℕ) → IsBytes bytes → envelope_at bytes ≡ Some e → IsBytes e.1
-rest_fits bytes e fits h = (let b = begins_of bytes e h in rw (← b.rest) (IsBytes-drop (size_in bytes) (drop 7 bytes) (IsBytes-drop 7 bytes fits)))
+rest_fits bytes e fits h =
+    rw (← (begins_of bytes e h).rest) (IsBytes-drop (size_in bytes) (drop 7 bytes) (IsBytes-drop 7 bytes fits))
 
 whole : (n : ℕ) (bytes : List ℕ) (payloads : List (List ℕ)) → IsBytes bytes → payloads_in n bytes ≡ Ok payloads → IsStream payloads bytes
 unfolding payloads_in
-whole zero [] payloads fits h = subst (λ (ps : List (List ℕ)). IsStream ps []) (stream_is [] payloads h) refl
-whole (suc n) [] payloads fits h = subst (λ (ps : List (List ℕ)). IsStream ps []) (stream_is [] payloads h) refl
 whole zero (b ∷ bytes) payloads fits h = absurd cc
 whole (suc n) (b ∷ bytes) payloads fits h =
     let f = front_ok (envelope_at (b ∷ bytes)) (payloads_in n) payloads h in
     let e = f.0 in
     let text = envelope_is (b ∷ bytes) e fits f.1 in
     let others = whole n e.1 f.2 (rest_fits (b ∷ bytes) e fits f.1) f.3 in
-    subst (λ (ps : List (List ℕ)). IsStream ps (b ∷ bytes)) f.4 (text.0, e.1, text.1, text.2, others)
+    rw (← f.4) (text.0, e.1, text.1, text.2, others)
+whole n [] payloads fits h = let is : [] ≡ payloads = cc in rw (← is) refl
 
 -- no whole envelope stands at the front
 malformed_here : (bytes : List ℕ) (place : ℕ) → 1 ≤ length bytes → envelope_at bytes ≡ None → 0 ≡ place → IsMalformed place bytes
@@ -422,8 +278,8 @@ malformed_here bytes place some none e = record {
   parts = refl;
   size = e;
   whole = refl;
-  more = λ nil. absurd (let len = ap length nil in omega (arith, len));
-  unfit = λ sender payload after fits same. absurd (let found = ap envelope_at same ∙ envelope_again sender payload after fits in cc);
+  more = λ nil. omega (arith, ap length nil);
+  unfit = λ sender payload after fits same. cc (envelope_read bytes sender payload after fits same);
 }
 
 -- a whole envelope stands before
@@ -432,7 +288,7 @@ malformed_later bytes sender payload rest k place fits parts size m = record {
   front = envelope sender payload ++ m.front;
   payloads = payload ∷ m.payloads;
   rest = m.rest;
-  parts = parts ∙ ap (λ (t : List ℕ). envelope sender payload ++ t) m.parts ∙ sym (append_assoc (envelope sender payload) m.front m.rest);
+  parts = rw (parts, m.parts, append_assoc);
   size = omega (arith, m.size, size, length-append (envelope sender payload) m.front);
   whole = (sender, m.front, fits, refl, m.whole);
   more = m.more;
@@ -441,8 +297,6 @@ malformed_later bytes sender payload rest k place fits parts size m = record {
 
 malformed : (n : ℕ) (bytes : List ℕ) (place : ℕ) → IsBytes bytes → length bytes ≤ n → payloads_in n bytes ≡ Err place → IsMalformed place bytes
 unfolding payloads_in
-malformed zero [] place fits le h = absurd cc
-malformed (suc n) [] place fits le h = absurd cc
 malformed zero (b ∷ bytes) place fits le h = absurd (omega arith)
 malformed (suc n) (b ∷ bytes) place fits le h =
     elim (front_err (envelope_at (b ∷ bytes)) (payloads_in n) place h) [
@@ -453,6 +307,7 @@ malformed (suc n) (b ∷ bytes) place fits le h =
           let len = shorter (b ∷ bytes) e f.1 in
           malformed_later (b ∷ bytes) text.0 e.0 e.1 f.2 place text.1 text.2 f.4 (malformed n e.1 f.2 (rest_fits (b ∷ bytes) e fits f.1) (omega (arith, len)) f.3)
     ]
+malformed n [] place fits le h = absurd cc
 
 more_than_none : (xs : List ℕ) → (xs ≡ [] → ⊥) → 1 ≤ length xs
 more_than_none [] h = absurd (h refl)
@@ -462,25 +317,27 @@ more_than_none (x ∷ xs) h = omega arith
 pub stream_all : (payloads : List (List ℕ)) (bytes : List ℕ) → IsStream payloads bytes → stream_of bytes ≡ Ok payloads
 unfolding payloads_in
 stream_all payloads bytes h =
-    ap stream_of (sym (append-nil bytes)) ∙ stream_front payloads bytes [] h ∙ ap (λ (ps : List (List ℕ)). Ok ps) (append-nil payloads)
+    simp append-nil at (stream_front payloads bytes [] h)
 
 -- bytes that begin with no envelope that is spelled begin with none that is read
 none_at : (bytes : List ℕ) (o : Option (List ℕ × List ℕ)) → IsBytes bytes → envelope_at bytes ≡ o
     → ((sender : ℕ) (payload after : List ℕ) → IsPayload payload → bytes ≡ envelope sender payload ++ after → ⊥) → envelope_at bytes ≡ None
 none_at bytes None fits h unfit = h
-none_at bytes (Some e) fits h unfit = (let text = envelope_is bytes e fits h in absurd (unfit text.0 e.0 e.1 text.1 text.2))
+none_at bytes (Some e) fits h unfit =
+    let text = envelope_is bytes e fits h in absurd (unfit text.0 e.0 e.1 text.1 text.2)
 
 -- a malformed stream is refused at its place
 pub stream_broken : (place : ℕ) (bytes : List ℕ) → IsBytes bytes → IsMalformed place bytes → stream_of bytes ≡ Err place
 stream_broken place bytes fits m =
-    let rest-is : drop (length m.front) bytes ≡ m.rest = ap (drop (length m.front)) m.parts ∙ drop_at m.front m.rest (length m.front) refl in
+    let rest-is : drop (length m.front) bytes ≡ m.rest = rw m.parts (drop_at m.front m.rest (length m.front) refl) in
     let rest-fits : IsBytes m.rest = rw (← rest-is) (IsBytes-drop (length m.front) bytes fits) in
-    let some : 1 ≤ length m.rest = more_than_none m.rest m.more in
     let place-is : length m.front + 0 ≡ place = omega (arith, m.size) in
-    ap stream_of m.parts
-    ∙ stream_front m.payloads m.front m.rest m.whole
-    ∙ ap (λ (r : Stream). behind m.payloads (length m.front) r) (stream_stop m.rest some (none_at m.rest (envelope_at m.rest) rest-fits refl m.unfit))
-    ∙ ap (λ (k : ℕ). Err k) place-is
+    rw (
+      m.parts,
+      stream_front m.payloads m.front m.rest m.whole,
+      stream_stop m.rest (more_than_none m.rest m.more) (none_at m.rest _ rest-fits refl m.unfit),
+      place-is,
+    )
 
 -- ---- what splitting returned
 
