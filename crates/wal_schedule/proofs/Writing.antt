@@ -1,5 +1,5 @@
 -- What is written for a schedule is read as that schedule.
-use Rattle.wal_schedule.proofs.Common.{◌≡◌, ℕ, suc, ◌+◌, ◌<◌, ◌≤◌, ◌&&◌, Bool, true, nat_le, nat_lt, List, [], ◌∷◌, map, length, codes, Option, Some, Ok, Result, IsTrue, if◌then◌else◌, refl, ap, ◌∙◌, arith, is_some, AllByRecursion, list_all, result_ok, and_parts, cond-false, eq-eqb, le-leb, le-ltb, lt-ltb, ltb-true, IsBytes, decode_of, decode_sized, encode_lower, decode_of-encode_lower, decode_sized-encode_lower, Data, items_len, items_of, Axis, Primary, Secondary, Side, Now, Next, BlobId, Format, One, Two, are_owners, ascends_from, is_ascending, is_closed, is_committee, most_bytes, shard_count, Reply, Event, Register, Write, Send, Ack, Attest, Read, Recover, Forget, Begin, Ready, Finish, Certificate, Holders, Schedule, AreRepliesWithin, IsReply, IsSchedule, IsEventWithin, event_fits, replies_within, reply_within, within, Head, ◌>>=◌, axis_at, bytes_at, given, id_at, items_at, key_count, list_at, numbers_of, shard_at, side_at, text_at, to_id, whole_at, whole_of, with_keys, ack_of, all_objects, attest_of, begin_of, bytes_reply_of, certificate_of, event_named, event_of, events_of, finish_of, forget_of, format_at, format_number, head_of, holders_of, joined, objects_at, one_if_has, owners_at, parts_of, read_of, ready_of, recover_of, register_of, replies_at, replies_of, reply_of, schedule_of, schedule_with, send_of, true_reply_of, with_parts, write_of, HasBytes, HasReplyBytes, IsId, axis_data, bytes_data, event_data, events_data, format_data, id_data, list_data, number_data, replies_data, reply_data, schedule_data, side_data}
+use Rattle.wal_schedule.proofs.Common.{◌≡◌, ℕ, suc, ◌+◌, ◌<◌, ◌≤◌, ◌&&◌, true, nat_le, nat_lt, List, [], ◌∷◌, map, length, codes, Some, Ok, IsTrue, refl, ap, arith, AllByRecursion, list_all, result_ok, and_parts, le-leb, le-ltb, lt-ltb, ltb-true, IsBytes, decode_of, decode_sized, encode_lower, decode_of-encode_lower, decode_sized-encode_lower, items_len, items_of, Axis, Primary, Secondary, Side, Now, Next, BlobId, Format, One, Two, are_owners, ascends_from, is_ascending, is_closed, is_committee, most_bytes, shard_count, Reply, Event, Register, Write, Send, Ack, Attest, Read, Recover, Forget, Begin, Ready, Finish, Certificate, Holders, Schedule, AreRepliesWithin, IsReply, IsSchedule, IsEventWithin, event_fits, replies_within, reply_within, within, axis_at, numbers_of, side_at, ack_of, all_objects, attest_of, begin_of, certificate_of, event_of, events_of, finish_of, forget_of, format_at, head_of, holders_of, read_of, ready_of, recover_of, register_of, replies_of, reply_of, schedule_of, send_of, write_of, HasBytes, HasReplyBytes, IsId, axis_data, event_data, format_data, number_data, reply_data, schedule_data, side_data}
 use Rattle.serde_json.specs.Data.{object, member, no_members}
 use Rattle.wal_event.specs.declared.event.Reply.TheVariants as reply
 
@@ -29,7 +29,8 @@ nodes_back n (x ∷ xs) le h =
     rw (le-leb x 65535 (omega (arith, ltb-true x n p.0)), nodes_back n xs le p.1)
 
 -- so are the owners and the faulty shards of a committee
-committee_back : (n : ℕ) (owners faulty : List ℕ) → n ≤ 65536 → IsTrue (is_committee n owners faulty) → IsBack owners × IsBack faulty
+committee_back : (n : ℕ) (owners faulty : List ℕ) → n ≤ 65536 → IsTrue (is_committee n owners faulty)
+    → IsBack owners × IsBack faulty
 committee_back n owners faulty le h =
     let p = and_parts (are_owners n owners) (is_ascending n faulty && is_closed owners faulty) h in (
       nodes_back n owners le (and_parts _ (list_all (λ node. nat_lt node n) owners) p.0).1,
@@ -52,7 +53,8 @@ axis_back : (axis : Axis) → axis_at (object (member (codes "axis") (axis_data 
 axis_back Primary = refl
 axis_back Secondary = refl
 
-format_back : (format : Format) → format_at (object (member (codes "format") (format_data format) no_members)) ≡ Some format
+format_back : (format : Format)
+    → format_at (object (member (codes "format") (format_data format) no_members)) ≡ Some format
 format_back One = refl
 format_back Two = refl
 
@@ -66,7 +68,8 @@ reply_back : (n : ℕ) (r : Reply) → n ≤ 65536 → IsReply n r → HasReplyB
 reply_back n (reply.True side shard) le is has = rw (below n shard le is, side_back side)
 reply_back n (reply.Bytes bytes) le is has = rw (bytes_back bytes has)
 
-replies_back : (n : ℕ) (rs : List Reply) → n ≤ 65536 → AllByRecursion (IsReply n) rs → AllByRecursion HasReplyBytes rs → replies_of (items_of (map reply_data rs)) ≡ Some rs
+replies_back : (n : ℕ) (rs : List Reply) → n ≤ 65536 → AllByRecursion (IsReply n) rs → AllByRecursion HasReplyBytes rs
+    → replies_of (items_of (map reply_data rs)) ≡ Some rs
 replies_back n [] le is has = refl
 replies_back n (r ∷ rs) le is has = rw (reply_back n r le is.0 has.0, replies_back n rs le is.1 has.1)
 
@@ -90,18 +93,25 @@ within_is n other is = grind arith
 
 -- ---- events
 
-event_back : (f : ℕ) (e : Event) → f ≤ 333 → IsEventWithin (shard_count f) e → HasBytes e → event_fits f e ≡ true → event_of f (event_data e) ≡ Some e
+event_back : (f : ℕ) (e : Event) → f ≤ 333 → IsEventWithin (shard_count f) e → HasBytes e → event_fits f e ≡ true
+    → event_of f (event_data e) ≡ Some e
 unfolding event_of register_of write_of send_of ack_of attest_of read_of recover_of forget_of begin_of ready_of finish_of certificate_of holders_of
-event_back f (Register id until) most is has fits = rw (id_back id has, le-leb until 4294967295 (omega (arith, is)), fits)
-event_back f (Write blob to) most is has fits = rw (bytes_back blob has, ascending_back 0 (shard_count f) to (omega arith) is.1, fits)
+event_back f (Register id until) most is has fits =
+    rw (id_back id has, le-leb until 4294967295 (omega (arith, is)), fits)
+event_back f (Write blob to) most is has fits =
+    rw (bytes_back blob has, ascending_back 0 (shard_count f) to (omega arith) is.1, fits)
 event_back f (Send at shard bytes) most is has fits =
     rw (side_back at, below (shard_count f) shard (omega arith) is, bytes_back bytes has, fits)
 event_back f (Ack shard id) most is has fits = rw (below (shard_count f) shard (omega arith) is, id_back id has, fits)
-event_back f (Attest shard id) most is has fits = rw (below (shard_count f) shard (omega arith) is, id_back id has, fits)
-event_back f (Read id rs) most is has fits = rw (id_back id has.0, replies_back (shard_count f) rs (omega arith) is.each has.1, fits)
+event_back f (Attest shard id) most is has fits =
+    rw (below (shard_count f) shard (omega arith) is, id_back id has, fits)
+event_back f (Read id rs) most is has fits =
+    rw (id_back id has.0, replies_back (shard_count f) rs (omega arith) is.each has.1, fits)
 event_back f (Recover at shard axis id rs) most is has fits =
-    rw (side_back at, below (shard_count f) shard (omega arith) is.0, axis_back axis, id_back id has.0, replies_back (shard_count f) rs (omega arith) is.1.each has.1, fits)
-event_back f (Forget at shard id) most is has fits = rw (side_back at, below (shard_count f) shard (omega arith) is, id_back id has, fits)
+    let all = replies_back (shard_count f) rs (omega arith) is.1.each has.1 in
+    rw (side_back at, below (shard_count f) shard (omega arith) is.0, axis_back axis, id_back id has.0, all, fits)
+event_back f (Forget at shard id) most is has fits =
+    rw (side_back at, below (shard_count f) shard (omega arith) is, id_back id has, fits)
 event_back f (Begin owners faulty stays) most is has fits =
     let back = committee_back (shard_count f) owners faulty (omega arith) is.0 in
     rw (back.0, back.1, ascending_back 0 (shard_count f) stays (omega arith) is.1, fits)
@@ -110,7 +120,8 @@ event_back f Finish most is has fits = rw fits
 event_back f (Certificate id) most is has fits = rw (id_back id has, fits)
 event_back f (Holders id) most is has fits = rw (id_back id has, fits)
 
-events_back : (f number : ℕ) (es : List Event) → 1 ≤ f → f ≤ 333 → AllByRecursion (IsEventWithin (shard_count f)) es → AllByRecursion HasBytes es
+events_back : (f number : ℕ) (es : List Event) → 1 ≤ f → f ≤ 333 → AllByRecursion (IsEventWithin (shard_count f)) es
+    → AllByRecursion HasBytes es
     → events_of f number (items_of (map event_data es)) ≡ Ok es
 events_back f number [] least most is has = refl
 events_back f number (e ∷ es) least most is has =
@@ -127,10 +138,13 @@ count_is [] = refl
 count_is (e ∷ es) = ap suc (count_is es)
 
 -- the value that is written for a schedule in range is that schedule
-pub schedule_back : (s : Schedule) → IsSchedule s → AllByRecursion HasBytes s.events → schedule_of (schedule_data s) ≡ Ok s
+pub schedule_back : (s : Schedule) → IsSchedule s → AllByRecursion HasBytes s.events
+    → schedule_of (schedule_data s) ≡ Ok s
 unfolding schedule_of head_of
 schedule_back s is has =
     let most = is.most in
     let back = committee_back (shard_count s.f) s.owners s.faulty (omega arith) is.committee in
-    rw (le-leb s.f 333 is.most, le-leb s.epoch 65535 is.epoch_most, format_back s.format, back.0, back.1, le-leb 1 s.f is.least, is.committee, objects_are s.events,
-    le-ltb 65536 (items_len (items_of (map event_data s.events))) (omega (arith, count_is s.events, is.count)), events_back s.f 1 s.events is.least is.most is.each has)
+    let few : items_len (items_of (map event_data s.events)) ≤ 65536 = omega (arith, count_is s.events, is.count) in
+    rw (le-leb s.f 333 is.most, le-leb s.epoch 65535 is.epoch_most, format_back s.format, back.0, back.1)
+    (rw (le-leb 1 s.f is.least, is.committee, objects_are s.events)
+    (rw (le-ltb 65536 _ few, events_back s.f 1 s.events is.least is.most is.each has)))
