@@ -3,7 +3,6 @@ use Rattle.wal_schedule.proofs.Common.{◌≡◌, ℕ, ◌≤◌, false, List, [
 use Rattle.std.proofs.lemmas.Str.{IsUtf8-string_bytes}
 use Rattle.serde_json.specs.Read.{max_depth, read}
 use Rattle.serde_json.specs.Written.{compact_text, has_float, items_have_float}
-use Rattle.wal_event.specs.declared.event.Reply.TheVariants as reply
 use Rattle.wal_schedule.proofs.Writing.{schedule_back}
 
 -- what nests to at most this depth and has no float, and a list of such

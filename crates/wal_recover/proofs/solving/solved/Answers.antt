@@ -1,4 +1,4 @@
-use Rattle.wal_recover.proofs.Common.{rules, length, arith, refl, sym, length-take-le, shard_count, sliver_symbols, symbol_size, metadata_shown, part_fits, symbols_fit, HasRoot, target_within, crosses_within, line_shown, symbol_sizes, symbols_long}
+use Rattle.wal_recover.proofs.Common.{rules, arith, refl, sym, length-take-le, shard_count, sliver_symbols, symbol_size, metadata_shown, part_fits, symbols_fit, HasRoot, target_within, crosses_within, line_shown, symbol_sizes, symbols_long}
 use Rattle.wal_recover.proofs.Proved.{proof_fits, sliver_loads}
 use Rattle.wal_recover.proofs.solving.solved.Goals as goal
 
