@@ -47,8 +47,7 @@ line_through digest m axis index openings e are coded within own =
       through = λ k l.
           let inside : k < length openings = omega (arith, l, length-map openings (λ (o : Opening). o.cross)) in
           let known : slice_index (crosses_of openings) k ≡ (get_or openings k no_opening).cross = get_or-map (λ (o : Opening). o.cross) openings k no_opening 0 inside in
-          ap (λ (i : ℕ). region s line i) known ∙ sym (own k inside)
-          ∙ sym (symbol_at s openings k no_opening (symbol_sizes digest m axis index openings are) inside);
+          cc (known, own k inside, symbol_at s openings k no_opening (symbol_sizes digest m axis index openings are) inside);
     }
 
 some_symbols : (axis : Axis) (f : ℕ) → 0 < sliver_symbols axis f

@@ -1,14 +1,10 @@
 -- What is taken from items: one list, of distinct keys, and all that they give as long as there is room.
-use Rattle.wal_evidence.proofs.Common.{◌≡◌, ℕ, zero, suc, ◌<◌, ◌≤◌, List, [], ◌∷◌, ◌++◌, length, map, Contains, refl, sym, ap, subst, ◌∙◌, arith, ⊎_elim, length-append, map-append, All-nil, All-push, Contains-append_left, Contains-push, Distinct}
+use Rattle.wal_evidence.proofs.Common.{◌≡◌, ℕ, zero, suc, ◌<◌, ◌≤◌, List, [], ◌∷◌, ◌++◌, length, map, Contains, refl, sym, subst, ◌∙◌, arith, ⊎_elim, length-append, map-append, All-nil, All-push, Contains-append_left, Contains-push}
 use Rattle.wal_evidence.specs.FirstOfEach.{Adds, TakesAfter, TakesFirst, adds, keeps}
 use Rattle.wal_evidence.specs.inside.FirstOfEach.{AreTaken}
 use Rattle.wal_evidence.proofs.Marked.{distinct_more, known_or_new}
 
 module _ {X Y : Type 0} (Gives : X → Y → Type 0) (key : Y → ℕ) (most : ℕ) where
-  -- the keys with one more
-  keys_more : (taken : List Y) (y : Y) → map key (taken ++ y ∷ []) ≡ map key taken ++ key y ∷ []
-  keys_more taken y = map-append key taken (y ∷ [])
-
   -- what is taken from two lists, one after the other
   pub takes_append : (before : List Y) (items more : List X) (taken after : List Y) → TakesAfter Gives key most before items taken
       → TakesAfter Gives key most taken more after → TakesAfter Gives key most before (items ++ more) after
@@ -37,18 +33,16 @@ module _ {X Y : Type 0} (Gives : X → Y → Type 0) (key : Y → ℕ) (most : �
     addition_taken : (x : X) (before after : List Y) → ((y : Y) → Gives x y → Is y) → Adds Gives key most x before after → AreTaken Is key most before
         → AreTaken Is key most after
     addition_taken x before after given (adds y short gives new after_is) was =
-        let long = length-append before (y ∷ []) in
-        subst (AreTaken Is key most) (sym after_is)
-        (record {
-          few = omega (arith, long, short);
-          distinct = subst Distinct (sym (keys_more before y)) (distinct_more (map key before) (key y) was.distinct new);
+        rw after_is (record {
+          few = omega (arith, length-append before (y ∷ []), short);
+          distinct = rw map-append (distinct_more (map key before) (key y) was.distinct new);
           each = All-push Is before y was.each (given y gives);
         })
-    addition_taken x before after given (keeps none after_is) was = subst (AreTaken Is key most) (sym after_is) was
+    addition_taken x before after given (keeps none after_is) was = rw after_is was
 
     taken_after : (before : List Y) (items : List X) (taken : List Y) → ((x : X) (y : Y) → Contains items x → Gives x y → Is y)
         → TakesAfter Gives key most before items taken → AreTaken Is key most before → AreTaken Is key most taken
-    taken_after before [] taken given takes was = subst (AreTaken Is key most) (sym takes) was
+    taken_after before [] taken given takes was = rw takes was
     taken_after before (x ∷ items) taken given takes was =
         taken_after takes.0 items taken
         (λ z y there gives. let below = there.1 in given z y (suc there.0, omega arith, there.2) gives) takes.2
@@ -81,25 +75,22 @@ module _ {X Y : Type 0} (Gives : X → Y → Type 0) (key : Y → ℕ) (most : �
     one_grows x before after (adds y short gives new is) =
         rw is (
           omega (arith, length-append before (y ∷ [])),
-          λ k found. rw (keys_more before y) (Contains-append_left (map key before) (key y ∷ []) k found),
+          λ k found. rw map-append (Contains-append_left (map key before) (key y ∷ []) k found),
         )
-    one_grows x before after (keeps none is) = subst (Grows before) (sym is) (omega arith, λ k found. found)
+    one_grows x before after (keeps none is) = rw is (omega arith, λ k found. found)
 
     grows : (before : List Y) (items : List X) (taken : List Y) → TakesAfter Gives key most before items taken → Grows before taken
-    grows before [] taken is = subst (Grows before) (sym is) (omega arith, λ k found. found)
+    grows before [] taken is = rw is (omega arith, λ k found. found)
     grows before (x ∷ items) taken is =
         let first = one_grows x before is.0 is.1 in
         let rest = grows is.0 items taken is.2 in
-        let step = first.0 in
-        let more = rest.0 in
-        (omega (arith, step, more), λ k found. rest.1 k (first.1 k found))
+        (omega (arith, first.0, rest.0), λ k found. rest.1 k (first.1 k found))
 
     -- what an item gives is there, where there was room
     one_there : (x : X) (y : Y) (before after : List Y) → length before < most → Adds Gives key most x before after → Gives x y
         → Contains (map key after) (key y)
     one_there x y before after room (adds z short also new is) gives =
-        let same_key = ap key (same x z y also gives) in
-        rw (is, keys_more before z, same_key) (Contains-push (map key before) (key y))
+        rw (is, map-append, same x z y also gives) (Contains-push (map key before) (key y))
     one_there x y before after room (keeps none is) gives = rw is (none y room gives)
 
     -- where fewer than `most` are taken, the key of all that an item gives is there
@@ -107,10 +98,8 @@ module _ {X Y : Type 0} (Gives : X → Y → Type 0) (key : Y → ℕ) (most : �
         → (x : X) (y : Y) → Contains items x → Gives x y → Contains (map key taken) (key y)
     takes_all before [] taken is room x y (k, below, at) gives = absurd (omega arith)
     takes_all before (z ∷ items) taken is room x y (zero, below, at) gives =
-        let first = grows before (z ∷ items) taken is in
-        let rest = grows is.0 items taken is.2 in
-        let fewer = first.0 in
-        rest.1 (key y) (one_there z y before is.0 (omega (arith, room, fewer)) is.1 (rw at gives))
+        let fewer = (grows before (z ∷ items) taken is).0 in
+        (grows is.0 items taken is.2).1 (key y) (one_there z y before is.0 (omega (arith, room, fewer)) is.1 (rw at gives))
     takes_all before (z ∷ items) taken is room x y (suc k, below, at) gives =
         takes_all is.0 items taken is.2 room x y (k, omega arith, at) gives
 

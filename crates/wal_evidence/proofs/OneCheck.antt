@@ -1,5 +1,5 @@
 -- A proof has one verdict.
-use Rattle.wal_evidence.proofs.Common.{◌≡◌, ℕ, ◌<◌, List, All, Some, slice_get, ap, subst, ◌∙◌, arith, get_or-take, length-take-le, get_or_from_slice_get, slice_get_within, Opening, IsShape, BlobMetadata, EncodingProof, HoldsOpening, Checks, HasRoot, IsBadProof, IsConsistent, IsFirstBad, BadOpening}
+use Rattle.wal_evidence.proofs.Common.{◌≡◌, ℕ, ◌<◌, List, All, Some, slice_get, ap, subst, ◌∙◌, arith, get_or-take, length-take-le, get_or_from_slice_get, slice_get_within, Opening, IsShape, BlobMetadata, EncodingProof, HoldsOpening, Checks, IsBadProof, IsConsistent, IsFirstBad, BadOpening}
 use Rattle.wal_evidence.specs.declared.proof.ProofVerdict.{ProofVerdict}
 use Rattle.wal_evidence.proofs.OneLine.{one_line}
 
@@ -19,16 +19,14 @@ module _ (digest : List ℕ → List ℕ) (m : BlobMetadata) (p : EncodingProof)
 
   none_bad : (i : ℕ) → All (HoldsOpening digest m p.axis p.index) p.openings → IsFirstBad digest m p i → ⊥
   none_bad i held bad =
-      bad.bad
-      (subst (HoldsOpening digest m p.axis p.index) (get_or_from_slice_get p.openings i bad.opening bad.opening bad.there)
+      bad.bad (rw (get_or_from_slice_get p.openings i bad.opening bad.opening bad.there) at
       (held i bad.opening (slice_get_within p.openings i bad.opening bad.there)))
 
   -- a codeword has one root
   pub one_root : IsShape m.f m.length → IsConsistent digest m p → IsBadProof digest m p → ⊥
   one_root shape good bad =
-      bad.root
-      (subst (HasRoot digest m p.axis p.index)
-      (one_line digest m p.axis p.index p.openings good.line.enough shape good.word bad.word good.line.through bad.line.through) good.root)
+      bad.root (rw (one_line digest m p.axis p.index p.openings good.line.enough shape good.word bad.word
+      good.line.through bad.line.through) at good.root)
 
   -- of the cases one applies
   pub one_check : IsShape m.f m.length → (a b : ProofVerdict) → Checks digest m p a → Checks digest m p b → a ≡ b

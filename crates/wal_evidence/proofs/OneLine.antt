@@ -1,6 +1,6 @@
 -- Openings that hold, of distinct crosses and as many as a sliver has symbols, lie on one codeword.
-use Rattle.wal_evidence.proofs.Common.{◌≡◌, ℕ, ◌*◌, ◌<◌, List, [], ◌∷◌, length, get_or, slice_index, All, sym, ap, subst, ◌∙◌, arith, get_or-map, length-map, flat_map-cons, All-head, All-tail, region, Axis, Opening, BlobShape, IsShape, shard_count, sliver_symbols, symbol_size, BlobMetadata, symbol_size-least, AreBytes, bytes_of_part, bytes_joined, AreEnough, IsLineThrough, ShowLine, crosses_of, symbols_of}
-use Rattle.wal_matrix.specs.Word.{IsWordThrough, PassesCodeword}
+use Rattle.wal_evidence.proofs.Common.{◌≡◌, ℕ, ◌*◌, ◌<◌, List, [], ◌∷◌, length, get_or, slice_index, All, sym, ap, subst, ◌∙◌, arith, get_or-map, length-map, All-head, All-tail, region, Axis, Opening, BlobShape, IsShape, shard_count, sliver_symbols, symbol_size, BlobMetadata, symbol_size-least, AreBytes, bytes_of_part, bytes_joined, AreEnough, IsLineThrough, ShowLine, crosses_of, symbols_of}
+use Rattle.wal_matrix.specs.Word.{IsWordThrough}
 use Rattle.wal_matrix.proofs.MatrixLaws.{bytes_within}
 use Rattle.wal_matrix.proofs.Solved.{known_symbols, solved_unique}
 use Rattle.wal_evidence.proofs.Pieces.{piece_at, pieces_long}
@@ -22,9 +22,8 @@ symbol_at s openings k d sizes l = piece_at (λ (o : Opening). o.symbol) s openi
 pub symbols_bytes : (openings : List Opening) → All (λ o. AreBytes o.symbol) openings → AreBytes (symbols_of openings)
 symbols_bytes [] each i = omega arith
 symbols_bytes (o ∷ openings) each i =
-    subst AreBytes (sym (flat_map-cons (λ (x : Opening). x.symbol) o openings))
-    (bytes_joined o.symbol (symbols_of openings) (All-head (λ (x : Opening). AreBytes x.symbol) o openings each)
-    (λ j. symbols_bytes openings (All-tail (λ (x : Opening). AreBytes x.symbol) o openings each) j)) i
+    bytes_joined o.symbol (symbols_of openings) (All-head (λ (x : Opening). AreBytes x.symbol) o openings each)
+    (λ j. symbols_bytes openings (All-tail (λ (x : Opening). AreBytes x.symbol) o openings each) j) i
 
 module _ (digest : List ℕ → List ℕ) (m : BlobMetadata) (axis : Axis) (index : ℕ) (openings : List Opening) (are : AreEnough digest m axis index openings) where
   pub symbol_sizes : All (λ o. length o.symbol ≡ symbol_size m.f m.length) openings
@@ -33,8 +32,7 @@ module _ (digest : List ℕ → List ℕ) (m : BlobMetadata) (axis : Axis) (inde
   pub crosses_within : All (λ i. i < shard_count m.f) (crosses_of openings)
   crosses_within k d l =
       let inside : k < length openings = omega (arith, l, length-map openings (λ (o : Opening). o.cross)) in
-      subst (λ (i : ℕ). i < shard_count m.f) (sym (get_or-map (λ (o : Opening). o.cross) openings k no_opening d inside))
-      (are.held k no_opening inside).cross
+      rw (get_or-map (λ (o : Opening). o.cross) openings k no_opening d inside) (are.held k no_opening inside).cross
 
   pub count_known : sliver_symbols axis m.f ≡ length (crosses_of openings)
   count_known = sym are.count ∙ sym (length-map openings (λ (o : Opening). o.cross))
@@ -56,17 +54,15 @@ module _ (digest : List ℕ → List ℕ) (m : BlobMetadata) (axis : Axis) (inde
       let known = crosses_of openings in
       let loaded = symbols_of openings in
       let least = symbol_size-least m.f m.length in
-      let few = shape.1 in
-      let positive = least.positive in
-      let P : ℕ → List ℕ → Type 0 = λ k w. PassesCodeword k n s known loaded w in
       let bytes : AreBytes a = bytes_within a through_a.coded.fits in
       let each : All (λ o. AreBytes o.symbol) openings =
       (λ k d l. subst AreBytes (line_symbol a through_a k d l) (bytes_of_part s (s * (get_or openings k d).cross) a bytes)) in
       let size : length loaded ≡ length known * s =
       symbols_long s openings symbol_sizes ∙ ap (λ (k : ℕ). k * s) (sym (length-map openings (λ (o : Opening). o.cross))) in
       solved_unique n s known loaded
-      (known_symbols n s known loaded (omega arith) least.even (omega arith) are.distinct crosses_within size (symbols_bytes openings each))
-      a b (subst (λ (k : ℕ). P k a) count_known through_a) (subst (λ (k : ℕ). P k b) count_known through_b)
+      (known_symbols n s known loaded (omega (arith, shape.1, least.positive)) least.even
+      (omega (arith, shape.1, least.positive)) are.distinct crosses_within size (symbols_bytes openings each))
+      a b (rw count_known at through_a) (rw count_known at through_b)
 
   -- the codeword that is computed from them is the one that they show
   pub line_shown : (shape : BlobShape) (along : Axis) (known loaded word : List ℕ) → shape ≡ record { format = m.format; f = m.f; length = m.length } → along ≡ axis

@@ -1,5 +1,5 @@
 -- Pieces of one length that things have, one after the other.
-use Rattle.wal_evidence.proofs.Common.{◌≡◌, ℕ, zero, suc, ◌+◌, ◌*◌, ◌<◌, List, [], ◌∷◌, length, get_or, All, ap, ◌∙◌, arith, length-append, flat_map, take-append_seam, flat_map-cons, All-head, All-tail, region, region_after}
+use Rattle.wal_evidence.proofs.Common.{◌≡◌, ℕ, zero, suc, ◌+◌, ◌*◌, ◌<◌, List, [], ◌∷◌, length, get_or, All, arith, length-append, flat_map, take-append_seam, All-head, All-tail, region, region_after}
 
 module _ {Y : Type 0} (piece : Y → List ℕ) where
   -- all together are as long as their number says
@@ -8,7 +8,7 @@ module _ {Y : Type 0} (piece : Y → List ℕ) where
   pieces_long s (y ∷ ys) sizes =
       let first = All-head (λ (x : Y). length (piece x) ≡ s) y ys sizes in
       let rest = pieces_long s ys (All-tail (λ (x : Y). length (piece x) ≡ s) y ys sizes) in
-      ap length (flat_map-cons piece y ys) ∙ length-append (piece y) (flat_map piece ys) ∙ omega (arith, first, rest)
+      omega (arith, length-append (piece y) (flat_map piece ys), first, rest)
 
   -- and each stands in its place
   pub piece_at : (s : ℕ) (ys : List Y) (k : ℕ) (d : Y) → All (λ y. length (piece y) ≡ s) ys → k < length ys
@@ -17,10 +17,10 @@ module _ {Y : Type 0} (piece : Y → List ℕ) where
   piece_at s (y ∷ ys) zero d sizes l =
       let first = All-head (λ (x : Y). length (piece x) ≡ s) y ys sizes in
       let none : s * 0 ≡ 0 = omega arith in
-      rw (flat_map-cons piece y ys, none, ← first) (take-append_seam (piece y) (flat_map piece ys))
+      rw (none, ← first) (take-append_seam (piece y) (flat_map piece ys))
   piece_at s (y ∷ ys) (suc k) d sizes l =
       let first = All-head (λ (x : Y). length (piece x) ≡ s) y ys sizes in
       let next : suc k ≡ 1 + k = omega arith in
       let after = region_after s k 1 (piece y) (flat_map piece ys) (omega (arith, first)) in
       let rest = piece_at s ys k d (All-tail (λ (x : Y). length (piece x) ≡ s) y ys sizes) (omega arith) in
-      cc (flat_map-cons piece y ys, next, after, rest)
+      cc (next, after, rest)

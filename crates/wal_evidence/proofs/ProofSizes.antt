@@ -1,5 +1,5 @@
 -- How long the spelling of a bad proof is.
-use Rattle.wal_evidence.proofs.Common.{◌≡◌, ℕ, ◌+◌, ◌*◌, ◌≤◌, All, List, [], ◌∷◌, length, ap, ◌∙◌, arith, AllByRecursion, flat_map, flat_map-cons, All-head, All-tail, Axis, Opening, column_count, sliver_symbols, symbol_size, BlobMetadata, IsBody, EncodingProof, IsProof, IsBadProof}
+use Rattle.wal_evidence.proofs.Common.{◌≡◌, ℕ, ◌+◌, ◌*◌, ◌≤◌, All, List, [], ◌∷◌, length, ap, arith, AllByRecursion, flat_map, All-head, All-tail, Axis, Opening, column_count, sliver_symbols, symbol_size, BlobMetadata, IsBody, EncodingProof, IsProof, IsBadProof}
 use Rattle.std.proofs.lemmas.List.{length-append}
 use Rattle.wal_shape.specs.Spelling.{body_text, proof_text}
 use Rattle.wal_shape.proofs.BodyLaws.{length-body_text}
@@ -16,9 +16,7 @@ bodies_most s [] fit sized = omega arith
 bodies_most s (o ∷ os) fit sized =
     let size : length o.symbol ≡ s = All-head (has_size s) o os sized in
     let rest = bodies_most s os fit.1 (All-tail (has_size s) o os sized) in
-    let whole : length (flat_map body_text (o ∷ os)) ≡ length (body_text o) + length (flat_map body_text os) =
-    ap length (flat_map-cons body_text o os) ∙ length-append (body_text o) (flat_map body_text os) in
-    omega (arith, length-body_text o, size, rest, fit.0.path, whole)
+    omega (arith, length-append (body_text o) (flat_map body_text os), length-body_text o, size, rest, fit.0.path)
 
 -- a sliver has no more symbols than a primary one
 pub narrow : (axis : Axis) (f : ℕ) → sliver_symbols axis f ≤ column_count f

@@ -1,5 +1,5 @@
 -- Two lists are equal or not, and a thing holds everywhere or its contrary somewhere.
-use Rattle.wal_evidence.proofs.Common.{◌≡◌, ◌≢◌, ◌⊎◌, ℕ, zero, suc, ◌<◌, List, Bool, true, false, Decides, refl, subst, arith, inl, inr, ⊎_elim, bytes_eq, cases_lt, false≢true}
+use Rattle.wal_evidence.proofs.Common.{◌≡◌, ◌≢◌, ◌⊎◌, ℕ, zero, suc, ◌<◌, List, Bool, true, false, Decides, refl, arith, inl, inr, ⊎_elim, bytes_eq, cases_lt, false≢true}
 use Rattle.std.proofs.lemmas.Slice.Eq.{bytes_eq-Decides}
 use Rattle.wal_tree.specs.Collision.{IsCollision}
 use Rattle.wal_commit.proofs.OneDigest.{IsDigest, IsOneToOne}
@@ -19,7 +19,7 @@ all_or_some P Q zero each = inl (λ k l. absurd (omega arith))
 all_or_some P Q (suc n) each =
     ⊎_elim
     (λ all. ⊎_elim
-    (λ p. inl (λ k l. ⊎_elim (λ below. all k below) (λ past. let same : n ≡ k = omega arith in subst P same p) (cases_lt k n)))
+    (λ p. inl (λ k l. ⊎_elim (all k) (λ past. let same : n ≡ k = omega arith in rw same at p) (cases_lt k n)))
     (λ q. inr (n, omega arith, q))
     (each n (omega arith)))
     (λ some. let l = some.1 in inr (some.0, omega arith, some.2))

@@ -27,20 +27,19 @@ pub only_verdict : (digest : List ℕ → List ℕ) (m : BlobMetadata) (shape : 
     → shape ≡ shape_of m → IsOnlySource shape indices joined block → blob ≡ take shape.length block
     → IsVerdictOn digest m blob verdict → Judges digest m indices joined other → other ≡ verdict
 only_verdict digest m shape indices joined block blob verdict other is only cut judged found =
-    let source = subst (λ (s : BlobShape). IsOnlySource s indices joined block) is only in
+    let source = rw is at only in
     let blob_is : take m.length (source_of m.f (symbol_size m.f m.length) found.0) ≡ blob =
-    ap (λ (b : List ℕ). take m.length b) (source found.0 found.1) ∙ ap (λ (s : BlobShape). take s.length block) (sym is) ∙ sym cut in
-    one_verdict digest m blob other verdict (subst (λ (b : List ℕ). IsVerdictOn digest m b other) blob_is found.2) judged
+    cc (source found.0 found.1, is, cut) in
+    one_verdict digest m blob other verdict (rw blob_is at found.2) judged
 
 -- the decoded block has room for the blob
 pub blob_long : (m : BlobMetadata) (shape : BlobShape) (indices joined block blob : List ℕ) → shape ≡ shape_of m → IsDecoded shape indices joined block
     → blob ≡ take shape.length block → length blob ≡ m.length
 blob_long m shape indices joined block blob is decoded cut =
-    let found : IsDecoded (shape_of m) indices joined block = subst (λ (s : BlobShape). IsDecoded s indices joined block) is decoded in
+    let found : IsDecoded (shape_of m) indices joined block = rw is at decoded in
     let s = symbol_size m.f m.length in
     let long : length block ≡ row_count m.f * (column_count m.f * s) = ap length found.2 ∙ source_long m.f s found.0 found.1.coded.size in
-    ap length cut ∙ ap (λ (t : BlobShape). length (take t.length block)) is
-    ∙ length-take-le m.length block (omega (arith, long, (symbol_size-least m.f m.length).room))
+    rw (cut, is) (length-take-le m.length block (omega (arith, long, (symbol_size-least m.f m.length).room)))
 
 -- the identifier of a blob is the only one
 pub other_identifier : (digest : List ℕ → List ℕ) (m : BlobMetadata) (shape : BlobShape) (blob bytes id : List ℕ) → shape ≡ shape_of m → bytes ≡ blob

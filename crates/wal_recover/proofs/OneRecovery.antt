@@ -1,5 +1,5 @@
 -- A list of openings comes to one outcome, whose sliver is committed.
-use Rattle.wal_recover.proofs.Common.{◌≡◌, ℕ, ◌*◌, List, [], length, take, sym, ap, subst, ◌∙◌, arith, inl, inr, ⊎_elim, length-take-le, Axis, Opening, IsShape, shard_count, sliver_symbols, symbol_size, BlobMetadata, EncodingProof, part_fits, symbols_fit, AreEnough, HasRoot, IsBadProof, HoldsOpening, first_taken, one_taken, false_opening, target_within, one_line, TakenComeTo, GivesOpening, HasCommittedSliver, IsCount, IsOwnOrFalse, OpeningsComeTo, Takes}
+use Rattle.wal_recover.proofs.Common.{◌≡◌, ℕ, ◌*◌, List, [], length, sym, ap, subst, ◌∙◌, arith, inl, inr, ⊎_elim, length-take-le, Axis, Opening, IsShape, shard_count, sliver_symbols, symbol_size, BlobMetadata, EncodingProof, part_fits, symbols_fit, AreEnough, IsBadProof, HoldsOpening, first_taken, one_taken, false_opening, target_within, one_line, TakenComeTo, GivesOpening, HasCommittedSliver, IsCount, IsOwnOrFalse, OpeningsComeTo, Takes}
 use Rattle.wal_matrix.specs.Matrix.{sliver_of}
 use Rattle.wal_commit.proofs.HonestOpenings.{committed_sliver}
 use Rattle.wal_evidence.specs.Evidence.{CommitsMatrix}
@@ -17,36 +17,30 @@ module _ (digest : List ℕ → List ℕ) (m : BlobMetadata) (axis : Axis) (inde
   -- the proof is that of the openings
   bad_of : (taken : List Opening) (p : EncodingProof) → TakenComeTo digest m axis index taken (Inconsistent p)
       → IsBadProof digest m (record { axis = axis; index = index; openings = taken })
-  bad_of taken p comes = subst (IsBadProof digest m) comes.0 comes.1
+  bad_of taken p comes = rw comes.0 at comes.1
+
+  -- a codeword has one root
+  not_both : (taken : List Opening) (x : List ℕ) (p : EncodingProof) → IsShape m.f m.length
+      → TakenComeTo digest m axis index taken (Sliver x) → TakenComeTo digest m axis index taken (Inconsistent p) → ⊥
+  not_both taken x p shape is other =
+      let bad = bad_of taken p other in
+      bad.root (rw (one_line digest m axis index taken is.1.enough shape is.0 bad.word is.1.through bad.line.through) at is.2)
 
   -- the openings that were taken come to one thing
   one_outcome : (taken : List Opening) → IsShape m.f m.length → (a b : Recovered)
       → TakenComeTo digest m axis index taken a → TakenComeTo digest m axis index taken b → a ≡ b
-  one_outcome taken shape (Short i) (Short j) is_a is_b = ap Short (is_a.0 ∙ sym is_b.0)
-  one_outcome taken shape (Short i) (Sliver y) is_a is_b = let less = is_a.1 in absurd (omega (arith, is_a.0, less, is_b.1.enough.count))
-  one_outcome taken shape (Short i) (Inconsistent q) is_a is_b = let less = is_a.1 in absurd (omega (arith, is_a.0, less, (bad_of taken q is_b).line.enough.count))
-  one_outcome taken shape (Sliver x) (Short j) is_a is_b = let less = is_b.1 in absurd (omega (arith, is_b.0, less, is_a.1.enough.count))
   one_outcome taken shape (Sliver x) (Sliver y) is_a is_b =
-      let n = sliver_symbols axis m.f * symbol_size m.f m.length in
-      let same = one_line digest m axis index taken is_a.1.enough shape is_a.0 is_b.0 is_a.1.through is_b.1.through in
-      ap Sliver (is_a.3 ∙ ap (λ (word : List ℕ). take n word) same ∙ sym is_b.3)
-  one_outcome taken shape (Sliver x) (Inconsistent q) is_a is_b =
-      let bad = bad_of taken q is_b in
-      let same = one_line digest m axis index taken is_a.1.enough shape is_a.0 bad.word is_a.1.through bad.line.through in
-      absurd (bad.root (subst (HasRoot digest m axis index) same is_a.2))
-  one_outcome taken shape (Inconsistent p) (Short j) is_a is_b = let less = is_b.1 in absurd (omega (arith, is_b.0, less, (bad_of taken p is_a).line.enough.count))
-  one_outcome taken shape (Inconsistent p) (Sliver y) is_a is_b =
-      let bad = bad_of taken p is_a in
-      let same = one_line digest m axis index taken is_b.1.enough shape is_b.0 bad.word is_b.1.through bad.line.through in
-      absurd (bad.root (subst (HasRoot digest m axis index) same is_b.2))
-  one_outcome taken shape (Inconsistent p) (Inconsistent q) is_a is_b = ap Inconsistent (is_a.0 ∙ sym is_b.0)
+      cc (is_a.3, is_b.3, one_line digest m axis index taken is_a.1.enough shape is_a.0 is_b.0 is_a.1.through is_b.1.through)
+  one_outcome taken shape (Sliver x) (Inconsistent q) is_a is_b = absurd (not_both taken x q shape is_a is_b)
+  one_outcome taken shape (Inconsistent p) (Sliver y) is_a is_b = absurd (not_both taken y p shape is_b is_a)
+  one_outcome taken shape a b is_a is_b = grind arith
 
   -- what is taken from a list holds
   pub list_held : (openings taken : List Opening) → Takes digest m axis index openings (sliver_symbols axis m.f) taken
       → AreTaken (HoldsOpening digest m axis index) (λ o. o.cross) (sliver_symbols axis m.f) taken
   list_held openings taken takes =
       first_taken (GivesOpening digest m axis index) (λ o. o.cross) (sliver_symbols axis m.f) (HoldsOpening digest m axis index) openings taken
-      (λ o given there is. subst (HoldsOpening digest m axis index) (sym is.0) is.1) takes
+      (λ o given there is. rw is.0 is.1) takes
 
   -- a list of openings comes to one thing
   pub one_recovery : (openings : List Opening) → IsShape m.f m.length → (a b : Recovered) → OpeningsComeTo digest m axis index openings a
@@ -64,7 +58,6 @@ module _ (digest : List ℕ → List ℕ) (m : BlobMetadata) (axis : Axis) (inde
 
   -- the sliver that was recovered is the one that m commits
   pub committed : (taken : List Opening) → (outcome : Recovered) → TakenComeTo digest m axis index taken outcome → HasCommittedSliver digest m axis index outcome
-  committed taken (Short i) comes = tt
   committed taken (Sliver x) comes =
       let s = symbol_size m.f m.length in
       let k = sliver_symbols axis m.f in
@@ -77,16 +70,13 @@ module _ (digest : List ℕ → List ℕ) (m : BlobMetadata) (axis : Axis) (inde
         is_word = record { coded = comes.1.through.coded; begins = sym comes.3 };
         root = comes.2;
       }
-  committed taken (Inconsistent p) comes = tt
+  committed taken other comes = tt
 
   -- of a blob that m commits: the sliver that was recovered is the matrix's own, or another that m commits there
   pub own_or_false : (blob e : List ℕ) → IsShape m.f m.length → CommitsMatrix digest m blob e → (taken : List Opening) → (outcome : Recovered)
       → TakenComeTo digest m axis index taken outcome → HasCommittedSliver digest m axis index outcome → IsOwnOrFalse digest m axis index e outcome
   own_or_false blob e shape is taken (Short i) comes held = tt
   own_or_false blob e shape is taken (Sliver x) comes held =
-      let own : List ℕ = sliver_of axis m.f (symbol_size m.f m.length) e index in
-      ⊎_elim
-      (λ same. inl same)
-      (λ apart. inr (apart, held, committed_sliver digest m blob e is.0 is.1 axis index held.within))
-      (same_or_not x own)
+      ⊎_elim (λ same. inl same) (λ apart. inr (apart, held, committed_sliver digest m blob e is.0 is.1 axis index held.within))
+      (same_or_not x (sliver_of axis m.f (symbol_size m.f m.length) e index))
   own_or_false blob e shape is taken (Inconsistent p) comes held = false_opening digest m p blob e shape comes.1 is

@@ -1,5 +1,5 @@
 -- What an opening adds to those that were taken, by the flags of their crosses.
-use Rattle.wal_recover.proofs.Common.{◌≡◌, ℕ, ◌<◌, List, [], ◌∷◌, ◌++◌, length, Bool, true, false, IsTrue, Contains, refl, sym, ap, subst, ◌∙◌, false≢true, Axis, Opening, BlobMetadata, HoldsOpening, crosses_of, Marks, marks_more, crosses_more, GivesOpening}
+use Rattle.wal_recover.proofs.Common.{◌≡◌, ℕ, ◌<◌, List, [], ◌∷◌, ◌++◌, length, Bool, true, false, IsTrue, Contains, refl, sym, ◌∙◌, false≢true, Axis, Opening, BlobMetadata, HoldsOpening, crosses_of, Marks, marks_more, crosses_more, GivesOpening}
 use Rattle.std.specs.Prelude.{slice_index_or, slice_set}
 use Rattle.wal_evidence.specs.FirstOfEach.{Adds, adds, keeps}
 
@@ -21,10 +21,9 @@ module _ (digest : List ℕ → List ℕ) (m : BlobMetadata) (axis : Axis) (inde
       → o.cross < 1000 → (IsTrue (slice_index_or flags o.cross false) → ⊥) → HoldsOpening digest m axis index o → copy ≡ o → after ≡ before ++ copy ∷ []
       → AddsOpening o before after × Marks (slice_set flags o.cross true) (crosses_of after)
   addition_new flags before after o copy marks short small new holds copied after_is =
-      let is : after ≡ before ++ o ∷ [] = after_is ∙ ap (λ (x : Opening). before ++ x ∷ []) copied in (
+      let is : after ≡ before ++ o ∷ [] = cc (after_is, copied) in (
         adds o short (refl, holds) (λ found. new ((marks.up o.cross small).1 found)) is,
-        subst (Marks (slice_set flags o.cross true)) (sym (ap crosses_of is ∙ crosses_more before o))
-            (marks_more flags (crosses_of before) o.cross small marks),
+        rw (is, crosses_more before o) (marks_more flags (crosses_of before) o.cross small marks),
       )
 
   -- an opening that is not wanted
@@ -36,6 +35,6 @@ module _ (digest : List ℕ → List ℕ) (m : BlobMetadata) (axis : Axis) (inde
       keeps
       (λ y short given.
       let up = marks.up o.cross (small short given.1) in
-      subst (λ (x : Opening). Contains (crosses_of before) x.cross) (sym given.0)
-      (flagged (slice_index_or flags o.cross false) (Contains (crosses_of before) o.cross) up.0 (λ down. unwanted short down given.1)))
+      rw given.0 (flagged (slice_index_or flags o.cross false) (Contains (crosses_of before) o.cross) up.0
+      (λ down. unwanted short down given.1)))
       refl

@@ -54,8 +54,7 @@ module _ (digest : List ℕ → List ℕ) (d : PutDesk) (old : Contents) (frame 
     same_full : (o : Option ℕ) (free other needed more wanted : ℕ) → o ≡ Some free → o ≡ Some other → needed ≡ wanted → more ≡ wanted
         → Same (Full needed free) (Full more other)
     same_full o free other needed more wanted is also same equal =
-        subst (λ (n : ℕ). Same (Full needed free) (Full n other)) (same ∙ sym equal)
-        (subst (λ (n : ℕ). Same (Full needed free) (Full needed n)) (some_is o free other is also) (self (Full needed free)))
+        rw (← some_is o free other is also, same, equal) (self (Full wanted free))
 
     pub puts_once : (a b : PutAnswer) (x y : Contents) → Puts digest d old frame a x → Puts digest d old frame b y → Same a b × (x ≡ y)
     puts_once Memory b x y p q = absurd p

@@ -108,8 +108,8 @@ module _ (digest : List ℕ → List ℕ) (f : ℕ) (shard : ℕ) where
   -- whether a part was stored or not
   pub after_put : {E : Type 0} (c n : Contents) (id : BlobId) (part : Part) (bytes : List ℕ) (r : Result (Unit {0}) E) → OnOk r (n ≡ with_bytes c id part bytes) → OnErr r (n ≡ c)
       → AreSound digest f shard c → IsSound digest f id.0 shard (with_part (parts_at c id) part (Some bytes)) → AreSound digest f shard n
-  after_put c n id part bytes (Ok done) stored refused s new = subst (AreSound digest f shard) (sym stored) (put_sound c id part bytes s new)
-  after_put c n id part bytes (Err why) stored refused s new = subst (AreSound digest f shard) (sym refused) s
+  after_put c n id part bytes (Ok done) stored refused s new = rw stored (put_sound c id part bytes s new)
+  after_put c n id part bytes (Err why) stored refused s new = rw refused s
 
   without_one_sound : (c : Contents) (id : BlobId) (axis : Axis) → AreSound digest f shard c → AreSound digest f shard (without_part c id (sliver_part axis))
   without_one_sound c id axis s =

@@ -3,25 +3,17 @@ use Rattle.wal_recover.proofs.OneTaking.{addition_new, addition_none}
 use Rattle.wal_recover.proofs.taking.add_opening.Goals as goal
 use Rattle.wal_recover.proofs.taking.add_opening.Goals.{else-len-most-via-then-len-most+else-is_new, else-len-most-via-else-len-most}
 
-pub returns-in_ok-push-clause-marks : goal.returns-in_ok-push-clause-marks
-returns-in_ok-push-clause-marks g c =
-    let m = metadata_shown c.args.m in
+pub returns-in_ok-push : goal.returns-in_ok-push
+returns-in_ok-push g c =
     let before = c.args.collected.now.taken.items in
     let copy = c.in_ok-duplicate.field-0 in
     let is = c.is_new.ensures.new.0 c.if-is_new.true in
     let pushed : c.push.new.self.items ≡ before ++ copy ∷ [] = search rules in
-    (addition_new g.H.Hash32.digest m c.args.axis c.args.index c.args.most c.args.collected.now.seen before c.push.new.self.items c.args.opening.now copy c.requires
-    (omega (arith, c.if-len-most.true, c.len.ensures)) (c.is_new.ensures.small is.1) is.0 is.1 c.in_ok-duplicate.ensures pushed).1
-
-pub returns-in_ok-push-clause-added : goal.returns-in_ok-push-clause-added
-returns-in_ok-push-clause-added g c =
-    let m = metadata_shown c.args.m in
-    let before = c.args.collected.now.taken.items in
-    let copy = c.in_ok-duplicate.field-0 in
-    let is = c.is_new.ensures.new.0 c.if-is_new.true in
-    let pushed : c.push.new.self.items ≡ before ++ copy ∷ [] = search rules in
-    (addition_new g.H.Hash32.digest m c.args.axis c.args.index c.args.most c.args.collected.now.seen before c.push.new.self.items c.args.opening.now copy c.requires
-    (omega (arith, c.if-len-most.true, c.len.ensures)) (c.is_new.ensures.small is.1) is.0 is.1 c.in_ok-duplicate.ensures pushed).0
+    let both = addition_new g.H.Hash32.digest (metadata_shown c.args.m) c.args.axis c.args.index c.args.most
+    c.args.collected.now.seen before c.push.new.self.items c.args.opening.now copy c.requires
+    (omega (arith, c.if-len-most.true, c.len.ensures)) (c.is_new.ensures.small is.1) is.0 is.1 c.in_ok-duplicate.ensures
+    pushed in
+    record { added = both.0; marks = both.1 }
 
 pub returns-else-len-most-clause-added : goal.returns-else-len-most-clause-added
 returns-else-len-most-clause-added g c =

@@ -9,10 +9,9 @@ held_kind-requires-clause-some g c =
 
 pub reply_held-requires-clause-room : goal.reply_held-requires-clause-room
 reply_held-requires-clause-room g c =
-    let sound = c.sound.ensures.sound c.args.id.now in
     let p = parts_at c.args.self.now.contents c.args.id.now in
     let size : c.in-Some.size ≡ length (unwrap_or p.metadata []) = search rules in
-    omega (arith, metadata_fits _ _ _ _ _ sound (search rules), size, c.requires.room)
+    omega (arith, metadata_fits _ _ _ _ _ (c.sound.ensures.sound c.args.id.now) (search rules), size, c.requires.room)
 
 pub returns-in-Some-clause-reply : goal.returns-in-Some-clause-reply
 returns-in-Some-clause-reply g c =
@@ -25,7 +24,6 @@ returns-in-Some-clause-reply g c =
 
 pub returns-in-Some-clause-room : goal.returns-in-Some-clause-room
 returns-in-Some-clause-room g c =
-    let sound = c.sound.ensures.sound c.args.id.now in
     let p = parts_at c.args.self.now.contents c.args.id.now in
     let size : c.in-Some.size ≡ length (unwrap_or p.metadata []) = search rules in
-    omega (arith, metadata_fits _ _ _ _ _ sound (search rules), size, c.reply_held.ensures.room)
+    omega (arith, metadata_fits _ _ _ _ _ (c.sound.ensures.sound c.args.id.now) (search rules), size, c.reply_held.ensures.room)
