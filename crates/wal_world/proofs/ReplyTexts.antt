@@ -48,6 +48,4 @@ pub written_by : {H : Type 0} (side : Side) (n : Network H) (list : List ShardSt
 unfolding held
 written_by side n list shard k s id reply old new count is there same place less at empty w =
     let of_side = shard_is side n list shard k s is there same place less at in
-    let index : s.index ≡ shard = of_side.index in
-    let contents : s.contents ≡ contents_of (side_of side (world_of n)) shard = of_side.contents in
-    rw (w.written, empty, index, contents)
+    rw (w.written, empty, of_side.index, of_side.contents)
