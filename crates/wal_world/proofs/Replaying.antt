@@ -175,23 +175,16 @@ pub taken_in_part : (r : Rules) (old : World) (event : Event) (new : World) (bef
     → IsErrAnd result (λ e. e ≡ failing.WriteFault) → Steps r old event said new → text ≡ line_text said → shown ≡ text → Late → (count : ℕ) × (count < length shown) × Appends before after (take count shown)
     → Takes r old event new before after Late result
 taken_in_part r old event new before after Late (Ok x) said text shown cause step told lent rose part = absurd cause
-taken_in_part r old event new before after Late (Err e) said text shown cause step told lent rose part =
-    let line : AppendsPart before after (line_text said) = subst (λ (t : List ℕ). AppendsPart before after t) (lent ∙ told) part in
-    subst (λ (x : ReplayError). Takes r old event new before after Late (Err x)) (sym cause) (said, new, step, rose, line)
+taken_in_part r old event new before after Late (Err e) said text shown cause step told lent rose part = rw cause (said, new, step, rose, rw (lent, told) at part)
 
 -- nothing was taken
 pub replays_nothing : (digest : List ℕ → List ℕ) → ((text : List ℕ) → length (digest text) ≡ 32) → (s : Schedule) → IsSchedule s → (old : Option (List ℕ)) (SinkRose : Type 0) (result : Result ReplayEnd ReplayError)
     → IsErrAnd result (λ e. e ≡ failing.Memory) → Replays digest s old old SinkRose result
 replays_nothing digest size s fit old SinkRose (Ok x) cause = absurd cause
 replays_nothing digest size s fit old SinkRose (Err e) cause =
-    subst (λ (x : ReplayError). Replays digest s old old SinkRose (Err x)) (sym cause) ([], first_lines digest size s fit 0 (omega arith) [] [] tt, tt, inr refl, Appends-nil old)
+    rw cause ([], first_lines digest size s fit 0 (omega arith) [] [] tt, tt, inr refl, Appends-nil old)
 
 -- the event of a place, and those before and after it
-pub events_split : (events : List Event) (i : ℕ) (d : Event) → i < length events → events ≡ take i events ++ get_or events i d ∷ drop (i + 1) events
-events_split events i d below =
-    let first : take (i + 1) events ≡ take i events ++ get_or events i d ∷ [] = take_more events i d below in
-    sym (take-append-drop (i + 1) events) ∙ ap (λ (l : List Event). l ++ drop (i + 1) events) first ∙ append_assoc (take i events) (get_or events i d ∷ []) (drop (i + 1) events)
-
 pub record IsEventAt (events : List Event) (i : ℕ) (event : Event) : Type 0 where
   pub split : events ≡ take i events ++ event ∷ drop (i + 1) events
   pub grows : take (i + 1) events ≡ take i events ++ event ∷ []
@@ -200,9 +193,10 @@ pub event_at : (events items : List Event) (i : ℕ) (event : Event) → items �
 event_at events items i event same below is =
     let here = subst (λ (l : List Event). get_or l i event ≡ event) same (sym is) in
     let less = subst (λ (l : List Event). i < length l) same below in
+    let grows : take (i + 1) events ≡ take i events ++ event ∷ [] = take_more events i event less ∙ ap (λ (x : Event). take i events ++ x ∷ []) here in
     record {
-      split = events_split events i event less ∙ ap (λ (x : Event). take i events ++ x ∷ drop (i + 1) events) here;
-      grows = take_more events i event less ∙ ap (λ (x : Event). take i events ++ x ∷ []) here;
+      split = sym (take-append-drop (i + 1) events) ∙ ap (λ (l : List Event). l ++ drop (i + 1) events) grows ∙ append_assoc (take i events) (event ∷ []) (drop (i + 1) events);
+      grows = grows;
     }
 
 -- all events

@@ -1,5 +1,5 @@
 -- Replies in a network's buffer.
-use Rattle.wal_world.proofs.Common.{◌≡◌, ℕ, ◌+◌, ◌<◌, ◌^◌, List, [], ◌∷◌, ◌++◌, length, true, Result, Ok, Err, ap, ◌∙◌, arith, length-append, append-nil, slice_index_or, flat_map, AllByRecursion, flat_map-append, BlobId, Side, committee_size, Reply, Buffer, envelope, IsPayload, IsStream, Splits, Parts, parts_at, ShardState, WritesReply, World, side_of, is_present, contents_of, held, Rules, read_payloads, reply_payloads, ledger_of, IsNetwork, shards_of, world_of, Network, IsLike}
+use Rattle.wal_world.proofs.Common.{◌≡◌, ℕ, ◌+◌, ◌<◌, ◌^◌, List, [], ◌∷◌, ◌++◌, length, true, Result, Ok, Err, ap, ◌∙◌, arith, length-append, append-nil, slice_index_or, flat_map, AllByRecursion, flat_map-append, BlobId, Side, committee_size, Reply, Buffer, envelope, IsPayload, IsStream, Splits, Parts, parts_at, ShardState, WritesReply, World, side_of, is_present, held, Rules, read_payloads, reply_payloads, ledger_of, IsNetwork, shards_of, world_of, Network, IsLike}
 use Rattle.wal_frame.specs.declared.stream.SplitError.{SplitError}
 use Rattle.wal_frame.specs.declared.stream.SplitError.TheVariants.{Malformed}
 use Rattle.wal_frame.proofs.StreamLaws.{joined}

@@ -1,5 +1,5 @@
 -- Summaries, event by event.
-use Rattle.wal_world.proofs.Common.{◌≡◌, ℕ, ◌+◌, ◌<◌, ◌≤◌, List, [], ◌∷◌, ◌++◌, length, length-take, take, btree_set_len, is_some, Option, Some, None, refl, ap, subst, arith, Collision, IsSchedule, Event, Schedule, Line, World, Rules, first_state, is_collision, rules_of, IsSummary, IsSummed, collision_in, IsTallied, IsTally, Summary, Tally, runs_each}
+use Rattle.wal_world.proofs.Common.{◌≡◌, ℕ, ◌+◌, ◌<◌, ◌≤◌, List, [], ◌∷◌, ◌++◌, length, length-take, take, btree_set_len, is_some, Option, Some, None, ap, arith, Collision, IsSchedule, Event, Schedule, Line, World, Rules, first_state, is_collision, rules_of, IsSummary, IsSummed, collision_in, IsTallied, IsTally, Summary, Tally, runs_each}
 use Rattle.wal_event.specs.declared.line.Line.TheVariants as line
 use Rattle.wal_world.specs.declared.summary.Summed.TheVariants as summed
 use Rattle.wal_world.proofs.Replaying.{IsRunning, run_stopped, run_whole, running_first, running_more}

@@ -1,7 +1,8 @@
 -- A network whose epoch begins to change, or has changed.
-use Rattle.wal_world.proofs.Common.{◌≡◌, ℕ, zero, suc, ◌+◌, ◌<◌, ◌≤◌, Bool, true, false, cond, ◌&&◌, nat_le, List, [], ◌∷◌, ◌++◌, length, map, take, drop, slice_index_or, slice_set, Option, Some, IsTrue, ◌↔◌, refl, sym, ap, ◌∙◌, subst, arith, range_with_len, from_sorted, empty_of_len, entries-from_sorted, len-entries, length-map, Format, Now, Next, id_cmp, committee_size, Log, LedgerState, is_moving, entered, takes_in, Contents, ShardState, room_of, IsReady, without_dead, First, World, nobody, contents_of, held, side_of, HoldsAll, is_carried_over, next_committee, after_dropping, IsFresh, ledger_of, faulty_on, AreBooks, IsBegun, IsFinished, world_of, contents_in, AreNext, AreShards, IsShardAt, IsNetwork, dropped, shard_with, shards_with, Books, Serving, Network}
+use Rattle.wal_world.proofs.Common.{◌≡◌, ℕ, zero, suc, ◌+◌, ◌<◌, ◌≤◌, Bool, true, false, cond, ◌&&◌, nat_le, List, [], ◌∷◌, ◌++◌, length, map, take, drop, slice_index_or, slice_set, Option, Some, IsTrue, ◌↔◌, refl, sym, ap, ◌∙◌, subst, arith, range_with_len, from_sorted, empty_of_len, entries-from_sorted, len-entries, length-map, Format, Now, Next, id_cmp, committee_size, Log, is_moving, entered, takes_in, Contents, ShardState, room_of, IsReady, without_dead, First, World, nobody, contents_of, held, side_of, HoldsAll, is_carried_over, next_committee, after_dropping, IsFresh, ledger_of, faulty_on, AreBooks, IsBegun, IsFinished, world_of, contents_in, AreNext, AreShards, IsShardAt, IsNetwork, dropped, shard_with, shards_with, Books, Serving, Network}
 use Rattle.std.specs.FinMap as finmap
 use Rattle.std.specs.BTreeMap.{IsOrdered}
+use Rattle.std.proofs.lemmas.Simd.{map-map}
 use Rattle.std.proofs.lemmas.List.FromFn.{get_or-map-range_with_len, length-map-range_with_len, map-range_with_len_more}
 use Rattle.wal_ledger.specs.declared.entry.Body.TheVariants as entry
 use Rattle.wal_epoch.specs.States.{ServingState}
@@ -36,11 +37,7 @@ made_shards f holds = record {
 }
 
 pub made_contents : (f : ℕ) (holds : ℕ → Contents) → contents_in (shards_with f holds) ≡ map holds (range_with_len 0 (committee_size f))
-made_contents f holds = over (range_with_len 0 (committee_size f))
-  where
-    over : (ks : List ℕ) → contents_in (map (shard_with f holds) ks) ≡ map holds ks
-    over [] = refl
-    over (k ∷ ks) = ap (λ ms. holds k ∷ ms) (over ks)
+made_contents f holds = map-map (λ (s : ShardState). s.contents) (shard_with f holds) (range_with_len 0 (committee_size f))
 
 -- shards that dropped what is not live are the same shards, and hold what is left
 dropped_at : (log : Log) (f k : ℕ) (xs : List ShardState) (i : ℕ) (d : ShardState) → i < length xs → IsShardAt f k (slice_index_or xs i d) → IsShardAt f k (slice_index_or (map (dropped log) xs) i d)
@@ -55,8 +52,7 @@ dropped_shards log f xs are = record {
 }
 
 dropped_contents : (log : Log) (xs : List ShardState) → contents_in (map (dropped log) xs) ≡ map (without_dead log) (contents_in xs)
-dropped_contents log [] = refl
-dropped_contents log (x ∷ xs) = ap (λ ms. without_dead log x.contents ∷ ms) (dropped_contents log xs)
+dropped_contents log xs = map-map (λ (s : ShardState). s.contents) (dropped log) xs ∙ sym (map-map (without_dead log) (λ (s : ShardState). s.contents) xs)
 
 -- equal parts make equal states
 abbrev Answers : Type 0
