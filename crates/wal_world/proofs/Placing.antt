@@ -3,14 +3,14 @@ use Rattle.wal_world.proofs.Common.{◌≡◌, ◌≢◌, ℕ, ◌<◌, List, le
 use Rattle.std.specs.FinMap as finmap
 use Rattle.wal_shard.specs.State as shard_state
 use Rattle.wal_shard.specs.declared.answers.Declined.{Declined}
-use Rattle.wal_world.proofs.Shards.{side_shards}
+use Rattle.wal_world.proofs.Shards.{network_from, side_shards}
 use Rattle.wal_world.proofs.Shards as shards
 
 contents_placed : (f : ℕ) (shards : List ShardState) (place : ℕ) (contents : Contents) → contents_in (placed f shards place contents) ≡ slice_set (contents_in shards) place contents
 contents_placed f shards place contents = map-set (λ (s : ShardState). s.contents) shards place (record { f = f; index = place; contents = contents; limit = None })
 
 pub are_placed : (f : ℕ) (shards : List ShardState) (place : ℕ) (contents : Contents) → AreShards f shards → AreShards f (placed f shards place contents)
-are_placed f shards place contents h = record { count = length-set shards place put ∙ h.count; each = each }
+are_placed f shards place contents h = record { count = length-set shards place put ∙ h.count; each = λ i d lt. at i d lt (cases_eq i place) }
   where
     put : ShardState
     put = record { f = f; index = place; contents = contents; limit = None }
@@ -22,9 +22,6 @@ are_placed f shards place contents h = record { count = length-set shards place 
         = ap (λ (k : ℕ). get_or (slice_set shards place put) k d) e ∙ get_or-set_same shards place put d (subst (λ (k : ℕ). k < length shards) e (subst (λ (n : ℕ). i < n) (sym h.count) lt)) in
         subst (λ (s : ShardState). IsShardAt f i s) (sym same) (record { f_is = refl; index_is = sym e; limit_is = refl })
 
-    each : (i : ℕ) (d : ShardState) → i < committee_size f → IsShardAt f i (slice_index_or (placed f shards place contents) i d)
-    each i d lt = at i d lt (cases_eq i place)
-
 next_is : (b : Option Books) (shards : List ShardState) → AreBooks b → is_moving (ledger_of b).log ≡ true → AreShards (ledger_of b).log.f shards → AreNext b shards
 next_is (Some (Serving s)) shards books moving h = cc
 next_is (Some (Moving m)) shards books moving h = h
@@ -34,44 +31,22 @@ pub places_world : {H : Type 0} (side : Side) (old new : Network H) (shard : ℕ
     → world_of new ≡ keeps (world_of old) side shard contents
 unfolding with_contents
 places_world Now old new shard contents p =
-    let here : contents_in new.sides.serving.shards.items ≡ slice_set (contents_in old.sides.serving.shards.items) shard contents
-    = ap contents_in p.shards ∙ contents_placed (ledger_of old.books).log.f old.sides.serving.shards.items shard contents in
-    let there : contents_in new.sides.next.shards.items ≡ contents_in old.sides.next.shards.items = ap contents_in p.others in
-    let format = p.format in let books = p.books in let few = p.few in let answers = p.answers in cc
+    let here = ap contents_in p.shards ∙ contents_placed (ledger_of old.books).log.f old.sides.serving.shards.items shard contents in
+    cc (p.format, p.books, p.few, p.answers, ap contents_in p.others, here)
 places_world Next old new shard contents p =
-    let here : contents_in new.sides.next.shards.items ≡ slice_set (contents_in old.sides.next.shards.items) shard contents
-    = ap contents_in p.shards ∙ contents_placed (ledger_of old.books).log.f old.sides.next.shards.items shard contents in
-    let there : contents_in new.sides.serving.shards.items ≡ contents_in old.sides.serving.shards.items = ap contents_in p.others in
-    let format = p.format in let books = p.books in let few = p.few in let answers = p.answers in cc
+    let here = ap contents_in p.shards ∙ contents_placed (ledger_of old.books).log.f old.sides.next.shards.items shard contents in
+    cc (p.format, p.books, p.few, p.answers, ap contents_in p.others, here)
 
 pub places_network : {H : Type 0} (side : Side) (old new : Network H) (shard : ℕ) (contents : Contents) → Places side old shard contents new
     → IsNetwork old → is_present side (world_of old) ≡ true → IsNetwork new
-places_network side old new shard contents p w present = record {
-  books = subst (λ (b : Option Books). AreBooks b) (sym p.books) w.books;
-  shards_now = subst (λ (b : Option Books). AreShards (ledger_of b).log.f new.sides.serving.shards.items) (sym p.books) (now side p.shards p.others there);
-  shards_next = subst (λ (b : Option Books). AreNext b new.sides.next.shards.items) (sym p.books) (next side p.shards p.others present there);
-  ordered = rw p.answers w.ordered;
-  work = p.work ∙ w.work ∙ ap (λ (b : Option Books). (ledger_of b).log.f) (sym p.books);
-  empty = rw p.buffer w.empty;
-  room = rw (p.buffer, p.books) w.room;
-}
-  where
-    f : ℕ
-    f = (ledger_of old.books).log.f
-
-    there : AreShards (ledger_of old.books).log.f (shards_of side old)
-    there = side_shards side old w present
-
-    now : (s : Side) → shards_of s new ≡ placed (ledger_of old.books).log.f (shards_of s old) shard contents → shards_of (opposite s) new ≡ shards_of (opposite s) old
-        → AreShards (ledger_of old.books).log.f (shards_of s old) → AreShards (ledger_of old.books).log.f new.sides.serving.shards.items
-    now Now e o h = subst (λ (l : List ShardState). AreShards (ledger_of old.books).log.f l) (sym e) (are_placed (ledger_of old.books).log.f old.sides.serving.shards.items shard contents h)
-    now Next e o h = subst (λ (l : List ShardState). AreShards (ledger_of old.books).log.f l) (sym o) w.shards_now
-
-    next : (s : Side) → shards_of s new ≡ placed (ledger_of old.books).log.f (shards_of s old) shard contents → shards_of (opposite s) new ≡ shards_of (opposite s) old
-        → is_present s (world_of old) ≡ true → AreShards (ledger_of old.books).log.f (shards_of s old) → AreNext old.books new.sides.next.shards.items
-    next Now e o moving h = subst (λ (l : List ShardState). AreNext old.books l) (sym o) w.shards_next
-    next Next e o moving h = next_is old.books new.sides.next.shards.items w.books moving
-        (subst (λ (l : List ShardState). AreShards (ledger_of old.books).log.f l) (sym e) (are_placed (ledger_of old.books).log.f old.sides.next.shards.items shard contents h))
+places_network Now old new shard contents p w present =
+    let f = (ledger_of old.books).log.f in
+    network_from old new w p.books refl w.books (subst (AreShards f) (sym p.shards) (are_placed f old.sides.serving.shards.items shard contents w.shards_now))
+    (subst (AreNext old.books) (sym p.others) w.shards_next) p.answers p.work p.buffer
+places_network Next old new shard contents p w present =
+    let f = (ledger_of old.books).log.f in
+    let next : AreShards f new.sides.next.shards.items = subst (AreShards f) (sym p.shards) (are_placed f old.sides.next.shards.items shard contents (side_shards Next old w present)) in
+    network_from old new w p.books refl w.books (subst (AreShards f) (sym p.others) w.shards_now) (next_is old.books _ w.books present next) p.answers p.work p.buffer
 
 -- what is held already changes nothing
 pub keeps_same : (side : Side) (w : World) (shard : ℕ) → keeps w side shard (contents_of (side_of side w) shard) ≡ w

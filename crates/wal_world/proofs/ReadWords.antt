@@ -9,10 +9,7 @@ use Rattle.wal_protocol.specs.declared.first.First.TheVariants.{Judged}
 
 pub reads_is : (digest : List ℕ → List ℕ) (id : BlobId) (payloads : List (List ℕ)) (o : Outcome) (found : Option Evidence) (word : ReadWord) (e : Evidence)
     → o ≡ outcome_told word → found ≡ Some e → IsOutcome digest id.0 payloads o → HasEvidence digest id.0 payloads o found → ReadsTo digest id payloads word (Some e)
-reads_is digest id payloads o found word e same there outcome evidence = (
-  subst (λ (x : Outcome). IsOutcome digest id.0 payloads x) same outcome,
-  subst (λ (x : Outcome). HasEvidence digest id.0 payloads x (Some e)) same (subst (λ (x : Option Evidence). HasEvidence digest id.0 payloads o x) there evidence),
-)
+reads_is digest id payloads o found word e same there outcome evidence = (rw same at outcome, rw (same, there) at evidence)
 
 pub told_bytes : (digest : List ℕ → List ℕ) (f : ℕ) (old new : World) (id : BlobId) (payloads : List (List ℕ)) (bytes : List ℕ) (e : Evidence) (t : Taken ReadWord)
     → ReadsTo digest id payloads (reading.Bytes bytes) (Some e) → IsTold digest old id (Judged e (verdict.Bytes bytes)) (reading.Bytes bytes) new t
@@ -51,8 +48,4 @@ pub read_step : (digest : List ℕ → List ℕ) (w mid new : World) (id : BlobI
     → payloads ≡ read_payloads (rules_of digest w.log.f) w id replies
     → IsTaken digest (λ word. ReadsOn (rules_of digest mid.log.f) mid id payloads word new) (CollidesOn (rules_of digest mid.log.f) mid id payloads × (new ≡ mid)) t
     → IsTaken digest (λ word. ReadStep (rules_of digest w.log.f) w id replies word new) (ReadCollides (rules_of digest w.log.f) w id replies × (new ≡ w)) t
-read_step digest w mid new id replies payloads t same gathered h =
-    let at_w : IsTaken digest (λ word. ReadsOn (rules_of digest w.log.f) w id payloads word new) (CollidesOn (rules_of digest w.log.f) w id payloads × (new ≡ w)) t
-    = subst (λ (x : World). IsTaken digest (λ word. ReadsOn (rules_of digest x.log.f) x id payloads word new) (CollidesOn (rules_of digest x.log.f) x id payloads × (new ≡ x)) t) same h in
-    taken_of digest w new id replies t
-    (subst (λ (p : List (List ℕ)). IsTaken digest (λ word. ReadsOn (rules_of digest w.log.f) w id p word new) (CollidesOn (rules_of digest w.log.f) w id p × (new ≡ w)) t) gathered at_w)
+read_step digest w mid new id replies payloads t same gathered h = taken_of digest w new id replies t (rw (same, gathered) at h)

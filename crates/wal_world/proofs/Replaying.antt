@@ -102,8 +102,7 @@ first_lines digest size s fit count some states lines run = record {
 -- one more event was to come
 more_events : (s : Schedule) (count : ℕ) (event : Event) → take (count + 1) s.events ≡ take count s.events ++ event ∷ [] → count < length s.events
 more_events s count event grows =
-    let longer : length (take (count + 1) s.events) ≡ length (take count s.events ++ event ∷ []) = ap (λ (l : List Event). length l) grows in
-    omega (arith, longer, length-append (take count s.events) (event ∷ []), length-take (count + 1) s.events, length-take count s.events)
+    omega (arith, ap (λ (l : List Event). length l) grows, length-append (take count s.events) (event ∷ []), length-take (count + 1) s.events, length-take count s.events)
 
 module _ (digest : List ℕ → List ℕ) (size : (text : List ℕ) → length (digest text) ≡ 32) (s : Schedule) (fit : IsSchedule s) where
   abbrev r : Rules
@@ -176,28 +175,16 @@ pub taken_in_part : (r : Rules) (old : World) (event : Event) (new : World) (bef
     → IsErrAnd result (λ e. e ≡ failing.WriteFault) → Steps r old event said new → text ≡ line_text said → shown ≡ text → Late → (count : ℕ) × (count < length shown) × Appends before after (take count shown)
     → Takes r old event new before after Late result
 taken_in_part r old event new before after Late (Ok x) said text shown cause step told lent rose part = absurd cause
-taken_in_part r old event new before after Late (Err e) said text shown cause step told lent rose part =
-    let line : AppendsPart before after (line_text said) = subst (λ (t : List ℕ). AppendsPart before after t) (lent ∙ told) part in
-    subst (λ (x : ReplayError). Takes r old event new before after Late (Err x)) (sym cause) (said, new, step, rose, line)
+taken_in_part r old event new before after Late (Err e) said text shown cause step told lent rose part = rw cause (said, new, step, rose, rw (lent, told) at part)
 
 -- nothing was taken
 pub replays_nothing : (digest : List ℕ → List ℕ) → ((text : List ℕ) → length (digest text) ≡ 32) → (s : Schedule) → IsSchedule s → (old : Option (List ℕ)) (SinkRose : Type 0) (result : Result ReplayEnd ReplayError)
     → IsErrAnd result (λ e. e ≡ failing.Memory) → Replays digest s old old SinkRose result
 replays_nothing digest size s fit old SinkRose (Ok x) cause = absurd cause
 replays_nothing digest size s fit old SinkRose (Err e) cause =
-    subst (λ (x : ReplayError). Replays digest s old old SinkRose (Err x)) (sym cause) ([], first_lines digest size s fit 0 (omega arith) [] [] tt, tt, inr refl, Appends-nil old)
-
--- an event among others is in range
-event_within : (n : ℕ) (front rest : List Event) (event : Event) → AllByRecursion (IsEventWithin n) (front ++ event ∷ rest) → IsEventWithin n event
-event_within n [] rest event all = all.0
-event_within n (e ∷ front) rest event all = event_within n front rest event all.1
+    rw cause ([], first_lines digest size s fit 0 (omega arith) [] [] tt, tt, inr refl, Appends-nil old)
 
 -- the event of a place, and those before and after it
-pub events_split : (events : List Event) (i : ℕ) (d : Event) → i < length events → events ≡ take i events ++ get_or events i d ∷ drop (i + 1) events
-events_split events i d below =
-    let first : take (i + 1) events ≡ take i events ++ get_or events i d ∷ [] = take_more events i d below in
-    sym (take-append-drop (i + 1) events) ∙ ap (λ (l : List Event). l ++ drop (i + 1) events) first ∙ append_assoc (take i events) (get_or events i d ∷ []) (drop (i + 1) events)
-
 pub record IsEventAt (events : List Event) (i : ℕ) (event : Event) : Type 0 where
   pub split : events ≡ take i events ++ event ∷ drop (i + 1) events
   pub grows : take (i + 1) events ≡ take i events ++ event ∷ []
@@ -206,30 +193,23 @@ pub event_at : (events items : List Event) (i : ℕ) (event : Event) → items �
 event_at events items i event same below is =
     let here = subst (λ (l : List Event). get_or l i event ≡ event) same (sym is) in
     let less = subst (λ (l : List Event). i < length l) same below in
+    let grows : take (i + 1) events ≡ take i events ++ event ∷ [] = take_more events i event less ∙ ap (λ (x : Event). take i events ++ x ∷ []) here in
     record {
-      split = events_split events i event less ∙ ap (λ (x : Event). take i events ++ x ∷ drop (i + 1) events) here;
-      grows = take_more events i event less ∙ ap (λ (x : Event). take i events ++ x ∷ []) here;
+      split = sym (take-append-drop (i + 1) events) ∙ ap (λ (l : List Event). l ++ drop (i + 1) events) grows ∙ append_assoc (take i events) (event ∷ []) (drop (i + 1) events);
+      grows = grows;
     }
-
-pub within_schedule : (s : Schedule) (f i : ℕ) (event : Event) → IsSchedule s → f ≡ s.f → IsEventAt s.events i event → IsEventWithin (committee_size f) event
-within_schedule s f i event fit same at =
-    let each = subst (λ (l : List Event). AllByRecursion (IsEventWithin (committee_size s.f)) l) at.split fit.each in
-    subst (λ (n : ℕ). IsEventWithin (committee_size n) event) (sym same) (event_within (committee_size s.f) (take i s.events) (drop (i + 1) s.events) event each)
 
 -- all events
 pub all_events : (events items : List Event) (i : ℕ) → items ≡ events → length items ≤ i → take i events ≡ events
-all_events events items i same past =
-    subst (λ (l : List Event). take i l ≡ l) same (take_all i items past)
+all_events events items i same past = rw same at (take_all i items past)
 
 -- the same by the committee's own number of faults
 pub takes_as : (digest : List ℕ → List ℕ) (f g : ℕ) (w : World) (event : Event) (new : World) (mid now : Option (List ℕ)) (Late : Type 0) (result : Result Bool ReplayError)
     → f ≡ g → Takes (rules_of digest f) w event new mid now Late result → Takes (rules_of digest g) w event new mid now Late result
-takes_as digest f g w event new mid now Late result same t =
-    subst (λ (n : ℕ). Takes (rules_of digest n) w event new mid now Late result) same t
+takes_as digest f g w event new mid now Late result same t = rw same at t
 
 -- the same by what a failure is passed on as
 pub replays_as : (digest : List ℕ → List ℕ) (s : Schedule) (old now : Option (List ℕ)) (SinkRose : Type 0) (result : Result ReplayEnd ReplayError) (e : ReplayError)
     → IsErrAnd result (λ x. x ≡ e) → Replays digest s old now SinkRose (Err e) → Replays digest s old now SinkRose result
 replays_as digest s old now SinkRose (Ok x) e cause r = absurd cause
-replays_as digest s old now SinkRose (Err x) e cause r =
-    subst (λ (y : ReplayError). Replays digest s old now SinkRose (Err y)) (sym cause) r
+replays_as digest s old now SinkRose (Err x) e cause r = rw cause r

@@ -1,5 +1,5 @@
 -- Replies in a network's buffer.
-use Rattle.wal_world.proofs.Common.{◌≡◌, ℕ, ◌+◌, ◌<◌, ◌^◌, List, [], ◌∷◌, ◌++◌, length, true, Result, Ok, Err, ap, ◌∙◌, arith, length-append, append-nil, slice_index_or, flat_map, AllByRecursion, flat_map-append, BlobId, Side, committee_size, Reply, Buffer, envelope, IsPayload, IsStream, Splits, Parts, parts_at, ShardState, WritesReply, World, side_of, is_present, contents_of, held, Rules, read_payloads, reply_payloads, ledger_of, IsNetwork, shards_of, world_of, Network, IsLike}
+use Rattle.wal_world.proofs.Common.{◌≡◌, ℕ, ◌+◌, ◌<◌, ◌^◌, List, [], ◌∷◌, ◌++◌, length, true, Result, Ok, Err, ap, ◌∙◌, arith, length-append, append-nil, slice_index_or, flat_map, AllByRecursion, flat_map-append, BlobId, Side, committee_size, Reply, Buffer, envelope, IsPayload, IsStream, Splits, Parts, parts_at, ShardState, WritesReply, World, side_of, is_present, held, Rules, read_payloads, reply_payloads, ledger_of, IsNetwork, shards_of, world_of, Network, IsLike}
 use Rattle.wal_frame.specs.declared.stream.SplitError.{SplitError}
 use Rattle.wal_frame.specs.declared.stream.SplitError.TheVariants.{Malformed}
 use Rattle.wal_frame.proofs.StreamLaws.{joined}
@@ -48,6 +48,4 @@ pub written_by : {H : Type 0} (side : Side) (n : Network H) (list : List ShardSt
 unfolding held
 written_by side n list shard k s id reply old new count is there same place less at empty w =
     let of_side = shard_is side n list shard k s is there same place less at in
-    let index : s.index ≡ shard = of_side.index in
-    let contents : s.contents ≡ contents_of (side_of side (world_of n)) shard = of_side.contents in
-    rw (w.written, empty, index, contents)
+    rw (w.written, empty, of_side.index, of_side.contents)

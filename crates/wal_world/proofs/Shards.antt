@@ -1,6 +1,7 @@
 -- The shards of a network.
-use Rattle.wal_world.proofs.Common.{◌≡◌, ℕ, zero, suc, ◌<◌, true, false, List, [], ◌∷◌, length, Option, Some, None, refl, sym, ap, ◌∙◌, subst, arith, slice_index_or, Side, Now, Next, committee_size, is_moving, Contents, ShardState, is_present, side_of, ledger_of, AreBooks, world_of, shards_of, contents_in, AreNext, AreShards, IsShardAt, IsShardOf, IsNetwork, Books, Serving, Moving, members_of, Members, Network}
+use Rattle.wal_world.proofs.Common.{◌≡◌, ℕ, zero, suc, ◌<◌, ◌≤◌, true, false, List, [], ◌∷◌, length, Option, Some, None, refl, sym, ap, ◌∙◌, subst, arith, slice_index_or, Side, Now, Next, committee_size, id_cmp, room_of, is_moving, Contents, ShardState, is_present, side_of, ledger_of, AreBooks, world_of, shards_of, contents_in, AreNext, AreShards, IsShardAt, IsShardOf, IsNetwork, Books, Serving, Moving, members_of, Members, Network}
 use Rattle.std.specs.FinMap as finmap
+use Rattle.std.specs.BTreeMap.{IsOrdered}
 
 -- the next committee has its shards while the epoch changes
 next_shards : (b : Option Books) (shards : List ShardState) → AreBooks b → AreNext b shards → is_moving (ledger_of b).log ≡ true → AreShards (ledger_of b).log.f shards
@@ -43,6 +44,21 @@ shard_is side n shards i k s is there e same less at =
       f = one.f_is;
       index = one.index_is;
       limit = one.limit_is;
+    }
+
+-- a network of these books that is else as another one
+pub network_from : {H : Type 0} (n m : Network H) {b : Option Books} → IsNetwork n → m.books ≡ b → (ledger_of b).log.f ≡ (ledger_of n.books).log.f → AreBooks b
+    → AreShards (ledger_of n.books).log.f m.sides.serving.shards.items → AreNext b m.sides.next.shards.items → m.answers ≡ n.answers → m.work.f ≡ n.work.f → m.buffer ≡ n.buffer → IsNetwork m
+network_from n m is books same are now next answers work buffer =
+    let f : (ledger_of m.books).log.f ≡ (ledger_of n.books).log.f = ap (λ (k : Option Books). (ledger_of k).log.f) books ∙ same in
+    record {
+      books = subst (λ (k : Option Books). AreBooks k) (sym books) are;
+      shards_now = subst (λ k. AreShards k m.sides.serving.shards.items) (sym f) now;
+      shards_next = subst (λ (k : Option Books). AreNext k m.sides.next.shards.items) (sym books) next;
+      ordered = subst (λ a. IsOrdered id_cmp a) (sym answers) is.ordered;
+      work = work ∙ is.work ∙ sym f;
+      empty = ap (λ k. k.bytes) buffer ∙ is.empty;
+      room = subst (λ k. room_of k ≤ m.buffer.spare) (sym f) (subst (λ k. room_of (ledger_of n.books).log.f ≤ k.spare) (sym buffer) is.room);
     }
 
 -- the shards that the members of a side have

@@ -1,5 +1,5 @@
 -- Summaries, event by event.
-use Rattle.wal_world.proofs.Common.{◌≡◌, ℕ, ◌+◌, ◌<◌, ◌≤◌, List, [], ◌∷◌, ◌++◌, length, length-take, take, btree_set_len, is_some, Option, Some, None, refl, ap, subst, arith, Collision, IsSchedule, Event, Schedule, Line, World, Rules, first_state, is_collision, rules_of, IsSummary, IsSummed, collision_in, IsTallied, IsTally, Summary, Tally, runs_each}
+use Rattle.wal_world.proofs.Common.{◌≡◌, ℕ, ◌+◌, ◌<◌, ◌≤◌, List, [], ◌∷◌, ◌++◌, length, length-take, take, btree_set_len, is_some, Option, Some, None, ap, arith, Collision, IsSchedule, Event, Schedule, Line, World, Rules, first_state, is_collision, rules_of, IsSummary, IsSummed, collision_in, IsTallied, IsTally, Summary, Tally, runs_each}
 use Rattle.wal_event.specs.declared.line.Line.TheVariants as line
 use Rattle.wal_world.specs.declared.summary.Summed.TheVariants as summed
 use Rattle.wal_world.proofs.Replaying.{IsRunning, run_stopped, run_whole, running_first, running_more}
@@ -11,12 +11,8 @@ stops_at (line.Collision left right) o is = ap (λ (c : Option Collision). is_so
 stops_at said o is = ap (λ (c : Option Collision). is_some c) is
 
 -- and those are its texts
-abbrev HasTexts : List ℕ → List ℕ → Option Collision → Type 0
-HasTexts left right None = ⊥
-HasTexts left right (Some c) = line.Collision left right ≡ line.Collision c.left c.right
-
 said_texts : (said : Line) (c : Collision) → collision_in said ≡ Some c → said ≡ line.Collision c.left c.right
-said_texts (line.Collision left right) c is = subst (HasTexts left right) is refl
+said_texts (line.Collision left right) c is = cc
 said_texts said c is = cc
 
 -- what stands after the first events, where none of their lines is a collision: a run of them that led to this state, and the tally of its lines
@@ -61,6 +57,4 @@ module _ (digest : List ℕ → List ℕ) (size : (text : List ℕ) → length (
 -- the same by the committee's own number of faults, and by what was matched
 pub tallied_as : (digest : List ℕ → List ℕ) (f g : ℕ) (w : World) (event : Event) (new : World) (before after : Tally) (o p : Option Collision)
     → f ≡ g → o ≡ p → IsTallied (rules_of digest f) w event new before after o → IsTallied (rules_of digest g) w event new before after p
-tallied_as digest f g w event new before after o p same is t =
-    subst (λ (x : Option Collision). IsTallied (rules_of digest g) w event new before after x) is
-    (subst (λ (n : ℕ). IsTallied (rules_of digest n) w event new before after o) same t)
+tallied_as digest f g w event new before after o p same is t = rw (same, is) at t

@@ -8,9 +8,7 @@ use Rattle.wal_world.proofs.Shards.{shard_is}
 pub own_held : (digest : List ℕ → List ℕ) (f g : ℕ) (id : BlobId) (c : Committee) (shard : ℕ) (contents : Contents) (r : Result (Option BlobMetadata) AllocError) → g ≡ f → contents ≡ contents_of c shard
     → IfOk r (λ o. IfSome o (λ m. IsOwnMetadata digest g id.0 (parts_at contents id) m)) → IfOk r (λ o. IfSome o (λ m. IsOwnMetadata digest f id.0 (held c shard id) m))
 unfolding held
-own_held digest f g id c shard contents r same is h =
-    subst (λ (x : Contents). IfOk r (λ o. IfSome o (λ m. IsOwnMetadata digest f id.0 (parts_at x id) m))) is
-    (subst (λ (x : ℕ). IfOk r (λ o. IfSome o (λ m. IsOwnMetadata digest x id.0 (parts_at contents id) m))) same h)
+own_held digest f g id c shard contents r same is h = rw (same, is) at h
 
 pub own_none : (id : BlobId) (c : Committee) (shard : ℕ) (contents : Contents) (r : Result (Option BlobMetadata) AllocError) → contents ≡ contents_of c shard
     → IfOk r (λ o. IfNone o (store.part_at contents id parts.Metadata ≡ None)) → IfOk r (λ o. IfNone o ((held c shard id).metadata ≡ None))
@@ -24,17 +22,11 @@ pub symbols_by : {H : Type 0} (side : Side) (n : Network H) (list : List ShardSt
 unfolding held
 symbols_by side n list shard k s id P old new count is there same place less at empty w =
     let of_side = shard_is side n list shard k s is there same place less at in
-    let index : s.index ≡ shard = of_side.index in
-    let contents : s.contents ≡ contents_of (side_of side (world_of n)) shard = of_side.contents in (
-      w.0,
-      subst (λ (m : Contents). P shard (parts_at m id) w.0) contents (subst (λ (i : ℕ). P i (parts_at s.contents id) w.0) index w.1),
-      ap (λ (b : Buffer). b.bytes) w.2.written ∙ ap (λ (t : List ℕ). t ++ flat_map (envelope s.index) w.0) empty ∙ ap (λ (i : ℕ). flat_map (envelope i) w.0) index,
-    )
+    (w.0, rw (of_side.index, of_side.contents) at w.1, rw (w.2.written, empty, of_side.index))
 
 pub symbol_replies : (digest : List ℕ → List ℕ) (id : BlobId) (helper : ℕ) (p : Parts) (axis : Axis) (shard : ℕ) (m : BlobMetadata) (index : ℕ) (r : Result (List (List ℕ)) AllocError) → HoldsMetadata p m
     → index ≡ held_index m.format m.f axis shard → IfOk r (SymbolReplies digest id.0 helper p axis index) → IfOk r (SymbolReply digest id helper p axis shard)
-symbol_replies digest id helper p axis shard m index (Ok payloads) own is h =
-    replies m payloads own (subst (λ (i : ℕ). SymbolReplies digest id.0 helper p axis i payloads) is h)
+symbol_replies digest id helper p axis shard m index (Ok payloads) own is h = replies m payloads own (rw is at h)
 symbol_replies digest id helper p axis shard m index (Err e) own is h = tt
 
 -- one more reply

@@ -31,8 +31,7 @@ module _ {Y : Type 0} (h : Line → Option Y) where
   -- the count of what the lines give
   count_push : (lines : List Line) (said : Line) (n : ℕ) → n ≡ length (filter_map h lines) → n + cond (is_some (h said)) 1 0 ≡ length (filter_map h (lines ++ said ∷ []))
   count_push lines said n is =
-      let all : length (filter_map h (lines ++ said ∷ [])) ≡ length (filter_map h lines ++ option_to_list (h said)) = ap (λ (l : List Y). length l) (given_push lines said) in
-      omega (arith, is, all, length-append (filter_map h lines) (option_to_list (h said)), counted_one (h said))
+      omega (arith, is, ap (λ (l : List Y). length l) (given_push lines said), length-append (filter_map h lines) (option_to_list (h said)), counted_one (h said))
 
 -- a flag of a size is that of what has it
 sized_flag : (o : Option (List ℕ)) → is_some (option_map length o) ≡ is_some o
@@ -45,8 +44,7 @@ sum_one_more all (Some bytes) = sum_by_push length all bytes
 sum_push : (lines : List Line) (said : Line) (n : ℕ) → n ≡ min (sum_by length (filter_map bytes_in lines)) (2 ^ 64 - 1)
     → min (n + unwrap_or (option_map length (bytes_in said)) 0) (2 ^ 64 - 1) ≡ min (sum_by length (filter_map bytes_in (lines ++ said ∷ []))) (2 ^ 64 - 1)
 sum_push lines said n is =
-    let all : sum_by length (filter_map bytes_in (lines ++ said ∷ [])) ≡ sum_by length (filter_map bytes_in lines ++ option_to_list (bytes_in said)) = ap (λ (l : List (List ℕ)). sum_by length l) (given_push bytes_in lines said) in
-    omega (arith, is, all, sum_one_more (filter_map bytes_in lines) (bytes_in said))
+    omega (arith, is, ap (λ (l : List (List ℕ)). sum_by length l) (given_push bytes_in lines said), sum_one_more (filter_map bytes_in lines) (bytes_in said))
 
 -- the least of some numbers and of one more
 least_more : (ks : List ℕ) (o : Option ℕ) → reduce min (option_to_list (reduce min ks) ++ option_to_list o) ≡ reduce min (ks ++ option_to_list o)

@@ -1,13 +1,12 @@
 -- A network whose epoch begins to change, or has changed.
-use Rattle.wal_world.proofs.Common.{◌≡◌, ℕ, zero, suc, ◌+◌, ◌<◌, ◌≤◌, Bool, true, false, cond, ◌&&◌, nat_le, List, [], ◌∷◌, ◌++◌, length, map, take, drop, slice_index_or, slice_set, Option, Some, IsTrue, ◌↔◌, refl, sym, ap, ◌∙◌, subst, arith, range_with_len, from_sorted, empty_of_len, entries-from_sorted, len-entries, length-map, Format, Now, Next, id_cmp, committee_size, Log, LedgerState, is_moving, entered, takes_in, Contents, ShardState, room_of, IsReady, without_dead, MayBegin, First, World, nobody, contents_of, held, side_of, HoldsAll, is_carried_over, next_committee, after_dropping, IsFresh, ledger_of, faulty_on, AreBooks, IsBegun, IsBeginError, IsFinished, world_of, contents_in, AreNext, AreShards, IsShardAt, IsNetwork, dropped, shard_with, shards_with, Books, Serving, Network}
+use Rattle.wal_world.proofs.Common.{◌≡◌, ℕ, zero, suc, ◌+◌, ◌<◌, ◌≤◌, Bool, true, false, cond, ◌&&◌, nat_le, List, [], ◌∷◌, ◌++◌, length, map, take, drop, slice_index_or, slice_set, Option, Some, IsTrue, ◌↔◌, refl, sym, ap, ◌∙◌, subst, arith, range_with_len, from_sorted, empty_of_len, entries-from_sorted, len-entries, length-map, Format, Now, Next, id_cmp, committee_size, Log, is_moving, entered, takes_in, Contents, ShardState, room_of, IsReady, without_dead, First, World, nobody, contents_of, held, side_of, HoldsAll, is_carried_over, next_committee, after_dropping, IsFresh, ledger_of, faulty_on, AreBooks, IsBegun, IsFinished, world_of, contents_in, AreNext, AreShards, IsShardAt, IsNetwork, dropped, shard_with, shards_with, Books, Serving, Network}
 use Rattle.std.specs.FinMap as finmap
 use Rattle.std.specs.BTreeMap.{IsOrdered}
+use Rattle.std.proofs.lemmas.Simd.{map-map}
 use Rattle.std.proofs.lemmas.List.FromFn.{get_or-map-range_with_len, length-map-range_with_len, map-range_with_len_more}
 use Rattle.wal_ledger.specs.declared.entry.Body.TheVariants as entry
 use Rattle.wal_epoch.specs.States.{ServingState}
-use Rattle.wal_epoch.specs.declared.answers.BeginError.{BeginError}
-use Rattle.wal_epoch.specs.declared.answers.BeginError.TheVariants as beginning
-use Rattle.wal_world.proofs.Shards.{side_shards}
+use Rattle.wal_world.proofs.Shards.{network_from, side_shards}
 
 -- one more element is changed
 changed_next : {X : Type 0} (h : X → X) (ys : List X) (k : ℕ) (y d : X) → k < length ys → y ≡ h (slice_index_or (map h (take k ys) ++ drop k ys) k d)
@@ -26,8 +25,7 @@ changed_more {X} h xs ys k d y e less made =
 pub ready_is : (w : World) (log : Log) (contents : Contents) (shard : ℕ) (b : Bool) → log ≡ w.log → contents ≡ contents_of (side_of Next w) shard → (IsTrue b ↔ IsReady log contents)
     → IsTrue b ↔ HoldsAll w shard
 unfolding held
-ready_is w log contents shard b same holds is =
-    subst (λ (l : Log). IsTrue b ↔ IsReady l (contents_of (side_of Next w) shard)) same (subst (λ (m : Contents). IsTrue b ↔ IsReady log m) holds is)
+ready_is w log contents shard b same holds is = rw (same, holds) at is
 
 -- the shards of a committee, made one after the other
 pub made_shards : (f : ℕ) (holds : ℕ → Contents) → AreShards f (shards_with f holds)
@@ -39,11 +37,7 @@ made_shards f holds = record {
 }
 
 pub made_contents : (f : ℕ) (holds : ℕ → Contents) → contents_in (shards_with f holds) ≡ map holds (range_with_len 0 (committee_size f))
-made_contents f holds = over (range_with_len 0 (committee_size f))
-  where
-    over : (ks : List ℕ) → contents_in (map (shard_with f holds) ks) ≡ map holds ks
-    over [] = refl
-    over (k ∷ ks) = ap (λ ms. holds k ∷ ms) (over ks)
+made_contents f holds = map-map (λ (s : ShardState). s.contents) (shard_with f holds) (range_with_len 0 (committee_size f))
 
 -- shards that dropped what is not live are the same shards, and hold what is left
 dropped_at : (log : Log) (f k : ℕ) (xs : List ShardState) (i : ℕ) (d : ShardState) → i < length xs → IsShardAt f k (slice_index_or xs i d) → IsShardAt f k (slice_index_or (map (dropped log) xs) i d)
@@ -58,8 +52,7 @@ dropped_shards log f xs are = record {
 }
 
 dropped_contents : (log : Log) (xs : List ShardState) → contents_in (map (dropped log) xs) ≡ map (without_dead log) (contents_in xs)
-dropped_contents log [] = refl
-dropped_contents log (x ∷ xs) = ap (λ ms. without_dead log x.contents ∷ ms) (dropped_contents log xs)
+dropped_contents log xs = map-map (λ (s : ShardState). s.contents) (dropped log) xs ∙ sym (map-map (without_dead log) (λ (s : ShardState). s.contents) xs)
 
 -- equal parts make equal states
 abbrev Answers : Type 0
@@ -75,11 +68,6 @@ same_state : {format u : Format} {log l : Log} {xs vs : List ℕ} {now m : List 
 same_state e0 e1 e2 e3 e4 e5 e6 e7 = cc
 
 -- the epoch begins to change
-pub no_refusal : (l : LedgerState) (owners faulty stays : List ℕ) (error : BeginError) → IsBeginError l owners faulty stays error → MayBegin l.log owners faulty stays → 0 < l.spare → ⊥
-no_refusal l owners faulty stays beginning.LastEpoch is may room = let epoch = may.epoch in omega (arith, is, epoch)
-no_refusal l owners faulty stays beginning.BadCommittee is may room = let e : true ≡ false = sym may.committee ∙ is.1 in absurd cc
-no_refusal l owners faulty stays beginning.NoRoom is may room = omega (arith, is.1, room)
-
 module _ {H : Type 0} (n m : Network H) (owners faulty stays : List ℕ) where
   abbrev next_holds : ℕ → Contents
   next_holds s = cond (is_carried_over (world_of n) owners faulty stays s) (contents_of (side_of Now (world_of n)) s) finmap.empty
@@ -98,65 +86,31 @@ module _ {H : Type 0} (n m : Network H) (owners faulty stays : List ℕ) where
   pub begun_network : IsNetwork n → IsBegun n.books owners faulty stays m.books → m.sides.serving.shards.items ≡ n.sides.serving.shards.items
       → m.sides.next.shards.items ≡ shards_with (world_of n).log.f next_holds → m.answers ≡ n.answers → m.work ≡ n.work → m.buffer ≡ n.buffer → IsNetwork m
   begun_network is begun now next answers work buffer =
-      let f : (ledger_of m.books).log.f ≡ (ledger_of n.books).log.f = ap (λ b. (ledger_of b).log.f) begun.books in
       let moves : is_moving (takes_in (ledger_of n.books) (entry.Begin owners)).log ≡ true = ap (λ b. is_moving (ledger_of b).log) (sym begun.books) ∙ begun.moving in
-      record {
-        books = subst (λ b. AreBooks b) (sym begun.books) moves;
-        shards_now = subst (λ k. AreShards k m.sides.serving.shards.items) (sym f) (subst (AreShards (ledger_of n.books).log.f) (sym now) is.shards_now);
-        shards_next = subst (λ b. AreNext b m.sides.next.shards.items) (sym begun.books) (subst (AreShards (ledger_of n.books).log.f) (sym next) (made_shards (world_of n).log.f next_holds));
-        ordered = subst (λ a. IsOrdered id_cmp a) (sym answers) is.ordered;
-        work = ap (λ k. k.f) work ∙ is.work ∙ sym f;
-        empty = ap (λ b. b.bytes) buffer ∙ is.empty;
-        room = subst (λ k. room_of k ≤ m.buffer.spare) (sym f) (subst (λ b. room_of (ledger_of n.books).log.f ≤ b.spare) (sym buffer) is.room);
-      }
+      network_from n m is begun.books refl moves (subst (AreShards (ledger_of n.books).log.f) (sym now) is.shards_now)
+      (subst (AreShards (ledger_of n.books).log.f) (sym next) (made_shards (world_of n).log.f next_holds)) answers (ap (λ k. k.f) work) buffer
 
 -- the next epoch began
 module _ {H : Type 0} (n m : Network H) where
   abbrev after : Log
   after = entered (world_of n).log entry.Finish
 
-  pub finished_world : IsFinished n.books m.books → m.format ≡ n.format → m.sides.serving.shards.items ≡ map (dropped (ledger_of m.books).log) n.sides.next.shards.items → m.sides.next.shards.items ≡ []
-      → m.answers.entries ≡ n.answers.entries → m.few ≡ n.few
-      → world_of m ≡ record (world_of n) { log = after; now = after_dropping after (world_of n).next; next = nobody }
-  finished_world done format now next answers few =
-      let log : (ledger_of m.books).log ≡ after = ap (λ b. (ledger_of b).log) done.books in
-      same_state format log (ap (faulty_on Now) done.books)
-      (ap contents_in now ∙ dropped_contents (ledger_of m.books).log n.sides.next.shards.items ∙ ap (λ l. map (without_dead l) (contents_in n.sides.next.shards.items)) log)
-      (ap (faulty_on Next) done.books) (ap contents_in next) few (ap (λ es. from_sorted es) answers)
-
-  pub finished_network : IsNetwork n → is_moving (world_of n).log ≡ true → IsFinished n.books m.books → m.sides.serving.shards.items ≡ map (dropped (ledger_of m.books).log) n.sides.next.shards.items
-      → m.sides.next.shards.items ≡ [] → m.answers ≡ n.answers → m.work ≡ n.work → m.buffer ≡ n.buffer → IsNetwork m
-  finished_network is moving done now next answers work buffer =
-      let f : (ledger_of m.books).log.f ≡ (ledger_of n.books).log.f = ap (λ b. (ledger_of b).log.f) done.books in
-      let serves : is_moving (takes_in (ledger_of n.books) entry.Finish).log ≡ false = ap (λ b. is_moving (ledger_of b).log) (sym done.books) ∙ done.serving in
-      let were : AreShards (ledger_of n.books).log.f n.sides.next.shards.items = side_shards Next n is moving in
-      record {
-        books = subst (λ b. AreBooks b) (sym done.books) serves;
-        shards_now = subst (λ k. AreShards k m.sides.serving.shards.items) (sym f)
-            (subst (AreShards (ledger_of n.books).log.f) (sym now) (dropped_shards (ledger_of m.books).log (ledger_of n.books).log.f n.sides.next.shards.items were));
-        shards_next = subst (λ b. AreNext b m.sides.next.shards.items) (sym done.books) next;
-        ordered = subst (λ a. IsOrdered id_cmp a) (sym answers) is.ordered;
-        work = ap (λ k. k.f) work ∙ is.work ∙ sym f;
-        empty = ap (λ b. b.bytes) buffer ∙ is.empty;
-        room = subst (λ k. room_of k ≤ m.buffer.spare) (sym f) (subst (λ b. room_of (ledger_of n.books).log.f ≤ b.spare) (sym buffer) is.room);
-      }
-
   module _ (b : Option Books) (rest : m ≡ record n { books = b; sides = m.sides }) (done : IsFinished n.books b)
       (now : m.sides.serving.shards.items ≡ map (dropped (ledger_of b).log) n.sides.next.shards.items) (next : m.sides.next.shards.items ≡ []) where
-    books_are : m.books ≡ b
-    books_are = ap (λ x. x.books) rest
-
-    done_here : IsFinished n.books m.books
-    done_here = subst (λ x. IsFinished n.books x) (sym books_are) done
-
-    now_here : m.sides.serving.shards.items ≡ map (dropped (ledger_of m.books).log) n.sides.next.shards.items
-    now_here = now ∙ ap (λ x. map (dropped (ledger_of x).log) n.sides.next.shards.items) (sym books_are)
-
     pub world_finished : world_of m ≡ record (world_of n) { log = after; now = after_dropping after (world_of n).next; next = nobody }
-    world_finished = finished_world done_here (ap (λ x. x.format) rest) now_here next (ap (λ x. x.answers.entries) rest) (ap (λ x. x.few) rest)
+    world_finished =
+        let log : (ledger_of b).log ≡ after = ap (λ x. (ledger_of x).log) done.books in
+        same_state (ap (λ x. x.format) rest) (ap (λ x. (ledger_of x.books).log) rest ∙ log) (ap (λ x. faulty_on Now x.books) rest ∙ ap (faulty_on Now) done.books)
+        (ap contents_in now ∙ dropped_contents (ledger_of b).log n.sides.next.shards.items ∙ ap (λ l. map (without_dead l) (contents_in n.sides.next.shards.items)) log)
+        (ap (λ x. faulty_on Next x.books) rest ∙ ap (faulty_on Next) done.books) (ap contents_in next) (ap (λ x. x.few) rest) (ap (λ x. from_sorted x.answers.entries) rest)
 
     pub network_finished : IsNetwork n → is_moving (world_of n).log ≡ true → IsNetwork m
-    network_finished is moving = finished_network is moving done_here now_here next (ap (λ x. x.answers) rest) (ap (λ x. x.work) rest) (ap (λ x. x.buffer) rest)
+    network_finished is moving =
+        let serves : is_moving (takes_in (ledger_of n.books) entry.Finish).log ≡ false = ap (λ x. is_moving (ledger_of x).log) (sym done.books) ∙ done.serving in
+        let were : AreShards (ledger_of n.books).log.f n.sides.next.shards.items = side_shards Next n is moving in
+        network_from n m is (ap (λ x. x.books) rest ∙ done.books) refl serves
+        (subst (AreShards (ledger_of n.books).log.f) (sym now) (dropped_shards (ledger_of b).log (ledger_of n.books).log.f n.sides.next.shards.items were))
+        next (ap (λ x. x.answers) rest) (ap (λ x. x.work.f) rest) (ap (λ x. x.buffer) rest)
 
 -- one more shard is made
 pub one_more : (f : ℕ) (holds : ℕ → Contents) (k : ℕ) (xs ys : List ShardState) (s : ShardState) → xs ≡ map (shard_with f holds) (range_with_len 0 k) → s ≡ shard_with f holds k

@@ -1,32 +1,20 @@
 -- Worlds: their state has all facts.
-use Rattle.wal_world.proofs.Common.{◌≡◌, ℕ, ◌≤◌, Bool, true, false, nat_le, List, [], length, subst, sym, ap, ◌∙◌, arith, and_parts, leb-true, Format, is_committee, IsEventWithin, Event, Line, IsFit, committee_size, Steps, rules_of, IsNetwork, world_of, spare_of, IsFirst, Network, facts_start, facts_kept}
+use Rattle.wal_world.proofs.Common.{◌≡◌, ℕ, ◌≤◌, Bool, false, nat_le, List, [], length, subst, sym, ap, ◌∙◌, arith, and_parts, leb-true, Format, IsEventWithin, Event, Line, committee_size, Steps, rules_of, IsNetwork, world_of, spare_of, IsFirst, Network, facts_start, facts_kept}
 use Rattle.wal_protocol.specs.State as state
 use Rattle.wal_protocol.specs.Facts.{Facts}
 use Rattle.wal_world.specs.Creating.{first_of}
 use Rattle.wal_world.specs.World.{WorldState}
 use Rattle.wal_world.specs.inside.World.{IsWorld}
 
--- facts are of the committee's own number of faults
-own_faults : (digest : List ℕ → List ℕ) (f : ℕ) (w : state.World) → Facts (rules_of digest f) w → Facts (rules_of digest w.log.f) w
-own_faults digest f w facts = subst (λ (n : ℕ). Facts (rules_of digest n) w) (sym facts.sized_f) facts
-
 module _ (digest : List ℕ → List ℕ) (size : (text : List ℕ) → length (digest text) ≡ 32) where
-  -- the first state has them
-  first_facts : (f epoch : ℕ) (format : Format) (owners faulty : List ℕ) → IsFit f epoch → is_committee (committee_size f) owners faulty ≡ true
-      → Facts (rules_of digest f) (first_of format f epoch owners faulty)
-  first_facts f epoch format owners faulty fit committee =
-      let bounds = and_parts (nat_le 1 f) (nat_le f 333) fit.faults in
-      let least : 1 ≤ f = leb-true 1 f bounds.0 in
-      let most : f ≤ 333 = leb-true f 333 bounds.1 in
-      facts_start digest size (record { f = f; epoch = epoch; format = format; owners = owners; faulty = faulty; events = [] })
-      (record { least = least; most = most; epoch_most = fit.epochs; committee = committee; count = omega arith; each = tt })
-
   pub first_world : {H : Type 0} (f epoch : ℕ) (format : Format) (owners faulty : List ℕ) (room : ℕ) (n : Network H) → IsFirst f epoch format owners faulty room n
       → IsWorld digest n false
   first_world f epoch format owners faulty room n is =
       let bounds = and_parts (nat_le 1 f) (nat_le f 333) is.fit.faults in
       let most : f ≤ 333 = leb-true f 333 bounds.1 in
-      let facts : Facts (rules_of digest f) (first_of format f epoch owners faulty) = first_facts f epoch format owners faulty is.fit is.committee in
+      let facts : Facts (rules_of digest f) (first_of format f epoch owners faulty) = facts_start digest size
+      (record { f = f; epoch = epoch; format = format; owners = owners; faulty = faulty; events = [] })
+      (record { least = leb-true 1 f bounds.0; most = most; epoch_most = is.fit.epochs; committee = is.committee; count = omega arith; each = tt }) in
       record {
         network = λ alive. is.network;
         most = λ alive. subst (λ (w : state.World). w.log.f ≤ 333) (sym is.world) most;
@@ -47,7 +35,7 @@ module _ (digest : List ℕ → List ℕ) (size : (text : List ℕ) → length (
         record {
           network = λ living. network;
           most = λ living. omega (arith, kept.sized_f, few);
-          facts = λ living. own_faults digest old.log.f (world_of new) kept;
+          facts = λ living. subst (λ (n : ℕ). Facts (rules_of digest n) (world_of new)) (sym kept.sized_f) kept;
         },
         kept.sized_f ∙ ap (λ (s : WorldState). s.state.log.f) e,
       )
