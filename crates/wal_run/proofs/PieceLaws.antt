@@ -1,5 +1,5 @@
 -- Streams that are taken from a source in pieces.
-use Rattle.wal_run.proofs.Common.{◌≡◌, ℕ, ◌+◌, ◌<◌, ◌≤◌, List, [], ◌∷◌, ◌++◌, length, take, Option, Some, None, Result, Ok, Err, IfSome, refl, sym, ap, ◌∙◌, append_assoc, append-nil, arith, Consumes, IsAtEnd, Consumes-trans, Consumes-kept, TakeError, IsMalformed, wrong_stays, ReaderState, Feeds, FinishesStream, IsStreamRead, BlobId, IsResult, TakesAtMost, IsAllOf, GivesPiece, Stands, TakesFew, TakesStream, outcome_status, outcome_text}
+use Rattle.wal_run.proofs.Common.{◌≡◌, Keeps-refl, ℕ, ◌+◌, ◌<◌, ◌≤◌, List, [], ◌∷◌, ◌++◌, length, take, Option, Some, None, Result, Ok, Err, IfSome, sym, ap, ◌∙◌, append_assoc, append-nil, arith, Consumes, IsAtEnd, Consumes-trans, Consumes-kept, TakeError, IsMalformed, wrong_stays, ReaderState, Feeds, FinishesStream, IsStreamRead, BlobId, IsResult, TakesAtMost, IsAllOf, GivesPiece, Stands, TakesFew, TakesStream, outcome_status, outcome_text}
 use Rattle.std.specs.Prelude.{IsErrAnd}
 use Rattle.std.proofs.lemmas.List.{length-append}
 use Rattle.wal_port.specs.declared.transfers.TakeError.TheVariants.{ReadFault, TooLong, Memory}
@@ -10,6 +10,7 @@ use Rattle.wal_reader.specs.declared.errors.FeedError.TheVariants as feed
 use Rattle.wal_reader.specs.declared.errors.FinishError.{FinishError}
 use Rattle.wal_reader.specs.declared.outcome.ReadAnswer.{ReadAnswer}
 use Rattle.wal_run.specs.Reading.{reading}
+use Rattle.wal_run.proofs.Endings.{kept_few}
 use Rattle.wal_run.proofs.Readings.{outcome_as}
 
 -- ---- a byte that begins no envelope
@@ -63,8 +64,7 @@ none_given a b c got buffer count first next none =
     rw (← append-nil got) (Consumes-trans a b c got [] first (rw none at next))
 
 pub none_taken : (left : Option (List ℕ)) (most : ℕ) → TakesAtMost left left most
-none_taken None most = ([], tt, omega arith)
-none_taken (Some bytes) most = ([], refl, omega arith)
+none_taken left most = kept_few left left most (Keeps-refl left)
 
 -- ---- what came of the whole stream
 
