@@ -77,17 +77,15 @@ answer_read digest id stream given answer s text is finishes s_is text_is =
 -- ---- what ends the pieces
 
 -- no piece came
-ends_early : (digest : List ℕ → List ℕ) (id : List ℕ) (a b c : Option (List ℕ)) (Late Up : Type 0) (r : ReaderState) (e : TakeError) (got buffer : List ℕ) (taken : ℕ) → Consumes a b got → length got ≡ taken
-    → taken ≤ 134217728 → (Late → Up) → GivesPiece b c Late taken buffer (Err e) → TakesStream digest id a c Up r (Err e)
-ends_early digest id a b c Late Up r ReadFault got buffer taken first long within up gives = ((got, Consumes-kept a b c got first gives.0, omega (arith, long, within)), up gives.1)
-ends_early digest id a b c Late Up r TooLong got buffer taken first long within up gives = (got ++ gives.0, Consumes-trans a b c got gives.0 first gives.1, omega (arith, length-append got gives.0, long, gives.2))
-ends_early digest id a b c Late Up r Memory got buffer taken first long within up gives = absurd gives
-
 pub piece_failed : (digest : List ℕ → List ℕ) (id : List ℕ) (a b c : Option (List ℕ)) (Late Up : Type 0) (r : ReaderState) (result : Result (Option ℕ) TakeError) (e : TakeError) (got buffer : List ℕ) (taken : ℕ)
     → IsErrAnd result (λ x. x ≡ e) → Consumes a b got → length got ≡ taken → taken ≤ 134217728 → (Late → Up) → GivesPiece b c Late taken buffer (Err e) → TakesStream digest id a c Up r result
 piece_failed digest id a b c Late Up r (Ok wrong) e got buffer taken is first long within up gives = absurd is
-piece_failed digest id a b c Late Up r (Err x) e got buffer taken is first long within up gives =
-    rw is (ends_early digest id a b c Late Up r e got buffer taken first long within up gives)
+piece_failed digest id a b c Late Up r (Err x) ReadFault got buffer taken is first long within up gives =
+    rw is ((got, Consumes-kept a b c got first gives.0, omega (arith, long, within)), up gives.1)
+piece_failed digest id a b c Late Up r (Err x) TooLong got buffer taken is first long within up gives =
+    let size = length-append got gives.0 in
+    rw is (got ++ gives.0, Consumes-trans a b c got gives.0 first gives.1, omega (arith, size, long, gives.2))
+piece_failed digest id a b c Late Up r (Err x) Memory got buffer taken is first long within up gives = absurd gives
 
 -- memory ran out for a piece
 pub feed_failed : (digest : List ℕ → List ℕ) (id : List ℕ) (a c : Option (List ℕ)) (Up : Type 0) (r : ReaderState) (result : Result (Option ℕ) TakeError) (e : TakeError) → IsErrAnd result (λ x. x ≡ e) → e ≡ Memory
