@@ -13,14 +13,12 @@ data Comes (f : ℕ) (members : List (List ℕ)) : ℕ → List ℕ → Type 0 w
   long : (text : List ℕ) → Bundles f members (Err TooLong) → text ≡ codes "bundle too long\n" → Comes f members 4 text
 
 comes_of : (digest : List ℕ → List ℕ) (f : ℕ) (members : List (List ℕ)) (s : ℕ) (x : List ℕ) → Told digest (bundling f) members s x → Comes f members s x
-comes_of digest f members s x told =
-    elim told as (λ t y _. Comes f members t y) [
-      | succeeds text is ↦ made text is
-      | rejects text is ↦ absurd is
-      | lacks text is ↦ ⊎_elim (λ over. many text over.0 over.1) (λ over. long text over.0 over.1) is
-      | misreads text is ↦ absurd is
-      | collides left right text clash is ↦ absurd is
-    ]
+comes_of digest f members _ _ (succeeds text is) = made text is
+comes_of digest f members _ _ (rejects text is) = absurd is
+comes_of digest f members _ _ (lacks text is) =
+    ⊎_elim (λ over. many text over.0 over.1) (λ over. long text over.0 over.1) is
+comes_of digest f members _ _ (misreads text is) = absurd is
+comes_of digest f members _ _ (collides left right text clash is) = absurd is
 
 one_comes : (f : ℕ) (members : List (List ℕ)) (s : ℕ) (x : List ℕ) (t : ℕ) (y : List ℕ) → Comes f members s x → Comes f members t y → Same s x t y
 one_comes f members s x t y (made a is) (made b also) = same _ _ _ _ refl (one_bundle f members a b is.2 also.2)

@@ -1,5 +1,5 @@
 -- How a run ends is a row of the table of causes.
-use Rattle.wal_run.proofs.Common.{◌≡◌, ◌⊎◌, inl, inr, ℕ, List, Some, false, refl, Appends, IsAtEnd, Keeps, Task, Serve, Service, IsTask, ServeEnd, Done, ReadFault, WriteFault, Malformed, TooLong, Collision, desk_room, sent, IsServed, Around, Command, IsResult, IsTaken, TakesAtMost, collision, lacking, rejection, success, unreadable, command_of, EndsServing, answering, at_start, end_status, serve_limit, Answers, Ends, answered, broke_off, cut_off, done, no_memory, no_memory_for_words, served, serving_ended, sink_failed, source_failed, too_long, usage, whole, Causes, IsUsage, ShowsCause}
+use Rattle.wal_run.proofs.Common.{inl, inr, ℕ, List, Some, false, refl, Appends, IsAtEnd, Task, Serve, Service, IsTask, ServeEnd, Done, ReadFault, WriteFault, Malformed, TooLong, Collision, desk_room, sent, IsServed, Around, Command, IsResult, IsTaken, collision, lacking, rejection, success, unreadable, command_of, EndsServing, answering, at_start, end_status, serve_limit, Answers, Ends, answered, cut_off, done, served, serving_ended, sink_failed, source_failed, too_long, usage, whole, Causes, IsUsage, ShowsCause}
 use Rattle.wal_serve.specs.State.{ServedState as ServingState}
 use Rattle.wal_served.specs.Steps.{IsReached}
 use Rattle.wal_run.specs.Causes as causes
@@ -38,73 +38,53 @@ module _ (digest : List ℕ → List ℕ) (words : List (List ℕ)) (a : Around)
   serving_ends service asked status ends = rw ends.4 (serving_row service asked ends.1 ends.0 ends.2 ends.3)
 
   -- a command whose input was taken
-  result_row : (asked : Task) → IsTask words asked → (input : List ℕ) → IsTaken (command_of digest asked) a.left a.after input → (s : ℕ) (x : List ℕ)
-      → IsResult digest (command_of digest asked) input s x → Appends a.old a.new x → Causes digest words a s
-  result_row asked is_task input taken s x result =
-      elim result as (λ t y _. Appends a.old a.new y → Causes digest words a t) [
-        | success text is ↦ λ put. causes.success (text, answered 0 text (done asked is_task input taken 0 text (success text is)), put)
-        | rejection text is ↦ λ put. causes.rejected (shows _ text is put)
-        | lacking text is ↦ λ put. causes.lacking (shows _ text is put)
-        | unreadable text is ↦ λ put. causes.unreadable (shows _ text is put)
-        | collision one other text clash is ↦ λ put. causes.collision one other clash (shows _ text is put)
-      ]
-    where
-      shows : (Cause : Command → List ℕ → List ℕ → Type 0) (text : List ℕ) → Cause (command_of digest asked) input text → Appends a.old a.new text
-          → ShowsCause digest words a Cause
-      shows Cause text cause put = record {
-        asked = asked;
-        is_task = is_task;
-        input = input;
-        taken = taken;
-        text = text;
-        cause = cause;
-        written = put;
-      }
+  module _ (asked : Task) (is_task : IsTask words asked) (input : List ℕ)
+      (taken : IsTaken (command_of digest asked) a.left a.after input) where
+    shows : (Cause : Command → List ℕ → List ℕ → Type 0) (text : List ℕ) → Cause (command_of digest asked) input text
+        → Appends a.old a.new text → ShowsCause digest words a Cause
+    shows Cause text cause put = record {
+      asked = asked;
+      is_task = is_task;
+      input = input;
+      taken = taken;
+      text = text;
+      cause = cause;
+      written = put;
+    }
+
+    result_row : (s : ℕ) (x : List ℕ) → IsResult digest (command_of digest asked) input s x → Appends a.old a.new x
+        → Causes digest words a s
+    result_row _ _ (success text is) put =
+        causes.success (text, answered 0 text (done asked is_task input taken 0 text (success text is)), put)
+    result_row _ _ (rejection text is) put = causes.rejected (shows _ text is put)
+    result_row _ _ (lacking text is) put = causes.lacking (shows _ text is put)
+    result_row _ _ (unreadable text is) put = causes.unreadable (shows _ text is put)
+    result_row _ _ (collision one other text clash is) put = causes.collision one other clash (shows _ text is put)
 
   -- an answer that was written
   answer_row : (s : ℕ) (x : List ℕ) → Answers digest words a.left a.after s x → Appends a.old a.new x → Causes digest words a s
-  answer_row s x answer =
-      elim answer as (λ t y _. Appends a.old a.new y → Causes digest words a t) [
-        | usage none kept ↦ λ put. causes.usage none kept put
-        | too_long asked is_task long ↦ λ put. causes.too_long asked is_task long put
-        | done asked is_task input taken t y result ↦ result_row asked is_task input taken t y result
-      ]
+  answer_row _ _ (usage none kept) put = causes.usage none kept put
+  answer_row _ _ (too_long asked is_task long) put = causes.too_long asked is_task long put
+  answer_row _ _ (done asked is_task input taken t y result) put = result_row asked is_task input taken t y result put
 
   -- HOW A RUN ENDS
   pub causes_of : (status : ℕ) → Ends digest words a status → Causes digest words a status
-  causes_of status ends =
-      elim ends as (λ s _. Causes digest words a s) [
-        | whole s x answer put ↦ answer_row s x answer put
-        | no_memory_for_words kept none ↦ causes.no_memory (first (no_memory_for_words kept none))
-        | no_memory asked is_task taken kept ↦ causes.no_memory (first (no_memory asked is_task taken kept))
-        | broke_off asked is_task input taken text left put ↦ causes.no_memory (first (broke_off asked is_task input taken text left put))
-        | source_failed asked is_task takes taken rose kept ↦ causes.source_failed rose asked is_task takes taken kept
-        | sink_failed s x answer rose part ↦ causes.sink_failed rose x (inl (s, answer)) part
-        | cut_off asked is_task input taken text owed rose part ↦ causes.sink_failed rose text (inr (asked, is_task, input, taken, owed)) part
-        | serving_ended service asked s serves ↦ serving_ends service asked s serves
-      ]
-    where
-      first : Ends digest words a 5 → (service : Service) → IsTask words (Serve service) → TakesAtMost a.left a.after 0 × Keeps a.old a.new
-      first e service asked = memory_first digest words a 5 service asked e refl
+  causes_of _ (whole s x answer put) = answer_row s x answer put
+  causes_of _ (source_failed asked is_task takes taken rose kept) =
+      causes.source_failed rose asked is_task takes taken kept
+  causes_of _ (sink_failed s x answer rose part) = causes.sink_failed rose x (inl (s, answer)) part
+  causes_of _ (cut_off asked is_task input taken text owed rose part) =
+      causes.sink_failed rose text (inr (asked, is_task, input, taken, owed)) part
+  causes_of _ (serving_ended service asked s serves) = serving_ends service asked s serves
+  causes_of _ ends = causes.no_memory (λ service asked. memory_first digest words a 5 service asked ends refl)
 
   -- words that ask for nothing have the status of usage, but for want of memory and a sink that failed
   pub nothing_asked : (status : ℕ) → Ends digest words a status → IsUsage words a status
-  nothing_asked status ends none =
-      elim ends as (λ s _. (s ≡ 2) ⊎ ((s ≡ 5) ⊎ ((s ≡ 7) × a.SinkRose))) [
-        | whole s x answer put ↦ of_answer s x answer
-        | no_memory_for_words kept untouched ↦ inr (inl refl)
-        | no_memory asked is_task taken kept ↦ inr (inl refl)
-        | broke_off asked is_task input taken text left put ↦ inr (inl refl)
-        | source_failed asked is_task takes taken rose kept ↦ absurd (none asked is_task)
-        | sink_failed s x answer rose part ↦ inr (inr (refl, rose))
-        | cut_off asked is_task input taken text owed rose part ↦ inr (inr (refl, rose))
-        | serving_ended service asked s serves ↦ absurd (none (Serve service) asked)
-      ]
-    where
-      of_answer : (s : ℕ) (x : List ℕ) → Answers digest words a.left a.after s x → (s ≡ 2) ⊎ ((s ≡ 5) ⊎ ((s ≡ 7) × a.SinkRose))
-      of_answer s x answer =
-          elim answer as (λ t _ _. (t ≡ 2) ⊎ ((t ≡ 5) ⊎ ((t ≡ 7) × a.SinkRose))) [
-            | usage never kept ↦ inl refl
-            | too_long asked is_task long ↦ absurd (none asked is_task)
-            | done asked is_task input taken t y result ↦ absurd (none asked is_task)
-          ]
+  nothing_asked _ (whole _ _ (usage never kept) put) none = inl refl
+  nothing_asked _ (whole _ _ (too_long asked is_task long) put) none = absurd (none asked is_task)
+  nothing_asked _ (whole _ _ (done asked is_task input taken t y result) put) none = absurd (none asked is_task)
+  nothing_asked _ (source_failed asked is_task takes taken rose kept) none = absurd (none asked is_task)
+  nothing_asked _ (sink_failed s x answer rose part) none = inr (inr (refl, rose))
+  nothing_asked _ (cut_off asked is_task input taken text owed rose part) none = inr (inr (refl, rose))
+  nothing_asked _ (serving_ended service asked s serves) none = absurd (none (Serve service) asked)
+  nothing_asked _ ends none = inr (inl refl)

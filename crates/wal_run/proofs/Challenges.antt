@@ -37,18 +37,15 @@ module _ (digest : List ℕ → List ℕ) (a : Audit) (r : Recorded) where
       × IsAnswerText digest a r.metadata p q a.count x)))))
 
   case_of : (s : ℕ) (x : List ℕ) → Told digest (challenging digest a) r s x → Case s x
-  case_of s x told =
-      elim told as (λ t y _. Case t y) [
-        | succeeds text is ↦ inr (is.0, inr (is.1, is.2, inr (is.3, is.4, refl, is.5)))
-        | rejects text is ↦ absurd is
-        | lacks text is ↦
-            ⊎_elim (λ shard. inl (refl, shard)) (⊎_elim (λ none. inr (none.0, inl (refl, none.1, none.2)))
-            (λ none. inr (none.0, inr (none.1.0, none.1.1, inl (refl, none.2, none.3))))) is
-        | misreads text is ↦ absurd is
-        | collides left right text clash is ↦ absurd is
-      ]
+  case_of _ _ (succeeds text is) = inr (is.0, inr (is.1, is.2, inr (is.3, is.4, refl, is.5)))
+  case_of _ _ (rejects text is) = absurd is
+  case_of _ _ (lacks text is) =
+      ⊎_elim (λ shard. inl (refl, shard)) (⊎_elim (λ none. inr (none.0, inl (refl, none.1, none.2)))
+      (λ none. inr (none.0, inr (none.1.0, none.1.1, inl (refl, none.2, none.3))))) is
+  case_of _ _ (misreads text is) = absurd is
+  case_of _ _ (collides left right text clash is) = absurd is
 
-  both_not : (text : List ℕ) → LacksShard a r text → HasShard a r → ⊥
+  pub both_not : (text : List ℕ) → LacksShard a r text → HasShard a r → ⊥
   both_not text lacking has = omega (arith, lacking.0, has)
 
   one_text : r.metadata.f ≤ 333 → (p q u v x y : List ℕ) → IsOwnSliver digest a r Primary p
@@ -82,10 +79,9 @@ module _ (digest : List ℕ → List ℕ) (a : Audit) (r : Recorded) where
       → (d : ℕ) (x : Opening) → slice_get (take k xs) d ≡ Some x → P d x
   each_taken P k xs each d x there =
       let inside = slice_get_within (take k xs) d x there in
-      let before : d < k = omega (arith, inside, length-take k xs) in
-      let within : d < length xs = omega (arith, inside, length-take k xs) in
-      each d x (slice_get-get_or xs d x within ∙ ap Some
-      (rw (← get_or-take k xs d x before) (get_or_from_slice_get (take k xs) d x x there)))
+      each d x (slice_get-get_or xs d x (omega (arith, inside, length-take k xs)) ∙ ap Some
+      (rw (← get_or-take k xs d x (omega (arith, inside, length-take k xs)))
+      (get_or_from_slice_get (take k xs) d x x there)))
 
   first_text : r.metadata.f ≤ 333 → (count : ℕ) → count ≤ a.count → (p u x y : List ℕ)
       → IsAnswerText digest a r.metadata p u count x → IsAnswerText digest a r.metadata p u a.count y → IsFrontOf x y
@@ -185,10 +181,9 @@ module _ (digest : List ℕ → List ℕ) (a : Audit) (m : BlobMetadata) (primar
         wanted_memory (answer_text digest a m so.openings) (d, before, (so.openings, so.answers, refl))
         (Appends-kept old mid new (answer_text digest a m so.openings) so.put kept)
     ends_piece before new PieceRose SinkRose since WriteFault p =
-        let is = p.1 in
-        let part = part_after old mid new (answer_text digest a m so.openings) _ so.put (rw is.2 at p.3) in
-        lost_sink _ (d + 1, omega (arith, before), (so.openings ++ is.0 ∷ [], more is.0 is.1, refl)) (since p.2)
-        (rw (answer_more digest a m so.openings d is.0 so.answers.many) part)
+        let part = part_after old mid new (answer_text digest a m so.openings) _ so.put (rw p.1.2 at p.3) in
+        lost_sink _ (d + 1, omega (arith, before), (so.openings ++ p.1.0 ∷ [], more p.1.0 p.1.1, refl)) (since p.2)
+        (rw (answer_more digest a m so.openings d p.1.0 so.answers.many) part)
 
     -- all were
     pub answered_all : d ≡ a.count → (SinkRose : Type 0) → DoesAnswer digest a m primary secondary old mid SinkRose 0

@@ -31,14 +31,13 @@ module _ (digest : List ℕ → List ℕ) (id : BlobId) (r : Recorded) where
   four_or v other = refl
 
   check_of : (s : ℕ) (x : List ℕ) → Told digest (checking digest id) r s x → Unproved s x ⊎ Judged s x
-  check_of s x told =
-      elim told as (λ t y _. Unproved t y ⊎ Judged t y) [
-        | succeeds text is ↦ absurd is
-        | rejects text is ↦ inr (is.0, is.1, Inconsistent, is.2, refl, is.3)
-        | lacks text is ↦ ⊎_elim (λ none. inl (none.0, refl, none.1)) (λ some. inr (some.0, some.1, some.2, some.3, four_or some.2 some.4, some.5)) is
-        | misreads text is ↦ absurd is
-        | collides left right text clash is ↦ absurd is
-      ]
+  check_of _ _ (succeeds text is) = absurd is
+  check_of _ _ (rejects text is) = inr (is.0, is.1, Inconsistent, is.2, refl, is.3)
+  check_of _ _ (lacks text is) =
+      ⊎_elim (λ none. inl (none.0, refl, none.1))
+      (λ some. inr (some.0, some.1, some.2, some.3, four_or some.2 some.4, some.5)) is
+  check_of _ _ (misreads text is) = absurd is
+  check_of _ _ (collides left right text clash is) = absurd is
 
   one_of : IsShape r.metadata.f r.metadata.length → (s : ℕ) (x : List ℕ) (t : ℕ) (y : List ℕ) → Unproved s x ⊎ Judged s x → Unproved t y ⊎ Judged t y → Same s x t y
   one_of shape s x t y (inl a) (inl b) = same s t x y (a.1 ∙ sym b.1) (a.2 ∙ sym b.2)

@@ -1,5 +1,5 @@
 -- A command has one result for an input, but for the texts of a collision, where all that is spelled has.
-use Rattle.wal_run.proofs.Common.{◌≡◌, ℕ, List, [], ◌++◌, refl, sym, ap, ap₂, ◌∙◌, ⊎_elim, inl, inr, arith, BlobId, MetaClash, IsMetadataIn, first_two, BreaksAt, Command, Content, Grammar, HasNone, HasTwoMetadata, IsResult, Misspells, Recorded, Spells, bytes, collision, envelopes, envelopes_of, lacking, nothing, rejection, schedule, success, unreadable, Told, collides, lacks, misreads, recorded, rejects, succeeds, collision_text, malformed_text, Place, SameText, line}
+use Rattle.wal_run.proofs.Common.{◌≡◌, ℕ, List, [], ◌++◌, refl, sym, ap, ap₂, ◌∙◌, ⊎_elim, inl, inr, arith, MetaClash, first_two, BreaksAt, Command, Content, Grammar, HasNone, HasTwoMetadata, IsResult, Misspells, Spells, bytes, collision, envelopes, envelopes_of, lacking, nothing, rejection, schedule, success, unreadable, Told, collides, lacks, misreads, recorded, rejects, succeeds, collision_text, malformed_text, Place, SameText, line}
 use Rattle.wal_reader.proofs.OneOutcome.{not_two}
 use Rattle.wal_run.proofs.OneStream.{not_malformed, one_place, one_stream}
 use Rattle.wal_run.proofs.Schedules.{fault_is, fault_text, one_error, one_schedule, schedule_not_fault}
@@ -38,27 +38,21 @@ told_success digest c content no_reject no_lack no_fault no_clash s x told = gri
 -- what comes of what is spelled is the result of the input
 pub of_told : (digest : List ℕ → List ℕ) (c : Command) (input : List ℕ) (content : Content c.grammar) → Spells digest c.grammar input content
     → (s : ℕ) (x : List ℕ) → Told digest c content s x → IsResult digest c input s x
-of_told digest c input content spells s x told =
-    elim told as (λ t y _. IsResult digest c input t y) [
-      | succeeds text is ↦ success text (content, spells, is)
-      | rejects text is ↦ rejection text (content, spells, is)
-      | lacks text is ↦ lacking text (inr (content, spells, is))
-      | misreads text is ↦ unreadable text (inr (content, spells, is))
-      | collides l r front clash is ↦
-          collision l r (front ++ collision_text l r) clash (record { front = front; clashes = inr (content, spells, is); whole = refl })
-    ]
+of_told digest c input content spells _ _ (succeeds text is) = success text (content, spells, is)
+of_told digest c input content spells _ _ (rejects text is) = rejection text (content, spells, is)
+of_told digest c input content spells _ _ (lacks text is) = lacking text (inr (content, spells, is))
+of_told digest c input content spells _ _ (misreads text is) = unreadable text (inr (content, spells, is))
+of_told digest c input content spells _ _ (collides l r front clash is) =
+    collision l r (front ++ collision_text l r) clash
+    (record { front = front; clashes = inr (content, spells, is); whole = refl })
 
 -- ---- an input spells one thing, or there is one reason why it spells none
-
-one_recorded : (digest : List ℕ → List ℕ) (id : BlobId) (a b : Recorded) → a.payloads ≡ b.payloads → IsMetadataIn digest id.0 a.payloads a.metadata
-    → IsMetadataIn digest id.0 b.payloads b.metadata → a ≡ b
-one_recorded digest id a b payloads p q =
-    ap₂ recorded payloads (q.1 a.metadata (rw payloads at p.0))
 
 one_content : (digest : List ℕ → List ℕ) (g : Grammar) (input : List ℕ) (a b : Content g) → Spells digest g input a → Spells digest g input b → a ≡ b
 one_content digest bytes input a b p q = p ∙ sym q
 one_content digest envelopes input a b p q = one_stream a b input p q
-one_content digest (envelopes_of id) input a b p q = one_recorded digest id a b (one_stream a.payloads b.payloads input p.0 q.0) p.1 q.1
+one_content digest (envelopes_of id) input a b p q =
+    let same = one_stream a.payloads b.payloads input p.0 q.0 in ap₂ recorded same (q.1.1 a.metadata (rw same at p.1.0))
 one_content digest schedule input a b p q = one_schedule input a b p q
 one_content digest nothing input a b p q = refl
 
@@ -119,16 +113,16 @@ data View (digest : List ℕ → List ℕ) (c : Command) (input : List ℕ) : �
       → View digest c input s x
 
 view_of : (digest : List ℕ → List ℕ) (c : Command) (input : List ℕ) (s : ℕ) (x : List ℕ) → IsResult digest c input s x → View digest c input s x
-view_of digest c input s x result =
-    elim result as (λ t y _. View digest c input t y) [
-      | success text is ↦ spelled is.0 is.1 0 text (succeeds text is.2)
-      | rejection text is ↦ spelled is.0 is.1 3 text (rejects text is.2)
-      | lacking text is ↦ ⊎_elim (λ none. without text none) (λ some. spelled some.0 some.1 4 text (lacks text some.2)) is
-      | unreadable text is ↦ ⊎_elim (λ bad. misspelled text bad) (λ some. spelled some.0 some.1 8 text (misreads text some.2)) is
-      | collision l r text clash is ↦ ⊎_elim
-          (λ two. double text (clash_of l r) two.0 (is.whole ∙ ap (λ (f : List ℕ). f ++ collision_text l r) two.1))
-          (λ some. spelled some.0 some.1 10 text (rw is.whole (collides l r is.front clash some.2))) is.clashes
-    ]
+view_of digest c input _ _ (success text is) = spelled is.0 is.1 0 text (succeeds text is.2)
+view_of digest c input _ _ (rejection text is) = spelled is.0 is.1 3 text (rejects text is.2)
+view_of digest c input _ _ (lacking text is) =
+    ⊎_elim (λ none. without text none) (λ some. spelled some.0 some.1 4 text (lacks text some.2)) is
+view_of digest c input _ _ (unreadable text is) =
+    ⊎_elim (λ bad. misspelled text bad) (λ some. spelled some.0 some.1 8 text (misreads text some.2)) is
+view_of digest c input _ _ (collision l r text clash is) =
+    ⊎_elim
+    (λ two. double text (clash_of l r) two.0 (is.whole ∙ ap (λ (f : List ℕ). f ++ collision_text l r) two.1))
+    (λ some. spelled some.0 some.1 10 text (rw is.whole (collides l r is.front clash some.2))) is.clashes
 
 one_view : (digest : List ℕ → List ℕ) (c : Command) → Determined digest c → (input : List ℕ) (s : ℕ) (x : List ℕ) (t : ℕ) (y : List ℕ)
     → View digest c input s x → View digest c input t y → Same s x t y

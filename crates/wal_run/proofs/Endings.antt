@@ -1,5 +1,5 @@
 -- How the endings of a part become those of the whole run.
-use Rattle.wal_run.proofs.Common.{◌≡◌, ℕ, ◌+◌, ◌<◌, ◌⊎◌, List, [], length, Option, Some, None, IfSome, Result, Ok, Err, IsErrAnd, IsErrOf, refl, sym, arith, Keeps, AppendsPart, TakeError, Task, IsTask, Around, Command, Content, Grammar, IsFrontOf, IsFrontUpToClash, IsResult, Spells, IsTaken, IsTakenWhole, MayLeave, MayOwe, TakenBy, TakesAtMost, TakesInput, IsAllOf, nothing, command_of, Told, PutError, Does, DoesTold, Finishes, Performs, PutsPiece, cut, finished, lost_sink, out_of_memory, performed, wanted_memory, written, Answers, Ends, broke_off, cut_off, done, no_memory, sink_failed, whole}
+use Rattle.wal_run.proofs.Common.{◌≡◌, ℕ, ◌+◌, ◌<◌, ◌⊎◌, List, [], length, Option, Some, None, IfSome, Result, Ok, Err, IsErrAnd, IsErrOf, refl, sym, arith, Keeps, Keeps-refl, AppendsPart, TakeError, Task, IsTask, Around, Command, Content, Grammar, IsFrontOf, IsFrontUpToClash, IsResult, Spells, IsTaken, IsTakenWhole, MayLeave, MayOwe, TakenBy, TakesAtMost, TakesInput, IsAllOf, nothing, command_of, Told, PutError, Does, DoesTold, Finishes, Performs, PutsPiece, cut, finished, lost_sink, out_of_memory, performed, wanted_memory, written, Answers, Ends, broke_off, cut_off, done, no_memory, sink_failed, whole}
 use Rattle.wal_port.specs.declared.transfers.TakeError.TheVariants.{ReadFault, TooLong, Memory}
 use Rattle.wal_run.specs.SameText as same_text
 use Rattle.wal_run.specs.declared.finish.PutError.TheVariants.{WriteFault}
@@ -33,47 +33,39 @@ pub taken_few : (g : Grammar) (limit : ℕ) (left after : Option (List ℕ)) (in
 taken_few nothing limit left after input is = kept_few left after limit is.0
 taken_few g limit left after input is = (input, is.consumed, is.within)
 
--- a text that is the answer was written, or a part of it
-pub ends_finished : (digest : List ℕ → List ℕ) (words : List (List ℕ)) (a : Around) (IsText : List ℕ → Type 0) (success status : ℕ)
-    → ((text : List ℕ) → IsText text → Answers digest words a.left a.after success text)
-    → Finishes IsText a.old a.new a.SinkRose success status → Ends digest words a status
-ends_finished digest words a IsText success status answers f =
-    elim f as (λ s _. Ends digest words a s) [
-      | written text is appends ↦ whole success text (answers text is) appends
-      | cut text is rose part ↦ sink_failed success text (answers text is) rose part
-    ]
-
 -- what is one text is another
 pub finishes_as : {A B : List ℕ → Type 0} {old new : Option (List ℕ)} {SinkRose : Type 0} {success status : ℕ}
     → Finishes A old new SinkRose success status → ((text : List ℕ) → A text → B text) → Finishes B old new SinkRose success status
-finishes_as {A} {B} {old} {new} {SinkRose} {success} {status} f is =
-    elim f as (λ s _. Finishes B old new SinkRose success s) [
-      | written text a appends ↦ written text (is text a) appends
-      | cut text a rose part ↦ cut text (is text a) rose part
-    ]
+finishes_as (written text a appends) is = written text (is text a) appends
+finishes_as (cut text a rose part) is = cut text (is text a) rose part
 
--- a task whose input was taken
-pub ends_performed : (digest : List ℕ → List ℕ) (words : List (List ℕ)) (a : Around) (task : Task) (status : ℕ) (input : List ℕ)
-    → IsTask words task → IsTaken (command_of digest task) a.left a.after input
-    → Performs (IsResult digest (command_of digest task) input) a.old a.new a.SinkRose status → Ends digest words a status
-ends_performed digest words a task status input asked taken p =
-    elim p as (λ s _. Ends digest words a s) [
-      | out_of_memory kept ↦ no_memory task asked (taken_few (command_of digest task).grammar (command_of digest task).limit a.left a.after input taken) kept
-      | finished success s f ↦ ends_finished digest words a (IsResult digest (command_of digest task) input success) success s
-          (λ text is. done task asked input taken success text is) f
-    ]
+module _ (digest : List ℕ → List ℕ) (words : List (List ℕ)) (a : Around) where
+  -- a text that is the answer was written, or a part of it
+  pub ends_finished : (IsText : List ℕ → Type 0) (success status : ℕ)
+      → ((text : List ℕ) → IsText text → Answers digest words a.left a.after success text)
+      → Finishes IsText a.old a.new a.SinkRose success status → Ends digest words a status
+  ends_finished IsText success _ answers (written text is put) = whole success text (answers text is) put
+  ends_finished IsText success _ answers (cut text is rose part) = sink_failed success text (answers text is) rose part
 
--- the same of a task that writes while it works
-pub ends_done : (digest : List ℕ → List ℕ) (words : List (List ℕ)) (a : Around) (task : Task) (status : ℕ) (input : List ℕ)
-    → IsTask words task → IsTaken (command_of digest task) a.left a.after input
-    → Does (IsResult digest (command_of digest task) input) (MayLeave digest (command_of digest task) input) (MayOwe digest (command_of digest task) input) a.old a.new a.SinkRose status
-    → Ends digest words a status
-ends_done digest words a task status input asked taken d =
-    elim d as (λ s _. Ends digest words a s) [
-      | performed s p ↦ ends_performed digest words a task s input asked taken p
-      | wanted_memory text owed put ↦ broke_off task asked input taken text owed put
-      | lost_sink text owed rose part ↦ cut_off task asked input taken text owed rose part
-    ]
+  -- a task whose input was taken
+  pub ends_performed : (task : Task) (status : ℕ) (input : List ℕ)
+      → IsTask words task → IsTaken (command_of digest task) a.left a.after input
+      → Performs (IsResult digest (command_of digest task) input) a.old a.new a.SinkRose status → Ends digest words a status
+  ends_performed task _ input asked taken (out_of_memory kept) =
+      let c = command_of digest task in
+      no_memory task asked (taken_few c.grammar c.limit a.left a.after input taken) kept
+  ends_performed task _ input asked taken (finished success s f) =
+      ends_finished _ success s (λ text is. done task asked input taken success text is) f
+
+  -- the same of a task that writes while it works
+  pub ends_done : (task : Task) (status : ℕ) (input : List ℕ)
+      → IsTask words task → IsTaken (command_of digest task) a.left a.after input
+      → Does (IsResult digest (command_of digest task) input) (MayLeave digest (command_of digest task) input) (MayOwe digest (command_of digest task) input) a.old a.new a.SinkRose status
+      → Ends digest words a status
+  ends_done task _ input asked taken (performed s p) = ends_performed task s input asked taken p
+  ends_done task _ input asked taken (wanted_memory text owed put) = broke_off task asked input taken text owed put
+  ends_done task _ input asked taken (lost_sink text owed rose part) =
+      cut_off task asked input taken text owed rose part
 
 -- the other faults of taking an input are not that it is too long
 pub not_too_long : {T : Type 0} (e : TakeError) → (e ≡ ReadFault) ⊎ (e ≡ Memory) → IsErrOf {T = T} (Err e) TooLong → ⊥
@@ -82,25 +74,18 @@ not_too_long e is long = grind arith
 -- what is one result is another
 pub performs_as : {A B : ℕ → List ℕ → Type 0} {old new : Option (List ℕ)} {SinkRose : Type 0} {status : ℕ}
     → Performs A old new SinkRose status → ((s : ℕ) (text : List ℕ) → A s text → B s text) → Performs B old new SinkRose status
-performs_as {A} {B} {old} {new} {SinkRose} {status} p is =
-    elim p as (λ s _. Performs B old new SinkRose s) [
-      | out_of_memory kept ↦ out_of_memory kept
-      | finished success s f ↦ finished success s (finishes_as f (is success))
-    ]
+performs_as (out_of_memory kept) is = out_of_memory kept
+performs_as (finished success s f) is = finished success s (finishes_as f (is success))
 
 pub nothing_taken : (left : Option (List ℕ)) → TakesAtMost left left 0
-nothing_taken None = ([], tt, omega arith)
-nothing_taken (Some given) = ([], refl, omega arith)
+nothing_taken left = kept_few left left 0 (Keeps-refl left)
 
 -- the same of a task that writes while it works
 pub does_as : {A B : ℕ → List ℕ → Type 0} {L M O P : List ℕ → Type 0} {old new : Option (List ℕ)} {SinkRose : Type 0} {status : ℕ} → Does A L O old new SinkRose status
     → ((s : ℕ) (text : List ℕ) → A s text → B s text) → ((text : List ℕ) → L text → M text) → ((text : List ℕ) → O text → P text) → Does B M P old new SinkRose status
-does_as {A} {B} {L} {M} {O} {P} {old} {new} {SinkRose} {status} d is leaves owes =
-    elim d as (λ s _. Does B M P old new SinkRose s) [
-      | performed s p ↦ performed s (performs_as p is)
-      | wanted_memory text left put ↦ wanted_memory text (leaves text left) put
-      | lost_sink text owed rose part ↦ lost_sink text (owes text owed) rose part
-    ]
+does_as (performed s p) is leaves owes = performed s (performs_as p is)
+does_as (wanted_memory text left put) is leaves owes = wanted_memory text (leaves text left) put
+does_as (lost_sink text owed rose part) is leaves owes = lost_sink text (owes text owed) rose part
 
 -- what is done by what the input spells is so by the input, where what is left and owed is a front of whatever is told
 pub does_spelled : (digest : List ℕ → List ℕ) (c : Command) (input : List ℕ) (content : Content c.grammar) (old new : Option (List ℕ)) (SinkRose : Type 0) (status : ℕ)
@@ -109,7 +94,7 @@ pub does_spelled : (digest : List ℕ → List ℕ) (c : Command) (input : List 
     → ((text : List ℕ) → c.Owes content text → (s : ℕ) (x : List ℕ) → Told digest c content s x → IsFrontUpToClash same_text.line s text x)
     → DoesTold digest c content old new SinkRose status → Does (IsResult digest c input) (MayLeave digest c input) (MayOwe digest c input) old new SinkRose status
 does_spelled digest c input content old new SinkRose status spells leaves owes d =
-    does_as d (λ s text told. of_told digest c input content spells s text told)
+    does_as d (of_told digest c input content spells)
     (λ text left. ((content, spells, left), λ s x result. leaves text left s x (told_of digest c input content spells s x result)))
     (λ text owed. ((content, spells, owed), λ s x result. owes text owed s x (told_of digest c input content spells s x result)))
 

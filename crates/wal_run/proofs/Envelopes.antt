@@ -1,14 +1,11 @@
 -- Whole envelopes at the front of bytes.
-use Rattle.wal_run.proofs.Common.{◌≡◌, ℕ, ◌+◌, ◌-◌, List, [], ◌∷◌, ◌++◌, length, None, refl, sym, ap, subst, ◌∙◌, append-nil, append_assoc, arith, length-append, envelope, IsMalformed, IsPayload, IsStream, envelope_at, envelope_read, stream_grows}
+use Rattle.wal_run.proofs.Common.{◌≡◌, ℕ, ◌+◌, ◌-◌, List, [], ◌∷◌, ◌++◌, length, None, sym, ap, subst, ◌∙◌, append-nil, append_assoc, arith, length-append, envelope, IsMalformed, IsPayload, IsStream, envelope_at, envelope_read, stream_grows}
 
 -- whole envelopes stand before a place of the bytes
 pub record Walks (stream before rest : List ℕ) : Type 0 where
   pub parts : stream ≡ before ++ rest
   pub front : List (List ℕ)
   pub sent : IsStream front before
-
-pub walks_none : (stream : List ℕ) → Walks stream [] stream
-walks_none stream = record { parts = refl; front = []; sent = refl }
 
 module _ (stream before rest : List ℕ) (walks : Walks stream before rest) where
   -- one more

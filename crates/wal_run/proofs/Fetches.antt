@@ -1,8 +1,9 @@
 -- The lines of requests are one result of the command that answers them.
-use Rattle.wal_run.proofs.Common.{◌≡◌, ℕ, Bool, true, false, cond, List, [], ◌∷◌, ◌++◌, ◌⊎◌, inl, inr, append-nil, append_assoc, Option, Some, None, MatchOption, Err, nat_le, ◌+◌, take, drop, length, refl, sym, ap, ap₂, ◌∙◌, Appends-kept, Appends-nil, Appends-trans, Appends, Keeps, flat_map-append, MetaClash, IsCollision, IsOutcome, Outcome, IsFirstRequest, get_of, gets_in, no_blobs, IsMalformed, IsStream, AppendsPart, IsFrontOf, IsResult, MayLeave, MayOwe, unreadable, PutError, Memory, Told, collides, lacks, misreads, rejects, succeeds, collision_text, malformed_text, AnswersFirst, AnswersRequests, GoOn, StopsAt, answers_text, fetching, Does, DoesTold, PutsPiece, cut, finished, lost_sink, performed, put_status, wanted_memory, written}
+use Rattle.wal_run.proofs.Common.{◌≡◌, ⊎_elim, arith, ℕ, true, false, List, [], ◌∷◌, ◌++◌, ◌⊎◌, inl, inr, append-nil, append_assoc, Option, Some, None, MatchOption, Err, ◌+◌, refl, sym, ap, ap₂, ◌∙◌, Appends-kept, Appends-nil, Appends-trans, Appends, Keeps, flat_map-append, MetaClash, IsCollision, IsOutcome, Outcome, IsFirstRequest, get_of, gets_in, no_blobs, IsMalformed, IsStream, AppendsPart, IsFrontOf, IsResult, MayLeave, MayOwe, unreadable, PutError, Memory, Told, collides, lacks, misreads, rejects, succeeds, collision_text, malformed_text, AnswersFirst, AnswersRequests, GoOn, StopsAt, answers_text, fetching, Does, DoesTold, PutsPiece, cut, finished, lost_sink, performed, put_status, wanted_memory, written}
+use Rattle.wal_protocol.proofs.EveryWord.{truth}
 use Rattle.wal_reader.specs.declared.outcome.Outcome.TheVariants as read
 use Rattle.wal_gateway.specs.declared.answer.Found.{Found}
-use Rattle.wal_gateway.specs.declared.answer.Found.TheVariants.{Range, OutOfRange, Collision}
+use Rattle.wal_gateway.specs.declared.answer.Found.TheVariants.{Collision}
 use Rattle.wal_gateway.specs.declared.answer.GetAnswer.{GetAnswer}
 use Rattle.wal_gateway.specs.declared.checked.CheckedBlob.{CheckedBlob}
 use Rattle.wal_gateway.specs.Getting.{AnswersGet, AnswersAll, Cache, Get, Hits, Misses, found_of, kept_blob, range_of}
@@ -32,11 +33,7 @@ clash_of found is = absurd cc
 
 -- a range is none
 no_range : (from size : ℕ) (bytes : List ℕ) (clash : MetaClash) → range_of from size bytes ≡ Collision clash → ⊥
-no_range from size bytes clash = by (nat_le (from + size) (length bytes))
-  where
-    by : (b : Bool) → cond b (Range (take size (drop from bytes))) (OutOfRange (length bytes)) ≡ Collision clash → ⊥
-    by true is = cc
-    by b is = cc
+no_range from size bytes clash is = grind arith
 
 module _ (digest : List ℕ → List ℕ) where
   -- the two texts of a collision that is answered collide
@@ -96,11 +93,9 @@ module _ (digest : List ℕ → List ℕ) where
   pub ends : (capacity : ℕ) (payloads : List (List ℕ)) (cache : Cache) (rest : List ℕ) (old new : Option (List ℕ)) (SinkRose : Type 0)
       → (f : Fetched capacity payloads cache rest old new) → gets_in [] f.later ≡ [] → Done capacity payloads old new SinkRose 0
   ends capacity payloads cache rest old new SinkRose f none =
-      let all : gets_in [] payloads ≡ f.first.first = rw (none, append-nil) at f.first.parts in
-      let answered = rw (← all) at f.first.answered in
-      let text = answers_text f.answers in
-      performed 0 (finished 0 0 (written text
-      (succeeds text (f.answers, (f.first.kept, answered, f.first.others), refl)) f.put))
+      let answered = rw (none, append-nil) at f.first.parts in
+      performed 0 (finished 0 0 (written _
+      (succeeds _ (f.answers, (f.first.kept, rw (← answered) at f.first.answered, f.first.others), refl)) f.put))
 
   module _ (capacity : ℕ) (payloads : List (List ℕ)) (cache : Cache) (rest : List ℕ) (old mid : Option (List ℕ)) (f : Fetched capacity payloads cache rest old mid) (asks : Asked) (next : IsFirstRequest f.later asks) where
     abbrev get : Get
@@ -174,32 +169,21 @@ module _ (digest : List ℕ → List ℕ) where
           let whole = Appends-trans old mid new before (answer_text answer) f.put (rw is at put) in
           performed 10 (finished 10 10 (written _ (stopped collides_here) (rw text_after whole)))
 
-      -- the sink failed over it
-      loses : (new : Option (List ℕ)) (SinkRose : Type 0) (piece : List ℕ) → piece ≡ answer_text answer → SinkRose → AppendsPart mid new piece
-          → (b : Bool) → is_collision answer.found ≡ b → Done capacity payloads old new SinkRose 7
-      loses new SinkRose piece is rose part =
-          by (rw text_after (part_after old mid new before (answer_text answer) f.put (rw is at part)))
-        where
-          by : AppendsPart old new (answers_text (f.answers ++ answer ∷ [])) → (b : Bool) → is_collision answer.found ≡ b → Done capacity payloads old new SinkRose 7
-          by whole true collides_here = performed 7 (finished 10 7 (cut _ (stopped collides_here) rose whole))
-          by whole false calm =
-              lost_sink _ (f.answers ++ answer ∷ [], gets_in [] next.later, first_more calm, refl) rose whole
-
       -- its line was not written whole
       pub ends_piece : (new : Option (List ℕ)) (LineRose SinkRose : Type 0) → (LineRose → SinkRose) → (error : PutError)
           → PutsPiece (λ t. t ≡ answer_text answer) mid new LineRose (Err error) → Done capacity payloads old new SinkRose (put_status error)
       ends_piece new LineRose SinkRose since Memory kept = no_memory new SinkRose kept
-      ends_piece new LineRose SinkRose since WriteFault p = loses new SinkRose p.0 p.1 (since p.2) p.3 (is_collision answer.found) refl
+      ends_piece new LineRose SinkRose since WriteFault p =
+          let part : AppendsPart old new (answers_text (f.answers ++ answer ∷ [])) =
+          rw text_after (part_after old mid new before (answer_text answer) f.put (rw p.1 at p.3)) in
+          ⊎_elim
+          (λ collides_here. performed 7 (finished 10 7 (cut _ (stopped collides_here) (since p.2) part)))
+          (λ calm.
+          lost_sink _ (f.answers ++ answer ∷ [], gets_in [] next.later, first_more calm, refl) (since p.2) part)
+          (truth (is_collision answer.found))
 
   pub malformed_is : (capacity : ℕ) (input : List ℕ) (place : ℕ) → IsMalformed place input → IsResult digest (fetching digest capacity) input 8 (malformed_text place)
   malformed_is capacity input place broken = unreadable (malformed_text place) (inl (place, broken, refl))
-
-  -- ---- one result
-
-  -- lists of gets have the same answers
-  answers_once : (start : Cache) (gets : List Get) (these those : List GetAnswer) (left also : Cache) → AnswersAll digest start gets these left
-      → AnswersAll digest start gets those also → SameAnswers these those
-  answers_once start gets these those left also a b = (answers_only digest start gets those also b these left a).0
 
 -- ---- answers that are the same
 
@@ -259,13 +243,6 @@ ends_calm [] last goes = goes.0
 ends_calm (x ∷ front) last goes = ends_calm front last goes.1
 
 module _ (digest : List ℕ → List ℕ) where
-  one_first : (start : Cache) (get other : Get) (a b : GetAnswer) (mid then : Cache) → get ≡ other → AnswersGet digest start get a mid → AnswersGet digest start other b then
-      → SameGetAnswer a b × (mid ≡ then)
-  one_first start get other a b mid then e is also =
-      let one =
-      answers_only digest start (other ∷ []) (b ∷ []) then (then, also, refl) (a ∷ []) mid (mid, rw e at is, refl) in
-      (one.0.0, one.1)
-
   same_first : (start : Cache) (gets others rest more : List Get) (xs ys : List GetAnswer) (left also : Cache)
       → gets ++ rest ≡ others ++ more → AnswersAll digest start gets xs left → AnswersAll digest start others ys also
       → SameFirst (rest ≡ [] → ⊥) (more ≡ [] → ⊥) xs ys
@@ -273,8 +250,10 @@ module _ (digest : List ℕ → List ℕ) where
   same_first start [] (other ∷ others) rest more [] (b ∷ ys) left also e all those = λ none. cc
   same_first start (get ∷ gets) [] rest more (a ∷ xs) [] left also e all those = λ none. cc
   same_first start (get ∷ gets) (other ∷ others) rest more (a ∷ xs) (b ∷ ys) left also e all those =
-      let one = one_first start get other a b all.0 those.0 (cc) all.1 those.1 in
-      (one.0, same_first all.0 gets others rest more xs ys left also (cc) all.2 (rw (← one.1) at those.2))
+      let same : get ≡ other = cc in
+      let one = answers_only digest start (other ∷ []) (b ∷ []) those.0 (those.0, those.1, refl) (a ∷ [])
+      all.0 (all.0, rw same at all.1, refl) in
+      (one.0.0, same_first all.0 gets others rest more xs ys left also (cc) all.2 (rw (← one.1) at those.2))
   same_first start gets others rest more xs ys left also e all those = absurd assumption
 
 module _ (digest : List ℕ → List ℕ) (capacity : ℕ) (payloads : List (List ℕ)) where
@@ -288,15 +267,12 @@ module _ (digest : List ℕ → List ℕ) (capacity : ℕ) (payloads : List (Lis
       × (x ≡ answers_text answers ++ collision_text clash.left clash.right)
 
   fetch_of : (s : ℕ) (x : List ℕ) → Told digest (fetching digest capacity) payloads s x → Whole s x ⊎ Stopped s x
-  fetch_of s x told =
-      elim told as (λ t y _. Whole t y ⊎ Stopped t y) [
-        | succeeds text is ↦ inl (is.0, is.1, refl, is.2)
-        | rejects text is ↦ absurd is
-        | lacks text is ↦ absurd is
-        | misreads text is ↦ absurd is
-        | collides left right front clash is ↦
-            inr (is.0, is.1, is.2, refl, ap₂ (λ (f c : List ℕ). f ++ c) is.5 (ap₂ collision_text is.3 is.4))
-      ]
+  fetch_of _ _ (succeeds text is) = inl (is.0, is.1, refl, is.2)
+  fetch_of _ _ (rejects text is) = absurd is
+  fetch_of _ _ (lacks text is) = absurd is
+  fetch_of _ _ (misreads text is) = absurd is
+  fetch_of _ _ (collides left right front clash is) =
+      inr (is.0, is.1, is.2, refl, ap₂ (λ (f c : List ℕ). f ++ c) is.5 (ap₂ collision_text is.3 is.4))
 
   not_both : (these those : List GetAnswer) (clash : MetaClash) → AnswersRequests digest capacity payloads these → StopsAt digest capacity payloads those clash → ⊥
   not_both these those clash whole at =
@@ -307,7 +283,7 @@ module _ (digest : List ℕ → List ℕ) (capacity : ℕ) (payloads : List (Lis
   one_fetch : (s : ℕ) (x : List ℕ) (t : ℕ) (y : List ℕ) → Whole s x ⊎ Stopped s x → Whole t y ⊎ Stopped t y → Same s x t y
   one_fetch s x t y (inl a) (inl b) =
       same s t x y (a.2 ∙ sym b.2)
-      (a.3 ∙ same_text a.0 b.0 a.1.2 (answers_once digest (no_blobs capacity) (gets_in [] payloads) a.0 b.0 a.1.0 b.1.0 a.1.1 b.1.1) ∙ sym b.3)
+      (a.3 ∙ same_text a.0 b.0 a.1.2 (answers_only digest _ _ b.0 b.1.0 b.1.1 a.0 a.1.0 a.1.1).0 ∙ sym b.3)
   one_fetch s x t y (inl a) (inr b) = absurd (not_both a.0 b.0 b.1 a.1 b.2)
   one_fetch s x t y (inr a) (inl b) = absurd (not_both b.0 a.0 a.1 b.1 a.2)
   one_fetch s x t y (inr a) (inr b) =
@@ -321,20 +297,19 @@ module _ (digest : List ℕ → List ℕ) (capacity : ℕ) (payloads : List (Lis
 module _ (digest : List ℕ → List ℕ) where
   pub first_front : (capacity : ℕ) (payloads : List (List ℕ)) (answers : List GetAnswer) (rest : List Get) → AnswersFirst digest capacity payloads answers rest
       → (s : ℕ) (x : List ℕ) → Told digest (fetching digest capacity) payloads s x → IsFrontOf (answers_text answers) x
-  first_front capacity payloads answers rest f s x told = by (fetch_of digest capacity payloads s x told)
-    where
-      by : Whole digest capacity payloads s x ⊎ Stopped digest capacity payloads s x → IsFrontOf (answers_text answers) x
-      by (inl whole) =
-          rw whole.3 (front_text _ _ answers whole.0 f.others
-          (same_first digest (no_blobs capacity) f.first _ rest [] answers whole.0 f.kept whole.1.0
-          (sym f.parts ∙ sym (append-nil _)) f.answered whole.1.1) (λ goes more. more refl))
-      by (inr stop) =
-          let at = stop.2 in
-          rw (stop.4, ← text_more digest stop.0 at.last stop.1 at.collides)
-          (front_text _ _ answers (stop.0 ++ at.last ∷ []) f.others
-          (same_first digest (no_blobs capacity) f.first at.first rest at.rest answers _ f.kept at.kept
-          (sym f.parts ∙ at.parts) f.answered at.answered)
-          (λ goes more. cc (ends_calm stop.0 at.last goes, ap is_collision at.collides)))
+  first_front capacity payloads answers rest f s x told =
+      ⊎_elim
+      (λ whole. rw whole.3 (front_text _ _ answers whole.0 f.others
+      (same_first digest (no_blobs capacity) f.first _ rest [] answers whole.0 f.kept whole.1.0
+      (sym f.parts ∙ sym (append-nil _)) f.answered whole.1.1) (λ goes more. more refl)))
+      (λ stop.
+      let at = stop.2 in
+      rw (stop.4, ← text_more digest stop.0 at.last stop.1 at.collides)
+      (front_text _ _ answers (stop.0 ++ at.last ∷ []) f.others
+      (same_first digest (no_blobs capacity) f.first at.first rest at.rest answers _ f.kept at.kept
+      (sym f.parts ∙ at.parts) f.answered at.answered)
+      (λ goes more. cc (ends_calm stop.0 at.last goes, ap is_collision at.collides))))
+      (fetch_of digest capacity payloads s x told)
 
   -- so what is done by the payloads is done by the input
   pub done_spelled : (capacity : ℕ) (input : List ℕ) (payloads : List (List ℕ)) (old new : Option (List ℕ)) (SinkRose : Type 0) (status : ℕ) → IsStream payloads input

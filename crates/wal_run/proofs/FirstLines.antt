@@ -1,5 +1,5 @@
 -- The lines of a schedule's first events are the first lines of the whole schedule.
-use Rattle.wal_run.proofs.Common.{◌≡◌, ◌⊎◌, inl, inr, ⊎_elim, ℕ, zero, suc, Bool, true, false, cond, List, [], ◌∷◌, ◌++◌, append-nil, take, refl, sym, ap, subst, ◌∙◌, Event, Schedule, Line, SameUpToCollision, Rules, World, Steps, GoesOn, Runs, first_state, is_collision, apart_left, apart_right, one_run, rules_of, AreFirstLines, AreLines, only_rules}
+use Rattle.wal_run.proofs.Common.{◌≡◌, ◌⊎◌, inl, inr, ⊎_elim, ℕ, suc, Bool, true, false, cond, List, [], ◌∷◌, ◌++◌, append-nil, take, refl, sym, ap, subst, ◌∙◌, Event, Schedule, Line, SameUpToCollision, Rules, World, Steps, GoesOn, Runs, first_state, is_collision, apart_left, apart_right, one_run, rules_of, AreFirstLines, AreLines, only_rules}
 
 -- a run of these events, whose lines are the first of these, and all of them where one is a collision
 record Begins (r : Rules) (old : World) (events : List Event) (lines : List Line) : Type 0 where
@@ -39,12 +39,10 @@ module _ (r : Rules) where
 
   begins : (count : ℕ) (events : List Event) (states : List World) (lines : List Line) (old : World) → Runs r old events states lines
       → Begins r old (take count events) lines
-  begins zero events states lines old run = none_begun old lines
-  begins (suc count) [] states lines old run = none_begun old lines
   begins (suc count) (event ∷ events) (new ∷ states) (said ∷ lines) old run =
       one_begun old new event (take count events) events states said lines (is_collision said) refl run.0 (λ more. begins count events states lines new more) run.1
-  begins (suc count) (event ∷ events) [] lines old run = absurd run
-  begins (suc count) (event ∷ events) (new ∷ states) [] old run = absurd run
+  begins (suc count) (event ∷ events) states lines old run = absurd run
+  begins count events states lines old run = none_begun old lines
 
 goes_left : (xs ys : List Line) → GoesOn (xs ++ ys) → GoesOn xs
 goes_left [] ys goes = tt

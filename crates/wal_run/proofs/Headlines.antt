@@ -1,5 +1,5 @@
 -- What the program promises of `replay`, from how a run ends.
-use Rattle.wal_run.proofs.Common.{◌≡◌, ◌⊎◌, inl, inr, ℕ, List, [], ◌++◌, length, IfSome, refl, ap, arith, Appends-kept, Appends-nil, length-take, Appends, Keeps, Schedule, spelled_range, AreFirstLines, front_of, Serve, Whole, Replay, Service, one_task, Around, Answers, Ends, broke_off, cut_off, done, no_memory, no_memory_for_words, serving_ended, sink_failed, source_failed, too_long, usage, whole, ClashesBehind, IsResult, IsTaken, IsTooLong, MayLeave, collision, lacking, rejection, success, unreadable, Told, collision_text, IsReport, replaying, unfinished}
+use Rattle.wal_run.proofs.Common.{◌≡◌, ◌⊎◌, ⊎_elim, inr, ℕ, List, [], length, IfSome, refl, ap, arith, Appends-kept, Appends-nil, length-take, Appends, Keeps, Schedule, spelled_range, AreFirstLines, front_of, Serve, Whole, Replay, Service, one_task, Around, Answers, Ends, broke_off, cut_off, done, no_memory, no_memory_for_words, serving_ended, sink_failed, source_failed, too_long, usage, whole, IsResult, IsTaken, IsTooLong, MayLeave, collision, success, Told, IsReport, replaying, unfinished}
 use Rattle.wal_event.specs.Event.{IsSchedule}
 use Rattle.wal_theorem.proofs.Headline.{run_recovers, run_safe}
 use Rattle.wal_run.specs.Headline.{AsksToReplay, Headline, TakesSchedule, TellsSchedule}
@@ -13,7 +13,6 @@ serves_not service same = cc
 -- the lines of none of a schedule's events
 no_lines : (digest : List ℕ → List ℕ) → ((text : List ℕ) → length (digest text) ≡ 32) → (s : Schedule) → IsSchedule s → AreFirstLines digest s []
 no_lines digest size s fit =
-    let front : Schedule = front_of s 0 in
     let fits : IsSchedule (front_of s 0) = record {
       least = fit.least;
       most = fit.most;
@@ -28,8 +27,8 @@ no_lines digest size s fit =
       of_front = record {
         states = [];
         run = tt;
-        safe = run_safe digest size front [] [] fits tt;
-        recovered = run_recovers digest size front [] [] fits tt;
+        safe = run_safe digest size (front_of s 0) [] [] fits tt;
+        recovered = run_recovers digest size (front_of s 0) [] [] fits tt;
       };
     }
 
@@ -48,31 +47,25 @@ module _ (digest : List ℕ → List ℕ) (words : List (List ℕ)) (a : Around)
   -- by the answer that was written
   of_answer : (status : ℕ) (text : List ℕ) → Answers digest words a.left a.after status text → Appends a.old a.new text
       → Is status
-  of_answer status text answer =
-      elim answer as (λ t y _. Appends a.old a.new y → Is t) [
-        | usage none kept ↦ absurd (none (Whole Replay) asks.asked)
-        | too_long task is_task long ↦
-            λ put. of_long (rw (one_task words task (Whole Replay) is_task asks.asked) at long)
-        | done task is_task input taken t y result ↦
-            let one = one_task words task (Whole Replay) is_task asks.asked in
-            of_result input (rw one at taken) t y (rw one at result)
-      ]
+  of_answer _ _ (usage none kept) put = absurd (none (Whole Replay) asks.asked)
+  of_answer _ _ (too_long task is_task long) put =
+      of_long (rw (one_task words task (Whole Replay) is_task asks.asked) at long)
+  of_answer _ _ (done task is_task input taken t y result) put =
+      let one = one_task words task (Whole Replay) is_task asks.asked in
+      of_result input (rw one at taken) t y (rw one at result) put
 
   of_ends : (status : ℕ) → Ends digest words a status → Is status
-  of_ends status ends =
-      elim ends as (λ t _. Is t) [
-        | whole t text answer put ↦ of_answer t text answer put
-        | no_memory_for_words kept none ↦ of_none none
-        | no_memory task asked taken kept ↦ of_none kept
-        | broke_off task asked input taken text left put ↦
-            let one = one_task words task (Whole Replay) asked asks.asked in
-            of_left input text (rw one at taken) (rw one at left) put
-        | source_failed task asked takes taken rose kept ↦ absurd (asks.no_read_fault rose)
-        | sink_failed t text answer rose part ↦ absurd (asks.no_write_fault rose)
-        | cut_off task asked input taken text owed rose part ↦ absurd (asks.no_write_fault rose)
-        | serving_ended service asked t serves ↦
-            absurd (serves_not service (one_task words (Serve service) (Whole Replay) asked asks.asked))
-      ]
+  of_ends _ (whole t text answer put) = of_answer t text answer put
+  of_ends _ (no_memory_for_words kept none) = of_none none
+  of_ends _ (no_memory task asked taken kept) = of_none kept
+  of_ends _ (broke_off task asked input taken text left put) =
+      let one = one_task words task (Whole Replay) asked asks.asked in
+      of_left input text (rw one at taken) (rw one at left) put
+  of_ends _ (source_failed task asked takes taken rose kept) = absurd (asks.no_read_fault rose)
+  of_ends _ (sink_failed t text answer rose part) = absurd (asks.no_write_fault rose)
+  of_ends _ (cut_off task asked input taken text owed rose part) = absurd (asks.no_write_fault rose)
+  of_ends _ (serving_ended service asked t serves) =
+      absurd (serves_not service (one_task words (Serve service) (Whole Replay) asked asks.asked))
 
 -- ---- a source that tells its bytes
 
@@ -106,9 +99,8 @@ module _ (digest : List ℕ → List ℕ) (size : (text : List ℕ) → length (
   left_so : (input text : List ℕ) → IsTaken (replaying digest) a.left a.after input → MayLeave digest (replaying digest) input text → Appends a.old a.new text
       → Reported 5
   left_so input text taken left put =
-      let spelled = left.0 in
-      let here = rw (is_input input taken.told) at spelled.1 in
-      (text, rw (one_schedule tells.input spelled.0 s here tells.spells) at spelled.2, put)
+      let here = rw (is_input input taken.told) at left.0.1 in
+      (text, rw (one_schedule tells.input left.0.0 s here tells.spells) at left.0.2, put)
 
   ends_so : (status : ℕ) → Ends digest words a status → Reported status
   ends_so = of_ends digest words a asks Reported result_so (λ long. absurd (not_longer long)) nothing_so left_so
@@ -126,20 +118,13 @@ module _ (digest : List ℕ → List ℕ) (words : List (List ℕ)) (a : Around)
   -- the result for the input that was taken
   result_any : (input : List ℕ) → IsTaken (replaying digest) a.left a.after input → (status : ℕ) (text : List ℕ) → IsResult digest (replaying digest) input status text
       → Appends a.old a.new text → IsThrough status → Replayed status
-  result_any input taken status text result =
-      elim result as (λ t y _. Appends a.old a.new y → IsThrough t → Replayed t) [
-        | success y is ↦ λ put through. (is.0, record { input = input; taken = taken; spells = is.1 }, y, is.2, put)
-        | rejection y is ↦ λ put through. absurd is.2
-        | lacking y is ↦ λ put through. grind arith
-        | unreadable y is ↦ λ put through. grind arith
-        | collision left right y clash is ↦ λ put through. stopped_so left right y is.front is.clashes is.whole put
-      ]
-    where
-      stopped_so : (left right y front : List ℕ) → ClashesBehind digest left right (replaying digest) input front → y ≡ front ++ collision_text left right
-          → Appends a.old a.new y → Replayed 10
-      stopped_so left right y front (inl two) line put = absurd two.0
-      stopped_so left right y front (inr is) line put =
-          (is.0, record { input = input; taken = taken; spells = is.1 }, y, rw line is.2, put)
+  result_any input taken _ _ (success y is) put through =
+      (is.0, record { input = input; taken = taken; spells = is.1 }, y, is.2, put)
+  result_any input taken _ _ (collision left right y clash is) put through =
+      ⊎_elim
+      (λ two. absurd two.0)
+      (λ it. (it.0, record { input = input; taken = taken; spells = it.1 }, y, rw is.whole it.2, put)) is.clashes
+  result_any input taken status text result put through = grind arith
 
   ends_any : (status : ℕ) → Ends digest words a status → IsThrough status → Replayed status
   ends_any =

@@ -64,14 +64,11 @@ Made digest size payloads (Err full) s x = (s ≡ 4) × (x ≡ disk_full_text fu
 
 made_of : (digest : List ℕ → List ℕ) (size : ℕ) (payloads : List (List ℕ)) (s : ℕ) (x : List ℕ) → Told digest (imaging digest size) payloads s x
     → Made digest size payloads (image_of size (puts_of digest no_contents payloads)) s x
-made_of digest size payloads s x told =
-    elim told as (λ t y _. Made digest size payloads (image_of size (puts_of digest no_contents payloads)) t y) [
-      | succeeds text is ↦ rw is (refl, refl)
-      | rejects text is ↦ absurd is
-      | lacks text is ↦ rw is.2 (refl, is.3)
-      | misreads text is ↦ absurd is
-      | collides left right text clash is ↦ absurd is
-    ]
+made_of digest size payloads _ _ (succeeds text is) = rw is (refl, refl)
+made_of digest size payloads _ _ (rejects text is) = absurd is
+made_of digest size payloads _ _ (lacks text is) = rw is.2 (refl, is.3)
+made_of digest size payloads _ _ (misreads text is) = absurd is
+made_of digest size payloads _ _ (collides left right text clash is) = absurd is
 
 one_made : (digest : List ℕ → List ℕ) (size : ℕ) (payloads : List (List ℕ)) (r : Result (List ℕ) (ℕ × ℕ)) (s : ℕ) (x : List ℕ) (t : ℕ) (y : List ℕ) → Made digest size payloads r s x → Made digest size payloads r t y → Same s x t y
 one_made digest size payloads (Ok image) s x t y a b = same s t x y (a.0 ∙ sym b.0) (a.1 ∙ sym b.1)

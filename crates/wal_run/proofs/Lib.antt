@@ -12,7 +12,6 @@ mod Fetches
 mod FirstLines
 mod Headlines
 mod ImageLaws
-mod LinesOfText
 mod ListingLaws
 mod Members
 mod OneService

@@ -30,14 +30,13 @@ Told_by digest id k r s x = (a : MemberAnswer) × IsMember digest id.0 k r.paylo
 
 answer_of : (digest : List ℕ → List ℕ) (id : BlobId) (k : ℕ) (r : Recorded) (s : ℕ) (x : List ℕ) → Told digest (unbundling digest id k) r s x
     → Told_by digest id k r s x
-answer_of digest id k r s x told =
-    elim told as (λ t y _. Told_by digest id k r t y) [
-      | succeeds text is ↦ (Member text, is, refl, refl)
-      | rejects text is ↦ (BadIndex, is.0, refl, is.1)
-      | lacks text is ↦ ⊎_elim (λ missing. (Missing missing.0, missing.1, refl, missing.2)) (λ none. (NoMember none.0, none.1, refl, none.2)) is
-      | misreads text is ↦ absurd is
-      | collides left right text clash is ↦ absurd is
-    ]
+answer_of digest id k r _ _ (succeeds text is) = (Member text, is, refl, refl)
+answer_of digest id k r _ _ (rejects text is) = (BadIndex, is.0, refl, is.1)
+answer_of digest id k r _ _ (lacks text is) =
+    ⊎_elim (λ missing. (Missing missing.0, missing.1, refl, missing.2))
+    (λ none. (NoMember none.0, none.1, refl, none.2)) is
+answer_of digest id k r _ _ (misreads text is) = absurd is
+answer_of digest id k r _ _ (collides left right text clash is) = absurd is
 
 one_told : (a b : MemberAnswer) → SameMemberAnswer a b → Same (member_status a) (member_text a) (member_status b) (member_text b)
 one_told (Collision a) (Collision b) is = both_collide _ _ _ _ [] a b refl refl refl refl

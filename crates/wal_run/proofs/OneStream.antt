@@ -23,17 +23,10 @@ one_front (p ∷ ps) (q ∷ qs) front rest other behind (sender, more, fits, par
     let there : front ++ rest ≡ envelope from q ++ (further ++ behind) =
     rw (same, pieces) (append_assoc (envelope from q) further behind) in
     let one = one_envelope (front ++ rest) sender from p q (more ++ rest) (further ++ behind) fits fit here there in
-    let others = one_front ps qs more rest further behind stream follows none nothing one.1 in (
-      rw (one.0, others.0) refl,
-      omega (
-        arith,
-        ap length one.0,
-        ap length parts,
-        ap length pieces,
-        others.1,
-        length-append p more,
-        length-append q further,
-      ),
+    let others = one_front ps qs more rest further behind stream follows none nothing one.1 in
+    let long = length-append q further in (
+      cc (one.0, others.0),
+      omega (arith, ap length one.0, ap length parts, ap length pieces, others.1, length-append p more, long),
     )
 
 -- the payloads of a stream are the only ones

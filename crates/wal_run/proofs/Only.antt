@@ -33,6 +33,21 @@ line_of : (digest : List ℕ → List ℕ) (task : Task) (input : List ℕ) (s :
 line_of digest (Serve service) input s x result = absurd (no_result digest input s x result)
 line_of digest task input s x result = refl
 
+module _ (digest : List ℕ → List ℕ) (words : List (List ℕ)) (input : List ℕ) (after then : Option (List ℕ))
+    (task : Task) (xs : List ℕ) (asks : IsTask words task)
+    (taken : IsTaken (command_of digest task) (Some input) after xs) where
+  -- of whatever is true of each result of the input
+  of_answer : (Is : ℕ → List ℕ → Type 0) → ((t : ℕ) (y : List ℕ) → IsResult digest (command_of digest task) xs t y → Is t y) → (t : ℕ) (y : List ℕ)
+      → Answers digest words (Some input) then t y → Is t y
+  of_answer Is each t y (usage none kept) = absurd (none task asks)
+  of_answer Is each t y (too_long b asked long) =
+      absurd (not_taken xs after long (rw (one_task words task b asks asked) at taken))
+  of_answer Is each t y (done b asked ys given u z result) =
+      let c = command_of digest task in
+      let one = one_task words b task asked asks in
+      let inputs = taken_once c.grammar c.limit input ys xs then after (rw one at given) taken in
+      each u z (rw inputs at (rw one at result))
+
 -- an answer that is known before it is written is the only such one
 only_answer : (digest : List ℕ → List ℕ) (words : List (List ℕ)) (place : Place) → IsPlaceOf words place → (input : List ℕ) (after : Option (List ℕ)) (s : ℕ) (x : List ℕ) (then : Option (List ℕ)) (t : ℕ) (y : List ℕ)
     → Answers digest words (Some input) after s x → Answers digest words (Some input) then t y → SameAt place s x t y
@@ -43,16 +58,11 @@ only_answer digest words place at input after s x then t y (too_long a asks far)
 only_answer digest words place at input after s x then t y (too_long a asks far) (too_long b asked long) = (refl, inl refl)
 only_answer digest words place at input after s x then t y (too_long a asks far) (done b asked ys taken u z result) =
     absurd (not_taken ys then far (rw (one_task words b a asked asks) at taken))
-only_answer digest words place at input after s x then t y (done a asks xs spent v w comes) (usage never also) = absurd (never a asks)
-only_answer digest words place at input after s x then t y (done a asks xs spent v w comes) (too_long b asked long) =
-    absurd (not_taken xs after long (rw (one_task words a b asks asked) at spent))
-only_answer digest words place at input after s x then t y (done a asks xs spent v w comes) (done b asked ys taken u z result) =
-    let c = command_of digest b in
-    let one = one_task words a b asks asked in
-    let inputs = taken_once c.grammar c.limit input xs ys after then (rw one at spent) taken in
-    let here = rw inputs at (rw one at comes) in
-    rw (at b asked, ← line_of digest b ys u z result)
-    (one_result digest c (determined digest b (in_range words b asked)) ys v w u z here result)
+only_answer digest words place at input after s x then t y (done a asks xs spent v w comes) other =
+    of_answer digest words input after then a xs asks spent (SameAt place v w)
+    (λ u z result. rw (at a asks, ← line_of digest a xs u z result)
+    (one_result digest (command_of digest a) (determined digest a (in_range words a asks)) xs v w u z comes result))
+    t y other
 
 -- THE ANSWER, where the source tells its bytes, is the only one; the texts of a collision are free
 pub only : (digest : List ℕ → List ℕ) (words : List (List ℕ)) (place : Place) → IsPlaceOf words place → (input : List ℕ) (after : Option (List ℕ)) (s : ℕ) (x : List ℕ) (then : Option (List ℕ)) (t : ℕ) (y : List ℕ)
@@ -67,26 +77,15 @@ only digest words place at input after s x then t y (served service asks taken l
 -- ---- what a command left written when it broke off is a front of the answer, up to a collision
 
 module _ (digest : List ℕ → List ℕ) (words : List (List ℕ)) (input : List ℕ) (after then : Option (List ℕ)) (place : Place) (at : IsPlaceOf words place) (task : Task) (xs part : List ℕ) (asks : IsTask words task) (taken : IsTaken (command_of digest task) (Some input) after xs) where
-  -- of whatever is true of each result of the input
-  of_answer : (Is : ℕ → List ℕ → Type 0) → ((t : ℕ) (y : List ℕ) → IsResult digest (command_of digest task) xs t y → Is t y) → (t : ℕ) (y : List ℕ)
-      → Answers digest words (Some input) then t y → Is t y
-  of_answer Is each t y (usage none kept) = absurd (none task asks)
-  of_answer Is each t y (too_long b asked long) =
-      absurd (not_taken xs after long (rw (one_task words task b asks asked) at taken))
-  of_answer Is each t y (done b asked ys given u z result) =
-      let c = command_of digest task in
-      let one = one_task words b task asked asks in
-      let inputs = taken_once c.grammar c.limit input ys xs then after (rw one at given) taken in
-      each u z (rw inputs at (rw one at result))
-
   pub front_left : MayLeave digest (command_of digest task) xs part → (t : ℕ) (y : List ℕ) → Completes digest words (Some input) then t y → IsFrontOf part y
-  front_left left t y (answered u z is) = of_answer (λ s x. IsFrontOf part x) left.1 u z is
+  front_left left t y (answered u z is) =
+      of_answer digest words input after then task xs asks taken (λ s x. IsFrontOf part x) left.1 u z is
   front_left left t y (served service asked given spent u z serves) =
       let none = rw (one_task words task (Serve service) asks asked) at left in absurd none.0.2
 
   pub front_owed : MayOwe digest (command_of digest task) xs part → (t : ℕ) (y : List ℕ) → Completes digest words (Some input) then t y → IsFrontUpToClash place t part y
   front_owed owed t y (answered u z is) =
-      of_answer (λ s x. IsFrontUpToClash place s part x)
+      of_answer digest words input after then task xs asks taken (λ s x. IsFrontUpToClash place s part x)
       (λ s x result. rw (at task asks, ← line_of digest task xs s x result) (owed.1 s x result)) u z is
   front_owed owed t y (served service asked given spent u z serves) =
       let none = rw (one_task words task (Serve service) asks asked) at owed in absurd none.0.2

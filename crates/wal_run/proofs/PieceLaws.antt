@@ -1,5 +1,5 @@
 -- Streams that are taken from a source in pieces.
-use Rattle.wal_run.proofs.Common.{◌≡◌, ℕ, ◌+◌, ◌<◌, ◌≤◌, List, [], ◌∷◌, ◌++◌, length, take, Option, Some, None, Result, Ok, Err, IfSome, refl, sym, ap, ◌∙◌, append_assoc, append-nil, arith, Consumes, IsAtEnd, Consumes-trans, Consumes-kept, TakeError, IsMalformed, wrong_stays, ReaderState, Feeds, FinishesStream, IsStreamRead, BlobId, IsResult, TakesAtMost, IsAllOf, GivesPiece, Stands, TakesFew, TakesStream, outcome_status, outcome_text}
+use Rattle.wal_run.proofs.Common.{◌≡◌, Keeps-refl, ℕ, ◌+◌, ◌<◌, ◌≤◌, List, [], ◌∷◌, ◌++◌, length, take, Option, Some, None, Result, Ok, Err, IfSome, sym, ap, ◌∙◌, append_assoc, append-nil, arith, Consumes, IsAtEnd, Consumes-trans, Consumes-kept, TakeError, IsMalformed, wrong_stays, ReaderState, Feeds, FinishesStream, IsStreamRead, BlobId, IsResult, TakesAtMost, IsAllOf, GivesPiece, Stands, TakesFew, TakesStream, outcome_status, outcome_text}
 use Rattle.std.specs.Prelude.{IsErrAnd}
 use Rattle.std.proofs.lemmas.List.{length-append}
 use Rattle.wal_port.specs.declared.transfers.TakeError.TheVariants.{ReadFault, TooLong, Memory}
@@ -10,6 +10,7 @@ use Rattle.wal_reader.specs.declared.errors.FeedError.TheVariants as feed
 use Rattle.wal_reader.specs.declared.errors.FinishError.{FinishError}
 use Rattle.wal_reader.specs.declared.outcome.ReadAnswer.{ReadAnswer}
 use Rattle.wal_run.specs.Reading.{reading}
+use Rattle.wal_run.proofs.Endings.{kept_few}
 use Rattle.wal_run.proofs.Readings.{outcome_as}
 
 -- ---- a byte that begins no envelope
@@ -63,8 +64,7 @@ none_given a b c got buffer count first next none =
     rw (← append-nil got) (Consumes-trans a b c got [] first (rw none at next))
 
 pub none_taken : (left : Option (List ℕ)) (most : ℕ) → TakesAtMost left left most
-none_taken None most = ([], tt, omega arith)
-none_taken (Some bytes) most = ([], refl, omega arith)
+none_taken left most = kept_few left left most (Keeps-refl left)
 
 -- ---- what came of the whole stream
 
@@ -77,17 +77,15 @@ answer_read digest id stream given answer s text is finishes s_is text_is =
 -- ---- what ends the pieces
 
 -- no piece came
-ends_early : (digest : List ℕ → List ℕ) (id : List ℕ) (a b c : Option (List ℕ)) (Late Up : Type 0) (r : ReaderState) (e : TakeError) (got buffer : List ℕ) (taken : ℕ) → Consumes a b got → length got ≡ taken
-    → taken ≤ 134217728 → (Late → Up) → GivesPiece b c Late taken buffer (Err e) → TakesStream digest id a c Up r (Err e)
-ends_early digest id a b c Late Up r ReadFault got buffer taken first long within up gives = ((got, Consumes-kept a b c got first gives.0, omega (arith, long, within)), up gives.1)
-ends_early digest id a b c Late Up r TooLong got buffer taken first long within up gives = (got ++ gives.0, Consumes-trans a b c got gives.0 first gives.1, omega (arith, length-append got gives.0, long, gives.2))
-ends_early digest id a b c Late Up r Memory got buffer taken first long within up gives = absurd gives
-
 pub piece_failed : (digest : List ℕ → List ℕ) (id : List ℕ) (a b c : Option (List ℕ)) (Late Up : Type 0) (r : ReaderState) (result : Result (Option ℕ) TakeError) (e : TakeError) (got buffer : List ℕ) (taken : ℕ)
     → IsErrAnd result (λ x. x ≡ e) → Consumes a b got → length got ≡ taken → taken ≤ 134217728 → (Late → Up) → GivesPiece b c Late taken buffer (Err e) → TakesStream digest id a c Up r result
 piece_failed digest id a b c Late Up r (Ok wrong) e got buffer taken is first long within up gives = absurd is
-piece_failed digest id a b c Late Up r (Err x) e got buffer taken is first long within up gives =
-    rw is (ends_early digest id a b c Late Up r e got buffer taken first long within up gives)
+piece_failed digest id a b c Late Up r (Err x) ReadFault got buffer taken is first long within up gives =
+    rw is ((got, Consumes-kept a b c got first gives.0, omega (arith, long, within)), up gives.1)
+piece_failed digest id a b c Late Up r (Err x) TooLong got buffer taken is first long within up gives =
+    let size = length-append got gives.0 in
+    rw is (got ++ gives.0, Consumes-trans a b c got gives.0 first gives.1, omega (arith, size, long, gives.2))
+piece_failed digest id a b c Late Up r (Err x) Memory got buffer taken is first long within up gives = absurd gives
 
 -- memory ran out for a piece
 pub feed_failed : (digest : List ℕ → List ℕ) (id : List ℕ) (a c : Option (List ℕ)) (Up : Type 0) (r : ReaderState) (result : Result (Option ℕ) TakeError) (e : TakeError) → IsErrAnd result (λ x. x ≡ e) → e ≡ Memory

@@ -32,14 +32,12 @@ Told_by digest id r s x = (o : Outcome) × IsOutcome digest id.0 r.payloads o ×
 
 outcome_of : (digest : List ℕ → List ℕ) (id : BlobId) (r : Recorded) → IsMetadataIn digest id.0 r.payloads r.metadata → (s : ℕ) (x : List ℕ)
     → Told digest (reading digest id) r s x → Told_by digest id r s x
-outcome_of digest id r one s x told =
-    elim told as (λ t y _. Told_by digest id r t y) [
-      | succeeds text is ↦ (Bytes text, is, refl, refl)
-      | rejects text is ↦ (Reject, is.1, refl, is.3)
-      | lacks text is ↦ (Short is.0 (row_count r.metadata.f), (r.metadata, one, is.1, refl, is.2), refl, is.3)
-      | misreads text is ↦ absurd is
-      | collides left right text clash is ↦ absurd is
-    ]
+outcome_of digest id r one _ _ (succeeds text is) = (Bytes text, is, refl, refl)
+outcome_of digest id r one _ _ (rejects text is) = (Reject, is.1, refl, is.3)
+outcome_of digest id r one _ _ (lacks text is) =
+    (Short is.0 (row_count r.metadata.f), (r.metadata, one, is.1, refl, is.2), refl, is.3)
+outcome_of digest id r one _ _ (misreads text is) = absurd is
+outcome_of digest id r one _ _ (collides left right text clash is) = absurd is
 
 one_told : (o p : Outcome) → SameOutcome o p → Same (outcome_status o) (outcome_text o) (outcome_status p) (outcome_text p)
 one_told (Collision a) (Collision b) is = both_collide _ _ _ _ [] a b refl refl refl refl

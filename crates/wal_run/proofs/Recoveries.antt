@@ -23,14 +23,13 @@ module _ (digest : List ℕ → List ℕ) (id : BlobId) (axis : Axis) (index : �
   Told_by s x = (o : Recovered) × Comes o × (s ≡ recovered_status o) × (x ≡ recovered_text id.0 r.metadata.f axis index o)
 
   recovery_of : (s : ℕ) (x : List ℕ) → Told digest (recovering digest id axis index) r s x → Told_by s x
-  recovery_of s x told =
-      elim told as (λ t y _. Told_by t y) [
-        | succeeds text is ↦ (Sliver is.0, is.1, refl, is.2)
-        | rejects text is ↦ (Inconsistent (proof_of axis index is.0), record { taken = is.0; takes = is.1; comes = (refl, is.2) }, refl, is.3)
-        | lacks text is ↦ (Short (length is.0), record { taken = is.0; takes = is.1; comes = (refl, is.2) }, refl, is.3)
-        | misreads text is ↦ absurd is
-        | collides left right text clash is ↦ absurd is
-      ]
+  recovery_of _ _ (succeeds text is) = (Sliver is.0, is.1, refl, is.2)
+  recovery_of _ _ (rejects text is) =
+      (Inconsistent (proof_of axis index is.0), record { taken = is.0; takes = is.1; comes = (refl, is.2) }, refl, is.3)
+  recovery_of _ _ (lacks text is) =
+      (Short (length is.0), record { taken = is.0; takes = is.1; comes = (refl, is.2) }, refl, is.3)
+  recovery_of _ _ (misreads text is) = absurd is
+  recovery_of _ _ (collides left right text clash is) = absurd is
 
 pub recovered_once : (digest : List ℕ → List ℕ) (id : BlobId) (axis : Axis) (index : ℕ) → Determined digest (recovering digest id axis index)
 recovered_once digest id axis index input r spells s x t y a b =

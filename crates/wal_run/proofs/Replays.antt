@@ -1,5 +1,5 @@
 -- What a replay comes to is one result of the command that replays.
-use Rattle.wal_run.proofs.Common.{◌≡◌, ◌⊎◌, inl, inr, ⊎_elim, ℕ, true, append-nil, List, [], ◌∷◌, ◌++◌, Option, Ok, Err, refl, sym, ap, subst, ◌∙◌, arith, flat_map-append, MetaClash, Schedule, Line, line_text, report_of, IsRead, ScheduleError, SameUpToCollision, GoesOn, is_collision, apart_left, apart_right, AreFirstLines, AreLines, EndsInCollision, IsFault, IsFrontOf, IsFrontUpToClash, IsResult, MayLeave, MayOwe, collision, success, unreadable, Told, collides, lacks, misreads, rejects, succeeds, collision_text, IsReport, replaying, stopped, unfinished, Does, Performs, finished, lost_sink, performed, wanted_memory, written}
+use Rattle.wal_run.proofs.Common.{◌≡◌, ◌⊎◌, inl, inr, ⊎_elim, ℕ, true, append-nil, List, [], ◌∷◌, ◌++◌, Option, Ok, Err, refl, sym, ap, subst, ◌∙◌, arith, flat_map-append, MetaClash, Schedule, Line, line_text, report_of, IsRead, ScheduleError, SameUpToCollision, GoesOn, is_collision, AreFirstLines, AreLines, EndsInCollision, IsFault, IsFrontOf, IsFrontUpToClash, IsResult, MayLeave, MayOwe, collision, success, unreadable, Told, collides, lacks, misreads, rejects, succeeds, collision_text, IsReport, replaying, stopped, unfinished, Does, Performs, finished, lost_sink, performed, wanted_memory, written}
 use Rattle.wal_event.specs.declared.line.Line.TheVariants as line
 use Rattle.wal_world.specs.Ending.{Replays}
 use Rattle.wal_world.specs.declared.run.ReplayEnd.TheVariants as ending
@@ -8,7 +8,7 @@ use Rattle.wal_run.specs.Replaying.{whole}
 use Rattle.wal_run.specs.SameText.{line as in_line}
 use Rattle.wal_run.proofs.CommandLaws.{Determined, Same, both_collide, same, told_of}
 use Rattle.wal_run.proofs.Endings.{performs_as}
-use Rattle.wal_run.proofs.RunCollisions.{clash_line, collides_not, collision_line, ends_in, same_lines}
+use Rattle.wal_run.proofs.RunCollisions.{clash_line, collision_line, ends_in, not_stopped, one_going, same_lines}
 use Rattle.wal_run.proofs.FirstLines.{first_lines, first_of_going, first_or_clash}
 
 -- ---- the lines of the first events are the first of all lines
@@ -57,15 +57,12 @@ module _ (digest : List ℕ → List ℕ) (schedule : Schedule) where
   of_report _ _ is through = absurd (through refl)
 
   replay_of : (s : ℕ) (x : List ℕ) → Told digest (replaying digest) schedule s x → Whole s x ⊎ Stopped s x
-  replay_of s x told =
-      elim told as (λ t y _. Whole t y ⊎ Stopped t y) [
-        | succeeds text report ↦ of_report 0 text report (λ five. cc)
-        | rejects text is ↦ absurd is
-        | lacks text is ↦ absurd is
-        | misreads text is ↦ absurd is
-        | collides left right front clash report ↦
-            of_report 10 (front ++ collision_text left right) report (λ five. omega (arith, five))
-      ]
+  replay_of _ _ (succeeds text report) = of_report 0 text report (λ five. cc)
+  replay_of _ _ (rejects text is) = absurd is
+  replay_of _ _ (lacks text is) = absurd is
+  replay_of _ _ (misreads text is) = absurd is
+  replay_of _ _ (collides left right front clash report) =
+      of_report 10 (front ++ collision_text left right) report (λ five. omega (arith, five))
 
 module _ (digest : List ℕ → List ℕ) (schedule : Schedule) (lines : List Line) (are : AreFirstLines digest schedule lines) where
   left_front : GoesOn lines → (s : ℕ) (x : List ℕ) → Told digest (replaying digest) schedule s x → IsFrontOf (report_of lines) x
@@ -131,20 +128,10 @@ module _ (digest : List ℕ → List ℕ) (input : List ℕ) (old new : Option (
 module _ (digest : List ℕ → List ℕ) (schedule : Schedule) where
   one_of : (s : ℕ) (x : List ℕ) (t : ℕ) (y : List ℕ) → Whole digest schedule s x ⊎ Stopped digest schedule s x → Whole digest schedule t y ⊎ Stopped digest schedule t y → Same s x t y
   one_of s x t y (inl a) (inl b) =
-      ⊎_elim
-      (λ equal. same s t x y (a.3 ∙ sym b.3) (a.4 ∙ ap report_of equal ∙ sym b.4))
-      (λ apart. absurd (apart_left a.0 b.0 apart a.2))
-      (same_lines digest schedule schedule a.0 b.0 refl a.1 b.1)
-  one_of s x t y (inl a) (inr b) =
-      ⊎_elim
-      (λ equal. absurd (collides_not b.0 b.2 (subst GoesOn equal a.2)))
-      (λ apart. absurd (apart_left a.0 b.0 apart a.2))
-      (same_lines digest schedule schedule a.0 b.0 refl a.1 b.1)
-  one_of s x t y (inr a) (inl b) =
-      ⊎_elim
-      (λ equal. absurd (collides_not a.0 a.2 (subst GoesOn (sym equal) b.2)))
-      (λ apart. absurd (apart_right a.0 b.0 apart b.2))
-      (same_lines digest schedule schedule a.0 b.0 refl a.1 b.1)
+      let equal = one_going digest schedule schedule a.0 b.0 refl a.1 b.1 a.2 in
+      same s t x y (a.3 ∙ sym b.3) (a.4 ∙ ap report_of equal ∙ sym b.4)
+  one_of s x t y (inl a) (inr b) = absurd (not_stopped digest schedule schedule a.0 b.0 refl a.1 b.1 a.2 b.2)
+  one_of s x t y (inr a) (inl b) = absurd (not_stopped digest schedule schedule b.0 a.0 refl b.1 a.1 b.2 a.2)
   one_of s x t y (inr a) (inr b) =
       ⊎_elim
       (λ equal. same s t x y (a.3 ∙ sym b.3) (a.4 ∙ ap report_of equal ∙ sym b.4))

@@ -1,5 +1,6 @@
 -- A schedule has the lines of one run, and one that ends in a collision shows two texts with one digest.
-use Rattle.wal_run.proofs.Common.{◌≡◌, ℕ, ◌++◌, List, length, length-append, [], ◌∷◌, Bool, true, false, cond, codes, arith, refl, ap, subst, false≢true, IsCollision, Event, Schedule, Line, hex_text, line_text, Rules, World, Steps, GoesOn, Runs, first_state, is_collision, AreLines, EndsInCollision, SameLines, not_going, one_run, rules_of, only_rules, collision_text}
+use Rattle.wal_run.proofs.Common.{◌≡◌, ◌∙◌, ⊎_elim, apart_left, ℕ, ◌++◌, List, length, length-append, [], ◌∷◌, true, false, codes, arith, refl, ap, subst, false≢true, IsCollision, Event, Schedule, Line, hex_text, line_text, Rules, World, Steps, GoesOn, Runs, first_state, is_collision, AreLines, EndsInCollision, SameLines, not_going, one_run, rules_of, only_rules, collision_text}
+use Rattle.wal_protocol.proofs.EveryWord.{truth}
 use Rattle.wal_event.specs.declared.event.Event.TheVariants as event
 use Rattle.wal_event.specs.declared.line.Line.TheVariants as line
 
@@ -13,15 +14,6 @@ shown r old event.Finish (line.Collision left right) new step = step.0
 shown r old e (line.Collision left right) new step = step.0
 shown r old e said new step = tt
 
-not_nil : (front : List Line) (said : Line) → front ++ said ∷ [] ≡ [] → ⊥
-not_nil front said same = omega (arith, ap length same, length-append front (said ∷ []))
-
-shown_behind : (r : Rules) (new : World) (events : List Event) (states : List World) (front : List Line) (said : Line) (k : Bool)
-    → (Runs r new events states (front ++ said ∷ []) → ShowsClash r said)
-    → cond k ((states ≡ []) × (front ++ said ∷ [] ≡ [])) (Runs r new events states (front ++ said ∷ [])) → ShowsClash r said
-shown_behind r new events states front said true rest stop = absurd (not_nil front said stop.1)
-shown_behind r new events states front said false rest run = rest run
-
 -- the last line of a run shows it
 pub shown_last : (r : Rules) (events : List Event) (states : List World) (front : List Line) (said : Line) (old : World) → Runs r old events states (front ++ said ∷ []) → ShowsClash r said
 shown_last r [] [] [] said old run = absurd run
@@ -29,7 +21,11 @@ shown_last r [] (new ∷ states) [] said old run = absurd run
 shown_last r (e ∷ events) [] [] said old run = absurd run
 shown_last r (e ∷ events) (new ∷ states) [] said old run = shown r old e said new run.0
 shown_last r (e ∷ events) (new ∷ states) (one ∷ front) said old run =
-    shown_behind r new events states front said (is_collision one) (λ more. shown_last r events states front said new more) run.1
+    ⊎_elim
+    (λ stops.
+    let stop = rw stops at run.1 in
+    absurd (omega (arith, ap length stop.1, length-append front (said ∷ []))))
+    (λ goes. shown_last r events states front said new (rw goes at run.1)) (truth (is_collision one))
 shown_last r events states front said old run = absurd run
 
 pub collision_line : (said : Line) → is_collision said ≡ true → (left : List ℕ) × (right : List ℕ) × (said ≡ line.Collision left right)
@@ -66,16 +62,23 @@ ends_in digest schedule lines are ends =
       collides = ends_with digest schedule lines said.0 said.1 are ends said.2;
     }
 
--- a run that collides does not go on
-pub collides_not : (lines : List Line) → EndsInCollision lines → GoesOn lines → ⊥
-collides_not lines ends goes = not_going ends.front ends.said (subst GoesOn ends.whole goes) ends.collision
+module _ (digest : List ℕ → List ℕ) (schedule other : Schedule) (xs ys : List Line) (is : schedule ≡ other)
+    (a : AreLines digest schedule xs) (b : AreLines digest other ys) where
+  -- the lines of a schedule are those of one run
+  pub same_lines : SameLines xs ys
+  same_lines =
+      let here = rw is at a in
+      one_run (rules_of digest other.f) (only_rules digest other.f) other.events here.states b.states xs ys
+      (first_state other) here.run b.run
 
--- the lines of a schedule are those of one run
-pub same_lines : (digest : List ℕ → List ℕ) (schedule other : Schedule) (xs ys : List Line) → schedule ≡ other → AreLines digest schedule xs → AreLines digest other ys → SameLines xs ys
-same_lines digest schedule other xs ys is a b =
-    let here = rw is at a in
-    one_run (rules_of digest other.f) (only_rules digest other.f) other.events here.states b.states xs ys
-    (first_state other) here.run b.run
+  -- all the same where one of them does not collide
+  pub one_going : GoesOn xs → xs ≡ ys
+  one_going goes = ⊎_elim (λ equal. equal) (λ apart. absurd (apart_left xs ys apart goes)) same_lines
+
+  -- and then none of them does
+  pub not_stopped : GoesOn xs → EndsInCollision ys → ⊥
+  not_stopped goes ends =
+      not_going ends.front ends.said (subst GoesOn (one_going goes ∙ ends.whole) goes) ends.collision
 
 -- the line of a collision is that of its two texts
 joined : (c l s r n : List ℕ) → (c ++ l ++ s ++ r) ++ n ≡ c ++ l ++ s ++ r ++ n

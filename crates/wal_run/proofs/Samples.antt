@@ -1,7 +1,7 @@
 -- The sample of a number has one schedule, whose run has one summary, or ends in a collision: one result of the command on it.
-use Rattle.wal_run.proofs.Common.{◌≡◌, ◌⊎◌, inl, inr, ⊎_elim, ◌%◌, ℕ, List, [], ◌∷◌, ◌++◌, map, refl, sym, ap, subst, ◌∙◌, arith, AllByRecursion, BlobId, IsCollision, IsIdentifierOf, Schedule, Line, GoesOn, apart_left, apart_right, Content, IsResult, collision, success, Told, collides, lacks, misreads, rejects, succeeds, collision_text}
+use Rattle.wal_run.proofs.Common.{◌≡◌, ◌⊎◌, inl, inr, ℕ, List, [], ◌∷◌, ◌++◌, map, refl, sym, ap, subst, ◌∙◌, arith, AllByRecursion, BlobId, IsCollision, IsIdentifierOf, Schedule, Line, Content, IsResult, collision, success, Told, collides, lacks, misreads, rejects, succeeds, collision_text}
 use Rattle.wal_shape.specs.declared.shape.Format.TheVariants.{One}
-use Rattle.wal_schedule.specs.Sample.{IsSample, drawn, sample_with, state_after, state_before}
+use Rattle.wal_schedule.specs.Sample.{IsSample}
 use Rattle.wal_world.specs.declared.summary.Summary.{Summary}
 use Rattle.wal_world.specs.declared.summary.Summed.{Summed}
 use Rattle.wal_world.specs.declared.summary.Summed.TheVariants as summed
@@ -10,7 +10,7 @@ use Rattle.wal_run.specs.Sampling.{SumsUp, sampling, summary_text}
 use Rattle.wal_run.specs.inside.Sampling.{IsSumText}
 use Rattle.wal_run.proofs.Blobs.{one_identifier}
 use Rattle.wal_run.proofs.CommandLaws.{Determined, Same, both_collide, same}
-use Rattle.wal_run.proofs.RunCollisions.{collides_not, ends_with, same_lines}
+use Rattle.wal_run.proofs.RunCollisions.{ends_with, not_stopped, one_going}
 
 -- ---- what the code sums up
 
@@ -44,18 +44,12 @@ one_list (x ∷ xs) (y ∷ ys) id bytes Is once one e a b =
     let names : id x ≡ id y = once (bytes y) (id x) (id y) (rw same at a.0) b.0 in
     rw (one x y names same, one_list xs ys id bytes Is once one (cc) a.1 b.1) refl
 
-of_same : {B : Type 0} (xs ys : List B) → xs ≡ ys → (f : List B → Schedule) → f xs ≡ f ys
-of_same xs ys same f = ap f same
-
 one_sample : (digest : List ℕ → List ℕ) (number : ℕ) (s t : Schedule) → IsSample digest number s → IsSample digest number t → s ≡ t
 one_sample digest number s t a b =
     let blobs = one_list a.0 b.0 (λ x. x.id.0) (λ x. x.bytes) (λ z i. IsIdentifierOf digest One 2 z i) (λ z i j. one_identifier digest One 2 z i j)
     (λ x y id bytes. ap (λ (z : List ℕ). record x { id = id_of z }) id ∙ ap (λ (z : List ℕ). record y { bytes = z }) bytes)
     (a.1.bytes ∙ sym b.1.bytes) a.1.identified b.1.identified in
-    a.2
-    ∙ of_same a.0 b.0 blobs
-    (λ x. sample_with x (drawn number 1 % 7) (drawn (state_before (state_after number 1) 32) 1 % 7) (drawn (state_before (state_after number 1) 32) 2 % 7))
-    ∙ sym b.2
+    cc (a.2, b.2, blobs)
 
 one_summary : (lines : List Line) (s t : Summary) → IsSummary lines s → IsSummary lines t → s ≡ t
 one_summary lines s t a b = grind arith
@@ -70,35 +64,27 @@ module _ (digest : List ℕ → List ℕ) (number : ℕ) where
       × (x ≡ collision_text left right)
 
   sum_of : (content : Content (sampling digest number).grammar) (s : ℕ) (x : List ℕ) → Told digest (sampling digest number) content s x → Whole s x ⊎ Stopped s x
-  sum_of content s x told =
-      elim told as (λ t y _. Whole t y ⊎ Stopped t y) [
-        | succeeds text is ↦ inl (is.0, is.1, refl, is.2)
-        | rejects text is ↦ absurd is
-        | lacks text is ↦ absurd is
-        | misreads text is ↦ absurd is
-        | collides left right front clash is ↦ inr (left, right, is.0, refl, ap (λ (t : List ℕ). t ++ collision_text left right) is.1)
-      ]
+  sum_of content _ _ (succeeds text is) = inl (is.0, is.1, refl, is.2)
+  sum_of content _ _ (rejects text is) = absurd is
+  sum_of content _ _ (lacks text is) = absurd is
+  sum_of content _ _ (misreads text is) = absurd is
+  sum_of content _ _ (collides left right front clash is) =
+      inr (left, right, is.0, refl, ap (λ (t : List ℕ). t ++ collision_text left right) is.1)
+
+  never_both : (summary : Summary) (left right : List ℕ) → SumsUp digest number (summed.Whole summary)
+      → SumsUp digest number (summed.Collision (record { left = left; right = right })) → ⊥
+  never_both summary left right a b =
+      not_stopped digest a.0 b.0 a.2.0 b.2.0 (one_sample digest number a.0 b.0 a.1 b.1) a.2.1 b.2.1 a.2.2 b.2.2
 
   one_of : (s : ℕ) (x : List ℕ) (t : ℕ) (y : List ℕ) → Whole s x ⊎ Stopped s x → Whole t y ⊎ Stopped t y → Same s x t y
   one_of s x t y (inl a) (inl b) =
       let is = one_sample digest number a.1.0 b.1.0 a.1.1 b.1.1 in
-      ⊎_elim
-      (λ equal. same s t x y (a.2 ∙ sym b.2)
-      (a.3 ∙ ap summary_text (one_summary b.1.2.0 a.0 b.0 (subst (λ (zs : List Line). IsSummary zs a.0) equal a.1.2.3) b.1.2.3) ∙ sym b.3))
-      (λ apart. absurd (apart_left a.1.2.0 b.1.2.0 apart a.1.2.2))
-      (same_lines digest a.1.0 b.1.0 a.1.2.0 b.1.2.0 is a.1.2.1 b.1.2.1)
-  one_of s x t y (inl a) (inr b) =
-      let is = one_sample digest number a.1.0 b.2.0 a.1.1 b.2.1 in
-      ⊎_elim
-      (λ equal. absurd (collides_not b.2.2.0 b.2.2.2 (subst GoesOn equal a.1.2.2)))
-      (λ apart. absurd (apart_left a.1.2.0 b.2.2.0 apart a.1.2.2))
-      (same_lines digest a.1.0 b.2.0 a.1.2.0 b.2.2.0 is a.1.2.1 b.2.2.1)
-  one_of s x t y (inr a) (inl b) =
-      let is = one_sample digest number a.2.0 b.1.0 a.2.1 b.1.1 in
-      ⊎_elim
-      (λ equal. absurd (collides_not a.2.2.0 a.2.2.2 (subst GoesOn (sym equal) b.1.2.2)))
-      (λ apart. absurd (apart_right a.2.2.0 b.1.2.0 apart b.1.2.2))
-      (same_lines digest a.2.0 b.1.0 a.2.2.0 b.1.2.0 is a.2.2.1 b.1.2.1)
+      let equal = one_going digest a.1.0 b.1.0 a.1.2.0 b.1.2.0 is a.1.2.1 b.1.2.1 a.1.2.2 in
+      same s t x y (a.2 ∙ sym b.2)
+      (a.3 ∙ ap summary_text (one_summary b.1.2.0 a.0 b.0
+      (subst (λ (zs : List Line). IsSummary zs a.0) equal a.1.2.3) b.1.2.3) ∙ sym b.3)
+  one_of s x t y (inl a) (inr b) = absurd (never_both a.0 b.0 b.1 a.1 b.2)
+  one_of s x t y (inr a) (inl b) = absurd (never_both b.0 a.0 a.1 b.1 a.2)
   one_of s x t y (inr a) (inr b) =
       both_collide s t x y [] (record { left = a.0; right = a.1 }) (record { left = b.0; right = b.1 }) a.3 b.3 a.4 b.4
 

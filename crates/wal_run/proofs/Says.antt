@@ -1,5 +1,5 @@
 -- What a command says is a result of its input.
-use Rattle.wal_run.proofs.Common.{◌≡◌, ℕ, List, Option, Result, Ok, Err, sym, subst, inl, ⊎_elim, BlobId, BreaksAt, Command, Content, Grammar, HasNone, HasTwoMetadata, IsResult, Misspells, Spells, bare, collision, envelopes_of, lacking, rejection, success, unreadable, Told, Performs}
+use Rattle.wal_run.proofs.Common.{◌≡◌, ℕ, List, Option, Result, Ok, Err, sym, subst, inl, inr, ⊎_elim, BlobId, BreaksAt, Command, Content, Grammar, HasNone, HasTwoMetadata, IsResult, Misspells, Spells, bare, collision, envelopes_of, lacking, rejection, success, unreadable, Told, Performs}
 use Rattle.std.specs.Prelude.{IsErrAnd}
 use Rattle.wal_run.specs.declared.answer.Answer.{Answer}
 use Rattle.wal_run.specs.declared.refusal.Refusal.{Refusal}
@@ -49,16 +49,17 @@ broken digest c input refusal takes refuses =
 
 -- what a command without results tells is what every command of its grammar does
 bare_as : (digest : List ℕ → List ℕ) (g : Grammar) (c : Command) (input : List ℕ) → c.grammar ≡ g → (s : ℕ) (x : List ℕ) → IsResult digest (bare 0 g) input s x → IsResult digest c input s x
-bare_as digest g c input of s x told =
-    elim told as (λ t y _. IsResult digest c input t y) [
-      | success text is ↦ absurd is.2
-      | rejection text is ↦ absurd is.2
-      | lacking text is ↦ ⊎_elim (λ none. lacking text (inl (subst (λ (h : Grammar). HasNone digest h input text) (sym of) none))) (λ none. absurd none.2) is
-      | unreadable text is ↦ ⊎_elim (λ bad. unreadable text (inl (subst (λ (h : Grammar). Misspells h input text) (sym of) bad))) (λ none. absurd none.2) is
-      | collision l r text clash is ↦
-          ⊎_elim (λ two. collision l r text clash (record { front = is.front; clashes = inl (subst (λ (h : Grammar). HasTwoMetadata digest h input l r) (sym of) two.0, two.1); whole = is.whole }))
-          (λ none. absurd none.2) is.clashes
-    ]
+bare_as digest g c input of _ _ (success text is) = absurd is.2
+bare_as digest g c input of _ _ (rejection text is) = absurd is.2
+bare_as digest g c input of _ _ (lacking text (inl none)) =
+    lacking text (inl (subst (λ (h : Grammar). HasNone digest h input text) (sym of) none))
+bare_as digest g c input of _ _ (lacking text (inr none)) = absurd none.2
+bare_as digest g c input of _ _ (unreadable text (inl bad)) =
+    unreadable text (inl (subst (λ (h : Grammar). Misspells h input text) (sym of) bad))
+bare_as digest g c input of _ _ (unreadable text (inr none)) = absurd none.2
+bare_as digest g c input of _ _ (collision l r text clash is) =
+    ⊎_elim (λ two. collision l r text clash (record { front = is.front; clashes = inl (subst (λ (h : Grammar). HasTwoMetadata digest h input l r) (sym of) two.0, two.1); whole = is.whole }))
+    (λ none. absurd none.2) is.clashes
 
 -- no metadata, or two
 pub unrecorded : (digest : List ℕ → List ℕ) (id : BlobId) (c : Command) (input : List ℕ) (refusal : Refusal) → c.grammar ≡ envelopes_of id

@@ -1,5 +1,5 @@
 -- How serving a shard ends: without a fault its whole answer was written, and want of memory comes before the first byte.
-use Rattle.wal_run.proofs.Common.{◌≡◌, ◌⊎◌, inl, inr, ℕ, List, Option, refl, sym, ◌∙◌, arith, Appends, Keeps, ServeEnd, Done, ReadFault, WriteFault, Serves, Table, Wrote, Serve, Service, IsTask, one_task, end_status, Around, Answers, Ends, broke_off, cut_off, done, no_memory, no_memory_for_words, serving_ended, sink_failed, source_failed, too_long, usage, whole, IsResult, TakesAtMost, bare, nothing}
+use Rattle.wal_run.proofs.Common.{◌≡◌, ◌⊎◌, inl, inr, ℕ, List, Option, refl, sym, ◌∙◌, arith, Appends, Keeps, ServeEnd, Done, ReadFault, WriteFault, Serves, Table, Wrote, Serve, Service, IsTask, one_task, end_status, Around, Answers, Ends, broke_off, done, no_memory, no_memory_for_words, serving_ended, too_long, usage, whole, IsResult, TakesAtMost, bare, nothing}
 use Rattle.wal_serve.specs.Serving as serving
 use Rattle.wal_run.proofs.Endings.{kept_few}
 
@@ -35,28 +35,23 @@ no_result digest input s x result = grind arith
 -- words that ask for serving have no answer that is known before it is written
 pub no_answer : (digest : List ℕ → List ℕ) (words : List (List ℕ)) (left after : Option (List ℕ)) (service : Service) (status : ℕ) (text : List ℕ) → IsTask words (Serve service)
     → Answers digest words left after status text → ⊥
-no_answer digest words left after service status text asked answer =
-    elim answer as (λ _ _ _. ⊥) [
-      | usage none kept ↦ none (Serve service) asked
-      | too_long task other long ↦
-          rw (one_task words task (Serve service) other asked) at long.takes
-      | done task other input taken s t result ↦
-          no_result digest input s t (rw (one_task words task (Serve service) other asked) at result)
-    ]
+no_answer digest words left after service _ _ asked (usage none kept) = none (Serve service) asked
+no_answer digest words left after service _ _ asked (too_long task other long) =
+    rw (one_task words task (Serve service) other asked) at long.takes
+no_answer digest words left after service _ _ asked (done task other input taken s t result) =
+    no_result digest input s t (rw (one_task words task (Serve service) other asked) at result)
 
 -- memory ran out before a byte was taken or written
 pub memory_first : (digest : List ℕ → List ℕ) (words : List (List ℕ)) (a : Around) (status : ℕ) (service : Service)
     → IsTask words (Serve service)
     → Ends digest words a status → status ≡ 5 → TakesAtMost a.left a.after 0 × Keeps a.old a.new
-memory_first digest words a status service asked ends =
-    elim ends as (λ s _. s ≡ 5 → TakesAtMost a.left a.after 0 × Keeps a.old a.new) [
-      | whole s text answer appends ↦ λ is. absurd (no_answer digest words a.left a.after service s text asked answer)
-      | no_memory_for_words kept none ↦ λ is. (kept_few a.left a.after 0 kept, none)
-      | no_memory task other taken kept ↦ λ is. (rw (one_task words task (Serve service) other asked) at taken, kept)
-      | broke_off task other input taken text left put ↦ λ is.
-          let no = rw (one_task words task (Serve service) other asked) at left in absurd no.0.2
-      | source_failed task other takes taken rose kept ↦ λ is. absurd (omega (arith, is))
-      | sink_failed s text answer rose part ↦ λ is. absurd (omega (arith, is))
-      | cut_off task other input taken text owed rose part ↦ λ is. absurd (omega (arith, is))
-      | serving_ended other is_task s serves ↦ λ is. absurd (end_no_want serves.1 (sym serves.4 ∙ is))
-    ]
+memory_first digest words a _ service asked (whole s text answer appends) is =
+    absurd (no_answer digest words a.left a.after service s text asked answer)
+memory_first digest words a _ service asked (no_memory_for_words kept none) is = (kept_few a.left a.after 0 kept, none)
+memory_first digest words a _ service asked (no_memory task other taken kept) is =
+    (rw (one_task words task (Serve service) other asked) at taken, kept)
+memory_first digest words a _ service asked (broke_off task other input taken text left put) is =
+    let no = rw (one_task words task (Serve service) other asked) at left in absurd no.0.2
+memory_first digest words a _ service asked (serving_ended other is_task s serves) is =
+    absurd (end_no_want serves.1 (sym serves.4 ∙ is))
+memory_first digest words a _ service asked ends is = absurd (omega (arith, is))

@@ -1,5 +1,5 @@
 -- Where a fault ended serving, what was written is a front of the answer, up to a collision.
-use Rattle.wal_run.proofs.Common.{◌≡◌, ⊎_elim, inl, inr, ℕ, ◌+◌, List, ◌++◌, length, length-append, Option, Some, None, sym, ap, subst, ◌∙◌, arith, take-append-add, false≢true, flat_map-append, Appends, Consumes, IsAtEnd, AppendsPart, envelope, ServeEnd, ReadFault, WriteFault, desk_room, sent, BreaksOff, IsServed, ServedState, one_table, Service, Serve, IsTask, Completes, answered, served, IsFrontOf, IsFrontUpToClash, frame, IsServiceResult, answering, at_start, end_status, serve_limit}
+use Rattle.wal_run.proofs.Common.{◌≡◌, ⊎_elim, inl, inr, ℕ, ◌+◌, List, ◌++◌, length, length-append, Option, Some, None, ap, subst, ◌∙◌, arith, take-append-add, false≢true, flat_map-append, Appends, Consumes, IsAtEnd, AppendsPart, envelope, ServeEnd, ReadFault, WriteFault, desk_room, sent, BreaksOff, IsServed, ServedState, one_table, Service, Serve, IsTask, Completes, answered, served, IsFrontOf, IsFrontUpToClash, frame, IsServiceResult, answering, at_start, end_status, serve_limit}
 use Rattle.wal_run.proofs.OneService.{one_asked, same_but_last, status_of_clash}
 use Rattle.wal_run.proofs.ServiceEnds.{no_answer}
 use Rattle.wal_run.proofs.ServiceFronts.{Over, front_or_clash, over, read_begun, write_begun}
@@ -48,11 +48,9 @@ module _ (digest : List ℕ → List ℕ) (service : Service) (input : List ℕ)
     read_told None run = absurd run.consumed
     read_told (Some rest) run =
         let begun = read_begun (answering digest) (desk_room service.faults) serve_limit (at_start service) input run.taken rest (IsAtEnd (Some rest)) SourceRose SinkRose run.frames state run.consumed run.serves in
-        let front = front_or_clash (answering digest) (desk_room service.faults) serve_limit (at_start service) input (one_table digest) run.frames whole.frames None whole.end begun whole.ending in
-        let written = sent service.shard run.frames in (
-          written,
-          subst (IsFrontOf written) (sym whole.told)
-              (⊎_elim (λ f. sent_front run.frames whole.frames f) (λ c. absurd (false≢true c.0)) front),
+        let front = front_or_clash (answering digest) (desk_room service.faults) serve_limit (at_start service) input (one_table digest) run.frames whole.frames None whole.end begun whole.ending in (
+          sent service.shard run.frames,
+          rw whole.told (⊎_elim (λ f. sent_front run.frames whole.frames f) (λ c. absurd (false≢true c.0)) front),
           run.wrote,
         )
 
@@ -74,10 +72,9 @@ module _ (digest : List ℕ → List ℕ) (service : Service) (input : List ℕ)
     write_told None run = absurd run.consumed
     write_told (Some rest) run =
         let begun = write_begun (answering digest) (desk_room service.faults) serve_limit (at_start service) input run.taken rest (IsAtEnd (Some rest)) SourceRose SinkRose run.frames state run.consumed run.serves in
-        let front = front_or_clash (answering digest) (desk_room service.faults) serve_limit (at_start service) input (one_table digest) run.frames whole.frames begun.0 whole.end begun.1 whole.ending in
-        let written = sent service.shard run.frames in (
-          written,
-          subst (IsFrontUpToClash (frame service.shard) expected written) (sym whole.told)
+        let front = front_or_clash (answering digest) (desk_room service.faults) serve_limit (at_start service) input (one_table digest) run.frames whole.frames begun.0 whole.end begun.1 whole.ending in (
+          sent service.shard run.frames,
+          rw whole.told
               (⊎_elim (λ f. inl (sent_front run.frames whole.frames f))
               (λ c. inr (whole.status ∙ status_of_clash whole.end c.1, same_but_last service.shard run.frames whole.frames c.2)) front),
           broken run.taken run.frames run.wrote,

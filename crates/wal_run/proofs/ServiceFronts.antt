@@ -1,15 +1,13 @@
 -- What was answered before a fault ended serving is what is answered first without one.
-use Rattle.wal_run.proofs.Common.{◌≡◌, ◌⊎◌, inl, inr, ℕ, ◌+◌, ◌≤◌, Bool, true, false, List, [], ◌∷◌, ◌++◌, length, Option, Some, None, refl, sym, ap, ◌∙◌, append_assoc, append-nil, arith, is_some, MetaClash, ServeEnd, ReadFault, WriteFault, SameButLast, Replies, Serves, Table, Compared, Longer, compared, Why, none_follows}
+use Rattle.wal_run.proofs.Common.{◌≡◌, ◌⊎◌, ⊎_elim, inl, inr, ℕ, ◌+◌, ◌≤◌, true, List, [], ◌∷◌, ◌++◌, length, Option, Some, None, refl, sym, ap, ◌∙◌, append_assoc, append-nil, arith, is_some, MetaClash, ServeEnd, ReadFault, WriteFault, SameButLast, Replies, Serves, Table, Compared, Longer, compared, Why, none_follows}
 use Rattle.std.proofs.lemmas.List.{length-append}
+use Rattle.wal_protocol.proofs.EveryWord.{truth}
 use Rattle.wal_serve.specs.Determined.{is_collision}
 use Rattle.wal_serve.specs.inside.Determined.{IsSingle}
 use Rattle.wal_serve.specs.Serving as serving
 use Rattle.wal_serve.proofs.Fronts as fronts
 use Rattle.wal_serve.proofs.OneEnd as why
 use Rattle.wal_serve.proofs.OneServed.{Goes, one_going, served_goes, stopped_before}
-
-not_nil : {A : Type 0} (front : List A) (x : A) (back : List A) → front ++ x ∷ back ≡ [] → ⊥
-not_nil front x back is = omega (arith, ap length is, length-append front (x ∷ back))
 
 -- where two texts are among what was answered, they ended serving
 clash_ends : (limit n : ℕ) (tail : List ℕ) (clash : Option MetaClash) (long : ℕ) (end : ServeEnd) → Why limit n tail clash long end → is_some clash ≡ true → is_collision end ≡ true
@@ -105,7 +103,8 @@ module _ {C : Type 0} (Answer : Table C) (room limit : ℕ) (fresh : C) (input :
         → Goes Answer room payloads old frames None new → Goes Answer room (payloads ++ payload ∷ more) old others second then → (rest : List (List ℕ)) × (others ≡ frames ++ rest)
     first_answers [] payload more old frames others second new then a b = (others, ap (λ (t : List (List ℕ)). t ++ others) (sym a.0))
     first_answers (first ∷ payloads) payload more old frames others second new then (inl a) b = absurd (cc a.is)
-    first_answers (first ∷ payloads) payload more old frames others second new then (inr a) (inl b) = absurd (not_nil payloads payload more b.alone)
+    first_answers (first ∷ payloads) payload more old frames others second new then (inr a) (inl b) =
+        absurd (omega (arith, ap length b.alone, length-append payloads (payload ∷ more)))
     first_answers (first ∷ payloads) payload more old frames others second new then (inr (head, mid, replies, rest, goes, is)) (inr (some, here, answers, after, goes_on, also)) =
         let one = one_going Answer room single (first ∷ []) old head some None None mid here (alone first head old mid replies) (alone first some old here answers) in
         let next = first_answers payloads payload more here rest after second new then (rw one.state at goes) goes_on in
@@ -119,18 +118,14 @@ module _ {C : Type 0} (Answer : Table C) (room limit : ℕ) (fresh : C) (input :
     module _ (frames others : List (List ℕ)) (clash : Option MetaClash) (end : ServeEnd) (a : Begun frames clash) (b : Over others end) (ps qs : List (List ℕ)) (begun : Goes Answer room ps fresh frames clash a.state) (whole : Goes Answer room qs fresh others b.clash b.state) where
       as_many : ps ≡ qs → FrontOrClash frames others clash end
       as_many same =
-          let one =
-          one_going Answer room single qs fresh frames others clash b.clash a.state b.state (rw same at begun) whole in
-          by one.stops one.frames one.last (is_some clash) refl
-        where
-          by : is_some clash ≡ is_some b.clash → (is_some clash ≡ false → frames ≡ others) → (is_some clash ≡ true → SameButLast frames others) → (k : Bool) → is_some clash ≡ k
-              → FrontOrClash frames others clash end
-          by stops equal last false is = inl ([], sym (equal is) ∙ sym (append-nil frames))
-          by stops equal last true is = inr (is, clash_ends limit (length b.front) b.tail b.clash b.long end b.why (sym stops ∙ is), last is)
+          let one = one_going Answer room single qs fresh frames others _ _ _ _ (rw same at begun) whole in
+          ⊎_elim
+          (λ is.
+          inr (is, clash_ends limit (length b.front) b.tail b.clash b.long end b.why (sym one.stops ∙ is), one.last is))
+          (λ is. inl ([], sym (one.frames is) ∙ sym (append-nil frames))) (truth (is_some clash))
 
       fewer : Longer ps a.front a.tail qs b.front → FrontOrClash frames others clash end
-      fewer l =
-          by clash refl
+      fewer l = by clash refl
         where
           by : (k : Option MetaClash) → clash ≡ k → FrontOrClash frames others clash end
           by None is =
@@ -141,8 +136,7 @@ module _ {C : Type 0} (Answer : Table C) (room limit : ℕ) (fresh : C) (input :
               clash b.clash texts a.state b.state is begun (rw l.parts at whole))
 
       none_more : Longer qs b.front b.tail ps a.front → ⊥
-      none_more l =
-          by b.clash refl
+      none_more l = by b.clash refl
         where
           by : (k : Option MetaClash) → b.clash ≡ k → ⊥
           by None calm = none_follows limit (length b.front) (length a.front) b.tail b.clash b.long end l.sender l.payload l.after b.why calm l.fits l.begins l.within a.within

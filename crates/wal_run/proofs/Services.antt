@@ -1,5 +1,5 @@
 -- A shard that serves: the state at the start, and how serving it ends.
-use Rattle.wal_run.proofs.Common.{◌≡◌, ℕ, ◌+◌, ◌<◌, ◌≤◌, zero, suc, zero-add, List, [], ◌∷◌, ◌++◌, length, Bool, true, false, not, ◌&&◌, ◌||◌, nat_lt, lt-ltb, eq-eqb, Option, Some, refl, ap, ap₂, ◌∙◌, arith, list_all, range_with_len, LedgerState, owners_of, reading, StoreState, ShardState, ServeEnd, desk_room, IsServed, ServedState, state_of, Service, EndsServing, answering, at_start, end_status, own_nodes, serve_limit}
+use Rattle.wal_run.proofs.Common.{◌≡◌, ℕ, ◌+◌, ◌<◌, ◌≤◌, zero, suc, zero-add, List, [], ◌∷◌, ◌++◌, length, Bool, true, false, not, ◌&&◌, ◌||◌, nat_lt, lt-ltb, eq-eqb, Option, Some, refl, ap, ◌∙◌, arith, list_all, range_with_len, LedgerState, owners_of, StoreState, ShardState, ServeEnd, desk_room, IsServed, ServedState, state_of, Service, EndsServing, answering, at_start, end_status, own_nodes, serve_limit}
 use Rattle.std.specs.FinMap as map
 use Rattle.std.proofs.lemmas.List.FromFn.{get_or-range_with_len, length-range_with_len}
 use Rattle.wal_shape.specs.Owners.{among, every_below, has_neighbour, node_of, is_committee}
@@ -25,9 +25,7 @@ and_both a b is_a is_b = rw (is_a, is_b) refl
 all_below : (n a m : ℕ) → a + m ≤ n → list_all (λ node. nat_lt node n) (range_with_len a m) ≡ true
 all_below n a zero within = refl
 all_below n a (suc m) within =
-    let first : a < n = omega (arith, within) in
-    let rest : (a + 1) + m ≤ n = omega (arith, within) in
-    and_both (nat_lt a n) _ (lt-ltb a n first) (all_below n (a + 1) m rest)
+    and_both (nat_lt a n) _ (lt-ltb a n (omega (arith, within))) (all_below n (a + 1) m (omega (arith, within)))
 
 none_near : (owners : List ℕ) (m : ℕ) → every_below m (λ shard. not (has_neighbour owners [] shard) || among [] shard) ≡ true
 none_near owners zero = refl
@@ -41,18 +39,13 @@ own_committee f =
 
 pub committee_fits : (f : ℕ) (owners faulty : List ℕ) → owners ≡ own_nodes f → faulty ≡ [] → is_committee (committee_size f) owners faulty ≡ false → ⊥
 committee_fits f owners faulty is_owners is_faulty not_one =
-    let one : is_committee (committee_size f) owners faulty ≡ true = rw (is_owners, is_faulty) (own_committee f) in
-    cc
+    cc (own_committee f, is_owners, is_faulty, not_one)
 
--- the ledger at the start reads epoch 0, and each shard has a node of its own
-pub starts_reading : (s : Service) (ledger : LedgerState) → ledger ≡ (at_start s).ledger → reading ledger.log ≡ 0
-starts_reading s ledger is = ap (λ (l : LedgerState). reading l.log) is
-
+-- each shard has a node of its own at the start
 pub starts_owned : (s : Service) (ledger : LedgerState) (f : ℕ) → ledger ≡ (at_start s).ledger → f ≡ s.faults
     → (k : ℕ) → k < committee_size f → node_of (owners_of Now ledger.log) k ≡ k
 starts_owned s ledger f is same k within =
-    let inside : k < committee_size s.faults = omega (arith, within, same) in
-    ap (λ (l : LedgerState). node_of (owners_of Now l.log) k) is ∙ own_node s.faults k inside
+    ap (λ (l : LedgerState). node_of (owners_of Now l.log) k) is ∙ own_node s.faults k (omega (arith, within, same))
 
 -- the shard is as at the start
 pub starts_shard : (s : Service) (shard : ShardState) (keep : StoreState) → keep ≡ record { contents = map.empty; limit = Some s.pages }
@@ -63,8 +56,7 @@ starts_shard s shard keep is_keep is = rw (is, is_keep) refl
 pub starts : (s : Service) (shard : ShardState) (serving : ServingState) → shard ≡ (at_start s).shard → serving.ledger ≡ (at_start s).ledger
     → state_of shard serving ≡ at_start s
 starts s shard serving is_shard is_ledger =
-    let Of : ShardState → LedgerState → ServedState = λ x l. record { shard = x; ledger = l } in
-    ap₂ Of is_shard is_ledger
+    rw (is_shard, is_ledger) refl
 
 -- what was served from a state at the start is how serving it ended
 pub ends_serving : (digest : List ℕ → List ℕ) (s : Service) (shard : ShardState) (fresh state : ServedState) (left after : Option (List ℕ)) (SourceRose : Type 0) (old new : Option (List ℕ)) (SinkRose : Type 0) (end : ServeEnd) (status : ℕ)
@@ -73,6 +65,7 @@ pub ends_serving : (digest : List ℕ → List ℕ) (s : Service) (shard : Shard
     → EndsServing digest s left after SourceRose old new SinkRose status
 ends_serving digest s shard fresh state left after SourceRose old new SinkRose end status may is_shard is_fresh served is =
     let run = rw is_fresh at (rw is_shard at served) in
-    let inside : s.shard < committee_size s.faults = omega (arith, may.of_committee) in
-    let reached = serves_reached digest false (desk_room s.faults) serve_limit (at_start s) run.taken _ _ _ run.frames state end (desk_at_start (at_start s) 0 inside refl) run.serves in
+    let reached =
+    serves_reached digest false (desk_room s.faults) serve_limit (at_start s) run.taken _ _ _ run.frames state end
+    (desk_at_start (at_start s) 0 (omega (arith, may.of_committee)) refl) run.serves in
     (state, end, run, reached, is)

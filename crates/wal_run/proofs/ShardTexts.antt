@@ -1,14 +1,11 @@
 -- The envelopes of a shard, and of the shards in turn.
-use Rattle.wal_run.proofs.Common.{◌≡◌, ℕ, zero, suc, zero-add, ◌+◌, ◌-◌, ◌*◌, ◌<◌, ◌≤◌, List, [], ◌∷◌, ◌++◌, length, take, drop, min, append_assoc, append-nil, refl, sym, ap, ap₂, ◌∙◌, arith, flat_map-append, flat_map, range_with_len, Axis, Primary, Secondary, BlobShape, IsShape, shard_count, row_count, column_count, symbol_size, most_bytes, held_index, column_part, primary_of, row_of, secondary_of, symbol, row_of-symbol, flat_map-more, Buffer, appended, envelope, sliver_frame, shard_text}
+use Rattle.wal_run.proofs.Common.{◌≡◌, ℕ, zero, suc, zero-add, ◌+◌, ◌-◌, ◌*◌, ◌<◌, ◌≤◌, List, [], ◌∷◌, ◌++◌, length, take, drop, min, append_assoc, append-nil, refl, sym, ap, ap₂, ◌∙◌, arith, flat_map-append, flat_map, range_with_len, Axis, Primary, Secondary, BlobShape, IsShape, shard_count, row_count, column_count, symbol_size, most_bytes, held_index, column_part, primary_of, row_of, secondary_of, symbol, row_of-symbol, Buffer, appended, envelope, sliver_frame, shard_text}
 use Rattle.std.proofs.Math.Nat.{mul_comm, mul-le-mul_right, mul-le-mul_left}
 use Rattle.std.specs.Int.{w16, w32}
 use Rattle.wal_shape.specs.Spelling.{number_text}
 use Rattle.wal_shape.proofs.ShapeLaws.{matrix_bytes-bound}
 use Rattle.wal_matrix.proofs.Symbols.{column_more}
 use Rattle.wal_shard.proofs.ReplyLaws.{appended_then}
-
-abbrev buffer_of : List ℕ → ℕ → Buffer
-buffer_of bytes spare = record { bytes = bytes; spare = spare }
 
 -- the two envelopes of a shard
 pub shard_parts : (id : List ℕ) (shape : BlobShape) (e : List ℕ) (shard i j : ℕ)
@@ -35,14 +32,8 @@ sliver_fits f length count long fit few is =
 pub envelope_joins : (shard size : ℕ) (front head bytes frame : List ℕ) → front ≡ 0x57 ∷ (number_text w16 shard ++ number_text w32 size)
     → head ++ bytes ≡ frame → length frame ≡ size → (front ++ head) ++ bytes ≡ envelope shard frame
 envelope_joins shard size front head bytes frame is joins long =
-    rw (
-      append_assoc front head bytes,
-      joins,
-      is,
-      long,
-      append_assoc (number_text w16 shard)
-          (number_text w32 size) frame,
-    ) refl
+    let parts = append_assoc (number_text w16 shard) (number_text w32 size) frame in
+    rw (append_assoc front head bytes, joins, is, long, parts) refl
 
 -- the envelope of a sliver in two parts
 pub sliver_parts : (id : List ℕ) (shard : ℕ) (axis : Axis) (index : ℕ) (front bytes sliver : List ℕ)
@@ -62,19 +53,14 @@ range-split a (suc i) m (suc k) e =
 pub flat_map-split : (f : ℕ → List ℕ) (n i : ℕ) → i < n
     → flat_map f (range_with_len 0 n) ≡ flat_map f (range_with_len 0 i) ++ (f i ++ flat_map f (range_with_len (i + 1) (n - (i + 1))))
 flat_map-split f n i within =
-    rw (
-      range-split 0 i (suc (n - (i + 1))) n (omega (arith, within)),
-      zero-add i,
-      flat_map-append f
-          (range_with_len 0 i),
-    ) refl
+    let parts = range-split 0 i (suc (n - (i + 1))) n (omega (arith, within)) in
+    rw (parts, zero-add i, flat_map-append f (range_with_len 0 i)) refl
 
 -- a column's symbols are laid behind what a buffer holds: none
 pub laid_none : (b : Buffer) (n s : ℕ) (e : List ℕ) (c : ℕ) → b ≡ appended b (column_part n s e 0 c)
 unfolding column_part
 laid_none b n s e c =
-    let room : b.spare ≡ b.spare - 0 = omega arith in
-    ap₂ (λ (t : List ℕ) (k : ℕ). buffer_of t k) (sym (append-nil b.bytes)) room
+    let room : b.spare - 0 ≡ b.spare = omega arith in rw (append-nil b.bytes, room) refl
 
 -- one more
 pub laid_more : (old now new : Buffer) (n s : ℕ) (e : List ℕ) (row c : ℕ) (piece : List ℕ) → now ≡ appended old (column_part n s e row c)
@@ -89,28 +75,26 @@ unfolding secondary_of
 laid_all old now f s e row c all laid = laid ∙ ap (λ (k : ℕ). appended old (column_part (shard_count f) s e k c)) all
 
 -- the symbols of a secondary sliver
-pub column_text : ℕ → ℕ → List ℕ → ℕ → ℕ → List ℕ
-column_text f s e c row = flat_map (λ r. symbol (shard_count f) s e r c) (range_with_len 0 row)
+abbrev pub column_text : ℕ → ℕ → List ℕ → ℕ → ℕ → List ℕ
+column_text f s e c row = column_part (shard_count f) s e row c
 
 pub column_text-none : (f s : ℕ) (e : List ℕ) (c : ℕ) → column_text f s e c 0 ≡ []
-unfolding column_text
+unfolding column_part
 column_text-none f s e c = refl
 
 pub column_text-more : (f s : ℕ) (e : List ℕ) (c row : ℕ) (piece : List ℕ) → piece ≡ symbol (shard_count f) s e row c
     → column_text f s e c row ++ piece ≡ column_text f s e c (row + 1)
-unfolding column_text
-column_text-more f s e c row piece own =
-    ap (λ l. column_text f s e c row ++ l) own ∙ sym (flat_map-more (λ r. symbol (shard_count f) s e r c) row)
+column_text-more f s e c row piece own = rw own (sym (column_more (shard_count f) s e row c))
 
 pub column_text-all : (f s : ℕ) (e : List ℕ) (c row : ℕ) → row ≡ row_count f → column_text f s e c row ≡ secondary_of f s e c
-unfolding column_text secondary_of column_part
-column_text-all f s e c row all = ap (λ (k : ℕ). flat_map (λ r. symbol (shard_count f) s e r c) (range_with_len 0 k)) all
+unfolding secondary_of
+column_text-all f s e c row all = ap (λ (k : ℕ). column_part (shard_count f) s e k c) all
 
 -- a secondary sliver, of which the symbols above a row and that one stand apart
 pub column_split : (f s : ℕ) (e : List ℕ) (row c : ℕ) (piece : List ℕ) → row < row_count f → piece ≡ symbol (shard_count f) s e row c
     → secondary_of f s e c ≡ column_text f s e c row
     ++ (piece ++ flat_map (λ r. symbol (shard_count f) s e r c) (range_with_len (row + 1) (row_count f - (row + 1))))
-unfolding column_text secondary_of column_part
+unfolding secondary_of column_part
 column_split f s e row c piece within own =
     rw own (flat_map-split (λ r. symbol (shard_count f) s e r c) (row_count f) row within)
 

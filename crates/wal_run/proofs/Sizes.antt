@@ -10,7 +10,6 @@ bodies_long : (s : ℕ) (os : List Opening) → All (λ (o : Opening). length o.
     → length (flat_map body_text os) ≤ length os * (327 + s)
 bodies_long s [] sizes bodies = omega arith
 bodies_long s (o ∷ os) sizes bodies =
-    let size : length o.symbol ≡ s = sizes zero o (omega arith) in
     let more : suc (length os) * (327 + s) ≡ 327 + s + length os * (327 + s) = omega arith in
     omega (
       arith,
@@ -18,7 +17,7 @@ bodies_long s (o ∷ os) sizes bodies =
       length-body_text o,
       bodies.0.path,
       length-append (body_text o) (flat_map body_text os),
-      size,
+      sizes zero o (omega arith),
       more,
     )
 

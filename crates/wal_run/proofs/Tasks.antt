@@ -1,5 +1,6 @@
 -- The numbers of a task are in their range, and the command of a task has one result for an input.
-use Rattle.wal_run.proofs.Common.{ℕ, ◌≤◌, List, Option, Some, None, arith, Task, Read, Sample, Serve, Whole, Challenge, Check, Encode, Identify, Image, Recover, Replay, Unpack, Bundle, Member, Verify, Gateway, HasNumber, IsTask, identify, encode, read, recover, check, serve, replay, sample, image, unpack, bundle, member, challenge, verify, gateway, TakesInput, bare, nothing, command_of, whole_command}
+use Rattle.wal_run.proofs.Common.{ℕ, ◌≤◌, List, Option, Some, None, arith, Task, Read, Sample, Serve, Whole, Challenge, Check, Encode, Identify, Image, Recover, Replay, Unpack, Bundle, Member, Verify, Gateway, HasNumber, IsTask, TakesInput, bare, nothing, command_of, whole_command}
+use Rattle.wal_words.specs.Task.{IsRow}
 use Rattle.wal_words.specs.declared.task.WholeTask.{WholeTask}
 use Rattle.wal_run.specs.inside.Commands.{IsInRange, IsWholeInRange}
 use Rattle.wal_run.proofs.Blobs.{encoded, identified}
@@ -25,32 +26,14 @@ chosen missing least most (Some word) n above below is = (is.1, is.2)
 pub in_range : (words : List (List ℕ)) (task : Task) → IsTask words task → IsInRange task
 in_range words task asked =
     let options = asked.asks.options in
-    let blobs = chosen 1024 1 65536 _ options.blobs (omega arith) (omega arith) asked.asks.has_options.blob_count in
-    let pages = chosen 16384 1 262144 _ options.pages (omega arith) (omega arith) asked.asks.has_options.page_count in
-    elim asked.asks.row as (λ _ t _. IsInRange t) [
-      | identify word f is ↦ (is.1, is.2)
-      | encode word f is ↦ (is.1, is.2)
-      | read word id is ↦ tt
-      | recover word direction place id axis index is_id is_axis is_index ↦ is_index.2
-      | check word id is ↦ tt
-      | serve word place f shard is_f is_shard ↦ record {
-        some = is_f.1;
-        few = is_f.2;
-        of_committee = is_shard.2;
-        room = blobs.1;
-        some_pages = pages.0;
-        few_pages = pages.1;
-      }
-      | replay ↦ tt
-      | sample word number is ↦ tt
-      | image word size is ↦ (is.1, is.2)
-      | unpack ↦ tt
-      | bundle word f is ↦ (is.1, is.2)
-      | member word place id number is_id is_number ↦ is_number.2
-      | challenge word place beacon amount audit is ↦ (is.symbol_count.1, is.symbol_count.2)
-      | verify word place beacon amount audit is ↦ (is.symbol_count.1, is.symbol_count.2)
-      | gateway word capacity is ↦ (is.1, is.2)
-    ]
+    by _ task asked.asks.row
+    (chosen 1024 1 65536 _ options.blobs (omega arith) (omega arith) asked.asks.has_options.blob_count)
+    (chosen 16384 1 262144 _ options.pages (omega arith) (omega arith) asked.asks.has_options.page_count)
+  where
+    by : (values : List (List ℕ)) (t : Task) → IsRow asked.asks.options values t
+        → (1 ≤ asked.asks.options.blobs) × (asked.asks.options.blobs ≤ 65536)
+        → (1 ≤ asked.asks.options.pages) × (asked.asks.options.pages ≤ 262144) → IsInRange t
+    by values t row blobs pages = grind arith
 
 -- a command that takes its whole input at once takes one
 pub whole_takes : (digest : List ℕ → List ℕ) (task : WholeTask) → TakesInput (whole_command digest task).grammar

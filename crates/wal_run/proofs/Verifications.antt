@@ -1,10 +1,11 @@
 -- The verdict on claims in answer to a challenge is one result of the command that verifies.
-use Rattle.wal_run.proofs.Common.{◌≡◌, ◌⊎◌, inl, inr, ⊎_elim, ℕ, ◌≤◌, List, codes, refl, sym, ap, ◌∙◌, arith, claims_in, shard_count, Audit, Recorded, Told, collides, lacks, misreads, rejects, succeeds, HasShard, LacksShard, ClaimsCome, verifying}
+use Rattle.wal_run.proofs.Common.{◌≡◌, ◌⊎◌, inl, inr, ⊎_elim, ℕ, ◌≤◌, List, codes, refl, sym, ap, ◌∙◌, claims_in, shard_count, Audit, Recorded, Told, collides, lacks, misreads, rejects, succeeds, HasShard, LacksShard, ClaimsCome, verifying}
 use Rattle.wal_challenge.specs.declared.checking.AnswerVerdict.{AnswerVerdict}
 use Rattle.wal_challenge.specs.declared.checking.AnswerVerdict.TheVariants.{Accepted, Wrong, WrongCount}
 use Rattle.wal_challenge.proofs.VerdictLaws.{one_verdict}
 use Rattle.wal_run.specs.Verifying.{verdict_text}
 use Rattle.wal_run.specs.inside.Verifying.{verdict_status}
+use Rattle.wal_run.proofs.Challenges.{both_not}
 use Rattle.wal_run.proofs.CommandLaws.{Determined, Same, same}
 
 module _ (digest : List ℕ → List ℕ) (a : Audit) (r : Recorded) where
@@ -29,22 +30,17 @@ module _ (digest : List ℕ → List ℕ) (a : Audit) (r : Recorded) where
   Verdict s x = HasShard a r × (v : AnswerVerdict) × ClaimsCome digest a r v × (s ≡ verdict_status v) × (x ≡ verdict_text a.count v)
 
   verdict_of : (s : ℕ) (x : List ℕ) → Told digest (verifying digest a) r s x → Shardless s x ⊎ Verdict s x
-  verdict_of s x told =
-      elim told as (λ t y _. Shardless t y ⊎ Verdict t y) [
-        | succeeds text is ↦ inr (is.0, Accepted, is.1, refl, is.2)
-        | rejects text is ↦ inr (is.0, Wrong is.1, is.2, refl, is.3)
-        | lacks text is ↦ ⊎_elim (λ none. inl (refl, none)) (λ some. inr (some.0, WrongCount some.1, some.2, refl, some.3)) is
-        | misreads text is ↦ absurd is
-        | collides left right text clash is ↦ absurd is
-      ]
-
-  both_not : (text : List ℕ) → LacksShard a r text → HasShard a r → ⊥
-  both_not text lacking has = omega (arith, lacking.0, has)
+  verdict_of _ _ (succeeds text is) = inr (is.0, Accepted, is.1, refl, is.2)
+  verdict_of _ _ (rejects text is) = inr (is.0, Wrong is.1, is.2, refl, is.3)
+  verdict_of _ _ (lacks text is) =
+      ⊎_elim (λ none. inl (refl, none)) (λ some. inr (some.0, WrongCount some.1, some.2, refl, some.3)) is
+  verdict_of _ _ (misreads text is) = absurd is
+  verdict_of _ _ (collides left right text clash is) = absurd is
 
   one_of : (s : ℕ) (x : List ℕ) (t : ℕ) (y : List ℕ) → Shardless s x ⊎ Verdict s x → Shardless t y ⊎ Verdict t y → Same s x t y
   one_of s x t y (inl p) (inl q) = same s t x y (p.0 ∙ sym q.0) (p.1.1 ∙ sym q.1.1)
-  one_of s x t y (inl p) (inr q) = absurd (both_not x p.1 q.0)
-  one_of s x t y (inr p) (inl q) = absurd (both_not y q.1 p.0)
+  one_of s x t y (inl p) (inr q) = absurd (both_not digest a r x p.1 q.0)
+  one_of s x t y (inr p) (inl q) = absurd (both_not digest a r y q.1 p.0)
   one_of s x t y (inr p) (inr q) =
       let verdict = one_verdict digest r.metadata a.beacon a.shard a.count (claims_in a.id.0 r.payloads) p.1 q.1 p.2 q.2 in
       same s t x y (p.3 ∙ ap verdict_status verdict ∙ sym q.3) (p.4 ∙ ap (verdict_text a.count) verdict ∙ sym q.4)
