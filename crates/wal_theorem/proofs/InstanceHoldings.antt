@@ -1,8 +1,7 @@
 -- What a shard holds stays sound and only grows when a part is added.
-use Rattle.wal_theorem.proofs.Common.{◌≡◌, ℕ, List, Bool, true, false, cond, ◌&&◌, is_some, Option, Some, None, unwrap_or, refl, ap, ◌∙◌, BlobId, BlobMetadata, metadata_text, Commits, Part, Parts, part_of, with_part, Contents, parts_at, part_at, with_bytes, HoldsMetadata, IsSound, has_proof, kept, IsAbove, AreAbove, HoldsBadProof}
+use Rattle.wal_theorem.proofs.Common.{◌≡◌, ℕ, List, Bool, true, false, cond, ◌&&◌, is_some, Option, Some, None, unwrap_or, refl, ap, ◌∙◌, BlobId, BlobMetadata, metadata_text, Commits, Part, Parts, part_of, with_part, Contents, parts_at, part_at, with_bytes, HoldsMetadata, IsSound, has_proof, kept, IsAbove, AreAbove, HoldsBadProof, arith}
 use Rattle.std.specs.Ordering.{eq_by_cmp}
 use Rattle.wal_shape.specs.Identifiers.{id_cmp}
-use Rattle.wal_shape.specs.declared.part.Part.TheVariants.{Metadata, Primary, Secondary, Proof}
 use Rattle.wal_shard.proofs.Soundness.{one_metadata}
 use Rattle.wal_shard.proofs.Changes.{insert_changes, same_id}
 
@@ -18,11 +17,7 @@ none_some o a none some = absurd cc
 
 -- a part that was held is held still
 pub more_above : (p : Parts) (part : Part) (bytes : List ℕ) → part_of p part ≡ None → IsAbove p (with_part p part (Some bytes))
-more_above p Metadata bytes none Metadata x at = absurd (none_some p.metadata x none at)
-more_above p Primary bytes none Primary x at = absurd (none_some p.primary x none at)
-more_above p Secondary bytes none Secondary x at = absurd (none_some p.secondary x none at)
-more_above p Proof bytes none Proof x at = absurd (none_some p.proof x none at)
-more_above p part bytes none other x at = at
+more_above p part bytes none other x at = grind arith
 
 -- what holds under each identifier, and of the part with what was there, holds then
 pub each_put : (P : BlobId → Parts → Type 0) (m : Contents) (id : BlobId) (part : Part) (bytes : List ℕ) → ((q : BlobId) → P q (parts_at m q))
