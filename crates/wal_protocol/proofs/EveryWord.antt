@@ -119,15 +119,14 @@ standing w side shard =
     (truth (is_present side w))
 
 pub every_forget : (old : World) (side : Side) (shard : ℕ) (id : BlobId) → Possible ((word : ForgetWord) × (new : World) × ForgetStep old side shard id word new)
-every_forget old side shard id = by (standing old side shard)
-  where
-    by : Standing old side shard → Possible ((word : ForgetWord) × (new : World) × ForgetStep old side shard id word new)
-    by (absent none) = surely (forgetting.Absent, old, (none, refl))
-    by (ignored faulty) = surely (forgetting.Ignored, old, (faulty, refl))
-    by (correct sound) =
-        by_cases (MayForget old.log (contents_of (side_of side old) shard) id)
-        (λ may. surely (forgetting.Done, keeps old side shard (without_slivers (contents_of (side_of side old) shard) id), (sound, may, refl)))
-        (λ none. surely (forgetting.Declined, old, (sound, none, refl)))
+every_forget old side shard id = elim (standing old side shard) [
+  | absent none ↦ surely (forgetting.Absent, old, (none, refl))
+  | ignored faulty ↦ surely (forgetting.Ignored, old, (faulty, refl))
+  | correct sound ↦
+      by_cases (MayForget old.log (contents_of (side_of side old) shard) id)
+      (λ may. surely (forgetting.Done, keeps old side shard (without_slivers (contents_of (side_of side old) shard) id), (sound, may, refl)))
+      (λ none. surely (forgetting.Declined, old, (sound, none, refl)))
+]
 
 -- ---- the change of the epoch
 

@@ -66,12 +66,9 @@ module _ (r : Rules) (laws : Laws r) where
   facts_sided old Now d answers facts grown backing = facts_grown r old d old.next answers facts grown (grown_same r old.next (facts.sound Next)) backing
   facts_sided old Next d answers facts grown backing = facts_grown r old old.now d answers facts (grown_same r old.now (facts.sound Now)) grown backing
 
-  same_answers : (old : World) (side : Side) (d : Committee) → record (with_side side old d) { answers = old.answers } ≡ with_side side old d
-  same_answers old Now d = refl
-  same_answers old Next d = refl
-
   facts_side : (old : World) (side : Side) (d : Committee) → Facts r old → GrownFrom r (side_of side old) d → Facts r (with_side side old d)
-  facts_side old side d facts grown = subst (Facts r) (same_answers old side d) (facts_sided old side d old.answers facts grown facts.answers)
+  facts_side old Now d facts grown = facts_sided old Now d old.answers facts grown facts.answers
+  facts_side old Next d facts grown = facts_sided old Next d old.answers facts grown facts.answers
 
   writes : (old : World) (blob to : List ℕ) (id : BlobId) (count : ℕ) (new : World) → Facts r old → WriteStep r old blob to id count new → Facts r new
   writes old blob to id count new facts w =
