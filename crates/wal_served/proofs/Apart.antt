@@ -1,5 +1,5 @@
 -- What regards another identifier, or none, leaves a state alike; and what replies to readers rest on.
-use Rattle.wal_served.proofs.Common.{◌≡◌, ℕ, Bool, true, false, cond, List, Some, None, Result, refl, sym, ap, ◌∙◌, eq_by_cmp, Axis, BlobId, Part, id_cmp, sliver_part, FrameError, Frame, Read, Symbol, read_of, stored_bytes, Parts, with_part, part_of, Contents, parts_at, with_bytes, without_part, OpeningReply, SymbolReplies, given, not_held, no_shard, HoldsMetadata, read_reply_of, put_id, put_part, without_slivers, ServedState, holding, named, AnswersFrame, about_read, AlikeAt, LeavesAlike, RestsOn, ReadsRestOn}
+use Rattle.wal_served.proofs.Common.{◌≡◌, ℕ, Bool, true, false, cond, List, Some, None, Result, refl, sym, ap, ◌∙◌, eq_by_cmp, Axis, BlobId, Part, id_cmp, sliver_part, FrameError, Frame, Read, Symbol, read_of, stored_bytes, Parts, with_part, part_of, Contents, parts_at, with_bytes, without_part, SymbolReplies, given, not_held, no_shard, HoldsMetadata, read_reply_of, put_id, put_part, without_slivers, ServedState, holding, named, AnswersFrame, about_read, AlikeAt, LeavesAlike, RestsOn, ReadsRestOn}
 use Rattle.std.specs.FinMap as map_of
 use Rattle.wal_shape.specs.declared.part.Part.TheVariants as parts
 use Rattle.wal_shape.specs.Shape.{crossing}
@@ -77,12 +77,9 @@ module _ (digest : List ℕ → List ℕ) (name : List ℕ) (shard : ℕ) (p r :
 
   pub symbols_rest : (axis : Axis) (index : ℕ) (payloads : List (List ℕ)) → part_of r (sliver_part (crossing axis)) ≡ part_of p (sliver_part (crossing axis))
       → SymbolReplies digest name shard p axis index payloads → SymbolReplies digest name shard r axis index payloads
-  symbols_rest axis index payloads sliver (opening, replies, is) = (opening, by opening replies, rw (metadata, proof) is)
-    where
-      by : (o : List (List ℕ)) → OpeningReply digest name shard p axis index o → OpeningReply digest name shard r axis index o
-      by _ (given m bytes o holds held less cross opens) = given m bytes o (held_too m holds) (sliver ∙ held) less cross opens
-      by _ (not_held none) = not_held (sliver ∙ none)
-      by _ (no_shard m holds outside) = no_shard m (held_too m holds) outside
+  symbols_rest axis index payloads sliver (_, given m bytes o holds held less cross opens, is) = (_, given m bytes o (held_too m holds) (sliver ∙ held) less cross opens, rw (metadata, proof) is)
+  symbols_rest axis index payloads sliver (_, not_held none, is) = (_, not_held (sliver ∙ none), rw (metadata, proof) is)
+  symbols_rest axis index payloads sliver (_, no_shard m holds outside, is) = (_, no_shard m (held_too m holds) outside, rw (metadata, proof) is)
 
 -- THE FOURTH LAW
 pub reads_rest_on : (digest : List ℕ → List ℕ) → ReadsRestOn digest
