@@ -1,5 +1,5 @@
 -- First completed answers stay, and each completed line shows them.
-use Rattle.wal_protocol.proofs.Common.{◌≡◌, ℕ, zero, suc, ◌<◌, List, [], ◌∷◌, length, get_or, Bool, true, false, cond, Option, Some, None, refl, arith, get-insert, eq_by_cmp, eq_by_cmp_equiv, BlobId, id_cmp, Verdict, Event, Write, Read, Line, ids_total, First, Judged, Written, World, verdict_of, answered, Rules, AgreesWithFirst, Steps, is_collision, Runs, Shows, Agree, same_id}
+use Rattle.wal_protocol.proofs.Common.{◌≡◌, ℕ, zero, suc, ◌<◌, List, [], ◌∷◌, length, get_or, Bool, false, cond, Option, Some, None, refl, arith, get-insert, eq_by_cmp_equiv, BlobId, id_cmp, Verdict, Event, Write, Read, Line, ids_total, First, Judged, Written, World, verdict_of, answered, Rules, AgreesWithFirst, Steps, is_collision, Runs, Shows, Agree, same_id}
 use Rattle.std.specs.FinMap as finmap
 use Rattle.wal_evidence.specs.declared.evidence.Verdict.TheVariants as verdict
 use Rattle.wal_event.specs.declared.line.Line.TheVariants as line
@@ -23,20 +23,10 @@ answered_tells answers id a agrees = by (finmap.get answers id) refl
   where
     by : (o : Option First) → finmap.get answers id ≡ o → Tells (answered answers id a) id (verdict_of a)
     by (Some x) h = record { answer = x; first = rw h h; gives = agrees x h }
-    by None h = record {
-      answer = a;
-      first = rw (h, get-insert ids_total answers id a id, (eq_by_cmp_equiv ids_total).refl id);
-      gives = refl;
-    }
+    by None h = record { answer = a; first = rw (h, get-insert ids_total answers id a id, (eq_by_cmp_equiv ids_total).refl id); gives = refl }
 
 answered_stay : (answers : finmap.FinMap id_cmp First) (id : BlobId) (a : First) → Stay answers (answered answers id a)
-answered_stay answers id a q x h = by (finmap.get answers id) refl (eq_by_cmp id_cmp q id) refl
-  where
-    by : (o : Option First) → finmap.get answers id ≡ o → (b : Bool) → eq_by_cmp id_cmp q id ≡ b
-        → finmap.get (answered answers id a) q ≡ Some x
-    by (Some y) is b e = rw is h
-    by None is true same = let here = same_id q id same in cc
-    by None is false other = rw (is, get-insert ids_total answers id a q, other) h
+answered_stay answers id a q x h = grind (arith, get-insert ids_total answers id a q, same_id q id)
 
 module _ (r : Rules) where
   -- each step leaves first answers as they are

@@ -1,5 +1,5 @@
 -- Events of the ledger and the epoch come to a word and a state.
-use Rattle.wal_protocol.proofs.Common.{◌≡◌, ◌⊎◌, ℕ, zero, suc, ◌+◌, ◌<◌, ◌≤◌, Bool, true, false, not, ◌&&◌, List, refl, sym, ap, subst, ◌∙◌, arith, ⊎_elim, inl, inr, true≢false, cases_lt, BlobId, Side, among, CertificateWord, Kind, Holds, Denies, quorum_size, is_moving, reading, writing, until_of, is_live, signers, signer_count, IsCertified, ready_shards, ready_total, entered, is_moving_extension, MayClaim, claim_of, settled, backs, MayForget, without_slivers, World, side_of, writing_side, is_present, is_correct, contents_of, held, keeps, RegisterStep, IsIgnored, MayPost, Declines, ClaimStep, AckStep, AttestStep, ForgetStep, BeginStep, HoldsAll, MayBeReady, IsUnready, ReadyStep, FinishStep, CertificateStep, Possible}
+use Rattle.wal_protocol.proofs.Common.{◌≡◌, ◌⊎◌, ℕ, zero, suc, ◌+◌, ◌<◌, ◌≤◌, Bool, true, false, not, ◌&&◌, List, refl, sym, ap, ◌∙◌, arith, ⊎_elim, inl, inr, true≢false, cases_lt, BlobId, Side, among, CertificateWord, Kind, Holds, Denies, quorum_size, is_moving, reading, writing, until_of, is_live, signers, signer_count, IsCertified, ready_shards, ready_total, entered, is_moving_extension, MayClaim, claim_of, settled, backs, MayForget, without_slivers, World, side_of, writing_side, is_present, is_correct, contents_of, held, keeps, RegisterStep, IsIgnored, MayPost, Declines, ClaimStep, AckStep, AttestStep, ForgetStep, BeginStep, HoldsAll, MayBeReady, IsUnready, ReadyStep, FinishStep, CertificateStep, Possible}
 use Rattle.wal_event.specs.declared.line.RegisterWord.{RegisterWord}
 use Rattle.wal_event.specs.declared.line.RegisterWord.TheVariants as registering
 use Rattle.wal_event.specs.declared.line.AckWord.{AckWord}
@@ -174,7 +174,7 @@ first_enough count quorum zero = inl (λ k lt. absurd (omega arith))
 first_enough count quorum (suc n) =
     ⊎_elim
     (λ none. ⊎_elim
-    (λ less. inl (λ k lt. ⊎_elim (λ below. none k below) (λ past. let same : n ≡ k = omega arith in subst (λ (j : ℕ). count j < quorum) same less) (cases_lt k n)))
+    (λ less. inl (λ k lt. grind (arith, none k)))
     (λ enough. inr (n, enough, none))
     (cases_lt (count n) quorum))
     (λ found. inr found)

@@ -1,5 +1,5 @@
 -- Committees whose shards hold more than before, or forgot what a proof settles.
-use Rattle.wal_protocol.proofs.Common.{◌≡◌, ℕ, ◌≤◌, List, [], ◌∷◌, length, Bool, true, false, cond, is_some, Option, Some, None, ◌⊎◌, inl, inr, refl, ap, ◌∙◌, arith, or_right, BlobId, Side, Now, Next, Kind, Holds, Denies, count_below, committee_size, Log, count_below-mono, Frame, Metadata, Primary, Secondary, Proof, Parts, part_of, Contents, parts_at, PutAnswer, settled_by_slivers, has_proof, settled, First, Committee, World, side_of, contents_of, held, with_contents, settled_in, epoch_of, is_present, Rules, PutsEach, is_clash, Facts, backed, Laws, IsAbove, AreAbove, AllSound, forgotten, id_cmp}
+use Rattle.wal_protocol.proofs.Common.{◌≡◌, ℕ, ◌≤◌, List, [], ◌∷◌, length, Bool, true, false, cond, is_some, Some, ◌⊎◌, inl, inr, refl, ap, ◌∙◌, arith, or_right, BlobId, Side, Now, Next, Kind, Holds, Denies, count_below, committee_size, Log, count_below-mono, Frame, Metadata, Primary, Secondary, Proof, Parts, part_of, Contents, parts_at, PutAnswer, settled_by_slivers, has_proof, settled, First, Committee, World, side_of, contents_of, held, with_contents, settled_in, epoch_of, is_present, Rules, PutsEach, is_clash, Facts, backed, Laws, IsAbove, AreAbove, AllSound, forgotten, id_cmp}
 use Rattle.std.specs.FinMap as finmap
 use Rattle.wal_shape.specs.declared.part.Part.{Part}
 use Rattle.wal_protocol.proofs.Lookups.{held_changed, changed_shape, held_is}
@@ -13,11 +13,7 @@ pub firmer_same : (old new : Parts) → new ≡ old → Firmer old new
 firmer_same old new same = record { settles = λ h. ap settled same ∙ h; by_proof = λ h. ap has_proof same ∙ h }
 
 part_kept : (old new : Parts) (p : Part) → IsAbove old new → is_some (part_of old p) ≡ true → is_some (part_of new p) ≡ true
-part_kept old new p above = by (part_of old p) (above p)
-  where
-    by : (o : Option (List ℕ)) → ((bytes : List ℕ) → o ≡ Some bytes → part_of new p ≡ Some bytes) → is_some o ≡ true → is_some (part_of new p) ≡ true
-    by None kept here = cc
-    by (Some bytes) kept here = ap is_some (kept bytes refl)
+part_kept old new p above h = grind (arith, above p)
 
 -- a holding above another one
 pub firmer_above : (old new : Parts) → IsAbove old new → Firmer old new

@@ -33,10 +33,7 @@ module _ (r : Rules) (w : World) (facts : Facts r w) where
 
   -- a shard of it that is settled is correct
   pub settled_correct : (id : BlobId) (s : ℕ) → settled_in (side_of (home_of w.log id) w) id s ≡ true → (is_correct (home_of w.log id) w s ≡ true) × (settled (held (side_of (home_of w.log id) w) s id) ≡ true)
-  settled_correct id s h =
-      let c = side_of (home_of w.log id) w in
-      let both = and_parts (not (among c.faulty s)) (settled (held c s id)) h in
-      (and_from (is_present (home_of w.log id) w) (not (among c.faulty s)) (home_present w id) both.0, both.1)
+  settled_correct id s h = let present = home_present w id in grind arith
 
   -- few shards of a present side are faulty
   pub few_side : (side : Side) → w.few ≡ true → is_present side w ≡ true → length (side_of side w).faulty ≤ w.log.f

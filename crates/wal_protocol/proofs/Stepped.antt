@@ -1,5 +1,5 @@
 -- Each step keeps the facts.
-use Rattle.wal_protocol.proofs.Common.{◌≡◌, ℕ, zero, suc, ◌<◌, List, [], ◌∷◌, length, Bool, true, false, cond, not, ◌&&◌, nat_eq, nat_lt, Some, IsTrue, ◌⊎◌, inl, inr, refl, sym, ◌∙◌, subst, arith, list_all, get-insert, eq_by_cmp, and_parts, or_cases, or_left, or_right, eqb-true, not-true, cases_eq, BlobId, Axis, Side, Now, Next, id_cmp, among, are_owners, is_closed, is_ascending, is_committee, has_neighbour, every_below, Verdict, IsEventWithin, Event, Register, Write, Send, Ack, Attest, Read, Recover, Forget, Begin, Ready, Finish, Reply, Line, ReadWord, RecoverWord, Kind, committee_size, owners_at, owners_of, same_node, claim_of, ids_total, ClaimsFor, register_enters, claim_enters, ready_enters, Parts, parts_at, settled_by_slivers, has_proof, backs, without_slivers, First, Judged, Written, Committee, World, side_of, with_side, is_present, epoch_of, writing_side, is_correct, contents_of, held, with_contents, answered, Rules, WriteStep, WriteCollides, ClaimStep, ReadCompletes, told_by, Gains, ForgetStep, Steps, Facts, backed, Laws, forgotten, same_id, ⊎_elim, ◌||◌, node_of, Contents}
+use Rattle.wal_protocol.proofs.Common.{◌≡◌, ℕ, zero, suc, ◌<◌, List, [], ◌∷◌, length, Bool, true, false, not, ◌&&◌, nat_eq, nat_lt, Some, IsTrue, ◌⊎◌, inl, inr, refl, sym, ◌∙◌, subst, arith, list_all, get-insert, and_parts, or_cases, or_left, or_right, eqb-true, not-true, cases_eq, BlobId, Axis, Side, Now, Next, id_cmp, among, are_owners, is_closed, is_ascending, is_committee, has_neighbour, every_below, Verdict, IsEventWithin, Event, Register, Write, Send, Ack, Attest, Read, Recover, Forget, Begin, Ready, Finish, Reply, Line, ReadWord, RecoverWord, Kind, committee_size, owners_at, owners_of, same_node, claim_of, ids_total, ClaimsFor, register_enters, claim_enters, ready_enters, Parts, parts_at, settled_by_slivers, has_proof, backs, without_slivers, First, Judged, Written, Committee, World, side_of, with_side, is_present, epoch_of, writing_side, is_correct, contents_of, held, with_contents, answered, Rules, WriteStep, WriteCollides, ClaimStep, ReadCompletes, told_by, Gains, ForgetStep, Steps, Facts, backed, Laws, forgotten, same_id, ⊎_elim, node_of, Contents}
 use Rattle.std.specs.FinMap as finmap
 use Rattle.wal_evidence.specs.declared.evidence.Verdict.TheVariants as verdict
 use Rattle.wal_event.specs.declared.line.Line.TheVariants as line
@@ -49,15 +49,7 @@ closed_by n owners faulty committee s t lt_s lt_t same out =
 -- a first completed answer rests on something
 backing_answered : (r : Rules) (answers : finmap.FinMap id_cmp First) (id : BlobId) (a : First) → ((q : BlobId) (x : First) → finmap.get answers q ≡ Some x → r.IsBacked q x) → r.IsBacked id a
     → (q : BlobId) (x : First) → finmap.get (answered answers id a) q ≡ Some x → r.IsBacked q x
-backing_answered r answers id a all backed_a q x = by (finmap.contains_key answers id) (eq_by_cmp id_cmp q id) refl
-  where
-    by : (b c : Bool) → eq_by_cmp id_cmp q id ≡ c → finmap.get (cond b answers (finmap.insert answers id a)) q ≡ Some x → r.IsBacked q x
-    by true c is h = all q x h
-    by false true same h =
-        let e : Some a ≡ Some x = rw (get-insert ids_total answers id a q, same) at h in
-        let is : a ≡ x = cc in
-        rw (same_id q id same, ← is) backed_a
-    by false false other h = all q x (rw (get-insert ids_total answers id a q, other) at h)
+backing_answered r answers id a all backed_a q x h = grind (arith, get-insert ids_total answers id a q, same_id q id, all q x)
 
 module _ (r : Rules) (laws : Laws r) where
   -- one side grew, and answers came
@@ -91,11 +83,7 @@ module _ (r : Rules) (laws : Laws r) where
   correct_node : (old : World) (side : Side) (shard s : ℕ) → Facts r old → is_present side old ≡ true → shard < committee_size old.log.f → s < committee_size old.log.f
       → same_node (owners_at old.log (epoch_of side old)) shard s ≡ true → among (side_of side old).faulty s ≡ false → is_correct side old shard ≡ true
   correct_node old side shard s facts present lt_shard lt same correct =
-      let closed = facts.closed side shard s present lt_shard lt same in is_right _ _ _ present closed correct
-    where
-      is_right : (here out other : Bool) → here ≡ true → (out ≡ true → other ≡ true) → other ≡ false → (here && not out) ≡ true
-      is_right true false other present closed correct = refl
-      is_right here out other present closed correct = absurd (grind arith)
+      let closed = facts.closed side shard s present lt_shard lt same in grind arith
 
   claims : (old : World) (kind : Kind) (shard : ℕ) (id : BlobId) (count : ℕ) (new : World) → Facts r old → shard < committee_size old.log.f → ClaimStep old kind shard id count new → Facts r new
   claims old kind shard id count new facts lt_shard c =
