@@ -1,5 +1,6 @@
 -- Every event in a state that has the facts has a step, and every schedule has a run, where the answers of the crates below are there.
-use Rattle.wal_protocol.proofs.Common.{◌≡◌, ◌⊎◌, ℕ, ◌+◌, ◌<◌, Bool, true, false, cond, ◌&&◌, nat_le, nat_lt, is_some, List, [], ◌∷◌, ◌++◌, map, Option, Some, None, All, Contains, refl, sym, ap, subst, ◌∙◌, ⊎_elim, inl, inr, true≢false, AllByRecursion, and_parts, ltb-true, false≢true, All-nil, All-cons, All-head, All-tail, All-append, BlobId, Axis, Side, ascends_from, Evidence, Verdict, Frame, IsEventWithin, IsSchedule, Event, Register, Write, Send, Ack, Attest, Read, Recover, Forget, Begin, Ready, Finish, Certificate, Holders, Reply, Schedule, Line, ReadWord, RecoverWord, committee_size, Log, is_live, Parts, Contents, PutAnswer, First, Judged, Written, Committee, World, side_of, with_side, writing_side, is_correct, contents_of, held, with_contents, keeps, holders, verdict_of, answered, Rules, is_clash, PutsEach, letters, stored_at, AgreesWithFirst, Differs, WriteStep, WriteCollides, read_payloads, reply_payloads, ReadCompletes, ReadStep, told_by, two_metadata, other_answer, IsReplyOf, AreReplies, RecoveryRuns, RecoverStep, RecoverCollides, Steps, first_state, is_collision, Runs, Facts, Laws, Possible, AreBytes, ReplyHasBytes, HasBytes, HasStep, HasRun}
+use Rattle.wal_protocol.proofs.Common.{◌≡◌, ◌⊎◌, ℕ, ◌+◌, ◌<◌, Bool, true, false, cond, is_some, List, [], ◌∷◌, ◌++◌, map, Option, Some, None, All, Contains, refl, sym, ap, subst, ◌∙◌, ⊎_elim, inl, inr, true≢false, AllByRecursion, false≢true, All-nil, All-cons, All-head, All-tail, All-append, BlobId, Axis, Side, ascends_from, Evidence, Verdict, Frame, IsEventWithin, IsSchedule, Event, Register, Write, Send, Ack, Attest, Read, Recover, Forget, Begin, Ready, Finish, Certificate, Holders, Reply, Schedule, Line, ReadWord, RecoverWord, committee_size, Log, is_live, Parts, Contents, PutAnswer, First, Judged, Written, Committee, World, side_of, with_side, writing_side, is_correct, contents_of, held, with_contents, keeps, holders, verdict_of, answered, Rules, is_clash, PutsEach, letters, stored_at, AgreesWithFirst, Differs, WriteStep, WriteCollides, read_payloads, reply_payloads, ReadCompletes, ReadStep, told_by, two_metadata, other_answer, IsReplyOf, AreReplies, RecoveryRuns, RecoverStep, RecoverCollides, Steps, first_state, is_collision, Runs, Facts, Laws, Possible, AreBytes, ReplyHasBytes, HasBytes, HasStep, HasRun, arith}
+use Rattle.std.proofs.lemmas.Bool.Decides.{nat_tests}
 use Rattle.std.proofs.lemmas.List.Elements.{All-map, Contains-get_or}
 use Rattle.wal_protocol.specs.Step.{IsWrite}
 use Rattle.std.specs.FinMap as finmap
@@ -30,10 +31,7 @@ Came r log c puts = (clashed : Bool) × (new : Committee) × PutsEach r log c pu
 -- numbers that ascend are below their bound
 below_bound : (low n : ℕ) (xs : List ℕ) → ascends_from low n xs ≡ true → AllByRecursion (λ s. s < n) xs
 below_bound low n [] up = tt
-below_bound low n (x ∷ xs) up =
-    let here = and_parts (nat_le low x) (nat_lt x n && ascends_from (x + 1) n xs) up in
-    let rest = and_parts (nat_lt x n) (ascends_from (x + 1) n xs) here.1 in
-    (ltb-true x n rest.0, below_bound (x + 1) n xs rest.1)
+below_bound low n (x ∷ xs) up = grind (arith, nat_tests, below_bound (x + 1) n xs)
 
 module _ (r : Rules) (laws : Laws r) (total : Total r) where
   -- ---- puts

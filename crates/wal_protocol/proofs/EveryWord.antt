@@ -1,5 +1,5 @@
 -- Events of the ledger and the epoch come to a word and a state.
-use Rattle.wal_protocol.proofs.Common.{◌≡◌, ◌⊎◌, ℕ, zero, suc, ◌+◌, ◌<◌, ◌≤◌, Bool, true, false, not, ◌&&◌, List, refl, sym, ap, ◌∙◌, arith, ⊎_elim, inl, inr, true≢false, cases_lt, BlobId, Side, among, CertificateWord, Kind, Holds, Denies, quorum_size, is_moving, reading, writing, until_of, is_live, signers, signer_count, IsCertified, ready_shards, ready_total, entered, is_moving_extension, MayClaim, claim_of, settled, backs, MayForget, without_slivers, World, side_of, writing_side, is_present, is_correct, contents_of, held, keeps, RegisterStep, IsIgnored, MayPost, Declines, ClaimStep, AckStep, AttestStep, ForgetStep, BeginStep, HoldsAll, MayBeReady, IsUnready, ReadyStep, FinishStep, CertificateStep, Possible}
+use Rattle.wal_protocol.proofs.Common.{◌≡◌, ◌⊎◌, ℕ, zero, suc, ◌+◌, ◌<◌, ◌≤◌, Bool, true, false, List, refl, sym, ◌∙◌, arith, ⊎_elim, inl, inr, true≢false, cases_lt, BlobId, Side, CertificateWord, Kind, Holds, Denies, quorum_size, is_moving, reading, writing, until_of, is_live, signers, signer_count, IsCertified, ready_shards, ready_total, entered, is_moving_extension, MayClaim, claim_of, settled, backs, MayForget, without_slivers, World, side_of, writing_side, is_present, is_correct, contents_of, held, keeps, RegisterStep, IsIgnored, MayPost, Declines, ClaimStep, AckStep, AttestStep, ForgetStep, BeginStep, HoldsAll, MayBeReady, IsUnready, ReadyStep, FinishStep, CertificateStep, Possible}
 use Rattle.wal_event.specs.declared.line.RegisterWord.{RegisterWord}
 use Rattle.wal_event.specs.declared.line.RegisterWord.TheVariants as registering
 use Rattle.wal_event.specs.declared.line.AckWord.{AckWord}
@@ -109,14 +109,7 @@ pub data Standing (w : World) (side : Side) (shard : ℕ) : Type 0 where
   correct : is_correct side w shard ≡ true → Standing w side shard
 
 pub standing : (w : World) (side : Side) (shard : ℕ) → Standing w side shard
-standing w side shard =
-    ⊎_elim
-    (λ present. ⊎_elim
-    (λ faulty. ignored (present, faulty))
-    (λ sound. correct (ap (λ (b : Bool). b && not (among (side_of side w).faulty shard)) present ∙ ap not sound))
-    (truth (among (side_of side w).faulty shard)))
-    absent
-    (truth (is_present side w))
+standing w side shard = grind (arith, absent, ignored, correct)
 
 pub every_forget : (old : World) (side : Side) (shard : ℕ) (id : BlobId) → Possible ((word : ForgetWord) × (new : World) × ForgetStep old side shard id word new)
 every_forget old side shard id = elim (standing old side shard) [

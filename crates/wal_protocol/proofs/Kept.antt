@@ -1,5 +1,5 @@
 -- What the facts of a state tell: who holds what is certified, and what replies bring.
-use Rattle.wal_protocol.proofs.Common.{◌≡◌, ℕ, zero, suc, ◌+◌, ◌<◌, ◌≤◌, List, [], ◌∷◌, length, get_or, Bool, true, false, not, ◌&&◌, nat_le, Contains, inl, inr, refl, arith, flat_map, and_parts, and_from, cases_eq, leb-true, leb-false, not-true, Contains-append_left, Contains-append_right, BlobId, Axis, Side, Now, Next, among, Reply, Holds, Denies, count_below, committee_size, quorum_size, is_moving, writing, is_live, signers, signer_count, home_of, quorum_correct, certified_before, settled, World, side_of, is_present, writing_side, is_correct, held, settled_in, holders, Rules, reply_payloads, read_payloads, IsReplyOf, AreReplies, IsKept, HasRefuters, Facts, Laws, AreAmong}
+use Rattle.wal_protocol.proofs.Common.{◌≡◌, ℕ, zero, suc, ◌+◌, ◌<◌, ◌≤◌, List, [], ◌∷◌, length, get_or, true, false, not, ◌&&◌, nat_le, Contains, inl, inr, arith, flat_map, and_parts, and_from, cases_eq, leb-false, not-true, Contains-append_left, Contains-append_right, BlobId, Axis, Side, Now, Next, among, Reply, Holds, Denies, count_below, committee_size, quorum_size, is_moving, writing, is_live, signers, signer_count, home_of, quorum_correct, certified_before, settled, World, side_of, is_present, writing_side, is_correct, held, settled_in, Rules, reply_payloads, read_payloads, IsReplyOf, AreReplies, IsKept, HasRefuters, Facts, Laws, AreAmong}
 use Rattle.wal_event.specs.declared.event.Reply.TheVariants as reply
 use Rattle.wal_protocol.proofs.Entered.{few_faulty, quorum_settled, writing_present}
 
@@ -10,7 +10,7 @@ home_present w id = grind arith
 module _ (r : Rules) (w : World) (facts : Facts r w) where
   -- more than f correct shards of the home committee hold what is certified
   pub kept_home : IsKept w
-  kept_home few id certified = by (is_moving w.log) refl (nat_le (quorum_size w.log.f) (signer_count w.log id Holds (writing w.log))) refl
+  kept_home few id certified = grind (arith, at_next, at_now, facts.kept_serving few)
     where
       e : ℕ
       e = certified.quorum.0
@@ -25,11 +25,6 @@ module _ (r : Rules) (w : World) (facts : Facts r w) where
         | inl same ↦ absurd (omega (arith, leb-false _ _ none, rw same at certified.quorum.1))
         | inr other ↦ facts.kept_moving few moving id (certified_before w.log id e facts.orderly moving certified.live other certified.quorum.1)
       ]
-
-      by : (m : Bool) → is_moving w.log ≡ m → (q : Bool) → nat_le (quorum_size w.log.f) (signer_count w.log id Holds (writing w.log)) ≡ q → w.log.f + 1 ≤ holders w id
-      by true moving true quorum = rw (quorum, moving) (at_next moving (leb-true _ _ quorum))
-      by true moving false none = rw (none, moving) (at_now moving none)
-      by false serving q h = rw serving (facts.kept_serving few serving id certified)
 
   -- a shard of it that is settled is correct
   pub settled_correct : (id : BlobId) (s : ℕ) → settled_in (side_of (home_of w.log id) w) id s ≡ true → (is_correct (home_of w.log id) w s ≡ true) × (settled (held (side_of (home_of w.log id) w) s id) ≡ true)

@@ -1,5 +1,5 @@
 -- What a shard holds, after a change of a committee.
-use Rattle.wal_protocol.proofs.Common.{◌≡◌, ◌≢◌, ℕ, zero, suc, ◌<◌, ◌≤◌, List, [], ◌∷◌, length, map, get_or, slice_set, Bool, true, false, cond, Option, None, unwrap_or, ◌⊎◌, inl, inr, refl, ap, ◌∙◌, arith, eq_by_cmp, range_with_len, get-empty, cases_eq, cases_lt, get_or-set_same, get_or-set_other, set_past, length-set, get_or-map-range_with_len, length-map-range_with_len, BlobId, id_cmp, Primary, Secondary, Parts, no_parts, with_part, Contents, parts_at, without_part, without_slivers, without_dead, same_id, changed_there, with_parts_changes, retained, forgotten, Log, is_live, committee_size, Committee, World, nobody, contents_of, held, with_contents, is_carried_over, next_committee, after_dropping, empty_committee, ⊎_elim}
+use Rattle.wal_protocol.proofs.Common.{◌≡◌, ℕ, zero, suc, ◌<◌, ◌≤◌, List, [], ◌∷◌, length, map, get_or, cond, Option, None, unwrap_or, ◌⊎◌, inr, refl, ap, arith, range_with_len, get-empty, cases_lt, get_or-set_same, get_or-set_other, set_past, length-set, get_or-map-range_with_len, length-map-range_with_len, BlobId, id_cmp, Primary, Secondary, Parts, no_parts, with_part, Contents, parts_at, without_part, without_slivers, without_dead, same_id, changed_there, with_parts_changes, retained, forgotten, Log, is_live, committee_size, Committee, World, nobody, contents_of, held, with_contents, is_carried_over, next_committee, after_dropping, empty_committee, ⊎_elim}
 use Rattle.std.specs.FinMap as finmap
 use Rattle.std.proofs.Math.ListN.{get_or-eq_default}
 
@@ -9,35 +9,22 @@ nothing_at id = ap (λ (o : Option Parts). unwrap_or o no_parts) (get-empty id_c
 
 -- what is held without the slivers of an identifier
 pub parts_forgotten : (m : Contents) (id q : BlobId) → (parts_at (without_slivers m id) q ≡ parts_at m q) ⊎ ((q ≡ id) × (parts_at (without_slivers m id) q ≡ forgotten (parts_at m q)))
-parts_forgotten m id q = by (eq_by_cmp id_cmp q id) refl
-  where
-    one : Contents
-    one = without_part m id Primary
-
-    itself : parts_at one id ≡ with_part (parts_at m id) Primary None
-    itself = changed_there m one id (with_part (parts_at m id) Primary None) (with_parts_changes m id (with_part (parts_at m id) Primary None))
-
-    whole : parts_at (without_slivers m id) q ≡ cond (eq_by_cmp id_cmp q id) (with_part (parts_at one id) Secondary None) (parts_at one q)
-    whole = (with_parts_changes one id (with_part (parts_at one id) Secondary None)).at q
-
-    first : parts_at one q ≡ cond (eq_by_cmp id_cmp q id) (with_part (parts_at m id) Primary None) (parts_at m q)
-    first = (with_parts_changes m id (with_part (parts_at m id) Primary None)).at q
-
-    by : (b : Bool) → eq_by_cmp id_cmp q id ≡ b → (parts_at (without_slivers m id) q ≡ parts_at m q) ⊎ ((q ≡ id) × (parts_at (without_slivers m id) q ≡ forgotten (parts_at m q)))
-    by true h = inr (same_id q id h, rw (whole, h, itself, same_id q id h))
-    by false h = inl (rw (whole, h, first, h))
+parts_forgotten m id q =
+    let one = without_part m id Primary in
+    let gone = with_part (parts_at m id) Primary None in
+    let itself = changed_there m one id gone (with_parts_changes m id gone) in
+    let first = (with_parts_changes m id gone).at q in
+    let whole = (with_parts_changes one id (with_part (parts_at one id) Secondary None)).at q in
+    grind (arith, same_id q id)
 
 -- what one shard holds changed, and all others hold what they did
 pub held_changed : (c : Committee) (s : ℕ) (contents : Contents) (t : ℕ) (q : BlobId)
     → ((t ≡ s) × (held (with_contents c s contents) t q ≡ parts_at contents q)) ⊎ (held (with_contents c s contents) t q ≡ held c t q)
 unfolding held with_contents
-held_changed c s contents t q = by (cases_eq t s) (cases_lt s (length c.shards))
-  where
-    by : (t ≡ s) ⊎ (t ≢ s) → (s < length c.shards) ⊎ (length c.shards ≤ s)
-        → ((t ≡ s) × (parts_at (get_or (slice_set c.shards s contents) t finmap.empty) q ≡ parts_at contents q)) ⊎ (parts_at (get_or (slice_set c.shards s contents) t finmap.empty) q ≡ parts_at (get_or c.shards t finmap.empty) q)
-    by (inr ne) l = inr (ap (λ (m : Contents). parts_at m q) (get_or-set_other c.shards s t contents finmap.empty ne))
-    by (inl e) (inr le) = inr (ap (λ (l : List Contents). parts_at (get_or l t finmap.empty) q) (set_past c.shards s contents le))
-    by (inl e) (inl lt) = inl (e, ap (λ (k : ℕ). parts_at (get_or (slice_set c.shards s contents) k finmap.empty) q) e ∙ ap (λ (m : Contents). parts_at m q) (get_or-set_same c.shards s contents finmap.empty lt))
+held_changed c s contents t q =
+    let same = get_or-set_same c.shards s contents finmap.empty in
+    let other = get_or-set_other c.shards s t contents finmap.empty in
+    grind (arith, set_past c.shards s contents)
 
 -- the one that changed
 pub held_here : (c : Committee) (s : ℕ) (contents : Contents) (q : BlobId) → s < length c.shards → held (with_contents c s contents) s q ≡ parts_at contents q
@@ -58,12 +45,8 @@ pub held_without : (log : Log) (c : Committee) (s : ℕ) (id : BlobId) → held 
 unfolding held
 held_without log c s id = at c.shards s
   where
-    none : (b : Bool) → parts_at finmap.empty id ≡ cond b (parts_at finmap.empty id) no_parts
-    none true = refl
-    none false = nothing_at id
-
     at : (xs : List Contents) (k : ℕ) → parts_at (get_or (map (without_dead log) xs) k finmap.empty) id ≡ cond (is_live log id) (parts_at (get_or xs k finmap.empty) id) no_parts
-    at [] k = none (is_live log id)
+    at [] k = grind (arith, nothing_at id)
     at (m ∷ xs) zero = retained m (is_live log) id
     at (m ∷ xs) (suc k) = at xs k
 
@@ -75,16 +58,11 @@ held_next w owners faulty stays s id =
     let size = committee_size w.log.f in
     let at = λ (t : ℕ). cond (is_carried_over w owners faulty stays t) (get_or w.now.shards t finmap.empty) finmap.empty in
     ⊎_elim
-    (λ lt. rw (get_or-map-range_with_len at 0 size s s finmap.empty lt (omega arith)) (carried (is_carried_over w owners faulty stays s)))
+    (λ lt. rw (get_or-map-range_with_len at 0 size s s finmap.empty lt (omega arith)) (grind (arith, nothing_at id)))
     (λ le.
     let past : length (map at (range_with_len 0 size)) ≤ s = omega (arith, length-map-range_with_len at 0 size) in
     inr (rw (get_or-eq_default (map at (range_with_len 0 size)) finmap.empty past) (nothing_at id)))
     (cases_lt s size)
-  where
-    carried : (b : Bool) → (parts_at (cond b (get_or w.now.shards s finmap.empty) finmap.empty) id ≡ parts_at (get_or w.now.shards s finmap.empty) id)
-        ⊎ (parts_at (cond b (get_or w.now.shards s finmap.empty) finmap.empty) id ≡ no_parts)
-    carried true = inl refl
-    carried false = inr (nothing_at id)
 
 -- nothing is held at first
 pub held_empty : (f : ℕ) (faulty : List ℕ) (s : ℕ) (id : BlobId) → held (empty_committee f faulty) s id ≡ no_parts

@@ -1,5 +1,6 @@
 -- Each step keeps the facts.
-use Rattle.wal_protocol.proofs.Common.{◌≡◌, ℕ, zero, suc, ◌<◌, List, [], ◌∷◌, length, Bool, true, false, not, ◌&&◌, nat_eq, nat_lt, Some, IsTrue, ◌⊎◌, inl, inr, refl, sym, ◌∙◌, subst, arith, list_all, get-insert, and_parts, or_cases, or_left, or_right, eqb-true, not-true, cases_eq, BlobId, Axis, Side, Now, Next, id_cmp, among, are_owners, is_closed, is_ascending, is_committee, has_neighbour, every_below, Verdict, IsEventWithin, Event, Register, Write, Send, Ack, Attest, Read, Recover, Forget, Begin, Ready, Finish, Reply, Line, ReadWord, RecoverWord, Kind, committee_size, owners_at, owners_of, same_node, claim_of, ids_total, ClaimsFor, register_enters, claim_enters, ready_enters, Parts, parts_at, settled_by_slivers, has_proof, backs, without_slivers, First, Judged, Written, Committee, World, side_of, with_side, is_present, epoch_of, writing_side, is_correct, contents_of, held, with_contents, answered, Rules, WriteStep, WriteCollides, ClaimStep, ReadCompletes, told_by, Gains, ForgetStep, Steps, Facts, backed, Laws, forgotten, same_id, ⊎_elim, node_of, Contents}
+use Rattle.wal_protocol.proofs.Common.{◌≡◌, ℕ, zero, suc, ◌<◌, List, [], ◌∷◌, length, Bool, true, false, not, Some, IsTrue, ◌⊎◌, inl, inr, refl, sym, subst, arith, get-insert, or_left, BlobId, Axis, Side, Now, Next, id_cmp, among, is_committee, has_neighbour, every_below, Verdict, IsEventWithin, Event, Register, Write, Send, Ack, Attest, Read, Recover, Forget, Begin, Ready, Finish, Reply, Line, ReadWord, RecoverWord, Kind, committee_size, owners_at, owners_of, same_node, claim_of, ids_total, ClaimsFor, register_enters, claim_enters, ready_enters, Parts, parts_at, settled_by_slivers, has_proof, backs, without_slivers, First, Judged, Written, Committee, World, side_of, with_side, is_present, epoch_of, writing_side, is_correct, contents_of, held, with_contents, answered, Rules, WriteStep, WriteCollides, ClaimStep, ReadCompletes, told_by, Gains, ForgetStep, Steps, Facts, backed, Laws, forgotten, same_id, Contents, ◌||◌}
+use Rattle.std.proofs.lemmas.Bool.Decides.{nat_tests}
 use Rattle.std.specs.FinMap as finmap
 use Rattle.wal_evidence.specs.declared.evidence.Verdict.TheVariants as verdict
 use Rattle.wal_event.specs.declared.line.Line.TheVariants as line
@@ -25,26 +26,19 @@ use Rattle.wal_protocol.proofs.Turned.{IsClosedBy, facts_begun, facts_finished}
 -- a test that passes below a number passes at each number below it
 every_at : (n : ℕ) (p : ℕ → Bool) (k : ℕ) → every_below n p ≡ true → k < n → p k ≡ true
 every_at zero p k all lt = absurd (omega arith)
-every_at (suc n) p k all lt =
-    let both = and_parts (every_below n p) (p n) all in
-    ⊎_elim (λ e. rw e both.1) (λ ne. every_at n p k both.0 (omega arith)) (cases_eq k n)
+every_at (suc n) p k all lt = grind (arith, every_at n p k)
 
 -- a list with a shard of the node has a neighbour
 neighbour : (owners : List ℕ) (shards : List ℕ) (s t : ℕ) → same_node owners s t ≡ true → among shards s ≡ true → has_neighbour owners shards t ≡ true
 neighbour owners [] s t same h = cc
-neighbour owners (x ∷ shards) s t same h =
-    ⊎_elim (λ is. or_left (nat_eq (node_of owners x) (node_of owners t)) _ (rw (eqb-true x s is) same)) (λ there. or_right _ _ (neighbour owners shards s t same there))
-    (or_cases (nat_eq x s) (among shards s) h)
+neighbour owners (x ∷ shards) s t same h = grind (arith, nat_tests, neighbour owners shards s t same)
 
 -- what a committee that is in range says of its faulty shards
 pub closed_by : (n : ℕ) (owners faulty : List ℕ) → IsTrue (is_committee n owners faulty) → IsClosedBy n owners faulty
 closed_by n owners faulty committee s t lt_s lt_t same out =
-    let size : length owners ≡ n = eqb-true (length owners) n (and_parts (nat_eq (length owners) n) (list_all (λ node. nat_lt node n) owners) (and_parts (are_owners n owners) (is_ascending n faulty && is_closed owners faulty) committee).0).0 in
-    let here : (not (has_neighbour owners faulty t) || among faulty t) ≡ true = every_at (length owners) (λ shard. not (has_neighbour owners faulty shard) || among faulty shard) t (and_parts (is_ascending n faulty) (is_closed owners faulty) (and_parts (are_owners n owners) (is_ascending n faulty && is_closed owners faulty) committee).1).1 (omega (arith, size)) in
-    elim (or_cases (not (has_neighbour owners faulty t)) (among faulty t) here) [
-      | inl none ↦ let f : true ≡ false = sym (neighbour owners faulty s t same out) ∙ not-true (has_neighbour owners faulty t) none in cc
-      | inr in_it ↦ in_it
-    ]
+    let tested = every_at (length owners) (λ shard. not (has_neighbour owners faulty shard) || among faulty shard) t in
+    let near = neighbour owners faulty s t same out in
+    grind (arith, nat_tests)
 
 -- a first completed answer rests on something
 backing_answered : (r : Rules) (answers : finmap.FinMap id_cmp First) (id : BlobId) (a : First) → ((q : BlobId) (x : First) → finmap.get answers q ≡ Some x → r.IsBacked q x) → r.IsBacked id a
