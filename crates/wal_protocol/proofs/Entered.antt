@@ -79,7 +79,7 @@ facts_entered r old b Signs IsReady facts enters backing ready = record {
         (λ s lt signed correct. backs Now Holds id s refl certified.live (subst (λ (k : ℕ). signers log id Holds k s ≡ true) (now ∙ reads) signed) lt correct))
         (λ earlier.
         let before : (s : ℕ) → signers log id Holds e s ≡ true → (is_live old.log id ≡ true) × (signers old.log id Holds e s ≡ true) = λ s signed.
-            let was = enters.signs id Holds e s certified.live signed in (was.0, ⊎_elim (λ said. said) (λ now. absurd (earlier now.0)) was.1) in
+        let was = enters.signs id Holds e s certified.live signed in (was.0, ⊎_elim (λ said. said) (λ now. absurd (earlier now.0)) was.1) in
         let some = count_below-some (committee_size old.log.f) (signers log id Holds e) (omega (arith, quorum)) in
         let fewer = count_below-mono (committee_size old.log.f) (signers log id Holds e) (signers old.log id Holds e) (λ s lt signed. (before s signed).1) in
         facts.kept_serving few still id (record { live = (before some.0 some.2).0; quorum = (e, omega (arith, quorum, fewer)) }))

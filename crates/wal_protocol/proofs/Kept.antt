@@ -41,8 +41,7 @@ module _ (r : Rules) (w : World) (facts : Facts r w) where
       let side = writing_side w in
       let (present, epoch) = writing_present w in
       let faulty = (side_of side w).faulty in
-      let signed = signers w.log id Denies (writing w.log) in
-      (
+      let signed = signers w.log id Denies (writing w.log) in (
         λ s. signed s && not (among faulty s),
         quorum_correct w.log.f signed (among faulty) quorum (few_faulty w.log.f faulty (few_side side few present)),
         λ s lt h.

@@ -47,12 +47,14 @@ module _ (r : Rules) (laws : Laws r) where
         laws.read_completes id (read_payloads r old id replies) word evidence (settled_in (side_of home old) id)
         (rw (← facts.sized_f) (kept_home r old facts few id certified))
         (λ s lt h.
-        let both = settled_correct r old facts id s h in
-        (held (side_of home old) s id, record {
-          sound = facts.sound home s id;
-          settles = both.1;
-          replied = heard_reply r old id home s replies both.0 (hears s (rw facts.sized_f lt) both.0);
-        }))
+        let both = settled_correct r old facts id s h in (
+          held (side_of home old) s id,
+          record {
+            sound = facts.sound home s id;
+            settles = both.1;
+            replied = heard_reply r old id home s replies both.0 (hears s (rw facts.sized_f lt) both.0);
+          },
+        ))
         reads
 
     -- RECOVERIES COMPLETE

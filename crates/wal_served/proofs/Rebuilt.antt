@@ -155,8 +155,8 @@ rebuilds digest id room sender may_want also one other taken frames clash state 
     let f_is : base.shard.f ≡ one.shard.f = rw had.shard first.faults in
     let index_is : base.shard.index ≡ one.shard.index = rw had.shard first.index in
     let live : (bytes : List ℕ) (part : Part) → part_of p part ≡ Some bytes → is_live base.ledger.log id ≡ true = λ bytes part e.
-        same_live id state.ledger.log base.ledger.log had.ledgers
-        ∙ ⊎_elim (λ empty. absurd (none_some (part_of p part) bytes (rw empty.1 (none_of part)) e)) (λ now. lt-ltb (reading state.ledger.log) (until_of state.ledger.log id) now) st.live in
+    same_live id state.ledger.log base.ledger.log had.ledgers
+    ∙ ⊎_elim (λ empty. absurd (none_some (part_of p part) bytes (rw empty.1 (none_of part)) e)) (λ now. lt-ltb (reading state.ledger.log) (until_of state.ledger.log id) now) st.live in
     let b = all_parts digest room sender also other base placed.fits id p (rw (f_is, index_is) st.sound) placed.named_by
     (rw f_is placed.some) (rw f_is placed.few) (rw f_is placed.enough) live (entry_payloads own)
     (record {
