@@ -44,8 +44,7 @@ module _ (digest : List ℕ → List ℕ) (old : ServedState) (frames : List (Li
 
 -- less needs less room
 pub fits_less : (limit : Option ℕ) (size less : ℕ) → IfSome limit (λ most. size ≤ most) → less ≤ size → IfSome limit (λ most. less ≤ most)
-fits_less None size less fit small = tt
-fits_less (Some most) size less fit small = omega arith
+fits_less limit size less fit small = grind arith
 
 pub less_room : (id : BlobId) (s : ServedState) (pages entries fewer less : ℕ) → RoomFor id s pages entries → fewer ≤ pages → less ≤ entries → RoomFor id s fewer less
 less_room id s pages entries fewer less room p e = record { pages_fit = fits_less s.shard.limit _ _ room.pages_fit (omega arith); entries_fit = omega (arith, room.entries_fit) }

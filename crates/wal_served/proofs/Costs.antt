@@ -1,5 +1,5 @@
 -- What a part more, and slivers less, of one identifier do to the pages of all holdings.
-use Rattle.wal_served.proofs.Common.{◌≡◌, ℕ, ◌+◌, ◌≤◌, Bool, true, false, cond, T, List, [], ◌∷◌, length, map, Option, Some, None, unwrap_or, refl, ap, ◌∙◌, arith, is_some, sum_by, eq_by_cmp, is_eq, match_ordering, AllByRecursion, BlobId, Part, id_cmp, Parts, no_parts, part_of, with_part, is_empty, part_cost, cost_of, pages_for, Contents, parts_at, part_at, with_bytes, without_part, cost, without_slivers, cost_with}
+use Rattle.wal_served.proofs.Common.{◌≡◌, ℕ, ◌+◌, ◌≤◌, Bool, true, cond, T, List, [], ◌∷◌, length, map, Option, Some, None, unwrap_or, refl, ap, ◌∙◌, arith, is_some, sum_by, eq_by_cmp, is_eq, match_ordering, AllByRecursion, BlobId, Part, id_cmp, Parts, no_parts, part_of, with_part, part_cost, cost_of, pages_for, Contents, parts_at, part_at, with_bytes, without_part, cost, without_slivers, cost_with}
 use Rattle.std.specs.Option.{option_map}
 use Rattle.std.specs.declared.cmp.Ordering.TheVariants.{Less, Equal, Greater}
 use Rattle.std.specs.List.Sorted.{IsStrictlySortedBy}
@@ -100,22 +100,9 @@ stored_cost c id part bytes none =
 
 -- a part that goes
 gone_cost : (c : Contents) (id : BlobId) (part : Part) → cost_with (without_part c id part) id ≤ cost_with c id
-gone_cost c id part = by (is_empty p) refl
-  where
-    p : Parts
-    p = with_part (parts_at c id) part None
-
-    by : (b : Bool) → is_empty p ≡ b → cost_with (cond b (fin.remove c id) (fin.insert c id p)) id ≤ cost_with c id
-    by true e =
-        let most : one_unless (fin.get (fin.remove c id) id) ≤ 1 = at_most (fin.get (fin.remove c id) id) in
-        omega (arith, remove_cost c id, there_least (fin.get c id), most)
-      where
-        at_most : (o : Option Parts) → one_unless o ≤ 1
-        at_most o = grind arith
-
-        there_least : (o : Option Parts) → 1 ≤ found_cost o + one_unless o
-        there_least o = grind arith
-    by false e = omega (arith, placed c id p, swapped (parts_at c id) part None)
+gone_cost c id part =
+    let p = with_part (parts_at c id) part None in
+    grind (arith, remove_cost c id, placed c id p, swapped (parts_at c id) part None)
 
 pub forgotten_cost : (c : Contents) (id : BlobId) → cost_with (without_slivers c id) id ≤ cost_with c id
 forgotten_cost c id = omega (arith, gone_cost c id parts.Primary, gone_cost (without_part c id parts.Primary) id parts.Secondary)

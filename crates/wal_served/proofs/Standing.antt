@@ -1,5 +1,5 @@
 -- What a shard comes to that began with nothing of an identifier: what it holds is sound and live, and its entries may be fed alone.
-use Rattle.wal_served.proofs.Common.{◌≡◌, ℕ, ◌+◌, ◌<◌, ◌≤◌, ◌^◌, Bool, true, false, max, List, [], ◌∷◌, ◌++◌, length, Option, Some, None, ◌⊎◌, inl, inr, refl, sym, ap, ◌∙◌, arith, flat_map, cases_lt, ltb-true, false≢true, BlobId, MetaClash, id_eq, Frame, Metadata, Sliver, Proof, RegisterEntry, AckEntry, AttestEntry, IsFrame, IsId, frame_text, envelope, read_of, stored_bytes, frame_is, read_again, AckAnswer, Entry, Body, Kind, Holds, Denies, committee_size, quorum_size, Log, LedgerState, reading, writing, is_moving, own_entries, until_of, until_among, until_in, signer_count, entered, takes_in, Claims, acked, claim_of, id_itself, id_same, until_push, entry_in, plain_stays, Owned, stays, grows, anew, owned, Parts, no_parts, part_of, with_part, Contents, parts_at, part_at, with_bytes, IsSound, CanBePut, IsAccepted, Verifies, put_id, put_part, desk, without_slivers, sliver_then, proof_then, ServedState, holding, with_ledger, done, ack_reply, Entered, of_committee, AnswersRequest, AnswersFrame, AsksOnly, Replies, looked_at, read_past, Served, more, asks, about_read, AlikeLedgers, AlikeAt, HasNothing, entry_frame, frame_payload, entry_payloads, IsPlaced, ⊎_elim, ⊎_elim}
+use Rattle.wal_served.proofs.Common.{◌≡◌, ℕ, ◌+◌, ◌<◌, ◌≤◌, ◌^◌, Bool, false, max, List, [], ◌∷◌, ◌++◌, length, Option, Some, None, ◌⊎◌, inl, inr, refl, sym, ap, ◌∙◌, arith, flat_map, cases_lt, ltb-true, false≢true, BlobId, MetaClash, Frame, Metadata, Sliver, Proof, RegisterEntry, AckEntry, AttestEntry, IsFrame, IsId, frame_text, envelope, read_of, stored_bytes, frame_is, read_again, AckAnswer, Entry, Body, Kind, Holds, Denies, committee_size, quorum_size, Log, LedgerState, reading, writing, is_moving, own_entries, until_of, until_among, until_in, signer_count, entered, takes_in, Claims, acked, claim_of, id_itself, id_same, until_push, entry_in, plain_stays, Owned, stays, grows, anew, owned, Parts, no_parts, part_of, with_part, Contents, parts_at, part_at, with_bytes, IsSound, CanBePut, IsAccepted, Verifies, put_id, put_part, desk, without_slivers, sliver_then, proof_then, ServedState, holding, with_ledger, done, ack_reply, Entered, of_committee, AnswersRequest, AnswersFrame, AsksOnly, Replies, looked_at, read_past, Served, more, asks, about_read, AlikeLedgers, AlikeAt, HasNothing, entry_frame, frame_payload, entry_payloads, IsPlaced, ⊎_elim, ⊎_elim}
 use Rattle.std.proofs.lemmas.List.{length-append}
 use Rattle.wal_shape.specs.declared.axis.Axis.TheVariants as axes
 use Rattle.wal_shape.specs.declared.part.Part.TheVariants as parts
@@ -59,11 +59,7 @@ enters digest also id s t _ a size few place some (to_claim kind shard may where
 
 about_or_not : (o : Option BlobId) (id : BlobId) → (o ≡ Some id) ⊎ (o ≡ Some id → ⊥)
 about_or_not None id = inr (λ e. cc)
-about_or_not (Some q) id = by (id_eq q id) refl
-  where
-    by : (b : Bool) → id_eq q id ≡ b → (◌≡◌ {A = Option BlobId} (Some q) (Some id)) ⊎ (◌≡◌ {A = Option BlobId} (Some q) (Some id) → ⊥)
-    by true e = inl (ap (λ (x : BlobId). Some x) (id_same q id e))
-    by false e = inr (λ same. false≢true (sym e ∙ rw (the_one q id same) (id_itself id)))
+about_or_not (Some q) id = grind (arith, id_same q id, id_itself id)
 
 -- a part that verifies beside sound ones
 sound_then : (digest : List ℕ → List ℕ) (f shard : ℕ) (p : Parts) (frame : Frame) → IsFrame frame → CanBePut frame → Verifies digest f shard p frame → part_of p (put_part frame) ≡ None
