@@ -23,7 +23,11 @@ answered_tells answers id a agrees = by (finmap.get answers id) refl
   where
     by : (o : Option First) → finmap.get answers id ≡ o → Tells (answered answers id a) id (verdict_of a)
     by (Some x) h = record { answer = x; first = rw h h; gives = agrees x h }
-    by None h = record { answer = a; first = rw (h, get-insert ids_total answers id a id, (eq_by_cmp_equiv ids_total).refl id); gives = refl }
+    by None h = record {
+      answer = a;
+      first = rw (h, get-insert ids_total answers id a id, (eq_by_cmp_equiv ids_total).refl id);
+      gives = refl;
+    }
 
 answered_stay : (answers : finmap.FinMap id_cmp First) (id : BlobId) (a : First) → Stay answers (answered answers id a)
 answered_stay answers id a q x h = grind (arith, get-insert ids_total answers id a q, same_id q id)
@@ -65,7 +69,8 @@ answers_last : (r : Rules) (old : World) (events : List Event) (states : List Wo
     → Left r stops old events states lines → Stay old.answers (last old states).answers
 answers_last r old events [] lines stops run id a h = h
 answers_last r old (event ∷ events) (new ∷ states) (said ∷ lines) false run id a h =
-    answers_last r new events states lines (is_collision said) run.1 id a (answers_stay r old event said new run.0 id a h)
+    answers_last r new events states lines (is_collision said) run.1 id a
+    (answers_stay r old event said new run.0 id a h)
 answers_last r old events states lines stops run id a h = absurd (grind arith)
 
 -- each completed line of it shows the answer that stands at its end

@@ -13,7 +13,8 @@ quorum_settled f p c id quorum few settle =
     omega (
       arith,
       quorum_correct f p (among c.faulty) quorum (few_faulty f c.faulty few),
-      count_below-mono (committee_size f) (λ s. p s && not (among c.faulty s)) (settled_in c id) (λ s lt h. let settles = settle s lt in grind arith),
+      count_below-mono (committee_size f) (λ s. p s && not (among c.faulty s)) (settled_in c id)
+          (λ s lt h. let settles = settle s lt in grind arith),
     )
 
 -- the side that is written to has the writing epoch; and a present side of the writing epoch is that one
@@ -36,13 +37,15 @@ facts_entered r old b Signs IsReady facts enters backing ready = record {
   orderly = enters.orderly;
   none_ahead = none_ahead_entered old.log b facts.none_ahead (omega (arith, enters.stays.writing));
   since_begin = since_begin_entered old.log b facts.since_begin enters.stays.writing;
-  closed = λ side. let is = same side in rw (is.0, is.1, is.2, enters.stays.owners (epoch_of side old)) (facts.closed side);
+  closed =
+      λ side. let is = same side in rw (is.0, is.1, is.2, enters.stays.owners (epoch_of side old)) (facts.closed side);
   sound = λ side. rw (same side).0 (facts.sound side);
   answers = facts.answers;
   backs = λ side. let is = same side in rw (is.0, is.1, is.2) (backs side);
   readies = λ id s says lt correct must.
       let was = enters.musts id must in
-      ⊎_elim (λ before. facts.readies id s before lt correct was) (λ now. ready id s now lt correct was) (enters.ready s says);
+      ⊎_elim (λ before. facts.readies id s before lt correct was) (λ now. ready id s now lt correct was)
+      (enters.ready s says);
   few_now = facts.few_now;
   few_next = rw enters.stays.moving facts.few_next;
   kept_serving = λ few still id certified. serving (rw enters.stays.moving at still) few id certified;
@@ -56,11 +59,13 @@ facts_entered r old b Signs IsReady facts enters backing ready = record {
     new = record old { log = log }
 
     -- the new world's sides are the old one's
-    same : (side : Side) → (side_of side new ≡ side_of side old) × (is_present side new ≡ is_present side old) × (epoch_of side new ≡ epoch_of side old)
+    same : (side : Side) → (side_of side new ≡ side_of side old) × (is_present side new ≡ is_present side old)
+        × (epoch_of side new ≡ epoch_of side old)
     same Now = (refl, refl, enters.stays.reading)
     same Next = (refl, enters.stays.moving, enters.stays.writing)
 
-    backs : (side : Side) (kind : Kind) (id : BlobId) (s : ℕ) → is_present side old ≡ true → is_live log id ≡ true → signers log id kind (epoch_of side old) s ≡ true → s < committee_size old.log.f
+    backs : (side : Side) (kind : Kind) (id : BlobId) (s : ℕ) → is_present side old ≡ true → is_live log id ≡ true
+        → signers log id kind (epoch_of side old) s ≡ true → s < committee_size old.log.f
         → among (side_of side old).faulty s ≡ false → backed kind (held (side_of side old) s id) ≡ true
     backs side kind id s present live signed lt correct =
         let (was, said) = enters.signs id kind (epoch_of side old) s live signed in
@@ -76,11 +81,18 @@ facts_entered r old b Signs IsReady facts enters backing ready = record {
         ⊎_elim
         (λ now.
         quorum_settled old.log.f (signers log id Holds e) old.now id quorum (facts.few_now few)
-        (λ s lt signed correct. backs Now Holds id s refl certified.live (subst (λ (k : ℕ). signers log id Holds k s ≡ true) (now ∙ reads) signed) lt correct))
+        (λ s lt signed correct.
+        backs Now Holds id s refl certified.live
+        (subst (λ (k : ℕ). signers log id Holds k s ≡ true) (now ∙ reads) signed) lt correct))
         (λ earlier.
-        let before : (s : ℕ) → signers log id Holds e s ≡ true → (is_live old.log id ≡ true) × (signers old.log id Holds e s ≡ true) = λ s signed.
-        let was = enters.signs id Holds e s certified.live signed in (was.0, ⊎_elim (λ said. said) (λ now. absurd (earlier now.0)) was.1) in
+        let before : (s : ℕ) → signers log id Holds e s ≡ true
+        → (is_live old.log id ≡ true) × (signers old.log id Holds e s ≡ true) = λ s signed.
+        let was = enters.signs id Holds e s certified.live signed in
+        (was.0, ⊎_elim (λ said. said) (λ now. absurd (earlier now.0)) was.1) in
         let some = count_below-some (committee_size old.log.f) (signers log id Holds e) (omega (arith, quorum)) in
-        let fewer = count_below-mono (committee_size old.log.f) (signers log id Holds e) (signers old.log id Holds e) (λ s lt signed. (before s signed).1) in
-        facts.kept_serving few still id (record { live = (before some.0 some.2).0; quorum = (e, omega (arith, quorum, fewer)) }))
+        let fewer =
+        count_below-mono (committee_size old.log.f) (signers log id Holds e) (signers old.log id Holds e)
+        (λ s lt signed. (before s signed).1) in
+        facts.kept_serving few still id
+        (record { live = (before some.0 some.2).0; quorum = (e, omega (arith, quorum, fewer)) }))
         (cases_eq e (writing old.log))

@@ -39,11 +39,13 @@ module _ (r : Rules) (laws : Laws r) (total : Total r) where
   abbrev CanPut : Log → ℕ × Frame → Type 0
   CanPut log p = IsAnswered r log p.0 p.1
 
-  every_puts : (log : Log) (c : Committee) (puts : List (ℕ × Frame)) → AreSound r c → All (CanPut log) puts → Possible (Came r log c puts)
+  every_puts : (log : Log) (c : Committee) (puts : List (ℕ × Frame)) → AreSound r c → All (CanPut log) puts
+      → Possible (Came r log c puts)
   every_puts log c [] sound can = surely (false, c, (refl, refl), λ fails. absurd (false≢true fails))
   every_puts log c (p ∷ more) sound can =
       then (All-head (CanPut log) p more can (contents_of c p.0) (sound_contents r c p.0 sound)) (λ answer.
-      by answer.0 answer.1 answer.2 (is_clash answer.0) refl (λ mid grown. every_puts log mid more grown (All-tail (CanPut log) p more can)))
+      by answer.0 answer.1 answer.2 (is_clash answer.0) refl
+      (λ mid grown. every_puts log mid more grown (All-tail (CanPut log) p more can)))
     where
       by : (answer : PutAnswer) (new : Contents) → r.Puts log p.0 (contents_of c p.0) p.1 answer new → (b : Bool) → is_clash answer ≡ b
           → ((mid : Committee) → AreSound r mid → Possible (Came r log mid more)) → Possible (Came r log c (p ∷ more))
@@ -75,11 +77,14 @@ module _ (r : Rules) (laws : Laws r) (total : Total r) where
       → AllByRecursion (λ s. s < n) to → All (CanPut log) (letters w side message to)
   letters_can log w side message n [] can within = All-nil (CanPut log)
   letters_can log w side message n (s ∷ to) can within =
-      All-append (CanPut log) (cond (is_correct side w s) (map (λ frame. (s, frame)) (message s)) []) (letters w side message to)
+      All-append (CanPut log) (cond (is_correct side w s) (map (λ frame. (s, frame)) (message s)) [])
+      (letters w side message to)
       (addressed (is_correct side w s)) (letters_can log w side message n to can within.1)
     where
       addressed : (b : Bool) → All (CanPut log) (cond b (map (λ frame. (s, frame)) (message s)) [])
-      addressed true = All-map (CanPut log) (λ frame. (s, frame)) (message s) (λ k d lt. can s _ within.0 (Contains-get_or (message s) k d lt))
+      addressed true =
+          All-map (CanPut log) (λ frame. (s, frame)) (message s)
+          (λ k d lt. can s _ within.0 (Contains-get_or (message s) k d lt))
       addressed false = All-nil (CanPut log)
 
   every_write : (old : World) (blob to : List ℕ) → Facts r old → IsEventWithin (committee_size old.log.f) (Write blob to) → AreBytes blob → Possible (HasStep r old (Write blob to))
@@ -91,26 +96,33 @@ module _ (r : Rules) (laws : Laws r) (total : Total r) where
       side : Side
       side = writing_side old
 
-      can : (id : BlobId) (message : ℕ → List Frame) → r.IsMessage old.format blob id message → All (CanPut old.log) (letters old side message to)
+      can : (id : BlobId) (message : ℕ → List Frame) → r.IsMessage old.format blob id message
+          → All (CanPut old.log) (letters old side message to)
       can id message honest =
           letters_can old.log old side message (committee_size old.log.f) to
-          (λ s frame lt has. total.put_message old.format blob id message honest old.log s (rw (← facts.sized_f) lt) frame has)
+          (λ s frame lt has.
+          total.put_message old.format blob id message honest old.log s (rw (← facts.sized_f) lt) frame has)
           (below_bound 0 (committee_size old.log.f) to fit.1)
 
       stops : HasCollision r → (id : BlobId) (clashed : Bool) (write : IsWrite r old blob to id clashed)
           → (clashed ≡ false → Differs old.answers id (verdict.Bytes blob)) → Possible (HasStep r old (Write blob to))
       stops clash id clashed write differs =
-          let is : WriteCollides r old blob to (with_side side old write.mid) = record { id = id; clashed = clashed; write = write; differs = differs; state = refl } in
+          let is : WriteCollides r old blob to (with_side side old write.mid) =
+          record { id = id; clashed = clashed; write = write; differs = differs; state = refl } in
           surely (line.Collision clash.0 clash.1, with_side side old write.mid, (clash.2, is))
 
-      ends : (id : BlobId) (clashed : Bool) → IsWrite r old blob to id clashed → (clashed ≡ true → HasCollision r) → Possible (HasStep r old (Write blob to))
+      ends : (id : BlobId) (clashed : Bool) → IsWrite r old blob to id clashed → (clashed ≡ true → HasCollision r)
+          → Possible (HasStep r old (Write blob to))
       ends id true write collides = stops (collides refl) id true write (λ fails. absurd (true≢false fails))
       ends id false write collides =
-          then (every_answer old id (Written blob) facts (laws.write_backed old.format blob id write.message write.honest)) (λ e. ⊎_elim
+          let backed = laws.write_backed old.format blob id write.message write.honest in
+          then (every_answer old id (Written blob) facts backed) (λ e. ⊎_elim
           (λ agrees.
-          let new : World = record (with_side side old write.mid) { answers = answered old.answers id (Written blob) } in
+          let new : World =
+          record (with_side side old write.mid) { answers = answered old.answers id (Written blob) } in
           let count = stored_at r new side write.message to id in
-          let is : WriteStep r old blob to id count new = record { write = write; agrees = agrees; state = refl; counted = refl } in
+          let is : WriteStep r old blob to id count new =
+          record { write = write; agrees = agrees; state = refl; counted = refl } in
           surely (line.Write id (write_word.Stored count blob), new, (refl, is)))
           (λ differ. stops differ.1 id false write (λ same. differ.0))
           e)
@@ -124,7 +136,9 @@ module _ (r : Rules) (laws : Laws r) (total : Total r) where
     | correct sound ↦
         by_cases ((frame : Frame) × r.IsPutFrame bytes frame)
         (λ found.
-        then (total.put_read bytes found.0 are found.1 old.log shard (contents_of (side_of side old) shard) (sound_contents r (side_of side old) shard (facts.sound side)))
+        then
+        (total.put_read bytes found.0 are found.1 old.log shard (contents_of (side_of side old) shard)
+        (sound_contents r (side_of side old) shard (facts.sound side)))
         (λ put. answers sound found.0 found.1 put.0 put.1 put.2))
         (λ none. surely (line.Send shard sending.Malformed, old, (refl, (sound, (λ frame is. none (frame, is)), refl))))
   ]

@@ -117,7 +117,9 @@ every_forget old side shard id = elim (standing old side shard) [
   | ignored faulty ↦ surely (forgetting.Ignored, old, (faulty, refl))
   | correct sound ↦
       by_cases (MayForget old.log (contents_of (side_of side old) shard) id)
-      (λ may. surely (forgetting.Done, keeps old side shard (without_slivers (contents_of (side_of side old) shard) id), (sound, may, refl)))
+      (λ may.
+      let left = without_slivers (contents_of (side_of side old) shard) id in
+      surely (forgetting.Done, keeps old side shard left, (sound, may, refl)))
       (λ none. surely (forgetting.Declined, old, (sound, none, refl)))
 ]
 

@@ -60,8 +60,9 @@ grown_changed r c s contents all sound firmer = record {
   firmer = λ t q. (each t q (held_changed c s contents t q)).1;
 }
   where
-    each : (t : ℕ) (q : BlobId) → ((t ≡ s) × (held (with_contents c s contents) t q ≡ parts_at contents q)) ⊎ (held (with_contents c s contents) t q ≡ held c t q)
-        → r.IsSound q t (held (with_contents c s contents) t q) × Firmer (held c t q) (held (with_contents c s contents) t q)
+    each : (t : ℕ) (q : BlobId) → ((t ≡ s) × (held (with_contents c s contents) t q ≡ parts_at contents q))
+        ⊎ (held (with_contents c s contents) t q ≡ held c t q) → r.IsSound q t (held (with_contents c s contents) t q)
+        × Firmer (held c t q) (held (with_contents c s contents) t q)
     each t q (inl (e, is)) = rw (is, e) (sound q, firmer q)
     each t q (inr is) = rw is (all t q, firmer_same _ _ refl)
 
@@ -86,7 +87,8 @@ grown_each r laws log c d [] clashed all (no_clash, same) = rw same (grown_same 
 grown_each r laws log c d (p ∷ more) clashed all (answer, contents, puts, rest) =
     let here = grown_put r laws log c p.0 p.1 answer contents all puts in
     let mid = with_contents c p.0 contents in
-    by (is_clash answer) rest (λ each. grown_twice r c mid d here (grown_each r laws log mid d more clashed here.sound each))
+    by (is_clash answer) rest
+    (λ each. grown_twice r c mid d here (grown_each r laws log mid d more clashed here.sound each))
   where
     by : (b : Bool) {P : Type 0} → cond b ((clashed ≡ true) × (d ≡ c)) P → (P → GrownFrom r c d) → GrownFrom r c d
     by true (c1, same) go = rw same (grown_same r c all)
@@ -117,8 +119,10 @@ facts_grown r old a b answers facts grown_now grown_next backing = record {
   sound = λ side s id. (grown side).sound s id;
   answers = backing;
   backs = λ side kind id s present live signed lt correct. backed_firmer kind _ _ ((grown side).firmer s id)
-      (facts.backs side kind id s (rw (← (same side).1) present) live (rw (← (same side).2) signed) lt (rw (← (same side).0) correct));
-  readies = λ id s ready lt correct must. (grown_next.firmer s id).settles (facts.readies id s ready lt (rw grown_next.faulty at correct) must);
+      (facts.backs side kind id s (rw (← (same side).1) present) live (rw (← (same side).2) signed) lt
+      (rw (← (same side).0) correct));
+  readies = λ id s ready lt correct must.
+      (grown_next.firmer s id).settles (facts.readies id s ready lt (rw grown_next.faulty at correct) must);
   few_now = rw grown_now.faulty facts.few_now;
   few_next = rw grown_next.faulty facts.few_next;
   kept_serving = λ few still id certified. omega (arith, facts.kept_serving few still id certified, settled_grown r old.log.f old.now a id grown_now);
@@ -132,6 +136,7 @@ facts_grown r old a b answers facts grown_now grown_next backing = record {
     grown Now = grown_now
     grown Next = grown_next
 
-    same : (side : Side) → ((side_of side new).faulty ≡ (side_of side old).faulty) × (is_present side new ≡ is_present side old) × (epoch_of side new ≡ epoch_of side old)
+    same : (side : Side) → ((side_of side new).faulty ≡ (side_of side old).faulty)
+        × (is_present side new ≡ is_present side old) × (epoch_of side new ≡ epoch_of side old)
     same Now = (grown_now.faulty, refl, refl)
     same Next = (grown_next.faulty, refl, refl)

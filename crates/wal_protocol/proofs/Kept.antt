@@ -46,8 +46,11 @@ module _ (r : Rules) (w : World) (facts : Facts r w) where
         quorum_correct w.log.f signed (among faulty) quorum (few_faulty w.log.f faulty (few_side side few present)),
         λ s lt h.
             let both = and_parts (signed s) (not (among faulty s)) h in
-            let keeps = facts.backs side Denies id s present live (rw epoch both.0) lt (not-true (among faulty s) both.1) in
-            (and_from (is_present side w) (not (among faulty s)) present both.1, laws.refutes id s (held (side_of side w) s id) (facts.sound side s id) keeps),
+            let keeps =
+            facts.backs side Denies id s present live (rw epoch both.0) lt (not-true (among faulty s) both.1) in (
+              and_from (is_present side w) (not (among faulty s)) present both.1,
+              laws.refutes id s (held (side_of side w) s id) (facts.sound side s id) keeps,
+            ),
       )
 
 -- the payloads of a reply that is there are among all

@@ -56,7 +56,8 @@ pub held_next : (w : World) (owners faulty stays : List ℕ) (s : ℕ) (id : Blo
 unfolding held
 held_next w owners faulty stays s id =
     let size = committee_size w.log.f in
-    let at = λ (t : ℕ). cond (is_carried_over w owners faulty stays t) (get_or w.now.shards t finmap.empty) finmap.empty in
+    let at =
+    λ (t : ℕ). cond (is_carried_over w owners faulty stays t) (get_or w.now.shards t finmap.empty) finmap.empty in
     ⊎_elim
     (λ lt. rw (get_or-map-range_with_len at 0 size s s finmap.empty lt (omega arith)) (grind (arith, nothing_at id)))
     (λ le.

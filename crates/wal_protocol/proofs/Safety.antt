@@ -27,11 +27,13 @@ module _ (r : Rules) (laws : Laws r) where
 
   -- COMMITTED: a recovered sliver is the shard's
   pub committed : (old : World) (event : Event) (said : Line) (new : World) → Facts r old → IsEventWithin (committee_size old.log.f) event → Steps r old event said new → IsCommitted r old event said new
-  committed old (Recover at shard axis id replies) (line.Recover s a i (recovering.Sliver bytes)) new facts fit (same_s, same_a, same_i, (contents, run, state)) =
+  committed old (Recover at shard axis id replies) (line.Recover s a i (recovering.Sliver bytes)) new facts fit step =
+      let (contents, run, state) = step.3 in
       let c = side_of at old in
       let sized = facts.sized at (and_parts _ _ run.correct).0 in
       let given : r.CommitsTo id shard axis bytes (held (side_of at new) shard id) =
-      rw (state, same_side at old (with_contents c shard contents), held_here c shard contents id (omega (arith, sized, fit.0)))
+      let here = held_here c shard contents id (omega (arith, sized, fit.0)) in
+      rw (state, same_side at old (with_contents c shard contents), here)
       (laws.recover_commits id shard axis (contents_of c shard) contents run.payloads bytes run.recovers
       (one_metadata old at shard axis id replies (recovering.Sliver bytes) contents run)
       (sound_contents r c shard (facts.sound at))) in
@@ -40,7 +42,8 @@ module _ (r : Rules) (laws : Laws r) where
 
   module _ (old : World) (facts : Facts r old) (id : BlobId) (replies : List Reply) where
     -- COMPLETE: a read of what is certified that hears its committee completes
-    read_told : (word : ReadWord) (evidence : Option Evidence) → old.few ≡ true → IsCertified old.log id → Hears old id replies
+    read_told : (word : ReadWord) (evidence : Option Evidence) → old.few ≡ true → IsCertified old.log id
+        → Hears old id replies
         → r.Reads id (read_payloads r old id replies) word evidence → (told : Verdict) × (told_by word ≡ Some told)
     read_told word evidence few certified hears reads =
         let home = home_of old.log id in
@@ -70,52 +73,64 @@ module _ (r : Rules) (laws : Laws r) where
           replied = heard.2;
         }
 
-    module _ (at : Side) (shard : ℕ) (lt : shard < committee_size old.log.f) (word : RecoverWord) (contents : Contents) where
-      secondary_word : HearsSettled old id replies → RecoveryRuns r old at shard Secondary id replies word contents → IsSettledBy word
+    module _ (at : Side) (shard : ℕ) (lt : shard < committee_size old.log.f) {word : RecoverWord} {new : Contents} where
+      secondary_word : HearsSettled old id replies → RecoveryRuns r old at shard Secondary id replies word new
+          → IsSettledBy word
       secondary_word (heard, many, each) run =
           let home = home_of old.log id in
-          laws.secondary_recovers id shard (contents_of (side_of at old) shard) contents run.payloads word heard (rw (← facts.sized_f) many)
+          laws.secondary_recovers id shard (contents_of (side_of at old) shard) new run.payloads word heard
+          (rw (← facts.sized_f) many)
           (λ s lt_s h.
           let it = each s (rw facts.sized_f lt_s) h in
           let helps = helped Secondary shard run.payloads home s run.replied it.0 it.2 in
           (held (side_of home old) s id, (settled_correct r old facts id s it.1).1, helps))
           (rw (← facts.sized_f) lt) (sound_contents r (side_of at old) shard (facts.sound at))
-          (one_metadata old at shard Secondary id replies word contents run) run.recovers
+          (one_metadata old at shard Secondary id replies word new run) run.recovers
 
-      primary_word : HearsSecondary old id replies → RecoveryRuns r old at shard Primary id replies word contents → IsDecidedBy word
+      primary_word : HearsSecondary old id replies → RecoveryRuns r old at shard Primary id replies word new
+          → IsDecidedBy word
       primary_word (heard, many, each) run =
-          laws.primary_recovers id shard (contents_of (side_of at old) shard) contents run.payloads word heard (rw (← facts.sized_f) many)
+          laws.primary_recovers id shard (contents_of (side_of at old) shard) new run.payloads word heard
+          (rw (← facts.sized_f) many)
           (λ s lt_s h.
           let it = each s (rw facts.sized_f lt_s) h in
           let helps = helped Primary shard run.payloads it.0 s run.replied it.1 it.3 in
           (held (side_of it.0 old) s id, it.2, helps))
           (rw (← facts.sized_f) lt) (sound_contents r (side_of at old) shard (facts.sound at))
-          (one_metadata old at shard Primary id replies word contents run) run.recovers
+          (one_metadata old at shard Primary id replies word new run) run.recovers
 
   pub complete : (old : World) (event : Event) (said : Line) (new : World) → Facts r old → IsEventWithin (committee_size old.log.f) event → Steps r old event said new → IsComplete old event said new
   complete old (Read id replies) (line.Read i (reading_of.Short have need)) new facts fit step = λ few certified hears.
-      let told = read_told old facts id replies (reading_of.Short have need) None few certified hears step.1.0 in absurd (let e : None ≡ Some told.0 = told.1 in cc)
+      let told = read_told old facts id replies (reading_of.Short have need) None few certified hears step.1.0 in
+      let e : None ≡ Some told.0 = told.1 in cc
   complete old (Read id replies) (line.Read i reading_of.NoMetadata) new facts fit step = λ few certified hears.
-      let told = read_told old facts id replies reading_of.NoMetadata None few certified hears step.1.0 in absurd (let e : None ≡ Some told.0 = told.1 in cc)
+      let told = read_told old facts id replies reading_of.NoMetadata None few certified hears step.1.0 in
+      let e : None ≡ Some told.0 = told.1 in cc
   -- any other line is complete, and so is any other event
   complete old event said new facts fit step = grind arith
 
-  pub recovered : (old : World) (event : Event) (said : Line) (new : World) → Facts r old → IsEventWithin (committee_size old.log.f) event → Steps r old event said new → IsRecoveryComplete old event said new
-  recovered old (Recover at shard axis id replies) (line.Recover s a i recovering.Absent) new facts fit step = grind arith
-  recovered old (Recover at shard axis id replies) (line.Recover s a i recovering.Ignored) new facts fit step = grind arith
-  recovered old (Recover at shard axis id replies) (line.Recover s a i recovering.Unregistered) new facts fit step = grind arith
-  recovered old (Recover at shard Secondary id replies) (line.Recover s a i word) new facts fit step = λ correct live hears.
-      secondary_word old facts id replies at shard fit.0 word step.3.0 hears step.3.1
-  recovered old (Recover at shard Primary id replies) (line.Recover s a i word) new facts fit step = λ correct live hears.
-      primary_word old facts id replies at shard fit.0 word step.3.0 hears step.3.1
+  pub recovered : (old : World) (event : Event) (said : Line) (new : World) → Facts r old
+      → IsEventWithin (committee_size old.log.f) event → Steps r old event said new
+      → IsRecoveryComplete old event said new
+  recovered old (Recover at shard axis id _) (line.Recover s a i recovering.Absent) new _ _ step = grind arith
+  recovered old (Recover at shard axis id _) (line.Recover s a i recovering.Ignored) new _ _ step = grind arith
+  recovered old (Recover at shard axis id _) (line.Recover s a i recovering.Unregistered) new _ _ step = grind arith
+  recovered old (Recover at shard Secondary id replies) (line.Recover s a i word) new facts fit step =
+      λ correct live hears.
+      secondary_word old facts id replies at shard fit.0 hears step.3.1
+  recovered old (Recover at shard Primary id replies) (line.Recover s a i word) new facts fit step =
+      λ correct live hears.
+      primary_word old facts id replies at shard fit.0 hears step.3.1
   recovered old event said new facts fit step = grind arith
 
   -- JUST: what is declared invalid is refuted
   pub just : (old : World) (event : Event) (said : Line) (new : World) → Facts r old → IsEventWithin (committee_size old.log.f) event → Steps r old event said new → IsJust r old event said new
   just old (Attest shard id) (line.Attest s i (attesting.Invalid count)) new facts fit step = λ few.
       let claim = step.2.0 in
+      let plain = claim_plain kinds.Denies shard id in
       refuted r new (facts_step r laws old (Attest shard id) (line.Attest s i (attesting.Invalid count)) new facts fit step) laws id few
-      (rw claim.state (live_same old.log (claim_of kinds.Denies shard id) id (claim_plain kinds.Denies shard id).0 (claim_plain kinds.Denies shard id).1 ∙ claim.first_time.open_to_claims.live))
+      (rw claim.state
+      (live_same old.log (claim_of kinds.Denies shard id) id plain.0 plain.1 ∙ claim.first_time.open_to_claims.live))
       (omega (arith, step.2.1, claim.counted, ap (λ (w : World). quorum_size w.log.f) claim.state))
   just old event said new facts fit step = tt
 
@@ -129,7 +144,8 @@ module _ (r : Rules) (laws : Laws r) where
   each_step P one old (event ∷ events) (new ∷ states) (said ∷ lines) facts fits false run =
       let fit : IsEventWithin (committee_size old.log.f) event = rw facts.sized_f fits.0 in
       let then = facts_step r laws old event said new facts fit run.0 in
-      (one old event said new facts fit run.0, each_step P one new events states lines then fits.1 (is_collision said) run.1)
+      let rest = each_step P one new events states lines then fits.1 (is_collision said) run.1 in
+      (one old event said new facts fit run.0, rest)
   each_step P one old events states lines facts fits stops run = tt
 
   -- the facts hold in each state of it
@@ -191,7 +207,9 @@ module _ (r : Rules) (laws : Laws r) where
       record {
         agree = agree r (first_state s) s.events states lines run;
         committed = each_step (IsCommitted r) committed (first_state s) s.events states lines start fits false run;
-        kept = λ k d lt. kept_home r (get_or (first_state s ∷ states) k d) (facts_run (first_state s) s.events states lines start fits false run k d lt);
+        kept = λ k d lt.
+            kept_home r (get_or (first_state s ∷ states) k d)
+            (facts_run (first_state s) s.events states lines start fits false run k d lt);
         complete = each_step IsComplete complete (first_state s) s.events states lines start fits false run;
         just = each_step (IsJust r) just (first_state s) s.events states lines start fits false run;
       }

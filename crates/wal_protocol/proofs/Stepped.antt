@@ -43,7 +43,8 @@ closed_by n owners faulty committee s t lt_s lt_t same out =
 -- a first completed answer rests on something
 backing_answered : (r : Rules) (answers : finmap.FinMap id_cmp First) (id : BlobId) (a : First) → ((q : BlobId) (x : First) → finmap.get answers q ≡ Some x → r.IsBacked q x) → r.IsBacked id a
     → (q : BlobId) (x : First) → finmap.get (answered answers id a) q ≡ Some x → r.IsBacked q x
-backing_answered r answers id a all backed_a q x h = grind (arith, get-insert ids_total answers id a q, same_id q id, all q x)
+backing_answered r answers id a all backed_a q x h =
+    grind (arith, get-insert ids_total answers id a q, same_id q id, all q x)
 
 module _ (r : Rules) (laws : Laws r) where
   -- one side grew, and answers came
@@ -84,7 +85,8 @@ module _ (r : Rules) (laws : Laws r) where
       let side = writing_side old in
       let (present, at) = writing_present old in
       rw c.state
-      (facts_entered r old (claim_of kind shard id) (ClaimsFor old.log kind shard id) (λ s. ⊥) facts (claim_enters old.log kind shard id facts.orderly)
+      (facts_entered r old (claim_of kind shard id) (ClaimsFor old.log kind shard id) (λ s. ⊥) facts
+      (claim_enters old.log kind shard id facts.orderly)
       (λ i k s signs lt correct.
       let (same_i, same_k, node) = signs in
       let here = correct_node old side shard s facts present lt_shard lt (rw at node) correct in
@@ -122,12 +124,15 @@ module _ (r : Rules) (laws : Laws r) where
       after : Contents
       after = without_slivers before id
 
-      still : (q : BlobId) → (parts_at after q ≡ parts_at before q) ⊎ ((q ≡ id) × (parts_at after q ≡ forgotten (parts_at before q)))
+      still : (q : BlobId)
+          → (parts_at after q ≡ parts_at before q) ⊎ ((q ≡ id) × (parts_at after q ≡ forgotten (parts_at before q)))
           → r.IsSound q shard (parts_at after q) × Firmer (held (side_of side old) shard q) (parts_at after q)
-      still q (inl same) = rw (same, held_is) (sound_contents r (side_of side old) shard (facts.sound side) q, firmer_same _ _ refl)
+      still q (inl same) =
+          rw (same, held_is) (sound_contents r (side_of side old) shard (facts.sound side) q, firmer_same _ _ refl)
       still q (inr (e, is)) =
+          let was = sound_contents r (side_of side old) shard (facts.sound side) q in
           rw (is, held_is)
-          (laws.forget_sound q shard (parts_at before q) (sound_contents r (side_of side old) shard (facts.sound side) q), firmer_forgotten (parts_at before q) (rw e may.proof))
+          (laws.forget_sound q shard (parts_at before q) was, firmer_forgotten (parts_at before q) (rw e may.proof))
 
   -- every step keeps the facts; they come last, so that the search for what a word changes does not read them
   kept_step : (old : World) (event : Event) (said : Line) (new : World) → Steps r old event said new → Facts r old → IsEventWithin (committee_size old.log.f) event → Facts r new

@@ -26,12 +26,17 @@ facts_begun r laws old owners faulty stays facts serving closed = record {
   ];
   sound = elim [
     | Now ↦ facts.sound Now
-    | Next ↦ λ s id. ⊎_elim (λ is. rw is (facts.sound Now s id)) (λ is. rw is (laws.nothing_sound id s)) (held_next old owners faulty stays s id)
+    | Next ↦ λ s id.
+        ⊎_elim (λ is. rw is (facts.sound Now s id)) (λ is. rw is (laws.nothing_sound id s))
+        (held_next old owners faulty stays s id)
   ];
   answers = facts.answers;
   backs = elim [
-    | Now ↦ λ kind id s present live signed. facts.backs Now kind id s refl (rw (turn.live id) at live) (rw turn.same_epoch at (turn.signs id kind (reading log) s signed).1)
-    | Next ↦ λ kind id s present live signed. absurd (omega (arith, (turn.signs id kind (writing log) s signed).0, turn.next_epoch))
+    | Now ↦ λ kind id s present live signed.
+        facts.backs Now kind id s refl (rw (turn.live id) at live)
+        (rw turn.same_epoch at (turn.signs id kind (reading log) s signed).1)
+    | Next ↦ λ kind id s present live signed.
+        absurd (omega (arith, (turn.signs id kind (writing log) s signed).0, turn.next_epoch))
   ];
   readies = λ id s says lt correct must. let f : true ≡ false = sym says ∙ turn.none_ready s in cc;
   few_now = λ few. facts.few_now (and_parts _ _ few).0;
@@ -67,7 +72,8 @@ facts_finished r laws old facts moving quorum = record {
   ];
   answers = facts.answers;
   backs = elim [
-    | Now ↦ λ kind id s present live signed. let was = rw (turn.signs id kind (reading log) s, turn.read_now) at signed in
+    | Now ↦ λ kind id s present live signed.
+        let was = rw (turn.signs id kind (reading log) s, turn.read_now) at signed in
         rw (same_held s id live) (facts.backs Next kind id s moving (turn.live id live).0 was)
     | Next ↦ λ kind id s present. still present
   ];
@@ -100,7 +106,14 @@ facts_finished r laws old facts moving quorum = record {
         let few_next = facts.few_next few moving in
         let in_next : old.log.f + 1 ≤ count_below (committee_size old.log.f) (settled_in old.next id) =
         ⊎_elim
-        (λ must. quorum_settled old.log.f (ready_shards old.log) old.next id quorum few_next (λ s lt says correct. facts.readies id s says lt correct must))
-        (λ said. quorum_settled old.log.f (signers old.log id Holds (writing old.log)) old.next id said few_next (λ s lt signed correct. facts.backs Next Holds id s moving (turn.live id certified.live).0 signed lt correct))
+        (λ must.
+        quorum_settled old.log.f (ready_shards old.log) old.next id quorum few_next
+        (λ s lt says correct. facts.readies id s says lt correct must))
+        (λ said.
+        quorum_settled old.log.f (signers old.log id Holds (writing old.log)) old.next id said few_next
+        (λ s lt signed correct. facts.backs Next Holds id s moving (turn.live id certified.live).0 signed lt correct))
         (turn.certified id certified) in
-        omega (arith, in_next, count_below-mono (committee_size old.log.f) (settled_in old.next id) (settled_in (after_dropping log old.next) id) (λ s lt h. rw (same_held s id certified.live) h))
+        let fewer =
+        count_below-mono (committee_size old.log.f) (settled_in old.next id)
+        (settled_in (after_dropping log old.next) id) (λ s lt h. rw (same_held s id certified.live) h) in
+        omega (arith, in_next, fewer)
