@@ -45,9 +45,11 @@ module _ (digest : List ℕ → List ℕ) (is : IsDigest digest) where
       let own = bytes_facts digest is f old facts bytes in
       let within : IsEventWithin (committee_size old.log.f) event = rw facts.sized_f fits.within in (
         facts_kept digest is.size f fits.most old event said new facts within step,
-        sure_world new (then (every_event b laws (total_of digest is f fits.least fits.most) old event own within are) (λ other.
+        sure_world new
+            (then (every_event b laws (total_of digest is f fits.least fits.most) old event own within are) (λ other.
             let kept = facts_step b laws old event other.0 other.1 own within other.2 in
             let plain = plain_step digest is f old event other.0 other.1 other.2 in
-            let same = one_step (rules_of digest f) (only_rules digest f) old event said other.0 new other.1 step plain in
+            let same =
+            one_step (rules_of digest f) (only_rules digest f) old event said other.0 new other.1 step plain in
             surely (rw same.1 (facts_bytes f other.1 kept)))),
       )

@@ -27,12 +27,16 @@ unfolding body_text
 body_bytes o are =
     bytes_joined (number_text w16 o.cross) (sized_part o) (number16_bytes o.cross)
     (bytes_joined (number_text w32 (length o.symbol)) (symbol_part o) (number32_bytes (length o.symbol))
-    (bytes_joined (counted_symbol o) o.path (bytes_joined o.symbol (number_text w8 (length o.path / 32)) are.symbol (number8_bytes (length o.path / 32))) are.path))
+    (bytes_joined (counted_symbol o) o.path
+    (bytes_joined o.symbol (number_text w8 (length o.path / 32)) are.symbol (number8_bytes (length o.path / 32)))
+    are.path))
 
 opening_bytes : (o : single.Opening) → AreBytes (body_text o) → OpeningBytes o
 unfolding body_text
 opening_bytes o are =
-    let symbol = bytes_behind (number_text w32 (length o.symbol)) (symbol_part o) (bytes_behind (number_text w16 o.cross) (sized_part o) are) in
+    let symbol =
+    bytes_behind (number_text w32 (length o.symbol)) (symbol_part o)
+    (bytes_behind (number_text w16 o.cross) (sized_part o) are) in
     record {
       symbol = bytes_before o.symbol (number_text w8 (length o.path / 32)) (bytes_before (counted_symbol o) o.path symbol);
       path = bytes_behind (counted_symbol o) o.path symbol;
@@ -62,14 +66,16 @@ unfolding proof_text
 proof_bytes p are =
     bytes_joined (number_text w8 (axis_number p.axis)) (indexed_part p) (number8_bytes (axis_number p.axis))
     (bytes_joined (number_text w16 p.index) (counted_part p) (number16_bytes p.index)
-    (bytes_joined (number_text w16 (length p.openings)) (flat_map body_text p.openings) (number16_bytes (length p.openings)) (bodies_bytes p.openings are)))
+    (bytes_joined (number_text w16 (length p.openings)) (flat_map body_text p.openings)
+    (number16_bytes (length p.openings)) (bodies_bytes p.openings are)))
 
 pub proof_openings : (p : EncodingProof) → AreBytes (proof_text p) → All OpeningBytes p.openings
 unfolding proof_text
 proof_openings p are =
     openings_of_bodies p.openings
     (bytes_behind (number_text w16 (length p.openings)) (flat_map body_text p.openings)
-    (bytes_behind (number_text w16 p.index) (counted_part p) (bytes_behind (number_text w8 (axis_number p.axis)) (indexed_part p) are)))
+    (bytes_behind (number_text w16 p.index) (counted_part p)
+    (bytes_behind (number_text w8 (axis_number p.axis)) (indexed_part p) are)))
 
 -- ---- payloads
 
@@ -89,7 +95,8 @@ opening_of payload id axis index o are reads =
 pub proof_carried : (digest : List ℕ → List ℕ) (id : List ℕ) (m : BlobMetadata) (payloads : List (List ℕ)) (p : EncodingProof) → All AreBytes payloads
     → IsFirstBadProof digest id m payloads p → AreBytes (proof_text p)
 proof_carried digest id m payloads p are (front, payload, back, parts, carries, none) =
-    proof_of payload id p (All-contains AreBytes payloads payload are (rw parts (Contains-append_right front (payload ∷ back) payload (0, omega arith, refl)))) carries.0
+    let there = Contains-append_right front (payload ∷ back) payload (0, omega arith, refl) in
+    proof_of payload id p (All-contains AreBytes payloads payload are (rw parts there)) carries.0
 
 -- and the openings
 chosen : (b : Bool) (o : single.Opening) → OpeningBytes o → All OpeningBytes (if b then o ∷ [] else [])
