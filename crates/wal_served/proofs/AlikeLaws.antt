@@ -27,7 +27,8 @@ module _ (digest : List ℕ → List ℕ) (old : ServedState) (frames : List (Li
   pub read_still : (also : Bool) (read : Result Frame FrameError) → AnswersRead digest false read old frames clash new → AnswersRead digest also read old frames clash new
   read_still also read h =
       read_as false also (λ frame (outcome, contents, put, told, then).
-      let still = puts_still digest _ old.shard.contents frame put.0 contents also put.1 in (outcome, contents, (put.0, still, put.2, put.3), told, then)) read h
+      let still = puts_still digest _ old.shard.contents frame put.0 contents also put.1 in
+      (outcome, contents, (put.0, still, put.2, put.3), told, then)) read h
 
   read_calm : (may_want : Bool) (read : Result Frame FrameError) → (TellsWant frames → ⊥) → AnswersRead digest may_want read old frames clash new → AnswersRead digest false read old frames clash new
   read_calm may_want read some h = read_as may_want false calm read h

@@ -73,9 +73,12 @@ module _ (digest : List ℕ → List ℕ) (name : List ℕ) (shard : ℕ) (p r :
 
   pub symbols_rest : (axis : Axis) (index : ℕ) (payloads : List (List ℕ)) → part_of r (sliver_part (crossing axis)) ≡ part_of p (sliver_part (crossing axis))
       → SymbolReplies digest name shard p axis index payloads → SymbolReplies digest name shard r axis index payloads
-  symbols_rest axis index payloads sliver (_, given m bytes o holds held less cross opens, is) = (_, given m bytes o (held_too m holds) (sliver ∙ held) less cross opens, rw (metadata, proof) is)
-  symbols_rest axis index payloads sliver (_, not_held none, is) = (_, not_held (sliver ∙ none), rw (metadata, proof) is)
-  symbols_rest axis index payloads sliver (_, no_shard m holds outside, is) = (_, no_shard m (held_too m holds) outside, rw (metadata, proof) is)
+  symbols_rest axis index payloads sliver (_, given m bytes o holds held less cross opens, is) =
+      (_, given m bytes o (held_too m holds) (sliver ∙ held) less cross opens, rw (metadata, proof) is)
+  symbols_rest axis index payloads sliver (_, not_held none, is) =
+      (_, not_held (sliver ∙ none), rw (metadata, proof) is)
+  symbols_rest axis index payloads sliver (_, no_shard m holds outside, is) =
+      (_, no_shard m (held_too m holds) outside, rw (metadata, proof) is)
 
 -- THE FOURTH LAW
 pub reads_rest_on : (digest : List ℕ → List ℕ) → ReadsRestOn digest

@@ -173,7 +173,8 @@ module _ (digest : List ℕ → List ℕ) (id : BlobId) (keeps : List ℕ → Bo
         by before_so true e =
             let calm_too = rw (split true e) at calm in
             let has_too = rw (split true e) at has in
-            let (calm_front, calm_last) = All-pop (λ (x : Turn). TellsWant x.answered → ⊥) (L ++ t ∷ []) L (Some t) refl calm_too in
+            let (calm_front, calm_last) =
+            All-pop (λ (x : Turn). TellsWant x.answered → ⊥) (L ++ t ∷ []) L (Some t) refl calm_too in
             let f = before_so calm_front (room_before L t has_too) in
             rw (split true e) (one_more L mid f t new fits e replies calm_last has_too)
 

@@ -24,4 +24,6 @@ symbol_true digest s d id axis index payloads frames clash is replied =
   where
     to : (shard : ℕ) → AsksFor (parts_at s.shard.contents (named id)) axis index shard → SymbolReply digest (named id) s.shard.index (parts_at s.shard.contents (named id)) axis shard payloads
     to shard (by_metadata m holds same) = replies m payloads holds (rw same at is)
-    to shard (of_nothing none bare) = rw (says_nothing digest id s.shard.index (parts_at s.shard.contents (named id)) axis index payloads none bare is) (silent none)
+    to shard (of_nothing none bare) =
+        let held = parts_at s.shard.contents (named id) in
+        rw (says_nothing digest id s.shard.index held axis index payloads none bare is) (silent none)

@@ -47,27 +47,35 @@ module _ (digest : List ℕ → List ℕ) (room sender : ℕ) (also : Bool) (oth
       let u = b.then in
       let n = put_id digest frame in
       let new = holding u (with_bytes u.shard.contents n (put_part frame) (stored_bytes frame)) in
-      let none_there : part_at u.shard.contents n (put_part frame) ≡ None = rw b.parts_are absent in
-      let verified : Verifies digest u.shard.f u.shard.index (parts_at u.shard.contents n) frame = simp (b.parts_are, b.index, b.f) verifies in
-      let accepted : IsAccepted digest (desk u.shard u.ledger.log) u.shard.contents frame = record { live = rw b.ledger lives; verified = verified } in
+      let bare : part_at u.shard.contents n (put_part frame) ≡ None = rw b.parts_are absent in
+      let verified : Verifies digest u.shard.f u.shard.index (parts_at u.shard.contents n) frame =
+      simp (b.parts_are, b.index, b.f) verifies in
+      let takes : IsAccepted digest (desk u.shard u.ledger.log) u.shard.contents frame =
+      record { live = rw b.ledger lives; verified = verified } in
+      let costs = stored_cost u.shard.contents n (put_part frame) (stored_bytes frame) bare in
       let free = has_room u.shard.limit (rw (← b.limit) at fit) in
       let answers : AnswersRequest digest also u (frame_text frame) (reply_text (done 0) ∷ []) None new =
       rw (read_again frame is)
       (put_row digest also frame u new (reply_text (done 0) ∷ []) None puts
-      (Ok (done 0), new.shard.contents, (putting.Stored, (accepted, none_there, free, refl), refl, tt), (refl, refl), refl)) in
+      (Ok (done 0), new.shard.contents, (putting.Stored, (takes, bare, free, refl), refl, tt), (refl, refl), refl)) in
       record {
         then = new;
-        fed = fed_one digest room sender also other sofar (frame_text frame) u new (reply_text (done 0) ∷ []) short_room b.fed within answers;
+        fed =
+            fed_one digest room sender also other sofar (frame_text frame) u new
+            (reply_text (done 0) ∷ []) short_room b.fed within answers;
         parts_are = rw (stored_there u.shard.contents n (put_part frame) (stored_bytes frame), b.parts_are);
         ledger = b.ledger;
         f = b.f;
         index = b.index;
         limit = b.limit;
-        pages_most = omega (arith, stored_cost u.shard.contents n (put_part frame) (stored_bytes frame) none_there, b.pages_most);
+        pages_most = omega (arith, costs, b.pages_most);
       }
     where
-      has_room : (limit : Option ℕ) → IfSome limit (λ most. cost_with base.shard.contents (put_id digest frame) + (pages + pages_for (length (stored_bytes frame))) ≤ most)
-          → HasRoom (free_of limit b.then.shard.contents) (needed_for b.then.shard.contents (put_id digest frame) (stored_bytes frame))
+      has_room : (limit : Option ℕ)
+          → IfSome limit (λ m.
+          cost_with base.shard.contents (put_id digest frame) + (pages + pages_for (length (stored_bytes frame))) ≤ m)
+          → HasRoom (free_of limit b.then.shard.contents)
+          (needed_for b.then.shard.contents (put_id digest frame) (stored_bytes frame))
       has_room None fits = tt
       has_room (Some most) fits = omega (arith, fits, b.pages_most)
 
@@ -147,16 +155,19 @@ none_of part = grind arith
 -- THE FIFTH LAW
 pub rebuilds : (digest : List ℕ → List ℕ) → Rebuilds digest
 rebuilds digest id room sender may_want also one other taken frames clash state placed nothing first served has =
-    let st = standing digest id room sender also one other placed nothing first may_want taken frames clash state served in
+    let st =
+    standing digest id room sender also one other placed nothing first may_want taken frames clash state served in
     let had = st.fed has.entries_fit in
     let base = had.then in
     let p = parts_at state.shard.contents id in
     let own = own_entries state.ledger.log id in
     let f_is : base.shard.f ≡ one.shard.f = rw had.shard first.faults in
     let index_is : base.shard.index ≡ one.shard.index = rw had.shard first.index in
-    let live : (bytes : List ℕ) (part : Part) → part_of p part ≡ Some bytes → is_live base.ledger.log id ≡ true = λ bytes part e.
+    let live : (bytes : List ℕ) (part : Part) → part_of p part ≡ Some bytes → is_live base.ledger.log id ≡ true =
+    λ bytes part e.
     same_live id state.ledger.log base.ledger.log had.ledgers
-    ∙ ⊎_elim (λ empty. absurd (none_some (part_of p part) bytes (rw empty.1 (none_of part)) e)) (λ now. lt-ltb (reading state.ledger.log) (until_of state.ledger.log id) now) st.live in
+    ∙ ⊎_elim (λ empty. absurd (none_some (part_of p part) bytes (rw empty.1 (none_of part)) e))
+    (λ now. lt-ltb (reading state.ledger.log) (until_of state.ledger.log id) now) st.live in
     let b = all_parts digest room sender also other base placed.fits id p (rw (f_is, index_is) st.sound) placed.named_by
     (rw f_is placed.some) (rw f_is placed.few) (rw f_is placed.enough) live (entry_payloads own)
     (record {
@@ -170,7 +181,8 @@ rebuilds digest id room sender may_want also one other taken frames clash state 
       pages_most = omega arith;
     })
     (rw had.shard has.pages_fit) in
-    let listed : (((entry_payloads own ++ metadata_reply p) ++ sliver_payload id.0 base.shard.index p axes.Primary) ++ sliver_payload id.0 base.shard.index p axes.Secondary) ++ proof_reply id.0 p ≡ kept_payloads id state
+    let listed : (((entry_payloads own ++ metadata_reply p) ++ sliver_payload id.0 base.shard.index p axes.Primary)
+    ++ sliver_payload id.0 base.shard.index p axes.Secondary) ++ proof_reply id.0 p ≡ kept_payloads id state
     = simp append_assoc (rw (index_is, st.index)) in (
       b.fed.answered,
       b.then,

@@ -49,13 +49,17 @@ enters digest also id s t _ a size few place some (to_claim kind shard may where
     within : shard < committee_size s.ledger.log.f
     within = ⊎_elim (λ is. is) (λ same. rw same place) where_it_is
 
+    most : shard ≤ 999
+    most = omega (arith, within, few)
+
     by : (k : Kind) (r : Reply) → Entered k t.ledger shard id r (takes_in t.ledger (claim_of k shard id)) → Enters digest also t (claim_of k shard id)
-    by Holds r h = record { frame = AckEntry shard id.0; is = refl; fits = record { id_size = size; index_most = omega (arith, within, few) }; only = tt; answered = _; answers = (r, _, h, (refl, refl), refl) }
-    by Denies r h = record { frame = AttestEntry shard id.0; is = refl; fits = record { id_size = size; index_most = omega (arith, within, few) }; only = tt; answered = _; answers = (r, _, h, (refl, refl), refl) }
+    by Holds r h = record { frame = AckEntry shard id.0; is = refl; fits = record { id_size = size; index_most = most }; only = tt; answered = _; answers = (r, _, h, (refl, refl), refl) }
+    by Denies r h = record { frame = AttestEntry shard id.0; is = refl; fits = record { id_size = size; index_most = most }; only = tt; answered = _; answers = (r, _, h, (refl, refl), refl) }
 
     claimed : (answer : AckAnswer) → Claims kind t.ledger shard id (acked answer) new → Enters digest also t (claim_of kind shard id)
     claimed answer h =
-        by kind (ack_reply answer) (of_committee _ _ (rw a.faults within) (of_claim kind t.ledger shard id _ new (answer, h, refl)))
+        by kind (ack_reply answer)
+        (of_committee _ _ (rw a.faults within) (of_claim kind t.ledger shard id _ new (answer, h, refl)))
 
 about_or_not : (o : Option BlobId) (id : BlobId) → (o ≡ Some id) ⊎ (o ≡ Some id → ⊥)
 about_or_not None id = inr (λ e. cc)
@@ -134,7 +138,9 @@ module _ (digest : List ℕ → List ℕ) (id : BlobId) (room sender : ℕ) (als
     faults = a.ledgers.faults ∙ st.faults;
     moving = a.ledgers.moving ∙ st.moving;
     sound = rw a.parts st.sound;
-    live = ⊎_elim (λ none. inl (a.ledgers.own ∙ none.0, a.parts ∙ none.1)) (λ now. inr (omega (arith, now, a.ledgers.epoch, ap until_among a.ledgers.own))) st.live;
+    live =
+        ⊎_elim (λ none. inl (a.ledgers.own ∙ none.0, a.parts ∙ none.1))
+        (λ now. inr (omega (arith, now, a.ledgers.epoch, ap until_among a.ledgers.own))) st.live;
     fed = λ few.
         let had = st.fed (rw a.ledgers.own at few) in
         record {
@@ -241,7 +247,8 @@ module _ (digest : List ℕ → List ℕ) (id : BlobId) (room sender : ℕ) (als
 
     changed : (payload : List ℕ) (frames : List (List ℕ)) (new : ServedState) → Change digest s (read_of payload) frames new → Standing new
     changed payload frames new change =
-        ⊎_elim (λ about. here about change) (λ not. alike_stands s new (changed_elsewhere digest id s (read_of payload) frames new not change) st)
+        ⊎_elim (λ about. here about change)
+        (λ not. alike_stands s new (changed_elsewhere digest id s (read_of payload) frames new not change) st)
         (about_or_not (about_read digest (read_of payload)) id)
       where
         here : about_read digest (read_of payload) ≡ Some id → Change digest s (read_of payload) frames new → Standing new

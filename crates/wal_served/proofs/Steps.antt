@@ -16,14 +16,17 @@ use Rattle.wal_served.proofs.ReadReplies.{read_true, symbol_true}
 register_does : (digest : List ℕ → List ℕ) (s : ServedState) (id : BlobId) (until : ℕ) (r : Reply) (new : LedgerState) (frames : List (List ℕ)) (clash : Option MetaClash)
     → Registered s.ledger id until r new → IsReplyOutcome (Ok r) frames clash → Does digest s (an_event (event.Register id until)) frames clash (with_ledger s new)
 register_does digest s id until r new frames clash (registering.Past, h, is) told =
-    takes digest s (with_ledger s new) (event.Register id until) frames clash (refused 15) (rw is at told) (line.Register id register.RefusedPast) refl refl
+    takes digest s (with_ledger s new) (event.Register id until) frames clash (refused 15) (rw is at told)
+    (line.Register id register.RefusedPast) refl refl
     (λ w. (refl, (h.0, world_same w (with_ledger s new) s (ledger_same s new h.1))))
 register_does digest s id until r new frames clash (registering.MovingExtension, h, is) told = absurd is
 register_does digest s id until r new frames clash (registering.Registered most, h, is) told =
-    takes digest s (with_ledger s new) (event.Register id until) frames clash (done most) (rw is at told) (line.Register id (register.Until most)) refl refl
+    takes digest s (with_ledger s new) (event.Register id until) frames clash (done most) (rw is at told)
+    (line.Register id (register.Until most)) refl refl
     (λ w. (refl, (h.0, ap (λ (l : LedgerState). world_of w (with_ledger s l)) h.2, h.3)))
 register_does digest s id until r new frames clash (registering.NoRoom, h, is) told =
-    lacks digest s (with_ledger s new) (event.Register id until) frames clash (refused 10) (rw is at told) (inr (inr refl)) (ledger_same s new h.2)
+    lacks digest s (with_ledger s new) (event.Register id until) frames clash (refused 10) (rw is at told)
+    (inr (inr refl)) (ledger_same s new h.2)
 
 -- ---- each row
 
@@ -63,7 +66,8 @@ module _ (digest : List ℕ → List ℕ) (may_want : Bool) (s : ServedState) (d
   -- what is refused changes nothing
   refused_same : (read : Result Frame FrameError) → Change digest s read frames new → (code a b : ℕ) → frames ≡ answer_text code a b ∷ [] → IsRefused code → new ≡ s
   refused_same read (no_change same) code a b only refused = same
-  refused_same read (entry_made q b about asks told may is) code m n only refused = absurd (made_stays code m n (rw only at told) refused)
+  refused_same read (entry_made q b about asks told may is) code m n only refused =
+      absurd (made_stays code m n (rw only at told) refused)
   refused_same read (part_stored frame reads part about told accepted absent is) code a b only refused =
       let made : tells_entry frames ≡ true = rw told refl in absurd (made_stays code a b (rw only at made) refused)
   refused_same read (slivers_went q about told is) code a b only refused =

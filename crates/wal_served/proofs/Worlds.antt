@@ -28,7 +28,8 @@ inside f own s lt ne =
 pub holds : (f own : ℕ) (m : Contents) → own < committee_size f → contents_of (alone f own m) own ≡ m
 unfolding with_contents
 holds f own m lt =
-    let long : length (empty_committee f (others f own)).shards ≡ committee_size f = length-map-range_with_len _ 0 (committee_size f) in
+    let long : length (empty_committee f (others f own)).shards ≡ committee_size f =
+    length-map-range_with_len _ 0 (committee_size f) in
     get_or-set_same (empty_committee f (others f own)).shards own m finmap.empty (omega (arith, lt, long))
 
 pub holds_parts : (f own : ℕ) (m : Contents) (id : BlobId) → own < committee_size f → held (alone f own m) own id ≡ parts_at m id
