@@ -1,5 +1,5 @@
 -- First completed answers stay, and each completed line shows them.
-use Rattle.wal_protocol.proofs.Common.{◌≡◌, ℕ, zero, suc, ◌<◌, List, [], ◌∷◌, length, get_or, Bool, true, false, cond, is_some, Option, Some, None, refl, sym, ap, ◌∙◌, subst, arith, get-insert, eq_by_cmp, eq_by_cmp_equiv, BlobId, id_cmp, Verdict, Event, Write, Read, Line, ids_total, First, Judged, Written, World, verdict_of, answered, Rules, AgreesWithFirst, Steps, is_collision, Runs, Shows, Agree, same_id}
+use Rattle.wal_protocol.proofs.Common.{◌≡◌, ℕ, zero, suc, ◌<◌, List, [], ◌∷◌, length, get_or, Bool, false, cond, Option, Some, None, refl, arith, get-insert, eq_by_cmp_equiv, BlobId, id_cmp, Verdict, Event, Write, Read, Line, ids_total, First, Judged, Written, World, verdict_of, answered, Rules, AgreesWithFirst, Steps, is_collision, Runs, Shows, Agree, same_id}
 use Rattle.std.specs.FinMap as finmap
 use Rattle.wal_evidence.specs.declared.evidence.Verdict.TheVariants as verdict
 use Rattle.wal_event.specs.declared.line.Line.TheVariants as line
@@ -16,35 +16,21 @@ pub record Tells (answers : finmap.FinMap id_cmp First) (id : BlobId) (told : Ve
 abbrev pub Stay : finmap.FinMap id_cmp First → finmap.FinMap id_cmp First → Type 0
 Stay old new = (id : BlobId) (answer : First) → finmap.get old id ≡ Some answer → finmap.get new id ≡ Some answer
 
--- an answer that agrees is told afterwards
-answered_tells : (answers : finmap.FinMap id_cmp First) (id : BlobId) (a : First) (told : Verdict) → verdict_of a ≡ told → AgreesWithFirst answers id told → Tells (answered answers id a) id told
-answered_tells answers id a told gives agrees = by (finmap.get answers id) refl
+-- a first answer that agrees is told afterwards
+answered_tells : (answers : finmap.FinMap id_cmp First) (id : BlobId) (a : First)
+    → AgreesWithFirst answers id (verdict_of a) → Tells (answered answers id a) id (verdict_of a)
+answered_tells answers id a agrees = by (finmap.get answers id) refl
   where
-    by : (o : Option First) → finmap.get answers id ≡ o → Tells (answered answers id a) id told
-    by (Some x) h = record {
-      answer = x;
-      first = ap (λ b. finmap.get (cond b answers (finmap.insert answers id a)) id) (ap is_some h) ∙ h;
-      gives = agrees x h;
-    }
+    by : (o : Option First) → finmap.get answers id ≡ o → Tells (answered answers id a) id (verdict_of a)
+    by (Some x) h = record { answer = x; first = rw h h; gives = agrees x h }
     by None h = record {
       answer = a;
-      first = ap (λ b. finmap.get (cond b answers (finmap.insert answers id a)) id) (ap is_some h) ∙ get-insert ids_total answers id a id ∙ ap (λ b. cond b (Some a) (finmap.get answers id)) ((eq_by_cmp_equiv ids_total).refl id);
-      gives = gives;
+      first = rw (h, get-insert ids_total answers id a id, (eq_by_cmp_equiv ids_total).refl id);
+      gives = refl;
     }
 
 answered_stay : (answers : finmap.FinMap id_cmp First) (id : BlobId) (a : First) → Stay answers (answered answers id a)
-answered_stay answers id a q x h = by (finmap.get answers id) refl
-  where
-    at : (b : Bool) → eq_by_cmp id_cmp q id ≡ b → finmap.get answers id ≡ None → cond b (Some a) (finmap.get answers q) ≡ Some x
-    at true same none = let e : Some x ≡ None = sym h ∙ ap (λ (i : BlobId). finmap.get answers i) (same_id q id same) ∙ none in cc
-    at false other none = h
-
-    by : (o : Option First) → finmap.get answers id ≡ o → finmap.get (answered answers id a) q ≡ Some x
-    by (Some y) is = ap (λ b. finmap.get (cond b answers (finmap.insert answers id a)) q) (ap is_some is) ∙ h
-    by None is = ap (λ b. finmap.get (cond b answers (finmap.insert answers id a)) q) (ap is_some is) ∙ get-insert ids_total answers id a q ∙ at (eq_by_cmp id_cmp q id) refl is
-
-abbrev Answers_of : World → finmap.FinMap id_cmp First
-Answers_of w = w.answers
+answered_stay answers id a q x h = grind (arith, get-insert ids_total answers id a q, same_id q id)
 
 module _ (r : Rules) where
   -- each step leaves first answers as they are
@@ -58,17 +44,15 @@ module _ (r : Rules) where
   -- a completed line shows the first answer
   pub answer_shown : (old : World) (event : Event) (said : Line) (new : World) (id : BlobId) (told : Verdict) → Steps r old event said new → Shows said id told → Tells new.answers id told
   answer_shown old (Read i replies) (line.Read j (reading_of.Bytes bytes)) new id told s shows =
-      subst (λ (q : BlobId). Tells new.answers q told) (sym s.0 ∙ shows.0)
-      (subst (λ (m : finmap.FinMap id_cmp First). Tells m i told) (sym (ap Answers_of s.1.state))
-      (let e : verdict.Bytes bytes ≡ told = cc (shows.1) in answered_tells old.answers i (Judged s.1.evidence (verdict.Bytes bytes)) told e (subst (λ (v : Verdict). AgreesWithFirst old.answers i v) e s.1.agrees)))
+      let e : told ≡ verdict.Bytes bytes = cc (shows.1) in
+      let tells = answered_tells old.answers i (Judged s.1.evidence (verdict.Bytes bytes)) s.1.agrees in
+      rw (s.1.state, ← shows.0, s.0, e) tells
   answer_shown old (Read i replies) (line.Read j reading_of.Reject) new id told s shows =
-      subst (λ (q : BlobId). Tells new.answers q told) (sym s.0 ∙ shows.0)
-      (subst (λ (m : finmap.FinMap id_cmp First). Tells m i told) (sym (ap Answers_of s.1.state))
-      (let e : verdict.Reject ≡ told = cc (shows.1) in answered_tells old.answers i (Judged s.1.evidence verdict.Reject) told e (subst (λ (v : Verdict). AgreesWithFirst old.answers i v) e s.1.agrees)))
+      let e : told ≡ verdict.Reject = cc (shows.1) in
+      let tells = answered_tells old.answers i (Judged s.1.evidence verdict.Reject) s.1.agrees in
+      rw (s.1.state, ← shows.0, s.0, e) tells
   answer_shown old (Write blob to) (line.Write j (write_word.Stored count bytes)) new id told s shows =
-      subst (λ (q : BlobId). Tells new.answers q told) shows.0
-      (subst (λ (m : finmap.FinMap id_cmp First). Tells m j told) (sym (ap Answers_of s.1.state))
-      (let e : verdict.Bytes blob ≡ told = ap verdict.Bytes (sym s.0) ∙ sym shows.1 in answered_tells old.answers j (Written blob) told e (subst (λ (v : Verdict). AgreesWithFirst old.answers j v) e s.1.agrees)))
+      rw (s.1.state, ← shows.0, shows.1, s.0) (answered_tells old.answers j (Written blob) s.1.agrees)
   answer_shown old event said new id told s shows = grind arith
 
 -- the state after the last step
@@ -76,43 +60,35 @@ abbrev pub last : World → List World → World
 last w [] = w
 last w (next ∷ states) = last next states
 
--- first answers stay over a run
-pub answers_last : (r : Rules) (old : World) (events : List Event) (states : List World) (lines : List Line) → Runs r old events states lines → Stay old.answers (last old states).answers
-answers_last r old [] [] [] run id a h = h
-answers_last r old (event ∷ events) (new ∷ states) (said ∷ lines) run id a h = by (is_collision said) run.1 (λ rest. answers_last r new events states lines rest id a here)
-  where
-    here : finmap.get new.answers id ≡ Some a
-    here = answers_stay r old event said new run.0 id a h
+-- what is left of a run: nothing after a collision
+abbrev pub Left : Rules → Bool → World → List Event → List World → List Line → Type 0
+Left r stops old events states lines = cond stops ((states ≡ []) × (lines ≡ [])) (Runs r old events states lines)
 
-    by : (b : Bool) → cond b ((states ≡ []) × (lines ≡ [])) (Runs r new events states lines) → (Runs r new events states lines → finmap.get (last new states).answers id ≡ Some a) → finmap.get (last new states).answers id ≡ Some a
-    by true ends go = subst (λ (l : List World). finmap.get (last new l).answers id ≡ Some a) (sym ends.0) here
-    by false rest go = go rest
-answers_last r old events states lines run id a h = absurd run
+-- first answers stay over it
+answers_last : (r : Rules) (old : World) (events : List Event) (states : List World) (lines : List Line) (stops : Bool)
+    → Left r stops old events states lines → Stay old.answers (last old states).answers
+answers_last r old events [] lines stops run id a h = h
+answers_last r old (event ∷ events) (new ∷ states) (said ∷ lines) false run id a h =
+    answers_last r new events states lines (is_collision said) run.1 id a
+    (answers_stay r old event said new run.0 id a h)
+answers_last r old events states lines stops run id a h = absurd (grind arith)
 
--- each completed line of a run shows the answer that stands at its end
-shown_at : (r : Rules) (old : World) (events : List Event) (states : List World) (lines : List Line) (k : ℕ) (said : Line) (id : BlobId) (told : Verdict) → Runs r old events states lines
-    → k < length lines → get_or lines k said ≡ said → Shows said id told → Tells (last old states).answers id told
-shown_at r old (event ∷ events) (new ∷ states) (first ∷ lines) zero said id told run lt at shows = by (is_collision first) run.1
-  where
-    here : Tells new.answers id told
-    here = answer_shown r old event first new id told run.0 (subst (λ (l : Line). Shows l id told) (sym at) shows)
-
-    by : (b : Bool) → cond b ((states ≡ []) × (lines ≡ [])) (Runs r new events states lines) → Tells (last new states).answers id told
-    by true ends = subst (λ (l : List World). Tells (last new l).answers id told) (sym ends.0) here
-    by false rest = record { answer = here.answer; first = answers_last r new events states lines rest id here.answer here.first; gives = here.gives }
-shown_at r old (event ∷ events) (new ∷ states) (first ∷ lines) (suc k) said id told run lt at shows = by (is_collision first) run.1 (λ rest. shown_at r new events states lines k said id told rest (omega arith) at shows)
-  where
-    by : (b : Bool) → cond b ((states ≡ []) × (lines ≡ [])) (Runs r new events states lines) → (Runs r new events states lines → Tells (last new states).answers id told) → Tells (last new states).answers id told
-    by true ends go = absurd (omega (arith, lt, ap (λ (l : List Line). length l) ends.1))
-    by false rest go = go rest
-shown_at r old [] [] [] k said id told run lt at shows = absurd (omega arith)
-shown_at r old events states lines k said id told run lt at shows = absurd run
+-- each completed line of it shows the answer that stands at its end
+shown_at : (r : Rules) (old : World) (events : List Event) (states : List World) (lines : List Line) (stops : Bool)
+    → Left r stops old events states lines → (k : ℕ) (said : Line)
+    → k < length lines → get_or lines k said ≡ said → (id : BlobId) (told : Verdict) → Shows said id told
+    → Tells (last old states).answers id told
+shown_at r old (event ∷ events) (new ∷ states) (first ∷ lines) false run zero said lt at id told shows =
+    let here = answer_shown r old event first new id told run.0 (rw at shows) in
+    let stays = answers_last r new events states lines (is_collision first) run.1 id here.answer here.first in
+    record { answer = here.answer; first = stays; gives = here.gives }
+shown_at r old (event ∷ events) (new ∷ states) (first ∷ lines) false run (suc k) said lt at id told shows =
+    shown_at r new events states lines (is_collision first) run.1 k said (omega arith) at id told shows
+shown_at r old events states lines stops run k said lt at id told shows = absurd (grind arith)
 
 -- all completed lines for one identifier agree, whatever the number of faulty shards
 pub agree : (r : Rules) (old : World) (events : List Event) (states : List World) (lines : List Line) → Runs r old events states lines → Agree lines
 agree r old events states lines run a b id told other in_a in_b shows_a shows_b =
-    let one = shown_at r old events states lines in_a.0 a id told run in_a.1 in_a.2 shows_a in
-    let two = shown_at r old events states lines in_b.0 b id other run in_b.1 in_b.2 shows_b in
-    let both : Some one.answer ≡ Some two.answer = sym one.first ∙ two.first in
-    let same : one.answer ≡ two.answer = cc in
-    sym one.gives ∙ ap verdict_of same ∙ two.gives
+    let one = shown_at r old events states lines false run in_a.0 a in_a.1 in_a.2 id told shows_a in
+    let two = shown_at r old events states lines false run in_b.0 b in_b.1 in_b.2 id other shows_b in
+    cc (one.first, two.first, one.gives, two.gives)

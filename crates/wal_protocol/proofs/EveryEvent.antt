@@ -1,5 +1,8 @@
 -- Every event in a state that has the facts has a step, and every schedule has a run, where the answers of the crates below are there.
-use Rattle.wal_protocol.proofs.Common.{◌≡◌, ◌⊎◌, ℕ, ◌+◌, ◌<◌, Bool, true, false, cond, ◌&&◌, nat_le, nat_lt, is_some, List, [], ◌∷◌, ◌++◌, map, Option, Some, None, All, Contains, refl, sym, ap, subst, ◌∙◌, arith, ⊎_elim, inl, inr, true≢false, AllByRecursion, and_parts, ltb-true, false≢true, All-nil, All-cons, All-head, All-tail, All-append, Contains-append_right, BlobId, Axis, Side, ascends_from, Evidence, Verdict, Frame, IsEventWithin, IsSchedule, Event, Register, Write, Send, Ack, Attest, Read, Recover, Forget, Begin, Ready, Finish, Certificate, Holders, Reply, Schedule, Line, ReadWord, RecoverWord, committee_size, Log, is_live, Parts, Contents, PutAnswer, First, Judged, Written, Committee, World, side_of, with_side, writing_side, is_correct, contents_of, held, with_contents, keeps, holders, verdict_of, answered, Rules, is_clash, PutsEach, letters, stored_at, AgreesWithFirst, Differs, WriteStep, WriteCollides, read_payloads, reply_payloads, ReadCompletes, ReadStep, told_by, two_metadata, other_answer, IsReplyOf, AreReplies, RecoveryRuns, RecoverStep, RecoverCollides, Steps, first_state, is_collision, Runs, Facts, Laws, Possible, AreBytes, ReplyHasBytes, HasBytes, HasStep, HasRun}
+use Rattle.wal_protocol.proofs.Common.{◌≡◌, ◌⊎◌, ℕ, ◌+◌, ◌<◌, Bool, true, false, cond, is_some, List, [], ◌∷◌, ◌++◌, map, Option, Some, None, All, Contains, refl, sym, ap, subst, ◌∙◌, ⊎_elim, inl, inr, true≢false, AllByRecursion, false≢true, All-nil, All-cons, All-head, All-tail, All-append, BlobId, Axis, Side, ascends_from, Evidence, Verdict, Frame, IsEventWithin, IsSchedule, Event, Register, Write, Send, Ack, Attest, Read, Recover, Forget, Begin, Ready, Finish, Certificate, Holders, Reply, Schedule, Line, ReadWord, RecoverWord, committee_size, Log, is_live, Parts, Contents, PutAnswer, First, Judged, Written, Committee, World, side_of, with_side, writing_side, is_correct, contents_of, held, with_contents, keeps, holders, verdict_of, answered, Rules, is_clash, PutsEach, letters, stored_at, AgreesWithFirst, Differs, WriteStep, WriteCollides, read_payloads, reply_payloads, ReadCompletes, ReadStep, told_by, two_metadata, other_answer, IsReplyOf, AreReplies, RecoveryRuns, RecoverStep, RecoverCollides, Steps, first_state, is_collision, Runs, Facts, Laws, Possible, AreBytes, ReplyHasBytes, HasBytes, HasStep, HasRun, arith}
+use Rattle.std.proofs.lemmas.Bool.Decides.{nat_tests}
+use Rattle.std.proofs.lemmas.List.Elements.{All-map, Contains-get_or}
+use Rattle.wal_protocol.specs.Step.{IsWrite}
 use Rattle.std.specs.FinMap as finmap
 use Rattle.wal_evidence.specs.declared.evidence.Verdict.TheVariants as verdict
 use Rattle.wal_event.specs.declared.event.Reply.TheVariants as reply
@@ -28,10 +31,7 @@ Came r log c puts = (clashed : Bool) × (new : Committee) × PutsEach r log c pu
 -- numbers that ascend are below their bound
 below_bound : (low n : ℕ) (xs : List ℕ) → ascends_from low n xs ≡ true → AllByRecursion (λ s. s < n) xs
 below_bound low n [] up = tt
-below_bound low n (x ∷ xs) up =
-    let here = and_parts (nat_le low x) (nat_lt x n && ascends_from (x + 1) n xs) up in
-    let rest = and_parts (nat_lt x n) (ascends_from (x + 1) n xs) here.1 in
-    (ltb-true x n rest.0, below_bound (x + 1) n xs rest.1)
+below_bound low n (x ∷ xs) up = grind (arith, nat_tests, below_bound (x + 1) n xs)
 
 module _ (r : Rules) (laws : Laws r) (total : Total r) where
   -- ---- puts
@@ -39,11 +39,13 @@ module _ (r : Rules) (laws : Laws r) (total : Total r) where
   abbrev CanPut : Log → ℕ × Frame → Type 0
   CanPut log p = IsAnswered r log p.0 p.1
 
-  every_puts : (log : Log) (c : Committee) (puts : List (ℕ × Frame)) → AreSound r c → AllByRecursion (CanPut log) puts → Possible (Came r log c puts)
+  every_puts : (log : Log) (c : Committee) (puts : List (ℕ × Frame)) → AreSound r c → All (CanPut log) puts
+      → Possible (Came r log c puts)
   every_puts log c [] sound can = surely (false, c, (refl, refl), λ fails. absurd (false≢true fails))
   every_puts log c (p ∷ more) sound can =
-      then (can.0 (contents_of c p.0) (sound_contents r c p.0 sound)) (λ answer.
-      by answer.0 answer.1 answer.2 (is_clash answer.0) refl (λ mid grown. every_puts log mid more grown can.1))
+      then (All-head (CanPut log) p more can (contents_of c p.0) (sound_contents r c p.0 sound)) (λ answer.
+      by answer.0 answer.1 answer.2 (is_clash answer.0) refl
+      (λ mid grown. every_puts log mid more grown (All-tail (CanPut log) p more can)))
     where
       by : (answer : PutAnswer) (new : Contents) → r.Puts log p.0 (contents_of c p.0) p.1 answer new → (b : Bool) → is_clash answer ≡ b
           → ((mid : Committee) → AreSound r mid → Possible (Came r log mid more)) → Possible (Came r log c (p ∷ more))
@@ -70,70 +72,76 @@ module _ (r : Rules) (laws : Laws r) (total : Total r) where
 
   -- ---- honest writes
 
-  letters_can : (log : Log) (w : World) (side : Side) (message : ℕ → List Frame) (to : List ℕ) → AllByRecursion (λ s. (frame : Frame) → Contains (message s) frame → CanPut log (s, frame)) to
-      → AllByRecursion (CanPut log) (letters w side message to)
-  letters_can log w side message [] can = tt
-  letters_can log w side message (s ∷ to) can = both _ _ (addressed (is_correct side w s)) (letters_can log w side message to can.1)
+  letters_can : (log : Log) (w : World) (side : Side) (message : ℕ → List Frame) (n : ℕ) (to : List ℕ)
+      → ((s : ℕ) (frame : Frame) → s < n → Contains (message s) frame → CanPut log (s, frame))
+      → AllByRecursion (λ s. s < n) to → All (CanPut log) (letters w side message to)
+  letters_can log w side message n [] can within = All-nil (CanPut log)
+  letters_can log w side message n (s ∷ to) can within =
+      All-append (CanPut log) (cond (is_correct side w s) (map (λ frame. (s, frame)) (message s)) [])
+      (letters w side message to)
+      (addressed (is_correct side w s)) (letters_can log w side message n to can within.1)
     where
-      each : (frames : List Frame) → ((frame : Frame) → Contains frames frame → CanPut log (s, frame)) → AllByRecursion (CanPut log) (map (λ frame. (s, frame)) frames)
-      each [] can = tt
-      each (x ∷ frames) can = (can x (0, omega arith, refl), each frames (λ frame has. can frame (Contains-append_right (x ∷ []) frames frame has)))
-
-      addressed : (b : Bool) → AllByRecursion (CanPut log) (cond b (map (λ frame. (s, frame)) (message s)) [])
-      addressed true = each (message s) can.0
-      addressed false = tt
-
-      both : (xs ys : List (ℕ × Frame)) → AllByRecursion (CanPut log) xs → AllByRecursion (CanPut log) ys → AllByRecursion (CanPut log) (xs ++ ys)
-      both [] ys first rest = rest
-      both (x ∷ xs) ys first rest = (first.0, both xs ys first.1 rest)
-
-  each_shard : (n : ℕ) (P : ℕ → Type 0) → ((s : ℕ) → s < n → P s) → (to : List ℕ) → AllByRecursion (λ s. s < n) to → AllByRecursion P to
-  each_shard n P all [] within = tt
-  each_shard n P all (s ∷ to) within = (all s within.0, each_shard n P all to within.1)
+      addressed : (b : Bool) → All (CanPut log) (cond b (map (λ frame. (s, frame)) (message s)) [])
+      addressed true =
+          All-map (CanPut log) (λ frame. (s, frame)) (message s)
+          (λ k d lt. can s _ within.0 (Contains-get_or (message s) k d lt))
+      addressed false = All-nil (CanPut log)
 
   every_write : (old : World) (blob to : List ℕ) → Facts r old → IsEventWithin (committee_size old.log.f) (Write blob to) → AreBytes blob → Possible (HasStep r old (Write blob to))
   every_write old blob to facts fit bytes =
       then (total.message old.format blob fit.0 bytes) (λ m.
       then (every_puts old.log (side_of side old) (letters old side m.1 to) (facts.sound side) (can m.0 m.1 m.2)) (λ came.
-      ends m.0 m.1 m.2 came.0 came.1 came.2 came.3))
+      ends m.0 came.0 (record { message = m.1; honest = m.2; mid = came.1; puts = came.2 }) came.3))
     where
       side : Side
       side = writing_side old
 
-      can : (id : BlobId) (message : ℕ → List Frame) → r.IsMessage old.format blob id message → AllByRecursion (CanPut old.log) (letters old side message to)
+      can : (id : BlobId) (message : ℕ → List Frame) → r.IsMessage old.format blob id message
+          → All (CanPut old.log) (letters old side message to)
       can id message honest =
-          letters_can old.log old side message to
-          (each_shard (committee_size old.log.f) (λ s. (frame : Frame) → Contains (message s) frame → CanPut old.log (s, frame))
-          (λ s lt frame has. total.put_message old.format blob id message honest old.log s (subst (λ (f : ℕ). s < committee_size f) facts.sized_f lt) frame has)
-          to (below_bound 0 (committee_size old.log.f) to fit.1))
+          letters_can old.log old side message (committee_size old.log.f) to
+          (λ s frame lt has.
+          total.put_message old.format blob id message honest old.log s (rw (← facts.sized_f) lt) frame has)
+          (below_bound 0 (committee_size old.log.f) to fit.1)
 
-      ends : (id : BlobId) (message : ℕ → List Frame) → r.IsMessage old.format blob id message → (clashed : Bool) (mid : Committee)
-          → PutsEach r old.log (side_of side old) (letters old side message to) clashed mid → (clashed ≡ true → HasCollision r) → Possible (HasStep r old (Write blob to))
-      ends id message honest true mid puts collides =
-          let clash = collides refl in
-          let new : World = with_side side old mid in
-          let is : WriteCollides r old blob to new =
-          record { id = id; clashed = true; write = record { message = message; honest = honest; mid = mid; puts = puts }; differs = (λ fails. absurd (true≢false fails)); state = refl } in
-          surely (line.Collision clash.0 clash.1, new, (clash.2, is))
-      ends id message honest false mid puts collides =
-          then (every_answer old id (Written blob) facts (laws.write_backed old.format blob id message honest)) (λ e. ⊎_elim
+      stops : HasCollision r → (id : BlobId) (clashed : Bool) (write : IsWrite r old blob to id clashed)
+          → (clashed ≡ false → Differs old.answers id (verdict.Bytes blob)) → Possible (HasStep r old (Write blob to))
+      stops clash id clashed write differs =
+          let is : WriteCollides r old blob to (with_side side old write.mid) =
+          record { id = id; clashed = clashed; write = write; differs = differs; state = refl } in
+          surely (line.Collision clash.0 clash.1, with_side side old write.mid, (clash.2, is))
+
+      ends : (id : BlobId) (clashed : Bool) → IsWrite r old blob to id clashed → (clashed ≡ true → HasCollision r)
+          → Possible (HasStep r old (Write blob to))
+      ends id true write collides = stops (collides refl) id true write (λ fails. absurd (true≢false fails))
+      ends id false write collides =
+          let backed = laws.write_backed old.format blob id write.message write.honest in
+          then (every_answer old id (Written blob) facts backed) (λ e. ⊎_elim
           (λ agrees.
-          let new : World = record (with_side side old mid) { answers = answered old.answers id (Written blob) } in
-          let count = stored_at r new side message to id in
-          let is : WriteStep r old blob to id count new = record { write = record { message = message; honest = honest; mid = mid; puts = puts }; agrees = agrees; state = refl; counted = refl } in
+          let new : World =
+          record (with_side side old write.mid) { answers = answered old.answers id (Written blob) } in
+          let count = stored_at r new side write.message to id in
+          let is : WriteStep r old blob to id count new =
+          record { write = write; agrees = agrees; state = refl; counted = refl } in
           surely (line.Write id (write_word.Stored count blob), new, (refl, is)))
-          (λ differ.
-          let clash = differ.1 in
-          let new : World = with_side side old mid in
-          let is : WriteCollides r old blob to new =
-          record { id = id; clashed = false; write = record { message = message; honest = honest; mid = mid; puts = puts }; differs = (λ same. differ.0); state = refl } in
-          surely (line.Collision clash.0 clash.1, new, (clash.2, is)))
+          (λ differ. stops differ.1 id false write (λ same. differ.0))
           e)
 
   -- ---- bytes sent
 
   every_send : (old : World) (side : Side) (shard : ℕ) (bytes : List ℕ) → Facts r old → AreBytes bytes → Possible (HasStep r old (Send side shard bytes))
-  every_send old side shard bytes facts are = by (standing old side shard)
+  every_send old side shard bytes facts are = elim (standing old side shard) [
+    | absent none ↦ surely (line.Send shard sending.Absent, old, (refl, (none, refl)))
+    | ignored faulty ↦ surely (line.Send shard sending.Ignored, old, (refl, (faulty, refl)))
+    | correct sound ↦
+        by_cases ((frame : Frame) × r.IsPutFrame bytes frame)
+        (λ found.
+        then
+        (total.put_read bytes found.0 are found.1 old.log shard (contents_of (side_of side old) shard)
+        (sound_contents r (side_of side old) shard (facts.sound side)))
+        (λ put. answers sound found.0 found.1 put.0 put.1 put.2))
+        (λ none. surely (line.Send shard sending.Malformed, old, (refl, (sound, (λ frame is. none (frame, is)), refl))))
+  ]
     where
       answers : is_correct side old shard ≡ true → (frame : Frame) → r.IsPutFrame bytes frame → (answer : PutAnswer) (contents : Contents)
           → r.Puts old.log shard (contents_of (side_of side old) shard) frame answer contents → Possible (HasStep r old (Send side shard bytes))
@@ -144,16 +152,6 @@ module _ (r : Rules) (laws : Laws r) (total : Total r) where
       answers sound frame is (putting.Full needed free) contents puts = absurd (total.put_room old.log shard (contents_of (side_of side old) shard) contents frame (putting.Full needed free) puts)
       answers sound frame is putting.Memory contents puts = absurd (total.put_room old.log shard (contents_of (side_of side old) shard) contents frame putting.Memory puts)
       answers sound frame is refusal contents puts = surely (line.Send shard (sent_word refusal), old, (refl, (frame, contents, (sound, is, puts), refl)))
-
-      by : Standing old side shard → Possible (HasStep r old (Send side shard bytes))
-      by (absent none) = surely (line.Send shard sending.Absent, old, (refl, (none, refl)))
-      by (ignored faulty) = surely (line.Send shard sending.Ignored, old, (refl, (faulty, refl)))
-      by (correct sound) =
-          by_cases ((frame : Frame) × r.IsPutFrame bytes frame)
-          (λ found.
-          then (total.put_read bytes found.0 are found.1 old.log shard (contents_of (side_of side old) shard) (sound_contents r (side_of side old) shard (facts.sound side)))
-          (λ put. answers sound found.0 found.1 put.0 put.1 put.2))
-          (λ none. surely (line.Send shard sending.Malformed, old, (refl, (sound, (λ frame is. none (frame, is)), refl))))
 
   -- ---- reads
 

@@ -1,5 +1,5 @@
 -- Events of the ledger and the epoch come to a word and a state.
-use Rattle.wal_protocol.proofs.Common.{◌≡◌, ◌⊎◌, ℕ, zero, suc, ◌+◌, ◌<◌, ◌≤◌, Bool, true, false, not, ◌&&◌, List, refl, sym, ap, subst, ◌∙◌, arith, ⊎_elim, inl, inr, true≢false, cases_lt, BlobId, Side, among, CertificateWord, Kind, Holds, Denies, quorum_size, is_moving, reading, writing, until_of, is_live, signers, signer_count, IsCertified, ready_shards, ready_total, entered, is_moving_extension, MayClaim, claim_of, settled, backs, MayForget, without_slivers, World, side_of, writing_side, is_present, is_correct, contents_of, held, keeps, RegisterStep, IsIgnored, MayPost, Declines, ClaimStep, AckStep, AttestStep, ForgetStep, BeginStep, HoldsAll, MayBeReady, IsUnready, ReadyStep, FinishStep, CertificateStep, Possible}
+use Rattle.wal_protocol.proofs.Common.{◌≡◌, ◌⊎◌, ℕ, zero, suc, ◌+◌, ◌<◌, ◌≤◌, Bool, true, false, List, refl, sym, ◌∙◌, arith, ⊎_elim, inl, inr, true≢false, cases_lt, BlobId, Side, CertificateWord, Kind, Holds, Denies, quorum_size, is_moving, reading, writing, until_of, is_live, signers, signer_count, IsCertified, ready_shards, ready_total, entered, is_moving_extension, MayClaim, claim_of, settled, backs, MayForget, without_slivers, World, side_of, writing_side, is_present, is_correct, contents_of, held, keeps, RegisterStep, IsIgnored, MayPost, Declines, ClaimStep, AckStep, AttestStep, ForgetStep, BeginStep, HoldsAll, MayBeReady, IsUnready, ReadyStep, FinishStep, CertificateStep, Possible}
 use Rattle.wal_event.specs.declared.line.RegisterWord.{RegisterWord}
 use Rattle.wal_event.specs.declared.line.RegisterWord.TheVariants as registering
 use Rattle.wal_event.specs.declared.line.AckWord.{AckWord}
@@ -109,25 +109,19 @@ pub data Standing (w : World) (side : Side) (shard : ℕ) : Type 0 where
   correct : is_correct side w shard ≡ true → Standing w side shard
 
 pub standing : (w : World) (side : Side) (shard : ℕ) → Standing w side shard
-standing w side shard =
-    ⊎_elim
-    (λ present. ⊎_elim
-    (λ faulty. ignored (present, faulty))
-    (λ sound. correct (ap (λ (b : Bool). b && not (among (side_of side w).faulty shard)) present ∙ ap not sound))
-    (truth (among (side_of side w).faulty shard)))
-    absent
-    (truth (is_present side w))
+standing w side shard = grind (arith, absent, ignored, correct)
 
 pub every_forget : (old : World) (side : Side) (shard : ℕ) (id : BlobId) → Possible ((word : ForgetWord) × (new : World) × ForgetStep old side shard id word new)
-every_forget old side shard id = by (standing old side shard)
-  where
-    by : Standing old side shard → Possible ((word : ForgetWord) × (new : World) × ForgetStep old side shard id word new)
-    by (absent none) = surely (forgetting.Absent, old, (none, refl))
-    by (ignored faulty) = surely (forgetting.Ignored, old, (faulty, refl))
-    by (correct sound) =
-        by_cases (MayForget old.log (contents_of (side_of side old) shard) id)
-        (λ may. surely (forgetting.Done, keeps old side shard (without_slivers (contents_of (side_of side old) shard) id), (sound, may, refl)))
-        (λ none. surely (forgetting.Declined, old, (sound, none, refl)))
+every_forget old side shard id = elim (standing old side shard) [
+  | absent none ↦ surely (forgetting.Absent, old, (none, refl))
+  | ignored faulty ↦ surely (forgetting.Ignored, old, (faulty, refl))
+  | correct sound ↦
+      by_cases (MayForget old.log (contents_of (side_of side old) shard) id)
+      (λ may.
+      let left = without_slivers (contents_of (side_of side old) shard) id in
+      surely (forgetting.Done, keeps old side shard left, (sound, may, refl)))
+      (λ none. surely (forgetting.Declined, old, (sound, none, refl)))
+]
 
 -- ---- the change of the epoch
 
@@ -175,7 +169,7 @@ first_enough count quorum zero = inl (λ k lt. absurd (omega arith))
 first_enough count quorum (suc n) =
     ⊎_elim
     (λ none. ⊎_elim
-    (λ less. inl (λ k lt. ⊎_elim (λ below. none k below) (λ past. let same : n ≡ k = omega arith in subst (λ (j : ℕ). count j < quorum) same less) (cases_lt k n)))
+    (λ less. inl (λ k lt. grind (arith, none k)))
     (λ enough. inr (n, enough, none))
     (cases_lt (count n) quorum))
     (λ found. inr found)

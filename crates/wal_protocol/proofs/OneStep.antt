@@ -257,26 +257,25 @@ module _ (r : Rules) (only : Only r) where
         front = [];
         one = a;
         other = b;
-        ends = ap (λ (zs : List Line). a ∷ zs) p.1;
-        ends_too = ap (λ (zs : List Line). b ∷ zs) q.1;
+        ends = rw p.1;
+        ends_too = rw q.1;
         collides = sym is_a;
         collides_too = sym is_b;
       })
   lines_rest false false events x y a b s t xs ys is_a is_b same rest p q =
-      let state : x ≡ y = same.1 in
       let said : a ≡ b = same.0.1 (sym is_a) in
       ⊎_elim
-      (λ equal. inl (ap (λ (z : Line). z ∷ xs) said ∙ ap (λ (zs : List Line). b ∷ zs) equal))
+      (λ equal. inl (cc))
       (λ apart. inr (record {
         front = b ∷ apart.front;
         one = apart.one;
         other = apart.other;
-        ends = ap (λ (z : Line). z ∷ xs) said ∙ ap (λ (zs : List Line). b ∷ zs) apart.ends;
-        ends_too = ap (λ (zs : List Line). b ∷ zs) apart.ends_too;
+        ends = rw (said, apart.ends);
+        ends_too = rw apart.ends_too;
         collides = apart.collides;
         collides_too = apart.collides_too;
       }))
-      (rest (subst (λ (w : World). Runs r w events s xs) state p) q)
+      (rest (rw same.1 at p) q)
   lines_rest k j events x y a b s t xs ys is_a is_b same rest p q = absurd (grind arith)
 
   -- A RUN leaves no choice but the texts of its collision

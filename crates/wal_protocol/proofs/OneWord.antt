@@ -1,5 +1,5 @@
 -- What a step needs of the crates below to be one; and a certificate is one word.
-use Rattle.wal_protocol.proofs.Common.{◌≡◌, ℕ, ◌≤◌, false, List, Option, sym, ap, subst, ◌∙◌, arith, BlobId, Axis, Evidence, Frame, ReadWord, RecoverWord, CertificateWord, Holds, quorum_size, Log, signer_count, Parts, Contents, PutAnswer, World, Rules, is_clash, CertificateStep}
+use Rattle.wal_protocol.proofs.Common.{◌≡◌, ℕ, ◌≤◌, false, List, Option, sym, ap, subst, ◌∙◌, arith, BlobId, Axis, Evidence, Frame, ReadWord, RecoverWord, CertificateWord, quorum_size, Log, Parts, Contents, PutAnswer, World, Rules, is_clash, CertificateStep}
 use Rattle.wal_shape.specs.declared.shape.Format.{Format}
 use Rattle.wal_event.specs.declared.line.CertificateWord.TheVariants as certifying
 
@@ -28,8 +28,6 @@ pub one_certificate : (w : World) (id : BlobId) (a b : CertificateWord) → Cert
 one_certificate w id (certifying.Certified e i) (certifying.Certified g j) a b =
     let early = a.least g in
     let late = b.least e in
-    let same : e ≡ g = grind arith in
-    let counts : i ≡ j = a.counted ∙ ap (signer_count w.log id Holds) same ∙ sym b.counted in
     grind arith
 one_certificate w id (certifying.Certified e i) (certifying.Pending j) a b =
     absurd (b.0 (record { live = a.live; quorum = (e, subst (λ (k : ℕ). quorum_size w.log.f ≤ k) a.counted a.quorum) }))

@@ -1,5 +1,6 @@
 -- Each step keeps the facts.
-use Rattle.wal_protocol.proofs.Common.{◌≡◌, ◌≢◌, ℕ, zero, suc, ◌<◌, List, [], ◌∷◌, length, Bool, true, false, cond, not, ◌&&◌, ◌||◌, nat_eq, nat_lt, Some, IsTrue, ◌⊎◌, inl, inr, refl, sym, ap, ◌∙◌, subst, arith, list_all, get-insert, eq_by_cmp, and_parts, and_from, or_cases, or_left, or_right, eqb-true, not-true, cases_eq, BlobId, Axis, Side, Now, Next, id_cmp, among, are_owners, is_closed, is_ascending, is_committee, has_neighbour, every_below, node_of, Verdict, IsEventWithin, Event, Register, Write, Send, Ack, Attest, Read, Recover, Forget, Begin, Ready, Finish, Reply, Line, ReadWord, RecoverWord, Kind, committee_size, writing, owners_at, owners_of, same_node, claim_of, ids_total, ClaimsFor, register_enters, claim_enters, ready_enters, Parts, parts_at, settled_by_slivers, has_proof, backs, without_slivers, First, Judged, Written, Committee, World, side_of, with_side, is_present, epoch_of, writing_side, is_correct, contents_of, held, with_contents, answered, Rules, WriteStep, WriteCollides, ClaimStep, ReadCompletes, told_by, Gains, ForgetStep, Steps, Facts, backed, Laws, forgotten, same_id}
+use Rattle.wal_protocol.proofs.Common.{◌≡◌, ℕ, zero, suc, ◌<◌, List, [], ◌∷◌, length, Bool, true, false, not, Some, IsTrue, ◌⊎◌, inl, inr, refl, sym, subst, arith, get-insert, or_left, BlobId, Axis, Side, Now, Next, id_cmp, among, is_committee, has_neighbour, every_below, Verdict, IsEventWithin, Event, Register, Write, Send, Ack, Attest, Read, Recover, Forget, Begin, Ready, Finish, Reply, Line, ReadWord, RecoverWord, Kind, committee_size, owners_at, owners_of, same_node, claim_of, ids_total, ClaimsFor, register_enters, claim_enters, ready_enters, Parts, parts_at, settled_by_slivers, has_proof, backs, without_slivers, First, Judged, Written, Committee, World, side_of, with_side, is_present, epoch_of, writing_side, is_correct, contents_of, held, with_contents, answered, Rules, WriteStep, WriteCollides, ClaimStep, ReadCompletes, told_by, Gains, ForgetStep, Steps, Facts, backed, Laws, forgotten, same_id, Contents, ◌||◌}
+use Rattle.std.proofs.lemmas.Bool.Decides.{nat_tests}
 use Rattle.std.specs.FinMap as finmap
 use Rattle.wal_evidence.specs.declared.evidence.Verdict.TheVariants as verdict
 use Rattle.wal_event.specs.declared.line.Line.TheVariants as line
@@ -18,50 +19,32 @@ use Rattle.wal_ledger.specs.declared.entry.Body.TheVariants as entry
 use Rattle.wal_ledger.specs.declared.entry.Kind.TheVariants as kinds
 use Rattle.wal_shard.specs.declared.answers.PutAnswer.TheVariants as putting
 use Rattle.wal_protocol.proofs.Lookups.{held_is, parts_forgotten}
-use Rattle.wal_protocol.proofs.Grown.{Firmer, GrownFrom, AreSound, grown_same, grown_put, grown_each, grown_changed, sound_contents, firmer_same, firmer_contents, firmer_forgotten, facts_grown}
+use Rattle.wal_protocol.proofs.Grown.{Firmer, GrownFrom, grown_same, grown_put, grown_each, grown_changed, sound_contents, firmer_same, firmer_contents, firmer_forgotten, facts_grown}
 use Rattle.wal_protocol.proofs.Entered.{writing_present, facts_entered}
 use Rattle.wal_protocol.proofs.Turned.{IsClosedBy, facts_begun, facts_finished}
 
 -- a test that passes below a number passes at each number below it
 every_at : (n : ℕ) (p : ℕ → Bool) (k : ℕ) → every_below n p ≡ true → k < n → p k ≡ true
 every_at zero p k all lt = absurd (omega arith)
-every_at (suc n) p k all lt = by (cases_eq k n) (λ less. every_at n p k (and_parts (every_below n p) (p n) all).0 less)
-  where
-    by : (k ≡ n) ⊎ (k ≢ n) → (k < n → p k ≡ true) → p k ≡ true
-    by (inl e) before = ap p e ∙ (and_parts (every_below n p) (p n) all).1
-    by (inr ne) before = before (omega arith)
+every_at (suc n) p k all lt = grind (arith, every_at n p k)
 
 -- a list with a shard of the node has a neighbour
 neighbour : (owners : List ℕ) (shards : List ℕ) (s t : ℕ) → same_node owners s t ≡ true → among shards s ≡ true → has_neighbour owners shards t ≡ true
 neighbour owners [] s t same h = cc
-neighbour owners (x ∷ shards) s t same h = by (or_cases (nat_eq x s) (among shards s) h) (λ rest. neighbour owners shards s t same rest)
-  where
-    by : (nat_eq x s ≡ true) ⊎ (among shards s ≡ true) → (among shards s ≡ true → has_neighbour owners shards t ≡ true) → has_neighbour owners (x ∷ shards) t ≡ true
-    by (inl is) rest = or_left (nat_eq (node_of owners x) (node_of owners t)) (has_neighbour owners shards t) (ap (λ (k : ℕ). nat_eq (node_of owners k) (node_of owners t)) (eqb-true x s is) ∙ same)
-    by (inr there) rest = or_right (nat_eq (node_of owners x) (node_of owners t)) (has_neighbour owners shards t) (rest there)
+neighbour owners (x ∷ shards) s t same h = grind (arith, nat_tests, neighbour owners shards s t same)
 
 -- what a committee that is in range says of its faulty shards
 pub closed_by : (n : ℕ) (owners faulty : List ℕ) → IsTrue (is_committee n owners faulty) → IsClosedBy n owners faulty
 closed_by n owners faulty committee s t lt_s lt_t same out =
-    let size : length owners ≡ n = eqb-true (length owners) n (and_parts (nat_eq (length owners) n) (list_all (λ node. nat_lt node n) owners) (and_parts (are_owners n owners) (is_ascending n faulty && is_closed owners faulty) committee).0).0 in
-    let here : (not (has_neighbour owners faulty t) || among faulty t) ≡ true = every_at (length owners) (λ shard. not (has_neighbour owners faulty shard) || among faulty shard) t (and_parts (is_ascending n faulty) (is_closed owners faulty) (and_parts (are_owners n owners) (is_ascending n faulty && is_closed owners faulty) committee).1).1 (omega (arith, size)) in
-    elim (or_cases (not (has_neighbour owners faulty t)) (among faulty t) here) [
-      | inl none ↦ let f : true ≡ false = sym (neighbour owners faulty s t same out) ∙ not-true (has_neighbour owners faulty t) none in cc
-      | inr in_it ↦ in_it
-    ]
+    let tested = every_at (length owners) (λ shard. not (has_neighbour owners faulty shard) || among faulty shard) t in
+    let near = neighbour owners faulty s t same out in
+    grind (arith, nat_tests)
 
 -- a first completed answer rests on something
 backing_answered : (r : Rules) (answers : finmap.FinMap id_cmp First) (id : BlobId) (a : First) → ((q : BlobId) (x : First) → finmap.get answers q ≡ Some x → r.IsBacked q x) → r.IsBacked id a
     → (q : BlobId) (x : First) → finmap.get (answered answers id a) q ≡ Some x → r.IsBacked q x
-backing_answered r answers id a all backed_a q x = by (finmap.contains_key answers id)
-  where
-    at : (b : Bool) → eq_by_cmp id_cmp q id ≡ b → cond b (Some a) (finmap.get answers q) ≡ Some x → r.IsBacked q x
-    at true same h = subst (λ (i : BlobId). r.IsBacked i x) (sym (same_id q id same)) (subst (λ (y : First). r.IsBacked id y) (let e : a ≡ x = cc in e) backed_a)
-    at false other h = all q x h
-
-    by : (b : Bool) → finmap.get (cond b answers (finmap.insert answers id a)) q ≡ Some x → r.IsBacked q x
-    by true h = all q x h
-    by false h = at (eq_by_cmp id_cmp q id) refl (sym (get-insert ids_total answers id a q) ∙ h)
+backing_answered r answers id a all backed_a q x h =
+    grind (arith, get-insert ids_total answers id a q, same_id q id, all q x)
 
 module _ (r : Rules) (laws : Laws r) where
   -- one side grew, and answers came
@@ -70,12 +53,9 @@ module _ (r : Rules) (laws : Laws r) where
   facts_sided old Now d answers facts grown backing = facts_grown r old d old.next answers facts grown (grown_same r old.next (facts.sound Next)) backing
   facts_sided old Next d answers facts grown backing = facts_grown r old old.now d answers facts (grown_same r old.now (facts.sound Now)) grown backing
 
-  same_answers : (old : World) (side : Side) (d : Committee) → record (with_side side old d) { answers = old.answers } ≡ with_side side old d
-  same_answers old Now d = refl
-  same_answers old Next d = refl
-
   facts_side : (old : World) (side : Side) (d : Committee) → Facts r old → GrownFrom r (side_of side old) d → Facts r (with_side side old d)
-  facts_side old side d facts grown = subst (Facts r) (same_answers old side d) (facts_sided old side d old.answers facts grown facts.answers)
+  facts_side old Now d facts grown = facts_sided old Now d old.answers facts grown facts.answers
+  facts_side old Next d facts grown = facts_sided old Next d old.answers facts grown facts.answers
 
   writes : (old : World) (blob to : List ℕ) (id : BlobId) (count : ℕ) (new : World) → Facts r old → WriteStep r old blob to id count new → Facts r new
   writes old blob to id count new facts w =
@@ -98,28 +78,20 @@ module _ (r : Rules) (laws : Laws r) where
   correct_node : (old : World) (side : Side) (shard s : ℕ) → Facts r old → is_present side old ≡ true → shard < committee_size old.log.f → s < committee_size old.log.f
       → same_node (owners_at old.log (epoch_of side old)) shard s ≡ true → among (side_of side old).faulty s ≡ false → is_correct side old shard ≡ true
   correct_node old side shard s facts present lt_shard lt same correct =
-      and_from (is_present side old) (not (among (side_of side old).faulty shard)) present (by (among (side_of side old).faulty shard) refl)
-    where
-      by : (b : Bool) → among (side_of side old).faulty shard ≡ b → not b ≡ true
-      by true out = let f : true ≡ false = sym (facts.closed side shard s present lt_shard lt same out) ∙ correct in cc
-      by false out = refl
+      let closed = facts.closed side shard s present lt_shard lt same in grind arith
 
   claims : (old : World) (kind : Kind) (shard : ℕ) (id : BlobId) (count : ℕ) (new : World) → Facts r old → shard < committee_size old.log.f → ClaimStep old kind shard id count new → Facts r new
   claims old kind shard id count new facts lt_shard c =
-      subst (Facts r) (sym c.state)
-      (facts_entered r old (claim_of kind shard id) (ClaimsFor old.log kind shard id) (λ s. ⊥) facts (claim_enters old.log kind shard id facts.orderly) backing (λ i s none lt correct must. absurd none))
-    where
-      side : Side
-      side = writing_side old
-
-      at : epoch_of side old ≡ writing old.log
-      at = (writing_present old).1
-
-      backing : (i : BlobId) (k : Kind) (s : ℕ) → ClaimsFor old.log kind shard id i k s → s < committee_size old.log.f → among (side_of side old).faulty s ≡ false → backed k (held (side_of side old) s i) ≡ true
-      backing i k s (same_i, same_k, node) lt correct =
-          let here : is_correct side old shard ≡ true = correct_node old side shard s facts (writing_present old).0 lt_shard lt (subst (λ (e : ℕ). same_node (owners_at old.log e) shard s ≡ true) (sym at) node) correct in
-          let backs_it : backs kind (held (side_of side old) s id) ≡ true = c.may here s lt node in
-          subst (λ (j : BlobId). backed k (held (side_of side old) s j) ≡ true) (sym same_i) (subst (λ (l : Kind). backed l (held (side_of side old) s id) ≡ true) (sym same_k) (backed_by old side kind s id facts backs_it))
+      let side = writing_side old in
+      let (present, at) = writing_present old in
+      rw c.state
+      (facts_entered r old (claim_of kind shard id) (ClaimsFor old.log kind shard id) (λ s. ⊥) facts
+      (claim_enters old.log kind shard id facts.orderly)
+      (λ i k s signs lt correct.
+      let (same_i, same_k, node) = signs in
+      let here = correct_node old side shard s facts present lt_shard lt (rw at node) correct in
+      rw (same_i, same_k) (backed_by old side kind s id facts (c.may here s lt node)))
+      (λ i s none lt correct must. absurd none))
 
   completes : (old : World) (id : BlobId) (replies : List Reply) (word : ReadWord) (told : Verdict) (new : World) → told_by word ≡ Some told → Facts r old → ReadCompletes r old id replies word told new → Facts r new
   completes old id replies word told new tells facts c =
@@ -143,23 +115,24 @@ module _ (r : Rules) (laws : Laws r) where
       subst (Facts r) (sym state)
       (facts_side old side (with_contents c shard (without_slivers (contents_of c shard) id)) facts
       (grown_changed r c shard (without_slivers (contents_of c shard) id) (facts.sound side)
-      (λ q. still_sound c shard id q (facts.sound side) (parts_forgotten (contents_of c shard) id q))
-      (λ q. still_firm c shard id q may.proof (parts_forgotten (contents_of c shard) id q))))
+      (λ q. (still q (parts_forgotten (contents_of c shard) id q)).0)
+      (λ q. (still q (parts_forgotten (contents_of c shard) id q)).1)))
     where
-      still_sound : (c : Committee) (s : ℕ) (i q : BlobId) → AreSound r c
-          → (parts_at (without_slivers (contents_of c s) i) q ≡ parts_at (contents_of c s) q) ⊎ ((q ≡ i) × (parts_at (without_slivers (contents_of c s) i) q ≡ forgotten (parts_at (contents_of c s) q)))
-          → r.IsSound q s (parts_at (without_slivers (contents_of c s) i) q)
-      still_sound c s i q all (inl same) = subst (λ (p : Parts). r.IsSound q s p) (sym same) (sound_contents r c s all q)
-      still_sound c s i q all (inr (e, is)) = subst (λ (p : Parts). r.IsSound q s p) (sym is) (laws.forget_sound q s (parts_at (contents_of c s) q) (sound_contents r c s all q))
+      before : Contents
+      before = contents_of (side_of side old) shard
 
-      still_firm : (c : Committee) (s : ℕ) (i q : BlobId) → has_proof (parts_at (contents_of c s) i) ≡ true
-          → (parts_at (without_slivers (contents_of c s) i) q ≡ parts_at (contents_of c s) q) ⊎ ((q ≡ i) × (parts_at (without_slivers (contents_of c s) i) q ≡ forgotten (parts_at (contents_of c s) q)))
-          → Firmer (held c s q) (parts_at (without_slivers (contents_of c s) i) q)
-      still_firm c s i q proof (inl same) = firmer_same (held c s q) (parts_at (without_slivers (contents_of c s) i) q) (same ∙ sym (held_is c s q))
-      still_firm c s i q proof (inr (e, is)) =
-          subst (λ (p : Parts). Firmer (held c s q) p) (sym is)
-          (subst (λ (p : Parts). Firmer p (forgotten (parts_at (contents_of c s) q))) (sym (held_is c s q))
-          (firmer_forgotten (parts_at (contents_of c s) q) (subst (λ (j : BlobId). has_proof (parts_at (contents_of c s) j) ≡ true) (sym e) proof)))
+      after : Contents
+      after = without_slivers before id
+
+      still : (q : BlobId)
+          → (parts_at after q ≡ parts_at before q) ⊎ ((q ≡ id) × (parts_at after q ≡ forgotten (parts_at before q)))
+          → r.IsSound q shard (parts_at after q) × Firmer (held (side_of side old) shard q) (parts_at after q)
+      still q (inl same) =
+          rw (same, held_is) (sound_contents r (side_of side old) shard (facts.sound side) q, firmer_same _ _ refl)
+      still q (inr (e, is)) =
+          let was = sound_contents r (side_of side old) shard (facts.sound side) q in
+          rw (is, held_is)
+          (laws.forget_sound q shard (parts_at before q) was, firmer_forgotten (parts_at before q) (rw e may.proof))
 
   -- every step keeps the facts; they come last, so that the search for what a word changes does not read them
   kept_step : (old : World) (event : Event) (said : Line) (new : World) → Steps r old event said new → Facts r old → IsEventWithin (committee_size old.log.f) event → Facts r new

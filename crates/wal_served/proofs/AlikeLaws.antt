@@ -25,10 +25,10 @@ module _ (digest : List ℕ → List ℕ) (old : ServedState) (frames : List (Li
   read_as may_want also each (Err fault) h = h
 
   pub read_still : (also : Bool) (read : Result Frame FrameError) → AnswersRead digest false read old frames clash new → AnswersRead digest also read old frames clash new
-  read_still also read h = read_as false also still read h
-    where
-      still : (frame : Frame) → AnswersPut digest false frame old frames clash new → AnswersPut digest also frame old frames clash new
-      still frame (outcome, contents, (answer, puts, is, shows), told, then) = (outcome, contents, (answer, puts_still digest _ old.shard.contents frame answer contents also puts, is, shows), told, then)
+  read_still also read h =
+      read_as false also (λ frame (outcome, contents, put, told, then).
+      let still = puts_still digest _ old.shard.contents frame put.0 contents also put.1 in
+      (outcome, contents, (put.0, still, put.2, put.3), told, then)) read h
 
   read_calm : (may_want : Bool) (read : Result Frame FrameError) → (TellsWant frames → ⊥) → AnswersRead digest may_want read old frames clash new → AnswersRead digest false read old frames clash new
   read_calm may_want read some h = read_as may_want false calm read h
@@ -45,8 +45,7 @@ module _ (digest : List ℕ → List ℕ) (old : ServedState) (frames : List (Li
 
 -- less needs less room
 pub fits_less : (limit : Option ℕ) (size less : ℕ) → IfSome limit (λ most. size ≤ most) → less ≤ size → IfSome limit (λ most. less ≤ most)
-fits_less None size less fit small = tt
-fits_less (Some most) size less fit small = omega arith
+fits_less limit size less fit small = grind arith
 
 pub less_room : (id : BlobId) (s : ServedState) (pages entries fewer less : ℕ) → RoomFor id s pages entries → fewer ≤ pages → less ≤ entries → RoomFor id s fewer less
 less_room id s pages entries fewer less room p e = record { pages_fit = fits_less s.shard.limit _ _ room.pages_fit (omega arith); entries_fit = omega (arith, room.entries_fit) }

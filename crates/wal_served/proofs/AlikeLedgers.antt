@@ -1,5 +1,5 @@
 -- Ledgers that are alike at an identifier answer a request of it alike, and are alike then.
-use Rattle.wal_served.proofs.Common.{◌≡◌, ℕ, ◌<◌, Bool, true, false, List, [], ◌∷◌, inl, inr, refl, sym, ap, ◌∙◌, arith, cases_lt, fold_push, BlobId, id_eq, AckAnswer, Body, Register, Entry, Kind, Denies, quorum_size, Log, History, LedgerState, reading, writing, names, history_after, own_entries, until_of, is_live, signers, signer_count, entered, takes_in, IsInvalid, IsOpen, MayClaim, MayRegister, Claims, Claimed, acked, claim_of, history_of-epoch, id_same, entry_in, is_plain, plain_stays, Owned, stays, grows, anew, owned, refused, reply_text, ack_reply, ClaimEntered, Registered, Entered, of_committee, of_none, AlikeLedgers, tells_entry}
+use Rattle.wal_served.proofs.Common.{◌≡◌, ℕ, ◌<◌, true, false, List, [], ◌∷◌, inl, inr, refl, sym, ap, ◌∙◌, arith, cases_lt, fold_push, BlobId, id_eq, AckAnswer, Body, Register, Entry, Kind, Denies, quorum_size, Log, History, LedgerState, reading, writing, names, history_after, own_entries, until_of, is_live, signers, signer_count, entered, takes_in, IsInvalid, IsOpen, MayClaim, MayRegister, Claims, Claimed, acked, claim_of, history_of-epoch, id_same, entry_in, is_plain, plain_stays, Owned, stays, grows, anew, owned, refused, reply_text, ack_reply, ClaimEntered, Registered, Entered, of_committee, of_none, AlikeLedgers, tells_entry}
 use Rattle.wal_ledger.specs.declared.answers.AckAnswer.TheVariants as acking
 use Rattle.wal_ledger.specs.declared.answers.RegisterAnswer.TheVariants as registering
 use Rattle.wal_served.proofs.Replies.{Reply}
@@ -8,11 +8,7 @@ use Rattle.wal_served.proofs.BothKinds.{as_claim, of_claim, claim_plain}
 -- ---- names
 
 pub apart : (q id : BlobId) → (q ≡ id → ⊥) → id_eq q id ≡ false
-apart q id other = by (id_eq q id) refl
-  where
-    by : (b : Bool) → id_eq q id ≡ b → b ≡ false
-    by true same = absurd (other (id_same q id same))
-    by false same = refl
+apart q id other = grind (arith, id_same q id)
 
 -- ---- alike
 

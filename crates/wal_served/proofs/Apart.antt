@@ -1,5 +1,5 @@
 -- What regards another identifier, or none, leaves a state alike; and what replies to readers rest on.
-use Rattle.wal_served.proofs.Common.{◌≡◌, ℕ, Bool, true, false, cond, List, Some, None, Result, refl, sym, ap, ◌∙◌, eq_by_cmp, Axis, BlobId, Part, id_cmp, sliver_part, FrameError, Frame, Read, Symbol, read_of, stored_bytes, Parts, with_part, part_of, Contents, parts_at, with_bytes, without_part, OpeningReply, SymbolReplies, given, not_held, no_shard, HoldsMetadata, read_reply_of, put_id, put_part, without_slivers, ServedState, holding, named, AnswersFrame, about_read, AlikeAt, LeavesAlike, RestsOn, ReadsRestOn}
+use Rattle.wal_served.proofs.Common.{◌≡◌, ℕ, List, Some, None, Result, refl, ap, ◌∙◌, Axis, BlobId, Part, sliver_part, FrameError, Frame, Read, Symbol, read_of, stored_bytes, Parts, with_part, part_of, Contents, parts_at, with_bytes, without_part, SymbolReplies, given, not_held, no_shard, HoldsMetadata, read_reply_of, put_id, put_part, without_slivers, ServedState, holding, named, AnswersFrame, about_read, AlikeAt, LeavesAlike, RestsOn, ReadsRestOn, arith}
 use Rattle.std.specs.FinMap as map_of
 use Rattle.wal_shape.specs.declared.part.Part.TheVariants as parts
 use Rattle.wal_shape.specs.Shape.{crossing}
@@ -10,11 +10,7 @@ use Rattle.wal_served.proofs.Changes.{Change, no_change, part_stored, slivers_we
 -- ---- what is held under another identifier
 
 changed_apart : (c n : Contents) (id q : BlobId) (p : Parts) → (q ≡ id → ⊥) → ChangesAt c q p n → parts_at n id ≡ parts_at c id
-changed_apart c n id q p other h = h.at id ∙ by (eq_by_cmp id_cmp id q) refl
-  where
-    by : (b : Bool) → eq_by_cmp id_cmp id q ≡ b → cond b p (parts_at c id) ≡ parts_at c id
-    by true e = absurd (other (sym (same_id id q e)))
-    by false e = refl
+changed_apart c n id q p other h = grind (arith, h.at id, same_id id q)
 
 stored_apart : (c : Contents) (id q : BlobId) (part : Part) (bytes : List ℕ) → (q ≡ id → ⊥) → parts_at (with_bytes c q part bytes) id ≡ parts_at c id
 stored_apart c id q part bytes other =
@@ -77,12 +73,12 @@ module _ (digest : List ℕ → List ℕ) (name : List ℕ) (shard : ℕ) (p r :
 
   pub symbols_rest : (axis : Axis) (index : ℕ) (payloads : List (List ℕ)) → part_of r (sliver_part (crossing axis)) ≡ part_of p (sliver_part (crossing axis))
       → SymbolReplies digest name shard p axis index payloads → SymbolReplies digest name shard r axis index payloads
-  symbols_rest axis index payloads sliver (opening, replies, is) = (opening, by opening replies, rw (metadata, proof) is)
-    where
-      by : (o : List (List ℕ)) → OpeningReply digest name shard p axis index o → OpeningReply digest name shard r axis index o
-      by _ (given m bytes o holds held less cross opens) = given m bytes o (held_too m holds) (sliver ∙ held) less cross opens
-      by _ (not_held none) = not_held (sliver ∙ none)
-      by _ (no_shard m holds outside) = no_shard m (held_too m holds) outside
+  symbols_rest axis index payloads sliver (_, given m bytes o holds held less cross opens, is) =
+      (_, given m bytes o (held_too m holds) (sliver ∙ held) less cross opens, rw (metadata, proof) is)
+  symbols_rest axis index payloads sliver (_, not_held none, is) =
+      (_, not_held (sliver ∙ none), rw (metadata, proof) is)
+  symbols_rest axis index payloads sliver (_, no_shard m holds outside, is) =
+      (_, no_shard m (held_too m holds) outside, rw (metadata, proof) is)
 
 -- THE FOURTH LAW
 pub reads_rest_on : (digest : List ℕ → List ℕ) → ReadsRestOn digest

@@ -1,5 +1,5 @@
 -- Acknowledgements and attestations as one: a claim of either kind, by the answer that an acknowledgement would have.
-use Rattle.wal_served.proofs.Common.{◌≡◌, ℕ, true, refl, BlobId, id_eq, AckAnswer, Kind, Holds, Denies, LedgerState, names, Claims, acked, claim_of, is_plain, ack_reply, ClaimEntered}
+use Rattle.wal_served.proofs.Common.{◌≡◌, ℕ, true, BlobId, id_eq, AckAnswer, Kind, Holds, Denies, LedgerState, names, Claims, acked, claim_of, is_plain, ack_reply, ClaimEntered, arith}
 use Rattle.wal_ledger.specs.declared.answers.AckAnswer.TheVariants as acking
 use Rattle.wal_ledger.specs.declared.answers.AttestAnswer.TheVariants as attesting
 use Rattle.wal_served.proofs.Replies.{Reply}
@@ -29,9 +29,7 @@ of_claim Denies old shard id r new (acking.Certified count, h, e) = (attesting.I
 
 -- the entry that a claim makes leaves the epoch as it is, and names the identifier
 pub claim_plain : (kind : Kind) (shard : ℕ) (id : BlobId) → is_plain (claim_of kind shard id) ≡ true
-claim_plain Holds shard id = refl
-claim_plain Denies shard id = refl
+claim_plain kind shard id = grind arith
 
 pub claim_names : (kind : Kind) (shard : ℕ) (q id : BlobId) → names id (claim_of kind shard q) ≡ id_eq q id
-claim_names Holds shard q id = refl
-claim_names Denies shard q id = refl
+claim_names kind shard q id = grind arith

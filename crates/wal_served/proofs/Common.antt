@@ -1,5 +1,5 @@
 -- What the proofs of this crate cite from elsewhere, and of its own definitions, handed on from one place. Declares nothing.
-pub use Rattle.std.proofs.Common.{◌≡◌, ℕ, Bool, List, Option, Some, None, Result, Ok, inl, inr, refl, ◌+◌, ◌-◌, ◌≤◌, true, false, cond, [], ◌∷◌, ◌++◌, length, Err, All, sym, ◌∙◌, append-nil, arith, ◌≢◌, nat_lt, ap, subst, ◌<◌, zero, suc, get_or, take, drop, append_assoc, length-append, not, nat_eq, eq-eqb, ◌^◌, IsSome, unwrap_or, ◌⊎◌, max, T, ◌&&◌, map}
+pub use Rattle.std.proofs.Common.{◌≡◌, ℕ, Bool, List, Option, Some, None, Result, Ok, inl, inr, refl, ◌+◌, ◌-◌, ◌≤◌, true, false, cond, [], ◌∷◌, ◌++◌, length, Err, All, sym, ◌∙◌, append-nil, arith, ◌≢◌, nat_lt, ap, subst, ◌<◌, zero, suc, get_or, take, drop, append_assoc, length-append, not, nat_eq, eq-eqb, ◌^◌, IsSome, unwrap_or, ◌⊎◌, ⊎_elim, max, T, ◌&&◌, map}
 pub use Rattle.std.proofs.lemmas.Bool.{false≢true, lt-ltb, le-ltb, eqb-true, eqb-false, cases_lt, ltb-true}
 pub use Rattle.std.proofs.lemmas.List.{take-append-drop, set-set, get_or-set_same}
 pub use Rattle.std.proofs.lemmas.List.Elements.{All-nil, All-cons, All-head, All-tail, filter-append, Contains-push, Contains-append_left}

@@ -1,7 +1,6 @@
 -- What a part more, and slivers less, of one identifier do to the pages of all holdings.
-use Rattle.wal_served.proofs.Common.{◌≡◌, ℕ, ◌+◌, ◌≤◌, Bool, true, false, cond, T, ◌&&◌, List, [], ◌∷◌, length, map, Option, Some, None, unwrap_or, refl, ap, ◌∙◌, arith, is_some, sum_by, eq_by_cmp, is_eq, is_lt, match_ordering, AllByRecursion, BlobId, Part, id_cmp, Parts, no_parts, part_of, with_part, is_empty, part_cost, cost_of, pages_for, Contents, parts_at, part_at, with_bytes, without_part, cost, without_slivers, cost_with}
+use Rattle.wal_served.proofs.Common.{◌≡◌, ℕ, ◌+◌, ◌≤◌, Bool, true, cond, T, List, [], ◌∷◌, length, map, Option, Some, None, unwrap_or, refl, ap, ◌∙◌, arith, is_some, sum_by, eq_by_cmp, is_eq, match_ordering, AllByRecursion, BlobId, Part, id_cmp, Parts, no_parts, part_of, with_part, part_cost, cost_of, pages_for, Contents, parts_at, part_at, with_bytes, without_part, cost, without_slivers, cost_with}
 use Rattle.std.specs.Option.{option_map}
-use Rattle.std.specs.declared.cmp.Ordering.{Ordering}
 use Rattle.std.specs.declared.cmp.Ordering.TheVariants.{Less, Equal, Greater}
 use Rattle.std.specs.List.Sorted.{IsStrictlySortedBy}
 use Rattle.std.specs.Cmp.{tied_itself}
@@ -16,27 +15,14 @@ use Rattle.wal_store.proofs.IdentifierLaws.{ids_total, exact_ids}
 
 -- ---- sorted entries
 
-left_true : (a b : Bool) → T (a && b) → T a
-left_true true b h = tt
-left_true false b h = absurd h
-
-right_true : (a b : Bool) → T (a && b) → T b
-right_true true b h = h
-right_true false b h = absurd h
-
-is_less : (o : Ordering) → T (is_lt o) → o ≡ Less
-is_less Less h = refl
-is_less Equal h = absurd h
-is_less Greater h = absurd h
-
 below_back : (k : BlobId) (es : Entries) → T (below_all id_cmp k es) → AllByRecursion (λ (y : BlobId). id_cmp k y ≡ Less) (keys_of es)
 below_back k [] h = tt
-below_back k (e ∷ es) h = (is_less (id_cmp k e.0) (left_true _ _ h), below_back k es (right_true _ _ h))
+below_back k (e ∷ es) h = grind (arith, below_back k es)
 
 sorted_back : (es : Entries) → T (is_sorted id_cmp es) → IsStrictlySortedBy id_cmp (keys_of es)
 unfolding IsStrictlySortedBy
 sorted_back [] h = tt
-sorted_back (e ∷ es) h = (below_back e.0 es (left_true _ _ h), sorted_back es (right_true _ _ h))
+sorted_back (e ∷ es) h = grind (arith, below_back e.0 es, sorted_back es)
 
 put_is : (k : BlobId) (v : Parts) (es : Entries) → put id_cmp k v es ≡ insert_entry id_cmp es k v
 put_is k v [] = refl
@@ -73,8 +59,7 @@ insert_cost c id p =
 
 -- where a holding goes, its pages go: putting any parts there comes to the same before and after
 twice : (b : Bool) (p : Parts) (o : Option Parts) → cond b (Some p) (cond b None o) ≡ cond b (Some p) o
-twice true p o = refl
-twice false p o = refl
+twice b p o = grind arith
 
 put_again : (c : Contents) (id : BlobId) (p : Parts) → fin.insert (fin.remove c id) id p ≡ fin.insert c id p
 put_again c id p = fin.same_map ids_total exact_ids _ _ (λ q.
@@ -91,17 +76,14 @@ remove_cost c id =
 -- one part more, one less
 swapped : (p : Parts) (part : Part) (bytes : Option (List ℕ)) → cost_of (with_part p part bytes) + part_cost (part_of p part) ≡ cost_of p + part_cost bytes
 swapped p parts.Metadata bytes = omega arith
-swapped p parts.Primary bytes = omega arith
-swapped p parts.Secondary bytes = omega arith
-swapped p parts.Proof bytes = omega arith
+swapped p part bytes = omega arith
 
 abbrev one_unless : Option Parts → ℕ
 one_unless o = cond (is_some o) 0 1
 
 -- the holding that is there, and the page that one would cost
 there_most : (o : Option Parts) → found_cost o + one_unless o ≡ cost_of (unwrap_or o no_parts)
-there_most None = refl
-there_most (Some p) = omega arith
+there_most o = grind arith
 
 has_now : (c : Contents) (id : BlobId) (p : Parts) → one_unless (fin.get (fin.insert c id p) id) ≡ 0
 has_now c id p = ap one_unless (fin.get-insert ids_total c id p id) ∙ ap (λ (b : Bool). one_unless (cond b (Some p) (fin.get c id))) (tied id)
@@ -118,24 +100,9 @@ stored_cost c id part bytes none =
 
 -- a part that goes
 gone_cost : (c : Contents) (id : BlobId) (part : Part) → cost_with (without_part c id part) id ≤ cost_with c id
-gone_cost c id part = by (is_empty p) refl
-  where
-    p : Parts
-    p = with_part (parts_at c id) part None
-
-    by : (b : Bool) → is_empty p ≡ b → cost_with (cond b (fin.remove c id) (fin.insert c id p)) id ≤ cost_with c id
-    by true e =
-        let most : one_unless (fin.get (fin.remove c id) id) ≤ 1 = at_most (fin.get (fin.remove c id) id) in
-        omega (arith, remove_cost c id, there_least (fin.get c id), most)
-      where
-        at_most : (o : Option Parts) → one_unless o ≤ 1
-        at_most None = omega arith
-        at_most (Some x) = omega arith
-
-        there_least : (o : Option Parts) → 1 ≤ found_cost o + one_unless o
-        there_least None = omega arith
-        there_least (Some x) = omega arith
-    by false e = omega (arith, placed c id p, swapped (parts_at c id) part None)
+gone_cost c id part =
+    let p = with_part (parts_at c id) part None in
+    grind (arith, remove_cost c id, placed c id p, swapped (parts_at c id) part None)
 
 pub forgotten_cost : (c : Contents) (id : BlobId) → cost_with (without_slivers c id) id ≤ cost_with c id
 forgotten_cost c id = omega (arith, gone_cost c id parts.Primary, gone_cost (without_part c id parts.Primary) id parts.Secondary)

@@ -1,5 +1,6 @@
 -- THE THIRD LAW: what is left of what was served, without what regards others, is answered exactly as before.
-use Rattle.wal_served.proofs.Common.{◌≡◌, ℕ, ◌+◌, ◌-◌, ◌≤◌, Bool, true, false, cond, List, [], ◌∷◌, ◌++◌, length, Option, Some, None, Result, Ok, Err, All, refl, sym, ◌∙◌, append-nil, arith, sum_by, flat_map, false≢true, All-nil, All-cons, All-head, All-tail, filter-append, fold_push, sum_by-append, BlobId, MetaClash, FrameError, Frame, Answer, Clash, envelope, read_of, stored_bytes, pages_for, Contents, put_id, put_part, ServedState, holding, AnswersRequest, AnswersRead, Replies, looked_at, read_past, Served, none, more, TellsWant, about_read, regarding, AlikeAt, RoomFor, part_pages, asked_entries, cost_with, Turn, turns, bytes_of, frames_of, clash_of, Chooses, left_of, tells, tells_entry, stored_pages, made_entries, ServesWhatIsLeft}
+use Rattle.wal_served.proofs.Common.{◌≡◌, ℕ, ◌+◌, ◌≤◌, Bool, true, false, cond, List, [], ◌∷◌, ◌++◌, length, Option, Some, None, Result, Ok, Err, All, refl, sym, ◌∙◌, append-nil, arith, sum_by, flat_map, false≢true, filter-append, fold_push, sum_by-append, BlobId, MetaClash, FrameError, Frame, Answer, Clash, envelope, read_of, stored_bytes, pages_for, Contents, put_id, put_part, ServedState, holding, AnswersRequest, AnswersRead, Replies, looked_at, read_past, Served, none, more, TellsWant, about_read, regarding, AlikeAt, RoomFor, part_pages, asked_entries, cost_with, Turn, turns, bytes_of, frames_of, clash_of, Chooses, left_of, tells, tells_entry, stored_pages, made_entries, ServesWhatIsLeft}
+use Rattle.std.proofs.lemmas.List.Elements.{All-pop}
 use Rattle.std.proofs.lemmas.Grind.{flat_map-append}
 use Rattle.wal_frame.specs.Stream.{IsPayload}
 use Rattle.wal_served.proofs.Costs.{stored_cost, forgotten_cost}
@@ -54,14 +55,6 @@ none_same digest may_want also one other frames clash new (Ok (Clash left right)
 none_same digest may_want also one other frames clash new (Ok frame) e h = absurd cc
 
 -- ---- lists
-
-pub front_all : {X : Type 0} (P : X → Type 0) (xs : List X) (y : X) → All P (xs ++ y ∷ []) → All P xs
-front_all P [] y all = All-nil P
-front_all P (x ∷ xs) y all = All-cons P x xs (All-head P x (xs ++ y ∷ []) all) (front_all P xs y (All-tail P x (xs ++ y ∷ []) all))
-
-pub last_all : {X : Type 0} (P : X → Type 0) (xs : List X) (y : X) → All P (xs ++ y ∷ []) → P y
-last_all P [] y all = All-head P y [] all
-last_all P (x ∷ xs) y all = last_all P xs y (All-tail P x (xs ++ y ∷ []) all)
 
 pub flat_push : {X A : Type 0} (f : X → List A) (xs : List X) (y : X) → flat_map f (xs ++ y ∷ []) ≡ flat_map f xs ++ f y
 flat_push f xs y = rw (flat_map-append f xs (y ∷ []), append-nil (f y)) refl
@@ -180,8 +173,10 @@ module _ (digest : List ℕ → List ℕ) (id : BlobId) (keeps : List ℕ → Bo
         by before_so true e =
             let calm_too = rw (split true e) at calm in
             let has_too = rw (split true e) at has in
-            let f = before_so (front_all (λ (x : Turn). TellsWant x.answered → ⊥) L t calm_too) (room_before L t has_too) in
-            rw (split true e) (one_more L mid f t new fits e replies (last_all (λ (x : Turn). TellsWant x.answered → ⊥) L t calm_too) has_too)
+            let (calm_front, calm_last) =
+            All-pop (λ (x : Turn). TellsWant x.answered → ⊥) (L ++ t ∷ []) L (Some t) refl calm_too in
+            let f = before_so calm_front (room_before L t has_too) in
+            rw (split true e) (one_more L mid f t new fits e replies calm_last has_too)
 
 pub serves_what_is_left : (digest : List ℕ → List ℕ) → ServesWhatIsLeft digest
 serves_what_is_left digest id keeps room may_want also one other taken frames clash state served chooses alike calm has =

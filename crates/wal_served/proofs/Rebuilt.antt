@@ -1,5 +1,5 @@
 -- THE FIFTH LAW: a shard that is fed with the entries of an identifier and then with its parts is alike to the one that came to them.
-use Rattle.wal_served.proofs.Common.{◌≡◌, ℕ, ◌+◌, ◌<◌, ◌≤◌, ◌^◌, Bool, true, List, [], ◌∷◌, ◌++◌, length, Option, Some, None, IsSome, unwrap_or, Ok, ◌⊎◌, inl, inr, refl, sym, ap, ◌∙◌, append_assoc, append-nil, arith, IfSome, lt-ltb, Axis, BlobId, Part, sliver_part, Frame, Metadata, Sliver, Proof, IsFrame, frame_text, metadata_frame, sliver_frame, stored_bytes, read_again, Entry, LedgerState, reading, until_of, own_entries, is_live, HasRoom, Parts, no_parts, part_of, with_part, part_cost, pages_for, parts_at, part_at, with_bytes, free_of, needed_for, HoldsMetadata, IsSound, metadata_reply, payload_if, proof_reply, CanBePut, Verifies, put_id, put_part, own_metadata, beside, beside_proof, verified_short, ServedState, holding, done, reply_text, AnswersRequest, desk_room, put_row, enough, cost_with, entry_payloads, sliver_payload, pages_of, kept_payloads, Rebuilds}
+use Rattle.wal_served.proofs.Common.{◌≡◌, ℕ, ◌+◌, ◌<◌, ◌≤◌, ◌^◌, Bool, true, List, [], ◌∷◌, ◌++◌, length, Option, Some, None, IsSome, unwrap_or, Ok, refl, sym, ap, ◌∙◌, append_assoc, append-nil, arith, IfSome, lt-ltb, Axis, BlobId, Part, sliver_part, Frame, Metadata, Sliver, Proof, IsFrame, frame_text, metadata_frame, sliver_frame, stored_bytes, read_again, reading, until_of, own_entries, is_live, HasRoom, Parts, no_parts, part_of, with_part, part_cost, pages_for, parts_at, part_at, with_bytes, free_of, needed_for, HoldsMetadata, IsSound, metadata_reply, payload_if, proof_reply, CanBePut, Verifies, put_id, put_part, own_metadata, beside, beside_proof, verified_short, ServedState, holding, done, reply_text, AnswersRequest, desk_room, put_row, enough, cost_with, entry_payloads, sliver_payload, pages_of, kept_payloads, Rebuilds, ⊎_elim, ⊎_elim, IsAccepted, desk}
 use Rattle.wal_shape.specs.declared.axis.Axis.TheVariants as axes
 use Rattle.wal_shape.specs.declared.part.Part.TheVariants as parts
 use Rattle.wal_shape.specs.Metadata.{BlobMetadata, held_index}
@@ -12,7 +12,7 @@ use Rattle.wal_served.proofs.Apart.{stored_there}
 use Rattle.wal_served.proofs.Costs.{stored_cost}
 use Rattle.wal_served.proofs.AlikeLedgers.{same_live}
 use Rattle.wal_served.proofs.AlikeLaws.{fits_less}
-use Rattle.wal_served.proofs.Standing.{Fed, fed_one, FedWith, Standing, standing}
+use Rattle.wal_served.proofs.Standing.{Fed, fed_one, standing}
 
 unfilled : (q : Parts) (part : Part) → part_of q part ≡ None → with_part q part None ≡ q
 unfilled q parts.Metadata absent = rw (← absent)
@@ -43,45 +43,41 @@ module _ (digest : List ℕ → List ℕ) (room sender : ℕ) (also : Bool) (oth
   feed : (q : Parts) (frame : Frame) → IsFrame frame → CanBePut frame → Verifies digest base.shard.f base.shard.index q frame
       → length (frame_text frame) ≤ room
       → is_live base.ledger.log (put_id digest frame) ≡ true → Grows q (put_id digest frame) (put_part frame) (stored_bytes frame) (frame_text frame)
-  feed q frame is puts verifies within lives sofar pages b absent fit = record {
-    then = new;
-    fed = fed_one digest room sender also other sofar (frame_text frame) u new (reply_text (done 0) ∷ []) short_room b.fed within answers;
-    parts_are = rw (stored_there u.shard.contents n (put_part frame) (stored_bytes frame), b.parts_are);
-    ledger = b.ledger;
-    f = b.f;
-    index = b.index;
-    limit = b.limit;
-    pages_most = omega (arith, stored_cost u.shard.contents n (put_part frame) (stored_bytes frame) none_there, b.pages_most);
-  }
+  feed q frame is puts verifies within lives sofar pages b absent fit =
+      let u = b.then in
+      let n = put_id digest frame in
+      let new = holding u (with_bytes u.shard.contents n (put_part frame) (stored_bytes frame)) in
+      let bare : part_at u.shard.contents n (put_part frame) ≡ None = rw b.parts_are absent in
+      let verified : Verifies digest u.shard.f u.shard.index (parts_at u.shard.contents n) frame =
+      simp (b.parts_are, b.index, b.f) verifies in
+      let takes : IsAccepted digest (desk u.shard u.ledger.log) u.shard.contents frame =
+      record { live = rw b.ledger lives; verified = verified } in
+      let costs = stored_cost u.shard.contents n (put_part frame) (stored_bytes frame) bare in
+      let free = has_room u.shard.limit (rw (← b.limit) at fit) in
+      let answers : AnswersRequest digest also u (frame_text frame) (reply_text (done 0) ∷ []) None new =
+      rw (read_again frame is)
+      (put_row digest also frame u new (reply_text (done 0) ∷ []) None puts
+      (Ok (done 0), new.shard.contents, (putting.Stored, (takes, bare, free, refl), refl, tt), (refl, refl), refl)) in
+      record {
+        then = new;
+        fed =
+            fed_one digest room sender also other sofar (frame_text frame) u new
+            (reply_text (done 0) ∷ []) short_room b.fed within answers;
+        parts_are = rw (stored_there u.shard.contents n (put_part frame) (stored_bytes frame), b.parts_are);
+        ledger = b.ledger;
+        f = b.f;
+        index = b.index;
+        limit = b.limit;
+        pages_most = omega (arith, costs, b.pages_most);
+      }
     where
-      u : ServedState
-      u = b.then
-
-      n : BlobId
-      n = put_id digest frame
-
-      new : ServedState
-      new = holding u (with_bytes u.shard.contents n (put_part frame) (stored_bytes frame))
-
-      none_there : part_at u.shard.contents n (put_part frame) ≡ None
-      none_there = rw b.parts_are absent
-
-      verified : Verifies digest u.shard.f u.shard.index (parts_at u.shard.contents n) frame
-      verified = simp (b.parts_are, b.index, b.f) verifies
-
-      has_room : HasRoom (free_of u.shard.limit u.shard.contents) (needed_for u.shard.contents n (stored_bytes frame))
-      has_room = by u.shard.limit (rw (← b.limit) at fit)
-        where
-          by : (limit : Option ℕ) → IfSome limit (λ most. cost_with base.shard.contents n + (pages + pages_for (length (stored_bytes frame))) ≤ most)
-              → HasRoom (free_of limit u.shard.contents) (needed_for u.shard.contents n (stored_bytes frame))
-          by None fits = tt
-          by (Some most) fits = omega (arith, fits, b.pages_most)
-
-      answers : AnswersRequest digest also u (frame_text frame) (reply_text (done 0) ∷ []) None new
-      answers =
-          rw (read_again frame is)
-          (put_row digest also frame u new (reply_text (done 0) ∷ []) None puts
-          (Ok (done 0), new.shard.contents, (putting.Stored, (record { live = ap (λ (l : LedgerState). is_live l.log n) b.ledger ∙ lives; verified = verified }, none_there, has_room, refl), refl, tt), (refl, refl), refl))
+      has_room : (limit : Option ℕ)
+          → IfSome limit (λ m.
+          cost_with base.shard.contents (put_id digest frame) + (pages + pages_for (length (stored_bytes frame))) ≤ m)
+          → HasRoom (free_of limit b.then.shard.contents)
+          (needed_for b.then.shard.contents (put_id digest frame) (stored_bytes frame))
+      has_room None fits = tt
+      has_room (Some most) fits = omega (arith, fits, b.pages_most)
 
   -- by a part, where it is held
   feed_if : (q : Parts) (i : BlobId) (sofar : List (List ℕ)) (pages : ℕ) (part : Part) (o : Option (List ℕ)) (payload : List ℕ → List ℕ) → Built i q sofar pages → part_of q part ≡ None
@@ -153,9 +149,25 @@ module _ (digest : List ℕ → List ℕ) (room sender : ℕ) (also : Bool) (oth
         let b3 = feed_if q2 id _ _ parts.Secondary p.secondary _ b2 refl (sliver_feeds axes.Secondary q2 refl) (within _ (omega arith)) in
         feed_if q3 id _ _ parts.Proof p.proof (λ bytes. 0x13 ∷ (id.0 ++ bytes)) b3 refl (proof_feeds q3 refl) (within _ (omega arith))
 
+none_of : (part : Part) → part_of no_parts part ≡ None
+none_of part = grind arith
+
 -- THE FIFTH LAW
 pub rebuilds : (digest : List ℕ → List ℕ) → Rebuilds digest
 rebuilds digest id room sender may_want also one other taken frames clash state placed nothing first served has =
+    let st =
+    standing digest id room sender also one other placed nothing first may_want taken frames clash state served in
+    let had = st.fed has.entries_fit in
+    let base = had.then in
+    let p = parts_at state.shard.contents id in
+    let own = own_entries state.ledger.log id in
+    let f_is : base.shard.f ≡ one.shard.f = rw had.shard first.faults in
+    let index_is : base.shard.index ≡ one.shard.index = rw had.shard first.index in
+    let live : (bytes : List ℕ) (part : Part) → part_of p part ≡ Some bytes → is_live base.ledger.log id ≡ true =
+    λ bytes part e.
+    same_live id state.ledger.log base.ledger.log had.ledgers
+    ∙ ⊎_elim (λ empty. absurd (none_some (part_of p part) bytes (rw empty.1 (none_of part)) e))
+    (λ now. lt-ltb (reading state.ledger.log) (until_of state.ledger.log id) now) st.live in
     let b = all_parts digest room sender also other base placed.fits id p (rw (f_is, index_is) st.sound) placed.named_by
     (rw f_is placed.some) (rw f_is placed.few) (rw f_is placed.enough) live (entry_payloads own)
     (record {
@@ -168,7 +180,10 @@ rebuilds digest id room sender may_want also one other taken frames clash state 
       limit = refl;
       pages_most = omega arith;
     })
-    (rw had.shard has.pages_fit) in (
+    (rw had.shard has.pages_fit) in
+    let listed : (((entry_payloads own ++ metadata_reply p) ++ sliver_payload id.0 base.shard.index p axes.Primary)
+    ++ sliver_payload id.0 base.shard.index p axes.Secondary) ++ proof_reply id.0 p ≡ kept_payloads id state
+    = simp append_assoc (rw (index_is, st.index)) in (
       b.fed.answered,
       b.then,
       rw listed at b.fed.served,
@@ -179,38 +194,3 @@ rebuilds digest id room sender may_want also one other taken frames clash state 
         ledgers = rw b.ledger had.ledgers;
       },
     )
-  where
-    st : Standing digest id room sender also one other placed nothing first state
-    st = standing digest id room sender also one other placed nothing first may_want taken frames clash state served
-
-    had : FedWith digest id room sender also one other placed nothing first state.ledger.log
-    had = st.fed has.entries_fit
-
-    base : ServedState
-    base = had.then
-
-    p : Parts
-    p = parts_at state.shard.contents id
-
-    own : List Entry
-    own = own_entries state.ledger.log id
-
-    f_is : base.shard.f ≡ one.shard.f
-    f_is = rw had.shard first.faults
-
-    index_is : base.shard.index ≡ one.shard.index
-    index_is = rw had.shard first.index
-
-    live : (bytes : List ℕ) (part : Part) → part_of p part ≡ Some bytes → is_live base.ledger.log id ≡ true
-    live bytes part e = same_live id state.ledger.log base.ledger.log had.ledgers ∙ by st.live
-      where
-        none_of : (k : Part) → part_of no_parts k ≡ None
-        none_of parts.Metadata = refl
-        none_of k = refl
-
-        by : ((own ≡ []) × (p ≡ no_parts)) ⊎ (reading state.ledger.log < until_of state.ledger.log id) → is_live state.ledger.log id ≡ true
-        by (inl empty) = absurd (none_some (part_of p part) bytes (rw empty.1 (none_of part)) e)
-        by (inr now) = lt-ltb (reading state.ledger.log) (until_of state.ledger.log id) now
-
-    listed : (((entry_payloads own ++ metadata_reply p) ++ sliver_payload id.0 base.shard.index p axes.Primary) ++ sliver_payload id.0 base.shard.index p axes.Secondary) ++ proof_reply id.0 p ≡ kept_payloads id state
-    listed = simp append_assoc (rw (index_is, st.index))

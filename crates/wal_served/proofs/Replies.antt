@@ -1,11 +1,6 @@
 -- What the frames of an answer tell of its code.
-use Rattle.wal_served.proofs.Common.{◌≡◌, ℕ, true, false, nat_eq, List, [], ◌∷◌, Option, Some, None, Ok, inl, inr, sym, ap, subst, ◌∙◌, refl, ⊤, eqb-false, false≢true, Event, Line, MetaClash, Frame, Answer, Clash, frame_text, World, is_collision, Steps, rules_of, ServedState, reply_text, IsReplyOutcome, tells_entry, world_of, an_event, frame_of, IsTold, Does, answer_text, IsWant, IsRefused, TellsWant}
-use Rattle.wal_event.specs.declared.line.Line.TheVariants as of_line
-use Rattle.wal_event.specs.declared.line.RegisterWord.TheVariants as registering
-use Rattle.wal_event.specs.declared.line.SendWord.TheVariants as sending
-use Rattle.wal_event.specs.declared.line.AckWord.TheVariants as acking
-use Rattle.wal_event.specs.declared.line.AttestWord.TheVariants as attesting
-use Rattle.wal_event.specs.declared.line.ForgetWord.TheVariants as forgetting
+use Rattle.wal_served.proofs.Common.{◌≡◌, ℕ, true, false, List, [], ◌∷◌, Option, Some, None, Ok, inl, inr, sym, ap, subst, ◌∙◌, refl, ⊤, eqb-false, Event, Line, MetaClash, Frame, Answer, Clash, frame_text, World, is_collision, Steps, rules_of, ServedState, reply_text, IsReplyOutcome, tells_entry, world_of, an_event, frame_of, IsTold, Does, answer_text, IsWant, IsRefused, TellsWant, arith}
+use Rattle.std.proofs.lemmas.Bool.Decides.{nat_tests}
 
 -- the type of what is replied, whose name is the serving crate's own
 abbrev domain_of : {A B : Type 0} → (A → B) → Type 0
@@ -16,10 +11,7 @@ Reply = domain_of reply_text
 
 -- what tells of something that was done is no refusal after which nothing has changed
 pub made_stays : (code a b : ℕ) → tells_entry (answer_text code a b ∷ []) ≡ true → IsRefused code → ⊥
-made_stays code a b made (inl e) = false≢true (rw e at made)
-made_stays code a b made (inr (inl e)) = false≢true (rw e at made)
-made_stays code a b made (inr (inr (inl e))) = false≢true (rw e at made)
-made_stays code a b made (inr (inr (inr e))) = false≢true (rw e at made)
+made_stays code a b made refused = grind (arith, nat_tests)
 
 -- ---- what belongs to a line
 
@@ -30,26 +22,8 @@ HasRoom (Some (Answer code a b)) = IsWant code → ⊥
 HasRoom (Some (Clash left right)) = ⊤
 HasRoom (Some _) = ⊥
 
-no_want : (code : ℕ) → nat_eq code 6 ≡ false → nat_eq code 7 ≡ false → nat_eq code 10 ≡ false → IsWant code → ⊥
-no_want code six seven ten (inl e) = eqb-false code 6 six e
-no_want code six seven ten (inr (inl e)) = eqb-false code 7 seven e
-no_want code six seven ten (inr (inr e)) = eqb-false code 10 ten e
-
 line_room : (said : Line) → HasRoom (frame_of said)
-line_room (of_line.Register id registering.RefusedMoving) = tt
-line_room (of_line.Register id word) = no_want _ refl refl refl
-line_room (of_line.Send shard sending.Absent) = tt
-line_room (of_line.Send shard sending.Ignored) = tt
-line_room (of_line.Send shard sending.Malformed) = tt
-line_room (of_line.Send shard word) = no_want _ refl refl refl
-line_room (of_line.Ack shard id acking.Already) = no_want 12 refl refl refl
-line_room (of_line.Ack shard id word) = no_want _ refl refl refl
-line_room (of_line.Attest shard id attesting.Already) = no_want 12 refl refl refl
-line_room (of_line.Attest shard id word) = no_want _ refl refl refl
-line_room (of_line.Forget shard id forgetting.Done) = no_want 0 refl refl refl
-line_room (of_line.Forget shard id forgetting.Declined) = no_want 5 refl refl refl
-line_room (of_line.Forget shard id word) = tt
-line_room said = tt
+line_room said = grind arith
 
 -- the bytes at the front of the first frame: its kind, and the code of an answer
 abbrev kind_in : List (List ℕ) → ℕ

@@ -1,5 +1,5 @@
 -- What a shard comes to that began with nothing of an identifier: what it holds is sound and live, and its entries may be fed alone.
-use Rattle.wal_served.proofs.Common.{◌≡◌, ℕ, ◌+◌, ◌<◌, ◌≤◌, ◌^◌, Bool, true, false, max, List, [], ◌∷◌, ◌++◌, length, Option, Some, None, ◌⊎◌, inl, inr, refl, sym, ap, ◌∙◌, arith, flat_map, cases_lt, ltb-true, false≢true, BlobId, MetaClash, id_eq, Frame, Metadata, Sliver, Proof, RegisterEntry, AckEntry, AttestEntry, IsFrame, IsId, frame_text, envelope, read_of, stored_bytes, frame_is, read_again, AckAnswer, Entry, Body, Kind, Holds, Denies, committee_size, quorum_size, Log, LedgerState, reading, writing, is_moving, own_entries, until_of, until_among, until_in, signer_count, entered, takes_in, Claims, acked, claim_of, id_itself, id_same, until_push, entry_in, plain_stays, Owned, stays, grows, anew, owned, Parts, no_parts, part_of, with_part, Contents, parts_at, part_at, with_bytes, IsSound, CanBePut, IsAccepted, Verifies, put_id, put_part, desk, without_slivers, sliver_then, proof_then, ServedState, holding, with_ledger, done, ack_reply, Entered, of_committee, AnswersRequest, AnswersFrame, AsksOnly, Replies, looked_at, read_past, Served, more, asks, about_read, AlikeLedgers, AlikeAt, HasNothing, entry_frame, frame_payload, entry_payloads, IsPlaced}
+use Rattle.wal_served.proofs.Common.{◌≡◌, ℕ, ◌+◌, ◌<◌, ◌≤◌, ◌^◌, Bool, false, max, List, [], ◌∷◌, ◌++◌, length, Option, Some, None, ◌⊎◌, inl, inr, refl, sym, ap, ◌∙◌, arith, flat_map, cases_lt, ltb-true, false≢true, BlobId, MetaClash, Frame, Metadata, Sliver, Proof, RegisterEntry, AckEntry, AttestEntry, IsFrame, IsId, frame_text, envelope, read_of, stored_bytes, frame_is, read_again, AckAnswer, Entry, Body, Kind, Holds, Denies, committee_size, quorum_size, Log, LedgerState, reading, writing, is_moving, own_entries, until_of, until_among, until_in, signer_count, entered, takes_in, Claims, acked, claim_of, id_itself, id_same, until_push, entry_in, plain_stays, Owned, stays, grows, anew, owned, Parts, no_parts, part_of, with_part, Contents, parts_at, part_at, with_bytes, IsSound, CanBePut, IsAccepted, Verifies, put_id, put_part, desk, without_slivers, sliver_then, proof_then, ServedState, holding, with_ledger, done, ack_reply, Entered, of_committee, AnswersRequest, AnswersFrame, AsksOnly, Replies, looked_at, read_past, Served, more, asks, about_read, AlikeLedgers, AlikeAt, HasNothing, entry_frame, frame_payload, entry_payloads, IsPlaced, ⊎_elim, ⊎_elim}
 use Rattle.std.proofs.lemmas.List.{length-append}
 use Rattle.wal_shape.specs.declared.axis.Axis.TheVariants as axes
 use Rattle.wal_shape.specs.declared.part.Part.TheVariants as parts
@@ -46,12 +46,11 @@ enters digest also id s t _ a size few place some (to_claim kind shard may where
     new : LedgerState
     new = takes_in t.ledger (claim_of kind shard id)
 
-    within : (shard < committee_size s.ledger.log.f) ⊎ (shard ≡ s.shard.index) → shard < committee_size s.ledger.log.f
-    within (inl is) = is
-    within (inr same) = rw same place
+    within : shard < committee_size s.ledger.log.f
+    within = ⊎_elim (λ is. is) (λ same. rw same place) where_it_is
 
     most : shard ≤ 999
-    most = omega (arith, within where_it_is, few)
+    most = omega (arith, within, few)
 
     by : (k : Kind) (r : Reply) → Entered k t.ledger shard id r (takes_in t.ledger (claim_of k shard id)) → Enters digest also t (claim_of k shard id)
     by Holds r h = record { frame = AckEntry shard id.0; is = refl; fits = record { id_size = size; index_most = most }; only = tt; answered = _; answers = (r, _, h, (refl, refl), refl) }
@@ -59,15 +58,12 @@ enters digest also id s t _ a size few place some (to_claim kind shard may where
 
     claimed : (answer : AckAnswer) → Claims kind t.ledger shard id (acked answer) new → Enters digest also t (claim_of kind shard id)
     claimed answer h =
-        by kind (ack_reply answer) (of_committee _ _ (rw a.faults (within where_it_is)) (of_claim kind t.ledger shard id _ new (answer, h, refl)))
+        by kind (ack_reply answer)
+        (of_committee _ _ (rw a.faults within) (of_claim kind t.ledger shard id _ new (answer, h, refl)))
 
 about_or_not : (o : Option BlobId) (id : BlobId) → (o ≡ Some id) ⊎ (o ≡ Some id → ⊥)
 about_or_not None id = inr (λ e. cc)
-about_or_not (Some q) id = by (id_eq q id) refl
-  where
-    by : (b : Bool) → id_eq q id ≡ b → (◌≡◌ {A = Option BlobId} (Some q) (Some id)) ⊎ (◌≡◌ {A = Option BlobId} (Some q) (Some id) → ⊥)
-    by true e = inl (ap (λ (x : BlobId). Some x) (id_same q id e))
-    by false e = inr (λ same. false≢true (sym e ∙ rw (the_one q id same) (id_itself id)))
+about_or_not (Some q) id = grind (arith, id_same q id, id_itself id)
 
 -- a part that verifies beside sound ones
 sound_then : (digest : List ℕ → List ℕ) (f shard : ℕ) (p : Parts) (frame : Frame) → IsFrame frame → CanBePut frame → Verifies digest f shard p frame → part_of p (put_part frame) ≡ None
@@ -142,22 +138,19 @@ module _ (digest : List ℕ → List ℕ) (id : BlobId) (room sender : ℕ) (als
     faults = a.ledgers.faults ∙ st.faults;
     moving = a.ledgers.moving ∙ st.moving;
     sound = rw a.parts st.sound;
-    live = by st.live;
-    fed = λ few. fed_on (st.fed (rw a.ledgers.own at few));
+    live =
+        ⊎_elim (λ none. inl (a.ledgers.own ∙ none.0, a.parts ∙ none.1))
+        (λ now. inr (omega (arith, now, a.ledgers.epoch, ap until_among a.ledgers.own))) st.live;
+    fed = λ few.
+        let had = st.fed (rw a.ledgers.own at few) in
+        record {
+          then = had.then;
+          fed = rw a.ledgers.own had.fed;
+          ledgers = joined_ledgers id s.ledger.log n.ledger.log had.then.ledger.log a.ledgers had.ledgers;
+          shard = had.shard;
+          spare = rw a.ledgers.own had.spare;
+        };
   }
-    where
-      by : Live s.ledger.log (parts_at s.shard.contents id) → Live n.ledger.log (parts_at n.shard.contents id)
-      by (inl none) = inl (a.ledgers.own ∙ none.0, a.parts ∙ none.1)
-      by (inr now) = inr (omega (arith, now, a.ledgers.epoch, ap until_among a.ledgers.own))
-
-      fed_on : FedWith s.ledger.log → FedWith n.ledger.log
-      fed_on had = record {
-        then = had.then;
-        fed = rw a.ledgers.own had.fed;
-        ledgers = joined_ledgers id s.ledger.log n.ledger.log had.then.ledger.log a.ledgers had.ledgers;
-        shard = had.shard;
-        spare = rw a.ledgers.own had.spare;
-      }
 
   module _ (s : ServedState) (st : Standing s) where
     -- ---- what is held
@@ -182,11 +175,7 @@ module _ (digest : List ℕ → List ℕ) (id : BlobId) (room sender : ℕ) (als
         held_changes (without_slivers c id)
         (rw (slivers_gone c id) (without_sliver_sound digest one.shard.f one.shard.index id.0 axes.Secondary (with_part (parts_at c id) parts.Primary None)
         (without_sliver_sound digest one.shard.f one.shard.index id.0 axes.Primary (parts_at c id) st.sound)))
-        (by st.live)
-      where
-        by : Live s.ledger.log (parts_at s.shard.contents id) → Live s.ledger.log (parts_at (without_slivers s.shard.contents id) id)
-        by (inl none) = inl (none.0, rw (slivers_gone s.shard.contents id, none.1))
-        by (inr now) = inr now
+        (⊎_elim (λ none. inl (none.0, rw (slivers_gone c id, none.1))) (λ now. inr now) st.live)
 
     -- ---- entries
 
@@ -257,7 +246,10 @@ module _ (digest : List ℕ → List ℕ) (id : BlobId) (room sender : ℕ) (als
     -- ---- each change
 
     changed : (payload : List ℕ) (frames : List (List ℕ)) (new : ServedState) → Change digest s (read_of payload) frames new → Standing new
-    changed payload frames new change = by (about_or_not (about_read digest (read_of payload)) id)
+    changed payload frames new change =
+        ⊎_elim (λ about. here about change)
+        (λ not. alike_stands s new (changed_elsewhere digest id s (read_of payload) frames new not change) st)
+        (about_or_not (about_read digest (read_of payload)) id)
       where
         here : about_read digest (read_of payload) ≡ Some id → Change digest s (read_of payload) frames new → Standing new
         here about (no_change same) = rw same st
@@ -265,10 +257,6 @@ module _ (digest : List ℕ → List ℕ) (id : BlobId) (room sender : ℕ) (als
             rw is (stored_here frame (frame_is payload frame reads).fits part (the_one _ id (sym so ∙ about)) accepted absent)
         here about (slivers_went q so told is) = rw (is, the_one q id (sym so ∙ about)) went_here
         here about (entry_made q b so asks_one told may is) = rw is (entry_here b (rw (the_one q id (sym so ∙ about)) at may))
-
-        by : (about_read digest (read_of payload) ≡ Some id) ⊎ (about_read digest (read_of payload) ≡ Some id → ⊥) → Standing new
-        by (inl about) = here about change
-        by (inr not) = alike_stands s new (changed_elsewhere digest id s (read_of payload) frames new not change) st
 
   -- whatever was served
   pub standing : (may_want : Bool) (taken : List ℕ) (frames : List (List ℕ)) (clash : Option MetaClash) (state : ServedState) → Served (AnswersRequest digest may_want) room one taken frames clash state → Standing state

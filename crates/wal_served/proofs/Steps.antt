@@ -1,5 +1,5 @@
 -- What serving does are steps of the world.
-use Rattle.wal_served.proofs.Common.{◌≡◌, ℕ, Bool, true, List, [], ◌∷◌, Option, None, Result, Ok, Err, inr, refl, ap, BlobId, MetaClash, Now, FrameError, Event, Frame, Metadata, Sliver, Proof, Read, Symbol, Ack, Attest, Forget, RegisterEntry, AckEntry, AttestEntry, read_of, Holds, Denies, LedgerState, CanBePut, ServedState, SamePlace, with_ledger, named, done, refused, Registered, Vouched, Entered, IsReplyOutcome, AnswersRequest, AnswersRead, AnswersPut, AnswersEntry, Replies, looked_at, read_past, Served, none, more, world_of, IsDesk, Meaning, an_event, read_meaning, IsRefused, answer_text, Does, RepliesTruly, Stepped, AreSteps, tells_entry}
+use Rattle.wal_served.proofs.Common.{◌≡◌, ℕ, Bool, true, List, [], ◌∷◌, Option, None, Result, Ok, Err, inr, refl, ap, BlobId, MetaClash, Now, FrameError, Frame, Metadata, Sliver, Proof, Read, Symbol, Ack, Attest, Forget, RegisterEntry, AckEntry, AttestEntry, read_of, Holds, Denies, LedgerState, CanBePut, ServedState, SamePlace, with_ledger, named, done, refused, Registered, Vouched, Entered, IsReplyOutcome, AnswersRequest, AnswersRead, AnswersPut, AnswersEntry, Replies, looked_at, read_past, Served, none, more, world_of, IsDesk, Meaning, an_event, read_meaning, IsRefused, answer_text, Does, RepliesTruly, Stepped, AreSteps, tells_entry}
 use Rattle.wal_event.specs.declared.event.Event.TheVariants as event
 use Rattle.wal_event.specs.declared.line.Line.TheVariants as line
 use Rattle.wal_event.specs.declared.line.RegisterWord.TheVariants as register
@@ -15,23 +15,18 @@ use Rattle.wal_served.proofs.ReadReplies.{read_true, symbol_true}
 
 register_does : (digest : List ℕ → List ℕ) (s : ServedState) (id : BlobId) (until : ℕ) (r : Reply) (new : LedgerState) (frames : List (List ℕ)) (clash : Option MetaClash)
     → Registered s.ledger id until r new → IsReplyOutcome (Ok r) frames clash → Does digest s (an_event (event.Register id until)) frames clash (with_ledger s new)
-register_does digest s id until r new frames clash registered told = by registered
-  where
-    e : Event
-    e = event.Register id until
-
-    outcome : (q : Reply) → r ≡ q → IsReplyOutcome (Ok q) frames clash
-    outcome q is = rw is at told
-
-    by : Registered s.ledger id until r new → Does digest s (an_event e) frames clash (with_ledger s new)
-    by (registering.Past, h, is) =
-        takes digest s (with_ledger s new) e frames clash (refused 15) (outcome (refused 15) is) (line.Register id register.RefusedPast) refl refl
-        (λ w. (refl, (h.0, world_same w (with_ledger s new) s (ledger_same s new h.1))))
-    by (registering.MovingExtension, h, is) = absurd is
-    by (registering.Registered most, h, is) =
-        takes digest s (with_ledger s new) e frames clash (done most) (outcome (done most) is) (line.Register id (register.Until most)) refl refl
-        (λ w. (refl, (h.0, ap (λ (l : LedgerState). world_of w (with_ledger s l)) h.2, h.3)))
-    by (registering.NoRoom, h, is) = lacks digest s (with_ledger s new) e frames clash (refused 10) (outcome (refused 10) is) (inr (inr refl)) (ledger_same s new h.2)
+register_does digest s id until r new frames clash (registering.Past, h, is) told =
+    takes digest s (with_ledger s new) (event.Register id until) frames clash (refused 15) (rw is at told)
+    (line.Register id register.RefusedPast) refl refl
+    (λ w. (refl, (h.0, world_same w (with_ledger s new) s (ledger_same s new h.1))))
+register_does digest s id until r new frames clash (registering.MovingExtension, h, is) told = absurd is
+register_does digest s id until r new frames clash (registering.Registered most, h, is) told =
+    takes digest s (with_ledger s new) (event.Register id until) frames clash (done most) (rw is at told)
+    (line.Register id (register.Until most)) refl refl
+    (λ w. (refl, (h.0, ap (λ (l : LedgerState). world_of w (with_ledger s l)) h.2, h.3)))
+register_does digest s id until r new frames clash (registering.NoRoom, h, is) told =
+    lacks digest s (with_ledger s new) (event.Register id until) frames clash (refused 10) (rw is at told)
+    (inr (inr refl)) (ledger_same s new h.2)
 
 -- ---- each row
 
@@ -70,16 +65,13 @@ module _ (digest : List ℕ → List ℕ) (may_want : Bool) (s : ServedState) (d
 
   -- what is refused changes nothing
   refused_same : (read : Result Frame FrameError) → Change digest s read frames new → (code a b : ℕ) → frames ≡ answer_text code a b ∷ [] → IsRefused code → new ≡ s
-  refused_same read change code a b only refused = by change
-    where
-      none_made : tells_entry frames ≡ true → ⊥
-      none_made told = made_stays code a b (rw only at told) refused
-
-      by : Change digest s read frames new → new ≡ s
-      by (no_change same) = same
-      by (part_stored frame reads part about told accepted absent is) = absurd (none_made (rw told refl))
-      by (slivers_went q about told is) = absurd (none_made (rw told refl))
-      by (entry_made q b about asks told may is) = absurd (none_made told)
+  refused_same read (no_change same) code a b only refused = same
+  refused_same read (entry_made q b about asks told may is) code m n only refused =
+      absurd (made_stays code m n (rw only at told) refused)
+  refused_same read (part_stored frame reads part about told accepted absent is) code a b only refused =
+      let made : tells_entry frames ≡ true = rw told refl in absurd (made_stays code a b (rw only at made) refused)
+  refused_same read (slivers_went q about told is) code a b only refused =
+      let made : tells_entry frames ≡ true = rw told refl in absurd (made_stays code a b (rw only at made) refused)
 
   -- the shard goes on to serve, at its place
   goes_on : (read : Result Frame FrameError) → Change digest s read frames new → IsDesk new × SamePlace s.shard new.shard

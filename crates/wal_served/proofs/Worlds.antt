@@ -1,5 +1,6 @@
 -- The world of a shard that serves: its committee, and what an answer leaves of it.
-use Rattle.wal_served.proofs.Common.{◌≡◌, ◌≢◌, ℕ, ◌<◌, Bool, true, false, cond, not, nat_eq, List, refl, sym, ap, ◌∙◌, eq-eqb, arith, range_with_len, eqb-true, set-set, get_or-set_same, length-range_with_len, get_or-range_with_len, length-map-range_with_len, BlobId, Now, Next, among, node_of, Contents, parts_at, Body, Kind, committee_size, LedgerState, reading, owners_at, owners_of, same_node, takes_in, is_plain, plain_stays, backs, Committee, World, side_of, writing_side, is_correct, contents_of, held, with_contents, keeps, empty_committee, MayPost, Declines, ServedState, holding, with_ledger, others, alone, world_of, IsDesk}
+use Rattle.wal_served.proofs.Common.{◌≡◌, ◌≢◌, ℕ, ◌<◌, true, false, cond, not, nat_eq, List, refl, sym, ap, ◌∙◌, eq-eqb, arith, range_with_len, eqb-true, set-set, get_or-set_same, length-range_with_len, get_or-range_with_len, length-map-range_with_len, BlobId, Now, Next, among, node_of, Contents, parts_at, Body, Kind, committee_size, LedgerState, reading, owners_at, owners_of, same_node, takes_in, is_plain, plain_stays, backs, Committee, World, side_of, writing_side, is_correct, contents_of, held, with_contents, keeps, empty_committee, MayPost, Declines, ServedState, holding, with_ledger, others, alone, world_of, IsDesk, length}
+use Rattle.std.proofs.lemmas.Bool.Decides.{nat_tests}
 use Rattle.std.specs.FinMap as finmap
 use Rattle.std.proofs.lemmas.List.Folds.{list_any_at}
 use Rattle.std.proofs.lemmas.Map.Views.{any-filter_same}
@@ -21,20 +22,15 @@ inside f own s lt ne =
     (eq-eqb _ s (get_or-range_with_len 0 (committee_size f) s 0 lt ∙ omega arith))
   where
     differs : (k : ℕ) → nat_eq k s ≡ true → not (nat_eq k own) ≡ true
-    differs k same = by (nat_eq k own) refl
-      where
-        by : (b : Bool) → nat_eq k own ≡ b → not b ≡ true
-        by false e = refl
-        by true e = absurd (ne (sym (eqb-true k s same) ∙ eqb-true k own e))
+    differs k same = grind (arith, nat_tests)
 
 -- what it holds
 pub holds : (f own : ℕ) (m : Contents) → own < committee_size f → contents_of (alone f own m) own ≡ m
 unfolding with_contents
 holds f own m lt =
-    get_or-set_same (empty_committee f (others f own)).shards own m finmap.empty (omega (arith, lt, length-map-range_with_len (λ s. empty_of s) 0 (committee_size f)))
-  where
-    empty_of : ℕ → Contents
-    empty_of s = finmap.empty
+    let long : length (empty_committee f (others f own)).shards ≡ committee_size f =
+    length-map-range_with_len _ 0 (committee_size f) in
+    get_or-set_same (empty_committee f (others f own)).shards own m finmap.empty (omega (arith, lt, long))
 
 pub holds_parts : (f own : ℕ) (m : Contents) (id : BlobId) → own < committee_size f → held (alone f own m) own id ≡ parts_at m id
 holds_parts f own m id lt = held_is (alone f own m) own id ∙ ap (λ (c : Contents). parts_at c id) (holds f own m lt)

@@ -1,11 +1,11 @@
 -- The rules of the world where all texts are of bytes: they have the same laws, and each of their steps is one of the world.
-use Rattle.wal_theorem.proofs.Common.{◌≡◌, ℕ, ◌≤◌, List, length, All, Option, Some, None, subst, inl, inr, BlobId, Axis, Part, BlobMetadata, held_index, metadata_text, proof_text, sliver_part, bytes_of_part, bytes_within, Basis, Slivers, Evidence, Verdict, stored_bytes, ReadWord, RecoverWord, openings_in, IsDrawnFrom, IsEvidenceFor, Parts, no_parts, with_part, Contents, parts_at, with_bytes, kept, put_id, put_part, Judged, Rules, Laws, AllSound, Helped, forgotten, PutsFrame, ReadsTo, Knows, RecoversTo, rules_of, IsOfBytes, BasisOfBytes, FirstOfBytes, metadata_carried, sliver_symbols}
+use Rattle.wal_theorem.proofs.Common.{◌≡◌, ℕ, ◌≤◌, List, length, All, Some, None, subst, inl, inr, BlobId, Axis, Part, BlobMetadata, held_index, metadata_text, proof_text, sliver_part, bytes_of_part, bytes_within, Basis, Slivers, Evidence, Verdict, stored_bytes, ReadWord, RecoverWord, openings_in, IsDrawnFrom, IsEvidenceFor, Parts, no_parts, with_part, Contents, parts_at, with_bytes, kept, put_id, put_part, Judged, Rules, Laws, AllSound, Helped, forgotten, PutsFrame, ReadsTo, Knows, RecoversTo, rules_of, IsOfBytes, BasisOfBytes, FirstOfBytes, metadata_carried, sliver_symbols, arith}
 use Rattle.wal_shape.specs.declared.part.Part.TheVariants as parts
 use Rattle.wal_evidence.specs.declared.evidence.Basis.TheVariants.{Proof}
 use Rattle.wal_event.specs.declared.line.ReadWord.TheVariants as reading
 use Rattle.wal_event.specs.declared.line.RecoverWord.TheVariants as recovering
 use Rattle.wal_protocol.specs.Total.{AreBytes}
-use Rattle.wal_theorem.proofs.InstanceHoldings.{some_is, each_put, kept_holds}
+use Rattle.wal_theorem.proofs.InstanceHoldings.{each_put, kept_holds}
 use Rattle.wal_theorem.proofs.InstancePuts.{by_put}
 use Rattle.wal_theorem.proofs.InstanceRecoveries.{given_sliver}
 use Rattle.wal_theorem.proofs.InstanceLaws.{laws_of}
@@ -24,23 +24,13 @@ byte_rules digest f = record (rules_of digest f) {
 -- ---- one part more
 
 none_bytes : IsOfBytes no_parts
-none_bytes parts.Metadata text at = absurd cc
-none_bytes part text at = absurd cc
+none_bytes part text at = absurd (grind arith)
 
 forgotten_bytes : (p : Parts) → IsOfBytes p → IsOfBytes (forgotten p)
-forgotten_bytes p are parts.Primary text at = absurd cc
-forgotten_bytes p are parts.Secondary text at = absurd cc
-forgotten_bytes p are part text at = are part text at
-
-same_text : (a b : List ℕ) → ◌≡◌ {A = Option (List ℕ)} (Some a) (Some b) → AreBytes a → AreBytes b
-same_text a b e are = subst AreBytes (some_is a b e) are
+forgotten_bytes p are part text at = are part text (grind arith)
 
 more_bytes : (p : Parts) (part : Part) (bytes : List ℕ) → IsOfBytes p → AreBytes bytes → IsOfBytes (with_part p part (Some bytes))
-more_bytes p parts.Metadata bytes was are parts.Metadata text at = same_text bytes text at are
-more_bytes p parts.Primary bytes was are parts.Primary text at = same_text bytes text at are
-more_bytes p parts.Secondary bytes was are parts.Secondary text at = same_text bytes text at are
-more_bytes p parts.Proof bytes was are parts.Proof text at = same_text bytes text at are
-more_bytes p part bytes was are other text at = was other text at
+more_bytes p part bytes was are other text at i = let were = was other text in grind (arith, are i)
 
 -- all that a shard holds is bytes
 abbrev AllOfBytes : Contents → Type 0

@@ -1,5 +1,5 @@
 -- Every blob has an honest writer's message, and each of its frames an answer.
-use Rattle.wal_theorem.proofs.Common.{ℕ, ◌<◌, ◌≤◌, List, length, Contains, refl, sym, subst, AllByRecursion, All-from_recursion, BlobId, Axis, Primary, Secondary, Format, most_bytes, shard_count, row_count, symbol_size, BlobMetadata, held_index, secondary_of, sliver_of, AreBytes, bytes_within, bytes_of_primary, bytes_of_column, identifier_of, metadata_over, Frame, IsFrame, stored_bytes, committee_size, Log, CanBePut, IsAnswered, IsMessageOf, message_to, message_fits, IsDigest, honest_bytes}
+use Rattle.wal_theorem.proofs.Common.{ℕ, ◌<◌, ◌≤◌, List, length, Contains, refl, subst, AllByRecursion, All-from_recursion, BlobId, Axis, Primary, Secondary, Format, most_bytes, shard_count, row_count, symbol_size, held_index, secondary_of, sliver_of, AreBytes, bytes_within, bytes_of_primary, bytes_of_column, identifier_of, metadata_over, Frame, IsFrame, stored_bytes, committee_size, Log, CanBePut, IsAnswered, IsMessageOf, message_to, message_fits, IsDigest, honest_bytes}
 use Rattle.wal_theorem.proofs.ByteRules.{byte_rules}
 use Rattle.wal_theorem.proofs.EveryPut.{every_put}
 use Rattle.wal_matrix.proofs.Existence.{extended_exists}
@@ -29,32 +29,19 @@ module _ (digest : List ℕ → List ℕ) (is : IsDigest digest) (f : ℕ) (some
   pub put_message : (format : Format) (blob : List ℕ) (id : BlobId) (message : ℕ → List Frame) → IsMessageOf digest f format blob id message → (log : Log) (shard : ℕ) → shard < committee_size f
       → (frame : Frame) → Contains (message shard) frame → IsAnswered (byte_rules digest f) log shard frame
   put_message format blob id message honest log shard within frame has old was =
-      let sent = subst IsSent has.2 (All-from_recursion IsSent (message shard) all has.0 frame has.1) in
-      every_put digest is f log shard old was frame sent.0 sent.1 sent.2
-    where
-      m : BlobMetadata
-      m = honest.metadata
-
-      e : List ℕ
-      e = honest.is_metadata.0
-
-      e_bytes : AreBytes e
-      e_bytes = bytes_within e honest.is_metadata.1.coded.fits
-
-      s : ℕ
-      s = symbol_size m.f m.length
-
-      fits : AllByRecursion IsFrame (message_to m id.0 e shard)
-      fits = subst (λ (send : ℕ → List Frame). AllByRecursion IsFrame (send shard)) honest.frames (message_fits digest is.size f format blob id message honest shard within)
-
-      own : AllByRecursion IsSent (message_to m id.0 e shard)
-      own = (
+      let m = honest.metadata in
+      let e = honest.is_metadata.0 in
+      let e_bytes = bytes_within e honest.is_metadata.1.coded.fits in
+      let s = symbol_size m.f m.length in
+      let fits : AllByRecursion IsFrame (message_to m id.0 e shard) =
+      rw honest.frames at (message_fits digest is.size f format blob id message honest shard within) in
+      let own : AllByRecursion IsSent (message_to m id.0 e shard) = (
         (fits.0, tt, honest_bytes digest is format f blob m honest.is_metadata),
         (
           (fits.1.0, tt, sliver_bytes digest is Primary m.f s e (held_index m.format m.f Primary shard) e_bytes),
           ((fits.1.1.0, tt, sliver_bytes digest is Secondary m.f s e (held_index m.format m.f Secondary shard) e_bytes), tt),
         ),
-      )
-
-      all : AllByRecursion IsSent (message shard)
-      all = subst (λ (send : ℕ → List Frame). AllByRecursion IsSent (send shard)) (sym honest.frames) own
+      ) in
+      let all : AllByRecursion IsSent (message shard) = rw honest.frames own in
+      let sent = subst IsSent has.2 (All-from_recursion IsSent (message shard) all has.0 frame has.1) in
+      every_put digest is f log shard old was frame sent.0 sent.1 sent.2

@@ -6,7 +6,6 @@ use Rattle.wal_shape.specs.declared.part.Part.TheVariants as parts
 use Rattle.wal_evidence.specs.declared.evidence.Verdict.TheVariants as verdict
 use Rattle.wal_event.specs.declared.event.Event.TheVariants.{Write, Send, Read, Recover}
 use Rattle.wal_event.specs.declared.event.Reply.{Reply}
-use Rattle.wal_event.specs.declared.event.Reply.TheVariants as reply
 use Rattle.wal_event.specs.declared.line.Line.TheVariants as line
 use Rattle.wal_event.specs.declared.line.WriteWord.TheVariants as write_word
 use Rattle.wal_event.specs.declared.line.SendWord.{SendWord}
@@ -103,8 +102,7 @@ module _ (digest : List ℕ → List ℕ) (is : IsDigest digest) (f : ℕ) where
   plain_read old id replies word new step = (plain_reads old id replies word None step.0, step.1)
 
   plain_reply_of : (old : World) (id : BlobId) (axis : Axis) (shard : ℕ) (one : Reply) (payloads : List (List ℕ)) → IsReplyOf b old id axis shard one payloads → IsReplyOf r old id axis shard one payloads
-  plain_reply_of old id axis shard (reply.True side s) payloads is_reply = is_reply
-  plain_reply_of old id axis shard (reply.Bytes bytes) payloads is_reply = is_reply
+  plain_reply_of old id axis shard one payloads is_reply = grind arith
 
   plain_replies : (old : World) (id : BlobId) (axis : Axis) (shard : ℕ) (replies : List Reply) (payloads : List (List ℕ)) → AreReplies b old id axis shard replies payloads
       → AreReplies r old id axis shard replies payloads

@@ -1,8 +1,5 @@
 -- What a shard holds stays sound and only grows when a part is added.
-use Rattle.wal_theorem.proofs.Common.{◌≡◌, ℕ, List, Bool, true, false, cond, ◌&&◌, is_some, Option, Some, None, unwrap_or, refl, ap, ◌∙◌, BlobId, BlobMetadata, metadata_text, Commits, Part, Parts, part_of, with_part, Contents, parts_at, part_at, with_bytes, HoldsMetadata, IsSound, has_proof, kept, IsAbove, AreAbove, HoldsBadProof}
-use Rattle.std.specs.Ordering.{eq_by_cmp}
-use Rattle.wal_shape.specs.Identifiers.{id_cmp}
-use Rattle.wal_shape.specs.declared.part.Part.TheVariants.{Metadata, Primary, Secondary, Proof}
+use Rattle.wal_theorem.proofs.Common.{◌≡◌, ℕ, List, true, ◌&&◌, is_some, Option, Some, None, unwrap_or, refl, ap, ◌∙◌, BlobId, BlobMetadata, metadata_text, Commits, Part, Parts, part_of, with_part, Contents, parts_at, part_at, with_bytes, HoldsMetadata, IsSound, has_proof, kept, IsAbove, AreAbove, HoldsBadProof, arith}
 use Rattle.wal_shard.proofs.Soundness.{one_metadata}
 use Rattle.wal_shard.proofs.Changes.{insert_changes, same_id}
 
@@ -18,21 +15,13 @@ none_some o a none some = absurd cc
 
 -- a part that was held is held still
 pub more_above : (p : Parts) (part : Part) (bytes : List ℕ) → part_of p part ≡ None → IsAbove p (with_part p part (Some bytes))
-more_above p Metadata bytes none Metadata x at = absurd (none_some p.metadata x none at)
-more_above p Primary bytes none Primary x at = absurd (none_some p.primary x none at)
-more_above p Secondary bytes none Secondary x at = absurd (none_some p.secondary x none at)
-more_above p Proof bytes none Proof x at = absurd (none_some p.proof x none at)
-more_above p part bytes none other x at = at
+more_above p part bytes none other x at = grind arith
 
 -- what holds under each identifier, and of the part with what was there, holds then
 pub each_put : (P : BlobId → Parts → Type 0) (m : Contents) (id : BlobId) (part : Part) (bytes : List ℕ) → ((q : BlobId) → P q (parts_at m q))
     → P id (with_part (parts_at m id) part (Some bytes)) → (q : BlobId) → P q (parts_at (with_bytes m id part bytes) q)
 each_put P m id part bytes was here q =
-    rw ((insert_changes m id (with_part (parts_at m id) part (Some bytes))).at q) (by (eq_by_cmp id_cmp q id) refl)
-  where
-    by : (b : Bool) → eq_by_cmp id_cmp q id ≡ b → P q (cond b (with_part (parts_at m id) part (Some bytes)) (parts_at m q))
-    by true e = rw (same_id q id e) here
-    by false e = was q
+    grind (arith, (insert_changes m id (with_part (parts_at m id) part (Some bytes))).at q, same_id q id, was q)
 
 pub above_put : (m : Contents) (id : BlobId) (part : Part) (bytes : List ℕ) → part_at m id part ≡ None → AreAbove m (with_bytes m id part bytes)
 above_put m id part bytes none =
@@ -41,12 +30,7 @@ above_put m id part bytes none =
 -- what is kept where the part isn't held
 pub kept_holds : (P : Contents → Type 0) (m : Contents) (id : BlobId) (part : Part) (bytes : List ℕ) → P m
     → (part_at m id part ≡ None → P (with_bytes m id part bytes)) → P (kept m id part bytes)
-kept_holds P m id part bytes stays more = by (part_at m id part) more
-  where
-    by : (o : Option (List ℕ)) → (o ≡ None → P (with_bytes m id part bytes))
-        → P (cond (is_some o) m (with_bytes m id part bytes))
-    by (Some x) more = stays
-    by None more = more refl
+kept_holds P m id part bytes stays more = grind arith
 
 pub above_kept : (m : Contents) (id : BlobId) (part : Part) (bytes : List ℕ) → AreAbove m (kept m id part bytes)
 above_kept m id part bytes = kept_holds (AreAbove m) m id part bytes (λ q p x at. at) (above_put m id part bytes)

@@ -1,5 +1,5 @@
 -- What completed reads and honest writes rest on, and that a read completes that has enough replies.
-use Rattle.wal_theorem.proofs.Common.{◌≡◌, ⊎_elim, ℕ, ◌+◌, ◌<◌, ◌≤◌, List, [], length, Bool, true, Option, Some, Contains, refl, arith, BlobId, Format, row_count, BlobMetadata, held_index-primary, Commits, IsEvidence, IsJudgedBy, Evidence, Verdict, Frame, Metadata, Sliver, Proof, IsSliver, frame_text, sliver_frame, ReadWord, read_again, CarriesBadProof, NoBadProof, NoneIn, Collects, CarriesMetadata, CarriesSliver, HasMetadata, collects_all, Parts, count_below, committee_size, count_below-some, HoldsMetadata, IsSound, has_proof, primary_reply, Judged, Written, told_by, AreAmong, RepliedTo, IsMessageOf, sliver_short, ReadsTo, IsBackedBy, rules_of}
+use Rattle.wal_theorem.proofs.Common.{◌≡◌, ⊎_elim, ℕ, ◌+◌, ◌<◌, ◌≤◌, List, [], length, Bool, true, Option, Some, Contains, refl, arith, BlobId, Format, row_count, BlobMetadata, held_index-primary, Commits, Evidence, Verdict, Frame, Metadata, Sliver, Proof, IsSliver, frame_text, sliver_frame, ReadWord, read_again, CarriesBadProof, NoBadProof, NoneIn, Collects, CarriesMetadata, CarriesSliver, HasMetadata, collects_all, Parts, count_below, committee_size, count_below-some, HoldsMetadata, IsSound, has_proof, primary_reply, Judged, Written, told_by, AreAmong, RepliedTo, IsMessageOf, sliver_short, ReadsTo, IsBackedBy, rules_of}
 use Rattle.wal_shape.specs.declared.axis.Axis.TheVariants as axes
 use Rattle.wal_commit.proofs.Commitments.{honest_metadata}
 use Rattle.wal_evidence.specs.declared.evidence.Verdict.TheVariants as verdict
@@ -11,18 +11,9 @@ use Rattle.wal_theorem.proofs.InstanceReplies.{contains_first, any_of, count_nam
 
 -- ---- what answers rest on
 
-backed : (digest : List ℕ → List ℕ) (f : ℕ) (id : BlobId) (e evidence : Evidence) (v shown : Verdict) → Some evidence ≡ Some e → Some v ≡ Some shown → IsEvidence digest id.0 e
-    → IsJudgedBy digest e.metadata e.basis v → IsBackedBy digest f id (Judged evidence shown)
-backed digest f id e evidence v shown same same_v is judged =
-    let e_is : e ≡ evidence = cc in
-    let v_is : v ≡ shown = cc in
-    rw (← e_is, ← v_is) (is, judged)
-
 pub read_backed : (digest : List ℕ → List ℕ) (f : ℕ) (id : BlobId) (payloads : List (List ℕ)) (word : ReadWord) (evidence : Evidence) (shown : Verdict)
     → ReadsTo digest id payloads word (Some evidence) → told_by word ≡ Some shown → IsBackedBy digest f id (Judged evidence shown)
-read_backed digest f id payloads (Bytes bytes) evidence shown r is = let h = r.1 in backed digest f id h.0 evidence (verdict.Bytes bytes) shown h.1 is h.2 h.3
-read_backed digest f id payloads Reject evidence shown r is = let h = r.1 in backed digest f id h.0 evidence verdict.Reject shown h.1 is h.2 h.3
-read_backed digest f id payloads word evidence shown r is = absurd cc
+read_backed digest f id payloads word evidence shown r is = grind arith
 
 pub write_backed : (digest : List ℕ → List ℕ) (size : (text : List ℕ) → length (digest text) ≡ 32) (f : ℕ) (format : Format) (blob : List ℕ) (id : BlobId) (message : ℕ → List Frame)
     → IsMessageOf digest f format blob id message → IsBackedBy digest f id (Written blob)

@@ -1,6 +1,6 @@
 -- What replies of sound holdings show, and how many shards a list names.
-use Rattle.wal_theorem.proofs.Common.{◌≡◌, ℕ, zero, suc, ◌<◌, ◌≤◌, List, [], ◌∷◌, ◌++◌, length, get_or, Bool, true, false, ◌&&◌, ◌||◌, is_some, nat_eq, Option, Some, None, Any, Contains, ◌⊎◌, inl, inr, refl, ap, ◌∙◌, arith, list_any, Contains-append_left, Contains-append_right, BlobMetadata, EncodingProof, proof_text, spelled_metadata-text, Commits, identifier_is, Metadata, Proof, frame_text, metadata_frame, count_below, count_below-mono, count_below-among, Parts, HoldsMetadata, metadata_reply, proof_reply, settled, has_proof}
-use Rattle.std.proofs.lemmas.Bool.Decides.{nat_tests}
+use Rattle.wal_theorem.proofs.Common.{◌≡◌, ℕ, ◌<◌, ◌≤◌, List, [], ◌∷◌, ◌++◌, length, get_or, Bool, true, is_some, nat_eq, Option, Some, Any, Contains, ◌⊎◌, refl, ap, ◌∙◌, arith, list_any, Contains-append_left, Contains-append_right, BlobMetadata, EncodingProof, proof_text, spelled_metadata-text, Commits, identifier_is, Metadata, Proof, frame_text, metadata_frame, count_below, count_below-mono, count_below-among, Parts, HoldsMetadata, metadata_reply, proof_reply, settled, has_proof}
+use Rattle.std.proofs.Common.{eq-eqb}
 use Rattle.std.proofs.lemmas.List.Folds.{list_any-from_Any}
 
 -- ---- lists
@@ -11,8 +11,7 @@ contains_first x y xs e = (0, omega arith, e)
 
 -- the only element of a list
 pub only_one : {X : Type 0} (y x : X) (k : ℕ) → k < length (y ∷ []) → get_or (y ∷ []) k x ≡ x → y ≡ x
-only_one y x zero l e = e
-only_one y x (suc k) l e = absurd (omega arith)
+only_one y x k l e = grind arith
 
 -- what holds of an element that the list has
 pub any_of : {X : Type 0} (P : X → Type 0) (xs : List X) (x : X) → Contains xs x → P x → Any P xs
@@ -20,19 +19,14 @@ any_of P xs x c p = (c.0, x, c.1, c.2, p)
 
 -- a number is itself
 pub same_number : (n : ℕ) → nat_eq n n ≡ true
-same_number n = equal n n refl
-  where
-    equal : (a b : ℕ) → a ≡ b → nat_eq a b ≡ true
-    equal a b e = grind (arith, nat_tests)
+same_number n = eq-eqb n n refl
 
 -- a list has as many places as shards that it names
 pub count_named : (n : ℕ) (heard : ℕ → Bool) (xs : List ℕ) → ((s : ℕ) → s < n → heard s ≡ true → Contains xs s) → count_below n heard ≤ length xs
 count_named n heard xs named =
-    let mono = count_below-mono n heard (λ s. list_any (λ t. nat_eq t s) xs) (λ s l h. among s (named s l h)) in
+    let mono = count_below-mono n heard (λ s. list_any (λ t. nat_eq t s) xs) (λ s l h.
+    let (k, lt, at) = named s l h in list_any-from_Any (λ t. nat_eq t s) xs (k, s, lt, at, same_number s)) in
     omega (arith, mono, count_below-among n xs)
-  where
-    among : (s : ℕ) → Contains xs s → list_any (λ t. nat_eq t s) xs ≡ true
-    among s c = list_any-from_Any (λ t. nat_eq t s) xs (c.0, s, c.1, c.2, same_number s)
 
 -- ---- sizes
 
@@ -65,14 +59,8 @@ shows_proof id p middle q is =
 
 -- a settled holding has metadata, and a proof or both slivers
 pub settled_has : (p : Parts) → settled p ≡ true → (is_some p.metadata ≡ true) × ((has_proof p ≡ true) ⊎ ((is_some p.primary ≡ true) × (is_some p.secondary ≡ true)))
-settled_has p h = by (is_some p.metadata) (is_some p.primary) (is_some p.secondary) (is_some p.proof) h
-  where
-    by : (a b c d : Bool) → ((a && (b && c)) || (a && d)) ≡ true → (a ≡ true) × (((a && d) ≡ true) ⊎ ((b ≡ true) × (c ≡ true)))
-    by true true true d e = (refl, inr (refl, refl))
-    by true b c d e = (refl, inl e)
-    by false b c d e = absurd cc
+settled_has p h = grind arith
 
 -- what is there has bytes
 pub some_bytes : (o : Option (List ℕ)) → is_some o ≡ true → (bytes : List ℕ) × (o ≡ Some bytes)
-some_bytes (Some bytes) e = (bytes, refl)
-some_bytes None e = absurd cc
+some_bytes o e = grind arith

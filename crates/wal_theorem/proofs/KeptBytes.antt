@@ -1,5 +1,5 @@
 -- A schedule begins in a world of bytes, and its events leave one.
-use Rattle.wal_theorem.proofs.Common.{ℕ, List, get_or, refl, sym, subst, arith, ⊎_elim, cases_lt, metadata_text, proof_text, Basis, Slivers, Fits, IsSchedule, IsEventWithin, Event, Schedule, Line, committee_size, First, Judged, Written, World, Rules, Laws, Steps, first_state, Facts, Possible, HasBytes, surely, then, every_event, one_step, facts_first, facts_step, rules_of, BasisOfBytes, FirstOfBytes, WorldOfBytes, IsDigest}
+use Rattle.wal_theorem.proofs.Common.{ℕ, List, get_or, refl, arith, ⊎_elim, cases_lt, metadata_text, proof_text, Basis, Slivers, Fits, IsSchedule, IsEventWithin, Event, Schedule, Line, committee_size, First, Judged, Written, World, Steps, first_state, Facts, Possible, HasBytes, surely, then, every_event, one_step, facts_first, facts_step, rules_of, BasisOfBytes, FirstOfBytes, WorldOfBytes, IsDigest}
 use Rattle.wal_evidence.specs.declared.evidence.Basis.TheVariants.{Proof}
 use Rattle.wal_protocol.specs.Total.{AreBytes}
 use Rattle.wal_theorem.proofs.ByteRules.{byte_rules, byte_laws}
@@ -39,22 +39,17 @@ module _ (digest : List ℕ → List ℕ) (is : IsDigest digest) where
 
   pub bytes_kept : (f : ℕ) (old : World) (event : Event) (said : Line) (new : World) → Facts (rules_of digest f) old → WorldOfBytes old → Fits f event → HasBytes event
       → Steps (rules_of digest f) old event said new → Facts (rules_of digest f) new × WorldOfBytes new
-  bytes_kept f old event said new facts bytes fits are step = (
-    facts_kept digest is.size f fits.most old event said new facts within step,
-    sure_world new (then (every_event b laws (total_of digest is f fits.least fits.most) old event own within are) (λ other.
-        let kept = facts_step b laws old event other.0 other.1 own within other.2 in
-        let same = (one_step (rules_of digest f) (only_rules digest f) old event said other.0 new other.1 step (plain_step digest is f old event other.0 other.1 other.2)).1 in
-        surely (subst WorldOfBytes (sym same) (facts_bytes f other.1 kept)))),
-  )
-    where
-      b : Rules
-      b = byte_rules digest f
-
-      laws : Laws b
-      laws = byte_laws digest is.size f fits.most
-
-      own : Facts b old
-      own = bytes_facts digest is f old facts bytes
-
-      within : IsEventWithin (committee_size old.log.f) event
-      within = subst (λ (k : ℕ). IsEventWithin (committee_size k) event) (sym facts.sized_f) fits.within
+  bytes_kept f old event said new facts bytes fits are step =
+      let b = byte_rules digest f in
+      let laws = byte_laws digest is.size f fits.most in
+      let own = bytes_facts digest is f old facts bytes in
+      let within : IsEventWithin (committee_size old.log.f) event = rw facts.sized_f fits.within in (
+        facts_kept digest is.size f fits.most old event said new facts within step,
+        sure_world new
+            (then (every_event b laws (total_of digest is f fits.least fits.most) old event own within are) (λ other.
+            let kept = facts_step b laws old event other.0 other.1 own within other.2 in
+            let plain = plain_step digest is f old event other.0 other.1 other.2 in
+            let same =
+            one_step (rules_of digest f) (only_rules digest f) old event said other.0 new other.1 step plain in
+            surely (rw same.1 (facts_bytes f other.1 kept)))),
+      )

@@ -1,5 +1,6 @@
 -- What payloads of bytes carry, and what is spelled, are bytes.
-use Rattle.wal_theorem.proofs.Common.{◌≡◌, ℕ, ◌/◌, List, [], ◌∷◌, ◌++◌, length, Bool, true, false, if◌then◌else◌, ◌&&◌, nat_eq, Result, Ok, All, refl, sym, subst, ◌∙◌, arith, w8, w16, w32, flat_map, flat_map-cons, All-nil, All-cons, All-head, All-tail, All-append, Axis, BlobMetadata, EncodingProof, number_text, axis_number, body_text, proof_text, AreBytes, bytes_joined, first_taken, Frame, Sliver, Opening, Proof, target_text, sliver_front, sliver_frame, read_of, openings_in, opening_for, same_axis, IsFirstBadProof, GivesOpening, Takes, bytes_behind, bytes_before, number8_bytes, number16_bytes, number32_bytes, spells}
+use Rattle.wal_theorem.proofs.Common.{◌≡◌, ℕ, ◌/◌, List, [], ◌∷◌, ◌++◌, length, Bool, true, false, if◌then◌else◌, ◌&&◌, nat_eq, Result, Ok, All, refl, sym, subst, ◌∙◌, arith, w8, w16, w32, flat_map, flat_map-cons, All-nil, All-cons, All-head, All-tail, All-append, Axis, BlobMetadata, EncodingProof, number_text, axis_number, body_text, proof_text, AreBytes, bytes_joined, first_taken, Frame, Sliver, Opening, Proof, target_text, sliver_front, read_of, openings_in, opening_for, same_axis, IsFirstBadProof, GivesOpening, Takes, bytes_behind, bytes_before, number8_bytes, number16_bytes, number32_bytes, spells, Contains-append_right}
+use Rattle.std.proofs.lemmas.List.Elements.{All-contains}
 use Rattle.std.specs.Cmp.Lexicographic.{pointwise}
 use Rattle.wal_shape.specs.declared.opening.Opening as single
 use Rattle.wal_frame.specs.declared.frame.FrameError.{FrameError}
@@ -21,20 +22,21 @@ symbol_part o = counted_symbol o ++ o.path
 abbrev sized_part : single.Opening → List ℕ
 sized_part o = number_text w32 (length o.symbol) ++ symbol_part o
 
-body_parts : (o : single.Opening) → body_text o ≡ number_text w16 o.cross ++ sized_part o
-unfolding body_text
-body_parts o = refl
-
 pub body_bytes : (o : single.Opening) → OpeningBytes o → AreBytes (body_text o)
+unfolding body_text
 body_bytes o are =
-    subst AreBytes (sym (body_parts o))
-    (bytes_joined (number_text w16 o.cross) (sized_part o) (number16_bytes o.cross)
+    bytes_joined (number_text w16 o.cross) (sized_part o) (number16_bytes o.cross)
     (bytes_joined (number_text w32 (length o.symbol)) (symbol_part o) (number32_bytes (length o.symbol))
-    (bytes_joined (counted_symbol o) o.path (bytes_joined o.symbol (number_text w8 (length o.path / 32)) are.symbol (number8_bytes (length o.path / 32))) are.path)))
+    (bytes_joined (counted_symbol o) o.path
+    (bytes_joined o.symbol (number_text w8 (length o.path / 32)) are.symbol (number8_bytes (length o.path / 32)))
+    are.path))
 
 opening_bytes : (o : single.Opening) → AreBytes (body_text o) → OpeningBytes o
+unfolding body_text
 opening_bytes o are =
-    let symbol = bytes_behind (number_text w32 (length o.symbol)) (symbol_part o) (bytes_behind (number_text w16 o.cross) (sized_part o) (subst AreBytes (body_parts o) are)) in
+    let symbol =
+    bytes_behind (number_text w32 (length o.symbol)) (symbol_part o)
+    (bytes_behind (number_text w16 o.cross) (sized_part o) are) in
     record {
       symbol = bytes_before o.symbol (number_text w8 (length o.path / 32)) (bytes_before (counted_symbol o) o.path symbol);
       path = bytes_behind (counted_symbol o) o.path symbol;
@@ -59,22 +61,21 @@ counted_part p = number_text w16 (length p.openings) ++ flat_map body_text p.ope
 abbrev indexed_part : EncodingProof → List ℕ
 indexed_part p = number_text w16 p.index ++ counted_part p
 
-proof_parts : (p : EncodingProof) → proof_text p ≡ number_text w8 (axis_number p.axis) ++ indexed_part p
-unfolding proof_text
-proof_parts p = refl
-
 pub proof_bytes : (p : EncodingProof) → All OpeningBytes p.openings → AreBytes (proof_text p)
+unfolding proof_text
 proof_bytes p are =
-    subst AreBytes (sym (proof_parts p))
-    (bytes_joined (number_text w8 (axis_number p.axis)) (indexed_part p) (number8_bytes (axis_number p.axis))
+    bytes_joined (number_text w8 (axis_number p.axis)) (indexed_part p) (number8_bytes (axis_number p.axis))
     (bytes_joined (number_text w16 p.index) (counted_part p) (number16_bytes p.index)
-    (bytes_joined (number_text w16 (length p.openings)) (flat_map body_text p.openings) (number16_bytes (length p.openings)) (bodies_bytes p.openings are))))
+    (bytes_joined (number_text w16 (length p.openings)) (flat_map body_text p.openings)
+    (number16_bytes (length p.openings)) (bodies_bytes p.openings are)))
 
 pub proof_openings : (p : EncodingProof) → AreBytes (proof_text p) → All OpeningBytes p.openings
+unfolding proof_text
 proof_openings p are =
     openings_of_bodies p.openings
     (bytes_behind (number_text w16 (length p.openings)) (flat_map body_text p.openings)
-    (bytes_behind (number_text w16 p.index) (counted_part p) (bytes_behind (number_text w8 (axis_number p.axis)) (indexed_part p) (subst AreBytes (proof_parts p) are))))
+    (bytes_behind (number_text w16 p.index) (counted_part p)
+    (bytes_behind (number_text w8 (axis_number p.axis)) (indexed_part p) are)))
 
 -- ---- payloads
 
@@ -84,24 +85,18 @@ proof_of payload id p are reads = bytes_behind (0x13 ∷ id) (proof_text p) (spe
 pub sliver_of : (payload id : List ℕ) (axis : Axis) (index : ℕ) (content : List ℕ) → AreBytes payload → read_of payload ≡ Ok (Sliver id axis index content) → AreBytes content
 sliver_of payload id axis index content are reads =
     bytes_behind (sliver_front id axis index (length content)) content
-    (subst AreBytes (sliver_parts id axis index content) (spells payload (Sliver id axis index content) are reads))
-  where
-    sliver_parts : (id : List ℕ) (axis : Axis) (index : ℕ) (content : List ℕ) → sliver_frame id axis index content ≡ sliver_front id axis index (length content) ++ content
-    sliver_parts id axis index content = refl
+    (spells payload (Sliver id axis index content) are reads)
 
 opening_of : (payload id : List ℕ) (axis : Axis) (index : ℕ) (o : single.Opening) → AreBytes payload → read_of payload ≡ Ok (Opening id axis index o) → OpeningBytes o
 opening_of payload id axis index o are reads =
     opening_bytes o (bytes_behind (target_text id axis index) (body_text o) (bytes_behind (0x12 ∷ []) (target_text id axis index ++ body_text o) (spells payload (Opening id axis index o) are reads)))
 
 -- the first bad proof that they carry
-all_at : (P : List ℕ → Type 0) (front : List (List ℕ)) (x : List ℕ) (back : List (List ℕ)) → All P (front ++ x ∷ back) → P x
-all_at P [] x back all = All-head P x back all
-all_at P (y ∷ front) x back all = all_at P front x back (All-tail P y (front ++ x ∷ back) all)
-
 pub proof_carried : (digest : List ℕ → List ℕ) (id : List ℕ) (m : BlobMetadata) (payloads : List (List ℕ)) (p : EncodingProof) → All AreBytes payloads
     → IsFirstBadProof digest id m payloads p → AreBytes (proof_text p)
 proof_carried digest id m payloads p are (front, payload, back, parts, carries, none) =
-    proof_of payload id p (all_at AreBytes front payload back (subst (All AreBytes) parts are)) carries.0
+    let there = Contains-append_right front (payload ∷ back) payload (0, omega arith, refl) in
+    proof_of payload id p (All-contains AreBytes payloads payload are (rw parts there)) carries.0
 
 -- and the openings
 chosen : (b : Bool) (o : single.Opening) → OpeningBytes o → All OpeningBytes (if b then o ∷ [] else [])
