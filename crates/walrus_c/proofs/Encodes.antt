@@ -1,5 +1,5 @@
 -- All envelopes of a blob have as many bytes as its length says.
-use Rattle.walrus_c.proofs.Common.{◌≡◌, ℕ, ◌+◌, ◌*◌, ◌<◌, ◌≤◌, min, List, length, length-append, refl, ap, sym, ◌∙◌, subst, arith, flat_map, range_with_len, Axis, Primary, Secondary, Format, One, Two, BlobShape, IsShape, column_count, most_bytes, row_count, shard_count, symbol_size, BlobMetadata, IsMetadata, held_index, metadata_text, text_size, length-metadata_text, identifier_of, metadata_over, IsMetadata-over, envelope, metadata_frame, sliver_frame, length-sliver_frame}
+use Rattle.walrus_c.proofs.Common.{◌≡◌, ℕ, ◌+◌, ◌*◌, ◌<◌, ◌≤◌, min, List, length, length-append, refl, ap, ◌∙◌, arith, Axis, Primary, Secondary, Format, BlobShape, IsShape, column_count, most_bytes, row_count, shard_count, symbol_size, BlobMetadata, held_index, metadata_text, text_size, length-metadata_text, identifier_of, metadata_over, IsMetadata-over, envelope, metadata_frame, sliver_frame, length-sliver_frame}
 use Rattle.wal_matrix.specs.Matrix.{primary_of, secondary_of}
 use Rattle.wal_matrix.proofs.Runs.{length-pieces}
 use Rattle.wal_matrix.proofs.Slivers.{primary_long, secondary_long}
@@ -16,12 +16,10 @@ sliver_bytes sender id axis index sliver is = omega (arith, envelope_long sender
 
 -- a shard's own index is one of the shards
 own_index : (format : Format) (f shard : ℕ) → shard < shard_count f → held_index format f Secondary shard < shard_count f
-own_index One f shard within = within
-own_index Two f shard within = omega (arith, within)
+own_index format f shard within = grind arith
 
 own_primary : (format : Format) (f shard : ℕ) → shard < shard_count f → held_index format f Primary shard < shard_count f
-own_primary One f shard within = within
-own_primary Two f shard within = within
+own_primary format f shard within = grind arith
 
 -- the two envelopes of a shard
 shard_bytes : (id : List ℕ) (shape : BlobShape) (e : List ℕ) (shard : ℕ) → length id ≡ 32
@@ -43,10 +41,6 @@ shard_bytes id shape e shard is long within =
       secondary_long shape.f s e j long (own_index shape.format shape.f shard within),
     )
 
--- pieces of one size
-each_long : (g : ℕ → List ℕ) (size count : ℕ) → ((i : ℕ) → i < count → length (g i) ≡ size) → length (flat_map g (range_with_len 0 count)) ≡ count * size
-each_long g size count each = length-pieces g size count each
-
 module _ (digest : List ℕ → List ℕ) (size_is : (text : List ℕ) → length (digest text) ≡ 32) where
   identifier_long : (m : BlobMetadata) → length (identifier_of digest m) ≡ 32
   unfolding identifier_of
@@ -56,8 +50,8 @@ module _ (digest : List ℕ → List ℕ) (size_is : (text : List ℕ) → lengt
       → length (metadata_text m) ≡ text_size shape.format shape.f
   unfolding metadata_over
   metadata_bytes m shape e is fit =
-      let whole : IsMetadata m = subst IsMetadata (sym is) (IsMetadata-over digest size_is shape e fit) in
-      length-metadata_text m whole ∙ ap (λ (x : BlobMetadata). text_size x.format x.f) is
+      length-metadata_text m (rw is (IsMetadata-over digest size_is shape e fit)) ∙ ap
+      (λ (x : BlobMetadata). text_size x.format x.f) is
 
   all_bytes : (shape : BlobShape) (e : List ℕ) → IsShape shape.f shape.length
       → length e ≡ shard_count shape.f * shard_count shape.f * symbol_size shape.f shape.length
@@ -67,11 +61,10 @@ module _ (digest : List ℕ → List ℕ) (size_is : (text : List ℕ) → lengt
       let id = identifier_of digest m in
       let s = symbol_size shape.f shape.length in
       let n = shard_count shape.f in
-      let head = envelope_long 0 (metadata_frame m) in
       let text : length (metadata_text m) ≡ text_size shape.format shape.f = metadata_bytes m shape e refl fit in
-      let rest = each_long (shard_text id shape e) (94 + (column_count shape.f * s + row_count shape.f * s)) n
+      let rest = length-pieces (shard_text id shape e) (94 + (column_count shape.f * s + row_count shape.f * s)) n
       (λ i h. shard_bytes id shape e i (identifier_long m) long h) in
-      omega (arith, head, text, rest, length-append (envelope 0 (metadata_frame m)) (flat_map (shard_text id shape e) (range_with_len 0 n)))
+      rw length-append (omega (arith, envelope_long 0 (metadata_frame m), text, rest))
 
   pub encoded : (f : ℕ) (format : Format) (input : List ℕ) → (1 ≤ f) × (f ≤ 333) → length input ≤ most_bytes
       → Tells digest (encoding digest f format) input (encoded_bytes f format (min (length input) most_bytes))

@@ -1,5 +1,5 @@
 -- However a run ends, its text is that of the answer, or a front of it.
-use Rattle.walrus_c.proofs.Common.{◌≡◌, ℕ, ◌≤◌, List, [], ◌++◌, length, le_refl, ap, sym, ◌∙◌, subst, arith, inl, inr, Option, Some, append_cancel_left, Rose, Service, Task, Serve, IsTask, NoTask, Answers, Ends, usage, too_long, done, whole, no_memory_for_words, no_memory, broke_off, source_failed, sink_failed, cut_off, serving_ended, usage_text, Command, Grammar, IsTaken, IsTakenWhole, MayLeave, TakenBy, TakesInput, nothing, command_of, EndsServing, around}
+use Rattle.walrus_c.proofs.Common.{◌≡◌, ℕ, ◌≤◌, List, [], ◌++◌, length, le_refl, ap, sym, ◌∙◌, arith, inl, inr, Option, Some, append_cancel_left, Rose, Service, Task, Serve, IsTask, NoTask, Answers, Ends, usage, too_long, done, whole, no_memory_for_words, no_memory, broke_off, source_failed, sink_failed, cut_off, serving_ended, usage_text, Command, Grammar, IsTaken, IsTakenWhole, MayLeave, TakenBy, TakesInput, nothing, command_of, EndsServing, around}
 use Rattle.std.proofs.lemmas.List.{append-nil}
 use Rattle.walrus_c.proofs.Results.{HasLines, Tells, leaves, result_short}
 
@@ -37,8 +37,7 @@ for_whole {digest = digest} {c = c} {room = room} least takes lines tells = reco
   lines = lines;
   tells = λ given taken.
       let all = taken_whole c.grammar c.limit _ _ given takes taken in
-      let few = subst (λ i. length i ≤ c.limit) all.told all.within in
-      (all.within, subst (λ i. Tells digest c i room) (sym all.told) (tells few));
+      (all.within, rw all.told (tells (rw all.told at all.within)));
 }
 
 -- serving a shard ended so, of which neither the source nor the sink has a fault
@@ -77,7 +76,7 @@ module _ (digest : List ℕ → List ℕ) (size_is : (text : List ℕ) → lengt
   end_short task room status asked only has serves ends =
       each_short room answers left (λ service is. serves service (only (Serve service) is)) status ends where
         here : (other : Task) → IsTask words other → HasRoom digest (command_of digest other) input rest room
-        here other is = subst (λ t. HasRoom digest (command_of digest t) input rest room) (sym (only other is)) has
+        here other is = rw (only other is) has
 
         answers : (status : ℕ) (all : List ℕ) → Answers digest words (Some input) (Some rest) status all
             → length all ≤ room

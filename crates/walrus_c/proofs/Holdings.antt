@@ -1,7 +1,8 @@
 -- What a shard holds that serves: it is sound, and of no blob it holds more bytes than were taken.
-use Rattle.walrus_c.proofs.Common.{◌≡◌, ℕ, ◌+◌, ◌≤◌, Bool, true, false, cond, List, length, Option, Some, None, Result, Ok, unwrap_or, refl, sym, ap, subst, arith, eq_by_cmp, Primary, Secondary, BlobId, MetaClash, id_cmp, FrameError, Frame, Metadata, Sliver, Proof, Symbol, Ack, Attest, Forget, RegisterEntry, AckEntry, AttestEntry, Parts, no_parts, with_part, Contents, parts_at, part_at, with_bytes, without_part, PutAnswer, IsSound, CanBePut, IsAccepted, PutsOrWants, put_id, put_part, AreSound, desk, sliver_then, proof_then, empty_sound, metadata_sound, put_sound, without_slivers_sound, ServedState, holding, with_ledger, AnswersPut, AnswersRead, Service, at_start}
+use Rattle.walrus_c.proofs.Common.{◌≡◌, ℕ, ◌+◌, ◌≤◌, false, List, length, Option, Some, None, Result, Ok, refl, sym, subst, arith, Primary, Secondary, BlobId, MetaClash, id_cmp, FrameError, Frame, Metadata, Sliver, Proof, Symbol, Ack, Attest, Forget, RegisterEntry, AckEntry, AttestEntry, Parts, with_part, Contents, parts_at, part_at, with_bytes, without_part, PutAnswer, IsSound, CanBePut, IsAccepted, PutsOrWants, put_id, put_part, AreSound, desk, sliver_then, proof_then, empty_sound, metadata_sound, put_sound, without_slivers_sound, ServedState, holding, with_ledger, AnswersPut, AnswersRead, Service, at_start}
 use Rattle.std.specs.FinMap as map_of
 use Rattle.std.specs.FinMap.{get-empty}
+use Rattle.wal_shape.specs.declared.part.Part.{Part}
 use Rattle.wal_shape.specs.declared.part.Part.TheVariants as parts
 use Rattle.wal_frame.specs.Stored.{stored_bytes}
 use Rattle.wal_shard.specs.declared.answers.PutAnswer.TheVariants as putting
@@ -25,10 +26,7 @@ HoldsFew n c = (id : BlobId) → held_size (parts_at c id) ≤ n
 
 -- contents that changed under one identifier
 few_changed : (n : ℕ) (old new : Contents) (id : BlobId) (p : Parts) → ChangesAt old id p new → HoldsFew n old → held_size p ≤ n → HoldsFew n new
-few_changed n old new id p changes few now q = subst (λ (x : Parts). held_size x ≤ n) (sym (changes.at q)) (by (eq_by_cmp id_cmp q id)) where
-  by : (b : Bool) → held_size (cond b p (parts_at old q)) ≤ n
-  by true = now
-  by false = few q
+few_changed n old new id p changes few now q = rw (changes.at q) (grind (arith, few q))
 
 few_more : (n more : ℕ) (c : Contents) → HoldsFew n c → HoldsFew (n + more) c
 few_more n more c few id = omega (arith, few id)
@@ -42,17 +40,17 @@ size_with p (Proof id q) n part is = omega (arith, is.1)
 size_with p other n part is = absurd part
 
 -- one part less
-less_without : (n : ℕ) (c : Contents) (id : BlobId) → HoldsFew n c → HoldsFew n (without_part c id parts.Primary)
-less_without n c id few =
-    let p = with_part (parts_at c id) parts.Primary None in
-    few_changed n c (without_part c id parts.Primary) id p (with_parts_changes c id p) few (omega (arith, few id))
+less_without : (n : ℕ) (c : Contents) (id : BlobId) (part : Part) → HoldsFew n c → HoldsFew n (without_part c id part)
+less_without n c id part few =
+    let p = parts_at c id in
+    few_changed n c (without_part c id part) id (with_part p part None)
+    (with_parts_changes c id (with_part p part None)) few (smaller p part (few id)) where
+      smaller : (p : Parts) (part : Part) → held_size p ≤ n → held_size (with_part p part None) ≤ n
+      smaller p part fits = grind arith
 
 few_without : (n : ℕ) (c : Contents) (id : BlobId) → HoldsFew n c → HoldsFew n (without_slivers c id)
 few_without n c id few =
-    let d = without_part c id parts.Primary in
-    let there = less_without n c id few in
-    let p = with_part (parts_at d id) parts.Secondary None in
-    few_changed n d (without_part d id parts.Secondary) id p (with_parts_changes d id p) there (omega (arith, there id))
+    less_without n (without_part c id parts.Primary) id parts.Secondary (less_without n c id parts.Primary few)
 
 module _ (digest : List ℕ → List ℕ) where
   -- a shard of committees of f that holds what is sound, and of no blob more than n bytes
@@ -65,9 +63,7 @@ module _ (digest : List ℕ → List ℕ) where
   holds_first s = record {
     faults = refl;
     sound = empty_sound digest s.faults s.shard;
-    few = λ id.
-        let none : parts_at map_of.empty id ≡ no_parts = ap (λ (o : Option Parts). unwrap_or o no_parts) (get-empty id_cmp id) in
-        omega (arith, ap held_size none);
+    few = λ id. rw (get-empty id_cmp id) (omega arith);
   }
 
   module _ (f n k : ℕ) (old : ServedState) (holds : Holds f k old) where
@@ -75,7 +71,7 @@ module _ (digest : List ℕ → List ℕ) where
     Then new = Holds f (k + (7 + n)) new
 
     -- nothing changes but the ledger
-    as_before : Then old
+    pub as_before : Then old
     as_before = record { faults = holds.faults; sound = holds.sound; few = few_more k (7 + n) old.shard.contents holds.few }
 
     same_state : (new : ServedState) → new ≡ old → Then new
@@ -83,29 +79,25 @@ module _ (digest : List ℕ → List ℕ) where
 
     with_entries : (new : ServedState) (ledger : _) → new ≡ with_ledger old ledger → Then new
     with_entries new ledger is =
-        subst Then (sym is) (record { faults = holds.faults; sound = holds.sound; few = few_more k (7 + n) old.shard.contents holds.few })
+        rw is (record { faults = holds.faults; sound = holds.sound; few = as_before.few })
 
     with_held : (new : ServedState) (c : Contents) → new ≡ holding old c → AreSound digest old.shard.f old.shard.index c → HoldsFew (k + (7 + n)) c → Then new
-    with_held new c is sound few = subst Then (sym is) (record { faults = holds.faults; sound = sound; few = few })
+    with_held new c is sound few = rw is (record { faults = holds.faults; sound = sound; few = few })
 
     same_held : (new : ServedState) (c : Contents) → new ≡ holding old c → c ≡ old.shard.contents → Then new
-    same_held new c is same =
-        with_held new c is (subst (AreSound digest old.shard.f old.shard.index) (sym same) holds.sound)
-        (subst (HoldsFew (k + (7 + n))) (sym same) (few_more k (7 + n) old.shard.contents holds.few))
+    same_held new c is same = with_held new c is (rw same holds.sound) (rw same as_before.few)
 
     -- a part that verifies beside sound ones
     sound_then : (frame : Frame) → CanBePut frame → IsWithin n frame → IsAccepted digest (desk old.shard old.ledger.log) old.shard.contents frame
         → part_at old.shard.contents (put_id digest frame) (put_part frame) ≡ None
         → IsSound digest old.shard.f (put_id digest frame).0 old.shard.index (with_part (parts_at old.shard.contents (put_id digest frame)) (put_part frame) (Some (stored_bytes frame)))
     sound_then (Metadata m) part is accepted none =
-        let id = put_id digest (Metadata m) in
-        metadata_sound digest old.shard.f old.shard.index id.0 (parts_at old.shard.contents id) m (record { fit = is.0; identifier = refl }) accepted.verified none (holds.sound id)
+        metadata_sound digest _ _ _ _ m (record { fit = is.0; identifier = refl }) accepted.verified none
+        (holds.sound _)
     sound_then (Sliver name axis index bytes) part is accepted none =
-        let id = put_id digest (Sliver name axis index bytes) in
-        sliver_then digest old.shard.f old.shard.index name (parts_at old.shard.contents id) axis index bytes accepted.verified (holds.sound id)
+        sliver_then digest _ _ name _ axis index bytes accepted.verified (holds.sound _)
     sound_then (Proof name q) part is accepted none =
-        let id = put_id digest (Proof name q) in
-        proof_then digest old.shard.f old.shard.index name (parts_at old.shard.contents id) q accepted.verified is.2 (holds.sound id)
+        proof_then digest _ _ name _ q accepted.verified is.2 (holds.sound _)
     sound_then other part is accepted none = absurd part
 
     stored : (frame : Frame) (new : ServedState) (c : Contents) → CanBePut frame → IsWithin n frame → new ≡ holding old c → IsAccepted digest (desk old.shard old.ledger.log) old.shard.contents frame
@@ -117,8 +109,8 @@ module _ (digest : List ℕ → List ℕ) where
         let p = with_part (parts_at d id) (put_part frame) (Some (stored_bytes frame)) in
         let sound = put_sound digest old.shard.f old.shard.index d id (put_part frame) (stored_bytes frame) holds.sound (sound_then frame part is accepted none) in
         let size : held_size p ≤ k + (7 + n) = omega (arith, size_with (parts_at d id) frame n part is, holds.few id) in
-        let few = few_changed (k + (7 + n)) d (map_of.insert d id p) id p (insert_changes d id p) (few_more k (7 + n) d holds.few) size in
-        with_held new c now (subst (AreSound digest old.shard.f old.shard.index) (sym held) sound) (subst (HoldsFew (k + (7 + n))) (sym held) few)
+        let few = few_changed (k + (7 + n)) d (map_of.insert d id p) id p (insert_changes d id p) as_before.few size in
+        with_held new c now (rw held sound) (rw held few)
 
     by_put : (frame : Frame) (frames : List (List ℕ)) (clash : Option MetaClash) (new : ServedState) → CanBePut frame → IsWithin n frame
         → AnswersPut digest false frame old frames clash new → Then new
@@ -134,7 +126,7 @@ module _ (digest : List ℕ → List ℕ) where
     by_forget : (id : BlobId) (r : _) (c : Contents) (new : ServedState) → new ≡ holding old c → Forgets old.ledger.log old.shard.contents id r c → Then new
     by_forget id _ _ new is (forgotten may) =
         with_held new (without_slivers old.shard.contents id) is (without_slivers_sound digest old.shard.f old.shard.index old.shard.contents id holds.sound)
-        (few_without (k + (7 + n)) old.shard.contents id (few_more k (7 + n) old.shard.contents holds.few))
+        (few_without (k + (7 + n)) old.shard.contents id as_before.few)
     by_forget id _ _ new is (kept not) = same_held new old.shard.contents is refl
 
     -- WHAT IS HELD behind a payload of n bytes

@@ -1,5 +1,5 @@
 -- An image fits on its disk.
-use Rattle.walrus_c.proofs.Common.{◌≡◌, ℕ, ◌+◌, ◌≤◌, max, Bool, true, false, Option, Some, None, List, [], ◌∷◌, ◌++◌, length, length-append, codes, Result, Ok, Err, refl, subst, arith, ⊤, nat_lt, AllByRecursion, and_parts, leb-true, ltb-false, most_bytes, identifier_of, FrameError, Frame, Metadata, Sliver, Proof, read_of, Contents, part_at, is_absent, is_fit, Call, Put, DropPart, DropId, after_call, no_contents, fields, records, spelling, length-records-push, spelling_size}
+use Rattle.walrus_c.proofs.Common.{◌≡◌, ℕ, ◌+◌, ◌≤◌, max, Bool, true, false, Option, Some, None, List, [], ◌∷◌, ◌++◌, length, length-append, codes, Result, Ok, Err, refl, arith, ⊤, nat_lt, AllByRecursion, and_parts, leb-true, ltb-false, most_bytes, identifier_of, FrameError, Frame, Metadata, Sliver, Proof, read_of, Contents, part_at, is_absent, is_fit, Call, Put, DropPart, DropId, after_call, no_contents, fields, records, spelling, length-records-push, spelling_size}
 use Rattle.std.specs.Prelude.{if◌then◌else◌, nat_le}
 use Rattle.wal_journal.specs.Packing.{and_more, is_lawful, put_in, puts_of}
 use Rattle.wal_run.specs.Imaging.{image_from, image_of, imaging, room_behind, room_of}
@@ -75,9 +75,9 @@ pub imaged : (digest : List ℕ → List ℕ) → ((text : List ℕ) → length 
     → size ≤ 134217728
     → Tells digest (imaging digest size) input (max size 272)
 imaged digest size_is size input range succeeds payloads spells text whole =
-    omega (arith, subst (IsImaged size) whole (made digest size_is size payloads))
+    omega (arith, rw whole at (made digest size_is size payloads))
 imaged digest size_is size input range lacks payloads spells text (needed, free, full, told) =
-    let fit = subst (IsImaged size) full (made digest size_is size payloads) in
+    let fit = rw full at (made digest size_is size payloads) in
     two_fits (max size 272) (codes "disk full needed ") (codes " free ") needed free text (omega arith) (omega arith)
     (omega (arith, fit.0)) (omega (arith, fit.1, range)) told
 imaged digest size_is size input range other payloads spells text none = absurd none

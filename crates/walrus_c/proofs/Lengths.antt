@@ -1,5 +1,5 @@
 -- How many bytes numerals, lines and digests have.
-use Rattle.walrus_c.proofs.Common.{refl, ◌≡◌, ℕ, ◌+◌, ◌*◌, ◌<◌, ◌≤◌, List, [], ◌∷◌, ◌++◌, length, length-append, codes, decimal, ap, ◌∙◌, arith, flat_map, length-decimal-le, encode_lower, lower_digits, hex_text, collision_text}
+use Rattle.walrus_c.proofs.Common.{◌≡◌, ℕ, ◌+◌, ◌*◌, ◌<◌, ◌≤◌, List, [], ◌∷◌, ◌++◌, length, length-append, decimal, ap, ◌∙◌, arith, flat_map, length-decimal-le, encode_lower, lower_digits, hex_text, collision_text}
 use Rattle.std.proofs.lemmas.List.Concat.{flat_map-cons}
 use Rattle.hex.proofs.HexLemmas.{length-encode_with}
 use Rattle.wal_run.specs.Lines.{number_text}
@@ -15,18 +15,12 @@ numeral n small = length-decimal-le 9 n (omega arith) (omega arith) (omega (arit
 
 -- a numeral behind a prefix
 pub number_line : (prefix : List ℕ) (n : ℕ) → n < 1000000000 → length (number_text prefix n) ≤ length prefix + 10
-number_line prefix n small =
-    let end : List ℕ = codes "\n" in
-    let one : length end ≡ 1 = refl in
-    let whole : length ((prefix ++ decimal n) ++ end) ≡ length (prefix ++ decimal n) + length end = length-append (prefix ++ decimal n) end in
-    let most : length ((prefix ++ decimal n) ++ end) ≤ length prefix + 10 = omega (arith, numeral n small, whole, length-append prefix (decimal n), one) in
-    most
+number_line prefix n small = simp length-append (omega (arith, numeral n small))
 
 -- two numerals behind prefixes
 pub two_line : (prefix middle : List ℕ) (n m : ℕ) → n < 1000000000 → m < 1000000000
     → length ((prefix ++ decimal n) ++ number_text middle m) ≤ length prefix + length middle + 19
-two_line prefix middle n m small few =
-    omega (arith, numeral n small, number_line middle m few, length-append prefix (decimal n), length-append (prefix ++ decimal n) (number_text middle m))
+two_line prefix middle n m small few = simp length-append (omega (arith, numeral n small, numeral m few))
 
 -- these among the lines of at most 272 bytes
 pub one_fits : (room : ℕ) (prefix : List ℕ) (n : ℕ) (text : List ℕ) → 272 ≤ room → length prefix ≤ 200 → n < 1000000000
@@ -51,24 +45,4 @@ hex_most (x ∷ xs) n most some = omega (arith, digits (x ∷ xs), most)
 -- the line of two texts of at most 65 bytes
 pub clash_line : (left right : List ℕ) → length left ≤ 65 → length right ≤ 65 → length (collision_text left right) ≤ 272
 clash_line left right one other =
-    let end : List ℕ = codes "\n" in
-    let space : List ℕ = codes " " in
-    let word : List ℕ = codes "collision " in
-    let a : length end ≡ 1 = refl in
-    let b : length space ≡ 1 = refl in
-    let c : length word ≡ 10 = refl in
-    let first = word ++ hex_text left in
-    let most : length (((first ++ space) ++ hex_text right) ++ end) ≤ 272 =
-    omega (
-      arith,
-      a,
-      b,
-      c,
-      length-append word (hex_text left),
-      length-append first space,
-      length-append (first ++ space) (hex_text right),
-      length-append ((first ++ space) ++ hex_text right) end,
-      hex_most left 65 one (omega arith),
-      hex_most right 65 other (omega arith),
-    ) in
-    most
+    simp length-append (omega (arith, hex_most left 65 one (omega arith), hex_most right 65 other (omega arith)))

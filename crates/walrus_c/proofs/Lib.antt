@@ -14,7 +14,6 @@ mod RangeTexts
 mod Ranges
 mod ReadTexts
 mod RecoverTexts
-mod Refusals
 mod Results
 mod Rooms
 mod ServeTexts

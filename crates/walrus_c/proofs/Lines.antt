@@ -1,5 +1,5 @@
 -- The commands whose every text is a line.
-use Rattle.walrus_c.proofs.Common.{◌≡◌, ℕ, ◌≤◌, List, [], ◌∷◌, length, length-append, codes, refl, ap, ◌∙◌, arith, inl, inr, Axis, Primary, Secondary, BlobId, Format, IsShape, sliver_symbols, EncodingProof, BlobMetadata, identifier_of, Checks, ProofVerdict, IsMetadataIn, claims_in, Audit, encode_lower, checking, verdict_text}
+use Rattle.walrus_c.proofs.Common.{◌≡◌, ℕ, ◌≤◌, List, [], ◌∷◌, length, length-append, codes, refl, ap, ◌∙◌, arith, inl, inr, Axis, BlobId, Format, IsShape, sliver_symbols, EncodingProof, BlobMetadata, identifier_of, Checks, ProofVerdict, IsMetadataIn, claims_in, Audit, encode_lower, checking, verdict_text}
 use Rattle.std.proofs.lemmas.Option.{slice_get_within}
 use Rattle.wal_evidence.specs.declared.proof.ProofVerdict.TheVariants.{BadOpening}
 use Rattle.wal_run.specs.Identifying.{identifying}
@@ -26,8 +26,7 @@ module _ (digest : List ℕ → List ℕ) where
   -- ---- check
 
   symbols_most : (axis : Axis) (f : ℕ) → f ≤ 333 → sliver_symbols axis f ≤ 667
-  symbols_most Primary f most = omega (arith, most)
-  symbols_most Secondary f most = omega (arith, most)
+  symbols_most axis f most = grind arith
 
   verdict_short : (m : BlobMetadata) (p : EncodingProof) (v : ProofVerdict) → m.f ≤ 333 → Checks digest m p v → length (verdict_text v) ≤ 272
   verdict_short m p (BadOpening place) most is =

@@ -1,5 +1,5 @@
 -- A bundle, and a member of one.
-use Rattle.walrus_c.proofs.Common.{◌≡◌, ℕ, ◌+◌, ◌-◌, ◌*◌, ◌%◌, ◌<◌, ◌≤◌, List, length, length-take, codes, get_or, inl, inr, ap, ◌∙◌, arith, mul-le-mul_left, mul-le-mul_right, cases_lt, BlobId, IsShape, cell_count, column_count, most_bytes, row_count, symbol_size, symbol_size-least, member_most}
+use Rattle.walrus_c.proofs.Common.{◌≡◌, ◌⊎◌, ℕ, ◌+◌, ◌-◌, ◌*◌, ◌%◌, ◌<◌, ◌≤◌, List, length, length-take, codes, get_or, inl, inr, ap, arith, mul-le-mul_left, mul-le-mul_right, cases_lt, BlobId, IsShape, cell_count, column_count, most_bytes, row_count, symbol_size, symbol_size-least, member_most}
 use Rattle.wal_bundle.specs.Layout.{column_bytes, columns_for, index_bytes}
 use Rattle.wal_bundle.specs.Member.{MissesColumn, count_in, of_start, of_index, of_member}
 use Rattle.wal_bundle.proofs.Room.{columns_for-close, member_within}
@@ -23,25 +23,12 @@ cells_few f few = let square : f * f ≤ f * 333 = mul-le-mul_left f few in omeg
 
 -- each of so many is filled but for less than a word
 filled : (c s length : ℕ) → length ≤ most_bytes → s % 2 ≡ 0 → 2 ≤ s → ((t : ℕ) → t % 2 ≡ 0 → 2 ≤ t → length ≤ c * t → s ≤ t) → c * s ≤ most_bytes + 2 * c
-filled c s length short even two least = elim (cases_lt 2 s) [
-  | inl four ↦ (
-      let t = s - 2 in
-      let up : s ≡ t + 2 = omega (arith, four) in
-      let parts : c * (t + 2) ≡ c * t + 2 * c = more t in
-      let whole : c * s ≡ c * t + 2 * c = ap (λ n. c * n) up ∙ parts in
-      elim (cases_lt (c * t) length) [
-        | inl less ↦ omega (arith, whole, less, short)
-        | inr room ↦ (let below = least t (omega (arith, even, four)) (omega (arith, even, four)) room in absurd (omega (arith, below, four)))
-      ]
-      )
-  | inr one ↦ (
-      let same : s ≡ 2 = omega (arith, one, two) in
-      let pair : c * s ≡ c * 2 = ap (λ n. c * n) same in
-      omega (arith, pair)
-      )
-] where
-  more : (t : ℕ) → c * (t + 2) ≡ c * t + 2 * c
-  more t = omega arith
+filled c s length short even two least = by (cases_lt 2 s) (cases_lt (c * (s - 2)) length) where
+  by : (2 < s) ⊎ (s ≤ 2) → (c * (s - 2) < length) ⊎ (length ≤ c * (s - 2)) → c * s ≤ most_bytes + 2 * c
+  by (inl four) (inl less) =
+      let whole : c * s ≡ c * ((s - 2) + 2) = ap (λ n. c * n) (omega arith) in omega arith
+  by (inl four) (inr room) = absurd (omega (arith, least (s - 2) (omega arith) (omega arith) room))
+  by (inr one) either = let pair : c * s ≡ c * 2 = ap (λ n. c * n) (omega arith) in omega arith
 
 block_short : (f length : ℕ) → IsShape f length → cell_count f * symbol_size f length ≤ member_most
 block_short f length shape =
@@ -52,8 +39,7 @@ block_short f length shape =
 columns_short : (f s count : ℕ) → count ≤ column_count f → cell_count f * s ≤ member_most → count * column_bytes f s ≤ member_most
 columns_short f s count few whole =
     let more : count * column_bytes f s ≤ column_count f * column_bytes f s = mul-le-mul_right (column_bytes f s) few in
-    let same : column_count f * column_bytes f s ≡ cell_count f * s = omega arith in
-    omega (arith, more, same, whole)
+    omega (arith, more, whole)
 
 -- bytes need no more columns than there are bytes
 columns_few : (size bytes : ℕ) → 0 < size → columns_for size bytes ≤ bytes

@@ -1,5 +1,5 @@
 -- What a shard answers to a storage challenge: envelopes of openings, each with a symbol.
-use Rattle.walrus_c.proofs.Common.{◌≡◌, ℕ, zero, suc, ◌+◌, ◌*◌, ◌/◌, ◌≤◌, List, [], ◌∷◌, length, Some, slice_get, inl, inr, ap, refl, subst, sym, arith, flat_map, mul-le-mul_right, Primary, Secondary, IsShape, column_count, row_count, symbol_size, BlobMetadata, symbol_size-least, body_of, frame_text, IsStream, length-opening_frame, IsMetadataIn, Audit, Recorded, opening_most}
+use Rattle.walrus_c.proofs.Common.{◌≡◌, ℕ, zero, suc, ◌+◌, ◌*◌, ◌/◌, ◌≤◌, List, [], ◌∷◌, length, Some, slice_get, inl, inr, ap, refl, arith, flat_map, mul-le-mul_right, Primary, Secondary, IsShape, column_count, row_count, symbol_size, BlobMetadata, symbol_size-least, body_of, frame_text, IsStream, length-opening_frame, IsMetadataIn, Audit, Recorded, opening_most}
 use Rattle.wal_shape.specs.declared.opening.Opening.{Opening}
 use Rattle.wal_frame.specs.Frame as frame
 use Rattle.wal_challenge.specs.Answer.{HoldsBoth}
@@ -26,19 +26,17 @@ envelopes_long : (digest : List ℕ → List ℕ) (a : Audit) (m : BlobMetadata)
 envelopes_long digest a m most d [] long each = omega arith
 envelopes_long digest a m most d (o ∷ os) long each =
     let claim = claim_of digest m a.beacon a.shard d o in
-    let rest = envelopes_long digest a m most (d + 1) os long (λ k p there. each (suc k) p there) in
-    let here = each zero o refl in
+    let rest = envelopes_long digest a m most (d + 1) os long (λ k. each (suc k)) in
     let head = envelope_long a.shard (frame_text (frame.Opening a.id.0 claim.axis claim.index o)) in
     let body = length-opening_frame a.id.0 claim.axis claim.index o long in
     let others = claims_from digest m a.beacon a.shard (d + 1) os in
-    let more : suc (length os) * most ≡ most + length os * most = omega arith in
-    omega (arith, rest, here, head, body, length-flat_map-cons (claim_envelope a) claim others, more)
+    omega (arith, rest, each zero o refl, head, body, length-flat_map-cons (claim_envelope a) claim others)
 
 -- an answer to one draw at least has room for a line
 pub answer_some : (amount count : ℕ) → 1 ≤ amount → 272 ≤ amount * opening_most count
-answer_some amount count some = more amount (opening_most count) some (omega arith) where
-  more : (n most : ℕ) → 1 ≤ n → 272 ≤ most → 272 ≤ n * most
-  more n most one large = let least : 1 * most ≤ n * most = mul-le-mul_right most one in omega (arith, least, large)
+answer_some amount count some =
+    let least : 1 * opening_most count ≤ amount * opening_most count =
+    mul-le-mul_right (opening_most count) some in omega arith
 
 module _ (digest : List ℕ → List ℕ) (size_is : (text : List ℕ) → length (digest text) ≡ 32) where
   -- the sliver's symbols are among the stream's bytes
@@ -48,9 +46,9 @@ module _ (digest : List ℕ → List ℕ) (size_is : (text : List ℕ) → lengt
       let m = r.metadata in
       let s = symbol_size m.f m.length in
       let one : length primary ≤ sliver_sizes Primary r.payloads =
-      subst (λ ps. length primary ≤ sliver_sizes Primary ps) (sym are) (sliver_among Primary a.id.0 _ primary front payload back row.0) in
+      rw are (sliver_among Primary a.id.0 _ primary front payload back row.0) in
       let two : length secondary ≤ sliver_sizes Secondary r.payloads =
-      subst (λ ps. length secondary ≤ sliver_sizes Secondary ps) (sym also) (sliver_among Secondary a.id.0 _ secondary before other after column.0) in
+      rw also (sliver_among Secondary a.id.0 _ secondary before other after column.0) in
       let row_long : length primary ≡ column_count m.f * s = row.1.size in
       let column_long : length secondary ≡ row_count m.f * s = column.1.size in
       let three : 3 * s ≤ column_count m.f * s = mul-le-mul_right s (omega (arith, shape.0)) in

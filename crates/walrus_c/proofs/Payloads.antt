@@ -1,5 +1,5 @@
 -- What a payload is read as lies within it, whatever numbers stand for its bytes, and so do the slivers of a stream within the stream.
-use Rattle.walrus_c.proofs.Common.{◌≡◌, ℕ, ◌+◌, ◌≤◌, List, [], ◌∷◌, ◌++◌, length, Result, Ok, refl, ap, arith, ⊤, Axis, Primary, Secondary, IsMetadata, IsProof, metadata_text, proof_text, FrameError, Frame, Metadata, Sliver, Proof, Read, Symbol, IsFrame, frame_text, envelope, read_of, IsStream, length-sliver_frame, frame_is, same_axis}
+use Rattle.walrus_c.proofs.Common.{◌≡◌, ℕ, ◌+◌, ◌≤◌, List, [], ◌∷◌, ◌++◌, length, Result, Ok, refl, ap, arith, ⊤, Axis, Primary, Secondary, IsMetadata, IsProof, metadata_text, proof_text, FrameError, Frame, Metadata, Sliver, Proof, Read, Symbol, IsFrame, frame_text, read_of, IsStream, length-sliver_frame, frame_is, same_axis}
 use Rattle.std.specs.Prelude.{if◌then◌else◌}
 use Rattle.std.proofs.lemmas.List.{length-append}
 use Rattle.wal_frame.proofs.FieldLaws.{length-target}
@@ -58,14 +58,12 @@ sizes_append axis (first ∷ front) payload = omega (arith, sizes_append axis fr
 pub slivers_within : (payloads : List (List ℕ)) (bytes : List ℕ) → IsStream payloads bytes → sliver_sizes Primary payloads + sliver_sizes Secondary payloads ≤ length bytes
 slivers_within [] bytes is = omega arith
 slivers_within (payload ∷ payloads) bytes is =
-    let more = slivers_within payloads is.1 is.4 in
     let here = one_within (length payload) (read_of payload) (reads payload) in
-    omega (arith, more, here, envelope_long is.0 payload, ap length is.3, length-append (envelope is.0 payload) is.1)
+    rw (is.3, length-append) (omega (arith, slivers_within payloads is.1 is.4, here, envelope_long is.0 payload))
 
 -- a sliver is one of its axis
 pub size_read : (axis : Axis) (id : List ℕ) (index : ℕ) (bytes : List ℕ) → sliver_size axis (Ok (Sliver id axis index bytes)) ≡ length bytes
-size_read Primary id index bytes = refl
-size_read Secondary id index bytes = refl
+size_read axis id index bytes = grind arith
 
 pub sliver_among : (axis : Axis) (id : List ℕ) (index : ℕ) (bytes : List ℕ) (front : List (List ℕ)) (payload : List ℕ) (back : List (List ℕ))
     → read_of payload ≡ Ok (Sliver id axis index bytes) → length bytes ≤ sliver_sizes axis (front ++ payload ∷ back)

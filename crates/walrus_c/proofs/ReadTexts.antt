@@ -1,5 +1,5 @@
 -- A blob that is read has no more bytes than what it is read from, nor than any blob.
-use Rattle.walrus_c.proofs.Common.{◌≡◌, ℕ, ◌+◌, ◌*◌, ◌≤◌, List, [], ◌∷◌, ◌++◌, length, length-append, length-take, codes, ap, ◌∙◌, arith, flat_map, flat_map-append, Primary, BlobId, BlobMetadata, cell_count, column_count, most_bytes, row_count, symbol_size, symbol_size-least, Collects, Decides, GivesSliver, IndexedSliver, read_most}
+use Rattle.walrus_c.proofs.Common.{◌≡◌, refl, ℕ, ◌+◌, ◌*◌, ◌≤◌, List, [], ◌∷◌, length, length-append, length-take, codes, ap, arith, flat_map, flat_map-append, Primary, BlobId, BlobMetadata, column_count, most_bytes, row_count, symbol_size, symbol_size-least, Collects, Decides, GivesSliver, IndexedSliver, read_most}
 use Rattle.wal_matrix.specs.Through.{source_of}
 use Rattle.wal_evidence.specs.Evidence.{sliver_bytes}
 use Rattle.wal_evidence.specs.FirstOfEach.{Adds, TakesAfter, adds, keeps}
@@ -19,15 +19,16 @@ module _ (digest : List ℕ → List ℕ) (id : List ℕ) (m : BlobMetadata) whe
 
   taken_within : (most : ℕ) (before : List IndexedSliver) (payloads : List (List ℕ)) (taken : List IndexedSliver)
       → TakesAfter (GivesSliver digest id m) (λ s. s.index) most before payloads taken → length (joined_of taken) ≤ length (joined_of before) + sliver_sizes Primary payloads
-  taken_within most before [] taken is = omega (arith, ap (λ (ss : List IndexedSliver). length (joined_of ss)) is)
+  taken_within most before [] taken is = rw is (omega arith)
   taken_within most before (payload ∷ payloads) taken (after, one, others) = by (taken_within most after payloads taken others) one where
     by : length (joined_of taken) ≤ length (joined_of after) + sliver_sizes Primary payloads → Adds (GivesSliver digest id m) (λ s. s.index) most payload before after
         → length (joined_of taken) ≤ length (joined_of before) + sliver_sizes Primary (payload ∷ payloads)
     by behind (adds y few gives new is) =
+        let both = flat_map-append (λ (s : IndexedSliver). s.bytes) before (y ∷ []) in
         let last = length-flat_map-cons (λ (s : IndexedSliver). s.bytes) y [] in
-        let both : length (joined_of (before ++ y ∷ [])) ≡ length (joined_of before) + length (joined_of (y ∷ [])) =
-        ap length (flat_map-append (λ (s : IndexedSliver). s.bytes) before (y ∷ [])) ∙ length-append (joined_of before) (joined_of (y ∷ [])) in
-        omega (arith, behind, ap (λ (ss : List IndexedSliver). length (joined_of ss)) is, both, last, ap (sliver_size Primary) gives.0, size_read Primary id y.index y.bytes)
+        let more : length (joined_of after) ≡ length (joined_of before) + length (joined_of (y ∷ [])) =
+        rw (is, both, length-append) refl in
+        omega (arith, behind, more, last, ap (sliver_size Primary) gives.0, size_read Primary id y.index y.bytes)
     by behind (keeps none is) = omega (arith, behind, ap (λ (ss : List IndexedSliver). length (joined_of ss)) is)
 
   joined_within : (payloads : List (List ℕ)) (indices joined : List ℕ) → Collects digest id m payloads indices joined → length joined ≤ sliver_sizes Primary payloads
@@ -43,9 +44,8 @@ module _ (digest : List ℕ → List ℕ) (size_is : (text : List ℕ) → lengt
       let cut : length bytes ≤ m.length = omega (arith, ap length judges.2.0, length-take m.length (source_of m.f s judges.0)) in
       let size : length joined ≡ length indices * sliver_bytes m = collects_size digest id m payloads indices joined collects in
       let rows : length indices * sliver_bytes m ≡ row_count m.f * (column_count m.f * s) = ap (λ (n : ℕ). n * sliver_bytes m) many in
-      let cells : cell_count m.f * s ≡ row_count m.f * (column_count m.f * s) = omega arith in
       let room = (symbol_size-least m.f m.length).room in (
-        omega (arith, cut, size, rows, cells, room, joined_within digest id m payloads indices joined collects),
+        omega (arith, cut, size, rows, room, joined_within digest id m payloads indices joined collects),
         omega (arith, cut, shape.2),
       )
 

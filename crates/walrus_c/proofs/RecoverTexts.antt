@@ -1,5 +1,5 @@
 -- A sliver that is recovered, and a proof of bad encoding.
-use Rattle.walrus_c.proofs.Common.{◌≡◌, ℕ, suc, ◌+◌, ◌*◌, ◌≤◌, All, List, [], ◌∷◌, length, length-append, length-take, codes, ap, ◌∙◌, arith, flat_map, mul-le-mul_right, mul-le-mul_left, Axis, Primary, Secondary, BlobId, IsShape, column_count, most_bytes, shard_count, sliver_symbols, symbol_size, BlobMetadata, body_text, proof_text, matrix_bytes-bound, HoldsOpening, identifier_of, body_of, IsBadProof, Proof, frame_text, sliver_frame, length-sliver_frame, IsMetadataIn, recovered_most}
+use Rattle.walrus_c.proofs.Common.{◌≡◌, ℕ, ◌+◌, ◌*◌, ◌≤◌, All, List, [], ◌∷◌, length, length-append, length-take, codes, ap, ◌∙◌, arith, flat_map, mul-le-mul_right, mul-le-mul_left, Axis, BlobId, IsShape, column_count, most_bytes, shard_count, sliver_symbols, symbol_size, BlobMetadata, body_text, proof_text, matrix_bytes-bound, HoldsOpening, identifier_of, body_of, IsBadProof, Proof, frame_text, sliver_frame, length-sliver_frame, IsMetadataIn, recovered_most}
 use Rattle.std.proofs.lemmas.List.Elements.{All-head, All-tail}
 use Rattle.wal_shape.specs.declared.opening.Opening.{Opening}
 use Rattle.wal_shape.proofs.BodyLaws.{length-body_text}
@@ -10,8 +10,7 @@ use Rattle.walrus_c.proofs.Results.{Tells, succeeds, rejects, lacks}
 use Rattle.walrus_c.proofs.Streams.{envelope_long}
 
 symbols_few : (axis : Axis) (f : ℕ) → sliver_symbols axis f ≤ column_count f
-symbols_few Primary f = omega arith
-symbols_few Secondary f = omega arith
+symbols_few axis f = grind arith
 
 -- the symbols of a sliver have no more bytes than the longest blob
 sliver_fits : (axis : Axis) (f length : ℕ) → IsShape f length → sliver_symbols axis f * symbol_size f length ≤ most_bytes
@@ -22,33 +21,27 @@ sliver_fits axis f length fit =
     let square : n * 4 ≤ n * n = mul-le-mul_left n (omega (arith, fit.0)) in
     let fifth : 5 * count ≤ n * n = omega (arith, square, symbols_few axis f, fit.0) in
     let within : 5 * count * s ≤ n * n * s = mul-le-mul_right s fifth in
-    let parts : 5 * count * s ≡ 5 * (count * s) = omega arith in
-    omega (arith, within, parts, matrix_bytes-bound f length fit)
+    omega (arith, within, matrix_bytes-bound f length fit)
 
 module _ (digest : List ℕ → List ℕ) (size_is : (text : List ℕ) → length (digest text) ≡ 32) where
   bodies_long : (m : BlobMetadata) (axis : Axis) (index : ℕ) (os : List Opening) → IsShape m.f m.length → All (HoldsOpening digest m axis index) os
       → length (flat_map body_text os) ≤ length os * (327 + symbol_size m.f m.length)
   bodies_long m axis index [] shape held = omega arith
   bodies_long m axis index (o ∷ os) shape held =
-      let s = symbol_size m.f m.length in
       let first = All-head (HoldsOpening digest m axis index) o os held in
-      let size : length o.symbol ≡ s = first.size in
-      let path : length o.path ≤ 320 = (body_of digest m axis index o shape first).path in
       let rest = bodies_long m axis index os shape (All-tail (HoldsOpening digest m axis index) o os held) in
-      let more : suc (length os) * (327 + s) ≡ 327 + s + length os * (327 + s) = omega arith in
-      omega (arith, rest, length-body_text o, path, length-flat_map-cons body_text o os, size, more)
+      let path = (body_of digest m axis index o shape first).path in
+      omega (arith, rest, length-body_text o, path, length-flat_map-cons body_text o os, first.size)
 
   proof_short : (m : BlobMetadata) (axis : Axis) (index : ℕ) (taken : List Opening) → IsShape m.f m.length → IsBadProof digest m (proof_of axis index taken)
       → length (proof_text (proof_of axis index taken)) ≤ 5 + 667 * 327 + most_bytes
   unfolding proof_text
   proof_short m axis index taken shape bad =
       let s = symbol_size m.f m.length in
-      let count = sliver_symbols axis m.f in
-      let long : length taken ≡ count = bad.line.enough.count in
       let bodies = bodies_long m axis index taken shape bad.line.enough.held in
-      let same : length taken * (327 + s) ≡ count * (327 + s) = ap (λ k. k * (327 + s)) long in
-      let parts : count * (327 + s) ≡ 327 * count + count * s = omega arith in
-      omega (arith, bodies, same, parts, sliver_fits axis m.f m.length shape, symbols_few axis m.f, shape.1)
+      let same : length taken * (327 + s) ≡ sliver_symbols axis m.f * (327 + s) =
+      ap (λ k. k * (327 + s)) bad.line.enough.count in
+      omega (arith, bodies, same, sliver_fits axis m.f m.length shape, symbols_few axis m.f, shape.1)
 
   pub id_long : (id : List ℕ) (payloads : List (List ℕ)) (m : BlobMetadata) → IsMetadataIn digest id payloads m → length id ≡ 32
   unfolding identifier_of

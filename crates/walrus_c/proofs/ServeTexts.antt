@@ -1,5 +1,5 @@
 -- What a shard answers that serves: few bytes to most envelopes, and what it holds of a blob to a request for its parts.
-use Rattle.walrus_c.proofs.Common.{◌≡◌, false, ℕ, ◌+◌, ◌*◌, ◌≤◌, min, List, [], ◌∷◌, ◌++◌, length, length-append, Option, Some, None, IsSome, Result, Ok, Err, unwrap_or, refl, sym, ap, subst, ◌∙◌, arith, w32, mul-le-mul_right, flat_map-append, Axis, Primary, Secondary, MetaClash, shard_count, column_count, crossing, most_bytes, sliver_symbols, symbol_size, BlobMetadata, metadata_text, number_text, spelled_metadata-text, HoldsSliver, body_of, FrameError, Frame, Metadata, Sliver, Opening, Proof, Read, Symbol, Answer, Clash, envelope, frame_text, metadata_frame, sliver_frame, length-opening_frame, length-sliver_frame, Parts, part_of, parts_at, PutAnswer, IsSound, OpeningReply, SymbolReplies, given, metadata_reply, no_shard, not_held, payload_if, primary_reply, proof_reply, read_reply_of, ShowsTexts, IsOwnMetadata, metadata_fits, proof_fits, sliver_fits, one_metadata, ServedState, named, clash_in, clash_text, malformed, outcome_text, put_reply, reply, reply_text, sent, AnswersPut, AnswersRead, IsReplied, IsReplyOutcome}
+use Rattle.walrus_c.proofs.Common.{◌≡◌, false, ℕ, ◌+◌, ◌*◌, ◌≤◌, min, List, [], ◌∷◌, ◌++◌, length, length-append, Option, Some, None, IsSome, Result, Ok, Err, unwrap_or, refl, sym, ap, subst, ◌∙◌, arith, w32, flat_map-append, Axis, Primary, MetaClash, shard_count, column_count, crossing, most_bytes, sliver_symbols, symbol_size, metadata_text, number_text, spelled_metadata-text, HoldsSliver, body_of, FrameError, Frame, Metadata, Sliver, Opening, Proof, Read, Symbol, Answer, Clash, envelope, frame_text, metadata_frame, sliver_frame, length-opening_frame, length-sliver_frame, Parts, part_of, parts_at, PutAnswer, IsSound, OpeningReply, SymbolReplies, given, metadata_reply, no_shard, not_held, payload_if, primary_reply, proof_reply, read_reply_of, ShowsTexts, IsOwnMetadata, metadata_fits, proof_fits, sliver_fits, one_metadata, ServedState, named, clash_in, clash_text, outcome_text, put_reply, reply, reply_text, sent, AnswersPut, AnswersRead, IsReplied, IsReplyOutcome}
 use Rattle.wal_shape.specs.MetadataReading.{spelled_metadata}
 use Rattle.wal_shape.specs.Part.{sliver_part}
 use Rattle.wal_commit.proofs.HonestOpenings.{honest_opening}
@@ -23,18 +23,15 @@ sent_one own x = omega (arith, length-flat_map-cons (envelope own) x [], envelop
 pub sent_both : (own : ℕ) (xs ys : List (List ℕ)) → length (sent own (xs ++ ys)) ≡ length (sent own xs) + length (sent own ys)
 sent_both own xs ys = ap length (flat_map-append (envelope own) xs ys) ∙ length-append (sent own xs) (sent own ys)
 
-reply_long : (code a b : ℕ) → length (reply_text (reply code a b)) ≡ 10
-reply_long code a b = omega (arith, length-append (number_text w32 a) (number_text w32 b))
-
 -- an answer
 pub sent_reply : (own code a b : ℕ) → length (sent own (reply_text (reply code a b) ∷ [])) ≡ 17
-sent_reply own code a b = omega (arith, sent_one own (reply_text (reply code a b)), reply_long code a b)
+sent_reply own code a b =
+    omega (arith, sent_one own (reply_text (reply code a b)), length-append (number_text w32 a) (number_text w32 b))
 
 -- two texts
 sent_texts : (own : ℕ) (c : MetaClash) → length c.left ≤ 65 → length c.right ≤ 65 → length (sent own (clash_text c ∷ [])) ≤ 140
 sent_texts own c left right =
-    let texts : length (clash_text c) ≡ 3 + length c.left + length c.right = omega (arith, length-append c.left (length c.right ∷ c.right)) in
-    omega (arith, sent_one own (clash_text c), texts, left, right)
+    omega (arith, sent_one own (clash_text c), length-append c.left (length c.right ∷ c.right))
 
 -- the frame of a part that may be held
 sent_part : (own around : ℕ) (o : Option (List ℕ)) (payload : List ℕ → List ℕ) → ((bytes : List ℕ) → o ≡ Some bytes → 7 + length (payload bytes) ≡ around + length bytes)
@@ -44,23 +41,20 @@ sent_part own around (Some bytes) payload long = omega (arith, sent_one own (pay
 
 -- ---- what a payload costs
 
--- of a payload of n bytes, where what is held is at most so much: an answer of 17 bytes; or what is held besides, where the payload has 33 bytes;
--- or two texts, which end serving
-pub data Costs (own n most : ℕ) (frames : List (List ℕ)) (clash : Option MetaClash) : Type 0 where
-  one : length (sent own frames) ≤ 17 → Costs own n most frames clash
-  parts : 33 ≤ n → length (sent own frames) ≤ 17 + most → Costs own n most frames clash
-  texts : (c : MetaClash) → clash ≡ Some c → length (sent own frames) ≤ 140 → Costs own n most frames clash
+-- the bytes of two texts that end serving
+abbrev pub of_clash : Option MetaClash → ℕ
+of_clash None = 0
+of_clash (Some c) = 140
 
-module _ (own n most : ℕ) (frames : List (List ℕ)) (clash : Option MetaClash) where
-  -- an answer
-  costs_reply : (code a b : ℕ) → frames ≡ reply_text (reply code a b) ∷ [] → Costs own n most frames clash
-  costs_reply code a b is = one (omega (arith, ap (λ (fs : List (List ℕ)). length (sent own fs)) is, sent_reply own code a b))
-
-  -- what is held, and the number of frames
-  costs_parts : (payloads : List (List ℕ)) → 33 ≤ n → length (sent own payloads) ≤ most → IsReplied payloads frames clash → Costs own n most frames clash
-  costs_parts payloads some few told =
-      let count = reply_text (done (length payloads)) ∷ [] in
-      parts some (omega (arith, few, ap (λ (fs : List (List ℕ)). length (sent own fs)) told.0, sent_both own payloads count, sent_reply own 0 (length payloads) 0))
+-- among n bytes so many envelopes were answered, of which so many asked for parts, whose payload has 33 bytes: with 17
+-- bytes each, and what is
+-- held besides; or with two texts, which end serving
+abbrev pub Sums : (own most n : ℕ) → List (List ℕ) → Option MetaClash → Type 0
+Sums own most n frames clash =
+    (all : ℕ) × (asking : ℕ)
+    ×
+    ((asking ≤ all) × (7 * all + 33 * asking ≤ n)
+    × (length (sent own frames) ≤ of_clash clash + 17 * all + most * asking))
 
 module _ (digest : List ℕ → List ℕ) (size_is : (text : List ℕ) → length (digest text) ≡ 32) where
   -- ---- parts that are held
@@ -73,8 +67,7 @@ module _ (digest : List ℕ → List ℕ) (size_is : (text : List ℕ) → lengt
           let had = sound.metadata bytes e in
           let m = had.0 in
           let text : bytes ≡ metadata_text m = ap (λ (o : Option (List ℕ)). unwrap_or o []) (sym e ∙ had.1.spelled) in
-          let same : spelled_metadata bytes ≡ m = ap spelled_metadata text ∙ spelled_metadata-text m had.1.fit in
-          omega (arith, ap (λ (x : BlobMetadata). length (metadata_text x)) same, ap length text)
+          rw (text, spelled_metadata-text m had.1.fit) (omega arith)
 
     primary_long : length (sent own (primary_reply id index p)) ≡ part_size 47 p.primary
     primary_long =
@@ -125,8 +118,7 @@ module _ (digest : List ℕ → List ℕ) (size_is : (text : List ℕ) → lengt
     -- ---- an opening
 
     one_symbol : (axis : Axis) (g length : ℕ) → symbol_size g length ≤ sliver_symbols axis g * symbol_size g length
-    one_symbol Primary g length = let least : 1 * symbol_size g length ≤ sliver_symbols Primary g * symbol_size g length = mul-le-mul_right (symbol_size g length) (omega arith) in omega (arith, least)
-    one_symbol Secondary g length = let least : 1 * symbol_size g length ≤ sliver_symbols Secondary g * symbol_size g length = mul-le-mul_right (symbol_size g length) (omega arith) in omega (arith, least)
+    one_symbol axis g length = grind arith
 
     opening_long : (axis : Axis) (k : ℕ) (opening : List (List ℕ)) → OpeningReply digest id index p axis k opening
         → (length (sent own opening) ≤ 323 + part_size 47 (part_of p (sliver_part (crossing axis)))) × (length (sent own opening) ≤ 47 + column_count f * symbol_size f most_bytes)
@@ -149,15 +141,13 @@ module _ (digest : List ℕ → List ℕ) (size_is : (text : List ℕ) → lengt
     opening_long axis k _ (no_shard m holds past) = (omega arith, omega arith)
 
     held_parts : (axis : Axis) → part_size 8 p.metadata + part_size 47 (part_of p (sliver_part (crossing axis))) + part_size 40 p.proof ≤ held_size p
-    held_parts Primary = omega arith
-    held_parts Secondary = omega arith
+    held_parts axis = grind arith
 
     -- what is replied to a request for symbols
     symbol_short : (n : ℕ) → held_size p ≤ n → (axis : Axis) (k : ℕ) (payloads : List (List ℕ)) → SymbolReplies digest id index p axis k payloads
         → length (sent own payloads) ≤ 323 + min n (shard.room_of f)
     symbol_short n few axis k payloads (opening, opens, are) =
         let both = opening_long axis k opening opens in
-        let room = sum_most (part_size 8 p.metadata) (length (sent own opening)) (part_size 40 p.proof) metadata_most both.1 proof_most in
         omega (
           arith,
           ap (λ (ps : List (List ℕ)). length (sent own ps)) are,
@@ -166,7 +156,8 @@ module _ (digest : List ℕ → List ℕ) (size_is : (text : List ℕ) → lengt
           metadata_long,
           proof_long,
           both.0,
-          room,
+          sum_most (part_size 8 p.metadata) (length (sent own opening))
+              (part_size 40 p.proof) metadata_most both.1 proof_most,
           few,
           held_parts axis,
         )
@@ -175,50 +166,61 @@ module _ (digest : List ℕ → List ℕ) (size_is : (text : List ℕ) → lengt
 
   module _ (f own n k most : ℕ) (old : ServedState) (holds : Holds digest f k old) (enough : 323 + min k (shard.room_of f) ≤ most) (frames : List (List ℕ)) (clash : Option MetaClash) where
     abbrev Costing : Type 0
-    Costing = Costs own n most frames clash
+    Costing = Sums own most (7 + n) frames clash
 
-    by_outcome : (code a b : ℕ) (outcome : _) → IsReplyOutcome outcome frames clash → outcome ≡ Ok (reply code a b) → Costing
-    by_outcome code a b outcome told is = costs_reply own n most frames clash code a b (told.0 ∙ ap (λ o. outcome_text o ∷ []) is)
+    by_outcome : {code a b : ℕ} {outcome : _} → IsReplyOutcome outcome frames clash → outcome ≡ Ok (reply code a b)
+        → Costing
+    by_outcome {code = code} {a = a} {b = b} told is =
+        let one : frames ≡ reply_text (reply code a b) ∷ [] = told.0 ∙ ap (λ o. outcome_text o ∷ []) is in
+        (1, 0, omega (arith, ap (λ (fs : List (List ℕ)). length (sent own fs)) one, sent_reply own code a b))
 
-    by_clash : (c : MetaClash) (outcome : _) → IsReplyOutcome outcome frames clash → outcome ≡ Err c → length c.left ≤ 65 → length c.right ≤ 65 → Costing
-    by_clash c outcome told is left right =
+    by_clash : (c : MetaClash) (outcome : _) → IsReplyOutcome outcome frames clash → outcome ≡ Err c
+        → (length c.left ≤ 65) × (length c.right ≤ 65) → Costing
+    by_clash c outcome told is short =
         let frame_is : frames ≡ clash_text c ∷ [] = told.0 ∙ ap (λ o. outcome_text o ∷ []) is in
-        texts c (told.1 ∙ ap clash_in is) (omega (arith, ap (λ (fs : List (List ℕ)). length (sent own fs)) frame_is, sent_texts own c left right))
+        let clash_is : clash ≡ Some c = told.1 ∙ ap clash_in is in
+        let sent_is = ap (λ (fs : List (List ℕ)). length (sent own fs)) frame_is in
+        (0, 0, omega (arith, ap of_clash clash_is, sent_is, sent_texts own c short.0 short.1))
 
     by_put : (frame : Frame) (new : ServedState) → AnswersPut digest false frame old frames clash new → Costing
     by_put frame new (outcome, contents, (answer, puts, same, shows), told, now) = by answer same shows where
       by : (a : PutAnswer) → outcome ≡ put_reply a → ShowsTexts digest old.shard.contents frame a → Costing
-      by putting.Stored is shown = by_outcome 0 0 0 outcome told is
-      by putting.Held is shown = by_outcome 11 0 0 outcome told is
-      by putting.Unregistered is shown = by_outcome 1 0 0 outcome told is
-      by putting.NoMetadata is shown = by_outcome 3 0 0 outcome told is
-      by putting.Unverified is shown = by_outcome 2 0 0 outcome told is
       by (putting.OtherMetadata c) is shown =
-          let both = texts_short digest size_is shown.0 shown.1 c.left c.right shown.4 in by_clash c outcome told is both.0 both.1
-      by (putting.Full needed free) is shown = by_outcome 6 needed free outcome told is
-      by putting.Memory is shown = by_outcome 7 0 0 outcome told is
+          by_clash c outcome told is (texts_short digest size_is shown.0 shown.1 c.left c.right shown.4)
+      by other is shown = by_outcome told is
+
+    -- what is held, and the number of frames
+    by_parts : (payloads : List (List ℕ)) → 33 ≤ n → length (sent own payloads) ≤ 323 + min k (shard.room_of f)
+        → IsReplied payloads frames clash → Costing
+    by_parts payloads some few told =
+        let count = reply_text (done (length payloads)) ∷ [] in
+        let sent_is = ap (λ (fs : List (List ℕ)). length (sent own fs)) told.0 in
+        (1, 1, omega (arith, sent_is, sent_both own payloads count, sent_reply own 0 (length payloads) 0))
+
+    sound : (name : List ℕ) → IsSound digest f name old.shard.index (parts_at old.shard.contents (named name))
+    sound name = rw holds.faults at (holds.sound (named name))
 
     -- WHAT A PAYLOAD of n bytes costs
-    pub costs : (read : Result Frame FrameError) (new : ServedState) → Reads n read → AnswersRead digest false read old frames clash new → Costs own n most frames clash
-    costs (Err fault) new is h = by_outcome (malformed fault).code (malformed fault).a (malformed fault).b _ h.0 refl
+    pub costs : (read : Result Frame FrameError) (new : ServedState) → Reads n read
+        → AnswersRead digest false read old frames clash new → Costing
+    costs (Err fault) new is h = by_outcome h.0 refl
     costs (Ok (Metadata m)) new is h = by_put (Metadata m) new h
     costs (Ok (Sliver name axis index bytes)) new is h = by_put (Sliver name axis index bytes) new h
     costs (Ok (Proof name q)) new is h = by_put (Proof name q) new h
     costs (Ok (Read name)) new is h =
         let p = parts_at old.shard.contents (named name) in
-        let sound = subst (λ (g : ℕ). IsSound digest g name old.shard.index p) holds.faults (holds.sound (named name)) in
-        let named_so = is _ refl in
-        let short = read_short f old.shard.index own name p sound named_so.0 k (holds.few (named name)) in
-        costs_parts own n most frames clash (read_reply_of name old.shard.index p) named_so.1 (omega (arith, short, enough)) h.0
+        let size = is _ refl in
+        let short = read_short f old.shard.index own name p (sound name) size.0 k (holds.few (named name)) in
+        by_parts (read_reply_of name old.shard.index p) size.1 short h.0
     costs (Ok (Symbol name axis index)) new is h =
         let p = parts_at old.shard.contents (named name) in
-        let sound = subst (λ (g : ℕ). IsSound digest g name old.shard.index p) holds.faults (holds.sound (named name)) in
-        let named_so = is _ refl in
-        let short = symbol_short f old.shard.index own name p sound named_so.0 k (holds.few (named name)) axis index h.0 h.1 in
-        costs_parts own n most frames clash h.0 named_so.1 (omega (arith, short, enough)) h.2
+        let size = is _ refl in
+        let short =
+        symbol_short f old.shard.index own name p (sound name) size.0 k (holds.few (named name)) axis index h.0 h.1 in
+        by_parts h.0 size.1 short h.2
     -- what is no request
-    costs (Ok (Opening name axis index o)) new is h = by_outcome 9 5 0 _ h.0 refl
-    costs (Ok (Answer code a b)) new is h = by_outcome 9 5 0 _ h.0 refl
-    costs (Ok (Clash left right)) new is h = by_outcome 9 5 0 _ h.0 refl
+    costs (Ok (Opening name axis index o)) new is h = by_outcome {a = 5} {b = 0} h.0 refl
+    costs (Ok (Answer code a b)) new is h = by_outcome {a = 5} {b = 0} h.0 refl
+    costs (Ok (Clash left right)) new is h = by_outcome {a = 5} {b = 0} h.0 refl
     -- entries of the ledger, and what forgets or claims
-    costs other new is h = by_outcome h.0.code h.0.a h.0.b _ h.3 refl
+    costs other new is h = by_outcome h.3 refl

@@ -1,5 +1,5 @@
 -- What the code of a text shows of the run that wrote it.
-use Rattle.walrus_c.proofs.Common.{◌≡◌, ◌≢◌, ℕ, List, [], ◌∷◌, ◌++◌, codes, refl, sym, ap, ◌∙◌, subst, inl, inr, Err, append_cancel_left, EncodingProof, BlobId, Checks, ProofVerdict, sent, IsFirstProof, Task, Whole, Recover, Check, Image, Unpack, Bundle, Member, Challenge, Verify, IsTask, usage_text, Around, Causes, ShowsCause, verdict_text, Command, Content, Grammar, HasNone, IsFault, IsLacking, IsRejection, IsTaken, IsUnreadable, Misspells, Recorded, Spelled, Spells, bytes, envelopes_of, nothing, schedule, command_of, around, code_of, refusals}
+use Rattle.walrus_c.proofs.Common.{◌≡◌, ◌≢◌, ℕ, List, [], ◌∷◌, codes, refl, sym, subst, inl, inr, Err, append_cancel_left, EncodingProof, BlobId, Checks, ProofVerdict, sent, IsFirstProof, Task, Whole, Recover, Check, Image, Unpack, Bundle, Member, Challenge, Verify, IsTask, Around, Causes, ShowsCause, verdict_text, Command, Content, Grammar, HasNone, IsFault, IsLacking, IsRejection, IsTaken, IsUnreadable, Misspells, Recorded, Spelled, Spells, bytes, envelopes_of, nothing, schedule, command_of, around, code_of, refusals}
 use Rattle.wal_evidence.specs.declared.proof.ProofVerdict.TheVariants as verdict
 use Rattle.wal_schedule.specs.Grammar.{IsRead}
 use Rattle.wal_schedule.specs.declared.read.ScheduleError.{ScheduleError}
@@ -7,7 +7,7 @@ use Rattle.wal_schedule.specs.declared.read.ScheduleError.TheVariants.{NotJson, 
 use Rattle.wal_words.specs.declared.task.Task.TheVariants.{Read}
 use Rattle.wal_run.specs.Causes as causes
 use Rattle.walrus_c.specs.Causes as shows
-use Rattle.walrus_c.specs.Causes.{Found, Shows, ShowsWhy, Took}
+use Rattle.walrus_c.specs.Causes.{Found, ProofIs, Shows, ShowsWhy, Took}
 
 module _ (digest : List ℕ → List ℕ) (words : List (List ℕ)) (a : Around) where
   -- the words ask for this task, which took an input
@@ -19,7 +19,7 @@ module _ (digest : List ℕ → List ℕ) (words : List (List ℕ)) (a : Around)
   -- a text of which the code is known
   shown : (status : ℕ) {code : ℕ} {text told : List ℕ} → text ≡ told → code_of status told ≡ code
       → Shows digest words a code → Shows digest words a (code_of status text)
-  shown status e is row = subst (Shows digest words a) (sym (ap (λ t. code_of status t) e ∙ is)) row
+  shown status e is row = rw (e, is) row
 
   -- what a task found that the words ask for
   found : {task : Task} (t : Asks task) {Is : Content (command_of digest task).grammar → Type 0}
@@ -35,15 +35,15 @@ module _ (digest : List ℕ → List ℕ) (words : List (List ℕ)) (a : Around)
   rejected : (task : Task) (t : Asks task) (text : List ℕ) → IsRejection digest (command_of digest task) t.input text
       → Shows digest words a (code_of 3 text)
   unfolding code_of refusals
-  rejected (Read id) t text is = shown 3 is.2.3 refl (shows.reject id (found t (is.0, is.1, (is.2.0, is.2.2))))
-  rejected (Whole (Check id)) t text is =
-      shown 3 is.2.3 refl (shows.inconsistent id (found t (is.0, is.1, (is.2.0, is.2.1, is.2.2))))
-  rejected (Whole (Member id k)) t text is = shown 3 is.2.1 refl (shows.bad_index id k (found t (is.0, is.1, is.2.0)))
-  rejected (Whole (Verify audit)) t text is =
-      shown 3 is.2.3 refl (shows.wrong_opening audit is.2.1 (found t (is.0, is.1, (is.2.0, is.2.2))))
-  rejected (Whole (Recover id axis index)) t text is =
-      shown 3 is.2.3 refl (shows.proof id axis index is.2.0 (found t (is.0, is.1, (is.2.1, is.2.2))))
-  rejected other t text is = absurd is.2
+  rejected (Read id) t _ (r, spells, (e, _, has, is)) = rw is (shows.reject id (found t (r, spells, (e, has))))
+  rejected (Whole (Check id)) t _ (r, spells, (p, first, bad, is)) =
+      rw is (shows.inconsistent id (found t (r, spells, (p, first, bad))))
+  rejected (Whole (Member id k)) t _ (r, spells, (of, is)) = rw is (shows.bad_index id k (found t (r, spells, of)))
+  rejected (Whole (Verify audit)) t _ (r, spells, (has, d, come, is)) =
+      rw is (shows.wrong_opening audit d (found t (r, spells, (has, come))))
+  rejected (Whole (Recover id axis index)) t _ (r, spells, (openings, takes, bad, is)) =
+      rw is (shows.proof id axis index openings (found t (r, spells, (takes, bad))))
+  rejected other t _ is = absurd is.2
 
   -- ---- 4
 
@@ -54,52 +54,45 @@ module _ (digest : List ℕ → List ℕ) (words : List (List ℕ)) (a : Around)
   -- a verdict on a proof, which is not that it shows bad encoding
   judged : (id : BlobId) (t : Asks (Whole (Check id))) (text : List ℕ) (r : Recorded)
       → Spells digest (envelopes_of id) t.input r
-      → (p : EncodingProof) → IsFirstProof id.0 r.payloads p → (v : ProofVerdict) → Checks digest r.metadata p v → v ≢ verdict.Inconsistent
+      → {p : EncodingProof} → IsFirstProof id.0 r.payloads p → (v : ProofVerdict) → Checks digest r.metadata p v
+      → v ≢ verdict.Inconsistent
       → text ≡ verdict_text v → Shows digest words a (code_of 4 text)
   unfolding code_of refusals
-  judged id t text r spells p first verdict.WrongCount checks other e =
-      shown 4 e refl (shows.proof_count id (found t (r, spells, (p, first, checks))))
-  judged id t text r spells p first verdict.Repeated checks other e =
-      shown 4 e refl (shows.proof_repeats id (found t (r, spells, (p, first, checks))))
-  judged id t text r spells p first (verdict.BadOpening place) checks other e =
-      shown 4 e refl (shows.bad_opening id place (found t (r, spells, (p, first, checks))))
-  judged id t text r spells p first verdict.Consistent checks other e =
-      shown 4 e refl (shows.consistent id (found t (r, spells, (p, first, checks))))
-  judged id t text r spells p first verdict.Inconsistent checks other e = absurd (other refl)
+  judged id t text r spells first verdict.Inconsistent checks other e = absurd (other refl)
+  judged id t text r spells first other checks bad e =
+      let f = found t {Is = λ x. ProofIs digest id other x} (r, spells, (_, first, checks)) in
+      rw e (search (f, shows.proof_count, shows.proof_repeats, shows.bad_opening, shows.consistent))
 
   lacked : (task : Task) (t : Asks task) (text : List ℕ)
       → Spelled digest (command_of digest task) t.input (λ content. (command_of digest task).Lacks content text)
       → Shows digest words a (code_of 4 text)
   unfolding code_of refusals
-  lacked (Read id) t text (r, spells, (have, few, no_proof, e)) =
-      shown 4 e refl (shows.too_few_slivers id have (found t (r, spells, (few, no_proof))))
-  lacked (Whole (Recover id axis index)) t text (r, spells, (openings, takes, few, e)) =
-      shown 4 e refl (shows.too_few_openings id axis index openings (found t (r, spells, (takes, few))))
-  lacked (Whole (Check id)) t text (r, spells, inl (none, e)) =
-      shown 4 e refl (shows.no_proof id (found t (r, spells, none)))
-  lacked (Whole (Check id)) t text (r, spells, inr (p, first, v, checks, other, e)) =
-      judged id t text r spells p first v checks other e
-  lacked (Whole (Image size)) t text (payloads, spells, (needed, free, full, e)) =
-      shown 4 e refl (shows.disk_full size needed free (found t (payloads, spells, full)))
-  lacked (Whole (Bundle f)) t text (members, spells, inl (many, e)) =
-      shown 4 e refl (shows.too_many_members f (found t (members, spells, many)))
-  lacked (Whole (Bundle f)) t text (members, spells, inr (long, e)) =
-      shown 4 e refl (shows.bundle_too_long f (found t (members, spells, long)))
-  lacked (Whole (Member id k)) t text (r, spells, inl (j, missing, e)) =
-      shown 4 e refl (shows.missing_column id k j (found t (r, spells, missing)))
-  lacked (Whole (Member id k)) t text (r, spells, inr (count, none, e)) =
-      shown 4 e refl (shows.no_member id k count (found t (r, spells, none)))
-  lacked (Whole (Challenge audit)) t text (r, spells, inl (few, e)) =
-      shown 4 e refl (shows.no_shard_to_challenge audit (found t (r, spells, few)))
-  lacked (Whole (Challenge audit)) t text (r, spells, inr (inl (has, none, e))) =
-      shown 4 e refl (shows.no_primary audit (found t (r, spells, (has, none))))
-  lacked (Whole (Challenge audit)) t text (r, spells, inr (inr (has, (primary, own), none, e))) =
-      shown 4 e refl (shows.no_secondary audit primary (found t (r, spells, (has, own, none))))
-  lacked (Whole (Verify audit)) t text (r, spells, inl (few, e)) =
-      shown 4 e refl (shows.no_shard_to_verify audit (found t (r, spells, few)))
-  lacked (Whole (Verify audit)) t text (r, spells, inr (has, k, come, e)) =
-      shown 4 e refl (shows.draw_count audit k (found t (r, spells, (has, come))))
-  lacked other t text (content, spells, none) = absurd none
+  lacked (Read id) t _ (r, spells, (have, few, none, e)) =
+      rw e (shows.too_few_slivers id have (found t (r, spells, (few, none))))
+  lacked (Whole (Recover id axis index)) t _ (r, spells, (openings, takes, few, e)) =
+      rw e (shows.too_few_openings id axis index openings (found t (r, spells, (takes, few))))
+  lacked (Whole (Check id)) t _ (r, spells, inl (none, e)) = rw e (shows.no_proof id (found t (r, spells, none)))
+  lacked (Whole (Check id)) t _ (r, spells, inr (p, first, v, checks, other, e)) =
+      judged id t _ r spells first v checks other e
+  lacked (Whole (Image size)) t _ (r, spells, (needed, free, full, e)) =
+      rw e (shows.disk_full size needed free (found t (r, spells, full)))
+  lacked (Whole (Bundle f)) t _ (r, spells, inl (many, e)) = rw e (shows.too_many_members f (found t (r, spells, many)))
+  lacked (Whole (Bundle f)) t _ (r, spells, inr (long, e)) = rw e (shows.bundle_too_long f (found t (r, spells, long)))
+  lacked (Whole (Member id k)) t _ (r, spells, inl (j, is, e)) =
+      rw e (shows.missing_column id k j (found t (r, spells, is)))
+  lacked (Whole (Member id k)) t _ (r, spells, inr (count, is, e)) =
+      rw e (shows.no_member id k count (found t (r, spells, is)))
+  lacked (Whole (Challenge audit)) t _ (r, spells, inl (few, e)) =
+      rw e (shows.no_shard_to_challenge audit (found t (r, spells, few)))
+  lacked (Whole (Challenge audit)) t _ (r, spells, inr (inl (has, none, e))) =
+      rw e (shows.no_primary audit (found t (r, spells, (has, none))))
+  lacked (Whole (Challenge audit)) t _ (r, spells, inr (inr (has, (primary, own), none, e))) =
+      rw e (shows.no_secondary audit primary (found t (r, spells, (has, own, none))))
+  lacked (Whole (Verify audit)) t _ (r, spells, inl (few, e)) =
+      rw e (shows.no_shard_to_verify audit (found t (r, spells, few)))
+  lacked (Whole (Verify audit)) t _ (r, spells, inr (has, k, come, e)) =
+      rw e (shows.draw_count audit k (found t (r, spells, (has, come))))
+  lacked other t _ (content, spells, none) = absurd none
 
   lacking : (task : Task) (t : Asks task) (text : List ℕ) → IsLacking digest (command_of digest task) t.input text
       → Shows digest words a (code_of 4 text)
@@ -131,9 +124,8 @@ module _ (digest : List ℕ → List ℕ) (words : List (List ℕ)) (a : Around)
       → Spelled digest (command_of digest task) t.input (λ content. (command_of digest task).Misreads content text)
       → Shows digest words a (code_of 8 text)
   unfolding code_of refusals
-  misread (Whole Unpack) t text (image, spells, (place, is, e)) =
-      shown 8 e refl (shows.no_record place (found t (image, spells, is)))
-  misread other t text is = absurd is.2
+  misread (Whole Unpack) t _ (r, spells, (place, is, e)) = rw e (shows.no_record place (found t (r, spells, is)))
+  misread other t _ is = absurd is.2
 
   unreadable : (task : Task) (t : Asks task) (text : List ℕ) → IsUnreadable digest (command_of digest task) t.input text
       → Shows digest words a (code_of 8 text)
@@ -152,17 +144,13 @@ module _ (digest : List ℕ → List ℕ) (words : List (List ℕ)) (input rest 
   abbrev seen : Around
   seen = around input rest before text
 
-  -- what was written is the text
-  same : (told : List ℕ) → before ++ text ≡ before ++ told → text ≡ told
-  same told e = append_cancel_left before text told e
-
   -- a cause of this status
   of_cause : (status : ℕ) (Cause : Command → List ℕ → List ℕ → Type 0)
       → ((task : Task) (t : Asks digest words seen task) (told : List ℕ) → Cause (command_of digest task) t.input told
       → Shows digest words seen (code_of status told))
       → ShowsCause digest words seen Cause → Shows digest words seen (code_of status text)
   of_cause status Cause each is =
-      subst (λ t. Shows digest words seen (code_of status t)) (sym (same is.text is.written))
+      subst (λ t. Shows digest words seen (code_of status t)) (sym (append_cancel_left before text is.text is.written))
       (each is.asked (record { is_task = is.is_task; input = is.input; taken = is.taken }) is.text is.cause)
 
   by_cause : (status : ℕ) → Causes digest words seen status → (status ≡ 0 → ⊥)
@@ -170,7 +158,7 @@ module _ (digest : List ℕ → List ℕ) (words : List (List ℕ)) (input rest 
   unfolding code_of refusals
   by_cause _ (causes.success is) other = absurd (other refl)
   by_cause _ (causes.usage none keeps wrote) other =
-      shown digest words seen 2 (same usage_text wrote) refl (shows.usage none)
+      shown digest words seen 2 (append_cancel_left before text _ wrote) refl (shows.usage none)
   by_cause _ (causes.rejected is) other = of_cause 3 (IsRejection digest) (rejected digest words seen) is
   by_cause _ (causes.lacking is) other = of_cause 4 (IsLacking digest) (lacking digest words seen) is
   by_cause _ (causes.no_memory first) other = shows.no_memory
@@ -180,7 +168,8 @@ module _ (digest : List ℕ → List ℕ) (words : List (List ℕ)) (input rest 
   by_cause _ (causes.sink_failed_serving rose until) other = shows.sink_failed rose
   by_cause _ (causes.unreadable is) other = of_cause 8 (IsUnreadable digest) (unreadable digest words seen) is
   by_cause _ (causes.unreadable_serving place until) other =
-      shown digest words seen 8 (same _ until.run.wrote) (answers_code until.service.shard until.run.frames)
+      shown digest words seen 8 (append_cancel_left before text _ until.run.wrote)
+      (answers_code until.service.shard until.run.frames)
       (shows.broken_request place until)
   by_cause _ (causes.too_long task asked is wrote) other = shows.too_long task asked is
   by_cause _ (causes.too_long_serving until) other = shows.too_long_serving until
@@ -190,5 +179,4 @@ module _ (digest : List ℕ → List ℕ) (words : List (List ℕ)) (input rest 
 -- THE CODE SHOWS THE CAUSE
 pub shows_why : (digest : List ℕ → List ℕ) (status : ℕ) (text : List ℕ) (code : ℕ) → code ≡ code_of status text → ShowsWhy digest status text code
 shows_why digest status text code e words input run other =
-    subst (Shows digest words (around input run.rest run.before text)) (sym e)
-    (by_cause digest words input run.rest run.before text status run.causes other)
+    rw e (by_cause digest words input run.rest run.before text status run.causes other)

@@ -1,7 +1,5 @@
 -- How many payloads a stream has, and where it breaks.
-use Rattle.walrus_c.proofs.Common.{◌≡◌, ℕ, ◌+◌, ◌≤◌, List, [], ◌∷◌, ◌++◌, length, length-append, nat_eq, Result, Ok, ap, arith, if◌then◌else◌, Bool, true, false, w16, w32, number_text, Frame, envelope, Opening, read_of, FrameError, IsStream, IsMalformed, claims_in, claim_for}
-use Rattle.std.specs.Cmp.Lexicographic.{pointwise}
-use Rattle.wal_shape.specs.declared.claim.Claim.{Claim}
+use Rattle.walrus_c.proofs.Common.{◌≡◌, ◌++◌, w16, w32, number_text, ℕ, ◌+◌, ◌≤◌, List, [], ◌∷◌, length, length-append, Result, ap, arith, Frame, envelope, read_of, FrameError, IsStream, IsMalformed, claims_in, claim_for}
 use Rattle.walrus_c.proofs.Lengths.{length-flat_map-cons}
 
 -- an envelope has seven bytes more than its payload
@@ -13,8 +11,7 @@ envelope_long sender payload =
 pub payloads_few : (payloads : List (List ℕ)) (bytes : List ℕ) → IsStream payloads bytes → length payloads ≤ length bytes
 payloads_few [] bytes is = omega arith
 payloads_few (payload ∷ payloads) bytes is =
-    let more = payloads_few payloads is.1 is.4 in
-    omega (arith, more, envelope_long is.0 payload, ap length is.3, length-append (envelope is.0 payload) is.1)
+    rw (is.3, length-append) (omega (arith, payloads_few payloads is.1 is.4, envelope_long is.0 payload))
 
 -- it breaks within its bytes
 pub breaks_within : (place : ℕ) (bytes : List ℕ) → IsMalformed place bytes → place ≤ length bytes
@@ -22,15 +19,10 @@ breaks_within place bytes is = omega (arith, is.size, ap length is.parts, length
 
 -- a payload gives one claim at most
 claim_one : (id : List ℕ) (read : Result Frame FrameError) → length (claim_for id read) ≤ 1
-claim_one id (Ok (Opening i a k o)) = by (pointwise nat_eq i id) where
-  by : (b : Bool) → length {A = Claim} (if b then (record { axis = a; index = k; opening = o }) ∷ [] else []) ≤ 1
-  by true = omega arith
-  by false = omega arith
-claim_one id other = omega arith
+claim_one id read = grind arith
 
 pub claims_few : (id : List ℕ) (payloads : List (List ℕ)) → length (claims_in id payloads) ≤ length payloads
 claims_few id [] = omega arith
 claims_few id (payload ∷ payloads) =
     let one = claim_one id (read_of payload) in
-    let rest = claims_few id payloads in
-    omega (arith, one, rest, length-flat_map-cons (λ p. claim_for id (read_of p)) payload payloads)
+    omega (arith, one, claims_few id payloads, length-flat_map-cons (λ p. claim_for id (read_of p)) payload payloads)
