@@ -1,6 +1,6 @@
 -- The draw is the one of the metadata, and the opening is the one that was made.
-use Rattle.wal_run.proofs.Common.{◌≡◌, ◌+◌, ◌<◌, ◌≤◌, ℕ, List, length, arith, Axis, BlobMetadata, IsMetadata, IsBody, opening_shown, symbol_size, crossing, shard_count, held_body, Opening, envelope, frame_text, Draw, HoldsBoth, ShowsDrawn, draw_of, identifier_of, same_draw, shown_holds, refl, Audit, IsAnswer}
-use Rattle.wal_shape.specs.declared.opening.Opening.Opening as single
+use Rattle.wal_run.proofs.Common.{◌≡◌, ◌+◌, ◌<◌, ◌≤◌, ℕ, List, length, arith, Axis, BlobMetadata, IsMetadata, IsBody, opening_shown, symbol_size, crossing, shard_count, held_body, Opening, envelope, frame_text, Draw, HoldsBoth, ShowsDrawn, identifier_of, same_draw, shown_holds, refl, Audit, IsAnswer}
+use Rattle.wal_shape.specs.declared.opening.Opening as single
 use Rattle.wal_challenge.specs.Draw.{drawn}
 use Rattle.wal_run.proofs.AnswerTexts.{opening_room}
 use Rattle.wal_run.proofs.Endings.{piece_cut}

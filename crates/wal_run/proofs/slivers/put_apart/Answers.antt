@@ -4,15 +4,12 @@ use Rattle.wal_run.proofs.slivers.put_apart.Goals as goal
 
 pub returns-in_err-put_all-clause-part : goal.returns-in_err-put_all-clause-part
 returns-in_err-put_all-clause-part g c =
-    failed_before c.from_residual.result (g.K.Sink.written c.args.sink.now) (g.K.Sink.written c.put_all.new.sink) c.args.out.now.bytes _ _ refl
-    (rw c.bytes.ensures at c.in_err-put_all.ensures.part)
+    failed_before _ _ _ _ _ _ refl (rw c.bytes.ensures at c.in_err-put_all.ensures.part)
 
 pub returns-clause-whole : goal.returns-clause-whole
 returns-clause-whole g c =
-    put_both c.put_column.result (g.K.Sink.written c.args.sink.now) (g.K.Sink.written c.put_all.new.sink) (g.K.Sink.written c.put_column.new.sink) c.args.out.now.bytes _ _ refl
-    (rw c.bytes.ensures at c.in_ok-put_all.ensures.whole) c.put_column.ensures.whole
+    put_both _ _ _ _ _ _ _ refl (rw c.bytes.ensures at c.in_ok-put_all.ensures.whole) c.put_column.ensures.whole
 
 pub returns-clause-part : goal.returns-clause-part
 returns-clause-part g c =
-    failed_after c.put_column.result (g.K.Sink.written c.args.sink.now) (g.K.Sink.written c.put_all.new.sink) (g.K.Sink.written c.put_column.new.sink) c.args.out.now.bytes _ _ refl
-    (rw c.bytes.ensures at c.in_ok-put_all.ensures.whole) c.put_column.ensures.part
+    failed_after _ _ _ _ _ _ _ refl (rw c.bytes.ensures at c.in_ok-put_all.ensures.whole) c.put_column.ensures.part

@@ -7,19 +7,19 @@ pub returns-in_err-put_primary-clause-part : goal.returns-in_err-put_primary-cla
 returns-in_err-put_primary-clause-part g c =
     let shape = c.args.encoded.now.shape in
     let first = rw (c.view.ensures.value, c.requires.format, c.requires.faults) at c.held-primary.ensures.value in
-    failed_before c.from_residual.result (g.K.Sink.written c.args.sink.now) (g.K.Sink.written c.put_primary.new.sink) _ _ _
+    failed_before _ _ _ _ _ _
     (shard_parts c.args.id.now.0 shape c.args.encoded.now.cells c.args.shard _ (held_index shape.format shape.f Secondary c.args.shard) first refl) c.in_err-put_primary.ensures.part
 
 pub returns-clause-whole : goal.returns-clause-whole
 returns-clause-whole g c =
     let first = rw (c.view.ensures.value, c.requires.format, c.requires.faults) at c.held-primary.ensures.value in
     let second = rw (c.view-2.ensures.value, c.requires.format, c.requires.faults) at c.held-secondary.ensures.value in
-    put_both c.put_secondary.result (g.K.Sink.written c.args.sink.now) (g.K.Sink.written c.put_primary.new.sink) (g.K.Sink.written c.put_secondary.new.sink) _ _ _
+    put_both _ _ _ _ _ _ _
     (shard_parts c.args.id.now.0 c.args.encoded.now.shape c.args.encoded.now.cells c.args.shard _ _ first second) c.in_ok-put_primary.ensures.whole c.put_secondary.ensures.whole
 
 pub returns-clause-part : goal.returns-clause-part
 returns-clause-part g c =
     let first = rw (c.view.ensures.value, c.requires.format, c.requires.faults) at c.held-primary.ensures.value in
     let second = rw (c.view-2.ensures.value, c.requires.format, c.requires.faults) at c.held-secondary.ensures.value in
-    failed_after c.put_secondary.result (g.K.Sink.written c.args.sink.now) (g.K.Sink.written c.put_primary.new.sink) (g.K.Sink.written c.put_secondary.new.sink) _ _ _
+    failed_after _ _ _ _ _ _ _
     (shard_parts c.args.id.now.0 c.args.encoded.now.shape c.args.encoded.now.cells c.args.shard _ _ first second) c.in_ok-put_primary.ensures.whole c.put_secondary.ensures.part
