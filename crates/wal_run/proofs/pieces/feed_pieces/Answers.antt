@@ -13,7 +13,8 @@ pieces-init g c = record {
 pub returns-in_err-count-clause-takes : goal.returns-in_err-count-clause-takes
 returns-in_err-count-clause-takes g c = λ id stands.
     let so_far = c.pieces.invariant.stream in
-    piece_failed _ id _ _ _ _ _ _ _ _ so_far.0 _ _ c.from_residual.ensures.1 so_far.1 so_far.2 c.pieces.invariant.within
+    piece_failed _ id _ _ _ _ _ c.pieces.reader c.from_residual.result c.in_err-count.field-0.0 so_far.0
+    c.next_piece.new.buffer c.pieces.taken c.from_residual.ensures.1 so_far.1 so_far.2 c.pieces.invariant.within
     (rose_since _ _ _ c.pieces.invariant.later) c.in_err-count.ensures.gives
 
 pub returns-then-count-eq0-clause-takes : goal.returns-then-count-eq0-clause-takes
