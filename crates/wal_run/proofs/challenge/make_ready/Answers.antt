@@ -1,4 +1,4 @@
-use Rattle.wal_run.proofs.Common.{◌≡◌, ◌+◌, ap, ◌∙◌, arith, metadata_shown, BlobShape, symbol_size, Buffer, recorded}
+use Rattle.wal_run.proofs.Common.{arith, metadata_shown, symbol_size, recorded}
 use Rattle.wal_run.proofs.Challenges.{own_held, primeless_is, secondless_is}
 use Rattle.wal_run.proofs.challenge.make_ready.Goals as goal
 
@@ -17,16 +17,12 @@ create-requires-clause-slivers g c =
     c.in-Some-own_sliver.ensures.own
 
 pub returns-clause-ready : goal.returns-clause-ready
-returns-clause-ready g c =
-    let m = metadata_shown c.args.m in
-    let size : c.symbol_size.result ≡ symbol_size m.f m.length = c.symbol_size.ensures.value ∙ ap (λ (s : BlobShape). symbol_size s.f s.length) c.shape.ensures.value in
-    let spare : c.in_ok-create-2.field-0.spare ≡ 370 + c.symbol_size.result = ap (λ (b : Buffer). b.spare) c.in_ok-create-2.ensures in
-    record {
-      shard = c.requires.shard;
-      primary = c.in-Some.primary.now;
-      primary_own = c.in-Some.ensures.own;
-      secondary = c.in-Some-own_sliver.secondary.now;
-      secondary_own = c.in-Some-own_sliver.ensures.own;
-      words_of = c.in_ok-create.ensures.words;
-      room = omega (arith, size, spare);
-    }
+returns-clause-ready g c = record {
+  shard = c.requires.shard;
+  primary = c.in-Some.primary.now;
+  primary_own = c.in-Some.ensures.own;
+  secondary = c.in-Some-own_sliver.secondary.now;
+  secondary_own = c.in-Some-own_sliver.ensures.own;
+  words_of = c.in_ok-create.ensures.words;
+  room = rw c.in_ok-create-2.ensures (omega (arith, rw c.shape.ensures.value at c.symbol_size.ensures.value));
+}

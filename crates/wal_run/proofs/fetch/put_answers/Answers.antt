@@ -1,5 +1,5 @@
 -- One request more is answered, a line is not written whole, a collision stops, memory runs out, or no request is left.
-use Rattle.wal_run.proofs.Common.{sym, subst, ◌∙◌, arith, Keeps-refl, Rose, rose_since, fetching, DoesTold}
+use Rattle.wal_run.proofs.Common.{arith, Keeps-refl, rose_since}
 use Rattle.wal_run.proofs.Fetches.{ends, ends_piece, fetched_more, fetched_none, no_asked, no_memory, stops}
 use Rattle.wal_run.proofs.fetch.put_answers.Goals as goal
 
@@ -13,14 +13,11 @@ loop-asked-init g c = record {
 
 pub returns-in-Err-put_answer-clause-does : goal.returns-in-Err-put_answer-clause-does
 returns-in-Err-put_answer-clause-does g c = λ capacity empty payloads is.
-    let digest = g.H.Hash32.digest in
     let so = c.loop-asked.invariant.so capacity empty payloads is in
     let next = c.in-Some.ensures.some so.later so.stream in
     let got = c.in-Ok.ensures next.replies next.sent in
-    subst (DoesTold digest (fetching digest capacity) payloads (g.K.Sink.written c.args.sink.now) (g.K.Sink.written c.put_answer.new.sink)
-    (Rose (g.K.Sink.faults c.args.sink.now) (g.K.Sink.faults c.put_answer.new.sink))) (sym c.status_of.ensures)
-    (ends_piece digest capacity payloads c.loop-asked.gateway c.loop-asked.rest.now _ _ so c.in-Some.asked next c.in-Ok.answer c.get_sent.new.self got.0 _ _ _
-    (rose_since _ _ _ c.loop-asked.invariant.later) c.in-Err-put_answer.error c.in-Err-put_answer.ensures.puts)
+    rw c.status_of.ensures (ends_piece _ _ _ _ _ _ _ so _ next _ _ got.0 _ _ _ (rose_since _ _ _ c.loop-asked.invariant.later) c.in-Err-put_answer.error
+    c.in-Err-put_answer.ensures.puts)
 
 pub returns-then-is_clash-clause-does : goal.returns-then-is_clash-clause-does
 returns-then-is_clash-clause-does g c = λ capacity empty payloads is.
@@ -28,14 +25,12 @@ returns-then-is_clash-clause-does g c = λ capacity empty payloads is.
     let next = c.in-Some.ensures.some so.later so.stream in
     let got = c.in-Ok.ensures next.replies next.sent in
     let put = c.in_default-put_answer.ensures.puts in
-    stops g.H.Hash32.digest capacity payloads c.loop-asked.gateway c.loop-asked.rest.now _ _ so c.in-Some.asked next c.in-Ok.answer c.get_sent.new.self got.0 _ _ put.0
-    (sym c.is_clash.ensures ∙ c.if-is_clash.true) put.1 put.2
+    stops _ _ _ _ _ _ _ so _ next _ _ got.0 _ _ put.0 (rw c.is_clash.ensures at c.if-is_clash.true) put.1 put.2
 
 pub returns-in-Err-clause-does : goal.returns-in-Err-clause-does
 returns-in-Err-clause-does g c = λ capacity empty payloads is.
     let so = c.loop-asked.invariant.so capacity empty payloads is in
-    let next = c.in-Some.ensures.some so.later so.stream in
-    no_memory g.H.Hash32.digest capacity payloads c.loop-asked.gateway c.loop-asked.rest.now _ _ so c.in-Some.asked next _ _ (Keeps-refl _)
+    no_memory _ _ _ _ _ _ _ so _ (c.in-Some.ensures.some so.later so.stream) _ _ (Keeps-refl _)
 
 pub loop-asked-preserved : goal.loop-asked-preserved
 loop-asked-preserved g c =
@@ -50,12 +45,10 @@ loop-asked-preserved g c =
           let so = c.loop-asked.invariant.so capacity empty payloads is in
           let next = c.in-Some.ensures.some so.later so.stream in
           let got = c.in-Ok.ensures next.replies next.sent in
-          fetched_more g.H.Hash32.digest capacity payloads c.loop-asked.gateway c.loop-asked.rest.now _ _ so c.in-Some.asked next c.in-Ok.answer c.get_sent.new.self got.0 _ put.0
-          (sym c.is_clash.ensures ∙ c.if-is_clash.false) put.1 put.2;
+          fetched_more _ _ _ _ _ _ _ so _ next _ _ got.0 _ put.0 (rw c.is_clash.ensures at c.if-is_clash.false) put.1 put.2;
     }
 
 pub returns-clause-does : goal.returns-clause-does
 returns-clause-does g c = λ capacity empty payloads is.
     let so = c.loop-asked.invariant.so capacity empty payloads is in
-    let none = no_asked c.first_request.result c.in_default.not-Some in
-    ends g.H.Hash32.digest capacity payloads c.loop-asked.gateway c.loop-asked.rest.now _ _ _ so (c.first_request.ensures.none none so.later so.stream)
+    ends _ _ _ _ _ _ _ _ so (c.first_request.ensures.none (no_asked c.first_request.result c.in_default.not-Some) so.later so.stream)

@@ -1,4 +1,4 @@
-use Rattle.wal_run.proofs.Common.{subst, ◌∙◌, BlobShape, IsIdentifierOf}
+use Rattle.wal_run.proofs.Common.{◌∙◌}
 use Rattle.wal_run.proofs.Blobs.{identified_is}
 use Rattle.wal_run.proofs.Says.{no_memory}
 use Rattle.wal_run.proofs.identify.identify.Goals as goal
@@ -11,6 +11,5 @@ returns-in_err-line g c = no_memory _ _ c.from_residual-in_err-line.ensures.1
 
 pub returns : goal.returns
 returns g c =
-    let IsOf : BlobShape → Type 0 = λ shape. IsIdentifierOf g.H.Hash32.digest shape.format shape.f c.args.blob.now c.in_ok-id.id.0 in
-    let id = subst IsOf c.shape_of-shape.ensures c.in_ok-id.ensures.identifier in
-    identified_is g.H.Hash32.digest c.args.faults c.args.format c.args.blob.now c.in_ok-id.id.0 _ id (c.from_vec.ensures ∙ c.in_ok-line.ensures.items ∙ c.identifier_line.ensures)
+    identified_is g.H.Hash32.digest c.args.faults c.args.format c.args.blob.now c.in_ok-id.id.0 _ (rw c.shape_of-shape.ensures at c.in_ok-id.ensures.identifier)
+    (c.from_vec.ensures ∙ c.in_ok-line.ensures.items ∙ c.identifier_line.ensures)

@@ -1,4 +1,4 @@
-use Rattle.wal_run.proofs.Common.{◌≡◌, ℕ, Ok, take, refl, sym, ap, subst, ◌∙◌, flat_bytes, puts_of, no_contents, image_of, lacks, succeeds}
+use Rattle.wal_run.proofs.Common.{refl, ap, ◌∙◌, flat_bytes, lacks, succeeds}
 use Rattle.wal_run.proofs.ImageLaws.{packed_made, packed_refused}
 use Rattle.wal_run.proofs.image.make_image.Goals as goal
 
@@ -11,9 +11,7 @@ returns-in-Ok g c =
     let new = c.in-Ok.journal in
     let takes = c.in-Ok.ensures.packs in
     let shown = flat_bytes c.create.result.disk in
-    let Made : ℕ → Type 0 = λ size. image_of c.args.size (puts_of g.H.Hash32.digest no_contents c.args.payloads.now) ≡ Ok (take size shown) in
-    succeeds _ (subst Made (sym c.create.ensures.size)
-    (packed_made g.H.Hash32.digest c.args.size c.args.payloads.now old.keep.contents (flat_bytes old.disk) (flat_bytes new.disk) shown old.tail new.tail c.tail-size.result c.in-Some.ensures.zeros
+    succeeds _ (rw c.create.ensures.size (packed_made g.H.Hash32.digest c.args.size c.args.payloads.now old.keep.contents (flat_bytes old.disk) (flat_bytes new.disk) shown old.tail new.tail c.tail-size.result c.in-Some.ensures.zeros
     c.in-Some.ensures.blank takes.accepts takes.tail takes.gate takes.size (ap flat_bytes (c.create.ensures.disk ∙ c.close-disk.ensures.disk)) c.tail-size.ensures.value))
 
 pub returns-in-Err-Kept-default-DiskFull : goal.returns-in-Err-Kept-default-DiskFull

@@ -1,4 +1,4 @@
-use Rattle.wal_run.proofs.Common.{ℕ, subst, IsMember, unbundling}
+use Rattle.wal_run.proofs.Common.{unbundling}
 use Rattle.wal_run.proofs.Members.{member_as}
 use Rattle.wal_run.proofs.Says.{broken, no_memory, passed, says_as}
 use Rattle.wal_run.proofs.member.read_member.Goals as goal
@@ -13,9 +13,5 @@ returns-in_err-answer g c = no_memory _ _ c.from_residual-in_err-answer.ensures.
 
 pub returns : goal.returns
 returns g c =
-    let digest = g.H.Hash32.digest in
-    let id = c.args.id.now in
-    let payloads = c.in_ok-payloads.payloads in
-    let told = subst (λ (k : ℕ). IsMember digest id.0 k payloads c.in_ok-answer.answer) c.from.ensures c.in_ok-answer.ensures.told in
-    says_as _ _ _ c.member_answer.ensures (λ s text p.
-    member_as digest id c.args.k c.args.stream.now payloads s text c.in_ok-payloads.ensures.payloads c.in_ok-answer.answer told p.0 p.1)
+    says_as _ _ _ c.member_answer.ensures (λ s text p. member_as g.H.Hash32.digest c.args.id.now c.args.k c.args.stream.now c.in_ok-payloads.payloads s text
+    c.in_ok-payloads.ensures.payloads c.in_ok-answer.answer (rw c.from.ensures at c.in_ok-answer.ensures.told) p.0 p.1)

@@ -1,6 +1,4 @@
-use Rattle.wal_run.proofs.Common.{◌≡◌, ◌++◌, ◌≤◌, [], length, take, refl, arith, Consumes-nil, Consumes-trans, Rose, rose_since}
-use Rattle.std.proofs.lemmas.List.{length-append}
-use Rattle.std.proofs.Math.Seq.{length-take-le}
+use Rattle.wal_run.proofs.Common.{◌≡◌, ◌++◌, [], take, length-append, length-take-le, refl, arith, Consumes-nil, Consumes-trans, rose_since}
 use Rattle.wal_run.proofs.PieceLaws.{none_given, piece_failed, feed_failed}
 use Rattle.wal_run.proofs.pieces.feed_pieces.Goals as goal
 
@@ -14,50 +12,41 @@ pieces-init g c = record {
 
 pub returns-in_err-count-clause-takes : goal.returns-in_err-count-clause-takes
 returns-in_err-count-clause-takes g c = λ id stands.
-    let left = g.S.Source.left in
-    let faults = g.S.Source.faults in
     let so_far = c.pieces.invariant.stream in
-    piece_failed g.H.Hash32.digest id (left c.args.source.now) (left c.pieces.source) (left c.next_piece.new.source)
-    (Rose (faults c.pieces.source) (faults c.next_piece.new.source)) (Rose (faults c.args.source.now) (faults c.next_piece.new.source)) c.pieces.reader
-    c.from_residual.result c.in_err-count.field-0.0 so_far.0 c.next_piece.new.buffer c.pieces.taken c.from_residual.ensures.1 so_far.1 so_far.2
-    c.pieces.invariant.within (rose_since _ _ _ c.pieces.invariant.later) c.in_err-count.ensures.gives
+    piece_failed _ id _ _ _ _ _ c.pieces.reader c.from_residual.result c.in_err-count.field-0.0 so_far.0
+    c.next_piece.new.buffer c.pieces.taken c.from_residual.ensures.1 so_far.1 so_far.2 c.pieces.invariant.within
+    (rose_since _ _ _ c.pieces.invariant.later) c.in_err-count.ensures.gives
 
 pub returns-then-count-eq0-clause-takes : goal.returns-then-count-eq0-clause-takes
 returns-then-count-eq0-clause-takes g c = λ id stands.
     let so_far = c.pieces.invariant.stream in
     let gives = c.in_ok-count.ensures.gives in
     let none : c.in_ok-count.count ≡ 0 = omega (arith, c.if-count-eq0.true) in
-    (so_far.0, none_given _ _ _ so_far.0 c.next_piece.new.buffer c.in_ok-count.count so_far.1 gives.1 none, gives.3 none, omega (arith, so_far.2, c.pieces.invariant.within), so_far.3 id stands)
+    (so_far.0, none_given _ _ _ so_far.0 _ _ so_far.1 gives.1 none, gives.3 none, omega (arith, so_far.2, c.pieces.invariant.within), so_far.3 id stands)
 
 pub returns-in_err-wrong-clause-takes : goal.returns-in_err-wrong-clause-takes
 returns-in_err-wrong-clause-takes g c = λ id stands.
-    let left = g.S.Source.left in
-    let faults = g.S.Source.faults in
     let so_far = c.pieces.invariant.stream in
     let gives = c.in_ok-count.ensures.gives in
-    let buffer = c.next_piece.new.buffer in
-    let count = c.in_ok-count.count in
-    let long : length (take count buffer) ≡ count = length-take-le count buffer gives.0 in
-    let more = Consumes-trans _ _ _ so_far.0 (take count buffer) so_far.1 gives.1 in
-    let few : length (so_far.0 ++ take count buffer) ≤ 134217728 = omega (arith, length-append so_far.0 (take count buffer), so_far.2, long, gives.2) in
-    feed_failed g.H.Hash32.digest id (left c.args.source.now) (left c.next_piece.new.source) (Rose (faults c.args.source.now) (faults c.next_piece.new.source)) c.feed_piece.new.reader
-    c.from_residual-in_err-wrong.result c.in_err-wrong.field-0.0 c.from_residual-in_err-wrong.ensures.1 (c.in_err-wrong.ensures.feeds id so_far.0 (so_far.3 id stands) (omega (arith, so_far.2, long, gives.2)))
-    (so_far.0 ++ take count buffer, more, few)
+    let piece = take c.in_ok-count.count c.next_piece.new.buffer in
+    let long = length-take-le c.in_ok-count.count c.next_piece.new.buffer gives.0 in
+    feed_failed _ id _ _ _ _ _ _ c.from_residual-in_err-wrong.ensures.1
+    (c.in_err-wrong.ensures.feeds id so_far.0 (so_far.3 id stands) (omega (arith, so_far.2, long, gives.2)))
+    (so_far.0 ++ piece, Consumes-trans _ _ _ so_far.0 piece so_far.1 gives.1, omega (arith, length-append so_far.0 piece, so_far.2, long, gives.2))
 
 pub pieces-preserved : goal.pieces-preserved
 pieces-preserved g c =
     let so_far = c.pieces.invariant.stream in
     let gives = c.in_ok-count.ensures.gives in
-    let buffer = c.next_piece.new.buffer in
-    let count = c.in_ok-count.count in
-    let long : length (take count buffer) ≡ count = length-take-le count buffer gives.0 in
+    let piece = take c.in_ok-count.count c.next_piece.new.buffer in
+    let long = length-take-le c.in_ok-count.count c.next_piece.new.buffer gives.0 in
     record {
       some = omega (arith, c.next_piece.auto.buffer, c.pieces.invariant.some);
       within = gives.2;
       stream = (
-        so_far.0 ++ take count buffer,
-        Consumes-trans _ _ _ so_far.0 (take count buffer) so_far.1 gives.1,
-        omega (arith, length-append so_far.0 (take count buffer), so_far.2, long),
+        so_far.0 ++ piece,
+        Consumes-trans _ _ _ so_far.0 piece so_far.1 gives.1,
+        omega (arith, length-append so_far.0 piece, so_far.2, long),
         λ id stands. c.in_ok-wrong.ensures.feeds id so_far.0 (so_far.3 id stands) (omega (arith, so_far.2, long, gives.2)),
       );
       later = omega (arith, c.pieces.invariant.later, c.next_piece.ensures.later);

@@ -13,5 +13,4 @@ returns-in_err-m g c =
 
 pub returns : goal.returns
 returns g c =
-    says_told g.H.Hash32.digest (recovering g.H.Hash32.digest c.args.id.now c.args.axis c.args.index) c.args.stream.now (recorded c.in_ok-payloads.payloads (metadata_shown c.in_ok-m.m)) _
-    (c.in_ok-payloads.ensures.payloads, c.in_ok-m.ensures.one) c.recover_under.ensures
+    says_told _ _ _ (recorded c.in_ok-payloads.payloads (metadata_shown c.in_ok-m.m)) _ (c.in_ok-payloads.ensures.payloads, c.in_ok-m.ensures.one) c.recover_under.ensures

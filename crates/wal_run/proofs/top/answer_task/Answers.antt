@@ -1,24 +1,20 @@
-use Rattle.wal_run.proofs.Common.{subst, refl, Keeps-refl, Task, IsTask}
+use Rattle.wal_run.proofs.Common.{subst, refl, Keeps-refl, IsTask}
 use Rattle.wal_run.proofs.Endings.{ends_performed}
 use Rattle.wal_run.proofs.Says.{performs_said}
 use Rattle.wal_run.proofs.top.answer_task.Goals as goal
 
 pub returns-in-Whole-clause-ends : goal.returns-in-Whole-clause-ends
 returns-in-Whole-clause-ends g c = λ words asked.
-    let Asked : Task → Type 0 = λ t. IsTask words t in
-    c.answer_input.ensures.ends words (subst Asked c.in-Whole.is asked)
+    c.answer_input.ensures.ends words (subst (IsTask words) c.in-Whole.is asked)
 
 pub returns-in-Read-clause-ends : goal.returns-in-Read-clause-ends
 returns-in-Read-clause-ends g c = λ words asked.
-    let Asked : Task → Type 0 = λ t. IsTask words t in
-    c.read_stream.ensures.ends words (subst Asked c.in-Read.is asked)
+    c.read_stream.ensures.ends words (subst (IsTask words) c.in-Read.is asked)
 
 pub returns-in-Serve-clause-ends : goal.returns-in-Serve-clause-ends
 returns-in-Serve-clause-ends g c = λ words asked.
-    let Asked : Task → Type 0 = λ t. IsTask words t in
-    c.serve_shard.ensures.ends words (subst Asked c.in-Serve.is asked)
+    c.serve_shard.ensures.ends words (subst (IsTask words) c.in-Serve.is asked)
 
 pub returns-in-Sample-clause-ends : goal.returns-in-Sample-clause-ends
 returns-in-Sample-clause-ends g c = λ words asked.
-    let Asked : Task → Type 0 = λ t. IsTask words t in
-    ends_performed _ words _ _ _ _ (subst Asked c.in-Sample.is asked) (Keeps-refl _, refl) (performs_said _ _ c.sum_up.ensures c.write_answer.ensures.performs)
+    ends_performed _ words _ _ _ _ (subst (IsTask words) c.in-Sample.is asked) (Keeps-refl _, refl) (performs_said _ _ c.sum_up.ensures c.write_answer.ensures.performs)
