@@ -108,6 +108,15 @@ class Turns(unittest.IsolatedAsyncioTestCase):
         self.assertEqual(seen, [(mark.place, mark.chain, 0, [], [])])
         self.assertEqual((late.ledger.epoch, late.place_of(registration("x", 1))), (1, None))
 
+    async def test_a_recorder_that_has_not_read_up_to_a_checkpoint_does_not_say_that_all_nodes_have(self) -> None:
+        ahead, late = await self.recorder(FOUNDED, *turn(1)), Recorder(self.etcd)
+        self.addCleanup(late.state.close)
+        await Keeper(ahead, 99.0).write(None)
+        for made in (ahead, late):
+            await Keeper(made, 99.0).look()
+            self.assertEqual([it.dropped for it in self.etcd.marked], [False])
+        self.assertNotEqual(ahead.ledger.nodes, [])
+
     async def test_a_follower_is_told_parts_of_a_batch_s_size_each_with_a_deadline_of_its_own(self) -> None:
         made, told = await self.recorder(FOUNDED), list[bytes]()
         for size in (1, 1, 15, 15, 15, 1, 1):

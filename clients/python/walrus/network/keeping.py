@@ -41,7 +41,7 @@ class Keeper:
         now = time.monotonic()
         if recorder.ledger.epoch > (mark.epoch if mark else 0) and now > recorder.turned and recorder.state.settle():
             await self.write(mark)
-        elif mark and not mark.dropped and not self.awaited(mark):
+        elif mark and not mark.dropped and self.is_over(mark):
             await self.etcd.put_mark(mark._replace(dropped=True), mark)
         if mark and mark.dropped and mark.place > self.dropped:
             await self.etcd.drop(mark)  # each recorder does so, as who has put the mark may have ended behind it
@@ -52,12 +52,12 @@ class Keeper:
             if size - used > max(SLACK, used):
                 await self.etcd.defragment()
 
-    def awaited(self, mark: Mark) -> list[str]:
-        """The nodes of both committees that have not told that they are past a checkpoint; none if it was too long."""
-        ledger = self.recorder.ledger
-        if time.time() > mark.time + self.patience:
-            return []
-        return [it for it in ledger.nodes if ledger.past.get(it, 0) < mark.epoch]
+    def is_over(self, mark: Mark) -> bool:
+        """Whether all nodes of both committees have told that they are past a checkpoint, which a recorder knows that
+        has read so far, or it was too long."""
+        ledger, late = self.recorder.ledger, time.time() > mark.time + self.patience
+        has_read = self.recorder.chain.place >= mark.place
+        return late or has_read and all(ledger.past.get(it, 0) >= mark.epoch for it in ledger.nodes)
 
     async def write(self, before: Optional[Mark]) -> None:
         """Writes a checkpoint of what the ledger is now; the mark last, so that nobody finds half of it, and only where
