@@ -3,7 +3,7 @@ import datetime
 import ipaddress
 import os
 import pathlib
-from typing import Iterable, Optional, Union
+from typing import Any, Iterable, Optional, Union
 
 from cryptography import x509
 from cryptography.exceptions import InvalidSignature
@@ -16,8 +16,8 @@ EARLIER = datetime.timedelta(hours=1)  # from when on a certificate counts, for 
 Key = ec.EllipticCurvePrivateKey
 
 
-def write_key(path: pathlib.Path, key: Key) -> None:
-    """Writes a key that its owner alone can read."""
+def write_key(path: pathlib.Path, key: Any) -> None:
+    """Writes a key that its owner alone can read. Of a `Key` some stubs do not know that it can be written."""
     form = serialization.Encoding.PEM, serialization.PrivateFormat.PKCS8, serialization.NoEncryption()
     path.unlink(missing_ok=True)
     with open(os.open(path, os.O_WRONLY | os.O_CREAT | os.O_EXCL, 0o600), "wb") as out:
