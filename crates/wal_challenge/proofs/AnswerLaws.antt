@@ -1,25 +1,21 @@
 -- What a shard answers to a draw is one opening, and it holds.
-use Rattle.wal_challenge.proofs.Common.{◌≡◌, ℕ, ◌+◌, ◌<◌, ◌≤◌, List, [], ◌∷◌, ◌++◌, length, length-append, Some, Result, Ok, Err, IfOk, slice_get, refl, sym, ap, subst, ◌∙◌, arith, slice_get_within, region, Axis, Opening, crossing, shard_count, symbol_size, BlobMetadata, held_index, path_over, HoldsOpening, HoldsSliver, identifier_of, honest_opening, one_opening, Draw, AreAnswers, AreWordsOf, HoldsBoth, OwnWords, ShowsDrawn, among, draw_of, drawn_index}
+use Rattle.wal_challenge.proofs.Common.{◌≡◌, ℕ, ◌+◌, ◌<◌, ◌≤◌, List, [], ◌∷◌, ◌++◌, length, length-append, Some, Result, Ok, Err, IfOk, slice_get, sym, ap, ◌∙◌, arith, slice_get_within, region, Axis, Opening, crossing, shard_count, symbol_size, BlobMetadata, held_index, path_over, HoldsOpening, HoldsSliver, identifier_of, honest_opening, one_opening, Draw, AreAnswers, AreWordsOf, HoldsBoth, OwnWords, ShowsDrawn, among, draw_of, drawn_index}
 use Rattle.std.proofs.Math.Nat.{mod-lt}
-use Rattle.wal_shape.specs.declared.axis.Axis.TheVariants.{Primary, Secondary}
 use Rattle.wal_matrix.specs.Word.{IsWordOf}
 use Rattle.wal_challenge.specs.Draw.{draw_in, draw_text, drawn}
 use Rattle.wal_challenge.proofs.Lists.{each_more, one_list}
 
 -- what is a fact on both is one on either
 pub of_either : {A : Type 0} (P : A → Type 0) (axis : Axis) (x y : A) → P x → P y → P (among axis x y)
-of_either P Primary x y of_x of_y = of_x
-of_either P Secondary x y of_x of_y = of_y
+of_either P axis x y of_x of_y = grind arith
 
 -- a part of either
 pub part_of_either : {A B : Type 0} (part : A → B) (axis : Axis) (x y : A) → part (among axis x y) ≡ among axis (part x) (part y)
-part_of_either part Primary x y = refl
-part_of_either part Secondary x y = refl
+part_of_either part axis x y = grind arith
 
 word_among : (m : BlobMetadata) (axis : Axis) (primary secondary : List ℕ) (words : OwnWords) → AreWordsOf m primary secondary words
     → IsWordOf (crossing (crossing axis)) m.f (symbol_size m.f m.length) (among axis primary secondary) (among axis words.row words.column)
-word_among m Primary primary secondary words are = are.row_word
-word_among m Secondary primary secondary words are = are.column_word
+word_among m axis primary secondary words are = grind arith
 
 -- the symbol at the drawn place of the codeword, with its path, is what was drawn, of an opening that was made
 pub shows_if : {E : Type 0} (r : Result Opening E) (digest : List ℕ → List ℕ) (m : BlobMetadata) (shard : ℕ) (draw : Draw) (words : OwnWords) (size : ℕ) (line : List ℕ)
@@ -41,8 +37,7 @@ shows_if (Ok o) digest m shard draw words size line size_is line_is cross symbol
 
 held_among : (digest : List ℕ → List ℕ) (m : BlobMetadata) (shard : ℕ) (axis : Axis) (primary secondary : List ℕ) → HoldsBoth digest m shard primary secondary
     → HoldsSliver digest m (crossing (crossing axis)) (held_index m.format m.f axis shard) (among axis primary secondary)
-held_among digest m shard Primary primary secondary holds = holds.primary_held
-held_among digest m shard Secondary primary secondary holds = holds.secondary_held
+held_among digest m shard axis primary secondary holds = grind arith
 
 -- a draw is of a place below n
 pub place_within : (n : ℕ) (digits : List ℕ) → 0 < n → (draw_in n digits).place < n
@@ -55,7 +50,7 @@ pub shown_holds : (digest : List ℕ → List ℕ) (size_is : (text : List ℕ) 
 shown_holds digest size_is m shard primary secondary draw o few within holds is =
     let sliver = among draw.axis primary secondary in
     honest_opening digest size_is m (crossing draw.axis) draw.place sliver o few within
-    (subst (λ i. HoldsSliver digest m (crossing (crossing draw.axis)) i sliver) (sym is.cross) (held_among digest m shard draw.axis primary secondary holds)) is.opens
+    (rw is.cross (held_among digest m shard draw.axis primary secondary holds)) is.opens
 
 -- there is one such opening
 pub one_shown : (digest : List ℕ → List ℕ) (m : BlobMetadata) (shard : ℕ) (primary secondary : List ℕ) (draw : Draw) (o p : Opening) → m.f ≤ 333
@@ -79,12 +74,12 @@ pub answers_more : (digest : List ℕ → List ℕ) (m : BlobMetadata) (beacon :
     → AreAnswers digest m beacon shard d primary secondary old → draw ≡ draw_of digest m beacon shard d → ShowsDrawn digest m shard primary secondary draw o
     → new ≡ old ++ o ∷ [] → AreAnswers digest m beacon shard (d + 1) primary secondary new
 answers_more digest m beacon shard d primary secondary old new o draw before draw_is shown pushed =
-    let Shows : ℕ → Opening → Type 0 = λ k x. ShowsDrawn digest m shard primary secondary (draw_of digest m beacon shard k) x in
-    let here : Shows d o = subst (λ (w : Draw). ShowsDrawn digest m shard primary secondary w o) draw_is shown in
-    subst (λ (os : List Opening). AreAnswers digest m beacon shard (d + 1) primary secondary os) (sym pushed)
+    rw pushed
     (record {
       many = omega (arith, length-append old (o ∷ []), before.many);
-      each = each_more Shows old o before.each (subst (λ k. Shows k o) (sym before.many) here);
+      each =
+          each_more (λ k x. ShowsDrawn digest m shard primary secondary (draw_of digest m beacon shard k) x) old o
+          before.each (rw (before.many, ← draw_is) shown);
     })
 
 -- no draw, no answer
@@ -100,7 +95,7 @@ answers_none digest m beacon shard primary secondary os none =
 pub same_draw : (digest : List ℕ → List ℕ) (m : BlobMetadata) (beacon id : List ℕ) (n shard d : ℕ) (draw : Draw) → draw ≡ drawn digest beacon id n shard d
     → id ≡ identifier_of digest m → n ≡ shard_count m.f → draw ≡ draw_of digest m beacon shard d
 same_draw digest m beacon id n shard d draw is id_is n_is =
-    is ∙ ap (λ (i : List ℕ). drawn digest beacon i n shard d) id_is ∙ ap (λ k. drawn digest beacon (identifier_of digest m) k shard d) n_is
+    cc (is, id_is, n_is)
 
 -- each answer holds
 pub answer_holds : (digest : List ℕ → List ℕ) (size_is : (text : List ℕ) → length (digest text) ≡ 32) (m : BlobMetadata) (beacon : List ℕ) (shard count : ℕ) (primary secondary : List ℕ) (openings : List Opening)

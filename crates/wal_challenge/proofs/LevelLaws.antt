@@ -1,5 +1,5 @@
 -- The levels of a tree as they are made, and the path that is copied from them.
-use Rattle.wal_challenge.proofs.Common.{◌≡◌, ℕ, suc, ◌+◌, ◌*◌, ◌/◌, ◌%◌, ◌<◌, ◌≤◌, List, [], ◌∷◌, ◌++◌, length, take, drop, replicate, get_or, refl, sym, ap, subst, ◌∙◌, arith, ⊎_elim, length-append, append_assoc, append-nil, concat, cases_lt, drop-append-le, get_or_past, take-append-le, length-drop, length-replicate, slice_get_read, beside, path_of, path_over, empty_entry, leaves, pair_up, pieces, level_above, length-pieces, pair_up-odd, pieces-append, pieces-more, length-pair_up-half, level_above-next, path_of-end, path_of-step, FirstLevels, IsLevel, evened}
+use Rattle.wal_challenge.proofs.Common.{◌≡◌, ℕ, suc, ◌+◌, ◌*◌, ◌/◌, ◌%◌, ◌<◌, ◌≤◌, List, [], ◌∷◌, ◌++◌, length, take, drop, replicate, get_or, refl, sym, ap, ◌∙◌, arith, ⊎_elim, length-append, append_assoc, append-nil, concat, cases_lt, drop-append-le, get_or_past, take-append-le, length-drop, length-replicate, slice_get_read, beside, path_of, path_over, empty_entry, leaves, pair_up, pieces, level_above, length-pieces, pair_up-odd, pieces-append, pieces-more, length-pair_up-half, level_above-next, path_of-end, path_of-step, FirstLevels, IsLevel, evened}
 use Rattle.std.proofs.Math.Seq.{drop-append_seam}
 use Rattle.wal_tree.proofs.Leaves.{get_or-pieces}
 use Rattle.wal_tree.proofs.Sizes.{All-leaves, All-path_of, length-concat}
@@ -24,13 +24,13 @@ evened_pairs digest width bytes long =
     (λ low.
     let even : length bytes % 64 ≡ 0 = omega (arith, long, low) in
     let count : 2 * ((width + 1) / 2) ≡ width = omega (arith, low) in
-    ap (λ n. pair_up digest (pieces n 32 (evened bytes))) count ∙ ap (λ (b : List ℕ). pair_up digest (pieces width 32 b)) (even_same bytes even))
+    cc (count, even_same bytes even))
     (λ high.
     let odd : length bytes % 64 ≡ 32 = omega (arith, long, high) in
     let count : 2 * ((width + 1) / 2) ≡ suc width = omega (arith, high) in
     let half : width ≡ 2 * (width / 2) + 1 = omega (arith, high) in
     let at : width * 32 ≡ length bytes = omega (arith, long) in
-    let last : take 32 (drop (width * 32) (bytes ++ empty_entry)) ≡ empty_entry = ap (λ n. take 32 (drop n (bytes ++ empty_entry))) at ∙ ap (take 32) (drop-append_seam bytes empty_entry) in
+    let last : take 32 (drop (width * 32) (bytes ++ empty_entry)) ≡ empty_entry = rw (at, drop-append_seam bytes empty_entry) in
     let front = pieces-append width bytes empty_entry (omega (arith, long)) in
     let paired = pair_up-odd digest (width / 2) (pieces width 32 bytes) (length-pieces width 32 bytes ∙ half) in
     cc (count, odd_more bytes odd, pieces-more width 32 (bytes ++ empty_entry), front, last, paired))
@@ -68,11 +68,7 @@ first_more digest entries levels bytes first is = each_more (λ k b. IsLevel (le
 
 -- the entry beside a place of a level
 pub beside_within : (entries : List (List ℕ)) (bytes : List ℕ) (at : ℕ) → IsLevel entries bytes → at < length entries → 32 * beside at + 32 ≤ length bytes
-beside_within entries bytes at is within =
-    ⊎_elim
-    (λ (low : at % 2 < 1). let even : at % 2 ≡ 0 = omega (arith, low) in rw even (omega (arith, is.long, even, within)))
-    (λ (high : 1 ≤ at % 2). let odd : at % 2 ≡ 1 = omega (arith, high) in rw odd (omega (arith, is.long, odd, within)))
-    (cases_lt (at % 2) 1)
+beside_within entries bytes at is within = grind arith
 
 -- one more sibling is copied, and the path goes on from the parent
 pub path_more : (digest : List ℕ → List ℕ) (entries : List (List ℕ)) (level at : ℕ) (bytes old new whole : List ℕ) → IsLevel (level_above digest level entries) bytes
@@ -116,8 +112,7 @@ above_evened digest level given above whole given_is long joined =
 pub level_at : (digest : List ℕ → List ℕ) (entries levels : List (List ℕ)) (k : ℕ) (bytes given : List ℕ) → FirstLevels digest entries levels → k < length levels
     → bytes ≡ get_or levels k bytes → given ≡ bytes → IsLevel (level_above digest k entries) given
 level_at digest entries levels k bytes given first within bytes_is given_is =
-    subst (λ (b : List ℕ). IsLevel (level_above digest k entries) b) (sym given_is)
-    (first k bytes (slice_get_read levels (length levels) k bytes refl within bytes_is))
+    rw given_is (first k bytes (slice_get_read levels (length levels) k bytes refl within bytes_is))
 
 -- a path is whole digests
 pub path_whole : (digest : List ℕ → List ℕ) (size_is : (text : List ℕ) → length (digest text) ≡ 32) (size place : ℕ) (content path : List ℕ)

@@ -1,5 +1,5 @@
 -- What holds of each element of a list.
-use Rattle.wal_challenge.proofs.Common.{◌≡◌, ℕ, ◌-◌, ◌<◌, List, [], ◌∷◌, ◌++◌, length, get_or, slice_get, Some, refl, sym, ap, subst, ◌∙◌, arith, ⊎_elim, length-append, cases_lt, ext_get_or, get_or_append_left, get_or-append_right, get_or_from_slice_get, slice_get-get_or, slice_get_within}
+use Rattle.wal_challenge.proofs.Common.{◌≡◌, ℕ, ◌-◌, ◌<◌, List, [], ◌∷◌, ◌++◌, length, get_or, slice_get, Some, refl, sym, ap, ◌∙◌, arith, ⊎_elim, length-append, cases_lt, ext_get_or, get_or_append_left, get_or-append_right, get_or_from_slice_get, slice_get-get_or, slice_get_within}
 
 -- one element more
 pub each_more : {A : Type 0} (P : ℕ → A → Type 0) (xs : List A) (y : A) → ((k : ℕ) (x : A) → slice_get xs k ≡ Some x → P k x) → P (length xs) y
@@ -15,7 +15,7 @@ each_more P xs y each last k x there =
     let at : length xs ≡ k = omega (arith, length-append xs (y ∷ []), inside, past) in
     let none : k - length xs ≡ 0 = omega (arith, at) in
     let same : y ≡ x = sym (get_or-append_right xs (y ∷ []) (length xs) k y refl past ∙ ap (λ n. get_or (y ∷ []) n y) none) ∙ value in
-    subst (λ n. P n x) at (subst (P (length xs)) same last))
+    rw (← at, ← same) last)
     (cases_lt k (length xs))
 
 -- lists of one length whose elements are those that one fact allows

@@ -1,5 +1,5 @@
 -- What claims come to is one verdict; and what an accepted claim shows.
-use Rattle.wal_challenge.proofs.Common.{◌≡◌, ◌≢◌, ℕ, zero, suc, ◌+◌, ◌*◌, ◌<◌, List, [], ◌∷◌, length, Some, slice_get, refl, sym, ap, subst, ◌∙◌, arith, inl, inr, ⊎_elim, cases_lt, slice_get_within, region, Axis, Claim, Opening, crossing, shard_count, symbol_size, BlobMetadata, IsMetadata, line_of, lines_cross, HoldsOpening, metadata_over, committed_matrix, same_or_not, Accepted, Wrong, WrongCount, Draw, AreAnswers, HoldsBoth, draw_of, drawn_index, AnswersDraw, AreOwnOrFalse, AnswersComeTo, FirstAnswer, HasDrawnSymbol, IsFalseClaim, IsFirstWrong, claim_of, claims_from}
+use Rattle.wal_challenge.proofs.Common.{◌≡◌, ◌≢◌, ℕ, zero, suc, ◌+◌, ◌*◌, ◌<◌, List, [], ◌∷◌, length, Some, slice_get, refl, ap, ◌∙◌, arith, inl, inr, ⊎_elim, cases_lt, slice_get_within, region, Claim, Opening, shard_count, symbol_size, BlobMetadata, IsMetadata, line_of, lines_cross, HoldsOpening, metadata_over, committed_matrix, same_or_not, Accepted, Draw, AreAnswers, HoldsBoth, draw_of, drawn_index, AnswersDraw, AreOwnOrFalse, AnswersComeTo, FirstAnswer, HasDrawnSymbol, IsFalseClaim, IsFirstWrong, claim_of, claims_from, Wrong, WrongCount}
 use Rattle.wal_evidence.specs.Evidence.{CommitsMatrix}
 use Rattle.wal_challenge.specs.declared.checking.AnswerVerdict.{AnswerVerdict}
 use Rattle.wal_challenge.proofs.AnswerLaws.{answer_holds}
@@ -9,13 +9,12 @@ module _ (digest : List ℕ → List ℕ) (m : BlobMetadata) (beacon : List ℕ)
   pub first_more : (claims : List Claim) (d : ℕ) (claim : Claim) → FirstAnswer digest m beacon shard claims d → slice_get claims d ≡ Some claim
       → AnswersDraw digest m shard (draw_of digest m beacon shard d) claim → FirstAnswer digest m beacon shard claims (d + 1)
   first_more claims d claim before there is k other below here =
-      let Answers : ℕ → Claim → Type 0 = λ i c. AnswersDraw digest m shard (draw_of digest m beacon shard i) c in
       ⊎_elim
       (λ less. before k other less here)
       (λ past.
       let at : d ≡ k = omega (arith, below, past) in
       let same : claim ≡ other = cc (there, at, here) in
-      subst (λ i. Answers i other) at (subst (Answers d) same is))
+      rw (← at, ← same) is)
       (cases_lt k d)
 
   -- two claims that are the first that does not answer stand at one place
@@ -47,13 +46,10 @@ drawn_symbol : (digest : List ℕ → List ℕ) (m : BlobMetadata) (shard : ℕ)
     → HasDrawnSymbol m e shard draw claim
 drawn_symbol digest m shard draw claim e long is same =
     let s = symbol_size m.f m.length in
-    let Here : Axis → ℕ → ℕ → List ℕ = λ axis index cross. region s (line_of axis m.f s e index) cross in
-    let cross : drawn_index m shard draw < shard_count m.f = subst (λ i. i < shard_count m.f) is.cross is.holds.cross in
-    let place : draw.place < shard_count m.f = subst (λ i. i < shard_count m.f) is.index is.holds.within in
-    same ∙ ap (λ (axis : Axis). Here axis claim.index claim.opening.cross) is.axis
-    ∙ ap (λ i. Here (crossing draw.axis) i claim.opening.cross) is.index
-    ∙ ap (λ i. Here (crossing draw.axis) draw.place i) is.cross
-    ∙ sym (lines_cross draw.axis m.f s e (drawn_index m shard draw) draw.place long cross place)
+    let cross = rw is.cross at is.holds.cross in
+    let place = rw is.index at is.holds.within in
+    let crosses = lines_cross draw.axis m.f s e (drawn_index m shard draw) draw.place long cross place in
+    cc (same, is.axis, is.index, is.cross, crosses)
 
 -- else the claim is false
 false_claim : (digest : List ℕ → List ℕ) (m : BlobMetadata) (claim : Claim) (blob e : List ℕ) → CommitsMatrix digest m blob e
@@ -62,13 +58,12 @@ false_claim : (digest : List ℕ → List ℕ) (m : BlobMetadata) (claim : Claim
     → IsFalseClaim digest (record { format = m.format; f = m.f; length = length blob }) blob claim
 unfolding metadata_over
 false_claim digest m claim blob e commits holds apart =
-    let Apart : ℕ → Type 0 = λ long. claim.opening.symbol ≢ region (symbol_size m.f long) (line_of claim.axis m.f (symbol_size m.f long) e claim.index) claim.opening.cross in
     let length_is : m.length ≡ length blob = ap (λ (x : BlobMetadata). x.length) commits.1 in
     record {
       matrix = e;
       extended = commits.0;
-      holds = subst (λ (x : BlobMetadata). HoldsOpening digest x claim.axis claim.index claim.opening) commits.1 holds;
-      apart = subst Apart length_is apart;
+      holds = rw commits.1 at holds;
+      apart = rw length_is at apart;
     }
 
 -- claims that are accepted show the matrix's symbols, or are false
@@ -112,11 +107,9 @@ accepted digest size_is m beacon shard count primary secondary openings fit belo
       let made = claim_at digest m beacon shard 0 d openings claim there in
       let o = made.0 in
       let first : 0 + d ≡ d = omega arith in
-      let draw = draw_of digest m beacon shard d in
       let shown = are.each d o made.1 in
       let held = answer_holds digest size_is m beacon shard count primary secondary openings fit.shape.1 holds are d o made.1 in
-      subst (λ (c : Claim). AnswersDraw digest m shard draw c) (sym (made.2 ∙ ap (λ i. claim_of digest m beacon shard i o) first))
-      (record { axis = refl; index = refl; cross = shown.cross; holds = held }),
+      rw (made.2, first) (record { axis = refl; index = refl; cross = shown.cross; holds = held }),
 )
 
 -- where each of the claims answers its draw they are accepted

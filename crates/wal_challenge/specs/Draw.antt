@@ -13,7 +13,10 @@ draw_text beacon id shard d = 4 ∷ (beacon ++ id ++ number_text w16 shard ++ nu
 -- the draw that a digest stands for: the lowest bit of byte 0 is the axis, and bytes 3 and 4 as a
 -- number, modulo n, are the place
 abbrev pub draw_in : ℕ → List ℕ → Draw
-draw_in n digits = record { axis = axis_of (slice_index digits 0 % 2); place = from_be_bytes w16 (take 2 (drop 3 digits)) % n }
+draw_in n digits = record {
+  axis = axis_of (slice_index digits 0 % 2);
+  place = from_be_bytes w16 (take 2 (drop 3 digits)) % n;
+}
 
 -- draw d of a shard of n, for the blob of this identifier
 abbrev pub drawn : (List ℕ → List ℕ) → List ℕ → List ℕ → ℕ → ℕ → ℕ → Draw

@@ -52,7 +52,11 @@ AnswersComeTo digest m beacon shard count claims Accepted =
 -- the claim that an opening is of the target of draw d
 abbrev pub claim_of : (List ℕ → List ℕ) → BlobMetadata → List ℕ → ℕ → ℕ → Opening → Claim
 claim_of digest m beacon shard d o =
-    record { axis = crossing (draw_of digest m beacon shard d).axis; index = (draw_of digest m beacon shard d).place; opening = o }
+    record {
+      axis = crossing (draw_of digest m beacon shard d).axis;
+      index = (draw_of digest m beacon shard d).place;
+      opening = o;
+    }
 
 -- the claims that openings are of the targets of draw d and of those after it
 abbrev pub claims_from : (List ℕ → List ℕ) → BlobMetadata → List ℕ → ℕ → ℕ → List Opening

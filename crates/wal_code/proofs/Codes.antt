@@ -1,5 +1,5 @@
 -- Codewords: when two are the same, how sums of coefficients make them, and tables of them in both directions.
-use Rattle.wal_code.proofs.Common.{◌≡◌, ◌∙◌, sym, ap, ℕ, zero, suc, ◌<◌, ◌≤◌, List, [], ◌∷◌, length, get_or, slice_index, slice_index_or, map, arith, AllByRecursion, range_with_len, length-map, ext_get_or, get_or_default_zero, recursion_from_All, All-from_recursion, IsWord, evaluate, value, IsPolynomial, polynomial_unique, Element, words, element_of, elements_of, numbers_of, numbers_of-words, element_of-word, element-path, value-evaluate, Distinct, PassesThrough, IsCodeword, IsExtension, combination}
+use Rattle.wal_code.proofs.Common.{◌≡◌, ◌∙◌, sym, ap, ℕ, zero, suc, ◌<◌, ◌≤◌, List, [], ◌∷◌, length, get_or, slice_index_or, map, arith, AllByRecursion, range_with_len, length-map, get_or_default_zero, recursion_from_All, All-from_recursion, IsWord, evaluate, value, IsPolynomial, polynomial_unique, Element, words, element_of, elements_of, numbers_of, numbers_of-words, element_of-word, element-path, value-evaluate, Distinct, PassesThrough, IsCodeword, combination}
 use Rattle.std.proofs.lemmas.List.FromFn.{length-range_with_len, get_or-range_with_len, get_or-map-range_with_len, length-map-range_with_len}
 use Rattle.wal_gf.proofs.Roots as roots
 use Rattle.wal_gf.proofs.TwoWays as tables
@@ -21,7 +21,8 @@ codeword-word k n c m h i l = rw (h.values i l) (evaluate-lt h.coefficients i h.
 abbrev pub function : (ℕ → ℕ) → Element → Element
 function c x = element_of (c x.0)
 
-to_polynomial : (k n : ℕ) (c : ℕ → ℕ) → n ≤ 65536 → IsCodeword k n c → IsPolynomial words k (λ x. x.0 < n) (function c)
+pub to_polynomial : (k n : ℕ) (c : ℕ → ℕ) → n ≤ 65536 → IsCodeword k n c →
+    IsPolynomial words k (λ x. x.0 < n) (function c)
 to_polynomial k n c m h = (
   elements_of h.coefficients,
   omega (arith, length-map h.coefficients element_of, h.few),
@@ -31,16 +32,17 @@ to_polynomial k n c m h = (
       sym (element_of-word (c x.0) (codeword-word k n c m h x.0 l))),
 )
 
-of_polynomial : (k n : ℕ) (c : ℕ → ℕ) → n ≤ 65536 → ((i : ℕ) → i < n → c i < 65536) →
-    IsPolynomial words k (λ x. x.0 < n) (function c) → IsCodeword k n c
-of_polynomial k n c m w p =
+pub of_polynomial : (k n : ℕ) (c : ℕ → ℕ) (P : Element → Type 0) → n ≤ 65536 → ((x : Element) → x.0 < n → P x) →
+    ((i : ℕ) → i < n → c i < 65536) → IsPolynomial words k P (function c) → IsCodeword k n c
+of_polynomial k n c P m inside w p =
     record {
       coefficients = numbers_of p.0;
       few = omega (arith, length-map p.0 (λ (x : Element). x.0), p.1);
       words = All-from_recursion IsWord (numbers_of p.0) (numbers_of-words p.0);
       values = λ i l.
           let x : Element = (i, omega arith) in
-          sym (element_of-word (c i) (w i l)) ∙ ap (λ (y : Element). y.0) (sym (p.2 x l)) ∙ value-evaluate p.0 x;
+          sym (element_of-word (c i) (w i l)) ∙ ap (λ (y : Element). y.0) (sym (p.2 x (inside x l))) ∙
+          value-evaluate p.0 x;
     }
 
 -- what holds of each known point holds of each of its elements
@@ -136,32 +138,6 @@ combination-known known value d h v i l =
     let found = of_values known value d h v in
     found.2 (get_or known i 0) (h i l) ∙ found.1.there i l ∙ listed-at (length known) value i l
 
--- A list of values is extended in one way only.
-pub extension_unique : (values : List ℕ) (n : ℕ) (out other : List ℕ) → length values ≤ n → n ≤ 65536 →
-    IsExtension values n out → IsExtension values n other → out ≡ other
-extension_unique values n out other le m h l =
-    ext_get_or 0 out other (h.size ∙ sym l.size)
-    (λ i o.
-    codeword_unique_first (length values) n (slice_index out) (slice_index other) le m h.codeword l.codeword
-    (λ j p. h.begins j p ∙ sym (l.begins j p)) i (omega (arith, h.size)))
-
--- A solution at the first places is an extension.
-pub extension_of_solution : (known values out cs : List ℕ) (n : ℕ) → length known ≡ length values →
-    ((i : ℕ) → i < length known → get_or known i 0 ≡ i) → length values ≤ n → length out ≡ n → PassesThrough known values cs →
-    ((i : ℕ) → i < length out → slice_index out i ≡ evaluate cs i) → IsExtension values n out
-extension_of_solution known values out cs n size own le e p h =
-    record {
-      size = e;
-      codeword = record {
-        coefficients = cs;
-        few = omega (arith, size, p.few);
-        words = p.words;
-        values = λ i l. h i (omega arith);
-      };
-      begins = λ i l.
-          h i (omega arith) ∙ ap (evaluate cs) (sym (own i (omega arith))) ∙ p.there i (omega arith);
-    }
-
 -- ---- tables that are codewords along their rows and their columns
 
 -- Where the known rows are codewords of dimension k, and each column is one of as many dimensions as there are known rows,
@@ -174,7 +150,8 @@ pub every_row : (k n m : ℕ) (known : List ℕ) (t : ℕ → ℕ → ℕ) → D
 every_row k n m known t d below far wide hr hc r l =
     let ws : AllByRecursion IsWord known = words_of known (λ j o. omega (arith, below j o)) in
     let table : Element → Element → Element = λ a b. element_of (t a.0 b.0) in
-    of_polynomial k m (λ c. t r c) wide (λ c o. codeword-word (length known) n (λ q. t q c) far (hc c o) r l)
+    of_polynomial k m (λ c. t r c) (λ x. x.0 < m) wide (λ x o. o)
+    (λ c o. codeword-word (length known) n (λ q. t q c) far (hc c o) r l)
     (tables.every_row words k (λ x. x.0 < n) (λ x. x.0 < m) (elements_of known) table (roots.apart known ws d)
     (all_elements (λ x. x.0 < n) known ws (λ j o x p. rw p (below j o)))
     (all_elements (λ x. IsPolynomial words k (λ y. y.0 < m) (table x)) known ws

@@ -1,5 +1,5 @@
 -- Products of differences, over the points before a place, after it, and other than its own.
-use Rattle.wal_code.proofs.Common.{◌≡◌, ◌≢◌, ◌∙◌, sym, ℕ, zero, suc, ◌+◌, ◌<◌, ◌≤◌, List, [], ◌∷◌, ◌++◌, length, get_or, take, drop, refl, arith, lit<, Bool, true, false, cond, eqb, eq-eqb, bit_xor, add-one, drop-cons, drop_of_length-le, ne_eqb, AllByRecursion, IsWord, times, xor-lt, Apart, times-lt, times_assoc, times-one, one-times, product_of_others, product_of_all}
+use Rattle.wal_code.proofs.Common.{◌≡◌, ◌≢◌, ◌∙◌, sym, ℕ, zero, suc, ◌+◌, ◌<◌, ◌≤◌, List, [], ◌∷◌, ◌++◌, length, get_or, take, drop, refl, arith, lit<, cond, eqb, eq-eqb, bit_xor, add-one, drop-cons, drop_of_length-le, ne_eqb, AllByRecursion, IsWord, times, xor-lt, Apart, times-lt, times_assoc, times-one, one-times, product_of_others, product_of_all, cond_both}
 use Rattle.std.proofs.Math.Seq.{take-suc}
 use Rattle.wal_code.proofs.Points.{point_at}
 
@@ -14,11 +14,7 @@ pub other-other : (p w q : ℕ) → p ≢ q → other p w q ≡ bit_xor w q
 other-other p w q n = rw (ne_eqb p q n)
 
 other-lt : (p w q : ℕ) → w < 65536 → q < 65536 → other p w q < 65536
-other-lt p w q l m = by_test (eqb p q)
-  where
-    by_test : (b : Bool) → cond b 1 (bit_xor w q) < 65536
-    by_test true = lit< tt
-    by_test false = xor-lt w q l m
+other-lt p w q l m = cond_both (eqb p q) 1 (bit_xor w q) (λ n. n < 65536) (λ same. lit< tt) (λ differ. xor-lt w q l m)
 
 pub product_of_others-drop : (known : List ℕ) (i p w : ℕ) → i < length known →
     product_of_others (drop i known) p w ≡ times (other p w (get_or known i 0)) (product_of_others (drop (i + 1) known) p w)
@@ -49,9 +45,9 @@ product_of_all-append (r ∷ known) q w h l m =
     (sym (times_assoc (bit_xor w r) (product_of_all known w) (bit_xor w q) (product_of_all-lt known w) (xor-lt w q m l)))
 
 words-take : (known : List ℕ) (i : ℕ) → AllByRecursion IsWord known → AllByRecursion IsWord (take i known)
-words-take known zero h = tt
-words-take [] (suc i) h = tt
 words-take (q ∷ known) (suc i) h = (h.0, words-take known i h.1)
+words-take [] (suc i) h = tt
+words-take _ zero h = tt
 
 -- one point more before the place
 pub product_of_all-take : (known : List ℕ) (i w : ℕ) → AllByRecursion IsWord known → w < 65536 → i < length known →

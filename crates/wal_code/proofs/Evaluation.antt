@@ -15,7 +15,7 @@ everywhere (p ∷ ps) = (tt, everywhere ps)
 
 among : (known : List ℕ) (i : ℕ) → i < length known → Among (element_of (get_or known i 0)) (elements_of known)
 unfolding Among
-among [] i l = let b : ⊥ = omega arith in absurd b
+among [] i l = absurd (omega arith)
 among (q ∷ known) zero l = inl refl
 among (q ∷ known) (suc i) l = inr (among known i (omega arith))
 
@@ -82,12 +82,11 @@ value_at (q ∷ known) (v ∷ values) p = cond (eqb p q) v (value_at known value
 value_at-place : (known values : List ℕ) → Apart known → length values ≡ length known → (i : ℕ) → i < length known →
     value_at known values (get_or known i 0) ≡ get_or values i 0
 unfolding value_at Apart
-value_at-place [] values d e i l = absurd (omega arith)
-value_at-place (q ∷ known) [] d e i l = absurd (omega arith)
 value_at-place (q ∷ known) (v ∷ values) d e zero l = rw (eq-eqb q q refl)
 value_at-place (q ∷ known) (v ∷ values) d e (suc i) l =
     rw (ne_eqb (get_or known i 0) q (λ f. point_at (λ p. q ≢ p) known d.0 i (omega arith) (sym f)))
     (value_at-place known values d.1 (omega arith) i (omega arith))
+value_at-place _ _ d e i l = absurd (omega arith)
 
 -- Any words at distinct points are the values of a polynomial, and it has the combination of them at each other point.
 pub solution : (known values : List ℕ) → Distinct known → AllByRecursion IsWord known → AllByRecursion IsWord values →
@@ -119,10 +118,3 @@ solution known values d h v e =
           sym (value-evaluate p.0 (w, m)) ∙ ap (λ (x : Element). x.0) (p.2 (w, m) tt) ∙ through-number known f (w, m) h ∙
           combination-same known w (λ i. (f (element_of (get_or known i 0))).0) (λ i. get_or values i 0) at,
     )
-
--- Where a polynomial passes through the values, the combination of the values is its value.
-pub combined : (known values cs : List ℕ) (w : ℕ) → Distinct known → AllByRecursion IsWord known → w < 65536 →
-    PassesThrough known values cs → combination known (λ i. get_or values i 0) w ≡ evaluate cs w
-combined known values cs w d h m p =
-    combination-same known w (λ i. get_or values i 0) (λ i. evaluate cs (get_or known i 0)) (λ i l. sym (p.there i l)) ∙
-    sym (interpolates known w d h m cs p.few p.words)

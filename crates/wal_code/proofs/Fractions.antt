@@ -1,5 +1,5 @@
 -- A coefficient of interpolation as a fraction: a product of differences over another.
-use Rattle.wal_code.proofs.Common.{◌≡◌, ◌≢◌, ◌∙◌, sym, List, [], ◌∷◌, refl, Bool, true, false, cond, inl, inr}
+use Rattle.wal_code.proofs.Common.{◌≡◌, ◌≢◌, ◌∙◌, sym, List, [], ◌∷◌, cond, inl, inr, arith}
 use Rattle.wal_gf.proofs.Algebra.{Field, unit-times, times_left_comm, no_divisors, equal_or_not, same_of_sum, same-other}
 use Rattle.wal_gf.proofs.Lagrange.{factor, coefficient}
 
@@ -50,11 +50,7 @@ module _ {K : Type 0} (F : Field K) where
 
   factor-fraction : unit ≢ nothing → (p w q : K) → factor F p w q ≡ times (difference F p w q) (inverse (difference F p p q))
   unfolding factor difference
-  factor-fraction n p w q = by_test (same p q)
-    where
-      by_test : (b : Bool) → cond b unit (times (plus w q) (inverse (plus p q))) ≡ times (cond b unit (plus w q)) (inverse (cond b unit (plus p q)))
-      by_test true = sym (unit-times F (inverse unit) ∙ inverse-unit n)
-      by_test false = refl
+  factor-fraction n p w q = grind (arith, unit-times F (inverse unit), inverse-unit n)
 
   pub coefficient-fraction : unit ≢ nothing → (known : List K) (p w : K) →
       coefficient F known p w ≡ times (others F known p w) (inverse (others F known p p))

@@ -12,7 +12,7 @@ apart (q ∷ known) h = (
 
 -- what holds of each point holds of the one at an index
 pub point_at : (P : ℕ → Type 0) (known : List ℕ) → AllByRecursion P known → (i : ℕ) → i < length known → P (get_or known i 0)
-point_at P [] h i l = let b : ⊥ = omega arith in absurd b
+point_at P [] h i l = absurd (omega arith)
 point_at P (q ∷ known) h zero l = h.0
 point_at P (q ∷ known) h (suc i) l = point_at P known h.1 i (omega arith)
 

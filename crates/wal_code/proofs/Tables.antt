@@ -1,5 +1,5 @@
 -- Rows of weights: what they sum to, and how a table grows by them.
-use Rattle.wal_code.proofs.Common.{◌≡◌, ◌∙◌, ap, ℕ, List, ◌+◌, ◌*◌, ◌<◌, ◌≤◌, ◌++◌, length, get_or, slice_index, arith, length-append, inl, inr, All, get_or_append_left, get_or-append-add, times, xor_below, Gf, Distinct, coefficient, combination, Interpolates, element_at, AreWeights}
+use Rattle.wal_code.proofs.Common.{◌≡◌, ◌∙◌, ap, ℕ, List, ◌+◌, ◌*◌, ◌<◌, ◌≤◌, ◌++◌, length, get_or, slice_index, arith, length-append, inl, inr, get_or_append_left, get_or-append-add, times, xor_below, Gf, coefficient, combination, Interpolates, element_at, AreWeights}
 use Rattle.std.proofs.Math.Nat.{mul-le-mul_right, eq-or-lt_of_le}
 use Rattle.wal_code.specs.inside.Table.{IsTable}
 use Rattle.wal_code.proofs.Evaluation.{interpolates}
@@ -41,15 +41,3 @@ table_interpolates known wanted table h w l =
     interpolates known (slice_index wanted w) h.distinct
     (words_of known (λ i m. let b : get_or known i 0 < 1000 = h.known_below i 0 m in omega arith))
     (let b : get_or wanted w 0 < 1000 = h.wanted_below w 0 l in omega arith)
-
--- a table that has all its rows
-pub table_of_rows : (known wanted : List ℕ) (table : List Gf) → Distinct known → All (λ p. p < 1000) known →
-    All (λ p. p < 1000) wanted → (n : ℕ) → n ≡ length wanted → HasRows known wanted n table → IsTable known wanted table
-table_of_rows known wanted table d h l n e r =
-    record {
-      distinct = d;
-      known_below = h;
-      wanted_below = l;
-      size = r.0 ∙ ap (λ (m : ℕ). m * length known) e;
-      entries = λ w k i m. r.1 w k (omega arith) m;
-    }

@@ -1,13 +1,12 @@
 -- What holds over a field, read at the field of words: coefficients, sums and products of differences.
-use Rattle.wal_code.proofs.Common.{◌≡◌, ◌≢◌, ◌∙◌, sym, ap, ap₂, ℕ, ◌+◌, ◌<◌, List, [], ◌∷◌, length, get_or, take, drop, refl, arith, lit<, Bool, true, false, cond, eqb, bit_xor, AllByRecursion, IsWord, times, inverse, Element, words, element_of, elements_of, element_of-word, element-path, Distinct, factor, coefficient, product_of_others, product_of_all}
+use Rattle.wal_code.proofs.Common.{◌≡◌, ◌≢◌, ◌∙◌, sym, ap, ap₂, ℕ, ◌+◌, ◌<◌, List, [], ◌∷◌, length, get_or, take, drop, refl, arith, lit<, Bool, cond, eqb, bit_xor, AllByRecursion, IsWord, times, inverse, Element, words, element_of, elements_of, element_of-word, element-path, Distinct, factor, coefficient, product_of_others, product_of_all}
 use Rattle.wal_gf.proofs.Lagrange as lagrange
 use Rattle.wal_code.proofs.Differences.{product_of_others-split}
 use Rattle.wal_code.proofs.Points.{apart, point_at}
 use Rattle.wal_code.proofs.Fractions.{difference, others, others-own, coefficient-fraction}
 
 number-cond : (b : Bool) (e f : Element) → (cond b e f).0 ≡ cond b e.0 f.0
-number-cond true e f = refl
-number-cond false e f = refl
+number-cond b e f = grind arith
 
 -- the number of an element that is given by a number below 65536
 read : (P : ℕ → ℕ) (n : ℕ) → n < 65536 → P (element_of n).0 ≡ P n
@@ -34,12 +33,9 @@ coefficient-number (q ∷ known) h p w =
     read (λ n. cond (eqb p.0 n) 1 (times (bit_xor w.0 n) (inverse (bit_xor p.0 n)))) q h.0)
     (coefficient-number known h.1 p w)
 
-differ : (a b : ℕ) → a ≡ 1 → b ≡ 0 → a ≢ b
-differ a b e f h = omega arith
-
 unit_other : words.unit ≢ words.nothing
 unfolding words
-unit_other e = differ 1 0 refl refl (ap (λ (x : Element). x.0) e)
+unit_other e = let same : ◌≡◌ {A = ℕ} 1 0 = ap (λ (x : Element). x.0) e in omega arith
 
 -- the product of a point's differences from the others is not 0
 pub product_of_others-own : (known : List ℕ) (p : ℕ) → AllByRecursion IsWord known → p < 65536 → product_of_others known p p ≢ 0

@@ -17,10 +17,7 @@ one_digest digest a b s t one s_is t_is =
 
 -- the first byte of the text tells the formats apart
 one_tag : (a b : Format) → identifier_tag a ≡ identifier_tag b → a ≡ b
-one_tag One One same = refl
-one_tag One Two same = absurd (omega (arith, same))
-one_tag Two One same = absurd (omega (arith, same))
-one_tag Two Two same = refl
+one_tag a b same = grind arith
 
 pub same_formats : (digest : List ℕ → List ℕ) (a b : BlobMetadata) → identifier_text digest a ≡ identifier_text digest b → a.format ≡ b.format
 same_formats digest a b same = one_tag a.format b.format (ap (λ (t : List ℕ). get_or t 0 0) same)

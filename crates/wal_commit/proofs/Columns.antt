@@ -4,27 +4,23 @@ use Rattle.wal_matrix.proofs.Symbols.{column_symbol}
 use Rattle.wal_commit.proofs.Commitments.{flat_map-more}
 use Rattle.wal_commit.proofs.LeafTables.{column_of-symbol, root_of-digests}
 
--- the leaves of a row whose columns have all come
-row_leaves-whole : (digest : List ℕ → List ℕ) (n s : ℕ) (e : List ℕ) (r : ℕ) → leaves digest n s (row_of n s e r) ≡ row_leaves digest n s e r n
-row_leaves-whole digest n s e r =
-    let f : ℕ → List ℕ = λ c. leaf digest (symbol n s e r c) in
-    let row = row_of n s e r in
-    let long = length-leaves digest n s row in
-    ext_get_or empty_entry (leaves digest n s row) (map f (range_with_len 0 n)) (long ∙ sym (length-map-range_with_len f 0 n))
-    (λ k l.
-    let within : k < n = omega (arith, long) in
-    get_or-leaves digest n s k row within
-    ∙ ap (λ (z : ℕ). leaf digest (take s (drop z row))) (mul_comm k s)
-    ∙ ap (leaf digest) (row_of-symbol n s e r k within)
-    ∙ sym (get_or-map-range_with_len f 0 n k k empty_entry within (omega arith)))
-
--- they have the root over the row
+-- the leaves of a row whose columns have all come have the root over the row
 pub row_root_is : (digest : List ℕ → List ℕ) (n s : ℕ) (e : List ℕ) (r : ℕ) → 0 < s → length e ≡ n * n * s → r < n
     → root_of digest (row_leaves digest n s e r n) ≡ root_over digest s (row_of n s e r)
 row_root_is digest n s e r some long h =
+    let f : ℕ → List ℕ = λ c. leaf digest (symbol n s e r c) in
     let row = row_of n s e r in
+    let count = length-leaves digest n s row in
     let number : length row / s ≡ n = ap (λ (k : ℕ). k / s) (row_long n s e r long h) ∙ mul-div_left n some in
-    ap (root_of digest) (sym (row_leaves-whole digest n s e r)) ∙ ap (λ (k : ℕ). root_of digest (leaves digest k s row)) (sym number)
+    let whole : leaves digest n s row ≡ row_leaves digest n s e r n =
+    ext_get_or empty_entry (leaves digest n s row) (map f (range_with_len 0 n)) (count ∙ sym (length-map-range_with_len f 0 n))
+    (λ k l.
+    let within : k < n = omega (arith, count) in
+    get_or-leaves digest n s k row within
+    ∙ ap (λ (z : ℕ). leaf digest (take s (drop z row))) (mul_comm k s)
+    ∙ ap (leaf digest) (row_of-symbol n s e r k within)
+    ∙ sym (get_or-map-range_with_len f 0 n k k empty_entry within (omega arith))) in
+    ap (root_of digest) (sym whole) ∙ ap (λ (k : ℕ). root_of digest (leaves digest k s row)) (sym number)
 
 -- no column has come
 pub seen_none : (digest : List ℕ → List ℕ) (n s : ℕ) (e : List ℕ) (trees : StacksState) (roots : List ℕ)
@@ -77,14 +73,6 @@ block_leaves digest n width s block digests some whole are e first has =
     are.each (r * width + k) (let inside = mul-add-lt r width k n hr hk in omega (arith, number, mul_comm n width))
     ∙ ap (leaf digest) (has r k hr hk)
 
--- the root of a column, where the roots of all lie one after the other
-pub column_root_at : (digest : List ℕ → List ℕ) → ((text : List ℕ) → length (digest text) ≡ 32) → (n s : ℕ) (e : List ℕ) (trees : StacksState) (roots : List ℕ) (j : ℕ)
-    → AreSeen digest n s e n trees roots → j < n → take 32 (drop (j * 32) roots) ≡ root_over digest s (column_of n s e j)
-column_root_at digest size n s e trees roots j seen h =
-    let f : ℕ → List ℕ = λ c. root_over digest s (column_of n s e c) in
-    ap (λ (ys : List ℕ). take 32 (drop (j * 32) ys)) seen.columns
-    ∙ piece_at f 32 n j (λ k b. length-root_over digest size s (column_of n s e k)) h
-
 -- the roots that are appended for a shard
 pub pair_is : (digest : List ℕ → List ℕ) → ((text : List ℕ) → length (digest text) ≡ 32) → (shape : BlobShape) (e : List ℕ) (trees : StacksState) (roots row column : List ℕ) (shard held : ℕ)
     → 0 < symbol_size shape.f shape.length
@@ -97,9 +85,11 @@ pub pair_is : (digest : List ℕ → List ℕ) → ((text : List ℕ) → length
 pair_is digest size shape e trees roots row column shard held some long h below at root part seen =
     let n = shard_count shape.f in
     let s = symbol_size shape.f shape.length in
+    let f : ℕ → List ℕ = λ c. root_over digest s (column_of n s e c) in
     ap₂ (λ (a b : List ℕ). a ++ b)
     (root (row_leaves digest n s e shard n) (seen.rows shard h) ∙ row_root_is digest n s e shard some long h)
-    (part ∙ column_root_at digest size n s e trees roots held seen below ∙ ap (λ (j : ℕ). root_over digest s (column_of n s e j)) at)
+    (part ∙ ap (λ (ys : List ℕ). take 32 (drop (held * 32) ys)) seen.columns
+    ∙ piece_at f 32 n held (λ k b. length-root_over digest size s (column_of n s e k)) below ∙ ap f at)
 
 -- the roots of all columns have their bytes
 pub roots_long : (digest : List ℕ → List ℕ) → ((text : List ℕ) → length (digest text) ≡ 32) → (n s : ℕ) (e : List ℕ) (trees : StacksState) (roots : List ℕ)

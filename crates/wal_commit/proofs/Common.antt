@@ -35,9 +35,9 @@ pub use Rattle.wal_shape.specs.declared.opening.Opening.{Opening}
 pub use Rattle.wal_shape.specs.declared.shape.Format.{Format}
 pub use Rattle.wal_shape.specs.declared.shape.Format.TheVariants.{One, Two}
 pub use Rattle.wal_tree.proofs.Collisions.{append_back, append_front, are_bytes}
-pub use Rattle.wal_tree.proofs.Paths.{get_or-leaves, length-leaves, height-le, path_of-end, path_of-step}
+pub use Rattle.wal_tree.proofs.Paths.{get_or-leaves, length-leaves, height-le, path_of-end, path_of-step, length-pair_up-half}
 pub use Rattle.wal_tree.proofs.Sizes.{length-root_over}
-pub use Rattle.wal_tree.specs.Path.{IsPathTo, LeadToOneRoot, MeetOnPaths, path_over, beside, folded, height, parent, path_of}
+pub use Rattle.wal_tree.specs.Path.{IsPathTo, LeadToOneRoot, path_over, beside, folded, height, parent, path_of}
 pub use Rattle.wal_tree.specs.Stacks.{StacksState, StandsFor, entry_of, row_stack}
 pub use Rattle.wal_tree.specs.Tree.{root_over, leaf, leaves, pieces, empty_entry, node, pair_up, root_within}
 unfoldable pub use Rattle.wal_tree.specs.Tree.{root_of}

@@ -1,5 +1,5 @@
 -- The symbol of an opening and the own symbol of a matrix, under the root of one line.
-use Rattle.wal_commit.proofs.Common.{◌≡◌, ◌≢◌, ℕ, ◌+◌, ◌*◌, ◌/◌, ◌<◌, ◌≤◌, List, length, sym, ap, subst, ◌∙◌, arith, mul-div_left, mul-le-mul_right, region, Axis, Opening, BlobShape, crossing, shard_count, symbol_size, IsPathTo, LeadToOneRoot, MeetOnPaths, path_over, root_over, line_of, run_fits, line_long, lines_cross, HoldsOpening, metadata_over}
+use Rattle.wal_commit.proofs.Common.{◌≡◌, ◌≢◌, ℕ, ◌+◌, ◌*◌, ◌/◌, ◌<◌, ◌≤◌, List, length, sym, ap, ◌∙◌, arith, mul-div_left, mul-le-mul_right, region, Axis, Opening, BlobShape, crossing, shard_count, symbol_size, IsPathTo, LeadToOneRoot, path_over, root_over, line_of, run_fits, line_long, lines_cross, HoldsOpening, metadata_over}
 use Rattle.wal_commit.proofs.HonestOpenings.{path_to_symbol, root_of_line}
 
 -- as many pieces as there are shards are a content that a tree takes
@@ -32,13 +32,6 @@ symbols_meet digest size_is n s count size index word line own way symbol path c
     let right = path_to_symbol digest size_is n s index word some long below in
     rw (count_is, own_is, way_is, s_is, line_is) (record { root = root_over digest s word; left = given; right = right })
 
--- texts that meet on the path of a given symbol and on that of the line's own symbol
-pub texts_meet : (digest : List ℕ → List ℕ) (s size index : ℕ) (word line own way symbol path left right : List ℕ) → size ≡ s → line ≡ word →
-    own ≡ region size line index → way ≡ path_over digest size line index → MeetOnPaths digest index symbol path own way left right →
-    MeetOnPaths digest index symbol path (region s word index) (path_over digest s word index) left right
-texts_meet digest s size index word line own way symbol path left right s_is line_is own_is way_is meet =
-    rw (own_is, way_is, s_is, line_is) at meet
-
 -- an opening that the metadata over a matrix commits leads to the root of the line that crosses the target there
 pub opening_leads : (digest : List ℕ → List ℕ) (shape : BlobShape) (e : List ℕ) (axis : Axis) (index : ℕ) (o : Opening)
     → HoldsOpening digest (metadata_over digest shape e) axis index o
@@ -48,9 +41,8 @@ unfolding metadata_over
 opening_leads digest shape e axis index o holds =
     let line = line_of (crossing axis) shape.f (symbol_size shape.f shape.length) e o.cross in
     let root = root_over digest (symbol_size shape.f shape.length) line in
-    let own = root_of_line digest (crossing axis) shape e o.cross holds.cross in
-    let one : holds.root ≡ root = cc (holds.committed, own) in
-    subst (λ (r : List ℕ). IsPathTo digest r (shard_count shape.f) index o.symbol o.path) one holds.leads
+    let one : holds.root ≡ root = cc (holds.committed, root_of_line digest (crossing axis) shape e o.cross holds.cross) in
+    rw one at holds.leads
 
 -- its target and its cross are shards'
 pub opening_within : (digest : List ℕ → List ℕ) (shape : BlobShape) (e : List ℕ) (axis : Axis) (index : ℕ) (o : Opening)

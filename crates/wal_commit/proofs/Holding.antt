@@ -1,5 +1,5 @@
 -- A sliver's symbols are those for which the tools have room.
-use Rattle.wal_commit.proofs.Common.{◌≡◌, ℕ, ◌+◌, ◌*◌, ◌%◌, ◌<◌, ◌≤◌, ap₂, arith, mul-mod_left, most_bytes, symbol_size, run_fits}
+use Rattle.wal_commit.proofs.Common.{◌≡◌, ℕ, ◌+◌, ◌*◌, ◌%◌, ◌<◌, ◌≤◌, arith, mul-mod_left, most_bytes, symbol_size, run_fits}
 use Rattle.wal_matrix.specs.Tools.{longest_symbol}
 use Rattle.wal_matrix.proofs.ToolsLaws.{symbol_size-longest}
 
@@ -12,8 +12,3 @@ whole_pieces n s long e = rw e (mul-mod_left n s)
 -- a symbol of a codeword lies within it
 pub symbol_within : (n s i long : ℕ) → long ≡ n * s → i < n → s * i + s ≤ long
 symbol_within n s i long e h = omega (arith, run_fits i n s h, e)
-
--- twelve bytes have symbols of two bytes for one fault
-pub two_bytes : (f length : ℕ) → f ≡ 1 → length ≡ 12 → symbol_size f length ≡ 2
-unfolding symbol_size
-two_bytes f length f_is length_is = ap₂ symbol_size f_is length_is

@@ -1,5 +1,5 @@
 -- The leaf digests of a matrix, gathered along its rows and its columns.
-use Rattle.wal_commit.proofs.Common.{◌≡◌, ℕ, ◌+◌, ◌-◌, ◌*◌, ◌/◌, ◌<◌, ◌≤◌, List, ◌++◌, length, take, drop, sym, ap, ap₂, append_assoc, ◌∙◌, arith, mul-div_left, mul-add-lt, leaf, leaves, pieces, root_of, root_over, AreDigests, symbol, row_of, column_of, row_of-symbol, row_fits, row_long, column_is, column_long, column_part-symbol, Secondary, BlobShape, shard_count, symbol_size, held_index, pair_over, AreLeafDigests}
+use Rattle.wal_commit.proofs.Common.{◌≡◌, ℕ, ◌+◌, ◌-◌, ◌*◌, ◌/◌, ◌<◌, ◌≤◌, List, ◌++◌, length, take, drop, sym, ap, ap₂, append_assoc, ◌∙◌, arith, mul-div_left, mul-add-lt, leaf, pieces, root_of, root_over, AreDigests, symbol, row_of, column_of, row_of-symbol, row_fits, row_long, column_is, column_long, column_part-symbol, Secondary, BlobShape, shard_count, symbol_size, held_index, pair_over, AreLeafDigests}
 use Rattle.wal_tree.proofs.Leaves.{pieces-leaves}
 
 -- so many pieces of a size are whole pieces
@@ -39,9 +39,7 @@ pub root_of-digests : (digest : List ℕ → List ℕ) (n s : ℕ) (digests cont
 root_of-digests digest n s digests content some long whole each =
     let count : length digests / 32 ≡ n = omega arith in
     let number : length content / s ≡ n = ap (λ k. k / s) whole ∙ mul-div_left n some in
-    ap (λ k. root_of digest (pieces k 32 digests)) count
-    ∙ ap (root_of digest) (pieces-leaves digest n s digests content each)
-    ∙ ap (λ k. root_of digest (leaves digest k s content)) (sym number)
+    cc (count, pieces-leaves digest n s digests content each, number)
 
 -- the root over the digests of a row is that over the row
 pub row_root : (digest : List ℕ → List ℕ) (n s : ℕ) (e digests : List ℕ) (i : ℕ) → 0 < s → i < n → AreLeafDigests digest n s e digests
@@ -69,9 +67,4 @@ pub pair_appended : (digest : List ℕ → List ℕ) (shape : BlobShape) (e old 
     → held ≡ held_index shape.format shape.f Secondary shard → middle ≡ old ++ row → new ≡ middle ++ column
     → new ≡ old ++ pair_over digest shape e shard
 pair_appended digest shape e old middle new row column shard held own crossing at one two =
-    let n = shard_count shape.f in
-    let s = symbol_size shape.f shape.length in
-    two
-    ∙ ap (λ (ys : List ℕ). ys ++ column) one
-    ∙ append_assoc old row column
-    ∙ ap₂ (λ (a b : List ℕ). old ++ (a ++ b)) own (crossing ∙ ap (λ (j : ℕ). root_over digest s (column_of n s e j)) at)
+    cc (two, one, append_assoc old row column, own, crossing, at)

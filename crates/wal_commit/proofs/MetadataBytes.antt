@@ -55,5 +55,4 @@ module _ (digest : List ℕ → List ℕ) (is : IsDigest digest) where
   -- a blob's metadata
   pub honest_bytes : (format : Format) (n : ℕ) (blob : List ℕ) (m : BlobMetadata) → IsMetadataOf digest format n blob m → AreBytes (metadata_text m)
   honest_bytes format n blob m (e, extended, over, shape) =
-      subst (λ (x : BlobMetadata). AreBytes (metadata_text x)) (sym over)
-      (over_bytes (record { format = format; f = n; length = length blob }) e (bytes_within e extended.coded.fits))
+      rw over (over_bytes (record { format = format; f = n; length = length blob }) e (bytes_within e extended.coded.fits))

@@ -1,10 +1,9 @@
 -- Where no two texts collide, a root has one content, a path one leaf, and an identifier one metadata.
-use Rattle.wal_commit.proofs.Common.{◌≡◌, ℕ, zero, suc, ◌+◌, ◌*◌, ◌/◌, ◌%◌, ◌<◌, ◌≤◌, List, [], ◌∷◌, ◌++◌, length, get_or, take, drop, All, refl, sym, ap, ap₂, subst, ◌∙◌, arith, ⊎_elim, inl, inr, take-append-drop, concat, mul-div_left, length-take-le, length-drop, get_or_past, length-leaves, Axis, Opening, Format, One, Two, shard_count, sliver_symbols, symbol_size, BlobMetadata, IsMetadata, metadata_text, symbol_size-least, metadata_text-injective, IsBytes-drop, IsBytes-take, empty_entry, leaf, leaves, node, pair_up, pieces, root_of, root_over, root_within, IsPathTo, beside, folded, height, parent, path_of, path_over, path_of-end, path_of-step, append_front, append_back, AreBytes, bytes_within, bytes_joined, HoldsSliver, HoldsOpening, head_text, held_pairs, identifier_of, identifier_tag, identifier_text, pair_root}
+use Rattle.wal_commit.proofs.Common.{◌≡◌, ℕ, zero, suc, ◌+◌, ◌*◌, ◌/◌, ◌%◌, ◌<◌, ◌≤◌, List, [], ◌∷◌, ◌++◌, length, get_or, take, drop, All, refl, sym, ap, ap₂, subst, ◌∙◌, arith, ⊎_elim, inl, inr, take-append-drop, concat, mul-div_left, length-take-le, length-drop, get_or_past, length-leaves, Axis, Opening, shard_count, sliver_symbols, symbol_size, BlobMetadata, IsMetadata, metadata_text, symbol_size-least, metadata_text-injective, IsBytes-drop, IsBytes-take, empty_entry, leaf, leaves, node, pair_up, pieces, root_of, root_over, root_within, IsPathTo, beside, folded, height, parent, path_of, path_over, path_of-end, path_of-step, append_front, append_back, AreBytes, bytes_within, bytes_joined, HoldsSliver, HoldsOpening, head_text, held_pairs, identifier_of, identifier_tag, identifier_text, pair_root, length-pair_up-half}
 use Rattle.std.proofs.lemmas.Bool.{cases_lt}
 use Rattle.std.proofs.lemmas.List.Elements.{All-nil, All-cons, All-head, All-tail, All-from_get_or}
 use Rattle.wal_tree.specs.Digests.{IsByte}
 use Rattle.wal_tree.proofs.LevelPairs.{length-pieces}
-use Rattle.wal_tree.proofs.Paths.{length-pair_up-half}
 use Rattle.wal_tree.proofs.Roots.{length-pair_up}
 use Rattle.wal_matrix.proofs.RowLaws.{zeros_after}
 use Rattle.wal_commit.proofs.Clashes.{identifier_is, same_faults, same_heads, same_roots}
@@ -37,9 +36,6 @@ pub record Is32 (d : List ℕ) : Type 0 where
   pub size : length d ≡ 32
   pub bytes : AreBytes d
 
-empty_bytes : AreBytes empty_entry
-empty_bytes i = rw (zeros_after [] 32 i) (omega arith)
-
 -- a digest has 32 bytes
 pub record IsDigest (digest : List ℕ → List ℕ) : Type 0 where
   pub size : (text : List ℕ) → length (digest text) ≡ 32
@@ -55,7 +51,7 @@ module _ (digest : List ℕ → List ℕ) (is : IsDigest digest) where
   is_32 text are = record { size = is.size text; bytes = bytes_of_all (digest text) (is.bytes text (all_bytes text are)) }
 
   pub empty_32 : Is32 empty_entry
-  empty_32 = record { size = refl; bytes = empty_bytes }
+  empty_32 = record { size = refl; bytes = λ i. rw (zeros_after [] 32 i) (omega arith) }
 
   node_bytes : (a b : List ℕ) → Is32 a → Is32 b → AreBytes (1 ∷ (a ++ b))
   node_bytes a b is_a is_b = byte_first 1 (a ++ b) (omega arith) (bytes_joined a b is_a.bytes is_b.bytes)
@@ -98,10 +94,6 @@ module _ (digest : List ℕ → List ℕ) (is : IsDigest digest) where
 
   -- ---- what an identifier digests
 
-  tag_of : (format : Format) → identifier_tag format ≤ 3
-  tag_of One = omega arith
-  tag_of Two = omega arith
-
   parts_bytes : (m : BlobMetadata) → AreBytes (metadata_text m) → AreBytes (head_text m.format m.f m.length ++ held_pairs m)
   parts_bytes m are = subst AreBytes (metadata_text-parts m) are
 
@@ -111,7 +103,7 @@ module _ (digest : List ℕ → List ℕ) (is : IsDigest digest) where
   pub text_bytes : (m : BlobMetadata) → AreBytes (metadata_text m) → AreBytes (identifier_text digest m)
   text_bytes m are =
       byte_first (identifier_tag m.format) (head_text m.format m.f m.length ++ pair_root digest m)
-      (omega (arith, tag_of m.format))
+      (grind arith)
       (bytes_joined (head_text m.format m.f m.length) (pair_root digest m) (bytes_before (head_text m.format m.f m.length) (held_pairs m) (parts_bytes m are))
       (root_over_32 64 (held_pairs m) (pairs_bytes m are)).bytes)
 

@@ -25,7 +25,10 @@ pub record IsFit (f epoch : ℕ) : Type 0 where
 abbrev pub Creates : ℕ → ℕ → List ℕ → List ℕ → ℕ → Result ServingState CreateError → Type 0
 Creates f epoch owners faulty room (Ok s) =
     IsFit f epoch × (is_committee (committee_size f) owners faulty ≡ true)
-    × (s ≡ record { ledger = record { log = record { f = f; first = epoch; owners = owners; entries = [] }; spare = room }; faulty = faulty })
+    × (s ≡ record {
+      ledger = record { log = record { f = f; first = epoch; owners = owners; entries = [] }; spare = room };
+      faulty = faulty;
+    })
 Creates f epoch owners faulty room (Err creating.BadFaults) = is_fault_count f ≡ false
 Creates f epoch owners faulty room (Err creating.BadEpoch) =
     (is_fault_count f ≡ true) × (65535 < epoch)
@@ -50,7 +53,12 @@ abbrev pub Begins : ServingState → List ℕ → List ℕ → List ℕ
     → Result MovingState (ServingState × BeginError) → Type 0
 Begins s owners faulty stays (Ok m) =
     MayBegin s.ledger.log owners faulty stays × (0 < s.ledger.spare)
-    × (m ≡ record { ledger = takes_in s.ledger (Begin owners); faulty_now = s.faulty; faulty_next = faulty; stays = stays })
+    × (m ≡ record {
+      ledger = takes_in s.ledger (Begin owners);
+      faulty_now = s.faulty;
+      faulty_next = faulty;
+      stays = stays;
+    })
 Begins s owners faulty stays (Err (same, beginning.LastEpoch)) =
     (reading s.ledger.log ≡ 65535) × (same ≡ s)
 Begins s owners faulty stays (Err (same, beginning.BadCommittee)) =

@@ -1,5 +1,5 @@
 -- The laws of the quotient: it divides the difference of two values, its own value is what the derivative has, and its degree.
-use Rattle.wal_erasure.proofs.Common.{◌≡◌, ℕ, zero, suc, ◌+◌, ◌-◌, ◌%◌, ◌^◌, ◌<◌, ◌≤◌, T, eqb, bit_xor, refl, sym, ap, ap₂, ◌∙◌, arith, lit<, mod-lt, pow-suc, pow_pos, eqb→eq, xor_assoc, xor_self, xor_zero_l, xor_zero_r, xor_lt, times, additive-zero, all_below, all_below-at, times-lt, times-zero, times-one, times_assoc, times_left_comm, IsPolynomial, IsPolynomial-same, IsPolynomial-nothing, IsPolynomial-constant, IsPolynomial-plus, IsPolynomial-times, Element, words, element_of, function, skew, value, AreWords, value-lt, value-same, value-zero, value-suc, IsPoint, skew-polynomial, value-polynomial, product_of, rate, scale, slope, quotient}
+use Rattle.wal_erasure.proofs.Common.{◌≡◌, ℕ, zero, suc, ◌+◌, ◌-◌, ◌%◌, ◌^◌, ◌<◌, ◌≤◌, T, eqb, bit_xor, refl, sym, ap, ap₂, ◌∙◌, arith, lit<, mod-lt, pow-suc, pow_pos, eqb→eq, xor_assoc, xor_self, xor_zero_l, xor_zero_r, xor_lt, times, additive-zero, all_below, all_below-at, times-lt, times-zero, times-one, times_assoc, times_left_comm, IsPolynomial, IsPolynomial-same, IsPolynomial-nothing, IsPolynomial-constant, IsPolynomial-plus, IsPolynomial-times, Element, words, element_of, function, skew, value, AreWords, value-lt, value-same, value-zero, value-suc, IsPoint, skew-polynomial, value-polynomial, product_of, rate, scale, slope, quotient, element-path, element_of-word}
 use Rattle.wal_gf.specs.Field as field
 use Rattle.wal_gf.proofs.Polynomials as polynomial
 use Rattle.wal_fft.proofs.SkewLaws.{skew-additive, skew-lt, skew-first, skew-step}
@@ -148,15 +148,10 @@ slope-product j e x few =
     ap (words.times (element_of (scale j))) (times-number (slope j d) (bit_xor (skew j d) 1) (slope-lt j d) one)
     ∙ times-number (scale j) (times (slope j d) (bit_xor (skew j d) 1)) (scale-lt j few) (times-lt (slope j d) (bit_xor (skew j d) 1) one)
 
-slope_first : (e : ℕ) (x : Element) → element_of 1 ≡ slope_at 0 e x
-unfolding slope
-slope_first e x = refl
-
 -- row j has 2^j coefficients
 slope-polynomial : (j e : ℕ) → j < 10 → IsPolynomial words (2 ^ j) IsPoint (slope_at j e)
-slope-polynomial zero e few =
-    let p = IsPolynomial-constant words 0 IsPoint (element_of 1) in
-    (p.0, omega (arith, p.1), λ x point. p.2 x point ∙ slope_first e x)
+unfolding slope
+slope-polynomial zero e few = IsPolynomial-constant words 0 IsPoint (element_of 1)
 slope-polynomial (suc j) e few =
     let before = slope-polynomial j e (omega arith) in
     let some = pow_pos j in
@@ -176,23 +171,17 @@ slope-polynomial (suc j) e few =
 quotient-parts : (j : ℕ) (c : ℕ → ℕ) (e : ℕ) (x : Element) → AreWords c
     → words.plus (words.plus (function (quotient j c e) x) (words.times (element_of (skew j e)) (function (quotient j (λ i. c (2 ^ j + i)) e) x)))
     (words.times (slope_at j e x) (function (value j (λ i. c (2 ^ j + i))) x)) ≡ function (quotient (suc j) c e) x
+unfolding words
 quotient-parts j c e x low =
     let h : ℕ → ℕ = λ i. c (2 ^ j + i) in
     let lowh : AreWords h = λ i. low (2 ^ j + i) in
-    let q = quotient j c e x.0 in
-    let r = quotient j h e x.0 in
-    let t = skew j e in
-    let s = slope j (bit_xor x.0 e) in
-    let v = value j h x.0 in
-    let lq : quotient j c e x.0 < 65536 = quotient-lt j c e x.0 low in
-    let lr : quotient j h e x.0 < 65536 = quotient-lt j h e x.0 lowh in
-    let lv : value j h x.0 < 65536 = value-lt j h x.0 lowh in
-    let ltr : times (skew j e) (quotient j h e x.0) < 65536 = times-lt t r lr in
-    ap₂ (λ (y z : Element). words.plus y z)
-    (ap (words.plus (element_of q)) (times-number t r (skew-lt j e) lr) ∙ plus-number q (times t r) lq ltr)
-    (times-number s v (slope-lt j (bit_xor x.0 e)) lv)
-    ∙ plus-number (bit_xor q (times t r)) (times s v) (xor_lt 16 q (times t r) lq ltr) (times-lt s v lv)
-    ∙ ap element_of (sym (quotient-suc j c e x.0))
+    element-path _ _
+    (ap₂ (λ (a b : ℕ). bit_xor a b)
+    (ap₂ (λ (a b : ℕ). bit_xor a b) (element_of-word (quotient j c e x.0) (quotient-lt j c e x.0 low))
+    (ap₂ (λ (a b : ℕ). times a b) (element_of-word (skew j e) (skew-lt j e)) (element_of-word (quotient j h e x.0) (quotient-lt j h e x.0 lowh))))
+    (ap₂ (λ (a b : ℕ). times a b) (element_of-word (slope j (bit_xor x.0 e)) (slope-lt j (bit_xor x.0 e)))
+    (element_of-word (value j h x.0) (value-lt j h x.0 lowh)))
+    ∙ sym (quotient-suc j c e x.0) ∙ sym (element_of-word (quotient (suc j) c e x.0) (quotient-lt (suc j) c e x.0 low)))
 
 -- the quotient has one coefficient less than the polynomial
 pub quotient-polynomial : (j : ℕ) (c : ℕ → ℕ) (e : ℕ) → j ≤ 10 → AreWords c → IsPolynomial words (2 ^ j - 1) IsPoint (function (quotient j c e))

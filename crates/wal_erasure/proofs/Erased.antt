@@ -1,37 +1,11 @@
 -- The value at a missing point: the derivative there is the missing word times the locator of the other missing points.
-use Rattle.wal_erasure.proofs.Common.{◌≡◌, ◌≢◌, ℕ, suc, ◌-◌, ◌^◌, ◌<◌, ◌≤◌, List, ◌∷◌, length, get_or, map, slice_index, slice_index_or, false, bit_xor, refl, sym, ap, ap₂, ◌∙◌, arith, inl, inr, pow_mono, xor_zero_l, xor_zero_r, xor_lt, IsWord, times, inverse, xor_back, IsPolynomial, times-lt, times_assoc, times_comm, one-times, times-zero, times-inverse, inverse-lt, Element, element-path, words, element_of, element_of-word, elements_of, numbers_of, numbers_of-words, value-evaluate, xor-lt, Distinct, IsCodeword, combination, function, codeword_unique, codeword-word, combination-codeword, combination-known, value, IsPoint, product_of, AreWords, quotient, is_known, locator, others}
+use Rattle.wal_erasure.proofs.Common.{◌≡◌, ◌≢◌, ℕ, suc, ◌-◌, ◌^◌, ◌<◌, ◌≤◌, List, ◌∷◌, length, get_or, map, slice_index, slice_index_or, false, bit_xor, refl, sym, ap, ap₂, ◌∙◌, arith, inl, inr, pow_mono, xor_zero_l, xor_zero_r, xor_lt, times, inverse, xor_back, IsPolynomial, times-lt, times_assoc, times_comm, one-times, times-zero, times-inverse, inverse-lt, Element, words, xor-lt, Distinct, IsCodeword, combination, function, to_polynomial, of_polynomial, codeword_unique, codeword-word, combination-codeword, combination-known, value, IsPoint, product_of, AreWords, quotient, is_known, locator, others, cases_Bool}
 use Rattle.std.specs.List.{range_with_len}
-use Rattle.std.proofs.lemmas.List.{length-map}
-use Rattle.std.proofs.lemmas.List.Elements.{recursion_from_All, All-from_recursion}
 use Rattle.std.proofs.lemmas.List.FromFn.{get_or-map-range_with_len, length-map-range_with_len}
 use Rattle.std.proofs.lemmas.Grind.{get_or_default_zero}
-use Rattle.wal_code.proofs.Evaluation.{evaluate-number}
 use Rattle.wal_erasure.proofs.Numbers.{times-number, sum-other}
 use Rattle.wal_erasure.proofs.DerivativeLaws.{quotient-lt, quotient-divides, quotient-polynomial}
-use Rattle.wal_erasure.proofs.LocatorLaws.{either, is_known-found, locator-lt, locator-own, locator-pulled, locator-root, locator-polynomial, is_known-first, locator-other, missing_count, count-suc, counted}
-
--- ---- codewords as polynomials over the field of words, and back
-
-from_codeword : (k : ℕ) (c : ℕ → ℕ) → IsCodeword k 65536 c → IsPolynomial words k IsPoint (function c)
-from_codeword k c h = (
-  elements_of h.coefficients,
-  omega (arith, length-map h.coefficients element_of, h.few),
-  λ x point.
-      element-path _ _
-      (evaluate-number h.coefficients x (recursion_from_All IsWord h.coefficients h.words) ∙ sym (h.values x.0 x.1)
-      ∙ sym (element_of-word (c x.0) (codeword-word k 65536 c (omega arith) h x.0 x.1))),
-)
-
-to_codeword : (k n : ℕ) (c : ℕ → ℕ) → n ≤ 1024 → ((i : ℕ) → i < n → c i < 65536) → IsPolynomial words k IsPoint (function c) → IsCodeword k n c
-to_codeword k n c near low p =
-    record {
-      coefficients = numbers_of p.0;
-      few = omega (arith, length-map p.0 (λ (x : Element). x.0), p.1);
-      words = All-from_recursion IsWord (numbers_of p.0) (numbers_of-words p.0);
-      values = λ i l.
-          let x : Element = (i, omega arith) in
-          sym (element_of-word (c i) (low i l)) ∙ ap (λ (y : Element). y.0) (sym (p.2 x (omega arith))) ∙ value-evaluate p.0 x;
-    }
+use Rattle.wal_erasure.proofs.LocatorLaws.{is_known-found, locator-lt, locator-own, locator-pulled, locator-root, locator-polynomial, is_known-first, locator-other, missing_count, count-suc, counted}
 
 -- ---- the points other than one
 
@@ -101,7 +75,7 @@ module _ (known : List ℕ) (level : ℕ) (given c : ℕ → ℕ) (h : IsErasure
   whole_value x below =
       let n = 2 ^ level in
       let most = points_few in
-      elim (either (is_known known x)) [
+      elim (cases_Bool (is_known known x)) [
         | inl taken ↦
             let found = is_known-found known x taken in
             let k = found.0 in
@@ -148,8 +122,8 @@ module _ (known : List ℕ) (level : ℕ) (given c : ℕ → ℕ) (h : IsErasure
         let l = locator-polynomial (e ∷ known) n (omega arith) in
         let all = counted known n h.distinct h.below in
         let less = count-suc known n e e_below missing in
-        let p = product_of words a b IsPoint s
-        (from_codeword (length known) (combination known given) whole_codeword) l.0 l.1 in (
+        let sum = to_polynomial (length known) 65536 (combination known given) (omega arith) whole_codeword in
+        let p = product_of words a b IsPoint s (sum.0, sum.1, λ x point. sum.2 x x.1) l.0 l.1 in (
           p.0,
           omega (arith, all, less, p.1),
           λ x point.
@@ -171,10 +145,10 @@ module _ (known : List ℕ) (level : ℕ) (given c : ℕ → ℕ) (h : IsErasure
         λ i l. rw (at i l) (xor_lt level e (suc i) e_below (omega arith)) in
         codeword_unique n points (quotient level c e) (cofactor known n given e) (omega arith) (others-distinct e m) below
         (rw long
-        (to_codeword m n (quotient level c e) most (λ i l. quotient-lt level c e i h.coefficients)
+        (of_polynomial m n (quotient level c e) IsPoint (omega arith) (λ x l. omega arith) (λ i l. quotient-lt level c e i h.coefficients)
         (quotient-polynomial level c e h.few h.coefficients)))
         (rw long
-        (to_codeword m n (cofactor known n given e) most (λ i l. cofactor-lt i (omega arith)) cofactor-polynomial))
+        (of_polynomial m n (cofactor known n given e) IsPoint (omega arith) (λ x l. omega arith) (λ i l. cofactor-lt i (omega arith)) cofactor-polynomial))
         (λ i l. away (get_or points i 0) (below i l) (λ same. another e i (sym (at i l) ∙ same)))
         e e_below
 

@@ -4,6 +4,5 @@ pub mod Erased
 pub mod LocatorLaws
 pub mod Numbers
 pub mod RunLaws
-pub mod Scans
 pub mod SolvedLaws
 mod Common

@@ -1,16 +1,8 @@
 -- The laws of the locator: its roots are the missing points, what one point brings to it, its degree, and how many points are missing.
-use Rattle.wal_erasure.proofs.Common.{◌≡◌, ◌≢◌, ℕ, zero, suc, ◌+◌, ◌<◌, ◌≤◌, List, [], ◌∷◌, length, slice_index, Bool, true, false, cond, eqb, eq-eqb, eqb-true, bit_xor, refl, sym, ap, ap₂, ◌∙◌, arith, lit<, zero-add, ◌⊎◌, inl, inr, xor_self, ne_eqb, times, IsPolynomial, IsPolynomial-constant, IsPolynomial-line, times-lt, zero-times, times_left_comm, Element, words, element_of, xor-lt, Distinct, function, IsPoint, is_known, locator}
+use Rattle.wal_erasure.proofs.Common.{◌≡◌, ◌≢◌, ℕ, zero, suc, ◌+◌, ◌<◌, ◌≤◌, List, [], ◌∷◌, length, slice_index, Bool, true, false, cond, eq-eqb, bit_xor, refl, sym, ap, ap₂, ◌∙◌, arith, lit<, zero-add, inl, inr, xor_self, ne_eqb, times, IsPolynomial, IsPolynomial-constant, IsPolynomial-line, times-lt, zero-times, times_left_comm, Element, words, element_of, xor-lt, Distinct, function, IsPoint, is_known, locator, add-one, both_ways, cases_Bool, cases_eq, cond_both, false_from_ne_true, lt-ltb, ltb}
 use Rattle.wal_erasure.proofs.Numbers.{plus-number, times-number, own-number, product-other, sum-other}
 
 -- ---- which points are known
-
-differ : (b : Bool) → b ≡ true → b ≡ false → ⊥
-differ b e h = let f : true ≡ false = sym e ∙ h in cc
-
--- a test holds or does not
-pub either : (b : Bool) → (b ≡ true) ⊎ (b ≡ false)
-either true = inl refl
-either false = inr refl
 
 pub is_known-first : (q x : ℕ) (known : List ℕ) → q ≡ x → is_known (q ∷ known) x ≡ true
 unfolding is_known
@@ -20,62 +12,37 @@ pub is_known-rest : (q x : ℕ) (known : List ℕ) → q ≢ x → is_known (q �
 unfolding is_known
 is_known-rest q x known other = ap (λ (b : Bool). cond b true (is_known known x)) (ne_eqb q x other)
 
-either_point : (q x : ℕ) → (q ≡ x) ⊎ (q ≢ x)
-either_point q x = elim (either (eqb q x)) [ inl e ↦ inl (eqb-true q x e) | inr e ↦ inr (λ same. differ (eqb q x) (eq-eqb q x same) e) ]
-
-is_known-later : (q x : ℕ) (known : List ℕ) → is_known known x ≡ true → is_known (q ∷ known) x ≡ true
-is_known-later q x known e = elim (either_point q x) [ inl same ↦ is_known-first q x known same | inr other ↦ is_known-rest q x known other ∙ e ]
-
 pub is_known-at : (known : List ℕ) (k : ℕ) → k < length known → is_known known (slice_index known k) ≡ true
-is_known-at [] k below = let b : ⊥ = omega arith in absurd b
-is_known-at (q ∷ known) zero below = is_known-first q q known refl
-is_known-at (q ∷ known) (suc k) below = is_known-later q (slice_index known k) known (is_known-at known k (omega arith))
-
-pub is_known-none : (x : ℕ) → is_known [] x ≡ false
 unfolding is_known
-is_known-none x = refl
+is_known-at [] k below = absurd (omega arith)
+is_known-at (q ∷ known) zero below = rw (eq-eqb q q refl)
+is_known-at (q ∷ known) (suc k) below = grind (arith, is_known-at known k (omega arith))
 
 pub is_known-found : (known : List ℕ) (x : ℕ) → is_known known x ≡ true → (k : ℕ) × (k < length known) × (slice_index known k ≡ x)
-is_known-found [] x e = absurd (differ (is_known [] x) e (is_known-none x))
+unfolding is_known
+is_known-found [] x e = absurd cc
 is_known-found (q ∷ known) x e =
-    elim (either_point q x) [
+    elim (cases_eq q x) [
       | inl same ↦ (0, omega arith, same)
       | inr other ↦ let found = is_known-found known x (sym (is_known-rest q x known other) ∙ e) in (suc found.0, omega (arith, found.1), found.2)
     ]
 
 pub is_known-apart : (known : List ℕ) (x : ℕ) → is_known known x ≡ false → (k : ℕ) → k < length known → slice_index known k ≢ x
-is_known-apart known x e k below same = differ (is_known known x) (sym (ap (is_known known) same) ∙ is_known-at known k below) e
+is_known-apart known x e k below same = both_ways _ e (sym (ap (is_known known) same) ∙ is_known-at known k below)
 
--- what is one more among known points, and known already, changes nothing
-pub is_known-again : (known : List ℕ) (y q : ℕ) → is_known known y ≡ true → is_known (y ∷ known) q ≡ is_known known q
-is_known-again known y q e =
-    elim (either_point y q) [
-      | inl same ↦ is_known-first y q known same ∙ sym (sym (ap (is_known known) same) ∙ e)
-      | inr other ↦ is_known-rest y q known other
-    ]
-
-pub fresh : (q : ℕ) (known : List ℕ) → Distinct (q ∷ known) → is_known known q ≡ false
+fresh : (q : ℕ) (known : List ℕ) → Distinct (q ∷ known) → is_known known q ≡ false
 fresh q known distinct =
-    elim (either (is_known known q)) [
-      | inl e ↦ let found = is_known-found known q e in absurd (distinct 0 (suc found.0) 0 (omega arith) (omega (arith, found.1)) (sym found.2))
-      | inr e ↦ e
-    ]
-
-pub rest_distinct : (q : ℕ) (known : List ℕ) → Distinct (q ∷ known) → Distinct known
-rest_distinct q known distinct i j d l m = distinct (suc i) (suc j) d (omega arith) (omega arith)
+    false_from_ne_true (is_known known q)
+    (λ e. let found = is_known-found known q e in distinct 0 (suc found.0) 0 (omega arith) (omega (arith, found.1)) (sym found.2))
 
 -- ---- locators
-
-cond-lt : (b : Bool) (s t : ℕ) → s < 65536 → t < 65536 → cond b s t < 65536
-cond-lt true s t low low' = low
-cond-lt false s t low low' = low'
 
 pub locator-lt : (known : List ℕ) (n x : ℕ) → locator known n x < 65536
 unfolding locator
 locator-lt known zero x = lit< tt
 locator-lt known (suc n) x =
     let l = locator-lt known n x in
-    cond-lt (is_known known n) (locator known n x) (times (bit_xor x n) (locator known n x)) l (times-lt (bit_xor x n) (locator known n x) l)
+    cond_both (is_known known n) _ _ (λ s. s < 65536) (λ _. l) (λ _. times-lt (bit_xor x n) (locator known n x) l)
 
 pub locator-start : (known : List ℕ) (x : ℕ) → locator known 0 x ≡ 1
 unfolding locator
@@ -96,34 +63,23 @@ locator-same known other (suc n) x same =
 
 -- at a known point, that over the others is that over all
 pub locator-own : (known : List ℕ) (n x : ℕ) → is_known known x ≡ true → locator (x ∷ known) n x ≡ locator known n x
-locator-own known n x e = locator-same (x ∷ known) known n x (λ q l. is_known-again known x q e)
-
--- a point from n on changes nothing
-late : (known : List ℕ) (n e x : ℕ) → n ≤ e → locator (e ∷ known) n x ≡ locator known n x
-late known n e x above = locator-same (e ∷ known) known n x (λ q l. is_known-rest e q known (λ same. absurd (omega arith)))
-
--- a factor goes before both cases
-swapped : (b : Bool) (d m l : ℕ) → d < 65536 → m < 65536 → l < 65536 → cond b (times d l) (times m (times d l)) ≡ times d (cond b l (times m l))
-swapped true d m l d_low m_low l_low = refl
-swapped false d m l d_low m_low l_low = times_left_comm m d l m_low d_low l_low
+unfolding is_known
+locator-own known n x e = locator-same (x ∷ known) known n x (λ q l. grind (arith, e))
 
 -- what a missing point brings
+pulled : (known : List ℕ) (n e x : ℕ) → n ≤ 65536 → e < 65536 → x < 65536 → is_known known e ≡ false
+    → locator known n x ≡ cond (ltb e n) (times (bit_xor x e) (locator (e ∷ known) n x)) (locator (e ∷ known) n x)
+unfolding locator is_known
+pulled known zero e x far near low missing = grind arith
+pulled known (suc n) e x far near low missing =
+    let before = pulled known n e x (omega arith) near low missing in
+    let swap = times_left_comm (bit_xor x n) (bit_xor x e) (locator (e ∷ known) n x) (xor-lt x n low (omega arith)) (xor-lt x e low near)
+    (locator-lt (e ∷ known) n x) in
+    grind (arith, before, swap)
+
 pub locator-pulled : (known : List ℕ) (n e x : ℕ) → n ≤ 65536 → e < n → x < 65536 → is_known known e ≡ false
     → locator known n x ≡ times (bit_xor x e) (locator (e ∷ known) n x)
-locator-pulled known zero e x far below low missing = absurd (omega arith)
-locator-pulled known (suc n) e x far below low missing =
-    elim (either_point e n) [
-      | inl same ↦
-          rw same
-          (locator-more known n x (rw same at missing)
-          ∙ ap (times (bit_xor x n)) (sym (locator-more (n ∷ known) n x (is_known-first n n known refl) ∙ late known n n x (omega arith))))
-      | inr other ↦
-          locator-more known n x refl
-          ∙ ap (λ (s : ℕ). cond (is_known known n) s (times (bit_xor x n) s)) (locator-pulled known n e x (omega arith) (omega arith) low missing)
-          ∙ swapped (is_known known n) (bit_xor x e) (bit_xor x n) (locator (e ∷ known) n x) (xor-lt x e low (omega arith))
-          (xor-lt x n low (omega arith)) (locator-lt (e ∷ known) n x)
-          ∙ ap (times (bit_xor x e)) (sym (locator-more (e ∷ known) n x (is_known-rest e n known other)))
-    ]
+locator-pulled known n e x far below low missing = rw (lt-ltb e n below) at (pulled known n e x far (omega arith) low missing)
 
 -- missing points are roots
 pub locator-root : (known : List ℕ) (n x : ℕ) → n ≤ 65536 → x < n → is_known known x ≡ false → locator known n x ≡ 0
@@ -136,13 +92,18 @@ pub locator-other : (known : List ℕ) (n x : ℕ) → n ≤ 65536 → x < 65536
 locator-other known zero x far low e none = absurd (omega (arith, locator-start known x, none))
 locator-other known (suc n) x far low e none =
     let before = locator-other known n x (omega arith) low e in
-    elim (either (is_known known n)) [
+    elim (cases_Bool (is_known known n)) [
       | inl taken ↦ before (sym (locator-more known n x taken) ∙ none)
       | inr free ↦
           product-other (bit_xor x n) (locator known n x) (xor-lt x n low (omega arith)) (locator-lt known n x)
-          (sum-other x n (λ same. differ (is_known known n) (sym (ap (is_known known) same) ∙ e) free)) before
+          (sum-other x n (λ same. both_ways _ free (sym (ap (is_known known) same) ∙ e))) before
           (sym (locator-more known n x free) ∙ none)
     ]
+
+-- one more place of the product over the others
+pub product_step : (known : List ℕ) (n x p : ℕ) {b : Bool} → is_known (x ∷ known) n ≡ b → p ≡ locator (x ∷ known) n x
+    → cond b p (times (bit_xor x n) p) ≡ locator (x ∷ known) (n + 1) x
+product_step known n x p e h = rw (h, add-one) (sym (locator-more (x ∷ known) n x e))
 
 -- ---- how many points are missing
 
@@ -160,37 +121,21 @@ unfolding missing_count is_known
 count-none zero = refl
 count-none (suc n) = ap suc (count-none n)
 
-count-late : (known : List ℕ) (n e : ℕ) → n ≤ e → missing_count (e ∷ known) n ≡ missing_count known n
-unfolding missing_count
-count-late known zero e above = refl
-count-late known (suc n) e above =
-    count-more (e ∷ known) n (is_known-rest e n known (λ same. absurd (omega arith)))
-    ∙ ap (λ (s : ℕ). cond (is_known known n) s (suc s)) (count-late known n e (omega arith))
-
-one_more : (b : Bool) (s : ℕ) → cond b (suc s) (suc (suc s)) ≡ suc (cond b s (suc s))
-one_more true s = refl
-one_more false s = refl
+one_known : (known : List ℕ) (n e : ℕ) → is_known known e ≡ false → missing_count known n ≡ cond (ltb e n) 1 0 + missing_count (e ∷ known) n
+unfolding missing_count is_known
+one_known known zero e missing = grind arith
+one_known known (suc n) e missing = grind (arith, one_known known n e missing)
 
 -- one more known point is one missing point less
 pub count-suc : (known : List ℕ) (n e : ℕ) → e < n → is_known known e ≡ false → missing_count known n ≡ suc (missing_count (e ∷ known) n)
-count-suc known zero e below missing = absurd (omega arith)
-count-suc known (suc n) e below missing =
-    elim (either_point e n) [
-      | inl same ↦
-          count-more known n (rw same at missing)
-          ∙ ap suc (sym (count-more (e ∷ known) n (is_known-first e n known same) ∙ count-late known n e (omega arith)))
-      | inr other ↦
-          count-more known n refl
-          ∙ ap (λ (s : ℕ). cond (is_known known n) s (suc s)) (count-suc known n e (omega arith) missing)
-          ∙ one_more (is_known known n) (missing_count (e ∷ known) n)
-          ∙ ap suc (sym (count-more (e ∷ known) n (is_known-rest e n known other)))
-    ]
+count-suc known n e below missing = let more = rw (lt-ltb e n below) at (one_known known n e missing) in omega arith
 
 -- known and missing points are all
 pub counted : (known : List ℕ) (n : ℕ) → Distinct known → ((k : ℕ) → k < length known → slice_index known k < n) → length known + missing_count known n ≡ n
 counted [] n distinct below = zero-add (missing_count [] n) ∙ count-none n
 counted (q ∷ known) n distinct below =
-    let before = counted known n (rest_distinct q known distinct) (λ k l. below (suc k) (omega arith)) in
+    let rest : Distinct known = λ i j d l m. distinct (suc i) (suc j) d (omega arith) (omega arith) in
+    let before = counted known n rest (λ k l. below (suc k) (omega arith)) in
     let less = count-suc known n q (below 0 (omega arith)) (fresh q known distinct) in
     omega (arith, before, less)
 
@@ -212,7 +157,7 @@ locator-polynomial known zero far =
     (p.0, p.1, λ x point. p.2 x point ∙ ap element_of (sym (locator-start known x.0)))
 locator-polynomial known (suc n) far =
     let before = locator-polynomial known n (omega arith) in
-    elim (either (is_known known n)) [
+    elim (cases_Bool (is_known known n)) [
       | inl taken ↦ (
         before.0,
         omega (arith, before.1, count-more known n taken),

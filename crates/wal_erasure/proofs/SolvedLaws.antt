@@ -1,7 +1,7 @@
 -- Strips that are solved, and all regions.
-use Rattle.wal_erasure.proofs.Common.{◌≡◌, ℕ, ◌+◌, ◌-◌, ◌*◌, ◌^◌, ◌<◌, ◌≤◌, List, length, slice_index, Bool, false, cond, sym, ap, ap₂, ◌∙◌, arith, inl, inr, times, inverse, Gf, Distinct, combination, coefficient, element_at, combination-known, word_at, region, word_at-lt, word_at-region, value, lane, AreValues, AreCoefficients, AreDerived, is_known, others, AreFactors, ArePut, AreTaken, AreSolved, AreCopied}
+use Rattle.wal_erasure.proofs.Common.{◌≡◌, ℕ, ◌+◌, ◌-◌, ◌*◌, ◌^◌, ◌<◌, ◌≤◌, List, length, slice_index, Bool, false, cond, sym, ap, ap₂, ◌∙◌, arith, inl, inr, times, inverse, Gf, Distinct, combination, coefficient, element_at, combination-known, word_at, region, word_at-lt, word_at-region, value, lane, AreValues, AreCoefficients, AreDerived, is_known, others, AreFactors, ArePut, AreTaken, AreSolved, AreCopied, cases_Bool}
 use Rattle.wal_code.proofs.Totals.{xor_below-same}
-use Rattle.wal_erasure.proofs.LocatorLaws.{either, is_known-at, is_known-found, is_known-apart}
+use Rattle.wal_erasure.proofs.LocatorLaws.{is_known-at, is_known-found, is_known-apart}
 use Rattle.wal_erasure.proofs.Erased.{IsErasure, recovered}
 
 -- ---- one strip
@@ -48,7 +48,6 @@ module _ (words start width wanted level : ℕ) (known : List ℕ) (factors : Li
   solved_word : (w : ℕ) → w < width → (x : ℕ) → x < wanted → is_known known x ≡ false
       → word_at new (words * x + (start + w)) ≡ combination known (λ k. word_at sources (words * k + (start + w))) x
   solved_word w l x below missing =
-      let most = h.enough in
       let place : 0 * 2 ^ level + x ≡ x = omega arith in
       let within : x < 2 ^ level = omega arith in
       h.take.products w l x below
@@ -69,18 +68,13 @@ module _ (words start width wanted level : ℕ) (known : List ℕ) (factors : Li
 module _ (words wanted : ℕ) (known sources old mid new : List ℕ) (distinct : Distinct known)
     (points : (k : ℕ) → k < length known → slice_index known k < 65536) (bytes : (k : ℕ) → slice_index sources k < 256)
     (solved : AreSolved words 0 words wanted known sources old mid) (copied : AreCopied words wanted known (length known) sources mid new) where
-  all_known : (w : ℕ) → w < words → (k : ℕ) → k < length known → slice_index known k < wanted
-      → word_at new (words * slice_index known k + w) ≡ combination known (λ k. word_at sources (words * k + w)) (slice_index known k)
-  all_known w l k below within =
-      copied.copied k below within w l
-      ∙ sym (combination-known known (λ k. word_at sources (words * k + w)) distinct points (λ i o. word_at-lt sources (words * i + w) bytes) k below)
-
   all_words : (w : ℕ) → w < words → (x : ℕ) → x < wanted → word_at new (words * x + w) ≡ combination known (λ k. word_at sources (words * k + w)) x
   all_words w l x below =
-      elim (either (is_known known x)) [
+      elim (cases_Bool (is_known known x)) [
         | inl taken ↦
             let found = is_known-found known x taken in
-            rw (← found.2) (all_known w l found.0 found.1 (rw found.2 below))
+            let there = combination-known known (λ k. word_at sources (words * k + w)) distinct points (λ i o. word_at-lt sources (words * i + w) bytes) in
+            rw (← found.2) (copied.copied found.0 found.1 (rw found.2 below) w l ∙ sym (there found.0 found.1))
         | inr free ↦ copied.kept x (is_known-apart known x free) w l ∙ solved.sums w (omega arith) l x below free
       ]
 

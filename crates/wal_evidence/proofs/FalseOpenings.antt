@@ -1,16 +1,8 @@
 -- A bad proof against the metadata of an extended matrix has an opening whose symbol is not the matrix's.
-use Rattle.wal_evidence.proofs.Common.{◌≡◌, ◌≢◌, ℕ, ◌<◌, List, length, map, get_or, slice_get, slice_index, Some, option_map, sym, ap, subst, ◌∙◌, arith, ⊎_elim, range_with_len, get_or-map, length-map, slice_get-get_or, slice_get-map, slice_get_read, region, Axis, Primary, Secondary, Opening, IsShape, shard_count, sliver_symbols, symbol_size, BlobMetadata, EncodingProof, IsCodedMatrix, column_of, line_of, row_of, line_is_word, HoldsOpening, metadata_over, AreEnough, HasRoot, IsBadProof, IsLineThrough, crosses_of, CommitsMatrix}
-use Rattle.std.proofs.lemmas.List.FromFn.{get_or-range_with_len, length-range_with_len}
-use Rattle.wal_tree.specs.Tree.{root_over}
+use Rattle.wal_evidence.proofs.Common.{◌≡◌, ◌≢◌, ℕ, ◌<◌, List, length, get_or, slice_get, slice_index, Some, ap, subst, ◌∙◌, arith, ⊎_elim, get_or-map, length-map, slice_get-get_or, region, Axis, Opening, BlobShape, IsShape, shard_count, sliver_symbols, symbol_size, BlobMetadata, EncodingProof, IsCodedMatrix, line_of, line_is_word, HoldsOpening, metadata_over, AreEnough, HasRoot, IsBadProof, IsLineThrough, crosses_of, CommitsMatrix, roots_of}
+use Rattle.wal_commit.proofs.HonestOpenings.{root_of_line}
 use Rattle.wal_evidence.proofs.OneLine.{no_opening, one_line, symbol_at, symbol_sizes}
 use Rattle.wal_evidence.proofs.SameOrNot.{all_or_some, same_or_not}
-
--- the value of a function at a number, in the list of its values
-pub value_at : (f : ℕ → List ℕ) (n i : ℕ) → i < n → slice_get (map f (range_with_len 0 n)) i ≡ Some (f i)
-value_at f n i l =
-    let at = get_or-range_with_len 0 n i i l in
-    slice_get-map f (range_with_len 0 n) i
-    ∙ ap (option_map f) (slice_get_read (range_with_len 0 n) n i i (sym (length-range_with_len 0 n)) l (omega (arith, at)))
 
 -- the matrix is that of a blob of the length that m says
 pub length_is : (digest : List ℕ → List ℕ) (m : BlobMetadata) (blob e : List ℕ) → CommitsMatrix digest m blob e
@@ -21,17 +13,10 @@ length_is digest m blob e is = ap (λ (x : BlobMetadata). x.length) is.1
 -- m has the root over each row and column of the matrix
 pub line_root : (axis : Axis) (digest : List ℕ → List ℕ) (m : BlobMetadata) (blob e : List ℕ) (i : ℕ) → CommitsMatrix digest m blob e → i < shard_count m.f
     → HasRoot digest m axis i (line_of axis m.f (symbol_size m.f m.length) e i)
-unfolding metadata_over
-line_root Primary digest m blob e i is l =
-    let n = shard_count m.f in
-    let s = symbol_size m.f (length blob) in
-    rw (length_is digest m blob e is)
-    (ap (λ (x : BlobMetadata). slice_get x.primary i) is.1 ∙ value_at (λ r. root_over digest s (row_of n s e r)) n i l)
-line_root Secondary digest m blob e i is l =
-    let n = shard_count m.f in
-    let s = symbol_size m.f (length blob) in
-    rw (length_is digest m blob e is)
-    (ap (λ (x : BlobMetadata). slice_get x.secondary i) is.1 ∙ value_at (λ j. root_over digest s (column_of n s e j)) n i l)
+line_root axis digest m blob e i is l =
+    let shape : BlobShape = record { format = m.format; f = m.f; length = length blob } in
+    rw (← length_is digest m blob e is) at
+    (ap (λ (x : BlobMetadata). slice_get (roots_of axis x) i) is.1 ∙ root_of_line digest axis shape e i l)
 
 -- openings that have a matrix's symbols lie on its line
 pub line_through : (digest : List ℕ → List ℕ) (m : BlobMetadata) (axis : Axis) (index : ℕ) (openings : List Opening) (e : List ℕ)

@@ -1,7 +1,7 @@
 -- Held slivers are those of the matrix of a blob that the metadata commits, or one of them is not, under the same root.
-use Rattle.wal_evidence.proofs.Common.{◌≡◌, ◌≢◌, ◌⊎◌, ℕ, ◌<◌, List, length, slice_index, sym, inl, inr, ⊎_elim, region, Primary, shard_count, symbol_size, BlobMetadata, IsMetadata, row_of, primary_of, row_is_word, HoldsSliver, Basis, Slivers, Proof, Verdict, Bytes, CommitsMatrix, HasFalseSliver, IsHeldBy, IsJudgedBy, sliver_bytes}
-use Rattle.wal_matrix.proofs.Slivers.{primary_long}
-use Rattle.wal_evidence.proofs.FalseOpenings.{false_opening, length_is, line_root}
+use Rattle.wal_evidence.proofs.Common.{◌≡◌, ◌≢◌, ◌⊎◌, ℕ, ◌<◌, List, length, slice_index, sym, inl, inr, ⊎_elim, region, Primary, BlobShape, shard_count, symbol_size, BlobMetadata, IsMetadata, primary_of, HoldsSliver, Basis, Slivers, Proof, Verdict, Bytes, CommitsMatrix, HasFalseSliver, IsHeldBy, IsJudgedBy, sliver_bytes}
+use Rattle.wal_commit.proofs.HonestOpenings.{honest_sliver}
+use Rattle.wal_evidence.proofs.FalseOpenings.{false_opening, length_is}
 use Rattle.wal_evidence.proofs.SameOrNot.{all_or_some, same_or_not}
 use Rattle.wal_evidence.proofs.Verdicts.{true_blob}
 
@@ -9,14 +9,8 @@ use Rattle.wal_evidence.proofs.Verdicts.{true_blob}
 pub matrix_holds : (digest : List ℕ → List ℕ) (m : BlobMetadata) (blob e : List ℕ) (i : ℕ) → CommitsMatrix digest m blob e → i < shard_count m.f
     → HoldsSliver digest m Primary i (primary_of m.f (symbol_size m.f m.length) e i)
 matrix_holds digest m blob e i is l =
-    let s = symbol_size m.f (length blob) in
-    let long = length_is digest m blob e is in record {
-      within = l;
-      size = rw long (primary_long m.f s e i is.0.coded.size l);
-      word = row_of (shard_count m.f) (symbol_size m.f m.length) e i;
-      is_word = rw long (row_is_word m.f s e i is.0.coded l);
-      root = line_root Primary digest m blob e i is l;
-    }
+    let shape : BlobShape = record { format = m.format; f = m.f; length = length blob } in
+    rw (← is.1, ← length_is digest m blob e is) at (honest_sliver digest Primary shape e i is.0.coded l)
 
 -- the verdict is the blob that the metadata commits, or a sliver is false
 pub true_or_false : (digest : List ℕ → List ℕ) (m : BlobMetadata) (basis : Basis) (verdict : Verdict) → IsMetadata m → IsHeldBy digest m basis

@@ -1,6 +1,5 @@
 -- How long the spelling of a bad proof is.
-use Rattle.wal_evidence.proofs.Common.{◌≡◌, ℕ, ◌+◌, ◌*◌, ◌≤◌, All, List, [], ◌∷◌, length, ap, arith, AllByRecursion, flat_map, All-head, All-tail, Axis, Opening, column_count, sliver_symbols, symbol_size, BlobMetadata, IsBody, EncodingProof, IsProof, IsBadProof}
-use Rattle.std.proofs.lemmas.List.{length-append}
+use Rattle.wal_evidence.proofs.Common.{◌≡◌, ℕ, ◌+◌, ◌*◌, ◌≤◌, All, List, [], ◌∷◌, length, ap, arith, AllByRecursion, flat_map, All-head, All-tail, Axis, Opening, column_count, sliver_symbols, symbol_size, BlobMetadata, IsBody, EncodingProof, IsProof, IsBadProof, length-append}
 use Rattle.wal_shape.specs.Spelling.{body_text, proof_text}
 use Rattle.wal_shape.proofs.BodyLaws.{length-body_text}
 

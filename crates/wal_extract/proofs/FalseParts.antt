@@ -25,10 +25,8 @@ module _ (digest : List ℕ → List ℕ) (m : BlobMetadata) (blob e : List ℕ)
     -- held slivers have one root with those of the matrix
     pub slivers_meet : SliversMeet digest m.f (symbol_size m.f m.length) e indices joined
     slivers_meet = record {
-      each = λ k below.
-          let given = held.held k below in
-          held_one_root _ _ _ _ _ _ fit.shape given
-          (matrix_holds digest m blob e (slice_index indices k) is given.within);
+      each = λ k below. held_one_root _ _ _ _ _ _ fit.shape (held.held k below)
+          (matrix_holds digest m blob e (slice_index indices k) is (held.held k below).within);
     }
 
     -- and one of them is not its own where they do not lead to its blob

@@ -62,7 +62,6 @@ rows_all x y d e shape long_d long_e some each =
     let n = shard_count x.f in
     let s = symbol_size x.f x.length in
     let long = rw (← shape) at long_e in
-    let same = rw (← shape) at each in
     let room : 1 * s ≤ n * s = mul-le-mul_right s (omega arith) in
     same_by_regions n (n * s) d e (omega (arith, room)) (long_d ∙ omega arith) (long ∙ omega arith)
-    (λ i below. rw (← row_is n s d i, ← row_is n s e i) (same i below))
+    (λ i below. rw (← row_is n s d i, ← row_is n s e i) ((rw (← shape) at each) i below))

@@ -1,5 +1,5 @@
 -- The codewords of slivers that are committed under one root.
-use Rattle.wal_extract.proofs.Common.{◌≡◌, ◌≢◌, ℕ, List, Some, sym, ◌∙◌, IsShape, symbol_size, BlobMetadata, symbol_size-least, root_over, HoldsSliver}
+use Rattle.wal_extract.proofs.Common.{◌≡◌, ◌≢◌, ℕ, List, IsShape, symbol_size, BlobMetadata, symbol_size-least, root_over, HoldsSliver}
 use Rattle.wal_shape.specs.declared.axis.Axis.{Axis}
 use Rattle.wal_matrix.specs.Word.{IsWordOf}
 use Rattle.wal_matrix.proofs.ToolsLaws.{symbol_size-longest}
@@ -22,7 +22,6 @@ pub held_one_root : (digest : List ℕ → List ℕ) (m : BlobMetadata) (axis : 
     HoldsSliver digest m axis index a → HoldsSliver digest m axis index b → HaveOneRoot digest m.f axis a b
 held_one_root digest m axis index a b shape held_a held_b =
     let least = symbol_size-least m.f m.length in
-    let roots : Some (root_over digest (symbol_size m.f m.length) held_a.word) ≡ Some (root_over digest (symbol_size m.f m.length) held_b.word) = sym held_a.root ∙ held_b.root in
     record {
       size = symbol_size m.f m.length;
       even = least.even;
@@ -34,5 +33,5 @@ held_one_root digest m axis index a b shape held_a held_b =
       word_b = held_b.word;
       is_a = held_a.is_word;
       is_b = held_b.is_word;
-      root = cc;
+      root = cc (held_a.root, held_b.root);
     }

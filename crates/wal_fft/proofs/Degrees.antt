@@ -1,8 +1,7 @@
 -- The degrees of skews and of values: as functions of the point they are polynomials, so values at the first points are codewords.
-use Rattle.wal_fft.proofs.Common.{◌≡◌, ℕ, zero, suc, ◌+◌, ◌-◌, ◌%◌, ◌^◌, ◌<◌, ◌≤◌, bit_xor, sym, ap, ap₂, ◌∙◌, arith, pow-suc, inl, inr, xor_zero_r, cases_lt, length-map, IsWord, times, IsPolynomial, IsPolynomial-nothing, IsPolynomial-constant, IsPolynomial-plus, IsPolynomial-times, IsPolynomial-line, times-zero, IsCodeword, function, skew, value}
-use Rattle.std.proofs.lemmas.List.Elements.{All-from_recursion}
+use Rattle.wal_fft.proofs.Common.{◌≡◌, ℕ, zero, suc, ◌+◌, ◌-◌, ◌%◌, ◌^◌, ◌<◌, ◌≤◌, bit_xor, sym, ap, ap₂, ◌∙◌, arith, pow-suc, inl, inr, xor_zero_r, cases_lt, times, IsPolynomial, IsPolynomial-nothing, IsPolynomial-constant, IsPolynomial-plus, IsPolynomial-times, IsPolynomial-line, times-zero, IsCodeword, function, of_polynomial, skew, value}
 use Rattle.wal_gf.proofs.Polynomials as polynomial
-use Rattle.wal_gf.proofs.Instance.{Element, element-path, words, element_of, element_of-word, numbers_of, numbers_of-words, value-evaluate}
+use Rattle.wal_gf.proofs.Instance.{Element, element-path, words, element_of, element_of-word}
 use Rattle.wal_fft.proofs.SkewLaws.{skew-lt, skew-first, skew-step, line, scale, scale-lt}
 use Rattle.wal_fft.proofs.ProductDegrees.{product_of}
 use Rattle.wal_fft.proofs.Values.{AreWords, value-lt, value-none, value-zero, value-suc}
@@ -112,20 +111,8 @@ value-polynomial (suc j) k c few low none =
           )
     ]
 
--- a polynomial over the field of words is a codeword at the first points
-of_polynomial : (k n : ℕ) (c : ℕ → ℕ) → n ≤ 1024 → AreWords c → IsPolynomial words k IsPoint (function c) → IsCodeword k n c
-of_polynomial k n c few low p =
-    record {
-      coefficients = numbers_of p.0;
-      few = omega (arith, length-map p.0 (λ (x : Element). x.0), p.1);
-      words = All-from_recursion IsWord (numbers_of p.0) (numbers_of-words p.0);
-      values = λ i l.
-          let x : Element = (i, omega arith) in
-          sym (element_of-word (c i) (low i)) ∙ ap (λ (y : Element). y.0) (sym (p.2 x (omega arith))) ∙ value-evaluate p.0 x;
-    }
-
 -- values at the first points are a codeword of as many dimensions as there are coefficients before the zeros
 pub values_codeword : (j k n : ℕ) (c : ℕ → ℕ) → j ≤ 10 → n ≤ 1024 → AreWords c → ((i : ℕ) → k ≤ i → i < 2 ^ j → c i ≡ 0)
     → IsCodeword k n (value j c)
 values_codeword j k n c few near low none =
-    of_polynomial k n (value j c) near (λ x. value-lt j c x low) (value-polynomial j k c few low none)
+    of_polynomial k n (value j c) IsPoint (omega arith) (λ x l. omega arith) (λ x l. value-lt j c x low) (value-polynomial j k c few low none)

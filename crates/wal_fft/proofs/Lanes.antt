@@ -1,5 +1,5 @@
 -- Words of lists that are put together, of parts that are put back, and of runs.
-use Rattle.wal_fft.proofs.Common.{◌≡◌, ℕ, ◌+◌, ◌-◌, ◌*◌, ◌<◌, ◌≤◌, List, ◌++◌, length, take, drop, slice_index, bit_xor, refl, sym, ap, ap₂, ◌∙◌, arith, mul-le-mul_left, xor_zero_r, length-take-le, get_or-take, times, word_at, IsScaledSum, IsSum, word_at-take, word_at-drop, lane, scaled, WasAdded}
+use Rattle.wal_fft.proofs.Common.{◌≡◌, ℕ, ◌+◌, ◌-◌, ◌*◌, ◌<◌, ◌≤◌, List, ◌++◌, length, take, drop, slice_index, bit_xor, refl, sym, ap, ap₂, ◌∙◌, arith, mul-le-mul_left, length-take-le, get_or-take, word_at, word_at-take, word_at-drop, lane, WasAdded}
 use Rattle.std.proofs.Math.Seq.{take-append_seam, drop-append_seam}
 use Rattle.std.proofs.lemmas.Slice.{take-put_mid_below, drop-put_mid}
 use borrow.Rule.Slice.PartMut.{put_mid, post_of, same_len_mid, mid_len}
@@ -45,21 +45,6 @@ byte-put_before at k xs ys i inside below =
     ∙ ap (λ (zs : List ℕ). slice_index zs i) (take-put_mid_below at k xs ys at (omega arith) inside)
     ∙ get_or-take at xs i 0 below
 
--- a sum in the words from one place on
-pub added_from : (f : ℕ → ℕ) (from : ℕ) (old part : List ℕ) → 2 * from ≤ length old → length part ≡ length old - 2 * from
-    → ((q : ℕ) → 2 * q + 1 < length old - 2 * from → word_at part q ≡ bit_xor (word_at old (from + q)) (f (from + q)))
-    → WasAdded f from old (put_mid (2 * from) (length old - 2 * from) old part)
-added_from f from old part inside long sums = record {
-  long = same_len_mid (2 * from) (length old - 2 * from) old part (long ∙ sym (mid_len (2 * from) (length old) old (omega arith)));
-  kept = λ p below. word_at-put_before (2 * from) (length old - 2 * from) old part p inside (omega arith);
-  added = λ p above within.
-      let place : p ≡ from + (p - from) = omega arith in
-      ap (word_at (put_mid (2 * from) (length old - 2 * from) old part)) place
-      ∙ word_at-put_within from (2 * from) (length old - 2 * from) old part (p - from) refl inside (omega arith)
-      ∙ sums (p - from) (omega arith)
-      ∙ ap (λ (s : ℕ). bit_xor (word_at old s) (f s)) (sym place);
-}
-
 -- a word of a part
 pub copied_word : (from n base : ℕ) (xs part : List ℕ) (w : ℕ) → from ≡ 2 * base → part ≡ take n (drop from xs) → 2 * w + 1 < n
     → word_at part w ≡ word_at xs (base + w)
@@ -67,49 +52,29 @@ copied_word from n base xs part w even same within =
     ap (λ (ys : List ℕ). word_at ys w) same ∙ word_at-take n (drop from xs) w within
     ∙ ap (λ (a : ℕ). word_at (drop a xs) w) even ∙ word_at-drop base xs w
 
-part_long : (from : ℕ) (xs : List ℕ) → length (take (length xs - 2 * from) (drop (2 * from) xs)) ≡ length xs - 2 * from
-part_long from xs = mid_len (2 * from) (length xs) xs (omega arith)
+-- the words from one place on
+abbrev tail : ℕ → List ℕ → List ℕ
+tail from xs = take (length xs - 2 * from) (drop (2 * from) xs)
 
 -- a sum in the words from one place on, of what the source's words are made to
-sum_from : (made : ℕ → ℕ) (from : ℕ) (old source part : List ℕ) → length source ≡ length old → 2 * from ≤ length old
-    → length part ≡ length old - 2 * from
-    → ((q : ℕ) → 2 * q + 1 < length old - 2 * from
-    → word_at part q ≡ bit_xor (word_at (take (length old - 2 * from) (drop (2 * from) old)) q)
-    (made (word_at (take (length source - 2 * from) (drop (2 * from) source)) q)))
+pub sum_from : (made : ℕ → ℕ) (from : ℕ) (old source part : List ℕ) → length source ≡ length old → 2 * from ≤ length old
+    → length part ≡ length (tail from old)
+    → ((q : ℕ) → 2 * q + 1 < length (tail from old) → word_at part q ≡ bit_xor (word_at (tail from old) q) (made (word_at (tail from source) q)))
     → WasAdded (λ p. made (word_at source p)) from old (put_mid (2 * from) (length old - 2 * from) old part)
 sum_from made from old source part same inside long sums =
-    added_from (λ p. made (word_at source p)) from old part inside long
-    (λ q within.
-    sums q within
-    ∙ ap₂ (λ (s t : ℕ). bit_xor s (made t))
-    (copied_word (2 * from) (length old - 2 * from) from old
-    (take (length old - 2 * from) (drop (2 * from) old)) q refl refl within)
-    (copied_word (2 * from) (length source - 2 * from) from source
-    (take (length source - 2 * from) (drop (2 * from) source)) q refl refl (omega arith)))
-
--- a sum of products in the words from one place on
-pub product_from : (c from : ℕ) (old source part : List ℕ) → length source ≡ length old → 2 * from ≤ length old
-    → IsScaledSum c (take (length old - 2 * from) (drop (2 * from) old)) (take (length source - 2 * from) (drop (2 * from) source)) part
-    → WasAdded (scaled c source) from old (put_mid (2 * from) (length old - 2 * from) old part)
-product_from c from old source part same inside h =
-    let long = part_long from old in
-    sum_from (times c) from old source part same inside (h.same_length ∙ long) (λ q within. h.words q (omega arith))
-
--- a sum of words
-pub words_from : (from : ℕ) (old source part : List ℕ) → length source ≡ length old → 2 * from ≤ length old
-    → IsSum (take (length old - 2 * from) (drop (2 * from) old)) (take (length source - 2 * from) (drop (2 * from) source)) part
-    → WasAdded (word_at source) from old (put_mid (2 * from) (length old - 2 * from) old part)
-words_from from old source part same inside h =
-    let long = part_long from old in
-    sum_from (λ n. n) from old source part same inside (h.same_length ∙ long) (λ q within. h.words q (omega arith))
-
--- nothing is added where each summand is 0
-pub added_nothing : (f : ℕ → ℕ) (from : ℕ) (old : List ℕ) → ((p : ℕ) → f p ≡ 0) → WasAdded f from old old
-added_nothing f from old none = record {
-  long = refl;
-  kept = λ p below. refl;
-  added = λ p above within. sym (ap (bit_xor (word_at old p)) (none p) ∙ xor_zero_r (word_at old p));
-}
+    let most = mid_len (2 * from) (length old) old (omega arith) in
+    record {
+      long = same_len_mid (2 * from) (length old - 2 * from) old part long;
+      kept = λ p below. word_at-put_before (2 * from) (length old - 2 * from) old part p inside (omega arith);
+      added = λ p above within.
+          let place : p ≡ from + (p - from) = omega arith in
+          rw place
+          (word_at-put_within from (2 * from) (length old - 2 * from) old part (p - from) refl inside (omega arith)
+          ∙ sums (p - from) (omega arith)
+          ∙ ap₂ (λ (s t : ℕ). bit_xor s (made t))
+          (copied_word (2 * from) (length old - 2 * from) from old (tail from old) (p - from) refl refl (omega arith))
+          (copied_word (2 * from) (length source - 2 * from) from source (tail from source) (p - from) refl refl (omega arith)));
+    }
 
 -- ---- runs
 

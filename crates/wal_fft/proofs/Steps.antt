@@ -122,7 +122,7 @@ pub restored_lower : {width level j index known : ℕ} {low high low_sum low_coe
     → AreCoefficients width level index known (low ++ high) (low_new ++ high)
 restored_lower {width} {level} {j} {index} {known} {low} {high} {low_sum} up h = rw (← up) record {
   values = λ w l i below.
-      let within : i < 2 ^ j = let most = h.lower in omega arith in
+      let within : i < 2 ^ j = omega arith in
       at_lower h.halves l within
       ∙ sym (lane-kept (scaled (skew j (2 * index * 2 ^ j)) high) width known low low_sum w i h.to_low l below)
       ∙ h.in_low.values w l i below ∙ value_lower h.sums l within;
@@ -166,7 +166,6 @@ restored_both {width} {level} {j} {index} {known} {low} {high} {low_coeffs} {hig
             ∙ value_upper h.sums l h.high_back (omega (arith, pow-suc 2 j, rw (← up) at most)))
       ];
   others = λ w l i above within.
-      let more = h.more in
       let place : i ≡ 2 ^ j + (i - 2 ^ j) = omega arith in
       let late : known - 2 ^ j ≤ i - 2 ^ j = omega arith in
       let inside : i - 2 ^ j < 2 ^ j = omega (arith, pow-suc 2 j) in

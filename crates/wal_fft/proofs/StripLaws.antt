@@ -92,13 +92,6 @@ scattered_more words start width known place at k strip old mid part at_is k_is 
 
 -- ---- one strip
 
--- a word of the first regions
-first_word : (words known : ℕ) (old new : List ℕ) → ((k : ℕ) → k < known * (2 * words) → slice_index new k ≡ slice_index old k)
-    → (i p : ℕ) → p < words → i < known → word_at new (words * i + p) ≡ word_at old (words * i + p)
-first_word words known old new first i p low below =
-    let l = fits words p i known low below in
-    ap₂ (λ (s t : ℕ). s * 256 + t) (first (2 * (words * i + p)) (omega arith)) (first (2 * (words * i + p) + 1) l)
-
 pub record FillsStrip (words start width known total level : ℕ) (old gathered coeffs values new : List ℕ) : Type 0 where
   pub level_few : level ≤ 10
   pub few : total ≤ 1024
@@ -116,13 +109,13 @@ module _ (words start width known total level : ℕ) (old gathered coeffs values
 
   strip_word : (w : ℕ) → w < width → IsCodeword known total (λ i. word_at new (words * i + (start + w)))
   strip_word w l =
-      let room = h.within in
-      let points = h.enough in
       IsCodeword-same known total (value level (lane width coeffs w)) (λ i. word_at new (words * i + (start + w)))
       (λ i below.
       elim (cases_lt i known) [
         | inl early ↦
-            first_word words known old new h.scatter.first i (start + w) (omega arith) early
+            let place = words * i + (start + w) in
+            let reach = fits words (start + w) i known (omega arith) early in
+            ap₂ (λ (s t : ℕ). s * 256 + t) (h.scatter.first (2 * place) (omega arith)) (h.scatter.first (2 * place + 1) reach)
             ∙ sym (h.gather.copied w l i early) ∙ h.restore.values w l i early ∙ ap (value level (lane width coeffs w)) place_is
         | inr late ↦
             h.scatter.copied w l i late below

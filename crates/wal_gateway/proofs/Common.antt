@@ -8,13 +8,13 @@ pub use Rattle.std.specs.List.{AllByRecursion}
 unfoldable pub use Rattle.std.specs.List.{IsDistinct}
 pub use Rattle.std.specs.Map.{keys_of, lookup, remove_entry, lookup_entry}
 pub use Rattle.std.specs.Option.{is_some, option_map, option_map_or, option_copied}
-pub use Rattle.wal_evidence.specs.Evidence.{IsJudgedBy, IsEvidence, IsHeldBy}
+pub use Rattle.wal_evidence.specs.Evidence.{IsJudgedBy, IsHeldBy}
 pub use Rattle.wal_evidence.specs.declared.evidence.Basis.{Basis}
 pub use Rattle.wal_evidence.specs.declared.evidence.Basis.TheVariants.{Slivers, Proof}
 pub use Rattle.wal_evidence.specs.declared.evidence.Evidence.{Evidence}
 pub use Rattle.wal_extract.specs.Contrary.{AreDigestedForEvidence, ContradictsBlob}
 pub use Rattle.wal_frame.specs.Frame.{envelope}
-pub use Rattle.wal_frame.specs.Front.{IsWrong, whole_in}
+pub use Rattle.wal_frame.specs.Front.{whole_in}
 pub use Rattle.wal_reader.specs.Outcome.{HasEvidence, IsEvidenceFor, IsDrawnFrom, IsMetadataIn, IsOnlyOutcome, IsOutcome, IsVerdict, SameOutcome, Decides, IsAnswer}
 pub use Rattle.wal_reader.specs.declared.outcome.Outcome.{Outcome}
 pub use Rattle.wal_shape.specs.Identifiers.{id_eq}

@@ -1,5 +1,5 @@
 -- Requests among the envelopes of a stream, and reading from a stream.
-use Rattle.wal_gateway.proofs.Common.{◌≡◌, ℕ, ◌+◌, ◌-◌, ◌<◌, List, [], ◌∷◌, ◌++◌, length, take, Option, Some, None, Ok, refl, sym, ap, subst, ◌∙◌, append-nil, append_assoc, arith, length-append, take_at, option_map_or, envelope, IsWrong, IsAnswer}
+use Rattle.wal_gateway.proofs.Common.{◌≡◌, ℕ, ◌+◌, ◌-◌, ◌<◌, List, [], ◌∷◌, ◌++◌, length, take, Option, Some, None, Ok, refl, sym, ap, subst, ◌∙◌, append-nil, append_assoc, arith, length-append, take_at, option_map_or, envelope, IsAnswer}
 use Rattle.wal_frame.specs.Stream.{IsMalformed, IsPayload, IsStream, envelope_at}
 use Rattle.wal_frame.proofs.StreamLaws.{envelope_read, stream_grows}
 use Rattle.wal_reader.specs.Intake.{IsWrongAt}
@@ -22,13 +22,13 @@ never_malformed ps bytes place is m =
 pub never_wrong : (ps : List (List ℕ)) (bytes : List ℕ) (place : ℕ) → IsStream ps bytes → IsWrongAt place bytes → ⊥
 never_wrong ps bytes place is w =
     let none = (one_cut ps w.payloads bytes w.front [] w.rest is w.whole (part_none [] tt) (wrong_none w.rest w.wrong) (append-nil bytes ∙ w.parts)).2 in
-    subst (λ (t : List ℕ). IsWrong t) (sym none) w.wrong
+    rw (← none) at w.wrong
 
 -- what a reader of it answers is the answer for its payloads
 pub read_answer : (digest : List ℕ → List ℕ) (id bytes : List ℕ) (answer : ReadAnswer) → FinishesStream digest id bytes (Ok answer)
     → (ps : List (List ℕ)) → IsStream ps bytes → IsAnswer digest id ps answer
 read_answer digest id bytes answer finished ps is =
-    subst (λ (qs : List (List ℕ)). IsAnswer digest id qs answer) (one_stream finished.payloads ps bytes finished.whole is) finished.is
+    rw (one_stream finished.payloads ps bytes finished.whole is) at finished.is
 
 -- ---- the first request
 
@@ -63,15 +63,16 @@ pub record Passes (stream before rest : List ℕ) : Type 0 where
   pub sent : IsStream front before
   pub behind : (ps : List (List ℕ)) → IsStream ps stream → (back : List (List ℕ)) × IsStream back rest × (gets_in [] ps ≡ gets_in front back)
 
-pub passes_none : (stream : List ℕ) → Passes stream [] stream
-passes_none stream = record { parts = refl; front = []; sent = refl; behind = λ ps is. (ps, is, refl) }
-
 -- the bytes before the rest
 pub before_rest : (stream before rest : List ℕ) → stream ≡ before ++ rest → take (length stream - length rest) stream ≡ before
 before_rest stream before rest parts =
     let long : length stream ≡ length before + length rest = ap length parts ∙ length-append before rest in
     let count : length stream - length rest ≡ length before = omega (arith, long) in
     ap (λ n. take n stream) count ∙ ap (take (length before)) parts ∙ take_at before rest (length before) refl
+
+pub passes_taken : (stream before rest : List ℕ) → Passes stream before rest
+    → Passes stream (take (length stream - length rest) stream) rest
+passes_taken stream before rest passes = rw (before_rest stream before rest passes.parts) passes
 
 module _ (stream before rest : List ℕ) (passes : Passes stream before rest) (sender : ℕ) (payload later : List ℕ) (fits : IsPayload payload) (begins : rest ≡ envelope sender payload ++ later) where
   at : envelope_at rest ≡ Some (payload, later)
@@ -102,16 +103,15 @@ module _ (stream before rest : List ℕ) (passes : Passes stream before rest) (s
       record {
         replies = passes.front;
         later = one.0;
-        sent = subst (λ (t : List ℕ). IsStream passes.front t) (sym sent) passes.sent;
-        rest = subst (λ (t : List ℕ). IsStream one.0 t) (sym follows) one.2;
+        sent = rw sent passes.sent;
+        rest = rw follows one.2;
         gets = back.2 ∙ ap (gets_in passes.front) one.1 ∙ gets_next passes.front one.0 payload (Some r) some
             ∙ ap (λ (q : Request). get_of passes.front q ∷ gets_in [] one.0) (sym request);
       }
 
 -- what is no request
 pub none_of : (o : Option Request) → ((r : Request) → o ≡ Some r → ⊥) → o ≡ None
-none_of None other = refl
-none_of (Some r) other = absurd (other r refl)
+none_of o other = grind arith
 
 -- no envelope follows
 pub asks_nothing : (stream before rest : List ℕ) → Passes stream before rest → envelope_at rest ≡ None → (ps : List (List ℕ)) → IsStream ps stream → gets_in [] ps ≡ []

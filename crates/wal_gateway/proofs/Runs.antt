@@ -1,11 +1,11 @@
 -- Lists of gets.
-use Rattle.wal_gateway.proofs.Common.{◌≡◌, ℕ, List, [], ◌∷◌, ◌++◌, refl, sym, ap, subst, GetAnswer, AnswersGet, AnswersAll, Cache, Get, AreOnlyAnswers, IsOnlyAnswer, SameGetAnswer, SameAnswers}
+use Rattle.wal_gateway.proofs.Common.{◌≡◌, ℕ, List, [], ◌∷◌, ◌++◌, refl, ap, GetAnswer, AnswersGet, AnswersAll, Cache, Get, AreOnlyAnswers, IsOnlyAnswer, SameGetAnswer, SameAnswers}
 
 module _ (digest : List ℕ → List ℕ) where
   -- one get more
   pub answered_more : (start : Cache) (gets : List Get) (answers : List GetAnswer) (old : Cache) (get : Get) (answer : GetAnswer) (new : Cache) → AnswersAll digest start gets answers old
       → AnswersGet digest old get answer new → AnswersAll digest start (gets ++ get ∷ []) (answers ++ answer ∷ []) new
-  answered_more start [] [] old get answer new all one = (new, subst (λ (c : Cache). AnswersGet digest c get answer new) all one, refl)
+  answered_more start [] [] old get answer new all one = (new, rw all at one, refl)
   answered_more start (g ∷ gets) (a ∷ answers) old get answer new all one = (all.0, all.1, answered_more all.0 gets answers old get answer new all.2 one)
   answered_more start gets answers old get answer new all one = absurd all
 
@@ -18,19 +18,16 @@ module _ (digest : List ℕ → List ℕ) where
     before : AnswersAll digest start gets front between
     one : AnswersGet digest between get last left
 
-  one_answer : (start : Cache) (get : Get) (first : GetAnswer) (others : List GetAnswer) (left : Cache) → AnswersAll digest start (get ∷ []) (first ∷ others) left → Parted start [] get (first ∷ others) left
-  one_answer start get first [] left all = record {
+  parted : (start : Cache) (gets : List Get) (get : Get) (others : List GetAnswer) (left : Cache) → AnswersAll digest start (gets ++ get ∷ []) others left → Parted start gets get others left
+  parted start [] get (first ∷ []) left all = record {
     front = [];
     last = first;
     between = start;
     are = refl;
     before = refl;
-    one = subst (λ (c : Cache). AnswersGet digest start get first c) (sym all.2) all.1;
+    one = rw all.2 all.1;
   }
-  one_answer start get first (second ∷ others) left all = absurd all.2
-
-  parted : (start : Cache) (gets : List Get) (get : Get) (others : List GetAnswer) (left : Cache) → AnswersAll digest start (gets ++ get ∷ []) others left → Parted start gets get others left
-  parted start [] get (first ∷ others) left all = one_answer start get first others left all
+  parted start [] get (first ∷ others) left all = absurd all.2
   parted start (g ∷ gets) get (first ∷ others) left all =
       let on = parted all.0 gets get others left all.2 in
       record {
@@ -54,5 +51,5 @@ module _ (digest : List ℕ → List ℕ) where
   only_more start gets answers old get answer new all one others left answered =
       let p = parted start gets get others left answered in
       let same = all p.front p.between p.before in
-      let last = one p.last left (subst (λ (c : Cache). AnswersGet digest c get p.last left) same.1 p.one) in
-      (subst (λ (l : List GetAnswer). SameAnswers l (answers ++ answer ∷ [])) (sym p.are) (same_more p.front answers p.last answer same.0 last.0), last.1)
+      let last = one p.last left (rw same.1 at p.one) in
+      (rw p.are (same_more p.front answers p.last answer same.0 last.0), last.1)

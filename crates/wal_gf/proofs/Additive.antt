@@ -1,5 +1,5 @@
 -- Functions that keep sums of polynomials over GF(2). On polynomials of degree below n such a function is known by its values at the powers of x below the n-th.
-use Rattle.wal_gf.proofs.Common.{◌≡◌, ℕ, zero, suc, ◌+◌, ◌*◌, ◌/◌, ◌%◌, ◌^◌, ◌<◌, Bool, cond, T, bit_xor, sym, ap, ap₂, ◌⊎◌, ◌∙◌, arith, zero-mul, one-mul, add-zero, zero-add, mul_comm, mod-lt, div-lt_iff_lt-mul, div-add-mod', pow_pos, pow-suc, eq-or-lt_of_le, ⊎_elim, true, false, eqb, eqb→eq, bit_at, xor_assoc, xor_self, xor_zero_l, xor_zero_r, xor_comm, xor_block, bit_at_xor, bit_at-lt, xor_below}
+use Rattle.wal_gf.proofs.Common.{◌≡◌, ℕ, zero, suc, ◌+◌, ◌*◌, ◌/◌, ◌%◌, ◌^◌, ◌<◌, Bool, cond, T, bit_xor, sym, ap, ap₂, ◌∙◌, arith, zero-mul, one-mul, add-zero, zero-add, mul_comm, mod-lt, div-lt_iff_lt-mul, div-add-mod', pow_pos, pow-suc, eq-or-lt_of_le, ⊎_elim, true, false, eqb, eqb→eq, bit_at, xor_assoc, xor_self, xor_zero_l, xor_zero_r, xor_comm, xor_block, bit_at_xor, bit_at-lt, xor_below}
 
 abbrev pub IsAdditive : (ℕ → ℕ) → Type 0
 IsAdditive f = (a b : ℕ) → f (bit_xor a b) ≡ bit_xor (f a) (f b)
@@ -22,16 +22,13 @@ additive-zero f keeps = ap f (sym (xor_self 0)) ∙ keeps 0 0 ∙ xor_self (f 0)
 -- ---- scaling
 
 pub scale_xor : (d a b : ℕ) → d < 2 → d * bit_xor a b ≡ bit_xor (d * a) (d * b)
-scale_xor zero a b low = simp (zero-mul, xor_zero_l)
-scale_xor (suc zero) a b low = simp (one-mul)
 scale_xor (suc (suc d)) a b low = absurd (omega arith)
+scale_xor _ a b low = simp (zero-mul, one-mul, xor_zero_l)
 
 pub scaled_sum : (d e a : ℕ) → d < 2 → e < 2 → (d + e) % 2 * a ≡ bit_xor (d * a) (e * a)
-scaled_sum zero zero a low low' = simp (zero-mul, xor_zero_l)
-scaled_sum zero (suc zero) a low low' = simp (zero-mul, one-mul, xor_zero_l)
-scaled_sum (suc zero) zero a low low' = simp (zero-mul, one-mul, xor_zero_r)
-scaled_sum (suc zero) (suc zero) a low low' = simp (zero-mul, one-mul, xor_self)
-scaled_sum d e a low low' = absurd (omega arith)
+scaled_sum (suc (suc d)) e a low low' = absurd (omega arith)
+scaled_sum d (suc (suc e)) a low low' = absurd (omega arith)
+scaled_sum _ _ a low low' = simp (zero-mul, one-mul, xor_zero_l, xor_zero_r, xor_self)
 
 pub shift-additive : (n : ℕ) → IsAdditive (λ a. 2 ^ n * a)
 shift-additive n a b =

@@ -1,5 +1,6 @@
 -- A field of characteristic 2: each element is its own negative, so there is no subtraction.
-use Rattle.wal_gf.proofs.Common.{◌≡◌, ◌≢◌, ◌∙◌, sym, Bool, true, false, refl, ◌⊎◌, inl, inr}
+use Rattle.std.proofs.lemmas.Bool.{cases_Bool, false_from_ne_true}
+use Rattle.wal_gf.proofs.Common.{◌≡◌, ◌≢◌, ◌∙◌, sym, Bool, true, false, ◌⊎◌, inl, inr}
 
 pub record Field (K : Type 0) : Type 0 where
   pub nothing : K
@@ -60,15 +61,10 @@ module _ {K : Type 0} (F : Field K) where
 
   -- equality is told by a test, so any two elements are equal or not
   pub equal_or_not : (a b : K) → (a ≡ b) ⊎ (a ≢ b)
-  equal_or_not a b = by_test (same a b) refl
-    where
-      by_test : (t : Bool) → same a b ≡ t → (a ≡ b) ⊎ (a ≢ b)
-      by_test true e = inl (same-to a b e)
-      by_test false e = inr (λ h. cc (same-from a b h, e))
+  equal_or_not a b = elim (cases_Bool (same a b)) [
+    | inl e ↦ inl (same-to a b e)
+    | inr e ↦ inr (λ h. cc (same-from a b h, e))
+  ]
 
   pub same-other : (a b : K) → a ≢ b → same a b ≡ false
-  same-other a b h = by_test (same a b) refl
-    where
-      by_test : (t : Bool) → same a b ≡ t → same a b ≡ false
-      by_test true e = absurd (h (same-to a b e))
-      by_test false e = e
+  same-other a b h = false_from_ne_true (same a b) (λ e. h (same-to a b e))

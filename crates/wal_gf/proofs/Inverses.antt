@@ -90,7 +90,7 @@ times-inverse a low some = cases (power a 65535) refl (own_square (power a 65535
     cases : (u : ℕ) → power a 65535 ≡ u → u < 2 → times a (power a 65534) ≡ 1
     cases zero none small = absurd (some (sym (power-field a low) ∙ power-suc a 65535 ∙ ap (times a) none ∙ times-zero a))
     cases (suc zero) one small = sym (power-suc a 65534) ∙ one
-    cases (suc (suc u)) large small = let b : ⊥ = omega arith in absurd b
+    cases (suc (suc u)) large small = absurd (omega arith)
 
 pub inverse-lt : (a : ℕ) → inverse a < 65536
 inverse-lt a = power-lt a 65534

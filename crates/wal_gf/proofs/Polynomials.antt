@@ -90,10 +90,6 @@ module _ {K : Type 0} (F : Field K) where
       (all_nothing rs (divide F r cs) (omega (arith, length-divide F r cs)) d.1 (roots_divided c cs r rs h.0 d.0 h.1)))
       h.0
 
-  pub too_many_roots : (rs cs : List K) → length cs ≤ length rs → Apart rs → AllByRecursion (λ r. value F cs r ≡ nothing) rs →
-      (x : K) → value F cs x ≡ nothing
-  too_many_roots rs cs l d h x = value-nothing cs (all_nothing rs cs l d h) x
-
   -- polynomials as functions: closed under sums and multiples
 
   pub IsPolynomial-more : (k m : ℕ) (P : K → Type 0) (f : K → K) → k ≤ m → IsPolynomial F k P f → IsPolynomial F m P f
@@ -215,4 +211,4 @@ module _ {K : Type 0} (F : Field K) where
       let sum : IsPolynomial F (length rs) P (λ y. plus (f y) (g y)) = IsPolynomial-plus (length rs) P f g h l in
       same_of_sum F (f x) (g x)
       (sym (sum.2 x q) ∙
-      too_many_roots rs sum.0 sum.1 d (differences P f g (value F sum.0) rs sum.2 p e) x)
+      value-nothing sum.0 (all_nothing rs sum.0 sum.1 d (differences P f g (value F sum.0) rs sum.2 p e)) x)

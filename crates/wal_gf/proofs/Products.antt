@@ -11,10 +11,9 @@ product-xor_left n b = xor_below-additive n (λ i a. bit_at a i * (2 ^ i * b)) (
 
 pub product-xor_right : (n a : ℕ) → IsAdditive (λ b. product n a b)
 unfolding product
-product-xor_right n a = xor_below-additive n (λ i b. bit_at a i * (2 ^ i * b)) term
-  where
-    term : (i : ℕ) → IsAdditive (λ b. bit_at a i * (2 ^ i * b))
-    term i b c = ap (λ (s : ℕ). bit_at a i * s) (shift-additive i b c) ∙ scale_xor (bit_at a i) (2 ^ i * b) (2 ^ i * c) (mod-lt (a / 2 ^ i) (lit< tt))
+product-xor_right n a =
+    xor_below-additive n (λ i b. bit_at a i * (2 ^ i * b)) (λ i b c. ap (λ (s : ℕ). bit_at a i * s) (shift-additive i b c)
+    ∙ scale_xor (bit_at a i) (2 ^ i * b) (2 ^ i * c) (mod-lt (a / 2 ^ i) (lit< tt)))
 
 pub cancel-xor : (i : ℕ) → IsAdditive (cancel i)
 unfolding cancel
@@ -140,13 +139,10 @@ abbrev pub doubled : ℕ → ℕ
 doubled b = bit_xor (b * 2 % 2 ^ 16) (bit_at b 15 * 0x100B)
 
 doubled-additive : IsAdditive doubled
-doubled-additive = sum-additive (λ b. b * 2 % 2 ^ 16) (λ b. bit_at b 15 * 0x100B) upper (bit-additive 15 0x100B)
-  where
-    upper : IsAdditive (λ b. b * 2 % 2 ^ 16)
-    upper a b = ap (λ (s : ℕ). s % 2 ^ 16) (twice a b) ∙ xor_mod (a * 2) (b * 2) 16
-      where
-        twice : IsAdditive (λ b. b * 2)
-        twice a b = mul_comm (bit_xor a b) 2 ∙ shift-additive 1 a b ∙ ap₂ (λ (s t : ℕ). bit_xor s t) (mul_comm 2 a) (mul_comm 2 b)
+doubled-additive =
+    sum-additive (λ b. b * 2 % 2 ^ 16) (λ b. bit_at b 15 * 0x100B) (λ a b.
+    let twice = mul_comm (bit_xor a b) 2 ∙ shift-additive 1 a b ∙ ap₂ (λ (s t : ℕ). bit_xor s t) (mul_comm 2 a) (mul_comm 2 b) in
+    ap (λ (s : ℕ). s % 2 ^ 16) twice ∙ xor_mod (a * 2) (b * 2) 16) (bit-additive 15 0x100B)
 
 -- the product as what the lowest bit of a brings, and the rest of a times the doubled b
 pub times-step : (a b : ℕ) → a < 65536 → b < 65536 → times a b ≡ bit_xor (a % 2 * b) (times (a / 2) (doubled b))
@@ -154,9 +150,6 @@ unfolding all_below times product xor_below remainder cancel
 times-step =
     same_bilinear times (λ a b. bit_xor (a % 2 * b) (times (a / 2) (doubled b))) times-bilinear (right, left) tt
   where
-    half : IsAdditive (λ a. a / 2)
-    half a b = xor_shr a b 1
-
     lowest : (b : ℕ) → IsAdditive (λ a. a % 2 * b)
     lowest b x y =
         ap (λ (d : ℕ). d * b) (sym (bit_at_lowest (bit_xor x y))) ∙ bit-additive 0 b x y
@@ -164,7 +157,7 @@ times-step =
 
     left : (b : ℕ) → IsAdditive (λ a. bit_xor (a % 2 * b) (times (a / 2) (doubled b)))
     left b = sum-additive (λ a. a % 2 * b) (λ a. times (a / 2) (doubled b)) (lowest b)
-        (λ x y. ap (λ (s : ℕ). times s (doubled b)) (half x y) ∙ times-xor_left (doubled b) (x / 2) (y / 2))
+        (λ x y. ap (λ (s : ℕ). times s (doubled b)) (xor_shr x y 1) ∙ times-xor_left (doubled b) (x / 2) (y / 2))
 
     right : (a : ℕ) → IsAdditive (λ b. bit_xor (a % 2 * b) (times (a / 2) (doubled b)))
     right a = sum-additive (λ b. a % 2 * b) (λ b. times (a / 2) (doubled b)) (λ x y. scale_xor (a % 2) x y (mod-lt a (lit< tt)))

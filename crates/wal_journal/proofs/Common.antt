@@ -1,5 +1,5 @@
 -- What the proofs of this crate cite from elsewhere, and of its own definitions, handed on from one place. Declares nothing.
-pub use Rattle.std.proofs.Common.{◌≡◌, inl, inr, ℕ, ◌+◌, ◌*◌, ◌<◌, ◌≤◌, List, [], ◌∷◌, ◌++◌, length, take, drop, refl, sym, arith, length-append, length-drop, Option, Result, Ok, Err, IfOk, IfErr, ap, ◌∙◌, subst, OnOk, OnErr, ◌≢◌, Some, None, get_or, ◌^◌, Bool, ⊎_elim, ◌-◌, ◌↔◌, true, rules}
+pub use Rattle.std.proofs.Common.{◌≡◌, ◌⊎◌, inl, inr, ℕ, ◌+◌, ◌*◌, ◌<◌, ◌≤◌, List, [], ◌∷◌, ◌++◌, length, take, drop, refl, sym, arith, length-append, length-drop, Option, Result, Ok, Err, IfOk, IfErr, ap, ◌∙◌, subst, OnOk, OnErr, ◌≢◌, Some, None, get_or, ◌^◌, Bool, ⊎_elim, ◌-◌, ◌↔◌, true, rules}
 pub use Rattle.std.proofs.Math.Logic.{∥∥₁_elim, ∥∥₁_map}
 pub use Rattle.std.proofs.lemmas.Bool.{cases_lt, cases_eq}
 pub use Rattle.std.proofs.lemmas.Grind.{merely, common_steps}
@@ -19,7 +19,7 @@ pub use Rattle.wal_journal.specs.Disk.{Agrees, Elapses, put_at, Writes, IsIn, Sy
 pub use Rattle.wal_journal.specs.Held.{IsJournal}
 pub use Rattle.wal_journal.specs.Journal.{disk_of, span, EndsChange, FitsEitherWay, disk_after, IsDiskFull, IsTried, IsPutWhy, Takes}
 pub use Rattle.wal_journal.specs.Packing.{put_in, is_lawful, and_more, puts_of, AcceptsFront, Packs}
-pub use Rattle.wal_journal.specs.Reading.{HadRoomForPuts, ReadTo, IsBad, IsFull, Opens}
+pub use Rattle.wal_journal.specs.Reading.{HadRoomForPuts, ReadTo, IsBad, IsFull}
 pub use Rattle.wal_journal.specs.Record.{spelling, records, Accepts, fields, part_byte, IsWholeRecord, EitherWay, Fields, fields_text, AreWholeRecords, Stands}
 unfoldable pub use Rattle.wal_journal.specs.Record.{size_text}
 pub use Rattle.wal_journal.specs.declared.journal.ChangeRefusal.{ChangeRefusal}

@@ -1,16 +1,7 @@
 pub mod Records
-mod Moments
-mod Images
-mod Writing
-mod Staged
 mod Past
-mod HeldLaws
-mod ReadLaws
-mod RoomLaws
 pub mod NeverBad
-pub mod NeverFull
-mod EndLaws
-mod Stays
-mod Formatted
+mod HeldLaws
+mod Moments
 mod PackLaws
 mod Common

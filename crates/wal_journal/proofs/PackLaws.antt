@@ -3,10 +3,8 @@ use Rattle.wal_journal.proofs.Common.{◌≡◌, inl, inr, ℕ, ◌+◌, ◌-◌
 use Rattle.wal_port.specs.Faults.{Rose}
 use Rattle.wal_frame.specs.Reading.{read_of}
 use Rattle.wal_journal.proofs.Records.{spelling_size, records-append}
-use Rattle.wal_journal.proofs.Images.{agrees_same, agrees_trans, agrees_wider}
-use Rattle.wal_journal.proofs.Moments.{both_runs, weaker, after_run}
-use Rattle.wal_journal.proofs.HeldLaws.{either_of}
-use Rattle.wal_journal.proofs.ReadLaws.{room_both}
+use Rattle.wal_journal.proofs.Moments.{agrees_same, agrees_trans, agrees_wider, both_runs, weaker, after_run}
+use Rattle.wal_journal.proofs.HeldLaws.{either_of, room_both}
 
 -- ---- which puts they are
 
@@ -101,8 +99,7 @@ within_both a b at first second =
     (agrees_wider (omega (arith, at)) (omega (arith, at, span_parts a b)) second)
 
 rose_on : (first mid last : ℕ) → first ≤ mid → Rose mid last → Rose first last
-rose_on first mid last later (inl rose) = inl (omega (arith, later, rose))
-rose_on first mid last later (inr full) = inr full
+rose_on first mid last later rose = grind arith
 
 module _ {D K : Type 0} {d : _} {k : _} {now : D → List ℕ} {contents : K → Contents} {limit : K → Option ℕ} where
   pub takes_kept : {old new : Journal D K d k} → new.disk ≡ old.disk → new.tail ≡ old.tail → contents new.keep ≡ contents old.keep → limit new.keep ≡ limit old.keep → Takes now contents limit old [] new

@@ -14,11 +14,6 @@ pending_synced pending [] = refl
 pending_synced pending (Written a m ∷ steps) = pending_synced ((a, m) ∷ pending) steps
 pending_synced pending (Synced ∷ steps) = pending_synced [] steps
 
--- what is left at the same steps and bytes
-left_as : (s t : List Step) (b c image : List ℕ) → (s ≡ t) × (b ≡ c) → Agrees (pending_after [] s) b image
-    → Agrees (pending_after [] t) c image
-left_as s t b c image same left = rw (← same.0, ← same.1) left
-
 module _ (steps : List Step) (step : Step) (past bytes new : List ℕ) (kept : length past ≡ length steps * length bytes)
     (long : length new ≡ length bytes) where
   kept_below : (k : ℕ) → k < length steps → (take k (steps ++ step ∷ []) ≡ take k steps) ×
@@ -49,21 +44,22 @@ module _ (steps : List Step) (step : Step) (past bytes new : List ℕ) (kept : l
       | inl now ↦ inr now
       | inr left ↦ elim (cases_lt left.0 (length steps)) [
         | inl lt ↦
-            let here = left_as _ _ _ _ image (kept_below left.0 lt) left.3 in
-            inl (omega (arith, left.1, lt), inr (left.0, left.1, lt, here))
+            let same = kept_below left.0 lt in
+            inl (omega (arith, left.1, lt), inr (left.0, left.1, lt, rw (same.0, same.1) at left.3))
         | inr ge ↦
             let here : left.0 ≡ length steps = omega (arith, left.2, ge, more) in
+            let same = kept_last left.0 here in
             let le : t ≤ length steps = omega (arith, left.1, here) in
-            inl (le, inl (le, left_as _ _ _ _ image (kept_last left.0 here) left.3))
+            inl (le, inl (le, rw (same.0, same.1) at left.3))
       ]
     ];
     keeps = λ t image le. elim [
       | inl now ↦
           let same = kept_last (length steps) refl in
-          inr (length steps, now.0, omega (arith, more), left_as _ _ _ _ image (sym same.0, sym same.1) now.1)
+          inr (length steps, now.0, omega (arith, more), rw (same.0, same.1) now.1)
       | inr left ↦
           let same = kept_below left.0 left.2 in
-          inr (left.0, left.1, omega (arith, left.2, more), left_as _ _ _ _ image (sym same.0, sym same.1) left.3)
+          inr (left.0, left.1, omega (arith, left.2, more), rw (same.0, same.1) left.3)
     ];
   }
     where

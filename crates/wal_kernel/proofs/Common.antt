@@ -3,7 +3,7 @@ pub use Rattle.std.proofs.Common.{◌≡◌, ◌==◌, if◌then◌else◌, ℕ,
 pub use Rattle.std.proofs.lemmas.List.{get_or-drop, get_or-take, drop-drop, drop-append-le, take-append-le, length-take-le, get_or_append_left, get_or-append_right, ext_get_or, take_rest}
 pub use Rattle.std.proofs.lemmas.Nat.{xor_block, and_mask, xor_mod, xor_shr, xor_lt}
 pub use Rattle.std.specs.Int.Bits.{and_zero_r, xor_zero_l, xor_zero_r}
-pub use Rattle.wal_gf.proofs.Additive.{all_below-at, IsAdditive, shift-additive, sum-additive, same_by_powers, top_split}
+pub use Rattle.wal_gf.proofs.Additive.{all_below-at, IsAdditive, shift-additive, sum-additive, same_by_table, top_split}
 unfoldable pub use Rattle.wal_gf.proofs.Additive.{all_below}
 unfoldable pub use Rattle.wal_gf.specs.Field.{times, product, xor_below, remainder, cancel}
 pub use Rattle.wal_kernel.specs.Region.{word_at, IsScaledSum, IsSum, region}

@@ -1,8 +1,9 @@
 -- What the operations on vectors of bytes hold at each lane.
-use Rattle.wal_kernel.proofs.Common.{zero, suc, zero-mul, one-mul, mod-eq_of_lt, take, drop, length-drop, length-append, ◌≡◌, ℕ, ◌+◌, ◌-◌, ◌*◌, ◌/◌, ◌%◌, ◌^◌, ◌<◌, ◌≤◌, ◌⊎◌, inl, inr, List, ◌++◌, length, get_or, map, replicate, refl, sym, ap, ap₂, ◌∙◌, arith, w8, bit_and, bit_xor, Fits, slice_index, eqb, eqb→eq, and_zero_r, get_or-drop, get_or-take, length-take-le, get_or_append_left, get_or-append_right, and_mask, all_below, all_below-at, HasLanes, IsTable, word_of_lane, IsSumBelow}
+use Rattle.wal_kernel.proofs.Common.{zero, suc, zero-mul, one-mul, mod-eq_of_lt, take, drop, length-drop, length-append, ◌≡◌, ℕ, ◌+◌, ◌-◌, ◌*◌, ◌/◌, ◌%◌, ◌^◌, ◌<◌, ◌≤◌, inl, inr, List, ◌++◌, length, get_or, map, replicate, refl, sym, ap, ap₂, ◌∙◌, arith, w8, bit_and, bit_xor, Fits, slice_index, eqb, eqb→eq, and_zero_r, get_or-drop, get_or-take, length-take-le, get_or_append_left, get_or-append_right, and_mask, all_below, all_below-at, HasLanes, IsTable, word_of_lane, IsSumBelow}
 use Rattle.std.specs.Simd.Lanes.{zip2, chunk, put_chunk, Each1}
 use Rattle.std.specs.List.{range_with_len}
 use Rattle.std.proofs.lemmas.Bool.{cases_lt}
+use Rattle.wal_kernel.proofs.Words.{zero_byte}
 use Rattle.std.proofs.lemmas.Simd.{length-zip2, get_or-zip2, get_or-replicate, length-chunk, get_or-chunk, length-put_chunk, get_or-put_chunk_below, get_or-put_chunk_at, get_or-put_chunk_above, swz_l, SwzOk, SwzOk-from_below, get_or-swz_l_below, length-swz_l, Each1-from_get_or, Each1-get_or}
 use Rattle.std.proofs.Math.ListN.{get_or-eq_default}
 use Rattle.std.proofs.lemmas.List.FromFn.{get_or-map-range_with_len, length-map-range_with_len}
@@ -39,7 +40,7 @@ HasLanes-sum h a_holds b_holds = HasLanes-same 32 _ _ _ h (λ k l. ap₂ (λ (s 
 masked : (d x : ℕ) → d < 2 → x < 256 → bit_and x (d * 255) ≡ d * x
 masked zero x small byte = and_zero_r x ∙ sym (zero-mul x)
 masked (suc zero) x small byte = and_mask x 8 ∙ mod-eq_of_lt byte ∙ sym (one-mul x)
-masked (suc (suc d)) x small byte = let b : ⊥ = omega arith in absurd b
+masked (suc (suc d)) x small byte = absurd (omega arith)
 
 pub HasLanes-masked : (x : ℕ) (bit : ℕ → ℕ) → x < 256 → ((k : ℕ) → bit k < 2) → HasLanes 32 (zip2 bit_and (replicate 32 x) (map (λ k. bit k * 255) (range_with_len 0 32))) (λ k. bit k * x)
 HasLanes-masked x bit byte small =
@@ -83,25 +84,22 @@ pub stored : (f : ℕ → ℕ) (old now v : List ℕ) (at : ℕ) → at + 32 ≤
 stored f old now v at room h sum = record {
   bytes = sum.bytes;
   long = length-put_chunk at now v ∙ sum.long;
-  below = λ k l. place k l (cases_lt k at);
-  above = λ k l. get_or-put_chunk_above at now v k 0 (omega (arith, h.long)) ∙ sum.above k (omega arith);
-}
-  where
-    place : (k : ℕ) → k < at + 32 → (k < at) ⊎ (at ≤ k)
-        → slice_index (put_chunk at now v) k ≡ bit_xor (slice_index old k) (f k)
-    place k l (inl before) = get_or-put_chunk_below at now v k 0 before ∙ sum.below k before
-    place k l (inr after) =
+  below = λ k l. elim (cases_lt k at) [
+    | inl before ↦ get_or-put_chunk_below at now v k 0 before ∙ sum.below k before
+    | inr after ↦
         let j = k - at in
         let e : k ≡ at + (k - at) = omega arith in
         rw e (get_or-put_chunk_at at now v j 0 (omega (arith, h.long)) (omega (arith, h.long)) ∙ h.each j (omega arith) ∙ ap (λ b. bit_xor b (f (at + j))) (sum.above (at + j) (omega arith)))
+  ];
+  above = λ k l. get_or-put_chunk_above at now v k 0 (omega (arith, h.long)) ∙ sum.above k (omega arith);
+}
 
 -- two neighbouring loads
 pub joined : (n at : ℕ) (xs a b : List ℕ) → HasLanes n a (λ k. slice_index xs (at + k)) → HasLanes n b (λ k. slice_index xs (at + n + k)) → (j : ℕ) → j < n + n → slice_index (a ++ b) j ≡ slice_index xs (at + j)
-joined n at xs a b h h' j l = place (cases_lt j n)
-  where
-    place : (j < n) ⊎ (n ≤ j) → slice_index (a ++ b) j ≡ slice_index xs (at + j)
-    place (inl before) = get_or_append_left a b 0 j (omega (arith, h.long)) ∙ h.each j before
-    place (inr after) = get_or-append_right a b n j 0 h.long after ∙ h'.each (j - n) (omega arith) ∙ ap (λ k. slice_index xs k) (omega arith)
+joined n at xs a b h h' j l = elim (cases_lt j n) [
+  | inl before ↦ get_or_append_left a b 0 j (omega (arith, h.long)) ∙ h.each j before
+  | inr after ↦ get_or-append_right a b n j 0 h.long after ∙ h'.each (j - n) (omega arith) ∙ ap (λ k. slice_index xs k) (omega arith)
+]
 
 -- the run of a word's lane, and the run of that lane's word
 there_and_back : (w : ℕ) → w < 32 → word_of_lane (word_of_lane w) ≡ w
@@ -120,63 +118,52 @@ pub HasLanes-by_turns : (f : ℕ → ℕ) (at from to : ℕ) (high low : List �
     → HasLanes 32 high (λ k. f (at + 2 * word_of_lane k)) → HasLanes 32 low (λ k. f (at + 2 * word_of_lane k + 1))
     → HasLanes 32 (map (λ k. slice_index (high ++ low) (word_of_lane (from + k / 2) + 32 * (k % 2))) (range_with_len 0 32)) (λ k. f (to + k))
 HasLanes-by_turns f at from to high low small start h h' =
-    HasLanes-same 32 _ _ _ (HasLanes-listed 32 (λ k. slice_index (high ++ low) (word_of_lane (from + k / 2) + 32 * (k % 2)))) (λ k l. place k l (cases_lt (k % 2) 1))
-  where
-    place : (k : ℕ) → k < 32 → (k % 2 < 1) ⊎ (1 ≤ k % 2) → slice_index (high ++ low) (word_of_lane (from + k / 2) + 32 * (k % 2)) ≡ f (to + k)
-    place k l (inl even) =
-        let word = from + k / 2 in
-        ap (λ j. slice_index (high ++ low) j) (omega arith) ∙ get_or_append_left high low 0 (word_of_lane word) (omega (arith, h.long))
-        ∙ h.each (word_of_lane word) (omega arith) ∙ ap (λ w. f (at + 2 * w)) (there_and_back word (omega arith)) ∙ ap f (omega arith)
-    place k l (inr odd) =
-        let word = from + k / 2 in
-        ap (λ j. slice_index (high ++ low) j) (omega arith)
-        ∙ get_or-append_right high low 32 (32 + word_of_lane word) 0 h.long (omega arith) ∙ ap (λ j. slice_index low j) (omega arith)
-        ∙ h'.each (word_of_lane word) (omega arith) ∙ ap (λ w. f (at + 2 * w + 1)) (there_and_back word (omega arith)) ∙ ap f (omega arith)
+    HasLanes-same 32 _ _ _ (HasLanes-listed 32 (λ k. slice_index (high ++ low) (word_of_lane (from + k / 2) + 32 * (k % 2)))) (λ k l.
+    let word = from + k / 2 in
+    elim (cases_lt (k % 2) 1) [
+      | inl even ↦
+          ap (λ j. slice_index (high ++ low) j) (omega arith) ∙ get_or_append_left high low 0 (word_of_lane word) (omega (arith, h.long))
+          ∙ h.each (word_of_lane word) (omega arith) ∙ ap (λ w. f (at + 2 * w)) (there_and_back word (omega arith)) ∙ ap f (omega arith)
+      | inr odd ↦
+          ap (λ j. slice_index (high ++ low) j) (omega arith)
+          ∙ get_or-append_right high low 32 (32 + word_of_lane word) 0 h.long (omega arith) ∙ ap (λ j. slice_index low j) (omega arith)
+          ∙ h'.each (word_of_lane word) (omega arith) ∙ ap (λ w. f (at + 2 * w + 1)) (there_and_back word (omega arith)) ∙ ap f (omega arith)
+    ])
 
 -- what stands from a place on, and zeros after it
 pub padded_at : (bytes part : List ℕ) (at n : ℕ) → at ≤ length bytes → n ≡ length bytes - at → part ≡ drop at bytes → (k : ℕ) → slice_index (part ++ drop n (replicate 64 0)) k ≡ slice_index bytes (at + k)
 padded_at bytes part at n starts is e k =
     let long : length part ≡ n = ap length e ∙ length-drop at bytes ∙ sym is in
-    place long (cases_lt k n)
-  where
-    zeros : (i : ℕ) → slice_index (replicate 64 0) i ≡ 0
-    zeros i =
-        elim (cases_lt i 64) [ inl l ↦ get_or-replicate 64 i 0 0 l | inr l ↦ get_or-eq_default (replicate 64 0) 0 l ]
-
-    place : length part ≡ n → (k < n) ⊎ (n ≤ k) → slice_index (part ++ drop n (replicate 64 0)) k ≡ slice_index bytes (at + k)
-    place long (inl before) = get_or_append_left part (drop n (replicate 64 0)) 0 k (omega arith) ∙ ap (λ xs. slice_index xs k) e ∙ get_or-drop at bytes k 0
-    place long (inr after) =
-        get_or-append_right part (drop n (replicate 64 0)) n k 0 long after ∙ get_or-drop n (replicate 64 0) (k - n) 0 ∙ zeros (n + (k - n))
-        ∙ sym (get_or-eq_default bytes 0 (omega arith))
+    elim (cases_lt k n) [
+      | inl before ↦ get_or_append_left part (drop n (replicate 64 0)) 0 k (omega arith) ∙ ap (λ xs. slice_index xs k) e ∙ get_or-drop at bytes k 0
+      | inr after ↦
+          get_or-append_right part (drop n (replicate 64 0)) n k 0 long after ∙ get_or-drop n (replicate 64 0) (k - n) 0 ∙ zero_byte 64 (n + (k - n))
+          ∙ sym (get_or-eq_default bytes 0 (omega arith))
+    ]
 
 -- the sum of the part from `at` on is put in its place
 pub part_added : (f g : ℕ → ℕ) (old before sums new part rest : List ℕ) (at : ℕ) → at ≤ length before → length sums ≡ 64 → length before ≤ at + 64
     → ((k : ℕ) → slice_index sums k ≡ slice_index before (at + k)) → ((k : ℕ) → g k ≡ f (at + k)) → IsSumBelow g sums 64 new
     → part ≡ take (length before - at) new → length rest ≡ 0
     → IsSumBelow f old at before → IsSumBelow f old (length before) (take at before ++ (part ++ rest))
-part_added f g old before sums new part rest at starts wide ends held same added is empty sum = record {
-  bytes = sum.bytes;
-  long = all ∙ sum.long;
-  below = λ k l. place k l (cases_lt k at);
-  above = λ k l. get_or-eq_default (take at before ++ (part ++ rest)) 0 (omega (arith, all)) ∙ sym (get_or-eq_default old 0 (omega (arith, sum.long)));
-}
-  where
-    front : length (take at before) ≡ at
-    front = length-take-le at before starts
-
-    wide_part : length part ≡ length before - at
-    wide_part = ap length is ∙ length-take-le (length before - at) new (omega (arith, added.long))
-
-    all : length (take at before ++ (part ++ rest)) ≡ length before
-    all = length-append (take at before) (part ++ rest) ∙ ap₂ (λ (s t : ℕ). s + t) front (length-append part rest) ∙ (let e : at + (length part + length rest) ≡ length before = omega (arith, wide_part) in e)
-
-    place : (k : ℕ) → k < length before → (k < at) ⊎ (at ≤ k) → slice_index (take at before ++ (part ++ rest)) k ≡ bit_xor (slice_index old k) (f k)
-    place k l (inl early) = get_or_append_left (take at before) (part ++ rest) 0 k (omega (arith, front)) ∙ get_or-take at before k 0 early ∙ sum.below k early
-    place k l (inr late) =
-        let here : at + (k - at) ≡ k = omega arith in
-        get_or-append_right (take at before) (part ++ rest) at k 0 front late
-        ∙ get_or_append_left part rest 0 (k - at) (omega (arith, wide_part))
-        ∙ ap (λ xs. slice_index xs (k - at)) is
-        ∙ get_or-take (length before - at) new (k - at) 0 (omega arith)
-        ∙ added.below (k - at) (omega arith)
-        ∙ ap₂ (λ (s t : ℕ). bit_xor s t) (held (k - at) ∙ ap (λ j. slice_index before j) here ∙ sum.above k late) (same (k - at) ∙ ap f here)
+part_added f g old before sums new part rest at starts wide ends held same added is empty sum =
+    let front = length-take-le at before starts in
+    let wide_part = ap length is ∙ length-take-le (length before - at) new (omega (arith, added.long)) in
+    let all : length (take at before ++ (part ++ rest)) ≡ length before =
+    omega (arith, front, wide_part, length-append (take at before) (part ++ rest), length-append part rest) in
+    record {
+      bytes = sum.bytes;
+      long = all ∙ sum.long;
+      below = λ k l. elim (cases_lt k at) [
+        | inl early ↦ get_or_append_left (take at before) (part ++ rest) 0 k (omega (arith, front)) ∙ get_or-take at before k 0 early ∙ sum.below k early
+        | inr late ↦
+            let here : at + (k - at) ≡ k = omega arith in
+            get_or-append_right (take at before) (part ++ rest) at k 0 front late
+            ∙ get_or_append_left part rest 0 (k - at) (omega (arith, wide_part))
+            ∙ ap (λ xs. slice_index xs (k - at)) is
+            ∙ get_or-take (length before - at) new (k - at) 0 (omega arith)
+            ∙ added.below (k - at) (omega arith)
+            ∙ ap₂ (λ (s t : ℕ). bit_xor s t) (held (k - at) ∙ ap (λ j. slice_index before j) here ∙ sum.above k late) (same (k - at) ∙ ap f here)
+      ];
+      above = λ k l. get_or-eq_default (take at before ++ (part ++ rest)) 0 (omega (arith, all)) ∙ sym (get_or-eq_default old 0 (omega (arith, sum.long)));
+    }

@@ -1,5 +1,5 @@
 -- Products of words, from products of their nibbles.
-use Rattle.wal_kernel.proofs.Common.{◌≡◌, ℕ, zero, suc, w16, ◌+◌, ◌*◌, ◌/◌, ◌%◌, ◌^◌, ◌<◌, T, eqb, bit_xor, refl, sym, ap, ap₂, ◌∙◌, arith, lit<, mod-lt, eqb→eq, List, slice_index, zero-mul, one-mul, mul_comm, xor_mod, xor_shr, xor_lt, xor_zero_l, xor_zero_r, times, product, xor_below, remainder, cancel, IsAdditive, shift-additive, sum-additive, same_by_powers, top_split, all_below, all_below-at, HasLanes, IsTable, high_of_sixteenfold, low_of_sixteenfold, nibble_sum, word_of_lane, word_at, scaled_byte}
+use Rattle.wal_kernel.proofs.Common.{◌≡◌, ℕ, suc, w16, ◌+◌, ◌*◌, ◌/◌, ◌%◌, ◌^◌, ◌<◌, T, eqb, bit_xor, refl, sym, ap, ap₂, ◌∙◌, arith, lit<, mod-lt, eqb→eq, List, slice_index, zero-mul, one-mul, mul_comm, xor_mod, xor_shr, xor_lt, xor_zero_l, xor_zero_r, times, product, xor_below, remainder, cancel, IsAdditive, shift-additive, sum-additive, same_by_table, top_split, all_below, all_below-at, HasLanes, IsTable, high_of_sixteenfold, low_of_sixteenfold, nibble_sum, word_of_lane, word_at, scaled_byte}
 use Rattle.std.specs.Int.{bit_at, to_be_bytes}
 use Rattle.std.proofs.lemmas.Nat.Bits.{bit_at-lt}
 use Rattle.wal_gf.proofs.Products.{times_comm, times_assoc, times-step, times-xor_left, times-xor_right, one-times, times-lt, zero-times, doubled}
@@ -112,9 +112,8 @@ xor₄ p q r s = ap₂ (λ (x y : ℕ). bit_xor x y) p (ap₂ (λ (x y : ℕ). b
 -- ---- the bytes of a table
 
 scale-part : (f : ℕ → ℕ) → f 0 ≡ 0 → (d word byte : ℕ) → d < 2 → byte ≡ f word → d * byte ≡ f (d * word)
-scale-part f none zero word byte small e = rw (zero-mul, zero-mul) (sym none)
-scale-part f none (suc zero) word byte small e = rw (one-mul, one-mul) e
 scale-part f none (suc (suc d)) word byte small e = absurd (omega arith)
+scale-part f none _ word byte small e = simp (zero-mul, one-mul) (cc (none, e))
 
 -- a product with the number of a lane in its half of a vector
 times_by_lane : (c k : ℕ) → c < 65536
@@ -180,15 +179,13 @@ low_part-additive =
 
 pub high_of_product : (w : ℕ) → w < 65536 → high_of_sixteenfold (w / 256) (w % 256) ≡ times w 16 / 256
 unfolding all_below times product xor_below remainder cancel high_part
-high_of_product w low =
-    same_by_powers 16 high_part (λ a. times a 16 / 256) high_part-additive (composed (λ a. a / 256) (λ a. times a 16) (divided 8) (times-xor_left 16))
-    (λ i l. eqb→eq _ _ (all_below-at 16 (λ i. eqb (high_part (2 ^ i)) (times (2 ^ i) 16 / 256)) tt i l)) w low
+high_of_product =
+    same_by_table 16 high_part (λ a. times a 16 / 256) high_part-additive (composed (λ a. a / 256) (λ a. times a 16) (divided 8) (times-xor_left 16)) tt
 
 pub low_of_product : (w : ℕ) → w < 65536 → low_of_sixteenfold (w / 256) (w % 256) ≡ times w 16 % 256
 unfolding all_below times product xor_below remainder cancel low_part
-low_of_product w low =
-    same_by_powers 16 low_part (λ a. times a 16 % 256) low_part-additive (composed (λ a. a % 256) (λ a. times a 16) (reduced 8) (times-xor_left 16))
-    (λ i l. eqb→eq _ _ (all_below-at 16 (λ i. eqb (low_part (2 ^ i)) (times (2 ^ i) 16 % 256)) tt i l)) w low
+low_of_product =
+    same_by_table 16 low_part (λ a. times a 16 % 256) low_part-additive (composed (λ a. a % 256) (λ a. times a 16) (reduced 8) (times-xor_left 16)) tt
 
 turned : (c k : ℕ) → k < 16 → times (times c k) 16 ≡ times (times c 16) k
 turned c k l = times_assoc c k 16 (omega arith) (lit< tt) ∙ ap (times c) (times_comm k 16 (omega arith) (lit< tt)) ∙ sym (times_assoc c 16 k (lit< tt) (omega arith))

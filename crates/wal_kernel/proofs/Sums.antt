@@ -55,10 +55,8 @@ pub scaled_byte-part : (c block : ℕ) (source part : List ℕ) → ((k : ℕ) �
 scaled_byte-part c block source part same k =
     let parity : (64 * block + k) % 2 ≡ k % 2 = omega arith in
     let half : (64 * block + k) / 2 ≡ 32 * block + k / 2 = omega arith in
+    let word : word_at part (k / 2) ≡ word_at source (32 * block + k / 2) =
+    ap₂ (λ (s t : ℕ). s * 256 + t)
+    (same (2 * (k / 2)) ∙ ap (λ j. slice_index source j) (omega arith))
+    (same (2 * (k / 2) + 1) ∙ ap (λ j. slice_index source j) (omega arith)) in
     rw (parity, half) (ap (λ (w : ℕ). if k % 2 == 0 then times c w / 256 else times c w % 256) word)
-  where
-    word : word_at part (k / 2) ≡ word_at source (32 * block + k / 2)
-    word =
-        ap₂ (λ (s t : ℕ). s * 256 + t)
-        (same (2 * (k / 2)) ∙ ap (λ j. slice_index source j) (omega arith))
-        (same (2 * (k / 2) + 1) ∙ ap (λ j. slice_index source j) (omega arith))

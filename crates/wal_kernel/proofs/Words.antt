@@ -1,17 +1,14 @@
 -- Bytes and the words that they are.
-use Rattle.wal_kernel.proofs.Common.{refl, ◌≡◌, zero, suc, replicate, ◌⊎◌, inl, inr, ℕ, ◌+◌, ◌*◌, ◌/◌, ◌%◌, ◌<◌, List, length, take, drop, slice_index, get_or, sym, ◌∙◌, ap, ap₂, arith, eq-or-lt_of_le, ext_get_or, get_or-drop, get_or-take, word_at, region}
+use Rattle.wal_kernel.proofs.Common.{refl, ◌≡◌, suc, replicate, ◌⊎◌, inl, inr, ℕ, ◌+◌, ◌*◌, ◌/◌, ◌%◌, ◌<◌, List, length, take, drop, slice_index, get_or, sym, ◌∙◌, ap, ap₂, arith, eq-or-lt_of_le, ext_get_or, get_or-drop, get_or-take, word_at, region}
 
 -- two bytes that are a word
-word_high : (a b x y : ℕ) → b < 256 → y < 256 → a * 256 + b ≡ x * 256 + y → a ≡ x
-word_high a b x y p q e = omega arith
-
-word_low : (a b x y : ℕ) → b < 256 → y < 256 → a * 256 + b ≡ x * 256 + y → b ≡ y
-word_low a b x y p q e = omega arith
+word_bytes : (a b x y : ℕ) → b < 256 → y < 256 → a * 256 + b ≡ x * 256 + y → (a ≡ x) × (b ≡ y)
+word_bytes a b x y p q e = omega arith
 
 -- a byte of two lists whose words agree
 same_byte : (xs ys : List ℕ) → ((k : ℕ) → slice_index xs k < 256) → ((k : ℕ) → slice_index ys k < 256) → (i k : ℕ) → word_at xs i ≡ word_at ys i → (k ≡ 2 * i) ⊎ (k ≡ 2 * i + 1) → slice_index xs k ≡ slice_index ys k
-same_byte xs ys below_x below_y i k e (inl at) = rw at (word_high _ _ _ _ (below_x (2 * i + 1)) (below_y (2 * i + 1)) e)
-same_byte xs ys below_x below_y i k e (inr at) = rw at (word_low _ _ _ _ (below_x (2 * i + 1)) (below_y (2 * i + 1)) e)
+same_byte xs ys below_x below_y i k e (inl at) = rw at (word_bytes _ _ _ _ (below_x (2 * i + 1)) (below_y (2 * i + 1)) e).0
+same_byte xs ys below_x below_y i k e (inr at) = rw at (word_bytes _ _ _ _ (below_x (2 * i + 1)) (below_y (2 * i + 1)) e).1
 
 -- an index is that of a word's first or second byte
 halves : (k : ℕ) → (k ≡ 2 * (k / 2)) ⊎ (k ≡ 2 * (k / 2) + 1)
@@ -44,10 +41,9 @@ pub word_at-lt : (xs : List ℕ) (i : ℕ) → ((k : ℕ) → slice_index xs k <
 word_at-lt xs i below = omega (arith, below (2 * i), below (2 * i + 1))
 
 -- zero bytes are the words 0
-zero_byte : (n k : ℕ) → slice_index (replicate n 0) k ≡ 0
-zero_byte zero k = refl
-zero_byte (suc n) zero = refl
+pub zero_byte : (n k : ℕ) → slice_index (replicate n 0) k ≡ 0
 zero_byte (suc n) (suc k) = zero_byte n k
+zero_byte _ _ = refl
 
 pub word_at-zeros : (n i : ℕ) → word_at (replicate n 0) i ≡ 0
 word_at-zeros n i = ap₂ (λ a b. a * 256 + b) (zero_byte n (2 * i)) (zero_byte n (2 * i + 1))

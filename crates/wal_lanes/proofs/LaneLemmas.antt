@@ -1,5 +1,5 @@
 -- What the operations on vectors of eight words hold at each lane.
-use Rattle.wal_lanes.proofs.Common.{◌≡◌, ℕ, zero, suc, ◌+◌, ◌-◌, ◌*◌, ◌/◌, ◌%◌, ◌^◌, ◌<◌, List, [], ◌∷◌, length, take, drop, replicate, slice_index, slice_index_or, slice_set, bit_or, refl, sym, ap, ap₂, inl, inr, ◌∙◌, arith, w32, Fits, rotate_right, cases_lt, get_or-drop, get_or-set_other, get_or-set_same, get_or-take, add32, word_at, HasLanes, words_of}
+use Rattle.wal_lanes.proofs.Common.{◌≡◌, ℕ, zero, suc, ◌+◌, ◌-◌, ◌*◌, ◌/◌, ◌%◌, ◌^◌, ◌<◌, List, [], ◌∷◌, length, take, drop, replicate, slice_index, slice_index_or, slice_set, bit_or, refl, sym, ap, ap₂, inl, inr, ◌∙◌, arith, w32, Fits, rotate_right, cases_lt, get_or-drop, get_or-set_other, get_or-set_same, get_or-take, add32, word_at, HasLanes, words_of, length-map}
 use Rattle.std.specs.Simd.Lanes.{zip2, Each1}
 use Rattle.std.proofs.lemmas.Simd.{length-zip2, get_or-zip2, get_or-replicate, Each1-get_or}
 
@@ -31,8 +31,7 @@ sum_of x y h xs ys k l = h.each k l ∙ ap₂ (λ (s t : ℕ). add32 s t) (xs k 
 
 -- word i of lane k is lane k of vector i
 pub word_of : (w : List (List ℕ)) (i k : ℕ) → slice_index (words_of w k) i ≡ slice_index (slice_index_or w i []) k
-word_of [] i zero = refl
-word_of [] i (suc k) = refl
+word_of [] i k = grind arith
 word_of (v ∷ w) zero k = refl
 word_of (v ∷ w) (suc i) k = word_of w i k
 
@@ -42,8 +41,7 @@ words_of_set (v ∷ w) zero k x = refl
 words_of_set (v ∷ w) (suc i) k x = ap (λ (l : List ℕ). slice_index v k ∷ l) (words_of_set w i k x)
 
 pub length-words_of : (w : List (List ℕ)) (k : ℕ) → length (words_of w k) ≡ length w
-length-words_of [] k = refl
-length-words_of (v ∷ w) k = ap suc (length-words_of w k)
+length-words_of w k = length-map w (λ (v : List ℕ). slice_index v k)
 
 -- a word of a block that lies in longer bytes
 pub word_in : (bytes : List ℕ) (p i q : ℕ) → i < 16 → q ≡ p + 4 * i → word_at (take 64 (drop p bytes)) (4 * i) ≡ word_at bytes q
@@ -74,15 +72,8 @@ pub HasLanes-listed : {a b c d e f g h : ℕ} {t : ℕ → ℕ} → a ≡ t 0 �
 HasLanes-listed {a} {b} {c} {d} {e} {f} {g} {h} {t} p0 p1 p2 p3 p4 p5 p6 p7 = record { long = refl; each = each }
   where
     each : (k : ℕ) → k < 8 → slice_index (a ∷ b ∷ c ∷ d ∷ e ∷ f ∷ g ∷ h ∷ []) k ≡ t k
-    each zero l = p0
-    each (suc zero) l = p1
-    each (suc (suc zero)) l = p2
-    each (suc (suc (suc zero))) l = p3
-    each (suc (suc (suc (suc zero)))) l = p4
-    each (suc (suc (suc (suc (suc zero))))) l = p5
-    each (suc (suc (suc (suc (suc (suc zero)))))) l = p6
-    each (suc (suc (suc (suc (suc (suc (suc zero))))))) l = p7
-    each (suc (suc (suc (suc (suc (suc (suc (suc k)))))))) l = let no : ⊥ = omega arith in absurd no
+    each (suc (suc (suc (suc (suc (suc (suc (suc k)))))))) l = absurd (omega arith)
+    each _ l = cc (p0, p1, p2, p3, p4, p5, p6, p7)
 
 -- one more vector of words is loaded
 pub words_loaded : (w : List (List ℕ)) (v bytes : List ℕ) (at stride i : ℕ) → i < 16 → length w ≡ 16

@@ -1,5 +1,5 @@
 -- Bytes that are put in place of others, and what then stands where.
-use Rattle.wal_lanes.proofs.Common.{◌≡◌, ℕ, ◌+◌, ◌-◌, ◌*◌, ◌<◌, ◌≤◌, List, [], ◌++◌, length, take, drop, sym, ap, inl, inr, ◌∙◌, arith, length-append, length-drop, cases_lt, append_assoc, drop-append-le, drop-drop, drop-take, drop_at, length-take-le, take-append-drop, take-append-le, take-take, take_at, mul-le-mul_right, put_at}
+use Rattle.wal_lanes.proofs.Common.{◌≡◌, ℕ, ◌+◌, ◌-◌, ◌*◌, ◌<◌, ◌≤◌, List, [], ◌++◌, length, take, drop, sym, ap, inl, inr, ◌∙◌, arith, length-append, length-drop, cases_lt, append_assoc, drop-append-le, drop-drop, drop-take, drop_at, length-take-le, take-append-drop, take-append-le, take-take, take_at, mul-le-mul_right, put_at, zero-add}
 
 -- nothing is put
 pub put_none : (at : ℕ) (old : List ℕ) → old ≡ put_at at old []
@@ -58,15 +58,6 @@ part_before w j i at old new ys less place is within =
     let bound : (j + 1) * w ≤ i * w = mul-le-mul_right w (omega arith) in
     rw is (put_before at old ys w (j * w) (omega arith) within)
 
--- the parts of w bytes up to the one that is put
-pub parts_put : (w : ℕ) (f : ℕ → List ℕ) (old new ys : List ℕ) (i at : ℕ) → at ≡ i * w → new ≡ put_at at old ys → ys ≡ f i → length ys ≡ w → at ≤ length old
-    → ((j : ℕ) → j < i → take w (drop (j * w) old) ≡ f j) → (j : ℕ) → j < i + 1 → take w (drop (j * w) new) ≡ f j
-parts_put w f old new ys i at place is part long within before j l =
-    elim (cases_lt j i) [
-      | inl less ↦ part_before w j i at old new ys less place is within ∙ before j less
-      | inr more ↦ let here : j ≡ i = omega arith in rw (is, here, ← place) (put_here at old ys w long within ∙ part)
-    ]
-
 -- the parts from the place `first` on, up to the one that is put
 pub parts_put_from : (w first : ℕ) (f : ℕ → List ℕ) (old new ys : List ℕ) (i at : ℕ) → at ≡ (first + i) * w → new ≡ put_at at old ys → ys ≡ f i → length ys ≡ w → at ≤ length old
     → ((j : ℕ) → j < i → take w (drop ((first + j) * w) old) ≡ f j) → (j : ℕ) → j < i + 1 → take w (drop ((first + j) * w) new) ≡ f j
@@ -75,6 +66,13 @@ parts_put_from w first f old new ys i at place is part long within before j l =
       | inl less ↦ part_before w (first + j) (first + i) at old new ys (omega arith) place is within ∙ before j less
       | inr more ↦ let here : j ≡ i = omega arith in rw (is, here, ← place) (put_here at old ys w long within ∙ part)
     ]
+
+-- the parts of w bytes up to the one that is put
+pub parts_put : (w : ℕ) (f : ℕ → List ℕ) (old new ys : List ℕ) (i at : ℕ) → at ≡ i * w → new ≡ put_at at old ys → ys ≡ f i → length ys ≡ w → at ≤ length old
+    → ((j : ℕ) → j < i → take w (drop (j * w) old) ≡ f j) → (j : ℕ) → j < i + 1 → take w (drop (j * w) new) ≡ f j
+parts_put w f old new ys i at place is part long within before j l =
+    let put = parts_put_from w 0 f old new ys i at (rw zero-add place) is part long within (λ k less. rw zero-add (before k less)) j l in
+    rw zero-add at put
 
 -- the pieces from k on, w of them, lie within all of them
 pub pieces_within : (k w count size n : ℕ) → k + w ≤ count → n ≡ count * size → (k + w) * size ≤ n

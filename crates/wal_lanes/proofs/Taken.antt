@@ -58,9 +58,8 @@ taken_all k prefix seen long piece strip group whole r edge all same held is end
 pub other_group : (groups : List Group) (i k : ℕ) (x : Group) → k ≢ i → slice_get (slice_set groups i x) k ≡ slice_get groups k
 other_group [] i k x other = refl
 other_group (y ∷ ys) zero zero x other = absurd (other refl)
-other_group (y ∷ ys) zero (suc k) x other = refl
-other_group (y ∷ ys) (suc i) zero x other = refl
 other_group (y ∷ ys) (suc i) (suc k) x other = other_group ys i k x (λ e. other (ap suc e))
+other_group (y ∷ ys) _ _ x other = refl
 
 same_group : (groups : List Group) (i : ℕ) (x y : Group) → slice_get (slice_set groups i x) i ≡ Some y → i < length groups → x ≡ y
 same_group groups i x y held within =

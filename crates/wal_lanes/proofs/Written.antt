@@ -1,7 +1,5 @@
 -- Digests that are written one after the other.
-use Rattle.wal_lanes.proofs.Common.{◌≡◌, ℕ, zero, suc, ◌+◌, ◌*◌, ◌/◌, ◌<◌, ◌≤◌, List, length, take, drop, slice_index, refl, ap, ◌∙◌, arith, add-one, to_be_bytes, digest_bytes, put_at, AreDigests, text}
-use Rattle.std.proofs.lemmas.List.{length-append}
-use Rattle.std.specs.Int.{w32}
+use Rattle.wal_lanes.proofs.Common.{length-append, w32, ◌≡◌, ℕ, zero, suc, ◌+◌, ◌*◌, ◌/◌, ◌<◌, ◌≤◌, List, length, take, drop, slice_index, refl, ap, ◌∙◌, arith, add-one, to_be_bytes, digest_bytes, put_at, AreDigests, text}
 use Rattle.wal_lanes.proofs.Parts.{length-put_at, part_of_part, parts_put, piece_within, put_put}
 
 pub length-digest_bytes : (h : List ℕ) (n : ℕ) → length (digest_bytes h n) ≡ 4 * n

@@ -14,6 +14,7 @@ pub use Rattle.std.proofs.lemmas.List.Sums.{fold_push, fold-append}
 pub use Rattle.std.proofs.lemmas.Map.Keys.{Less-from_sorted, IsDistinct-from_sorted, sorted_tail}
 pub use Rattle.std.proofs.lemmas.Map.Views.{list_any-from_Contains, Contains-from_any, All-insert_key}
 pub use Rattle.std.specs.BTreeSet.{insert_key}
+pub use Rattle.std.specs.Cmp.{IsTotalOrder, on_total, tied_itself}
 pub use Rattle.std.specs.Cmp.Lexicographic.{texts_ties, nat_list_cmp_total}
 pub use Rattle.std.specs.List.{list_any, AllByRecursion, list_all}
 pub use Rattle.std.specs.List.Sorted.{IsSearchInRange, IsBinarySearchResult}
@@ -27,7 +28,7 @@ pub use Rattle.wal_shape.specs.declared.axis.Side.TheVariants.{Now, Next}
 pub use Rattle.wal_shape.specs.declared.metadata.BlobId.{BlobId}
 pub use Rattle.wal_ledger.specs.Answers.{claim_of, MayRegister, is_moving_extension, IsCertificate}
 pub use Rattle.wal_ledger.specs.Handover.{IsMadeIn, IsMadeSince, IsDated}
-pub use Rattle.wal_ledger.specs.Kept.{IsOfCommittee, IsLawful}
+pub use Rattle.wal_ledger.specs.Kept.{IsOfCommittee, IsLawful, HasBrought}
 pub use Rattle.wal_ledger.specs.Ledger.{History, history_of, history_after, names, is_fresh, Log, Phase, phase, phase_in, phase_after, writing, reading, is_moving, owners_at, owners_of, own_entries, readies, with_registered, until_among, same_node, signs_for, ready_shards, signers, cut, is_register, until_of, is_live, is_signer_among, IsCertified, MustHold, entered, until_in, registered, live_ids, is_finish, signer_count, LedgerState}
 pub use Rattle.wal_ledger.specs.Order.{Ascends}
 pub use Rattle.wal_ledger.specs.Orderly.{IsOrderly}

@@ -1,5 +1,5 @@
 -- What a shard must hold while the epoch changes, told by what is known of an identifier now.
-use Rattle.wal_ledger.proofs.Common.{◌≡◌, ◌≢◌, ℕ, ◌+◌, ◌<◌, ◌≤◌, max, List, [], ◌∷◌, ◌++◌, Bool, true, false, cond, nat_le, All, fold, ◌⊎◌, ◌↔◌, inl, inr, refl, sym, ap, ◌∙◌, subst, arith, append_assoc, cases_lt, ltb-true, lt-ltb, leb-true, and_parts, nat_tests, common_steps, append-nil, All-nil, All-cons, All-head, All-tail, All-push, fold_along, fold_push, fold-append, BlobId, Entry, Body, Register, Finish, Kind, Holds, count_below, committee_size, quorum_size, Log, Phase, History, phase, phase_in, phase_after, reading, writing, is_moving, cut, owners_at, names, is_register, is_finish, until_in, until_among, is_fresh, history_after, history_of, own_entries, until_of, is_signer_among, signer_count, MustHold, count_among, IsLawful, IsMadeIn, IsDated}
+use Rattle.wal_ledger.proofs.Common.{◌≡◌, ◌≢◌, ℕ, ◌+◌, ◌<◌, ◌≤◌, max, List, [], ◌∷◌, ◌++◌, Bool, true, false, cond, nat_le, All, fold, ◌⊎◌, ◌↔◌, inl, inr, refl, sym, ap, ◌∙◌, subst, arith, append_assoc, cases_lt, ltb-true, lt-ltb, leb-true, and_parts, nat_tests, common_steps, append-nil, All-nil, All-cons, All-head, All-tail, All-push, fold_along, fold_push, fold-append, BlobId, Entry, Body, Kind, Holds, count_below, committee_size, quorum_size, Log, Phase, History, phase, phase_in, phase_after, reading, writing, is_moving, cut, owners_at, names, is_register, is_finish, until_in, until_among, is_fresh, history_after, history_of, own_entries, until_of, is_signer_among, signer_count, MustHold, count_among, IsLawful, IsMadeIn, IsDated}
 use Rattle.wal_ledger.proofs.Quorums.{signers_outside, count_among-outside, owners_cut}
 use Rattle.wal_ledger.proofs.TallyLaws.{count_below-same}
 use Rattle.wal_ledger.proofs.Entering.{phase_whole, own_all}
@@ -10,8 +10,7 @@ until_push own x = fold_push (λ (most : ℕ) (y : Entry). max most (until_in y.
 
 -- is the same for what is no registration
 pub until_plain : (b : Body) → is_register b ≡ false → until_in b ≡ 0
-until_plain (Register id until) h = cc
-until_plain _ h = refl
+until_plain b h = grind arith
 
 -- and never less
 until_from : (most : ℕ) (more : List Entry) → most ≤ fold (λ (n : ℕ) (y : Entry). max n (until_in y.body)) most more
@@ -23,8 +22,7 @@ until_grows own more = subst (λ (n : ℕ). until_among own ≤ n) (sym (fold-ap
 
 -- an identifier's history is in the ledger's reading epoch
 phase_after-finishes : (b : Body) (x : Entry) (p : Phase) → (phase_after b x p).finishes ≡ p.finishes + cond (is_finish b) 1 0
-phase_after-finishes Finish x p = refl
-phase_after-finishes _ x p = omega arith
+phase_after-finishes b x p = grind arith
 
 pub history_of-epoch : (first : ℕ) (xs : List Entry) (id : BlobId) → (history_of first xs id).epoch ≡ first + (phase_in xs).finishes
 history_of-epoch first xs id =

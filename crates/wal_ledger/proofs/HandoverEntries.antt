@@ -1,5 +1,5 @@
 -- What one more entry does to the phase of a ledger, to an identifier's own entries, and to who signed what.
-use Rattle.wal_ledger.proofs.Common.{◌≡◌, ℕ, ◌+◌, ◌-◌, ◌<◌, ◌≤◌, List, [], ◌∷◌, ◌++◌, get_or, Bool, true, false, cond, ◌&&◌, nat_eq, nat_lt, All, ◌⊎◌, inl, inr, refl, sym, ap, ◌∙◌, subst, arith, length, list_any, or-false, or_cases, nat_tests, All-nil, All-cons, All-push, BlobId, Next, Entry, Body, Begin, Finish, Kind, Holds, Denies, Log, Phase, History, phase, phase_after, reading, writing, is_moving, owners_at, owners_of, cut, names, is_register, until_among, is_fresh, history_after, history_of, own_entries, until_of, same_node, signs_for, is_signer_among, readies, ready_shards, entered, claim_of}
+use Rattle.wal_ledger.proofs.Common.{◌≡◌, ℕ, ◌+◌, ◌-◌, ◌<◌, ◌≤◌, List, [], ◌∷◌, ◌++◌, get_or, Bool, true, false, cond, ◌&&◌, nat_eq, nat_lt, All, ◌⊎◌, inl, inr, refl, sym, ap, ◌∙◌, subst, arith, length, list_any, or-false, or_cases, nat_tests, All-nil, All-cons, All-push, BlobId, Next, Entry, Body, Begin, Finish, Kind, Log, Phase, History, phase, phase_after, reading, writing, is_moving, owners_at, owners_of, cut, names, is_register, until_among, is_fresh, history_after, history_of, own_entries, until_of, same_node, signs_for, is_signer_among, readies, ready_shards, entered, claim_of}
 use Rattle.wal_ledger.proofs.Handover.{history_of-epoch, until_push, until_plain}
 use Rattle.wal_ledger.proofs.Entering.{phase_push, history_of-push, since_push}
 use Rattle.wal_ledger.proofs.TallyLaws.{signers_push}
@@ -25,9 +25,7 @@ pub record StaysAs (old new : Log) : Type 0 where
   pub cut : cut new ≡ cut old
 
 pub phase_after-plain : (b : Body) (x : Entry) (p : Phase) → is_plain b ≡ true → phase_after b x p ≡ record p { since = p.since ++ x ∷ [] }
-phase_after-plain (Begin owners) x p plain = cc
-phase_after-plain Finish x p plain = cc
-phase_after-plain _ x p plain = refl
+phase_after-plain b x p plain = grind arith
 
 -- the phase after an entry that leaves the epoch as it is
 pub phase_plain : (log : Log) (b : Body) → is_plain b ≡ true → phase (entered log b) ≡ record (phase log) { since = (phase log).since ++ entry_in log b ∷ [] }
@@ -118,9 +116,7 @@ signed_cases log b id kind e s owners own signed (anew is n registers le) =
 
 -- a claim is signed for the shards of its node, in its own way
 pub signs_claim_for : (owners : List ℕ) (kind other : Kind) (s t : ℕ) (id : BlobId) → signs_for owners kind t (claim_of other s id) ≡ true → (kind ≡ other) × (same_node owners s t ≡ true)
-signs_claim_for owners Holds Holds s t id h = (refl, h)
-signs_claim_for owners Denies Denies s t id h = (refl, h)
-signs_claim_for owners _ _ s t id h = cc
+signs_claim_for owners kind other s t id h = grind arith
 
 -- the sets of shards that are ready
 pub ready_plain : (log : Log) (b : Body) (s : ℕ) → is_plain b ≡ true → ready_shards (entered log b) s ≡ true → (ready_shards log s ≡ true) ⊎ (readies (owners_of Next log) s b ≡ true)

@@ -1,8 +1,8 @@
 -- What each kind of entry does to a ledger: who is live, who signed what, what must be held and who is ready.
-use Rattle.wal_ledger.proofs.Common.{◌≡◌, ℕ, ◌+◌, ◌<◌, ◌≤◌, List, [], ◌∷◌, ◌++◌, length, true, false, cond, ◌&&◌, nat_lt, ◌⊎◌, inl, inr, refl, sym, ap, ◌∙◌, subst, arith, ltb-true, lt-ltb, both_ways, false≢true, BlobId, Next, Entry, Body, Register, Ready, Kind, Holds, Denies, Log, Phase, phase, reading, writing, is_moving, owners_at, owners_of, cut, names, is_register, own_entries, until_of, is_live, same_node, is_signer_among, signers, IsCertified, MustHold, readies, ready_shards, entered, until_among, MayRegister, is_moving_extension, claim_of, IsOrderly, IsOfCommittee, with_registered, History, history_after, id_eq}
+use Rattle.wal_ledger.proofs.Common.{◌≡◌, ℕ, ◌+◌, ◌<◌, ◌≤◌, List, [], ◌∷◌, ◌++◌, length, true, false, cond, ◌&&◌, nat_lt, ◌⊎◌, inl, inr, refl, sym, ap, ◌∙◌, subst, arith, ltb-true, lt-ltb, both_ways, false≢true, BlobId, Next, Entry, Body, Register, Ready, Kind, Holds, Denies, Log, Phase, reading, writing, is_moving, owners_at, owners_of, cut, names, is_register, own_entries, until_of, is_live, same_node, is_signer_among, signers, IsCertified, MustHold, readies, ready_shards, entered, until_among, MayRegister, is_moving_extension, claim_of, IsOrderly, IsOfCommittee, with_registered, History, history_after, id_eq}
 use Rattle.wal_ledger.proofs.RowsPlace.{id_same}
 use Rattle.wal_ledger.proofs.TallyLaws.{signs_register}
-use Rattle.wal_ledger.proofs.HandoverEntries.{entry_in, is_plain, StaysAs, plain_stays, phase_plain, Owned, owned, until_same, until_kept, own_all_entered, SignedBefore, SignsNow, signed_cases, signs_claim_for, ready_plain}
+use Rattle.wal_ledger.proofs.HandoverEntries.{is_plain, StaysAs, plain_stays, phase_plain, Owned, owned, until_same, until_kept, own_all_entered, SignedBefore, SignsNow, signed_cases, signs_claim_for, ready_plain}
 
 -- a ledger after entries that leave the epoch as it is: what is signed was signed before or is signed by them in the writing epoch;
 -- what must be held had to be before; and who is ready was so before or is so by them
@@ -26,49 +26,37 @@ record Entry_facts (log : Log) (b : Body) (Signs : BlobId → Kind → ℕ → T
   pub ready : (s : ℕ) → readies (owners_of Next log) s b ≡ true → IsReady s
 
 enters : (log : Log) (b : Body) (Signs : BlobId → Kind → ℕ → Type 0) (IsReady : ℕ → Type 0) → IsOrderly log → Entry_facts log b Signs IsReady → Enters log (entered log b) Signs IsReady
-enters log b Signs IsReady orderly facts = record {
-  stays = stays;
-  signs = facts.signs;
-  musts = λ id must.
-      let moving : is_moving log ≡ true = sym stays.moving ∙ must.moving in
-      let certified : IsCertified (cut log) id = subst (λ (c : Log). IsCertified c id) stays.cut must.certified in
-      let live : is_live log id ≡ true = orderly.lives moving id certified.live in
-      record {
-        moving = moving;
-        live = live;
-        certified = certified;
-        outlasts = facts.outlasts moving id live (omega (arith, stays.writing, must.outlasts));
+enters log b Signs IsReady orderly facts =
+    let stays = plain_stays log b facts.plain in
+    let whole = phase_plain log b facts.plain in record {
+      stays = stays;
+      signs = facts.signs;
+      musts = λ id must.
+          let moving : is_moving log ≡ true = sym stays.moving ∙ must.moving in
+          let certified : IsCertified (cut log) id = subst (λ (c : Log). IsCertified c id) stays.cut must.certified in
+          let live : is_live log id ≡ true = orderly.lives moving id certified.live in
+          let outlasts = facts.outlasts moving id live (omega (arith, stays.writing, must.outlasts)) in assumption;
+      ready = λ s h. elim (ready_plain log b s facts.plain h) [ inl before ↦ inl before | inr now ↦ inr (facts.ready s now) ];
+      orderly = record {
+        turns = ap (λ (p : Phase). length p.brought) whole ∙ orderly.turns ∙ ap {B = ℕ} (λ (p : Phase). p.finishes + cond (nat_lt p.finishes (length p.brought)) 1 0) (sym whole);
+        epochs = λ id k d lt. omega (arith, stays.writing, own_all_entered (λ (x : Entry). x.epoch ≤ writing log) log b id _ (orderly.epochs id) (omega arith) (owned log b id) k d lt);
+        old = λ moving id kind e s live signed other.
+            let was = facts.signs id kind e s live signed in
+            elim was.1 [
+              | inl before ↦
+                  subst (λ (c : Log). (is_live c id ≡ true) × (signers c id kind e s ≡ true)) (sym stays.cut)
+                  (orderly.old (sym stays.moving ∙ moving) id kind e s was.0 before (λ same. other (same ∙ sym stays.writing)))
+              | inr now ↦ absurd (other (now.0 ∙ sym stays.writing))
+            ];
+        lives = λ moving id was. facts.lives id (orderly.lives (sym stays.moving ∙ moving) id (subst (λ (c : Log). is_live c id ≡ true) stays.cut was));
       };
-  ready = λ s h. elim (ready_plain log b s facts.plain h) [ inl before ↦ inl before | inr now ↦ inr (facts.ready s now) ];
-  orderly = record {
-    turns = ap (λ (p : Phase). length p.brought) whole ∙ orderly.turns ∙ ap {B = ℕ} (λ (p : Phase). p.finishes + cond (nat_lt p.finishes (length p.brought)) 1 0) (sym whole);
-    epochs = λ id k d lt. omega (arith, stays.writing, own_all_entered (λ (x : Entry). x.epoch ≤ writing log) log b id _ (orderly.epochs id) (omega arith) (owned log b id) k d lt);
-    old = λ moving id kind e s live signed other.
-        let was = facts.signs id kind e s live signed in
-        elim was.1 [
-          | inl before ↦
-              subst (λ (c : Log). (is_live c id ≡ true) × (signers c id kind e s ≡ true)) (sym stays.cut)
-              (orderly.old (sym stays.moving ∙ moving) id kind e s was.0 before (λ same. other (same ∙ sym stays.writing)))
-          | inr now ↦ absurd (other (now.0 ∙ sym stays.writing))
-        ];
-    lives = λ moving id was. facts.lives id (orderly.lives (sym stays.moving ∙ moving) id (subst (λ (c : Log). is_live c id ≡ true) stays.cut was));
-  };
-  musts_stay = λ id must. record {
-    moving = stays.moving ∙ must.moving;
-    live = facts.lives id must.live;
-    certified = subst (λ (c : Log). IsCertified c id) (sym stays.cut) must.certified;
-    outlasts = omega (arith, stays.writing, must.outlasts, until_kept log b id _ (ltb-true (reading log) (until_of log id) must.live) (owned log b id));
-  };
-}
-  where
-    new : Log
-    new = entered log b
-
-    stays : StaysAs log new
-    stays = plain_stays log b facts.plain
-
-    whole : phase new ≡ record (phase log) { since = (phase log).since ++ entry_in log b ∷ [] }
-    whole = phase_plain log b facts.plain
+      musts_stay = λ id must. record {
+        moving = stays.moving ∙ must.moving;
+        live = facts.lives id must.live;
+        certified = subst (λ (c : Log). IsCertified c id) (sym stays.cut) must.certified;
+        outlasts = omega (arith, stays.writing, must.outlasts, until_kept log b id _ (ltb-true (reading log) (until_of log id) must.live) (owned log b id));
+      };
+    }
 
 -- entries that are no registration leave who is live
 pub live_same : (log : Log) (b : Body) (id : BlobId) → is_plain b ≡ true → is_register b ≡ false → is_live (entered log b) id ≡ is_live log id
@@ -82,49 +70,35 @@ signed_plain log b id kind e s plain h =
 
 -- a registration
 pub register_enters : (log : Log) (id : BlobId) (until : ℕ) → IsOrderly log → MayRegister log id until → Enters log (entered log (Register id until)) (λ i kind s. ⊥) (λ s. ⊥)
-register_enters log id until orderly may = enters log b (λ i kind s. ⊥) (λ s. ⊥) orderly (record {
-  plain = refl;
-  lives = λ i live. lt-ltb (reading new) (until_of new i) (omega (arith, ltb-true (reading log) (until_of log i) live, stays.reading, until_kept log b i _ (ltb-true (reading log) (until_of log i) live) (owned log b i)));
-  signs = signs;
-  outlasts = outlasts;
-  ready = λ s h. cc;
-})
+register_enters log id until orderly may =
+    let b : Body = Register id until in
+    let new : Log = entered log b in
+    let stays = plain_stays log b refl in
+    enters log b (λ i kind s. ⊥) (λ s. ⊥) orderly (record {
+      plain = refl;
+      lives = λ i live.
+          let old = ltb-true (reading log) (until_of log i) live in
+          lt-ltb (reading new) (until_of new i) (omega (arith, old, stays.reading, until_kept log b i _ old (owned log b i)));
+      signs = λ i kind e s live h. elim (signed_plain log b i kind e s refl h) [
+        | inl before ↦
+            let lt = still (reading log) i _ (omega (arith, ltb-true (reading new) (until_of new i) live, stays.reading)) (λ n. before.stands refl n) (owned log b i) in
+            (lt-ltb (reading log) (until_of log i) lt, inl before.signed)
+        | inr now ↦ absurd (both_ways _ (signs_register (owners_at log e) kind s id until) now.signed)
+      ];
+      -- while the epoch changes, what is live is not registered again
+      outlasts = λ moving i live lt. still (writing log) i _ lt (λ n.
+          let e : is_moving_extension log id ≡ true = ap (λ m. m && is_live log id) moving ∙ ap (is_live log) (id_same id i n) ∙ live in
+          absurd (cc (e, may.allowed))) (owned log b i);
+      ready = λ s h. cc;
+    })
   where
-    b : Body
-    b = Register id until
-
-    new : Log
-    new = entered log b
-
-    stays : StaysAs log new
-    stays = plain_stays log b refl
-
-    still : (m : ℕ) (i : BlobId) (l : List Entry) → m < until_among l → (names i b ≡ true → m < until_of log i) → Owned log b i l → m < until_of log i
+    still : (m : ℕ) (i : BlobId) (l : List Entry) → m < until_among l → (names i (Register id until) ≡ true → m < until_of log i) → Owned log (Register id until) i l → m < until_of log i
     still m i l lt named (Owned.stays is n) = omega (arith, lt, ap until_among is)
     still m i l lt named (Owned.grows is n stands) = named n
     still m i l lt named (Owned.anew is n r le) = named n
 
-    signs : (i : BlobId) (kind : Kind) (e s : ℕ) → is_live new i ≡ true → signers new i kind e s ≡ true → (is_live log i ≡ true) × ((signers log i kind e s ≡ true) ⊎ ((e ≡ writing log) × ⊥))
-    signs i kind e s live h = elim (signed_plain log b i kind e s refl h) [
-      | inl before ↦
-          let lt = still (reading log) i _ (omega (arith, ltb-true (reading new) (until_of new i) live, stays.reading)) (λ n. before.stands refl n) (owned log b i) in
-          (lt-ltb (reading log) (until_of log i) lt, inl before.signed)
-      | inr now ↦ absurd (both_ways _ (signs_register (owners_at log e) kind s id until) now.signed)
-    ]
-
-    -- while the epoch changes, what is live is not registered again
-    outlasts : is_moving log ≡ true → (i : BlobId) → is_live log i ≡ true → writing log < until_of new i → writing log < until_of log i
-    outlasts moving i live lt = still (writing log) i _ lt not_named (owned log b i)
-      where
-        not_named : names i b ≡ true → writing log < until_of log i
-        not_named n =
-            let same : id ≡ i = id_same id i n in
-            let e : is_moving_extension log id ≡ true = ap (λ m. m && is_live log id) moving ∙ ap (is_live log) same ∙ live in
-            let f : true ≡ false = sym e ∙ may.allowed in cc
-
 pub claim_plain : (kind : Kind) (s : ℕ) (id : BlobId) → (is_plain (claim_of kind s id) ≡ true) × (is_register (claim_of kind s id) ≡ false)
-claim_plain Holds s id = (refl, refl)
-claim_plain Denies s id = (refl, refl)
+claim_plain kind s id = grind arith
 
 -- what a claim of either kind names, and leaves
 pub record IsClaim (s : ℕ) (id : BlobId) (b : Body) : Type 0 where

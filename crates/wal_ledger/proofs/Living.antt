@@ -1,5 +1,5 @@
 -- The identifiers that are live.
-use Rattle.wal_ledger.proofs.Common.{◌≡◌, ℕ, zero, suc, Bool, true, false, cond, List, [], ◌∷◌, ◌++◌, filter, fold, Contains, ◌⊎◌, inl, inr, refl, sym, ap, ◌∙◌, subst, arith, Ordering, Less, Equal, Greater, match_ordering, insert_key, ltb-true, cond_both, IsStrictlySortedBy-filter, BlobId, Entry, Body, Register, Ack, Attest, Ascends, Log, History, until_in, until_among, is_fresh, history_after, is_live, reading, until_of, with_registered, registered, live_ids, id_cmp, id_eq, ◌+◌, ◌<◌, nat_lt, AllByRecursion, IsStrictlySortedBy, lt-ltb, nat_tests, All-filter, All-from_recursion, recursion_from_All, filter_agree, Row, Rows, row_in, row_registered, living}
+use Rattle.wal_ledger.proofs.Common.{cases_Bool, ◌≡◌, ℕ, zero, suc, Bool, true, false, cond, List, [], ◌∷◌, ◌++◌, filter, fold, Contains, ◌⊎◌, inl, inr, refl, sym, ap, ◌∙◌, subst, arith, Ordering, Less, Equal, Greater, match_ordering, insert_key, ltb-true, cond_both, IsStrictlySortedBy-filter, BlobId, Entry, Body, Register, Ack, Attest, Ascends, Log, History, until_in, until_among, history_after, is_live, reading, until_of, with_registered, registered, live_ids, id_cmp, id_eq, ◌+◌, ◌<◌, nat_lt, AllByRecursion, IsStrictlySortedBy, lt-ltb, nat_tests, All-filter, All-from_recursion, recursion_from_All, filter_agree, Row, Rows, row_in, row_registered, living}
 use Rattle.wal_ledger.proofs.Order.{ascends_nil, id_inserted_ascends, ids_total, insert_key_by, all_above}
 use Rattle.wal_ledger.proofs.Handover.{until_push}
 use Rattle.wal_ledger.proofs.RowsPlace.{exact_ids, id_same, id_itself, id_tied}
@@ -40,21 +40,15 @@ Known : History → List BlobId → BlobId → Type 0
 Known c ids id = (until_among c.own ≡ 0) ⊎ Contains ids id
 
 known_other : (id : BlobId) (own : List Entry) (x : Entry) (ids : List BlobId) (named : Bool) → until_in x.body ≡ 0 → (until_among own ≡ 0) ⊎ Contains ids id → (until_among (cond named (own ++ x ∷ []) own) ≡ 0) ⊎ Contains ids id
-known_other id own x ids named none (inr there) = inr there
-known_other id own x ids true none (inl zeroed) = inl (omega (arith, until_push own x))
-known_other id own x ids false none (inl zeroed) = inl zeroed
+known_other id own x ids named none known = grind (arith, until_push own x)
 
 known_step : (id : BlobId) (c : History) (ids : List BlobId) (body : Body) (e : ℕ) → let x : Entry = record { epoch = e; body = body } in Known c ids id → Known (history_after id c x) (with_registered ids body) id
 unfolding Known
-known_step id c ids (Register i until) e known = by (id_eq i id) refl known
-  where
-    x : Entry
-    x = record { epoch = e; body = Register i until }
-
-    by : (b : Bool) → id_eq i id ≡ b → (until_among c.own ≡ 0) ⊎ Contains ids id → (until_among (cond b (cond (is_fresh c (Register i until)) (x ∷ []) (c.own ++ x ∷ [])) c.own) ≡ 0) ⊎ Contains (insert_key id_cmp ids i) id
-    by true same known = inr (put_in ids i id (inl (id_same i id same)))
-    by false differ (inl zeroed) = inl zeroed
-    by false differ (inr there) = inr (put_in ids i id (inr there))
+known_step id c ids (Register i until) e (inr there) = inr (put_in ids i id (inr there))
+known_step id c ids (Register i until) e (inl zeroed) = elim (cases_Bool (id_eq i id)) [
+  | inl same ↦ inr (put_in ids i id (inl (id_same i id same)))
+  | inr differ ↦ inl (rw differ zeroed)
+]
 known_step id c ids (Ack shard i) e known = known_other id c.own (record { epoch = e; body = Ack shard i }) ids (id_eq i id) refl known
 known_step id c ids (Attest shard i) e known = known_other id c.own (record { epoch = e; body = Attest shard i }) ids (id_eq i id) refl known
 known_step id c ids _ e known = known
@@ -82,11 +76,10 @@ live_ids-ascends log = IsStrictlySortedBy-filter id_cmp (is_live log) (registere
 -- and each live one is among them
 pub live_ids-complete : (log : Log) (id : BlobId) → is_live log id ≡ true → Contains (live_ids log) id
 unfolding Known
-live_ids-complete log id live = by (known_from id (record { epoch = log.first; own = [] }) [] log.entries (inl refl))
-  where
-    by : (until_of log id ≡ 0) ⊎ Contains (registered log.entries) id → Contains (live_ids log) id
-    by (inl zeroed) = absurd (omega (arith, ltb-true (reading log) (until_of log id) live))
-    by (inr there) = passes_in (is_live log) (registered log.entries) id live there
+live_ids-complete log id live = elim (known_from id (record { epoch = log.first; own = [] }) [] log.entries (inl refl)) [
+  | inl zeroed ↦ absurd (omega (arith, ltb-true (reading log) (until_of log id) live))
+  | inr there ↦ passes_in (is_live log) (registered log.entries) id live there
+]
 
 -- ---- The live identifiers of a table after each kind of entry.
 
@@ -112,10 +105,6 @@ filter_more p q (x ∷ xs) k s more = by (id_cmp k x) refl (filter_more p q xs k
     passes : q k ≡ true
     passes = more k ∙ ap (λ b. cond b true (p k)) (id_itself k)
 
-    last : (b : Bool) → id_cmp k x ≡ Greater → p x ≡ b → filter q (insert_key id_cmp xs k) ≡ insert_key id_cmp (filter p xs) k
-        → cond b (x ∷ filter q (insert_key id_cmp xs k)) (filter q (insert_key id_cmp xs k)) ≡ insert_key id_cmp (cond b (x ∷ filter p xs) (filter p xs)) k
-    last b h is rest = grind arith
-
     here : (b : Bool) → k ≡ x → id_cmp k x ≡ Equal → x ∷ filter p xs ≡ insert_key id_cmp (cond b (x ∷ filter p xs) (filter p xs)) k
     here true e h = sym (insert_key_by ids_total x k (filter p xs) _ h)
     here false e h =
@@ -131,7 +120,7 @@ filter_more p q (x ∷ xs) k s more = by (id_cmp k x) refl (filter_more p q xs k
         let e : k ≡ x = exact_ids k x h in
         let above : AllByRecursion (λ y. id_cmp k y ≡ Less) xs = subst (λ (y : BlobId). AllByRecursion (λ z. id_cmp y z ≡ Less) xs) (sym e) s.0 in
         rw (ap q (sym e) ∙ passes, above_same p q k xs more above) (here (p x) e h)
-    by Greater h rest = rw (more x ∙ ap (λ b. cond b true (p x)) (id_tied k x Greater h)) (last (p x) h refl rest)
+    by Greater h rest = rw (more x ∙ ap (λ b. cond b true (p x)) (id_tied k x Greater h)) (grind arith)
 
 -- the live ones stay where no `until` changes
 pub living_same : (e : ℕ) (table new : Rows) → table.live ≡ living e table → new.live ≡ table.live → new.ids ≡ table.ids → ((q : BlobId) → (row_in new q).until ≡ (row_in table q).until) → new.live ≡ living e new
@@ -149,19 +138,14 @@ pub living_registered : (e until : ℕ) (id : BlobId) (table new : Rows) → tab
 living_registered e until id table new alive ascends beyond ids live rows =
     live
     ∙ ap (λ (l : List BlobId). insert_key id_cmp l id) alive
-    ∙ sym (filter_more (λ q. nat_lt e (row_in table q).until) (λ q. nat_lt e (row_in new q).until) table.ids id ascends (λ q. ap (λ (r : Row). nat_lt e r.until) (rows q) ∙ by (id_eq id q) q))
+    ∙ sym (filter_more (λ q. nat_lt e (row_in table q).until) (λ q. nat_lt e (row_in new q).until) table.ids id ascends
+    (λ q. rw (rows q) (grind (arith, outlasts e until (row_in table id) beyond))))
     ∙ ap (filter (λ q. nat_lt e (row_in new q).until)) (sym ids)
-  where
-    by : (b : Bool) (q : BlobId) → nat_lt e (cond b (row_registered e until (row_in table id)) (row_in table q)).until ≡ cond b true (nat_lt e (row_in table q).until)
-    by b q = grind (arith, outlasts e until (row_in table id) beyond)
 
 -- fewer pass twice than once
 filter_twice : (p q : BlobId → Bool) (ks : List BlobId) → ((x : BlobId) → q x ≡ true → p x ≡ true) → filter q (filter p ks) ≡ filter q ks
 filter_twice p q [] less = refl
-filter_twice p q (x ∷ xs) less = by (p x) refl (filter_twice p q xs less)
-  where
-    by : (b : Bool) → p x ≡ b → filter q (filter p xs) ≡ filter q xs → filter q (cond b (x ∷ filter p xs) (filter p xs)) ≡ cond (q x) (x ∷ filter q xs) (filter q xs)
-    by b is rest = grind (arith, less x)
+filter_twice p q (x ∷ xs) less = grind (arith, filter_twice p q xs less, less x)
 
 -- a later reading epoch leaves those that outlast it
 pub living_retired : (e : ℕ) (table : Rows) → table.live ≡ living e table → filter (λ q. nat_lt (e + 1) (row_in table q).until) table.live ≡ living (e + 1) table

@@ -1,6 +1,5 @@
 -- A key put at its place in an ascending list.
-use Rattle.wal_ledger.proofs.Common.{◌≡◌, ℕ, zero, suc, ◌<◌, ◌≤◌, List, [], ◌∷◌, length, get_or, insert, refl, sym, ap, ◌∙◌, arith, Ordering, Less, Equal, Greater, ordering_reverse, match_ordering, AllByRecursion, insert_key, IsStrictlySortedBy, nat_list_cmp_total, Less-from_sorted, sorted_tail, All-insert_key, All-from_recursion, recursion_from_All, BlobId, id_cmp, Ascends}
-use Rattle.std.specs.Cmp.{IsTotalOrder, on_total}
+use Rattle.wal_ledger.proofs.Common.{◌≡◌, ℕ, zero, suc, ◌<◌, ◌≤◌, List, [], ◌∷◌, length, get_or, insert, refl, sym, ap, ◌∙◌, arith, Ordering, Less, Equal, Greater, ordering_reverse, match_ordering, AllByRecursion, insert_key, IsStrictlySortedBy, nat_list_cmp_total, Less-from_sorted, sorted_tail, All-insert_key, All-from_recursion, recursion_from_All, BlobId, id_cmp, Ascends, IsTotalOrder, on_total}
 
 pub ids_total : IsTotalOrder id_cmp
 ids_total = on_total (λ (b : BlobId). b.0) nat_list_cmp_total

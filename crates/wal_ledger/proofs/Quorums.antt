@@ -1,5 +1,5 @@
 -- Counts of shards below a number.
-use Rattle.wal_ledger.proofs.Common.{◌≡◌, ℕ, zero, suc, ◌+◌, ◌<◌, ◌≤◌, Bool, true, false, cond, not, ◌&&◌, ◌||◌, nat_eq, inl, inr, List, [], ◌∷◌, length, refl, ap, arith, list_any, nat_tests, cases_lt, cases_Bool, count_below, committee_size, quorum_size, ◌≢◌, All, cases_eq, and_left, ne_eqb, list_any_none, Entry, Kind, signs_for, is_signer_among, count_among, IsWithin, ◌-◌, ◌++◌, nat_lt, slice_index_or, sym, ◌∙◌, subst, list_all, and_parts, both_ways, false_from_ne_true, get_or_append_left, length-append, node_of, are_owners, Body, Ack, Attest, Ready, Holds, Denies, Log, Phase, phase, phase_in, reading, is_moving, owners_at, same_node, readies, IsLawful}
+use Rattle.wal_ledger.proofs.Common.{◌≡◌, ℕ, zero, suc, ◌+◌, ◌<◌, ◌≤◌, Bool, true, false, cond, not, ◌&&◌, ◌||◌, nat_eq, inl, inr, List, [], ◌∷◌, length, refl, ap, arith, list_any, nat_tests, cases_lt, cases_Bool, count_below, committee_size, quorum_size, ◌≢◌, All, cases_eq, and_left, ne_eqb, list_any_none, Entry, Kind, signs_for, is_signer_among, count_among, IsWithin, ◌-◌, ◌++◌, nat_lt, slice_index_or, sym, ◌∙◌, subst, list_all, and_parts, both_ways, false_from_ne_true, get_or_append_left, length-append, node_of, are_owners, Body, Log, Phase, phase, phase_in, reading, is_moving, owners_at, same_node, readies, IsLawful}
 use Rattle.std.proofs.Math.Seq.{get_or-append_seam}
 
 -- none pass
@@ -87,9 +87,7 @@ owners_length n owners h = let e = (and_parts (nat_eq (length owners) n) (list_a
 
 -- what an entry says for a shard it says for all shards of the node
 pub signs_for-node : (owners : List ℕ) (kind : Kind) (s t : ℕ) (b : Body) → same_node owners s t ≡ true → signs_for owners kind s b ≡ signs_for owners kind t b
-signs_for-node owners Holds s t (Ack u id) h = ap (nat_eq (node_of owners u)) (node_is owners s t h)
-signs_for-node owners Denies s t (Attest u id) h = ap (nat_eq (node_of owners u)) (node_is owners s t h)
-signs_for-node owners _ s t _ h = refl
+signs_for-node owners kind s t b h = grind (arith, node_is owners s t h)
 
 -- so all shards of a node are signers, or none is
 pub signers-node : (owners : List ℕ) (own : List Entry) (kind : Kind) (e s t : ℕ) → same_node owners s t ≡ true → is_signer_among owners own kind e s ≡ is_signer_among owners own kind e t
@@ -97,8 +95,7 @@ signers-node owners [] kind e s t h = refl
 signers-node owners (x ∷ own) kind e s t h = cc (signs_for-node owners kind s t x.body h, signers-node owners own kind e s t h)
 
 readies-node : (owners : List ℕ) (s t : ℕ) (b : Body) → same_node owners s t ≡ true → readies owners s b ≡ readies owners t b
-readies-node owners s t (Ready u) h = ap (nat_eq (node_of owners u)) (node_is owners s t h)
-readies-node owners s t _ h = refl
+readies-node owners s t b h = grind (arith, node_is owners s t h)
 
 -- and all are ready, or none is
 pub ready-node : (owners : List ℕ) (since : List Entry) (s t : ℕ) → same_node owners s t ≡ true → list_any (λ (x : Entry). readies owners s x.body) since ≡ list_any (λ (x : Entry). readies owners t x.body) since

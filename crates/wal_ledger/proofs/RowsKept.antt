@@ -1,6 +1,5 @@
 -- What the row of an identifier tells.
-use Rattle.wal_ledger.proofs.Common.{◌≡◌, ℕ, zero, suc, ◌+◌, ◌-◌, ◌<◌, ◌≤◌, Bool, true, false, cond, ◌||◌, nat_lt, All, subst, arith, List, [], ◌∷◌, ◌++◌, length, filter, replicate, refl, sym, ap, ◌∙◌, list_any, or-false, lt-ltb, le-ltb, both_ways, length-append, length-replicate, All-nil, All-cons, All-push, fold_push, BlobId, Entry, Body, Begin, Finish, Row, Now, Next, are_owners, node_of, count_below, committee_size, flag_of, BookState, Rows, IsRow, row_in, living, IsOfCommittee, IsKept, StandAt, log_of, IsMadeIn, IsMadeSince, Log, Phase, phase, phase_in, phase_after, names, writing, reading, is_moving, owners_at, owners_of, own_entries, readies, with_registered, History, history_of, history_after, IsWithin, Option, Some, None, IfSome, IfNone, slice_index_or, Holds, quorum_size, count_among, IsLeastQuorum, IsLawful, is_live, IsCertified, IsCertificate, IsDated, no_row}
-use Rattle.wal_ledger.specs.Kept.{HasBrought}
+use Rattle.wal_ledger.proofs.Common.{◌≡◌, ℕ, zero, suc, ◌+◌, ◌-◌, ◌<◌, ◌≤◌, Bool, true, false, cond, ◌||◌, nat_lt, All, subst, arith, List, [], ◌∷◌, ◌++◌, length, filter, replicate, refl, sym, ap, ◌∙◌, list_any, or-false, lt-ltb, le-ltb, both_ways, length-append, length-replicate, All-nil, All-cons, All-push, fold_push, BlobId, Entry, Body, Begin, Finish, Row, Now, Next, are_owners, node_of, count_below, committee_size, flag_of, BookState, Rows, IsRow, row_in, living, IsOfCommittee, IsKept, StandAt, log_of, IsMadeIn, IsMadeSince, Log, Phase, phase, phase_in, phase_after, names, writing, reading, is_moving, owners_at, owners_of, own_entries, readies, with_registered, History, history_of, history_after, IsWithin, Option, Some, None, IfSome, IfNone, slice_index_or, Holds, quorum_size, count_among, IsLeastQuorum, IsLawful, is_live, IsCertified, IsCertificate, IsDated, no_row, HasBrought}
 use Rattle.wal_ledger.proofs.Entering.{phase_push, phase_whole, history_of-push, since_push, flag_cleared, own_all}
 use Rattle.wal_ledger.proofs.Quorums.{count_below-none, moves_in, writes_in, owners_in, brought_before, brought_last}
 use Rattle.wal_ledger.proofs.Living.{living_retired}

@@ -1,5 +1,5 @@
 -- Places of identifiers, and the rows beside them.
-use Rattle.wal_ledger.proofs.Common.{◌≡◌, ℕ, zero, suc, ◌<◌, ◌≤◌, Bool, true, false, cond, List, ◌∷◌, length, get_or, insert, slice_set, All, HoldsAt, inl, inr, refl, sym, ap, ◌∙◌, arith, Ordering, Less, Equal, Greater, is_eq, ordering_reverse, texts_ties, cases_lt, get_or_default, Less-from_sorted, BlobId, Row, id_eq, id_cmp, Ascends, IsPlace, IsInsertionPoint, row_beside, no_row}
+use Rattle.wal_ledger.proofs.Common.{◌≡◌, ℕ, zero, suc, ◌<◌, ◌≤◌, Bool, true, false, cond, List, ◌∷◌, length, get_or, insert, slice_set, All, HoldsAt, inl, inr, refl, sym, ap, ◌∙◌, arith, Ordering, Less, Equal, Greater, is_eq, texts_ties, cases_lt, get_or_default, Less-from_sorted, BlobId, Row, id_eq, id_cmp, Ascends, IsPlace, IsInsertionPoint, row_beside, no_row, tied_itself}
 use Rattle.std.specs.FinMap.{IsAntisymmetric, nat_cmp-IsAntisymmetric, slice_cmp-IsAntisymmetric}
 use Rattle.wal_ledger.proofs.Order.{ids_total, insert_key_found, insert_key_gap}
 
@@ -12,17 +12,11 @@ pub id_tied : (a b : BlobId) (r : Ordering) → id_cmp a b ≡ r → id_eq a b �
 id_tied a b r h = texts_ties a.0 b.0 ∙ ap is_eq h
 
 pub id_itself : (a : BlobId) → id_eq a a ≡ true
-id_itself a = id_tied a a Equal (by (id_cmp a a) (ids_total.antisymm a a))
-  where
-    by : (r : Ordering) → r ≡ ordering_reverse r → r ≡ Equal
-    by r h = grind arith
+id_itself a = id_tied a a Equal (tied_itself ids_total a)
 
 -- identifiers with the same bytes are one
 pub id_same : (a b : BlobId) → id_eq a b ≡ true → a ≡ b
-id_same a b h = exact_ids a b (by (id_cmp a b) refl)
-  where
-    by : (r : Ordering) → id_cmp a b ≡ r → r ≡ Equal
-    by r e = grind (arith, id_tied a b r e)
+id_same a b h = exact_ids a b (grind (arith, id_tied a b (id_cmp a b) refl))
 
 -- the place at which an identifier stands, and one between the smaller and the greater ones
 pub place_found : (ids : List BlobId) (id : BlobId) (place : ℕ) → Ascends ids → place < length ids → HoldsAt (λ i. id_cmp i id ≡ Equal) ids place → IsPlace ids id place
@@ -76,10 +70,7 @@ apart i id q differ left right =
 -- another row at that place
 pub beside_set : (ids : List BlobId) (rows : List Row) (id : BlobId) (place : ℕ) (row : Row) (q : BlobId) → length rows ≡ length ids → place < length ids → HoldsAt (λ i. i ≡ id) ids place → ((j : ℕ) → j < place → HoldsAt (λ i. id_eq i id ≡ false) ids j)
     → row_beside ids (slice_set rows place row) q ≡ cond (id_eq id q) row (row_beside ids rows q)
-beside_set (i ∷ ids) (r ∷ rows) id zero row q same lt here before = rw (here i) (over (id_eq id q))
-  where
-    over : (b : Bool) → cond b row (row_beside ids rows q) ≡ cond b row (cond b r (row_beside ids rows q))
-    over b = grind arith
+beside_set (i ∷ ids) (r ∷ rows) id zero row q same lt here before = rw (here i) (grind arith)
 beside_set (i ∷ ids) (r ∷ rows) id (suc p) row q same lt here before =
     ap (λ x. cond (id_eq i q) r x) (beside_set ids rows id p row q (omega arith) (omega arith) here (λ j below. before (suc j) (omega arith)))
     ∙ swapped (id_eq i q) (id_eq id q) r row (row_beside ids rows q) (apart i id q (before 0 (omega arith) i))

@@ -1,5 +1,5 @@
 -- Identifiers and rows by their numbers, in the order of the identifiers.
-use Rattle.wal_ledger.proofs.Common.{◌≡◌, ℕ, ◌+◌, ◌<◌, ◌≤◌, Bool, cond, List, [], ◌∷◌, ◌++◌, length, map, filter, insert, slice_set, get_or, All, Contains, inl, inr, refl, sym, ap, ◌∙◌, subst, arith, insert_key, cases_lt, length-map, length-append, get_or-map, get_or_default, get_or_push, get_or_append_left, length-insert, All-nil, All-filter, IsStrictlySortedBy-filter, BlobId, Row, id_cmp, id_eq, Ascends, Rows, IsPlace, IsInsertionPoint, IsOrder, IsTable, id_of, ids_of, row_of, row_beside, ◌≢◌, zero, suc, true, take, drop, Result, Ok, Err, IfOk, IfErr, Ordering, Less, Equal, is_eq, is_lt, ordering_reverse, eq_by_cmp, IsSearchInRange, IsBinarySearchResult, both_ways, map-append, take-map, drop-map, get_or-set_same, get_or-set_other, get_or-insert_below, get_or-insert_at, get_or-insert_above, All-head, All-tail, All-cons, Less-from_sorted, IsDistinct-from_sorted, list_any-from_Contains, Contains-from_any, no_row}
+use Rattle.wal_ledger.proofs.Common.{◌≡◌, ℕ, ◌+◌, ◌<◌, ◌≤◌, Bool, cond, List, [], ◌∷◌, ◌++◌, length, map, filter, insert, slice_set, get_or, All, Contains, inl, inr, refl, sym, ap, ◌∙◌, subst, arith, insert_key, cases_lt, length-map, length-append, get_or-map, get_or_default, get_or_push, get_or_append_left, length-insert, All-nil, All-filter, IsStrictlySortedBy-filter, BlobId, Row, id_cmp, id_eq, Ascends, Rows, IsPlace, IsInsertionPoint, IsOrder, IsTable, id_of, ids_of, row_of, row_beside, ◌≢◌, zero, suc, true, take, drop, Result, Ok, Err, IfOk, IfErr, Less, is_lt, ordering_reverse, eq_by_cmp, IsSearchInRange, IsBinarySearchResult, both_ways, map-append, take-map, drop-map, get_or-set_same, get_or-set_other, get_or-insert_below, get_or-insert_at, get_or-insert_above, All-head, All-tail, All-cons, Less-from_sorted, IsDistinct-from_sorted, list_any-from_Contains, Contains-from_any, no_row}
 use Rattle.wal_ledger.proofs.Order.{ascends_nil, id_inserted_ascends, ids_total}
 use Rattle.wal_ledger.proofs.RowsPlace.{beside_at, beside_place, beside_set, beside_insert, id_itself, exact_ids, place_found, place_missed, id_tied}
 use Rattle.std.proofs.lemmas.Cmp.{eq_by_cmp_equiv}
@@ -73,11 +73,8 @@ set_row rows number row (n ∷ ns) (suc place) within lt is other =
 -- those that pass, by their numbers
 pub filter_mapped : {Y : Type 0} (f : ℕ → Y) (p : ℕ → Bool) (q : Y → Bool) (ns : List ℕ) → All (λ n. p n ≡ q (f n)) ns → map f (filter p ns) ≡ filter q (map f ns)
 filter_mapped f p q [] all = refl
-filter_mapped {Y} f p q (n ∷ ns) all =
-    rw (← All-head (λ n. p n ≡ q (f n)) n ns all, ← filter_mapped f p q ns (All-tail (λ n. p n ≡ q (f n)) n ns all)) (by (p n))
-  where
-    by : (b : Bool) → map f (cond b (n ∷ filter p ns) (filter p ns)) ≡ cond b (f n ∷ map f (filter p ns)) (map f (filter p ns))
-    by b = grind arith
+filter_mapped f p q (n ∷ ns) all =
+    rw (← All-head (λ n. p n ≡ q (f n)) n ns all, ← filter_mapped f p q ns (All-tail (λ n. p n ≡ q (f n)) n ns all)) (grind arith)
 
 -- what was put in stays when one more is
 pub in_inserted : (ns : List ℕ) (place n m : ℕ) → place ≤ length ns → Contains ns m → Contains (insert ns place n) m
@@ -96,10 +93,7 @@ All-insert P (m ∷ ns) (suc place) n all p = All-cons P m (insert ns place n) (
 
 -- an order has at most as many numbers as there are identifiers
 exact : (x y : BlobId) → eq_by_cmp id_cmp x y ≡ true → x ≡ y
-exact x y h = exact_ids x y (by (id_cmp x y) h)
-  where
-    by : (r : Ordering) → is_eq r ≡ true → r ≡ Equal
-    by r h = grind arith
+exact x y h = exact_ids x y (grind arith)
 
 in_all : (ids : List BlobId) (ns : List ℕ) (q : BlobId) → All (λ n. n < length ids) ns → Contains (ids_of ids ns) q → Contains ids q
 in_all ids ns q below (k, lt, at) =
@@ -185,10 +179,8 @@ live_changed was new change live is same = ap {B = Rows} (λ (l : List BlobId). 
 
 -- the row of a number is that of its identifier
 pub row_numbered : (ids : List BlobId) (rows : List Row) (order live : List ℕ) (n : ℕ) → IsTable ids rows order live → n < length ids → row_beside (ids_of ids order) (map (row_of rows) order) (id_of ids n) ≡ row_of rows n
-row_numbered ids rows order live n t lt = by (t.each n lt)
-  where
-    by : Contains order n → row_beside (ids_of ids order) (map (row_of rows) order) (id_of ids n) ≡ row_of rows n
-    by (place, within, at) = cc (
+row_numbered ids rows order live n t lt =
+    let (place, within, at) = t.each n lt in cc (
       at,
       get_or-map (id_of ids) order place n (id_of ids n) within,
       get_or-map (row_of rows) order place n (row_of rows n) within,
@@ -210,13 +202,11 @@ retires ids rows rs order live new test t rs_are new_are =
     rw (new_are, rs_are) (live_table ids rows order live (filter passes live) t alive, same)
 
 -- an empty table
-table_nil : IsTable [] [] [] []
-table_nil =
+pub table_new : (ids : List BlobId) (rows : List Row) (order live : List ℕ) → ids ≡ [] → rows ≡ [] → order ≡ [] → live ≡ [] → IsTable ids rows order live
+table_new [] [] [] [] no_ids no_rows no_order no_live =
     let none : IsOrder [] [] = record { below = All-nil (λ n. n < 0); ascends = ascends_nil } in
     record { beside = refl; whole = refl; few = omega arith; each = λ n lt. absurd (omega arith); ordered = none; alive = none }
-
-pub table_new : (ids : List BlobId) (rows : List Row) (order live : List ℕ) → ids ≡ [] → rows ≡ [] → order ≡ [] → live ≡ [] → IsTable ids rows order live
-table_new ids rows order live no_ids no_rows no_order no_live = rw (no_ids, no_rows, no_order, no_live) table_nil
+table_new ids rows order live no_ids no_rows no_order no_live = absurd cc
 
 -- a place is one of the order, and its number one of a row
 placed : (ids : List BlobId) (rows : List Row) (order live : List ℕ) (id : BlobId) (place number : ℕ) → IsTable ids rows order live → IsPlace (ids_of ids order) id place → number ≡ get_or order place number

@@ -1,23 +1,19 @@
 -- What a tally tells, and how one more entry changes it.
-use Rattle.wal_ledger.proofs.Common.{◌≡◌, ◌≢◌, ℕ, zero, suc, ◌+◌, ◌-◌, ◌<◌, ◌≤◌, List, [], ◌∷◌, ◌++◌, Bool, true, false, cond, ◌&&◌, ◌||◌, nat_eq, nat_le, length, get_or, All, Option, Some, None, slice_get, inl, inr, refl, sym, ap, ◌∙◌, subst, arith, nat_tests, or-false, cases_lt, cases_eq, eq-eqb, eqb-true, eqb-false, ne_eqb, leb-true, leb-false, cond_both, and_right, common_steps, BlobId, has_neighbour, Entry, Body, Register, Ack, Attest, Kind, Holds, Denies, Tally, count_below, committee_size, quorum_size, signs_for, same_node, is_signer_among, claim_of, count_among, IsWithin, signs, IsLinked, Chain, HasLeast, IsTally, IsFirstClaim, no_tally, link_in, quorum_after, node_size, tally_after, tally_of, no_row, node_of}
+use Rattle.wal_ledger.proofs.Common.{◌≡◌, ◌≢◌, ℕ, zero, suc, ◌+◌, ◌-◌, ◌<◌, ◌≤◌, List, [], ◌∷◌, ◌++◌, Bool, true, false, cond, ◌&&◌, ◌||◌, nat_eq, nat_le, length, get_or, All, Option, Some, None, slice_get, inl, inr, refl, sym, ap, ◌∙◌, subst, arith, nat_tests, or-false, cases_lt, cases_eq, eq-eqb, eqb-true, eqb-false, ne_eqb, leb-true, leb-false, cond_both, and_right, common_steps, BlobId, has_neighbour, Entry, Body, Register, Kind, Holds, Denies, Tally, count_below, committee_size, quorum_size, signs_for, same_node, is_signer_among, claim_of, count_among, IsWithin, signs, IsLinked, Chain, HasLeast, IsTally, IsFirstClaim, no_tally, link_in, quorum_after, node_size, tally_after, tally_of, no_row, node_of}
 use Rattle.std.proofs.lemmas.Option.{slice_get_within, get_or_from_slice_get, gets}
 use Rattle.wal_ledger.specs.declared.tally.Quorum.{Quorum}
 use Rattle.wal_ledger.proofs.Quorums.{count_below-none, count_below-has, count_below-joined, count_among-beyond, signers_outside, signers-node, node_apart}
 
 -- an entry of one shard signs for all shards of its node
 pub signs_one : (owners : List ℕ) (kind : Kind) (t s : ℕ) (b : Body) → signs kind t b ≡ true → signs_for owners kind s b ≡ same_node owners t s
-signs_one owners Holds t s (Ack u id) h = let same : u ≡ t = grind (arith, nat_tests) in ap (λ v. same_node owners v s) same
-signs_one owners Denies t s (Attest u id) h = let same : u ≡ t = grind (arith, nat_tests) in ap (λ v. same_node owners v s) same
-signs_one owners _ t s _ h = cc
+signs_one owners kind t s b h = grind (arith, nat_tests)
 
 -- what a shard enters is signed by it; a registration is signed by nobody
 pub signs_claim : (kind : Kind) (s : ℕ) (id : BlobId) → signs kind s (claim_of kind s id) ≡ true
-signs_claim Holds s id = grind (arith, nat_tests)
-signs_claim Denies s id = grind (arith, nat_tests)
+signs_claim kind s id = grind (arith, nat_tests)
 
 pub signs_register : (owners : List ℕ) (kind : Kind) (s : ℕ) (id : BlobId) (until : ℕ) → signs_for owners kind s (Register id until) ≡ false
-signs_register owners Holds s id until = refl
-signs_register owners Denies s id until = refl
+signs_register owners kind s id until = grind arith
 
 -- sets that agree have as many members
 pub count_below-same : (n : ℕ) (p q : ℕ → Bool) → ((s : ℕ) → s < n → q s ≡ p s) → count_below n q ≡ count_below n p
@@ -107,12 +103,7 @@ signers_beyond owners own kind first last e s within far =
     signers_outside owners own kind e s (λ k d lt same. omega (arith, (within k d lt).high))
 
 least_like : (f : ℕ) (owners owns : ℕ → List ℕ) (own new : List Entry) (kind : Kind) (q : Option Quorum) → ((e : ℕ) → count_among f owns new kind e ≡ count_among f owners own kind e) → HasLeast f owners own kind q → HasLeast f owns new kind q
-least_like f owners owns own new kind None same h = λ e. omega (arith, same e, h e)
-least_like f owners owns own new kind (Some q) same h = record {
-  counted = h.counted ∙ sym (same q.epoch);
-  quorum = h.quorum;
-  least = λ e lt. omega (arith, same e, h.least e lt);
-}
+least_like f owners owns own new kind q same h = grind (arith, same, h)
 
 -- a tally stays right for other own entries, or other owners, with the same signers, where its links lead on
 pub tally_like : (f : ℕ) (owners owns : ℕ → List ℕ) (own new : List Entry) (kind : Kind) (entries es : List Entry) (links ls : List ℕ) (t : Tally)
@@ -172,13 +163,11 @@ tally_epoch f first last owners own kind entries links t i within = grind (arith
 pub tally_owned : (f first last : ℕ) (owners owns : ℕ → List ℕ) (own : List Entry) (kind : Kind) (entries : List Entry) (links : List ℕ) (t : Tally) → All (IsWithin first last) own → ((e : ℕ) → e ≤ last → owns e ≡ owners e)
     → IsTally f owners own kind entries links t → IsTally f owns own kind entries links t
 tally_owned f first last owners owns own kind entries links t within same i =
-    tally_like f owners owns own own kind entries entries links links t (same t.epoch (tally_epoch f first last owners own kind entries links t i within)) signers_same (λ shards c. c) i
-  where
-    signers_same : (e s : ℕ) → is_signer_among (owns e) own kind e s ≡ is_signer_among (owners e) own kind e s
-    signers_same e s = elim (cases_lt last e) [
+    tally_like f owners owns own own kind entries entries links links t (same t.epoch (tally_epoch f first last owners own kind entries links t i within))
+    (λ e s. elim (cases_lt last e) [
       | inl far ↦ signers_beyond (owns e) own kind first last e s within far ∙ sym (signers_beyond (owners e) own kind first last e s within far)
       | inr le ↦ ap (λ (o : List ℕ). is_signer_among o own kind e s) (same e le)
-    ]
+    ]) (λ shards c. c) i
 
 -- at most all shards signed in one epoch
 pub count_below-most : (n : ℕ) (p : ℕ → Bool) → count_below n p ≤ n
@@ -218,6 +207,7 @@ least_grown f first epoch count owners own new kind None within same grown is h 
     })
     (λ few e. grind (arith, is, leb-false (quorum_size f) count few, same e, h e))
 least_grown f first epoch count owners own new kind (Some q) within same grown is h =
+    let le : q.epoch ≤ epoch = grind (arith, h.counted, h.quorum, count_among-beyond f owners own kind first epoch q.epoch within) in
     cond_both (nat_eq q.epoch epoch) (record { epoch = epoch; count = count }) q (λ r. HasLeast f owners new kind (Some r))
     (λ e. record {
       counted = is;
@@ -229,9 +219,6 @@ least_grown f first epoch count owners own new kind (Some q) within same grown i
       quorum = h.quorum;
       least = λ k lt. omega (arith, same k (λ here. omega (arith, le)), h.least k lt);
     })
-  where
-    le : q.epoch ≤ epoch
-    le = grind (arith, h.counted, h.quorum, count_among-beyond f owners own kind first epoch q.epoch within)
 
 -- the tally after one more entry by which a shard signs, for the first time for its node in its epoch, which is the last so far
 pub tally_signed : (f first place size shard : ℕ) (owners : ℕ → List ℕ) (own : List Entry) (kind : Kind) (entries : List Entry) (links : List ℕ) (t : Tally) (x : Entry)
@@ -243,8 +230,8 @@ tally_signed f first place size shard owners own kind entries links t x i claim 
     record {
       shards = shard ∷ old.0;
       chain = chain_more entries links kind (link_in x.epoch t) place shard old.0 x old.1.0 entries_len links_len claim.signed;
-      members = λ s. turned (same_node (owners x.epoch) shard s) (has_neighbour (owners x.epoch) old.0 s) (is_signer_among (owners x.epoch) own kind x.epoch s)
-          (old.1.1 s ∙ sym (tally_signers f first x.epoch s owners own kind entries links t i claim.latest)) ∙ sym (here s);
+      members = λ s.
+          grind (arith, nat_tests, old.1.1 s, tally_signers f first x.epoch s owners own kind entries links t i claim.latest, here s);
       counted = counted;
       idle = λ h. absurd (omega (arith, sized, count_below-has (committee_size f) shard (same_node (owners x.epoch) shard) claim.below (eq-eqb (node_of (owners x.epoch) shard) _ refl)));
       later = λ e s past. apart e s (λ h. omega arith) ∙ signers_beyond (owners e) own kind first x.epoch e s claim.latest past;
@@ -265,9 +252,6 @@ tally_signed f first place size shard owners own kind entries links t x i claim 
     counts_here : count_among f owners new kind x.epoch ≡ count_among f owners own kind x.epoch + size
     counts_here = rw sized (count_below-joined (committee_size f) (is_signer_among (owners x.epoch) own kind x.epoch) (same_node (owners x.epoch) shard) (is_signer_among (owners x.epoch) new kind x.epoch) here
         (node_apart (owners x.epoch) (is_signer_among (owners x.epoch) own kind x.epoch) shard (λ s u h. signers-node (owners x.epoch) own kind x.epoch s u h) claim.first_time))
-
-    turned : (a b c : Bool) → b ≡ c → (a || b) ≡ (c || a)
-    turned a b c h = grind (arith, nat_tests)
 
     -- the shards that signed in this epoch so far, down the links
     below : (b : Bool) → (shards : List ℕ) × (Chain entries links kind (cond b t.last 0) shards × ((s : ℕ) → has_neighbour (owners x.epoch) shards s ≡ (b && has_neighbour (owners x.epoch) i.shards s)))

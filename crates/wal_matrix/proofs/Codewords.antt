@@ -1,5 +1,5 @@
 -- Runs of bytes, and consecutive indices.
-use Rattle.wal_matrix.proofs.Common.{◌≡◌, ℕ, ◌+◌, ◌*◌, ◌<◌, List, ◌++◌, length, take, drop, get_or, sym, ◌∙◌, ap, arith, subst, ⊎_elim, range_with_len, get_or-take, get_or-drop, get_or_past, drop_at, drop-drop, get_or-range_with_len, length-range_with_len, cases_lt, IsWord, Distinct, word_at, region}
+use Rattle.wal_matrix.proofs.Common.{◌≡◌, ℕ, ◌+◌, ◌*◌, ◌<◌, List, ◌++◌, length, take, drop, get_or, sym, ◌∙◌, arith, subst, ⊎_elim, range_with_len, get_or-take, get_or-drop, get_or_past, drop_at, drop-drop, get_or-range_with_len, length-range_with_len, cases_lt, IsWord, Distinct, word_at, region}
 use Rattle.std.proofs.lemmas.List.{length-take}
 
 -- every entry of a list is a byte
@@ -24,9 +24,7 @@ word_of_bytes xs w bytes = let a = bytes (2 * w) in let b = bytes (2 * w + 1) in
 pub region_after : (s i known : ℕ) (front back : List ℕ) → length front ≡ known * s → region s (front ++ back) (known + i) ≡ region s back i
 region_after s i known front back long =
     let place : s * (known + i) ≡ known * s + s * i = omega arith in
-    ap (λ (k : ℕ). take s (drop k (front ++ back))) place
-    ∙ ap (λ (p : List ℕ). take s p) (sym (drop-drop (s * i) (known * s) (front ++ back)))
-    ∙ ap (λ (p : List ℕ). take s (drop (s * i) p)) (drop_at front back (known * s) long)
+    cc (place, drop-drop (s * i) (known * s) (front ++ back), drop_at front back (known * s) long)
 
 -- consecutive indices are distinct
 pub range_distinct : (a n : ℕ) → Distinct (range_with_len a n)

@@ -1,5 +1,5 @@
 -- The sums of the known slivers are the rows of the matrix through them.
-use Rattle.wal_matrix.proofs.Common.{◌≡◌, ℕ, ◌+◌, ◌*◌, ◌/◌, ◌<◌, List, length, slice_index, sym, ap, subst, ◌∙◌, arith, times, xor_below, coefficient, combination, xor_below-same, word_at, region, row_count, column_count, symbol_size, symbol_size-least, primary_of, padded, IsExtended, IsWeightedSum, IsMatrixThrough, source_of}
+use Rattle.wal_matrix.proofs.Common.{◌≡◌, ℕ, ◌+◌, ◌*◌, ◌/◌, ◌<◌, List, length, slice_index, sym, ap, ◌∙◌, arith, times, xor_below, coefficient, combination, xor_below-same, word_at, region, row_count, column_count, symbol_size, symbol_size-least, primary_of, padded, IsExtended, IsWeightedSum, IsMatrixThrough, source_of}
 use Rattle.wal_matrix.proofs.Codewords.{AreBytes, bytes_of_part}
 use Rattle.wal_matrix.proofs.Interpolated.{given}
 use Rattle.wal_matrix.proofs.MatrixLaws.{bytes_within}
@@ -16,18 +16,6 @@ pub record AreSums (f s : ℕ) (indices joined block : List ℕ) : Type 0 where
   pub bytes : AreBytes block
   pub sums : (r : ℕ) → r < row_count f
       → IsWeightedSum (λ k. coefficient indices (slice_index indices k) r) (column_count f * s) joined (row_count f) (region (column_count f * s) block r)
-
--- such a block by its numbers of rows and of the bytes of a row
-pub sums_by_sizes : (f s rows size : ℕ) (indices joined block : List ℕ) → rows ≡ row_count f → size ≡ column_count f * s
-    → length block ≡ rows * size → AreBytes block
-    → ((r : ℕ) → r < rows → IsWeightedSum (λ k. coefficient indices (slice_index indices k) r) size joined rows (region size block r))
-    → AreSums f s indices joined block
-sums_by_sizes f s rows size indices joined block is_rows is_size =
-    let P : ℕ → ℕ → Type 0 = λ a b. length block ≡ a * b → AreBytes block
-    → ((r : ℕ) → r < a → IsWeightedSum (λ k. coefficient indices (slice_index indices k) r) b joined a (region b block r))
-    → AreSums f s indices joined block in
-    subst (λ (a : ℕ). P a size) (sym is_rows) (subst (λ (b : ℕ). P (row_count f) b) (sym is_size)
-    (λ long bytes sums. record { long = long; bytes = bytes; sums = sums }))
 
 module _ (f s : ℕ) (indices joined block : List ℕ) (are : AreSlivers f s indices joined)
     (sum : AreSums f s indices joined block) where
@@ -58,13 +46,6 @@ module _ (f s : ℕ) (indices joined block : List ℕ) (are : AreSlivers f s ind
       (omega arith) (joined_long (row_count f) run r block sum.long hr) (bytes_of_part run (run * r) block sum.bytes)
       (λ c w hc hw. through-words f s indices joined are e is r c w (omega arith) hc hw
       ∙ sym (sum-word r c w hr hc hw))))
-
--- and so there is a matrix through the slivers that has this source block
-pub sums_decoded : (f s : ℕ) (indices joined block : List ℕ) → AreSlivers f s indices joined → AreSums f s indices joined block
-    → (e : List ℕ) × IsMatrixThrough f s indices joined e × (block ≡ source_of f s e)
-sums_decoded f s indices joined block are sums =
-    let found = through_some f s indices joined are in
-    (found.0, found.1, sums_source f s indices joined block are sums found.0 found.1)
 
 -- the extended matrix of a blob is the matrix through its own primary slivers
 pub extended_is_through : (f : ℕ) (bytes indices joined e : List ℕ) → IsExtended f bytes e

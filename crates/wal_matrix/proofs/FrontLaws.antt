@@ -5,7 +5,7 @@ use Rattle.wal_matrix.specs.Front.{AreColumns}
 use Rattle.wal_matrix.proofs.Codewords.{AreBytes, bytes_of_part, region_after}
 use Rattle.wal_matrix.proofs.MatrixLaws.{bytes_within, same_runs}
 use Rattle.wal_matrix.proofs.Places.{place_fits, run_fits}
-use Rattle.wal_matrix.proofs.RowLaws.{block_symbol, row_source}
+use Rattle.wal_matrix.proofs.RowLaws.{row_source}
 use Rattle.wal_matrix.proofs.Runs.{region_long, region-put_other, region-put_same}
 use Rattle.wal_matrix.proofs.Symbols.{symbol_is, symbol_long}
 use Rattle.wal_matrix.proofs.TurnedLaws.{symbol_kept, column_codeword}
@@ -25,31 +25,17 @@ laid_bytes start from to h m bytes out copied zeros is_from is_to held is long n
     let tail_long = length-drop from bytes in
     let copied_long : length copied ≡ h = ap length is ∙ omega arith in
     let front : take h (copied ++ drop h out) ≡ copied = take_at copied (drop h out) h copied_long in
-    ap (λ (ys : List ℕ). get_or (ys ++ (zeros ++ rest)) i 0) front
-    ∙ ⊎_elim
+    ⊎_elim
     (λ early.
     let same : from + i ≡ start + i = omega arith in
-    get_or_append_left copied (zeros ++ rest) 0 i (omega arith)
-    ∙ ap (λ (ys : List ℕ). get_or ys i 0) is
-    ∙ get_or-take (to - from) (drop from bytes) i 0 (omega arith)
-    ∙ get_or-drop from bytes i 0
-    ∙ ap (λ (k : ℕ). get_or bytes k 0) same)
+    let here = get_or_append_left copied (zeros ++ rest) 0 i (omega arith) in
+    let taken = get_or-take (to - from) (drop from bytes) i 0 (omega arith) in
+    cc (front, here, is, taken, get_or-drop from bytes i 0, same))
     (λ late.
-    let past : length bytes ≤ start + i = omega arith in
-    get_or-append_right copied (zeros ++ rest) h i 0 copied_long late
-    ∙ get_or_append_left zeros rest 0 (i - h) (omega arith)
-    ∙ none (i - h) (omega arith)
-    ∙ sym (get_or_past bytes (start + i) 0 past))
+    let behind = get_or-append_right copied (zeros ++ rest) h i 0 copied_long late in
+    let zero_there = get_or_append_left zeros rest 0 (i - h) (omega arith) in
+    cc (front, behind, zero_there, none (i - h) (omega arith), get_or_past bytes (start + i) 0 (omega arith)))
     (cases_lt i h)
-
--- a symbol that has the bytes of the blob at its place
-pub put_source : (f s : ℕ) (bytes e part : List ℕ) (r c : ℕ) → s ≡ symbol_size f (length bytes) → IsExtended f bytes e → r < row_count f → c < column_count f
-    → length part ≡ s → ((i : ℕ) → i < s → get_or part i 0 ≡ get_or bytes ((r * column_count f + c) * s + i) 0)
-    → part ≡ symbol (shard_count f) s e r c
-put_source f s bytes e part r c size is hr hc long same =
-    block_symbol f s bytes part r c size hr hc long same
-    ∙ subst (λ (z : ℕ). symbol (column_count f) z (padded f bytes) r c ≡ symbol (shard_count f) z e r c) (sym size)
-    (sym (is.source r c hr hc))
 
 -- the place of a symbol of the source block
 pub source_place : (f s r c : ℕ) → r < row_count f → c < column_count f → (r * column_count f + c) * s + s ≤ shard_count f * shard_count f * s
@@ -151,12 +137,6 @@ columns_extended f s count old new few even long bytes_new kept codewords bytes 
     let below : i * count + k < rows * count = omega (arith, mul-add-lt i count k rows hi hk, mul_comm rows count) in
     symbol_kept rows count s new old i k hi hk kept ∙ put e is i k hk below)
     r hr
-
--- the redundant symbols of one more row have their bytes
-pub kept_long : (f s index : ℕ) (old row : List ℕ) → length old ≡ index * (f * s) → length row ≡ shard_count f * s
-    → length (old ++ drop (column_count f * s) row) ≡ (index + 1) * (f * s)
-kept_long f s index old row long long_row =
-    omega (arith, length-append old (drop (column_count f * s) row), length-drop (column_count f * s) row)
 
 -- bytes of a slice
 pub are_bytes : (xs : List ℕ) → ((i : ℕ) → Fits w8 (get_or xs i 0)) → AreBytes xs

@@ -1,5 +1,5 @@
 -- Places in a block of rows of symbols.
-use Rattle.wal_matrix.proofs.Common.{◌≡◌, ℕ, ◌+◌, ◌-◌, ◌*◌, ◌/◌, ◌%◌, ◌∙◌, ◌<◌, ◌≤◌, ap, arith, mul-add-lt, mul-le, row_fits, mul_comm, mul-mod_left, le-mul_of_pos_right}
+use Rattle.wal_matrix.proofs.Common.{◌≡◌, ℕ, ◌+◌, ◌*◌, ◌/◌, ◌%◌, ◌∙◌, ◌<◌, ◌≤◌, ap, arith, mul-add-lt, mul-le, row_fits, mul_comm, mul-mod_left, le-mul_of_pos_right}
 
 -- one run of s bytes more fits
 pub run_fits : (r rows s : ℕ) → r < rows → r * s + s ≤ rows * s
@@ -15,13 +15,6 @@ place_fits r rows c columns s hr hc =
 pub number_fits : (r rows c columns s : ℕ) → r < rows → c < columns → 0 < s → r * columns + c < rows * columns * s
 number_fits r rows c columns s hr hc hs =
     omega (arith, mul-add-lt r columns c rows hr hc, mul_comm rows columns, le-mul_of_pos_right (rows * columns) hs)
-
--- what the runs from `known` on fill
-pub rest_long : (known total s whole rest : ℕ) → known ≤ total → whole ≡ total * s → rest + known * s ≡ whole → rest ≡ (total - known) * s
-rest_long known total s whole rest h e f =
-    let split : (total - known) + known ≡ total = omega arith in
-    let both = ap (λ (k : ℕ). k * s) split in
-    omega arith
 
 -- one row is no longer than all
 pub product_fits : (columns rows s : ℕ) → 0 < columns → rows * s ≤ columns * rows * s

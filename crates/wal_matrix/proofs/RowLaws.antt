@@ -1,5 +1,6 @@
 -- Rows that are laid into a matrix and extended there.
-use Rattle.wal_matrix.proofs.Common.{◌≡◌, ℕ, ◌+◌, ◌-◌, ◌*◌, ◌%◌, ◌<◌, ◌≤◌, min, List, ◌++◌, length, take, drop, replicate, slice_index, get_or, zero, suc, refl, sym, ap, subst, ◌∙◌, arith, ⊎_elim, below_more, length-append, length-take, length-drop, cases_lt, append_assoc, ext_get_or, get_or_append_left, get_or-append_right, get_or-append-add, get_or_past, get_or-take, get_or-drop, length-replicate, take_all, take_at, take-take, IsCodeword, IsCodeword-same, every_row_first, word_at, region, region-byte, shard_count, row_count, column_count, symbol_size, symbol, padded, IsMatrixOf, laid_row, IsRowFrom}
+use Rattle.wal_matrix.proofs.Common.{◌≡◌, ℕ, ◌+◌, ◌-◌, ◌*◌, ◌%◌, ◌<◌, ◌≤◌, min, List, ◌++◌, length, take, drop, replicate, get_or, refl, sym, ap, subst, ◌∙◌, arith, ⊎_elim, below_more, length-append, length-take, length-drop, cases_lt, append_assoc, ext_get_or, get_or_append_left, get_or-append_right, get_or-append-add, get_or_past, get_or-take, get_or-drop, length-replicate, take_all, take_at, take-take, IsCodeword, IsCodeword-same, every_row_first, word_at, region, region-byte, shard_count, row_count, column_count, symbol_size, symbol, padded, IsMatrixOf, laid_row, IsRowFrom}
+use Rattle.wal_kernel.proofs.Words.{zero_byte}
 use Rattle.wal_matrix.proofs.Codewords.{AreBytes}
 use Rattle.wal_matrix.proofs.Places.{run_fits, part_fits}
 use Rattle.wal_matrix.proofs.Runs.{region_long, run_of_front}
@@ -7,21 +8,13 @@ use Rattle.wal_matrix.proofs.Symbols.{symbol_is, symbol_long, joined-symbol}
 use Rattle.wal_matrix.proofs.PaddedLaws.{padded_long}
 use Rattle.wal_matrix.proofs.TurnedLaws.{column_codeword}
 
-zero_of_zeros : (n k : ℕ) → slice_index (replicate n 0) k ≡ 0
-zero_of_zeros zero k = refl
-zero_of_zeros (suc n) zero = refl
-zero_of_zeros (suc n) (suc k) = zero_of_zeros n k
-
 -- zeros after a list are what is read past its end
 pub zeros_after : (xs : List ℕ) (m k : ℕ) → get_or (xs ++ replicate m 0) k 0 ≡ get_or xs k 0
 zeros_after xs m k =
-    ⊎_elim
-    (λ inside. get_or_append_left xs (replicate m 0) 0 k inside)
+    ⊎_elim (get_or_append_left xs (replicate m 0) 0 k)
     (λ past.
-    get_or-append_right xs (replicate m 0) (length xs) k 0 refl past
-    ∙ zero_of_zeros m (k - length xs)
-    ∙ sym (get_or_past xs k 0 past))
-    (cases_lt k (length xs))
+    let zero_there = get_or-append_right xs (replicate m 0) (length xs) k 0 refl past in
+    cc (zero_there, zero_byte m (k - length xs), get_or_past xs k 0 past)) (cases_lt k (length xs))
 
 -- a byte of the part of a laid row that the blob gives
 laid_byte : (start width run : ℕ) (bytes : List ℕ) (k : ℕ) → k < width → get_or (laid_row start width run bytes) k 0 ≡ get_or bytes (start + k) 0
@@ -41,12 +34,10 @@ cut_part start width from to bytes is_from is_to =
     let after_long = length-drop start bytes in
     ext_get_or 0 cut (take width (drop start bytes)) (omega arith)
     (λ i h.
-    let near : i < to - from = omega arith in
-    let below : i < width = omega arith in
     let same : from + i ≡ start + i = omega arith in
-    get_or-take (to - from) (drop from bytes) i 0 near ∙ get_or-drop from bytes i 0
-    ∙ ap (λ (k : ℕ). get_or bytes k 0) same
-    ∙ sym (get_or-take width (drop start bytes) i 0 below ∙ get_or-drop start bytes i 0))
+    let cut_byte = get_or-take (to - from) (drop from bytes) i 0 (omega arith) in
+    let wide_byte = get_or-take width (drop start bytes) i 0 (omega arith) in
+    cc (cut_byte, get_or-drop from bytes i 0, same, wide_byte, get_or-drop start bytes i 0))
 
 -- a part of the blob is appended, and zeros to the end of the row
 pub laid_after : (start width run from to place count : ℕ) (bytes old held after : List ℕ)
@@ -57,14 +48,12 @@ pub laid_after : (start width run from to place count : ℕ) (bytes old held aft
 unfolding laid_row
 laid_after start width run from to place count bytes old held after is_from is_to room appended at whole filled =
     let part = take width (drop start bytes) in
-    let own : held ≡ old ++ part = appended ∙ ap (λ (p : List ℕ). old ++ p) (cut_part start width from to bytes is_from is_to) in
+    let own : held ≡ old ++ part = cc (appended, cut_part start width from to bytes is_from is_to) in
     let long : length held ≡ length old + length part = ap length own ∙ length-append old part in
     let few = length-take width (drop start bytes) in
     let rest : place + run - count ≡ run - length part = omega arith in
-    filled
-    ∙ ap (λ (p : List ℕ). p ++ replicate (place + run - count) 0) (take_all (place + run) held (omega arith) ∙ own)
-    ∙ ap (λ (k : ℕ). (old ++ part) ++ replicate k 0) rest
-    ∙ append_assoc old part (replicate (run - length part) 0)
+    let all = take_all (place + run) held (omega arith) in
+    cc (filled, all, own, rest, append_assoc old part (replicate (run - length part) 0))
 
 -- it has all bytes of the row
 pub laid_long : (start known total size place : ℕ) (bytes old laid : List ℕ) → known ≤ total → place ≡ length old
@@ -108,18 +97,14 @@ pub rows_more : (known total size row n : ℕ) (bytes old new : List ℕ) → n 
     → (r : ℕ) → r < row + 1 → IsRowFrom known total size bytes (r * (known * size)) (region (total * size) new r)
 rows_more known total size row n bytes old new at kept long before own =
     let run = total * size in
-    let P : ℕ → List ℕ → Type 0 = λ r ys. IsRowFrom known total size bytes (r * (known * size)) ys in
     let start : n ≡ run * row = omega arith in
     let rest = length-drop n new in
-    let last : drop n new ≡ region run new row =
-    sym (take_all run (drop n new) (omega arith)) ∙ ap (λ (k : ℕ). take run (drop k new)) start in
+    let last : drop n new ≡ region run new row = cc (take_all run (drop n new) (omega arith), start) in
     below_more _ _
     (λ r h.
-    let same : region run old r ≡ region run new r =
-    ap (λ (ys : List ℕ). region run ys r) (sym kept)
-    ∙ run_of_front run (run * r) n new (omega (arith, run_fits r row run h)) in
-    subst (P r) same (before r h))
-    (subst (P row) last own)
+    let front = run_of_front run (run * r) n new (omega (arith, run_fits r row run h)) in
+    let same : region run old r ≡ region run new r = cc (kept, front) in
+    rw same at (before r h)) (rw last at own)
 
 -- a byte of a symbol of the source block is one of the blob
 pub block_byte : (f s : ℕ) (bytes : List ℕ) (r c i : ℕ) → i < s
@@ -129,9 +114,8 @@ block_byte f s bytes r c i inside =
     let k = column_count f in
     let block = padded f bytes in
     let number : s * (r * k + c) + i ≡ (r * k + c) * s + i = omega arith in
-    ap (λ (ys : List ℕ). get_or ys i 0) (symbol_is k s block r c) ∙ region-byte s block (r * k + c) i inside
-    ∙ zeros_after bytes (row_count f * k * symbol_size f (length bytes) - length bytes) (s * (r * k + c) + i)
-    ∙ ap (λ (j : ℕ). get_or bytes j 0) number
+    let zeros = zeros_after bytes (row_count f * k * symbol_size f (length bytes) - length bytes) (s * (r * k + c) + i) in
+    cc (symbol_is k s block r c, region-byte s block (r * k + c) i inside, zeros, number)
 
 -- what has the bytes of the blob at its place is a symbol of the source block
 pub block_symbol : (f s : ℕ) (bytes part : List ℕ) (r c : ℕ) → s ≡ symbol_size f (length bytes) → r < row_count f
@@ -175,16 +159,13 @@ extended_in_place f s count bytes cells filled e few even size long bytes_e at l
     let end = row_count f * run in
     let zeros : List ℕ = replicate (n * run - count) 0 in
     let fits : length cells ≤ n * run = omega (arith, part_fits (row_count f) n run (omega arith)) in
-    let front : take end e ≡ cells =
-    kept
-    ∙ ap (λ (ys : List ℕ). take end ys) (is ∙ ap (λ (ys : List ℕ). ys ++ zeros) (take_all (n * run) cells fits))
-    ∙ take_at cells zeros end (omega arith) in
+    let whole = take_all (n * run) cells fits in
+    let front : take end e ≡ cells = cc (kept, is, whole, take_at cells zeros end (omega arith)) in
     let own : (r : ℕ) → r < row_count f → IsRowFrom (column_count f) n s bytes (r * (column_count f * s)) (region run e r) =
     λ r hr.
-    let same : region run cells r ≡ region run e r =
-    ap (λ (ys : List ℕ). region run ys r) (sym front)
-    ∙ run_of_front run (run * r) end e (omega (arith, run_fits r (row_count f) run hr)) in
-    subst (λ (ys : List ℕ). IsRowFrom (column_count f) n s bytes (r * (column_count f * s)) ys) same (rows r hr) in
+    let there = run_of_front run (run * r) end e (omega (arith, run_fits r (row_count f) run hr)) in
+    let same : region run cells r ≡ region run e r = cc (front, there) in
+    rw same at (rows r hr) in
     let columns = column_codeword (row_count f) n n s e even codewords in
     subst (λ (z : ℕ). IsMatrixOf f z (padded f bytes) e) size
     (record {

@@ -1,5 +1,5 @@
 -- Runs of bytes in a list that is made of runs of one size.
-use Rattle.wal_matrix.proofs.Common.{◌≡◌, ℕ, ◌+◌, ◌-◌, ◌*◌, ◌<◌, ◌≤◌, List, [], ◌∷◌, ◌++◌, length, take, drop, refl, sym, ap, subst, ◌∙◌, arith, add-one, zero-add, length-append, length-take, length-drop, zero, suc, ⊎_elim, flat_map, range_with_len, append-nil, map-id, take_at, drop_at, drop-append-le, take-append-le, take_all, take-append-drop, drop-take, drop-drop, take-take, map-range_with_len_more, cases_lt, region}
+use Rattle.wal_matrix.proofs.Common.{◌≡◌, ℕ, ◌+◌, ◌-◌, ◌*◌, ◌<◌, ◌≤◌, List, [], ◌∷◌, ◌++◌, length, take, drop, refl, sym, ap, subst, ◌∙◌, arith, add-one, zero-add, length-append, length-take, length-drop, zero, suc, ⊎_elim, flat_map, range_with_len, append-nil, map-id, take_at, drop_at, drop-append-le, take-append-le, take_all, take-append-drop, drop-take, drop-drop, take-take, map-range_with_len_more, cases_lt, region, take-add}
 use Rattle.std.proofs.lemmas.List.{length-take-le}
 use Rattle.std.proofs.lemmas.List.Concat.{flat_map-append}
 use borrow.Rule.Slice.PartMut.{put_mid}
@@ -12,8 +12,17 @@ range_more a n m e = simp map-id at (map-range_with_len_more (λ (x : ℕ). x) a
 -- one more piece
 pub pieces_more : (f : ℕ → List ℕ) (n : ℕ) → flat_map f (range_with_len 0 (n + 1)) ≡ flat_map f (range_with_len 0 n) ++ f n
 pieces_more f n =
-    ap (λ (ns : List ℕ). flat_map f ns) (range_more 0 n n (omega arith)) ∙ flat_map-append f (range_with_len 0 n) (n ∷ [])
-    ∙ ap (λ (p : List ℕ). flat_map f (range_with_len 0 n) ++ p) (append-nil (f n))
+    cc (range_more 0 n n (omega arith), flat_map-append f (range_with_len 0 n) (n ∷ []), append-nil (f n))
+
+-- the front of a list is the pieces of one size that it is made of
+pub pieces_front : (f : ℕ → List ℕ) (s : ℕ) (xs : List ℕ) (n : ℕ) → ((i : ℕ) → i < n → f i ≡ take s (drop (i * s) xs))
+    → flat_map f (range_with_len 0 n) ≡ take (n * s) xs
+pieces_front f s xs zero same = let none : 0 * s ≡ 0 = omega arith in sym (ap (λ (k : ℕ). take k xs) none)
+pieces_front f s xs (suc n) same =
+    let P : ℕ → Type 0 = λ k. flat_map f (range_with_len 0 k) ≡ take (k * s) xs in
+    let next : n * s + s ≡ (n + 1) * s = omega arith in
+    let before = pieces_front f s xs n (λ i h. same i (omega arith)) in
+    subst P (add-one n) (cc (pieces_more f n, same n (omega arith), take-add (n * s) s xs))
 
 -- n pieces of one length
 pub length-pieces : (f : ℕ → List ℕ) (s n : ℕ) → ((i : ℕ) → i < n → length (f i) ≡ s) → length (flat_map f (range_with_len 0 n)) ≡ n * s
@@ -63,10 +72,8 @@ region-put_other s i place at k xs ys h e inside =
     let front = take at xs in
     let long : length front ≡ at = length-take-le at xs inside in
     let early : s * i + s ≤ length front = omega (arith, run_fits i place s h) in
-    let whole : front ++ drop at xs ≡ xs = take-append-drop at xs in
-    run_in_front (s * i) s front (ys ++ drop k (drop at xs)) early
-    ∙ sym (run_in_front (s * i) s front (drop at xs) early)
-    ∙ ap (λ (zs : List ℕ). take s (drop (s * i) zs)) whole
+    let written = run_in_front (s * i) s front (ys ++ drop k (drop at xs)) early in
+    cc (written, run_in_front (s * i) s front (drop at xs) early, take-append-drop at xs)
 
 -- and one that is written holds what was written
 pub region-put_same : (s place at k : ℕ) (xs ys : List ℕ) → at ≡ s * place → s * place + s ≤ length xs → length ys ≡ s

@@ -1,8 +1,8 @@
 -- The rows and columns of a matrix, and its slivers.
-use Rattle.wal_matrix.proofs.Common.{◌≡◌, ℕ, ◌+◌, ◌*◌, ◌<◌, ◌≤◌, List, length, take, drop, refl, sym, ap, subst, zero, suc, ◌∙◌, arith, length-take, region, shard_count, row_count, column_count, symbol, row_of, primary_of, column_part, column_of, secondary_of, take_all, take-append-le, mul_comm}
-use Rattle.wal_matrix.proofs.Runs.{length-pieces, region_long}
+use Rattle.wal_matrix.proofs.Common.{◌≡◌, ℕ, ◌+◌, ◌*◌, ◌<◌, ◌≤◌, List, length, take, drop, refl, sym, ap, ◌∙◌, arith, length-take, region, shard_count, row_count, column_count, symbol, row_of, primary_of, column_part, column_of, secondary_of, mul_comm}
+use Rattle.wal_matrix.proofs.Runs.{pieces_front, length-pieces, region_long}
 use Rattle.wal_matrix.proofs.Places.{run_fits, part_fits}
-use Rattle.wal_matrix.proofs.Symbols.{symbol_long, joined-symbol, column_symbol, column_more}
+use Rattle.wal_matrix.proofs.Symbols.{symbol_long, joined-symbol, column_symbol}
 
 -- a row is the run at its number
 pub row_is : (n s : ℕ) (e : List ℕ) (i : ℕ) → row_of n s e i ≡ region (n * s) e i
@@ -54,34 +54,14 @@ pub column_part-symbol : (n s : ℕ) (e : List ℕ) (rows r c : ℕ) → rows * 
 column_part-symbol n s e rows r c room hr hc =
     ap (λ (k : ℕ). take s (drop k (column_part n s e rows c))) (mul_comm s r) ∙ column_symbol n s e rows r c room hr hc
 
--- fewer symbols of a column are the front of more
-pub column_part-front : (n s : ℕ) (e : List ℕ) (rows more c : ℕ) → (rows + more) * n * s ≤ length e → c < n
-    → take (rows * s) (column_part n s e (rows + more) c) ≡ column_part n s e rows c
-column_part-front n s e rows zero c room h =
-    let none : rows + 0 ≡ rows = omega arith in
-    let P : ℕ → Type 0 = λ k. k * n * s ≤ length e → take (rows * s) (column_part n s e k c) ≡ column_part n s e rows c in
-    subst P (sym none)
-    (λ fits. take_all (rows * s) (column_part n s e rows c) (omega (arith, column_part_long n s e rows c fits h))) room
-column_part-front n s e rows (suc more) c room h =
-    let next : rows + more + 1 ≡ rows + suc more = omega arith in
-    let fits : (rows + more) * n * s ≤ length e = omega (arith, part_fits (rows + more) (rows + suc more) (n * s) (omega arith)) in
-    let long : rows * s ≤ length (column_part n s e (rows + more) c) =
-    omega (arith, column_part_long n s e (rows + more) c fits h, part_fits rows (rows + more) s (omega arith)) in
-    ap (λ (k : ℕ). take (rows * s) (column_part n s e k c)) (sym next)
-    ∙ ap (λ (ys : List ℕ). take (rows * s) ys) (column_more n s e (rows + more) c)
-    ∙ take-append-le (rows * s) (column_part n s e (rows + more) c) (symbol n s e (rows + more) c) long
-    ∙ column_part-front n s e rows more c fits h
-
 -- a secondary sliver is the front of its column
 pub secondary-front : (f s : ℕ) (e : List ℕ) (j : ℕ) → length e ≡ shard_count f * shard_count f * s → j < shard_count f
     → secondary_of f s e j ≡ take (row_count f * s) (column_of (shard_count f) s e j)
+unfolding secondary_of column_of column_part
 secondary-front f s e j long h =
     let n = shard_count f in
-    let rows : row_count f + 2 * f ≡ n = omega arith in
-    let fits : (row_count f + 2 * f) * n * s ≤ length e = omega (arith, ap (λ (k : ℕ). k * n * s) rows) in
-    secondary_is f s e j ∙ sym (column_part-front n s e (row_count f) (2 * f) j fits h)
-    ∙ ap (λ (k : ℕ). take (row_count f * s) (column_part n s e k j)) rows
-    ∙ ap (λ (ys : List ℕ). take (row_count f * s) ys) (sym (column_is n s e j))
+    pieces_front (λ r. symbol n s e r j) s (column_of n s e j) (row_count f)
+    (λ r hr. sym (column_symbol n s e n r j (omega arith) (omega arith) h))
 
 pub secondary_long : (f s : ℕ) (e : List ℕ) (j : ℕ) → length e ≡ shard_count f * shard_count f * s → j < shard_count f
     → length (secondary_of f s e j) ≡ row_count f * s

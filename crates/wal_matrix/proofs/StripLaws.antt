@@ -3,7 +3,7 @@ use Rattle.wal_matrix.proofs.Common.{◌≡◌, ℕ, ◌+◌, ◌-◌, ◌*◌, 
 use borrow.Rule.Slice.PartMut.{put_mid}
 use Rattle.wal_matrix.specs.Strips.{IsMatrixStrip}
 use Rattle.wal_matrix.proofs.Codewords.{AreBytes, bytes_of_part}
-use Rattle.wal_matrix.proofs.FrontLaws.{bytes_of_symbol, source_place}
+use Rattle.wal_matrix.proofs.FrontLaws.{bytes_of_symbol}
 use Rattle.wal_matrix.proofs.MatrixLaws.{bytes_within, same_runs}
 use Rattle.wal_matrix.proofs.Places.{run_fits}
 use Rattle.wal_matrix.proofs.RowLaws.{block_byte}
@@ -11,20 +11,12 @@ use Rattle.wal_matrix.proofs.Runs.{region_long, run_kept, region-put_other, regi
 use Rattle.wal_matrix.proofs.Symbols.{symbol_long, row_symbol}
 use Rattle.wal_matrix.proofs.TurnedLaws.{symbol_kept, column_codeword}
 
--- the strip of a source symbol lies within the matrix
-pub strip_place : (f s r c from long : ℕ) → r < row_count f → c < column_count f → from + long ≤ s
-    → (r * column_count f + c) * s + from + long ≤ shard_count f * shard_count f * s
-strip_place f s r c from long hr hc within = omega (arith, source_place f s r c hr hc)
-
 -- the room of a strip, row by row
 pub room_by_rows : (f g long : ℕ) (strip : List ℕ) → f ≡ g → length strip ≡ shard_count g * shard_count g * long
     → length strip ≡ shard_count f * (shard_count f * long)
 room_by_rows f g long strip same room = room ∙ ap (λ (k : ℕ). shard_count k * shard_count k * long) (sym same) ∙ omega arith
 
 -- the next of runs of one length
-pub part_most : (i long : ℕ) (xs : List ℕ) → length (take ((i + 1) * long - i * long) (drop (i * long) xs)) ≤ long
-part_most i long xs = omega (arith, length-take ((i + 1) * long - i * long) (drop (i * long) xs))
-
 pub part_long : (i long : ℕ) (xs : List ℕ) → i * long + long ≤ length xs → length (take ((i + 1) * long - i * long) (drop (i * long) xs)) ≡ long
 part_long i long xs room = omega (arith, length-take ((i + 1) * long - i * long) (drop (i * long) xs), length-drop (i * long) xs)
 
@@ -71,11 +63,9 @@ source_strip f s bytes e part r c from long matrix hr hc within part_long whole 
     (λ k h.
     let inside : k < long = omega arith in
     let number : (r * column_count f + c) * s + from + k ≡ (r * column_count f + c) * s + (from + k) = omega arith in
-    same k inside
-    ∙ ap (λ (j : ℕ). get_or bytes j 0) number
-    ∙ sym (get_or-take long (drop from piece) k 0 inside ∙ get_or-drop from piece k 0
-    ∙ ap (λ (ys : List ℕ). get_or ys (from + k) 0) (matrix.source r c hr hc)
-    ∙ block_byte f s bytes r c (from + k) (omega arith)))
+    let taken = get_or-take long (drop from piece) k 0 inside in
+    let byte = block_byte f s bytes r c (from + k) (omega arith) in
+    cc (same k inside, number, taken, get_or-drop from piece k 0, matrix.source r c hr hc, byte))
 
 -- a row of strips that was extended from those of its source symbols
 pub row_strip : (f long : ℕ) (old new : List ℕ) → f ≤ 333 → long % 2 ≡ 0 → length new ≡ shard_count f * long → AreBytes new

@@ -1,7 +1,5 @@
 -- The symbols of a block, and the columns that are copied symbol by symbol.
-use Rattle.wal_matrix.proofs.Common.{◌≡◌, ℕ, ◌+◌, ◌*◌, ◌<◌, ◌≤◌, List, ◌++◌, length, take, drop, sym, ap, ◌∙◌, arith, length-take, length-drop, take_all, mul_comm, column_part, symbol, region}
-use Rattle.std.proofs.lemmas.Slice.{take-put_mid}
-use borrow.Rule.Slice.PartMut.{put_mid}
+use Rattle.wal_matrix.proofs.Common.{◌≡◌, ℕ, ◌+◌, ◌*◌, ◌<◌, ◌≤◌, List, ◌++◌, length, take, drop, sym, ap, ◌∙◌, arith, length-take, length-drop, mul_comm, column_part, symbol, region}
 use Rattle.wal_matrix.proofs.Runs.{pieces_more, piece_at, part_of_part}
 use Rattle.wal_matrix.proofs.Places.{place_fits, run_fits}
 
@@ -14,25 +12,6 @@ symbol_is n s e r c = ap (λ (k : ℕ). take s (drop k e)) (mul_comm (r * n + c)
 pub column_more : (n s : ℕ) (e : List ℕ) (rows c : ℕ) → column_part n s e (rows + 1) c ≡ column_part n s e rows c ++ symbol n s e rows c
 unfolding column_part
 column_more n s e rows c = pieces_more (λ r. symbol n s e r c) rows
-
--- one more symbol is written
-pub copied_more : (n s : ℕ) (e into : List ℕ) (row c k : ℕ) (piece : List ℕ) → row * s ≤ length into → length piece ≡ s
-    → take (row * s) into ≡ column_part n s e row c → piece ≡ symbol n s e row c
-    → take ((row + 1) * s) (put_mid (row * s) k into piece) ≡ column_part n s e (row + 1) c
-copied_more n s e into row c k piece room long before own =
-    take-put_mid (row * s) k into piece ((row + 1) * s) (omega arith) room ∙ (cc (column_more n s e row c))
-
--- no symbols are written
-pub column_none : (n s : ℕ) (e : List ℕ) (c : ℕ) (into : List ℕ) → take (0 * s) into ≡ column_part n s e 0 c
-unfolding column_part
-column_none n s e c into = let none : 0 * s ≡ 0 = omega arith in ap (λ (k : ℕ). take k into) none
-
--- all symbols are written
-pub column_all : (n s : ℕ) (e : List ℕ) (rows row c : ℕ) (into : List ℕ) → row ≡ rows → length into ≡ rows * s
-    → take (row * s) into ≡ column_part n s e row c → into ≡ column_part n s e rows c
-column_all n s e rows row c into same long before =
-    let e1 = take_all (row * s) into (omega (arith, ap (λ k. k * s) same)) in
-    sym e1 ∙ before ∙ ap (λ k. column_part n s e k c) same
 
 -- a symbol within the block has all its bytes
 pub symbol_long : (n s : ℕ) (e : List ℕ) (rows r c : ℕ) → rows * n * s ≤ length e → r < rows → c < n → length (symbol n s e r c) ≡ s

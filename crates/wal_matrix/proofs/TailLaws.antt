@@ -1,5 +1,5 @@
 -- The tail of a list that is put back.
-use Rattle.wal_matrix.proofs.Common.{◌≡◌, ℕ, ◌+◌, ◌-◌, ◌*◌, ◌<◌, ◌≤◌, List, ◌++◌, length, take, drop, sym, ap, ◌∙◌, arith, length-take, length-drop, drop_at, take-append-drop, take-take, take-append-le, take-append-add, IsCodeword, IsCodeword-same, word_at, region, region-append_left}
+use Rattle.wal_matrix.proofs.Common.{◌≡◌, ℕ, ◌+◌, ◌-◌, ◌*◌, ◌<◌, ◌≤◌, List, ◌++◌, length, take, drop, ap, ◌∙◌, arith, length-take, length-drop, drop_at, take-append-drop, take-take, take-append-le, take-append-add, IsCodeword, IsCodeword-same, word_at, region, region-append_left}
 use Rattle.std.proofs.lemmas.List.{length-take-le}
 use borrow.Rule.Slice.PartMut.{put_mid, post_of}
 use Rattle.wal_matrix.proofs.Places.{run_fits}
@@ -17,12 +17,10 @@ tail_kept place more k xs part is inside fits long kept =
     let front_long : length front ≡ place = length-take-le place xs inside in
     let rest = post_of place k xs in
     let number : place + more ≡ length front + more = omega arith in
-    ap (λ (j : ℕ). take j (front ++ (part ++ rest))) number
-    ∙ take-append-add front (part ++ rest) more
-    ∙ ap (λ (ys : List ℕ). front ++ ys) (take-append-le more part rest (omega arith) ∙ kept ∙ take-take more k (drop place xs) fits)
-    ∙ sym (take-append-add front (drop place xs) more)
-    ∙ ap (λ (j : ℕ). take j (front ++ drop place xs)) (sym number)
-    ∙ ap (λ (ys : List ℕ). take (place + more) ys) (take-append-drop place xs)
+    let new = take-append-le more part rest (omega arith) in
+    let same = take-take more k (drop place xs) fits in
+    let joins = take-append-add front (part ++ rest) more in
+    cc (number, joins, new, kept, same, take-append-add front (drop place xs) more, take-append-drop place xs)
 
 -- and the codeword that it is
 pub tail_codeword : (place known total size k : ℕ) (xs part : List ℕ) → place ≤ length xs → length part ≡ total * size

@@ -1,5 +1,5 @@
 -- There is one matrix through given primary slivers, and its source block is a sum of them.
-use Rattle.wal_matrix.proofs.Common.{◌≡◌, ℕ, ◌*◌, ◌/◌, ◌%◌, ◌<◌, List, length, get_or, take, drop, sym, ap, subst, ◌∙◌, arith, flat_map, range_with_len, mul_comm, IsCodeword, combination, IsCodeword-same, codeword_unique, combination-codeword, combination-known, table_unique, word_at, region, shard_count, row_count, column_count, symbol, row_of, primary_of, IsMatrixOf, IsMatrixThrough, source_of}
+use Rattle.wal_matrix.proofs.Common.{◌≡◌, ℕ, ◌*◌, ◌/◌, ◌%◌, ◌<◌, List, length, get_or, take, drop, sym, ap, ◌∙◌, arith, flat_map, range_with_len, mul_comm, IsCodeword, combination, IsCodeword-same, codeword_unique, combination-codeword, combination-known, table_unique, word_at, region, shard_count, row_count, column_count, symbol, row_of, primary_of, IsMatrixOf, IsMatrixThrough, source_of}
 use Rattle.wal_matrix.proofs.Codewords.{AreBytes, bytes_of_part}
 use Rattle.wal_matrix.proofs.Interpolated.{AreSlivers, given, across, given-word, index_word, across-column, across-row, across-word, across-given}
 use Rattle.wal_matrix.proofs.MatrixLaws.{same_by_words, same_matrix}
@@ -48,9 +48,8 @@ module _ (f s : ℕ) (indices joined : List ℕ) (are : AreSlivers f s indices j
       let n = shard_count f in
       let m = column_count f in
       let half : 2 * (s / 2) ≡ s = omega arith in
-      let P : ℕ → Type 0 = λ z. (e : List ℕ) × (length e ≡ n * n * z) × AreBytes e
-      × ((r c w : ℕ) → r < n → c < n → w < s / 2 → word_at (symbol n z e r c) w ≡ across f s indices joined r c w) in
-      let found = subst P half (table_exists n (s / 2) (λ r c w. across f s indices joined r c w) (omega arith)
+      let found =
+      rw half at (table_exists n (s / 2) (λ r c w. across f s indices joined r c w) (omega arith)
       (omega arith) (λ r c w hr hc hw. across-word f s indices joined are r c w hr hc)) in
       let e = found.0 in
       let words = found.3 in (
@@ -84,10 +83,8 @@ module _ (f s : ℕ) (indices joined : List ℕ) (are : AreSlivers f s indices j
     through-given : (k c w : ℕ) → k < length indices → c < column_count f
         → word_at (symbol (shard_count f) s e (get_or indices k 0) c) w ≡ given f s joined k c w
     through-given k c w hk hc =
-        ap (λ (ys : List ℕ). word_at ys w)
-        (sym (primary-symbol f s e (get_or indices k 0) c hc)
-        ∙ ap (λ (ys : List ℕ). region s ys c) (is.begins k hk)
-        ∙ joined-symbol (column_count f) s joined k c hc)
+        let joins = joined-symbol (column_count f) s joined k c hc in
+        cc (primary-symbol f s e (get_or indices k 0) c hc, is.begins k hk, joins)
 
     through-column : (c w : ℕ) → c < shard_count f → 2 * w < s
         → IsCodeword (length indices) (shard_count f) (λ r. word_at (symbol (shard_count f) s e r c) w)

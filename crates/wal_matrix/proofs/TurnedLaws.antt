@@ -1,5 +1,5 @@
 -- A block that is turned into the front of a buffer, which is then extended region by region.
-use Rattle.wal_matrix.proofs.Common.{◌≡◌, ℕ, ◌+◌, ◌*◌, ◌/◌, ◌%◌, ◌<◌, ◌≤◌, List, ◌++◌, length, take, drop, sym, ap, subst, ◌∙◌, arith, take_at, take_all, IsCodeword, IsCodeword-same, word_at, region, word_at-region, symbol, IsTurnedExtension}
+use Rattle.wal_matrix.proofs.Common.{◌≡◌, ℕ, ◌+◌, ◌*◌, ◌/◌, ◌%◌, ◌<◌, ◌≤◌, List, ◌++◌, length, take, drop, sym, ap, ◌∙◌, arith, take_at, take_all, IsCodeword, IsCodeword-same, word_at, region, word_at-region, symbol, IsTurnedExtension}
 use Rattle.wal_matrix.proofs.Runs.{run_kept}
 use Rattle.wal_matrix.proofs.Places.{run_fits, place_fits}
 use Rattle.wal_matrix.proofs.Symbols.{joined-symbol}
@@ -45,7 +45,7 @@ turned_extension_at lines known total size block old front after end even is few
   source = λ r c hr hc.
       let front_kept : take end after ≡ take end front =
       kept ∙ take_at front (drop end old) end long ∙ sym (take_all end front (omega arith)) in
-      symbol_kept known lines size after front c r hc hr (subst (λ (k : ℕ). take k after ≡ take k front) is front_kept)
+      symbol_kept known lines size after front c r hc hr (rw is at front_kept)
       ∙ turned r c hr hc;
   codeword = column_codeword known total lines size after even codewords;
 }

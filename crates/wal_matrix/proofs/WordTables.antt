@@ -1,5 +1,5 @@
 -- A matrix that is made of given words.
-use Rattle.wal_matrix.proofs.Common.{◌≡◌, ℕ, ◌+◌, ◌*◌, ◌/◌, ◌%◌, ◌<◌, List, [], ◌∷◌, zero, suc, length, take, drop, refl, sym, ap, subst, ◌∙◌, arith, get_or, flat_map, range_with_len, ext_get_or, div_below, mod_below, div-add-mod', div-mul-add, mod-mul-add, word_at, region, word_at-region, region-byte, symbol}
+use Rattle.wal_matrix.proofs.Common.{◌≡◌, ℕ, ◌+◌, ◌*◌, ◌/◌, ◌%◌, ◌<◌, List, [], ◌∷◌, zero, suc, length, take, drop, refl, sym, ap, ◌∙◌, arith, flat_map, range_with_len, ext_get_or, div_below, mod_below, div-add-mod', div-mul-add, mod-mul-add, word_at, region, word_at-region, region-byte, symbol}
 use Rattle.wal_matrix.proofs.Codewords.{AreBytes}
 use Rattle.wal_matrix.proofs.Places.{run_fits}
 use Rattle.wal_matrix.proofs.Runs.{length-pieces, piece_at}
@@ -84,7 +84,5 @@ same_by_regions count s d e some long_d long_e same =
     let inside : k / s < count = div_below k s count some (omega arith) in
     let within : k % s < s = mod_below k s some in
     let place : s * (k / s) + k % s ≡ k = omega (arith, div-add-mod' k s) in
-    let P : ℕ → Type 0 = λ a. get_or d a 0 ≡ get_or e a 0 in
-    subst P place
-    (sym (region-byte s d (k / s) (k % s) within) ∙ ap (λ (ys : List ℕ). get_or ys (k % s) 0) (same (k / s) inside)
-    ∙ region-byte s e (k / s) (k % s) within))
+    let byte = λ (xs : List ℕ). region-byte s xs (k / s) (k % s) within in
+    cc (place, byte d, same (k / s) inside, byte e))

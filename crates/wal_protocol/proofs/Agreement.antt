@@ -1,27 +1,22 @@
 -- First completed answers stay, and each completed line shows them.
-use Rattle.wal_protocol.proofs.Common.{◌≡◌, ℕ, zero, suc, ◌<◌, List, [], ◌∷◌, length, get_or, Bool, false, cond, Option, Some, None, refl, arith, get-insert, eq_by_cmp_equiv, BlobId, id_cmp, Verdict, Event, Write, Read, Line, ids_total, First, Judged, Written, World, verdict_of, answered, Rules, AgreesWithFirst, Steps, is_collision, Runs, Shows, Agree, same_id}
-use Rattle.std.specs.FinMap as finmap
-use Rattle.wal_evidence.specs.declared.evidence.Verdict.TheVariants as verdict
-use Rattle.wal_event.specs.declared.line.Line.TheVariants as line
-use Rattle.wal_event.specs.declared.line.WriteWord.TheVariants as write_word
-use Rattle.wal_event.specs.declared.line.ReadWord.TheVariants as reading_of
+use Rattle.wal_protocol.proofs.Common.{◌≡◌, ℕ, zero, suc, ◌<◌, List, [], ◌∷◌, length, get_or, Bool, false, cond, Option, Some, None, refl, arith, get-insert, eq_by_cmp_equiv, BlobId, id_cmp, Verdict, Event, Write, Read, Line, ids_total, First, Judged, Written, World, verdict_of, answered, Rules, AgreesWithFirst, Steps, is_collision, Runs, Shows, Agree, same_id, ReadWord, WriteWord, FinMap, get}
 
 -- a first completed answer for an identifier that gives this verdict
-pub record Tells (answers : finmap.FinMap id_cmp First) (id : BlobId) (told : Verdict) : Type 0 where
+pub record Tells (answers : FinMap id_cmp First) (id : BlobId) (told : Verdict) : Type 0 where
   pub answer : First
-  pub first : finmap.get answers id ≡ Some answer
+  pub first : get answers id ≡ Some answer
   pub gives : verdict_of answer ≡ told
 
 -- first answers stay
-abbrev pub Stay : finmap.FinMap id_cmp First → finmap.FinMap id_cmp First → Type 0
-Stay old new = (id : BlobId) (answer : First) → finmap.get old id ≡ Some answer → finmap.get new id ≡ Some answer
+abbrev pub Stay : FinMap id_cmp First → FinMap id_cmp First → Type 0
+Stay old new = (id : BlobId) (answer : First) → get old id ≡ Some answer → get new id ≡ Some answer
 
 -- a first answer that agrees is told afterwards
-answered_tells : (answers : finmap.FinMap id_cmp First) (id : BlobId) (a : First)
+answered_tells : (answers : FinMap id_cmp First) (id : BlobId) (a : First)
     → AgreesWithFirst answers id (verdict_of a) → Tells (answered answers id a) id (verdict_of a)
-answered_tells answers id a agrees = by (finmap.get answers id) refl
+answered_tells answers id a agrees = by (get answers id) refl
   where
-    by : (o : Option First) → finmap.get answers id ≡ o → Tells (answered answers id a) id (verdict_of a)
+    by : (o : Option First) → get answers id ≡ o → Tells (answered answers id a) id (verdict_of a)
     by (Some x) h = record { answer = x; first = rw h h; gives = agrees x h }
     by None h = record {
       answer = a;
@@ -29,29 +24,26 @@ answered_tells answers id a agrees = by (finmap.get answers id) refl
       gives = refl;
     }
 
-answered_stay : (answers : finmap.FinMap id_cmp First) (id : BlobId) (a : First) → Stay answers (answered answers id a)
+answered_stay : (answers : FinMap id_cmp First) (id : BlobId) (a : First) → Stay answers (answered answers id a)
 answered_stay answers id a q x h = grind (arith, get-insert ids_total answers id a q, same_id q id)
 
 module _ (r : Rules) where
   -- each step leaves first answers as they are
   pub answers_stay : (old : World) (event : Event) (said : Line) (new : World) → Steps r old event said new → Stay old.answers new.answers
-  answers_stay old (Write blob to) (line.Write i (write_word.Stored count bytes)) new s = λ q answer h. grind (arith, answered_stay old.answers i (Written blob) q answer h)
-  answers_stay old (Write blob to) said new s = λ q answer h. grind arith
-  answers_stay old (Read id replies) said new s = λ q answer h. grind (arith, answered_stay)
-  -- every other event leaves the answers
-  answers_stay old event said new s = λ q answer h. grind arith
+  answers_stay old (Write blob to) said new s = λ q answer h. grind (arith, answered_stay)
+  -- every other event but a read leaves the answers
+  answers_stay old event said new s = λ q answer h. grind (arith, answered_stay)
 
   -- a completed line shows the first answer
   pub answer_shown : (old : World) (event : Event) (said : Line) (new : World) (id : BlobId) (told : Verdict) → Steps r old event said new → Shows said id told → Tells new.answers id told
-  answer_shown old (Read i replies) (line.Read j (reading_of.Bytes bytes)) new id told s shows =
-      let e : told ≡ verdict.Bytes bytes = cc (shows.1) in
-      let tells = answered_tells old.answers i (Judged s.1.evidence (verdict.Bytes bytes)) s.1.agrees in
+  answer_shown old (Read i replies) (Line.Read j (ReadWord.Bytes bytes)) new id told s shows =
+      let e : told ≡ Verdict.Bytes bytes = cc (shows.1) in
+      let tells = answered_tells old.answers i (Judged s.1.evidence (Verdict.Bytes bytes)) s.1.agrees in
       rw (s.1.state, ← shows.0, s.0, e) tells
-  answer_shown old (Read i replies) (line.Read j reading_of.Reject) new id told s shows =
-      let e : told ≡ verdict.Reject = cc (shows.1) in
-      let tells = answered_tells old.answers i (Judged s.1.evidence verdict.Reject) s.1.agrees in
-      rw (s.1.state, ← shows.0, s.0, e) tells
-  answer_shown old (Write blob to) (line.Write j (write_word.Stored count bytes)) new id told s shows =
+  answer_shown old (Read i replies) (Line.Read j ReadWord.Reject) new id told s shows =
+      let e : told ≡ Verdict.Reject = cc (shows.1) in
+      rw (s.1.state, ← shows.0, s.0, e) (answered_tells old.answers i (Judged s.1.evidence Verdict.Reject) s.1.agrees)
+  answer_shown old (Write blob to) (Line.Write j (WriteWord.Stored count bytes)) new id told s shows =
       rw (s.1.state, ← shows.0, shows.1, s.0) (answered_tells old.answers j (Written blob) s.1.agrees)
   answer_shown old event said new id told s shows = grind arith
 

@@ -1,21 +1,8 @@
 -- Every event in a state that has the facts has a step, and every schedule has a run, where the answers of the crates below are there.
-use Rattle.wal_protocol.proofs.Common.{◌≡◌, ◌⊎◌, ℕ, ◌+◌, ◌<◌, Bool, true, false, cond, is_some, List, [], ◌∷◌, ◌++◌, map, Option, Some, None, All, Contains, refl, sym, ap, subst, ◌∙◌, ⊎_elim, inl, inr, true≢false, AllByRecursion, false≢true, All-nil, All-cons, All-head, All-tail, All-append, BlobId, Axis, Side, ascends_from, Evidence, Verdict, Frame, IsEventWithin, IsSchedule, Event, Register, Write, Send, Ack, Attest, Read, Recover, Forget, Begin, Ready, Finish, Certificate, Holders, Reply, Schedule, Line, ReadWord, RecoverWord, committee_size, Log, is_live, Parts, Contents, PutAnswer, First, Judged, Written, Committee, World, side_of, with_side, writing_side, is_correct, contents_of, held, with_contents, keeps, holders, verdict_of, answered, Rules, is_clash, PutsEach, letters, stored_at, AgreesWithFirst, Differs, WriteStep, WriteCollides, read_payloads, reply_payloads, ReadCompletes, ReadStep, told_by, two_metadata, other_answer, IsReplyOf, AreReplies, RecoveryRuns, RecoverStep, RecoverCollides, Steps, first_state, is_collision, Runs, Facts, Laws, Possible, AreBytes, ReplyHasBytes, HasBytes, HasStep, HasRun, arith}
-use Rattle.std.proofs.lemmas.Bool.Decides.{nat_tests}
-use Rattle.std.proofs.lemmas.List.Elements.{All-map, Contains-get_or}
-use Rattle.wal_protocol.specs.Step.{IsWrite}
-use Rattle.std.specs.FinMap as finmap
-use Rattle.wal_evidence.specs.declared.evidence.Verdict.TheVariants as verdict
-use Rattle.wal_event.specs.declared.event.Reply.TheVariants as reply
-use Rattle.wal_event.specs.declared.line.Line.TheVariants as line
-use Rattle.wal_event.specs.declared.line.WriteWord.TheVariants as write_word
+use Rattle.wal_protocol.proofs.Common.{◌≡◌, ◌⊎◌, ℕ, ◌+◌, ◌<◌, Bool, true, false, cond, is_some, List, [], ◌∷◌, ◌++◌, map, Option, Some, None, All, Contains, refl, sym, ap, subst, ◌∙◌, ⊎_elim, inl, inr, true≢false, AllByRecursion, false≢true, All-nil, All-cons, All-head, All-tail, All-append, BlobId, Axis, Side, ascends_from, Evidence, Verdict, Frame, IsEventWithin, IsSchedule, Event, Register, Write, Send, Ack, Attest, Read, Recover, Forget, Begin, Ready, Finish, Certificate, Holders, Reply, Schedule, Line, ReadWord, RecoverWord, committee_size, Log, is_live, Parts, Contents, PutAnswer, First, Judged, Written, Committee, World, side_of, with_side, writing_side, is_correct, contents_of, held, with_contents, keeps, holders, verdict_of, answered, Rules, is_clash, PutsEach, letters, stored_at, AgreesWithFirst, Differs, WriteStep, WriteCollides, read_payloads, reply_payloads, ReadCompletes, ReadStep, told_by, two_metadata, other_answer, IsReplyOf, AreReplies, RecoveryRuns, RecoverStep, RecoverCollides, Steps, first_state, is_collision, Runs, Facts, Laws, Possible, AreBytes, ReplyHasBytes, HasBytes, HasStep, HasRun, arith, SendWord, WriteWord, nat_tests, All-map, Contains-get_or, IsWrite, get}
 use Rattle.wal_event.specs.declared.line.HoldersWord.TheVariants as holders_word
-use Rattle.wal_event.specs.declared.line.SendWord.TheVariants as sending
-use Rattle.wal_event.specs.declared.line.ReadWord.TheVariants as reading_of
-use Rattle.wal_event.specs.declared.line.RecoverWord.TheVariants as recovering
-use Rattle.wal_shard.specs.declared.answers.PutAnswer.TheVariants as putting
 use Rattle.wal_protocol.specs.inside.Total.{HasCollision, IsAnswered, IsFound, Total}
-use Rattle.wal_protocol.proofs.Lookups.{held_is}
-use Rattle.wal_protocol.proofs.Grown.{AreSound, sound_contents, grown_put}
+use Rattle.wal_protocol.proofs.Lookups.{held_is, AreSound, sound_contents, grown_put}
 use Rattle.wal_protocol.proofs.Stepped.{facts_step}
 use Rattle.wal_protocol.proofs.Safety.{facts_first}
 use Rattle.wal_protocol.proofs.OneStep.{sent_word, recovered_state}
@@ -61,9 +48,9 @@ module _ (r : Rules) (laws : Laws r) (total : Total r) where
   -- what is told agrees with the first completed answer, or the two collide
   every_answer : (old : World) (id : BlobId) (first : First) → Facts r old → r.IsBacked id first
       → Possible (AgreesWithFirst old.answers id (verdict_of first) ⊎ (Differs old.answers id (verdict_of first) × HasCollision r))
-  every_answer old id first facts backed = by (finmap.get old.answers id) refl
+  every_answer old id first facts backed = by (get old.answers id) refl
     where
-      by : (o : Option First) → finmap.get old.answers id ≡ o → Possible (AgreesWithFirst old.answers id (verdict_of first) ⊎ (Differs old.answers id (verdict_of first) × HasCollision r))
+      by : (o : Option First) → get old.answers id ≡ o → Possible (AgreesWithFirst old.answers id (verdict_of first) ⊎ (Differs old.answers id (verdict_of first) × HasCollision r))
       by None is = surely (inl (λ answer at. absurd (let none : None ≡ Some answer = sym is ∙ at in cc)))
       by (Some was) is =
           by_cases (verdict_of was ≡ verdict_of first)
@@ -105,11 +92,11 @@ module _ (r : Rules) (laws : Laws r) (total : Total r) where
           (below_bound 0 (committee_size old.log.f) to fit.1)
 
       stops : HasCollision r → (id : BlobId) (clashed : Bool) (write : IsWrite r old blob to id clashed)
-          → (clashed ≡ false → Differs old.answers id (verdict.Bytes blob)) → Possible (HasStep r old (Write blob to))
+          → (clashed ≡ false → Differs old.answers id (Verdict.Bytes blob)) → Possible (HasStep r old (Write blob to))
       stops clash id clashed write differs =
           let is : WriteCollides r old blob to (with_side side old write.mid) =
           record { id = id; clashed = clashed; write = write; differs = differs; state = refl } in
-          surely (line.Collision clash.0 clash.1, with_side side old write.mid, (clash.2, is))
+          surely (Line.Collision clash.0 clash.1, with_side side old write.mid, (clash.2, is))
 
       ends : (id : BlobId) (clashed : Bool) → IsWrite r old blob to id clashed → (clashed ≡ true → HasCollision r)
           → Possible (HasStep r old (Write blob to))
@@ -123,7 +110,7 @@ module _ (r : Rules) (laws : Laws r) (total : Total r) where
           let count = stored_at r new side write.message to id in
           let is : WriteStep r old blob to id count new =
           record { write = write; agrees = agrees; state = refl; counted = refl } in
-          surely (line.Write id (write_word.Stored count blob), new, (refl, is)))
+          surely (Line.Write id (WriteWord.Stored count blob), new, (refl, is)))
           (λ differ. stops differ.1 id false write (λ same. differ.0))
           e)
 
@@ -131,8 +118,8 @@ module _ (r : Rules) (laws : Laws r) (total : Total r) where
 
   every_send : (old : World) (side : Side) (shard : ℕ) (bytes : List ℕ) → Facts r old → AreBytes bytes → Possible (HasStep r old (Send side shard bytes))
   every_send old side shard bytes facts are = elim (standing old side shard) [
-    | absent none ↦ surely (line.Send shard sending.Absent, old, (refl, (none, refl)))
-    | ignored faulty ↦ surely (line.Send shard sending.Ignored, old, (refl, (faulty, refl)))
+    | absent none ↦ surely (Line.Send shard SendWord.Absent, old, (refl, (none, refl)))
+    | ignored faulty ↦ surely (Line.Send shard SendWord.Ignored, old, (refl, (faulty, refl)))
     | correct sound ↦
         by_cases ((frame : Frame) × r.IsPutFrame bytes frame)
         (λ found.
@@ -140,18 +127,18 @@ module _ (r : Rules) (laws : Laws r) (total : Total r) where
         (total.put_read bytes found.0 are found.1 old.log shard (contents_of (side_of side old) shard)
         (sound_contents r (side_of side old) shard (facts.sound side)))
         (λ put. answers sound found.0 found.1 put.0 put.1 put.2))
-        (λ none. surely (line.Send shard sending.Malformed, old, (refl, (sound, (λ frame is. none (frame, is)), refl))))
+        (λ none. surely (Line.Send shard SendWord.Malformed, old, (refl, (sound, (λ frame is. none (frame, is)), refl))))
   ]
     where
       answers : is_correct side old shard ≡ true → (frame : Frame) → r.IsPutFrame bytes frame → (answer : PutAnswer) (contents : Contents)
           → r.Puts old.log shard (contents_of (side_of side old) shard) frame answer contents → Possible (HasStep r old (Send side shard bytes))
-      answers sound frame is putting.Stored contents puts = surely (line.Send shard sending.Stored, keeps old side shard contents, (refl, (frame, contents, (sound, is, puts), refl)))
-      answers sound frame is (putting.OtherMetadata clash) contents puts =
-          let found = total.put_collides old.log shard (contents_of (side_of side old) shard) contents frame (putting.OtherMetadata clash) puts refl in
-          surely (line.Collision found.0 found.1, old, (found.2, (frame, contents, putting.OtherMetadata clash, refl, (sound, is, puts), refl)))
-      answers sound frame is (putting.Full needed free) contents puts = absurd (total.put_room old.log shard (contents_of (side_of side old) shard) contents frame (putting.Full needed free) puts)
-      answers sound frame is putting.Memory contents puts = absurd (total.put_room old.log shard (contents_of (side_of side old) shard) contents frame putting.Memory puts)
-      answers sound frame is refusal contents puts = surely (line.Send shard (sent_word refusal), old, (refl, (frame, contents, (sound, is, puts), refl)))
+      answers sound frame is PutAnswer.Stored contents puts = surely (Line.Send shard SendWord.Stored, keeps old side shard contents, (refl, (frame, contents, (sound, is, puts), refl)))
+      answers sound frame is (PutAnswer.OtherMetadata clash) contents puts =
+          let found = total.put_collides old.log shard (contents_of (side_of side old) shard) contents frame (PutAnswer.OtherMetadata clash) puts refl in
+          surely (Line.Collision found.0 found.1, old, (found.2, (frame, contents, PutAnswer.OtherMetadata clash, refl, (sound, is, puts), refl)))
+      answers sound frame is (PutAnswer.Full needed free) contents puts = absurd (total.put_room old.log shard (contents_of (side_of side old) shard) contents frame (PutAnswer.Full needed free) puts)
+      answers sound frame is PutAnswer.Memory contents puts = absurd (total.put_room old.log shard (contents_of (side_of side old) shard) contents frame PutAnswer.Memory puts)
+      answers sound frame is refusal contents puts = surely (Line.Send shard (sent_word refusal), old, (refl, (frame, contents, (sound, is, puts), refl)))
 
   -- ---- reads
 
@@ -165,13 +152,13 @@ module _ (r : Rules) (laws : Laws r) (total : Total r) where
       truly false side shard = All-nil AreBytes
 
       replied : (one : Reply) → ReplyHasBytes one → All AreBytes (reply_payloads r old id one)
-      replied (reply.True side shard) has = truly (is_correct side old shard) side shard
-      replied (reply.Bytes bytes) has = All-cons AreBytes bytes [] has (All-nil AreBytes)
+      replied (Reply.True side shard) has = truly (is_correct side old shard) side shard
+      replied (Reply.Bytes bytes) has = All-cons AreBytes bytes [] has (All-nil AreBytes)
 
   every_read : (old : World) (id : BlobId) (replies : List Reply) → Facts r old → All ReplyHasBytes replies → Possible (HasStep r old (Read id replies))
   every_read old id replies facts are =
       by_cases (r.HasTwoMetadata id (read_payloads r old id replies))
-      (λ two. then (total.two_collide id (read_payloads r old id replies) bytes two) (λ clash. surely (line.Collision clash.0 clash.1, old, (clash.2, (two_metadata two, refl)))))
+      (λ two. then (total.two_collide id (read_payloads r old id replies) bytes two) (λ clash. surely (Line.Collision clash.0 clash.1, old, (clash.2, (two_metadata two, refl)))))
       (λ one. then (total.reads id (read_payloads r old id replies) bytes one) (λ found. ends found.0 found.1 found.2.0 found.2.1))
     where
       bytes : All AreBytes (read_payloads r old id replies)
@@ -183,15 +170,15 @@ module _ (r : Rules) (laws : Laws r) (total : Total r) where
           then (every_answer old id (Judged evidence told) facts (laws.read_backed id (read_payloads r old id replies) word evidence told reads tells)) (λ e. ⊎_elim
           (λ agrees.
           let new : World = record old { answers = answered old.answers id (Judged evidence told) } in
-          surely (line.Read id word, new, (refl, step new (record { evidence = evidence; reads = reads; agrees = agrees; state = refl }))))
-          (λ differ. let clash = differ.1 in surely (line.Collision clash.0 clash.1, old, (clash.2, (other_answer word told evidence reads tells differ.0, refl))))
+          surely (Line.Read id word, new, (refl, step new (record { evidence = evidence; reads = reads; agrees = agrees; state = refl }))))
+          (λ differ. let clash = differ.1 in surely (Line.Collision clash.0 clash.1, old, (clash.2, (other_answer word told evidence reads tells differ.0, refl))))
           e)
 
       ends : (word : ReadWord) (evidence : Option Evidence) → r.Reads id (read_payloads r old id replies) word evidence → is_some evidence ≡ is_some (told_by word) → Possible (HasStep r old (Read id replies))
-      ends (reading_of.Bytes told) (Some evidence) reads fits = completes (reading_of.Bytes told) (verdict.Bytes told) evidence reads refl (λ new is. is)
-      ends reading_of.Reject (Some evidence) reads fits = completes reading_of.Reject verdict.Reject evidence reads refl (λ new is. is)
-      ends (reading_of.Short have need) None reads fits = surely (line.Read id (reading_of.Short have need), old, (refl, (reads, refl)))
-      ends reading_of.NoMetadata None reads fits = surely (line.Read id reading_of.NoMetadata, old, (refl, (reads, refl)))
+      ends (ReadWord.Bytes told) (Some evidence) reads fits = completes (ReadWord.Bytes told) (Verdict.Bytes told) evidence reads refl (λ new is. is)
+      ends ReadWord.Reject (Some evidence) reads fits = completes ReadWord.Reject Verdict.Reject evidence reads refl (λ new is. is)
+      ends (ReadWord.Short have need) None reads fits = surely (Line.Read id (ReadWord.Short have need), old, (refl, (reads, refl)))
+      ends ReadWord.NoMetadata None reads fits = surely (Line.Read id ReadWord.NoMetadata, old, (refl, (reads, refl)))
       ends word evidence reads fits = absurd cc
 
   -- ---- recoveries
@@ -212,8 +199,8 @@ module _ (r : Rules) (laws : Laws r) (total : Total r) where
       truly false side s = surely ([], refl, All-nil AreBytes)
 
       replied : (one : Reply) → ReplyHasBytes one → Possible ((payloads : List (List ℕ)) × IsReplyOf r old id axis shard one payloads × All AreBytes payloads)
-      replied (reply.True side s) has = truly (is_correct side old s) side s
-      replied (reply.Bytes bytes) has = surely (bytes ∷ [], refl, All-cons AreBytes bytes [] has (All-nil AreBytes))
+      replied (Reply.True side s) has = truly (is_correct side old s) side s
+      replied (Reply.Bytes bytes) has = surely (bytes ∷ [], refl, All-cons AreBytes bytes [] has (All-nil AreBytes))
 
   every_recover : (old : World) (side : Side) (shard : ℕ) (axis : Axis) (id : BlobId) (replies : List Reply) → Facts r old → shard < committee_size old.log.f → All ReplyHasBytes replies
       → Possible (HasStep r old (Recover side shard axis id replies))
@@ -223,12 +210,12 @@ module _ (r : Rules) (laws : Laws r) (total : Total r) where
       c = side_of side old
 
       says : (word : RecoverWord) (new : World) → RecoverStep r old side shard axis id replies word new → Possible (HasStep r old (Recover side shard axis id replies))
-      says word new is = surely (line.Recover shard axis id word, new, (refl, refl, refl, is))
+      says word new is = surely (Line.Recover shard axis id word, new, (refl, refl, refl, is))
 
       ends : (word : RecoverWord) (contents : Contents) → RecoveryRuns r old side shard axis id replies word contents → IsFound word → Possible (HasStep r old (Recover side shard axis id replies))
-      ends recovering.Absent contents run found = absurd found
-      ends recovering.Ignored contents run found = absurd found
-      ends recovering.Unregistered contents run found = absurd found
+      ends RecoverWord.Absent contents run found = absurd found
+      ends RecoverWord.Ignored contents run found = absurd found
+      ends RecoverWord.Unregistered contents run found = absurd found
       ends word contents run found = says word (recovered_state old side shard word contents) (contents, run, refl)
 
       runs : is_correct side old shard ≡ true → is_live old.log id ≡ true → Replied old id axis shard replies → Possible (HasStep r old (Recover side shard axis id replies))
@@ -237,37 +224,37 @@ module _ (r : Rules) (laws : Laws r) (total : Total r) where
           (λ two.
           then (total.held_collides id shard (held c shard id) replied.0 replied.2 (facts.sound side shard id) two) (λ clash.
           let is : RecoverCollides r old side shard axis id replies = record { correct = sound; live = live; payloads = replied.0; replied = replied.1; two_metadata = two } in
-          surely (line.Collision clash.0 clash.1, old, (clash.2, (is, refl)))))
+          surely (Line.Collision clash.0 clash.1, old, (clash.2, (is, refl)))))
           (λ one.
           then (total.recovers id shard axis (contents_of c shard) replied.0 (subst (λ (f : ℕ). shard < committee_size f) facts.sized_f lt) replied.2 (sound_contents r c shard (facts.sound side))
           (λ two. one (subst (λ (p : Parts). r.ContradictsHeld id p replied.0) (sym (held_is c shard id)) two))) (λ found.
           ends found.0 found.1 (record { correct = sound; live = live; payloads = replied.0; replied = replied.1; one_metadata = one; recovers = found.2 }) found.3))
 
       by : Standing old side shard → Possible (HasStep r old (Recover side shard axis id replies))
-      by (absent none) = says recovering.Absent old (none, refl)
-      by (ignored faulty) = says recovering.Ignored old (faulty, refl)
+      by (absent none) = says RecoverWord.Absent old (none, refl)
+      by (ignored faulty) = says RecoverWord.Ignored old (faulty, refl)
       by (correct sound) =
           ⊎_elim
           (λ live. then (every_reply old id axis shard replies facts are) (λ replied. runs sound live replied))
-          (λ dead. says recovering.Unregistered old (sound, dead, refl))
+          (λ dead. says RecoverWord.Unregistered old (sound, dead, refl))
           (truth (is_live old.log id))
 
   -- ---- every event, and every schedule
 
   pub every_event : (old : World) (event : Event) → Facts r old → IsEventWithin (committee_size old.log.f) event → HasBytes event → Possible (HasStep r old event)
-  every_event old (Register id until) facts fit are = let is = every_register old id until in surely (line.Register id is.0, is.1, (refl, is.2))
+  every_event old (Register id until) facts fit are = let is = every_register old id until in surely (Line.Register id is.0, is.1, (refl, is.2))
   every_event old (Write blob to) facts fit are = every_write old blob to facts fit are
   every_event old (Send side shard bytes) facts fit are = every_send old side shard bytes facts are
-  every_event old (Ack shard id) facts fit are = then (every_ack old shard id) (λ is. surely (line.Ack shard id is.0, is.1, (refl, refl, is.2)))
-  every_event old (Attest shard id) facts fit are = then (every_attest old shard id) (λ is. surely (line.Attest shard id is.0, is.1, (refl, refl, is.2)))
+  every_event old (Ack shard id) facts fit are = then (every_ack old shard id) (λ is. surely (Line.Ack shard id is.0, is.1, (refl, refl, is.2)))
+  every_event old (Attest shard id) facts fit are = then (every_attest old shard id) (λ is. surely (Line.Attest shard id is.0, is.1, (refl, refl, is.2)))
   every_event old (Read id replies) facts fit are = every_read old id replies facts are
   every_event old (Recover side shard axis id replies) facts fit are = every_recover old side shard axis id replies facts fit.0 are
-  every_event old (Forget side shard id) facts fit are = then (every_forget old side shard id) (λ is. surely (line.Forget shard id is.0, is.1, (refl, refl, is.2)))
-  every_event old (Begin owners faulty stays) facts fit are = let is = every_begin old owners faulty stays in surely (line.Begin is.0, is.1, is.2)
-  every_event old (Ready shard) facts fit are = then (every_ready old shard) (λ is. surely (line.Ready shard is.0, is.1, (refl, is.2)))
-  every_event old Finish facts fit are = let is = every_finish old in surely (line.Finish is.0, is.1, is.2)
-  every_event old (Certificate id) facts fit are = then (every_certificate old id) (λ is. surely (line.Certificate id is.0, old, (refl, is.1, refl)))
-  every_event old (Holders id) facts fit are = surely (line.Holders id (holders_word.Count (holders old id)), old, (refl, refl, refl))
+  every_event old (Forget side shard id) facts fit are = then (every_forget old side shard id) (λ is. surely (Line.Forget shard id is.0, is.1, (refl, refl, is.2)))
+  every_event old (Begin owners faulty stays) facts fit are = let is = every_begin old owners faulty stays in surely (Line.Begin is.0, is.1, is.2)
+  every_event old (Ready shard) facts fit are = then (every_ready old shard) (λ is. surely (Line.Ready shard is.0, is.1, (refl, is.2)))
+  every_event old Finish facts fit are = let is = every_finish old in surely (Line.Finish is.0, is.1, is.2)
+  every_event old (Certificate id) facts fit are = then (every_certificate old id) (λ is. surely (Line.Certificate id is.0, old, (refl, is.1, refl)))
+  every_event old (Holders id) facts fit are = surely (Line.Holders id (holders_word.Count (holders old id)), old, (refl, refl, refl))
 
   -- from a state on, events have a run
   every_runs : (old : World) (events : List Event) → Facts r old → AllByRecursion (λ event. IsEventWithin (committee_size r.f) event) events → All HasBytes events

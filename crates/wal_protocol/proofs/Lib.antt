@@ -1,11 +1,7 @@
 pub mod Lookups
-pub mod Grown
-pub mod Dated
 pub mod Entered
-pub mod Turned
 pub mod Stepped
 pub mod Agreement
-pub mod Kept
 pub mod Safety
 pub mod Vouched
 pub mod RunLaws

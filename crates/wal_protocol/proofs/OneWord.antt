@@ -1,7 +1,6 @@
 -- What a step needs of the crates below to be one; and a certificate is one word.
 use Rattle.wal_protocol.proofs.Common.{◌≡◌, ℕ, ◌≤◌, false, List, Option, sym, ap, subst, ◌∙◌, arith, BlobId, Axis, Evidence, Frame, ReadWord, RecoverWord, CertificateWord, quorum_size, Log, Parts, Contents, PutAnswer, World, Rules, is_clash, CertificateStep}
 use Rattle.wal_shape.specs.declared.shape.Format.{Format}
-use Rattle.wal_event.specs.declared.line.CertificateWord.TheVariants as certifying
 
 -- ---- what the crates below leave no choice of
 
@@ -25,12 +24,10 @@ pub record Only (r : Rules) : Type 0 where
 -- ---- certificates
 
 pub one_certificate : (w : World) (id : BlobId) (a b : CertificateWord) → CertificateStep w id a → CertificateStep w id b → a ≡ b
-one_certificate w id (certifying.Certified e i) (certifying.Certified g j) a b =
-    let early = a.least g in
-    let late = b.least e in
-    grind arith
-one_certificate w id (certifying.Certified e i) (certifying.Pending j) a b =
+one_certificate w id (CertificateWord.Certified e i) (CertificateWord.Certified g j) a b =
+    grind (arith, a.least g, b.least e)
+one_certificate w id (CertificateWord.Certified e i) (CertificateWord.Pending j) a b =
     absurd (b.0 (record { live = a.live; quorum = (e, subst (λ (k : ℕ). quorum_size w.log.f ≤ k) a.counted a.quorum) }))
-one_certificate w id (certifying.Pending i) (certifying.Certified g j) a b =
+one_certificate w id (CertificateWord.Pending i) (CertificateWord.Certified g j) a b =
     absurd (a.0 (record { live = b.live; quorum = (g, subst (λ (k : ℕ). quorum_size w.log.f ≤ k) b.counted b.quorum) }))
-one_certificate w id (certifying.Pending i) (certifying.Pending j) a b = ap certifying.Pending (a.1 ∙ sym b.1)
+one_certificate w id (CertificateWord.Pending i) (CertificateWord.Pending j) a b = ap CertificateWord.Pending (a.1 ∙ sym b.1)

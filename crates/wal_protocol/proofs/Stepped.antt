@@ -1,27 +1,7 @@
 -- Each step keeps the facts.
-use Rattle.wal_protocol.proofs.Common.{◌≡◌, ℕ, zero, suc, ◌<◌, List, [], ◌∷◌, length, Bool, true, false, not, Some, IsTrue, ◌⊎◌, inl, inr, refl, sym, subst, arith, get-insert, or_left, BlobId, Axis, Side, Now, Next, id_cmp, among, is_committee, has_neighbour, every_below, Verdict, IsEventWithin, Event, Register, Write, Send, Ack, Attest, Read, Recover, Forget, Begin, Ready, Finish, Reply, Line, ReadWord, RecoverWord, Kind, committee_size, owners_at, owners_of, same_node, claim_of, ids_total, ClaimsFor, register_enters, claim_enters, ready_enters, Parts, parts_at, settled_by_slivers, has_proof, backs, without_slivers, First, Judged, Written, Committee, World, side_of, with_side, is_present, epoch_of, writing_side, is_correct, contents_of, held, with_contents, answered, Rules, WriteStep, WriteCollides, ClaimStep, ReadCompletes, told_by, Gains, ForgetStep, Steps, Facts, backed, Laws, forgotten, same_id, Contents, ◌||◌}
-use Rattle.std.proofs.lemmas.Bool.Decides.{nat_tests}
-use Rattle.std.specs.FinMap as finmap
-use Rattle.wal_evidence.specs.declared.evidence.Verdict.TheVariants as verdict
-use Rattle.wal_event.specs.declared.line.Line.TheVariants as line
-use Rattle.wal_event.specs.declared.line.WriteWord.TheVariants as write_word
-use Rattle.wal_event.specs.declared.line.RegisterWord.TheVariants as registering
-use Rattle.wal_event.specs.declared.line.SendWord.TheVariants as sending
-use Rattle.wal_event.specs.declared.line.AckWord.TheVariants as acking
-use Rattle.wal_event.specs.declared.line.AttestWord.TheVariants as attesting
-use Rattle.wal_event.specs.declared.line.ReadWord.TheVariants as reading_of
-use Rattle.wal_event.specs.declared.line.RecoverWord.TheVariants as recovering
-use Rattle.wal_event.specs.declared.line.ForgetWord.TheVariants as forgetting
-use Rattle.wal_event.specs.declared.line.BeginWord.TheVariants as beginning
-use Rattle.wal_event.specs.declared.line.ReadyWord.TheVariants as readying
-use Rattle.wal_event.specs.declared.line.FinishWord.TheVariants as finishing
-use Rattle.wal_ledger.specs.declared.entry.Body.TheVariants as entry
-use Rattle.wal_ledger.specs.declared.entry.Kind.TheVariants as kinds
-use Rattle.wal_shard.specs.declared.answers.PutAnswer.TheVariants as putting
-use Rattle.wal_protocol.proofs.Lookups.{held_is, parts_forgotten}
-use Rattle.wal_protocol.proofs.Grown.{Firmer, GrownFrom, grown_same, grown_put, grown_each, grown_changed, sound_contents, firmer_same, firmer_contents, firmer_forgotten, facts_grown}
-use Rattle.wal_protocol.proofs.Entered.{writing_present, facts_entered}
-use Rattle.wal_protocol.proofs.Turned.{IsClosedBy, facts_begun, facts_finished}
+use Rattle.wal_protocol.proofs.Common.{◌≡◌, ℕ, zero, suc, ◌<◌, List, [], ◌∷◌, length, Bool, true, false, not, Some, IsTrue, ◌⊎◌, inl, inr, refl, sym, subst, arith, get-insert, or_left, BlobId, Axis, Side, Now, Next, id_cmp, among, is_committee, has_neighbour, every_below, Verdict, IsEventWithin, Event, Register, Write, Send, Ack, Attest, Read, Recover, Forget, Begin, Ready, Finish, Reply, Line, ReadWord, RecoverWord, Kind, committee_size, owners_at, owners_of, same_node, claim_of, ids_total, ClaimsFor, register_enters, claim_enters, ready_enters, Parts, parts_at, settled_by_slivers, has_proof, backs, without_slivers, First, Judged, Written, Committee, World, side_of, with_side, is_present, epoch_of, writing_side, is_correct, contents_of, held, with_contents, answered, Rules, WriteStep, WriteCollides, ClaimStep, ReadCompletes, told_by, Gains, ForgetStep, Steps, Facts, backed, Laws, forgotten, same_id, Contents, ◌||◌, AckWord, AttestWord, BeginWord, FinishWord, ForgetWord, ReadyWord, RegisterWord, SendWord, WriteWord, Body, PutAnswer, nat_tests, FinMap, get}
+use Rattle.wal_protocol.proofs.Lookups.{held_is, parts_forgotten, Firmer, GrownFrom, grown_same, grown_put, grown_each, grown_changed, sound_contents, firmer_same, firmer_contents, firmer_forgotten, facts_grown}
+use Rattle.wal_protocol.proofs.Entered.{writing_present, facts_entered, IsClosedBy, facts_begun, facts_finished}
 
 -- a test that passes below a number passes at each number below it
 every_at : (n : ℕ) (p : ℕ → Bool) (k : ℕ) → every_below n p ≡ true → k < n → p k ≡ true
@@ -41,15 +21,15 @@ closed_by n owners faulty committee s t lt_s lt_t same out =
     grind (arith, nat_tests)
 
 -- a first completed answer rests on something
-backing_answered : (r : Rules) (answers : finmap.FinMap id_cmp First) (id : BlobId) (a : First) → ((q : BlobId) (x : First) → finmap.get answers q ≡ Some x → r.IsBacked q x) → r.IsBacked id a
-    → (q : BlobId) (x : First) → finmap.get (answered answers id a) q ≡ Some x → r.IsBacked q x
+backing_answered : (r : Rules) (answers : FinMap id_cmp First) (id : BlobId) (a : First) → ((q : BlobId) (x : First) → get answers q ≡ Some x → r.IsBacked q x) → r.IsBacked id a
+    → (q : BlobId) (x : First) → get (answered answers id a) q ≡ Some x → r.IsBacked q x
 backing_answered r answers id a all backed_a q x h =
     grind (arith, get-insert ids_total answers id a q, same_id q id, all q x)
 
 module _ (r : Rules) (laws : Laws r) where
   -- one side grew, and answers came
-  facts_sided : (old : World) (side : Side) (d : Committee) (answers : finmap.FinMap id_cmp First) → Facts r old → GrownFrom r (side_of side old) d
-      → ((id : BlobId) (answer : First) → finmap.get answers id ≡ Some answer → r.IsBacked id answer) → Facts r (record (with_side side old d) { answers = answers })
+  facts_sided : (old : World) (side : Side) (d : Committee) (answers : FinMap id_cmp First) → Facts r old → GrownFrom r (side_of side old) d
+      → ((id : BlobId) (answer : First) → get answers id ≡ Some answer → r.IsBacked id answer) → Facts r (record (with_side side old d) { answers = answers })
   facts_sided old Now d answers facts grown backing = facts_grown r old d old.next answers facts grown (grown_same r old.next (facts.sound Next)) backing
   facts_sided old Next d answers facts grown backing = facts_grown r old old.now d answers facts (grown_same r old.now (facts.sound Now)) grown backing
 
@@ -71,8 +51,8 @@ module _ (r : Rules) (laws : Laws r) where
 
   -- what backs a claim is what the facts keep
   backed_by : (old : World) (side : Side) (kind : Kind) (s : ℕ) (id : BlobId) → Facts r old → backs kind (held (side_of side old) s id) ≡ true → backed kind (held (side_of side old) s id) ≡ true
-  backed_by old side kinds.Holds s id facts h = or_left (settled_by_slivers (held (side_of side old) s id)) (has_proof (held (side_of side old) s id)) h
-  backed_by old side kinds.Denies s id facts h = h
+  backed_by old side Kind.Holds s id facts h = or_left (settled_by_slivers (held (side_of side old) s id)) (has_proof (held (side_of side old) s id)) h
+  backed_by old side Kind.Denies s id facts h = h
 
   -- a shard whose neighbour is correct is correct
   correct_node : (old : World) (side : Side) (shard s : ℕ) → Facts r old → is_present side old ≡ true → shard < committee_size old.log.f → s < committee_size old.log.f
@@ -109,7 +89,7 @@ module _ (r : Rules) (laws : Laws r) where
       (laws.recover_sound id shard axis before contents run.payloads word run.recovers (λ clash. run.one_metadata (subst (λ (p : Parts). r.ContradictsHeld id p run.payloads) (sym (held_is c shard id)) clash)) (sound_contents r c shard (facts.sound side)))
       (firmer_contents c shard contents (laws.recover_adds id shard axis before contents run.payloads word run.recovers))))
 
-  forgets : (old : World) (side : Side) (shard : ℕ) (id : BlobId) (new : World) → Facts r old → ForgetStep old side shard id forgetting.Done new → Facts r new
+  forgets : (old : World) (side : Side) (shard : ℕ) (id : BlobId) (new : World) → Facts r old → ForgetStep old side shard id ForgetWord.Done new → Facts r new
   forgets old side shard id new facts (correct, may, state) =
       let c = side_of side old in
       subst (Facts r) (sym state)
@@ -136,34 +116,34 @@ module _ (r : Rules) (laws : Laws r) where
 
   -- every step keeps the facts; they come last, so that the search for what a word changes does not read them
   kept_step : (old : World) (event : Event) (said : Line) (new : World) → Steps r old event said new → Facts r old → IsEventWithin (committee_size old.log.f) event → Facts r new
-  kept_step old (Register id until) (line.Register i (registering.Until most)) new (same_i, (may, is, shown)) = λ facts fit.
+  kept_step old (Register id until) (Line.Register i (RegisterWord.Until most)) new (same_i, (may, is, shown)) = λ facts fit.
       subst (Facts r) (sym is)
-      (facts_entered r old (entry.Register id until) (λ i kind s. ⊥) (λ s. ⊥) facts (register_enters old.log id until facts.orderly may) (λ i kind s none lt correct. absurd none)
+      (facts_entered r old (Body.Register id until) (λ i kind s. ⊥) (λ s. ⊥) facts (register_enters old.log id until facts.orderly may) (λ i kind s none lt correct. absurd none)
       (λ i s none lt correct must. absurd none))
-  kept_step old (Write blob to) (line.Write i (write_word.Stored count bytes)) new (same_b, is) = λ facts fit. writes old blob to i count new facts is
-  kept_step old (Write blob to) (line.Collision left right) new (clash, is) = λ facts fit. write_collides old blob to new facts is
-  kept_step old (Send at shard bytes) (line.Send s sending.Stored) new (same_s, (frame, contents, is, state)) = λ facts fit.
+  kept_step old (Write blob to) (Line.Write i (WriteWord.Stored count bytes)) new (same_b, is) = λ facts fit. writes old blob to i count new facts is
+  kept_step old (Write blob to) (Line.Collision left right) new (clash, is) = λ facts fit. write_collides old blob to new facts is
+  kept_step old (Send at shard bytes) (Line.Send s SendWord.Stored) new (same_s, (frame, contents, is, state)) = λ facts fit.
       subst (Facts r) (sym state)
       (facts_side old at (with_contents (side_of at old) shard contents) facts
-      (grown_put r laws old.log (side_of at old) shard frame putting.Stored contents (facts.sound at) is.2))
-  kept_step old (Ack shard id) (line.Ack s i (acking.Counted count)) new (same_s, same_i, (c, few)) = λ facts fit. claims old kinds.Holds shard id count new facts fit c
-  kept_step old (Ack shard id) (line.Ack s i (acking.Certified count)) new (same_s, same_i, (c, many)) = λ facts fit. claims old kinds.Holds shard id count new facts fit c
-  kept_step old (Attest shard id) (line.Attest s i (attesting.Counted count)) new (same_s, same_i, (c, few)) = λ facts fit. claims old kinds.Denies shard id count new facts fit c
-  kept_step old (Attest shard id) (line.Attest s i (attesting.Invalid count)) new (same_s, same_i, (c, many)) = λ facts fit. claims old kinds.Denies shard id count new facts fit c
-  kept_step old (Read id replies) (line.Read i (reading_of.Bytes bytes)) new (same_i, c) = λ facts fit. completes old id replies (reading_of.Bytes bytes) (verdict.Bytes bytes) new refl facts c
-  kept_step old (Read id replies) (line.Read i reading_of.Reject) new (same_i, c) = λ facts fit. completes old id replies reading_of.Reject verdict.Reject new refl facts c
-  kept_step old (Recover at shard axis id replies) (line.Recover s a i (recovering.Sliver bytes)) new step = λ facts fit. gains old at shard axis id replies (recovering.Sliver bytes) new facts step.3
-  kept_step old (Recover at shard axis id replies) (line.Recover s a i recovering.Inconsistent) new step = λ facts fit. gains old at shard axis id replies recovering.Inconsistent new facts step.3
-  kept_step old (Recover at shard axis id replies) (line.Recover s a i recovering.Proof) new step = λ facts fit. gains old at shard axis id replies recovering.Proof new facts step.3
-  kept_step old (Forget at shard id) (line.Forget s i forgetting.Done) new step = λ facts fit. forgets old at shard id new facts step.2
-  kept_step old (Begin owners faulty stays) (line.Begin (beginning.Epoch epoch)) new (serving, early, shown, state) = λ facts fit.
+      (grown_put r laws old.log (side_of at old) shard frame PutAnswer.Stored contents (facts.sound at) is.2))
+  kept_step old (Ack shard id) (Line.Ack s i (AckWord.Counted count)) new (same_s, same_i, (c, few)) = λ facts fit. claims old Kind.Holds shard id count new facts fit c
+  kept_step old (Ack shard id) (Line.Ack s i (AckWord.Certified count)) new (same_s, same_i, (c, many)) = λ facts fit. claims old Kind.Holds shard id count new facts fit c
+  kept_step old (Attest shard id) (Line.Attest s i (AttestWord.Counted count)) new (same_s, same_i, (c, few)) = λ facts fit. claims old Kind.Denies shard id count new facts fit c
+  kept_step old (Attest shard id) (Line.Attest s i (AttestWord.Invalid count)) new (same_s, same_i, (c, many)) = λ facts fit. claims old Kind.Denies shard id count new facts fit c
+  kept_step old (Read id replies) (Line.Read i (ReadWord.Bytes bytes)) new (same_i, c) = λ facts fit. completes old id replies (ReadWord.Bytes bytes) (Verdict.Bytes bytes) new refl facts c
+  kept_step old (Read id replies) (Line.Read i ReadWord.Reject) new (same_i, c) = λ facts fit. completes old id replies ReadWord.Reject Verdict.Reject new refl facts c
+  kept_step old (Recover at shard axis id replies) (Line.Recover s a i (RecoverWord.Sliver bytes)) new step = λ facts fit. gains old at shard axis id replies (RecoverWord.Sliver bytes) new facts step.3
+  kept_step old (Recover at shard axis id replies) (Line.Recover s a i RecoverWord.Inconsistent) new step = λ facts fit. gains old at shard axis id replies RecoverWord.Inconsistent new facts step.3
+  kept_step old (Recover at shard axis id replies) (Line.Recover s a i RecoverWord.Proof) new step = λ facts fit. gains old at shard axis id replies RecoverWord.Proof new facts step.3
+  kept_step old (Forget at shard id) (Line.Forget s i ForgetWord.Done) new step = λ facts fit. forgets old at shard id new facts step.2
+  kept_step old (Begin owners faulty stays) (Line.Begin (BeginWord.Epoch epoch)) new (serving, early, shown, state) = λ facts fit.
       subst (Facts r) (sym state) (facts_begun r laws old owners faulty stays facts serving (closed_by (committee_size old.log.f) owners faulty fit.0))
-  kept_step old (Ready shard) (line.Ready s (readying.Counted count)) new (same_s, (moving, may, first, state, counted)) = λ facts fit.
+  kept_step old (Ready shard) (Line.Ready s (ReadyWord.Counted count)) new (same_s, (moving, may, first, state, counted)) = λ facts fit.
       subst (Facts r) (sym state)
-      (facts_entered r old (entry.Ready shard) (λ i kind t. ⊥) (λ t. same_node (owners_of Next old.log) shard t ≡ true) facts (ready_enters old.log shard facts.orderly)
+      (facts_entered r old (Body.Ready shard) (λ i kind t. ⊥) (λ t. same_node (owners_of Next old.log) shard t ≡ true) facts (ready_enters old.log shard facts.orderly)
       (λ i kind s none lt correct. absurd none)
       (λ id s node lt correct must. may (correct_node old Next shard s facts moving fit lt node correct) s lt node id must))
-  kept_step old Finish (line.Finish (finishing.Epoch epoch)) new (moving, quorum, shown, state) = λ facts fit. subst (Facts r) (sym state) (facts_finished r laws old facts moving quorum)
+  kept_step old Finish (Line.Finish (FinishWord.Epoch epoch)) new (moving, quorum, shown, state) = λ facts fit. subst (Facts r) (sym state) (facts_finished r laws old facts moving quorum)
   -- every other word leaves the state
   kept_step old event said new step = let same : new ≡ old = grind arith in λ facts fit. subst (Facts r) (sym same) facts
 

@@ -13,7 +13,10 @@ use Rattle.wal_protocol.specs.Step.{Steps}
 
 -- a committee that holds nothing
 abbrev pub empty_committee : ℕ → List ℕ → Committee
-empty_committee f faulty = record { faulty = faulty; shards = map (λ s. finmap.empty) (range_with_len 0 (committee_size f)) }
+empty_committee f faulty = record {
+  faulty = faulty;
+  shards = map (λ s. finmap.empty) (range_with_len 0 (committee_size f));
+}
 
 -- the first state: no entries, nothing held, no answers
 abbrev pub first_state : Schedule → World

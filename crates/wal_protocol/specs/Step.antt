@@ -121,7 +121,9 @@ pub record WriteStep (r : Rules) (old : World) (blob to : List ℕ)
     (id : BlobId) (count : ℕ) (new : World) : Type 0 where
   pub write : IsWrite r old blob to id false
   pub agrees : AgreesWithFirst old.answers id (verdict.Bytes blob)
-  pub state : new ≡ record (with_side (writing_side old) old write.mid) { answers = answered old.answers id (Written blob) }
+  pub state : new ≡ record (with_side (writing_side old) old write.mid) {
+    answers = answered old.answers id (Written blob);
+  }
   pub counted : count ≡ stored_at r new (writing_side old) write.message to id
 
 -- it ends in a collision: a put found another metadata, or the first completed answer is another
@@ -427,7 +429,11 @@ FinishStep old (finishing.Waiting count) new =
 FinishStep old (finishing.Epoch epoch) new =
     (is_moving old.log ≡ true) × (quorum_size old.log.f ≤ ready_total old.log)
     × (epoch ≡ writing old.log)
-    × (new ≡ record old { log = entered old.log entry.Finish; now = after_dropping (entered old.log entry.Finish) old.next; next = nobody })
+    × (new ≡ record old {
+      log = entered old.log entry.Finish;
+      now = after_dropping (entered old.log entry.Finish) old.next;
+      next = nobody;
+    })
 
 -- A CERTIFICATE IS ASKED FOR
 abbrev pub CertificateStep : World → BlobId → CertificateWord → Type 0

@@ -1,5 +1,5 @@
 -- The answers for one metadata: the verdict on enough slivers, or their number.
-use Rattle.wal_reader.proofs.Common.{◌≡◌, ℕ, ◌≤◌, List, length, refl, sym, ap, subst, ◌∙◌, arith, inl, inr, Option, None, Result, Ok, Err, IfOk, row_count, BlobMetadata, EncodingProof, MetaClash, AreDigestedFor, IsEvidence, Verdict, Outcome, Short, NoMetadata, Collision, ReadAnswer, IsFirstBadProof, NoBadProof, AreFirstTwo, Collects, Decides, HasMetadata, HoldsFew, IsAnswer, IsEvidenceFor, IsMetadataIn, IsOnlyOutcome, IsAnswerOf, told_outcome}
+use Rattle.wal_reader.proofs.Common.{◌≡◌, ℕ, ◌≤◌, List, length, refl, arith, inl, inr, Option, None, Result, Ok, Err, IfOk, row_count, BlobMetadata, EncodingProof, MetaClash, AreDigestedFor, Verdict, Short, NoMetadata, Collision, ReadAnswer, IsFirstBadProof, NoBadProof, AreFirstTwo, Collects, Decides, HasMetadata, HoldsFew, IsAnswer, IsEvidenceFor, IsMetadataIn, IsOnlyOutcome, IsAnswerOf, told_outcome}
 use Rattle.wal_tree.specs.Collision.{IsCollision}
 use Rattle.wal_evidence.specs.declared.evidence.Basis.TheVariants.{Slivers, Proof}
 use Rattle.wal_evidence.specs.declared.evidence.Evidence.{Evidence}
@@ -26,16 +26,13 @@ module _ (digest : List ℕ → List ℕ) (id : List ℕ) where
   settled m payloads indices joined metadata is js (Err e) one collects enough same_m same_is same_js given = tt
   settled m payloads indices joined metadata is js (Ok answer) one collects enough same_m same_is same_js given =
       let of = rw (same_m, same_is, same_js) at given in
-      let few = collects_few digest id m payloads indices joined collects in
-      let count : length indices ≡ row_count m.f = omega (arith, few, enough) in
-      let e : Evidence = record { metadata = m; basis = Slivers indices joined } in
-      let held : IsEvidence digest id e =
-      record { committed = one.0.4.1; held = enough_are_held digest id m payloads indices joined collects count } in
-      let only = only_verdict digest id payloads m indices joined of.0
-      (record { one = one; collects = collects; count = count; only = of.2 }) in
-      subst (λ (o : Outcome). IsAnswer digest id payloads (record { outcome = o; evidence = answer.evidence }))
-      (sym of.3) (outcome_of_verdict payloads of.0 answer.evidence (m, one, indices, joined, collects, count, of.1) only
-      (e, of.4, held, of.1, one, collects))
+      let count : length indices ≡ row_count m.f =
+      omega (arith, collects_few digest id m payloads indices joined collects, enough) in
+      let held = enough_are_held digest id m payloads indices joined collects count in
+      rw of.3 (outcome_of_verdict payloads of.0 answer.evidence (m, one, indices, joined, collects, count, of.1)
+      (only_verdict digest id payloads m indices joined of.0
+      (record { one = one; collects = collects; count = count; only = of.2 }))
+      (_, of.4, record { committed = one.0.4.1; held = held }, of.1, one, collects))
 
   has_few : (m : BlobMetadata) (payloads : List (List ℕ)) (have : ℕ) → IsMetadataIn digest id payloads m
       → (few : HoldsFew digest id m payloads have) → HasFew digest id payloads m few.0 few.1
@@ -50,13 +47,10 @@ module _ (digest : List ℕ → List ℕ) (id : List ℕ) where
   refuted m payloads have p metadata q (Err e) one few first same_m same_p given = tt
   refuted m payloads have p metadata q (Ok answer) one few first same_m same_p given =
       let of = rw (same_m, same_p) at given in
-      let e : Evidence = record { metadata = m; basis = Proof p } in
-      let held : IsEvidence digest id e = record { committed = one.0.4.1; held = first.4.1 } in
-      subst (λ (o : Outcome). IsAnswer digest id payloads (record { outcome = o; evidence = answer.evidence }))
-      (sym (of.3 ∙ ap told_outcome of.1)) (
+      rw (of.3, of.1) (
         inr (m, one, have, few, p, first),
         only_refuted digest id payloads m few.0 few.1 p (has_few m payloads have one few) first,
-        (e, of.4, held, refl, one, (have, few, first)),
+        (_, of.4, record { committed = one.0.4.1; held = first.4.1 }, refl, one, (have, few, first)),
       )
 
   -- and where there is none, the number of slivers is
@@ -66,8 +60,11 @@ module _ (digest : List ℕ → List ℕ) (id : List ℕ) where
       → IsAnswer digest id payloads answer
   short m payloads have need answer one few is_need none is =
       let has = has_few m payloads have one few in
-      let those : HoldsFew digest id m payloads (length few.0) = (few.0, few.1, few.2, refl, has.few) in
-      rw (is, is_need, few.3) ((m, one, those, refl, none), only_short digest id payloads m few.0 few.1 has none, refl)
+      rw (is, is_need, few.3) (
+        (m, one, (few.0, few.1, few.2, refl, has.few), refl, none),
+        only_short digest id payloads m few.0 few.1 has none,
+        refl,
+      )
 
   -- no metadata
   pub absent : (payloads : List (List ℕ)) (answer : ReadAnswer)

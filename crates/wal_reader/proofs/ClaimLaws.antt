@@ -1,8 +1,7 @@
 -- The openings of a sliver are those of the claims whose target it is.
-use Rattle.wal_reader.proofs.Common.{◌≡◌, ℕ, Bool, true, false, ◌&&◌, nat_eq, List, [], ◌∷◌, ◌++◌, Result, Ok, if◌then◌else◌, refl, ap₂, ◌∙◌, Axis, Frame, Opening, read_of, FrameError, claim_for, claims_in, opening_at, opening_for, openings_in, same_axis}
+use Rattle.wal_reader.proofs.Common.{◌≡◌, ℕ, Bool, true, false, ◌&&◌, nat_eq, List, [], ◌∷◌, ◌++◌, Result, Ok, if◌then◌else◌, refl, ap₂, ◌∙◌, Axis, Frame, Opening, read_of, FrameError, claim_for, claims_in, opening_at, opening_for, openings_in, same_axis, append-nil}
 use Rattle.std.specs.List.{flat_map}
 use Rattle.std.specs.Cmp.Lexicographic.{pointwise}
-use Rattle.std.proofs.lemmas.List.{append-nil}
 use Rattle.std.proofs.lemmas.List.Concat.{flat_map-append}
 use Rattle.wal_shape.specs.declared.claim.Claim.{Claim}
 

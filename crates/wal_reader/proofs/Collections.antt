@@ -1,7 +1,6 @@
 -- The held slivers that are collected from payloads, one by one.
-use Rattle.wal_reader.proofs.Common.{◌≡◌, ℕ, ◌*◌, ◌<◌, ◌≤◌, List, [], ◌∷◌, ◌++◌, length, map, get_or, slice_index, refl, sym, ap, subst, ◌∙◌, arith, ⊎_elim, All, Contains, Ok, get_or-map, length-map, map-append, Distinct, Primary, row_count, BlobMetadata, Sliver, read_of, HoldsSliver, AreHeld, sliver_bytes, CarriesSliver, Collects, GivesSliver, HasSliver, IndexedSliver, IsMetadataIn}
+use Rattle.wal_reader.proofs.Common.{◌≡◌, ℕ, ◌*◌, ◌<◌, ◌≤◌, List, [], ◌∷◌, ◌++◌, length, map, get_or, slice_index, refl, sym, ap, subst, ◌∙◌, arith, ⊎_elim, All, Contains, Ok, get_or-map, length-map, map-append, Distinct, Primary, row_count, BlobMetadata, Sliver, read_of, HoldsSliver, AreHeld, sliver_bytes, CarriesSliver, Collects, GivesSliver, HasSliver, IndexedSliver, IsMetadataIn, append-nil}
 use Rattle.std.proofs.lemmas.Grind.{flat_map-append}
-use Rattle.std.proofs.lemmas.List.{append-nil}
 use Rattle.wal_kernel.specs.Region.{region}
 use Rattle.wal_evidence.specs.FirstOfEach.{adds, keeps}
 use Rattle.wal_evidence.specs.inside.FirstOfEach.{AreTaken}
@@ -11,6 +10,10 @@ use Rattle.wal_evidence.proofs.Pieces.{piece_at, pieces_long}
 
 abbrev no_sliver : IndexedSliver
 no_sliver = record { index = 0; bytes = [] }
+
+-- as many indices as slivers
+counted : {is : List ℕ} (slivers : List IndexedSliver) → is ≡ map (λ s. s.index) slivers → length is ≡ length slivers
+counted slivers same = ap length same ∙ length-map slivers (λ (x : IndexedSliver). x.index)
 
 module _ (digest : List ℕ → List ℕ) (id : List ℕ) (m : BlobMetadata) where
   pub one_given : (payload : List ℕ) (a b : IndexedSliver) → GivesSliver digest id m payload a → GivesSliver digest id m payload b → a ≡ b
@@ -26,12 +29,10 @@ module _ (digest : List ℕ → List ℕ) (id : List ℕ) (m : BlobMetadata) whe
       → Collects digest id m (payloads ++ payload ∷ []) ks ls
   collects_taken payloads payload is js index bytes ks ls short carries new ks_are ls_are was =
       let slivers = was.0 in
-      let s : IndexedSliver = record { index = index; bytes = bytes } in
-      let long : length is ≡ length slivers = ap length was.2 ∙ length-map slivers (λ (x : IndexedSliver). x.index) in
-      let fresh : Contains (map (λ (x : IndexedSliver). x.index) slivers) index → ⊥ = subst (λ (xs : List ℕ). Contains xs index → ⊥) was.2 new in (
+      let s : IndexedSliver = record { index = index; bytes = bytes } in (
         slivers ++ s ∷ [],
         takes_more (GivesSliver digest id m) (λ x. x.index) (row_count m.f) [] payloads slivers (slivers ++ s ∷ []) payload was.1
-            (adds s (omega (arith, short, long)) carries fresh refl),
+            (adds s (omega (arith, short, counted slivers was.2)) carries (rw was.2 at new) refl),
         ks_are ∙ ap (λ (xs : List ℕ). xs ++ index ∷ []) was.2 ∙ sym (map-append (λ (x : IndexedSliver). x.index) slivers (s ∷ [])),
         cc (ls_are, was.3, append-nil bytes, flat_map-append (λ (x : IndexedSliver). x.bytes) slivers (s ∷ [])),
       )
@@ -41,11 +42,11 @@ module _ (digest : List ℕ → List ℕ) (id : List ℕ) (m : BlobMetadata) whe
       → ((index : ℕ) (bytes : List ℕ) → length is < row_count m.f → CarriesSliver digest id m payload index bytes → Contains is index)
       → Collects digest id m payloads is js → Collects digest id m (payloads ++ payload ∷ []) is js
   collects_passed payloads payload is js known was =
-      let slivers = was.0 in
-      let long : length is ≡ length slivers = ap length was.2 ∙ length-map slivers (λ (x : IndexedSliver). x.index) in (
+      let slivers = was.0 in (
         slivers,
         takes_more (GivesSliver digest id m) (λ x. x.index) (row_count m.f) [] payloads slivers slivers payload was.1
-            (keeps (λ s short carries. subst (λ (xs : List ℕ). Contains xs s.index) was.2 (known s.index s.bytes (omega (arith, short, long)) carries)) refl),
+            (keeps (λ s short carries. rw was.2 at
+            (known s.index s.bytes (omega (arith, short, counted slivers was.2)) carries)) refl),
         was.2,
         was.3,
       )
@@ -58,16 +59,16 @@ module _ (digest : List ℕ → List ℕ) (id : List ℕ) (m : BlobMetadata) whe
       collects_passed payloads payload is js
       (λ i b short carries.
       let same : (i ≡ index) × (b ≡ bytes) = grind (arith, carries.0, read) in
-      let held = rw (same.0, same.1) at carries.1 in
-      rw same.0 (⊎_elim (λ known. known) (λ new. absurd (unwanted short new held)) (known_or_new is index)))
-      was
+      rw same.0 (⊎_elim (λ known. known) (λ new. absurd (unwanted short new (rw (same.0, same.1) at carries.1)))
+      (known_or_new is index))) was
 
   -- where there are enough, more payloads add nothing
   pub collects_full : (payloads more : List (List ℕ)) (is js : List ℕ) → row_count m.f ≤ length is → Collects digest id m payloads is js
       → Collects digest id m (payloads ++ more) is js
   collects_full payloads more is js full was =
-      let long : length is ≡ length was.0 = ap length was.2 ∙ length-map was.0 (λ (x : IndexedSliver). x.index) in
-      (was.0, full_more (GivesSliver digest id m) (λ x. x.index) (row_count m.f) payloads more was.0 (omega (arith, full, long)) was.1, was.2, was.3)
+      let still = full_more (GivesSliver digest id m) (λ x. x.index) (row_count m.f) payloads more was.0
+      (omega (arith, full, counted was.0 was.2)) was.1 in
+      (was.0, still, was.2, was.3)
 
   -- payloads have one collection
   pub one_collection : (payloads : List (List ℕ)) (is js ks ls : List ℕ) → Collects digest id m payloads is js → Collects digest id m payloads ks ls
@@ -88,7 +89,7 @@ module _ (digest : List ℕ → List ℕ) (id : List ℕ) (m : BlobMetadata) whe
     carried = first_taken (GivesSliver digest id m) (λ x. x.index) (row_count m.f) IsCarried payloads was.0 (λ p s there gives. (p, there, gives)) was.1
 
     count : length is ≡ length was.0
-    count = ap length was.2 ∙ length-map was.0 (λ (x : IndexedSliver). x.index)
+    count = counted was.0 was.2
 
     -- they are no more than are needed
     pub collects_few : length is ≤ row_count m.f
@@ -104,30 +105,25 @@ module _ (digest : List ℕ → List ℕ) (id : List ℕ) (m : BlobMetadata) whe
 
     pub collects_carried : All (HasSliver digest id m payloads) is
     collects_carried k d l =
-        let s = get_or was.0 k no_sliver in
         let found = carried.each k no_sliver (omega (arith, l, count)) in
-        let place = found.1 in
-        subst (HasSliver digest id m payloads) (sym (at_place k d l)) (place.0, found.0, place.1, place.2, (s.bytes, found.2))
+        rw (at_place k d l) (found.1.0, found.0, found.1.1, found.1.2, ((get_or was.0 k no_sliver).bytes, found.2))
 
     -- each is held, in its place
     holds_at : All (λ s. HoldsSliver digest m Primary s.index s.bytes) was.0
-    holds_at k d l = let found = carried.each k d l in found.2.1
+    holds_at k d l = (carried.each k d l).2.1
 
     lengths : All (λ s. length s.bytes ≡ sliver_bytes m) was.0
     lengths k d l = (holds_at k d l).size
 
     -- all together are as long as their number says
     pub collects_size : length js ≡ length is * sliver_bytes m
-    collects_size =
-        ap length was.3 ∙ pieces_long (λ (x : IndexedSliver). x.bytes) (sliver_bytes m) was.0 lengths ∙ ap (λ (n : ℕ). n * sliver_bytes m) (sym count)
+    collects_size = rw (was.3, count) (pieces_long (λ (x : IndexedSliver). x.bytes) (sliver_bytes m) was.0 lengths)
 
     pub collects_held : (k : ℕ) → k < length is → HoldsSliver digest m Primary (slice_index is k) (region (sliver_bytes m) js k)
     collects_held k l =
-        let s = get_or was.0 k no_sliver in
         let inside : k < length was.0 = omega (arith, l, count) in
-        let bytes : region (sliver_bytes m) js k ≡ s.bytes =
-        ap (λ (xs : List ℕ). region (sliver_bytes m) xs k) was.3 ∙ piece_at (λ (x : IndexedSliver). x.bytes) (sliver_bytes m) was.0 k no_sliver lengths inside in
-        rw (at_place k 0 l, bytes) (holds_at k no_sliver inside)
+        let piece = piece_at (λ (x : IndexedSliver). x.bytes) (sliver_bytes m) was.0 k no_sliver lengths inside in
+        rw (was.3, piece, at_place k 0 l) (holds_at k no_sliver inside)
 
     -- enough of them are evidence
     pub enough_are_held : length is ≡ row_count m.f → AreHeld digest m is js
@@ -137,20 +133,17 @@ module _ (digest : List ℕ → List ℕ) (id : List ℕ) (m : BlobMetadata) whe
     -- where there are too few, each held sliver that a payload carries is among them
     pub collects_all : length is < row_count m.f → (index : ℕ) → HasSliver digest id m payloads index → Contains is index
     collects_all short index has =
-        subst (λ (xs : List ℕ). Contains xs index) (sym was.2)
-        (takes_all (GivesSliver digest id m) (λ x. x.index) (row_count m.f) one_given [] payloads was.0 was.1 (omega (arith, short, count)) has.1
-        (record { index = index; bytes = has.4.0 }) (has.0, has.2, has.3) has.4.1)
+        rw was.2 (takes_all (GivesSliver digest id m) (λ x. x.index) (row_count m.f) one_given [] payloads was.0 was.1
+        (omega (arith, short, count)) has.1 (record { index = index; bytes = has.4.0 }) (has.0, has.2, has.3) has.4.1)
 
   -- in other words
   pub held_as : (payloads : List (List ℕ)) (indices joined : List ℕ) (metadata : BlobMetadata) (is js : List ℕ) → Collects digest id m payloads indices joined
       → row_count m.f ≤ length indices → metadata ≡ m → is ≡ indices → js ≡ joined → AreHeld digest metadata is js
   held_as payloads indices joined metadata is js collects enough same_m same_is same_js =
-      let few = collects_few payloads indices joined collects in
-      let held = enough_are_held payloads indices joined collects (omega (arith, few, enough)) in
-      rw (same_m, same_is, same_js) held
+      rw (same_m, same_is, same_js) (enough_are_held payloads indices joined collects
+      (omega (arith, collects_few payloads indices joined collects, enough)))
 
   -- they can be counted
   pub collects_counted : (payloads : List (List ℕ)) (is js : List ℕ) → IsMetadataIn digest id payloads m → Collects digest id m payloads is js → length is ≤ 334
   collects_counted payloads is js one collects =
-      let few = collects_few payloads is js collects in
-      omega (arith, few, one.0.4.1.fit.shape.1)
+      omega (arith, collects_few payloads is js collects, one.0.4.1.fit.shape.1)

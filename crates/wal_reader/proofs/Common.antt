@@ -8,7 +8,7 @@ pub use Rattle.std.specs.Prelude.{replicate, IfErr}
 pub use Rattle.wal_code.specs.Codeword.{Distinct}
 pub use Rattle.wal_commit.specs.Held.{HoldsSliver}
 pub use Rattle.wal_commit.specs.Identifier.{AreDigestedFor, Commits}
-pub use Rattle.wal_evidence.specs.Evidence.{IsEvidence, Judges, AreHeld, sliver_bytes}
+pub use Rattle.wal_evidence.specs.Evidence.{Judges, AreHeld, sliver_bytes}
 pub use Rattle.wal_evidence.specs.declared.evidence.Verdict.{Verdict}
 pub use Rattle.wal_frame.proofs.FrameLaws.{length-sliver_frame, read_is}
 pub use Rattle.wal_frame.specs.Frame.{Sliver, Frame, Opening, Proof, Metadata, frame_text, metadata_kind, envelope}

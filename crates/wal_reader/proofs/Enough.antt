@@ -1,5 +1,5 @@
 -- Enough carried slivers lead to a verdict, and what the evidence of an outcome is.
-use Rattle.wal_reader.proofs.Common.{◌≡◌, ℕ, ◌≤◌, List, length, subst, arith, Contains, nat_eq, Distinct, BlobMetadata, Outcome, Short, NoMetadata, Collision, HasEnough, HasSliver, HoldsFew, IsVerdict, IsMetadataIn, IsOutcome}
+use Rattle.wal_reader.proofs.Common.{ℕ, ◌≤◌, List, length, arith, Contains, nat_eq, Distinct, BlobMetadata, Outcome, Short, NoMetadata, Collision, HasEnough, HoldsFew, IsVerdict, IsMetadataIn, IsOutcome}
 use Rattle.std.proofs.lemmas.Bool.Decides.{Decides-eqb}
 use Rattle.std.proofs.lemmas.Cmp.{nat_eq_equiv}
 use Rattle.std.proofs.lemmas.Map.Made.{IsDistinct-from_AllPairs, is_member-Decides, length-le_from_is_member}
@@ -17,17 +17,16 @@ no_more xs ys distinct among =
 pub not_both : (digest : List ℕ → List ℕ) (id : List ℕ) (m : BlobMetadata) (payloads : List (List ℕ)) (have : ℕ) → HasEnough digest id m payloads
     → HoldsFew digest id m payloads have → ⊥
 not_both digest id m payloads have enough few =
-    let least = no_more enough.0 few.0 enough.1
-    (λ x known. collects_all digest id m payloads few.0 few.1 few.2 (omega (arith, few.3, few.4)) x
-    (subst (λ (i : ℕ). HasSliver digest id m payloads i) known.2 (enough.3 known.0 x known.1))) in
+    let least = no_more enough.0 few.0 enough.1 (λ x known.
+    collects_all digest id m payloads few.0 few.1 few.2 (omega (arith, few.3, few.4)) x
+    (rw known.2 at (enough.3 known.0 x known.1))) in
     omega (arith, least, enough.2, few.3, few.4)
 
 -- one metadata and enough slivers lead to a verdict, whatever else the payloads are
 pub enough : (digest : List ℕ → List ℕ) (id : List ℕ) (payloads : List (List ℕ)) (m : BlobMetadata) (outcome : Outcome) → IsOutcome digest id payloads outcome
     → IsMetadataIn digest id payloads m → HasEnough digest id m payloads → IsVerdict outcome
 enough digest id payloads m (Short have need) is one has =
-    let same : is.0 ≡ m = one.1 is.0 is.1.0 in
-    not_both digest id m payloads have has (subst (λ (x : BlobMetadata). HoldsFew digest id x payloads have) same is.2)
+    not_both digest id m payloads have has (rw (one.1 is.0 is.1.0) at is.2)
 enough digest id payloads m NoMetadata is one has = is m one.0
 enough digest id payloads m (Collision clash) is one has = not_two digest id payloads m is.0 is.1 one is.2
 enough digest id payloads m outcome is one has = tt

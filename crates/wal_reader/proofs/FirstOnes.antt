@@ -1,5 +1,5 @@
 -- The first payload that carries something.
-use Rattle.wal_reader.proofs.Common.{◌≡◌, ◌≢◌, ℕ, suc, ◌+◌, ◌<◌, List, [], ◌∷◌, ◌++◌, length, take, drop, get_or, sym, ap, subst, ◌∙◌, arith, append_assoc, length-append, Any, Result, Ok, take-append-drop, All-push, BlobMetadata, EncodingProof, FrameError, Frame, Proof, read_of, CarriesBadProof, CarriesProof, IsFirst, NoneIn, AreFirstTwo, CarriesMetadata, HasMetadata, IsFirstMetadata, IsMetadataIn}
+use Rattle.wal_reader.proofs.Common.{◌≡◌, ◌≢◌, ℕ, suc, ◌+◌, ◌<◌, List, [], ◌∷◌, ◌++◌, length, take, drop, get_or, sym, ap, subst, ◌∙◌, arith, length-append, Any, Result, Ok, take-append-drop, All-push, BlobMetadata, EncodingProof, FrameError, Frame, Proof, read_of, CarriesBadProof, CarriesProof, IsFirst, NoneIn, AreFirstTwo, CarriesMetadata, HasMetadata, IsFirstMetadata, IsMetadataIn, drop_more}
 use Rattle.std.proofs.Math.Seq.{get_or-append_seam}
 use Rattle.wal_evidence.specs.BadProof.{IsBadProof}
 use Rattle.wal_reader.proofs.Gathering.{front_more}
@@ -8,8 +8,7 @@ use Rattle.wal_reader.proofs.Gathering.{front_more}
 pub parted : (payloads : List (List ℕ)) (i : ℕ) (payload : List ℕ) → i < length payloads → payload ≡ get_or payloads i payload
     → payloads ≡ take i payloads ++ payload ∷ drop (i + 1) payloads
 parted payloads i payload l is =
-    let seam = append_assoc (take i payloads) (payload ∷ []) (drop (i + 1) payloads) in
-    cc (take-append-drop (i + 1) payloads, front_more payloads i payload l is, seam)
+    cc (take-append-drop i payloads, drop_more payloads i payload l, is)
 
 -- what holds of a payload in the middle holds of some payload
 pub has_seam : (P : List ℕ → Type 0) (payloads front : List (List ℕ)) (payload : List ℕ) (back : List (List ℕ)) → payloads ≡ front ++ payload ∷ back

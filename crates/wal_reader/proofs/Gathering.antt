@@ -4,10 +4,10 @@ use Rattle.wal_reader.proofs.Common.{◌≡◌, ◌⊎◌, ℕ, ◌+◌, ◌<◌
 -- what holds of some element of a longer list holds of one before, or of the last
 pub any_push_cases : {X : Type 0} (P : X → Type 0) (xs : List X) (y : X) → Any P (xs ++ y ∷ []) → Any P xs ⊎ P y
 any_push_cases P xs y (k, x, below, at, holds) =
-    let long = length-append xs (y ∷ []) in
     ⊎_elim
     (λ inside. inl (k, x, inside, sym (get_or_append_left xs (y ∷ []) x k inside) ∙ at, holds))
-    (λ past. let last : length xs ≡ k = omega arith in inr (subst P (sym at ∙ get_or_push xs y x k last) holds))
+    (λ past.
+    inr (subst P (sym at ∙ get_or_push xs y x k (omega (arith, past, below, length-append xs (y ∷ [])))) holds))
     (cases_lt k (length xs))
 
 -- one more payload in the front of the list
@@ -21,9 +21,8 @@ pub only_more : (digest : List ℕ → List ℕ) (id : List ℕ) (P : BlobMetada
     → ((m : BlobMetadata) → HasMetadata digest id (take i payloads) m → P m) → ((m : BlobMetadata) → CarriesMetadata digest id m payload → P m)
     → (m : BlobMetadata) → HasMetadata digest id (take (i + 1) payloads) m → P m
 only_more digest id P payloads i payload l is before here m has =
-    ⊎_elim (before m) (here m)
-    (any_push_cases (CarriesMetadata digest id m) (take i payloads) payload
-    (subst (λ (ps : List (List ℕ)). HasMetadata digest id ps m) (front_more payloads i payload l is) has))
+    ⊎_elim (before m) (here m) (any_push_cases (CarriesMetadata digest id m) (take i payloads) payload
+    (rw (front_more payloads i payload l is) at has))
 
 -- a payload is one frame
 pub one_metadata : (read : Result Frame FrameError) (a b : BlobMetadata) → read ≡ Ok (Metadata a) → read ≡ Ok (Metadata b) → a ≡ b

@@ -1,5 +1,5 @@
 -- The metadata of payloads, and one payload more.
-use Rattle.wal_reader.proofs.Common.{◌≡◌, ◌≢◌, ℕ, List, [], ◌∷◌, ◌++◌, refl, sym, ap, subst, ◌∙◌, arith, ⊎_elim, append_assoc, length-append, Any, get_or_append_left, BlobMetadata, MetaClash, read_of, Known, AreFirstTwo, CarriesMetadata, HasMetadata, IsFirstMetadata, IsFirstOther, IsMetadataIn, Two, CarriesNoPart, HasKept, HasKnown, HasParts, Sifts, none}
+use Rattle.wal_reader.proofs.Common.{◌≡◌, ◌≢◌, ℕ, List, [], ◌∷◌, ◌++◌, refl, ◌∙◌, arith, ⊎_elim, append_assoc, length-append, Any, get_or_append_left, BlobMetadata, MetaClash, read_of, Known, AreFirstTwo, IsFirstOther, CarriesMetadata, HasMetadata, IsFirstMetadata, IsMetadataIn, Two, CarriesNoPart, HasKept, HasKnown, HasParts, Sifts, none}
 use Rattle.std.proofs.lemmas.List.Quantifiers.{Any-push}
 use Rattle.wal_reader.proofs.Gathering.{any_push_cases, one_metadata}
 use Rattle.wal_reader.proofs.KnownLaws.{parts_past}
@@ -7,14 +7,7 @@ use Rattle.wal_reader.proofs.KnownLaws.{parts_past}
 -- what holds of some payload holds of some payload of a longer list
 pub any_front : (P : List ℕ → Type 0) (payloads more : List (List ℕ)) → Any P payloads → Any P (payloads ++ more)
 any_front P payloads more (k, x, below, at, holds) =
-    let long = length-append payloads more in
-    (k, x, omega arith, get_or_append_left payloads more x k below ∙ at, holds)
-
--- one more payload behind a seam
-longer_seam : (payloads front : List (List ℕ)) (middle : List ℕ) (back : List (List ℕ)) (payload : List ℕ) → payloads ≡ front ++ middle ∷ back
-    → payloads ++ payload ∷ [] ≡ front ++ middle ∷ (back ++ payload ∷ [])
-longer_seam payloads front middle back payload parts =
-    ap (λ (ps : List (List ℕ)). ps ++ payload ∷ []) parts ∙ append_assoc front (middle ∷ back) (payload ∷ [])
+    (k, x, omega (arith, length-append payloads more), get_or_append_left payloads more x k below ∙ at, holds)
 
 -- a payload without metadata
 pub none_still : (digest : List ℕ → List ℕ) (id : List ℕ) (payloads : List (List ℕ)) (payload : List ℕ) → ((m : BlobMetadata) → HasMetadata digest id payloads m → ⊥)
@@ -59,7 +52,8 @@ known_new digest id k payloads payload m before carries same held =
 pub first_still : (digest : List ℕ → List ℕ) (id : List ℕ) (payloads : List (List ℕ)) (payload : List ℕ) (m : BlobMetadata) → IsFirstMetadata digest id payloads m
     → IsFirstMetadata digest id (payloads ++ payload ∷ []) m
 first_still digest id payloads payload m first =
-    (first.0, first.1, first.2 ++ payload ∷ [], longer_seam payloads first.0 first.1 first.2 payload first.3, first.4, first.5)
+    let seam = append_assoc first.0 (first.1 ∷ first.2) (payload ∷ []) in
+    (first.0, first.1, first.2 ++ payload ∷ [], cc (first.3, seam), first.4, first.5)
 
 -- what is held where one more payload has no other metadata
 pub known_still : (digest : List ℕ → List ℕ) (id : List ℕ) (old new : Known) (payloads : List (List ℕ)) (payload : List ℕ) (m : BlobMetadata) → m ≡ old.metadata
@@ -82,13 +76,12 @@ two_new digest id payloads payload m other one first carries apart =
 pub two_still : (digest : List ℕ → List ℕ) (id : List ℕ) (clash : MetaClash) (payloads : List (List ℕ)) (payload : List ℕ) → HasKept digest id (Two clash) payloads
     → HasKept digest id (Two clash) (payloads ++ payload ∷ [])
 two_still digest id clash payloads payload was =
-    let first = was.2.0 in
     let other = was.2.1 in
+    let seam = append_assoc other.0 (other.1 ∷ other.2) (payload ∷ []) in
     let still : IsFirstOther digest id (payloads ++ payload ∷ []) was.0 was.1 =
-    (other.0, other.1, other.2 ++ payload ∷ [], longer_seam payloads other.0 other.1 other.2 payload other.3, other.4, other.5, other.6) in
-    (was.0, was.1, (first_still digest id payloads payload was.0 first, still), was.3, was.4)
+    (other.0, other.1, other.2 ++ payload ∷ [], cc (other.3, seam), other.4, other.5, other.6) in
+    (was.0, was.1, (first_still digest id payloads payload was.0 was.2.0, still), was.3, was.4)
 
 -- nothing is kept of no payloads
 pub kept_none : (digest : List ℕ → List ℕ) (id : List ℕ) (items : List (List ℕ)) → items ≡ [] → ((m : BlobMetadata) → HasMetadata digest id [] m → ⊥) × Sifts id items []
-kept_none digest id items empty =
-    (λ m has. let below = has.2 in absurd (omega arith), subst (λ (ps : List (List ℕ)). Sifts id ps []) (sym empty) none)
+kept_none digest id items empty = (λ m has. absurd (omega (arith, has.2)), rw empty none)

@@ -1,7 +1,6 @@
 -- Streams that are taken in pieces.
-use Rattle.wal_reader.proofs.Common.{◌≡◌, ℕ, suc, ◌+◌, ◌-◌, ◌^◌, ◌<◌, ◌≤◌, inl, inr, true, false, List, [], ◌∷◌, ◌++◌, length, take, drop, refl, sym, ap, subst, ◌∙◌, append_assoc, append-nil, arith, replicate, cases_lt, take_all, take-append-drop, length-take, length-drop, length-replicate, nil_from_length, All-append, All-from_get_or, number_text, IsBytes, IsBytes-drop, IsBytes-take, wide32, envelope, BeginsNone, IsPart, IsWrong, IsPayload, IsStream, size_in, envelope_at, HeardState, HasHeard, IsSettledState, AreBytes, IntakeState, ReadsPast, KeepsPart, past, StandsAt, Takes, IsUnfinished, IsLacking, CannotMatter, Hears, IsSound, Moves, Refuses, FeedError, Malformed, TooLong, Memory}
+use Rattle.wal_reader.proofs.Common.{◌≡◌, ℕ, suc, ◌+◌, ◌-◌, ◌^◌, ◌<◌, ◌≤◌, inl, inr, true, false, List, [], ◌∷◌, ◌++◌, length, take, drop, refl, sym, ap, ◌∙◌, append_assoc, append-nil, arith, replicate, cases_lt, take_all, take-append-drop, length-take, length-drop, length-append, length-replicate, nil_from_length, All-append, All-from_get_or, number_text, IsBytes, IsBytes-drop, IsBytes-take, wide32, envelope, BeginsNone, IsPart, IsWrong, IsPayload, IsStream, size_in, envelope_at, HeardState, HasHeard, IsSettledState, AreBytes, IntakeState, ReadsPast, KeepsPart, past, StandsAt, Takes, IsUnfinished, IsLacking, CannotMatter, Hears, IsSound, Moves, Refuses, FeedError, Malformed, TooLong, Memory}
 use Rattle.std.specs.Int.{w16, w32, from_be_bytes}
-use Rattle.std.proofs.lemmas.List.{length-append}
 use Rattle.wal_frame.proofs.StreamLaws.{head_parts, envelope_read, stream_grows}
 use Rattle.wal_reader.specs.Intake.{kept}
 
@@ -10,8 +9,7 @@ use Rattle.wal_reader.specs.Intake.{kept}
 -- bytes begin with one envelope
 envelope_same : (s t : ℕ) (p q a b : List ℕ) → IsPayload p → IsPayload q → envelope s p ++ a ≡ envelope t q ++ b → (p ≡ q) × (a ≡ b)
 envelope_same s t p q a b fits other same =
-    let here = envelope_read (envelope s p ++ a) s p a fits refl in
-    grind (arith, here, envelope_read (envelope s p ++ a) t q b other same)
+    grind (arith, envelope_read (envelope s p ++ a) s p a fits refl, envelope_read (envelope s p ++ a) t q b other same)
 
 pub part_none : (bytes : List ℕ) → IsPart bytes → BeginsNone bytes
 part_none bytes part sender payload after fits same = grind arith
@@ -44,9 +42,8 @@ front_part [] more sender payload fits text some = tt
 front_part (b ∷ bytes) more sender payload fits text some = (
   cc,
   λ other start after small same.
-      let whole : envelope sender payload ++ [] ≡ envelope other start ++ (after ++ more) =
-      append-nil (envelope sender payload) ∙ sym text ∙ ap (λ (t : List ℕ). t ++ more) same ∙ append_assoc (envelope other start) after more in
-      let none = envelope_same sender other payload start [] (after ++ more) fits small whole in
+      let none = envelope_same sender other payload start [] (after ++ more) fits small
+      (cc (append-nil (envelope sender payload), text, same, append_assoc (envelope other start) after more)) in
       absurd (omega (arith, ap length none.1, length-append after more, some)),
 )
 
@@ -70,16 +67,15 @@ lacking_whole (b ∷ bytes) missing fits part long count more is =
     let size = size_in (b ∷ bytes) in
     let tail : IsBytes bytes = λ i. fits (suc i) in
     let sender = from_be_bytes w16 (take 2 bytes) in
-    let head = number_text w16 sender in
     let start = drop 6 bytes in
     let parts = head_parts bytes tail (omega (arith, long)) in
-    let payload = start ++ more in
-    let len : length payload ≡ size = omega (arith, length-append start more, length-drop 6 bytes, is, count, long) in
+    let len : length (start ++ more) ≡ size =
+    omega (arith, length-append start more, length-drop 6 bytes, is, count, long) in
     let small : size < 2 ^ 32 = wide32.below (take 4 (drop 2 bytes)) (IsBytes-take 4 (drop 2 bytes) (IsBytes-drop 2 bytes tail)) in (
       sender,
-      payload,
+      start ++ more,
       omega (arith, len, small),
-      cc (part.0, parts, append_assoc (head ++ number_text w32 size) start more, len),
+      cc (part.0, parts, append_assoc (number_text w16 sender ++ number_text w32 size) start more, len),
       len,
       λ all. All-append (λ b. b < 256) start more (bytes_all start (IsBytes-drop 6 bytes tail)) all,
     )
@@ -176,24 +172,22 @@ pub ends_kept : (digest : List ℕ → List ℕ) (old new : IntakeState) (bytes 
     → old.kept ++ bytes ≡ envelope sender payload → HearsOne digest old.heard new.heard payload → new.missing ≡ 0 → new.kept ≡ []
     → new.taken ≡ old.taken + length bytes → new.place ≡ new.taken → Takes digest old new bytes
 ends_kept digest old new bytes sender payload fits none text hears still empty count place id stream s =
-    let is : s.rest ++ bytes ≡ old.kept ++ bytes = ap (λ (t : List ℕ). t ++ bytes) (rest_kept digest id old s.payloads s.rest s.keeps none) in
-    ended digest id old new stream bytes sender payload s fits (is ∙ text) (hears id s.payloads s.heard) still empty count place
+    let is = rest_kept digest id old s.payloads s.rest s.keeps none in
+    ended digest id old new stream bytes sender payload s fits (rw is text) (hears id s.payloads s.heard) still empty count place
 
 -- no more is kept than is missing
 pub nothing_after : (front bytes : List ℕ) (missing sender : ℕ) (payload after : List ℕ) → IsPayload payload → front ++ bytes ≡ envelope sender payload ++ after → length bytes ≤ missing
     → (length front < 7 → length front + missing ≡ 7) → (7 ≤ length front → IsLacking front missing) → after ≡ []
 nothing_after front bytes missing sender payload after fits text few head whole =
-    let long = simp length-append at (ap length text) in
     elim (cases_lt (length front) 7) [
-      | inl short ↦ (let seven = head short in nil_from_length after (omega (arith, long, seven, few)))
+      | inl short ↦ nil_from_length after (omega (arith, simp length-append at (ap length text), head short, few))
       | inr enough ↦
           let pad = zeros (missing - length bytes) in
           let l = whole enough (bytes ++ pad) (omega (arith, length-append bytes pad, zeros_long (missing - length bytes), few)) in
           let left = append_assoc front bytes pad in
           let right = append_assoc (envelope sender payload) after pad in
-          let both : envelope sender payload ++ (after ++ pad) ≡ envelope l.0 l.1 ++ [] =
-          cc (text, l.3, left, right, append-nil (envelope l.0 l.1)) in
-          let none = envelope_same sender l.0 payload l.1 (after ++ pad) [] fits l.2 both in
+          let none = envelope_same sender l.0 payload l.1 (after ++ pad) [] fits l.2
+          (cc (text, l.3, left, right, append-nil (envelope l.0 l.1))) in
           nil_from_length after (omega (arith, ap length none.1, length-append after pad))
     ]
 
@@ -216,8 +210,7 @@ moved digest old new piece count some le total takes sound settled =
 pub sound_empty : (i : IntakeState) → 64019 ≤ i.room → i.taken ≤ 134217728 → i.kept ≡ [] → IsSound i
 unfolding envelope_at
 sound_empty i room limit none =
-    let unfinished = subst (λ (t : List ℕ). IsUnfinished t) (sym none) (refl, tt) in
-    record { room = room; limit = limit; unfinished = unfinished; apart = λ some. none }
+    record { room = room; limit = limit; unfinished = rw none (refl, tt); apart = λ some. none }
 
 -- an envelope that was kept is whole
 pub kept_whole : (digest : List ℕ → List ℕ) (old new : IntakeState) (front all bytes : List ℕ) (missing : ℕ)
@@ -226,11 +219,10 @@ pub kept_whole : (digest : List ℕ → List ℕ) (old new : IntakeState) (front
     → new.missing ≡ 0 → new.kept ≡ [] → new.taken ≡ old.taken + length bytes → new.place ≡ new.taken
     → Takes digest old new bytes
 kept_whole digest old new front all bytes missing is whole hears few head lacking none still empty count place =
-    let text : front ++ bytes ≡ envelope hears.0 hears.1 ++ hears.2 = cc (is, whole, hears.4) in
-    let nothing = nothing_after front bytes missing hears.0 hears.1 hears.2 hears.3 text few head lacking in
-    let exact : old.kept ++ bytes ≡ envelope hears.0 hears.1 =
-    cc (is, text, nothing, append-nil (envelope hears.0 hears.1)) in
-    ends_kept digest old new bytes hears.0 hears.1 hears.3 none exact hears.5 still empty count place
+    let nothing = nothing_after front bytes missing hears.0 hears.1 hears.2 hears.3 (cc (is, whole, hears.4)) few head
+    lacking in
+    ends_kept digest old new bytes hears.0 hears.1 hears.3 none
+    (cc (whole, hears.4, nothing, append-nil (envelope hears.0 hears.1))) hears.5 still empty count place
 
 -- an envelope is kept as far as it came
 pub kept_part : (digest : List ℕ → List ℕ) (old new : IntakeState) (all bytes : List ℕ) → all ≡ old.kept ++ bytes
@@ -238,11 +230,9 @@ pub kept_part : (digest : List ℕ → List ℕ) (old new : IntakeState) (all by
     → new.taken ≡ old.taken + length bytes → new.place ≡ old.place → Takes digest old new bytes × IsUnfinished new.kept
 kept_part digest old new all bytes whole is hears none still count place = (
   λ id stream s.
-      let was = rest_kept digest id old s.payloads s.rest s.keeps none in
-      let e : s.rest ++ bytes ≡ all = cc (was, whole) in
-      grown digest id old new stream bytes s (subst (λ (t : List ℕ). IsPart t) (sym e) hears.1.1) (rw hears.0 s.heard)
-      count place (kept still (e ∙ is)),
-  subst (λ (t : List ℕ). IsUnfinished t) is hears.1,
+      let e : s.rest ++ bytes ≡ all = cc (rest_kept digest id old s.payloads s.rest s.keeps none, whole) in
+      grown digest id old new stream bytes s (rw e hears.1.1) (rw hears.0 s.heard) count place (kept still (e ∙ is)),
+  rw is at hears.1,
 )
 
 -- why the rest of a piece is refused is why the piece is

@@ -1,5 +1,5 @@
 -- What is held for one metadata, payload by payload.
-use Rattle.wal_reader.proofs.Common.{◌≡◌, ◌≢◌, ℕ, List, [], ◌∷◌, ◌++◌, length, refl, sym, ap, ◌∙◌, arith, ⊎_elim, append_assoc, Option, Some, None, cases_lt, All-push, row_count, BlobMetadata, EncodingProof, Known, CarriesBadProof, CarriesSliver, Collects, HasParts, IsEnough, IsProofFound}
+use Rattle.wal_reader.proofs.Common.{◌≡◌, ℕ, List, [], ◌∷◌, ◌++◌, length, refl, sym, ap, ◌∙◌, arith, ⊎_elim, append_assoc, Option, Some, None, cases_lt, All-push, row_count, BlobMetadata, EncodingProof, Known, CarriesBadProof, CarriesSliver, Collects, HasParts, IsEnough, IsProofFound}
 use Rattle.wal_reader.proofs.Collections.{collects_few, collects_full, collects_none, collects_passed}
 
 -- nothing is held of no payloads
@@ -19,7 +19,8 @@ pub proof_more : (digest : List ℕ → List ℕ) (id : List ℕ) (m : BlobMetad
 proof_more digest id m payloads payload None good found =
     All-push (λ q. (p : EncodingProof) → CarriesBadProof digest id m q p → ⊥) payloads payload found (λ p. good p refl)
 proof_more digest id m payloads payload (Some p) good found =
-    (found.0, found.1, found.2 ++ payload ∷ [], ap (λ (ps : List (List ℕ)). ps ++ payload ∷ []) found.3 ∙ append_assoc found.0 (found.1 ∷ found.2) (payload ∷ []), found.4, found.5)
+    let seam = append_assoc found.0 (found.1 ∷ found.2) (payload ∷ []) in
+    (found.0, found.1, found.2 ++ payload ∷ [], cc (found.3, seam), found.4, found.5)
 
 -- enough slivers are held already
 pub parts_enough : (digest : List ℕ → List ℕ) (id : List ℕ) (k : Known) (payloads : List (List ℕ)) (payload : List ℕ) → IsEnough k
@@ -35,8 +36,7 @@ parts_enough digest id k payloads payload enough was =
 pub parts_found : (digest : List ℕ → List ℕ) (id : List ℕ) (k : Known) (payloads : List (List ℕ)) → (IsEnough k → ⊥) → HasParts digest id k payloads
     → IsProofFound digest id k.metadata payloads k.proof
 parts_found digest id k payloads short was =
-    let few = collects_few digest id k.metadata payloads k.collected.indices.items k.collected.joined.items was.slivers in
-    was.proof (omega (arith, short, few))
+    was.proof (omega (arith, short, collects_few digest id k.metadata payloads _ k.collected.joined.items was.slivers))
 
 -- the slivers with that of one more payload, and the proof where they are still too few
 pub parts_more : (digest : List ℕ → List ℕ) (id : List ℕ) (old new : Known) (payloads : List (List ℕ)) (payload : List ℕ) → (IsEnough old → ⊥)
@@ -62,8 +62,7 @@ parts_past digest id k payloads payload no_sliver no_proof was =
     let few = collects_few digest id k.metadata payloads is js was.slivers in
     ⊎_elim
     (λ less.
-    let short : length is ≢ row_count k.metadata.f = λ e. omega arith in
-    parts_more digest id k k payloads payload short refl was.f
+    parts_more digest id k k payloads payload (λ e. omega (arith, e, less)) refl was.f
     (collects_passed digest id k.metadata payloads payload is js (λ i b less carries. absurd (no_sliver i b carries)) was.slivers)
     (λ still found. proof_more digest id k.metadata payloads payload k.proof (λ p none carries. no_proof p carries) found) was)
     (λ least. parts_enough digest id k payloads payload (omega arith) was)

@@ -24,8 +24,7 @@ sliver_long : (digest : List ℕ → List ℕ) (id : List ℕ) (m : BlobMetadata
     → CarriesSliver digest id m payload index bytes → length payload ≤ longest_part m
 sliver_long digest id m payload index bytes fit carries =
     let is = read_is payload (Sliver id Primary index bytes) (in_range payload fit) carries.0 in
-    let size : length bytes ≡ column_count m.f * symbol_size m.f m.length = carries.1.size in
-    omega (arith, ap length is.1, length-sliver_frame id Primary index bytes is.0.id_size, size)
+    omega (arith, ap length is.1, length-sliver_frame id Primary index bytes is.0.id_size, carries.1.size)
 
 -- and a bad proof
 proof_long : (digest : List ℕ → List ℕ) (id : List ℕ) (m : BlobMetadata) (payload : List ℕ) (p : EncodingProof) → Bytewise payload

@@ -1,5 +1,5 @@
 -- Payloads have one outcome: their metadata is one, and so are its slivers in them and the verdict on these.
-use Rattle.wal_reader.proofs.Common.{◌≡◌, ◌≢◌, ℕ, ◌<◌, List, length, refl, sym, ap, subst, ◌∙◌, arith, inl, inr, row_count, BlobMetadata, EncodingProof, MetaClash, Verdict, Judges, Bytes, Reject, Short, NoMetadata, Collision, CarriesBadProof, IsFirstBadProof, NoBadProof, AreFirstTwo, Collects, Decides, HasMetadata, HoldsFew, IsMetadataIn, IsOnlyOutcome, told_outcome}
+use Rattle.wal_reader.proofs.Common.{◌≡◌, ◌≢◌, ◌⊎◌, ℕ, ◌<◌, List, length, refl, sym, ap, ◌∙◌, arith, inl, inr, ⊎_elim, row_count, BlobMetadata, EncodingProof, MetaClash, Verdict, Judges, Outcome, Bytes, Reject, Short, NoMetadata, Collision, CarriesBadProof, IsFirstBadProof, NoBadProof, AreFirstTwo, Collects, Decides, HasMetadata, HoldsFew, IsMetadataIn, IsOnlyOutcome, IsOutcome, told_outcome}
 use Rattle.wal_evidence.specs.declared.evidence.Verdict.TheVariants as told
 use Rattle.wal_reader.proofs.FirstOnes.{first_not_none, first_two}
 use Rattle.wal_reader.proofs.Collections.{one_collection}
@@ -32,8 +32,7 @@ module _ (digest : List ℕ → List ℕ) (id : List ℕ) (payloads : List (List
   same_slivers : (m other : BlobMetadata) (is js ks ls : List ℕ) → other ≡ m → Collects digest id other payloads is js
       → Collects digest id m payloads ks ls → (is ≡ ks) × (js ≡ ls)
   same_slivers m other is js ks ls same a b =
-      one_collection digest id m payloads is js ks ls
-      (subst (λ (x : BlobMetadata). Collects digest id x payloads is js) same a) b
+      one_collection digest id m payloads is js ks ls (rw same at a) b
 
   -- where there are enough, there is one verdict
   one_decided : (m : BlobMetadata) (indices joined : List ℕ) (verdict other : Verdict)
@@ -62,8 +61,8 @@ module _ (digest : List ℕ → List ℕ) (id : List ℕ) (payloads : List (List
       → HasVerdict digest id payloads m indices joined verdict → IsMetadataIn digest id payloads other
       → HoldsFew digest id other payloads have → ⊥
   not_few m other indices joined verdict have has one few =
-      let less : length few.0 < row_count other.f = omega (arith, few.3, few.4) in
-      enough_not_few other m indices joined few.0 few.1 (one.1 m has.one.0) has.collects has.count few.2 less
+      enough_not_few other m indices joined few.0 few.1 (one.1 m has.one.0) has.collects has.count few.2
+      (omega (arith, few.3, few.4))
 
   -- which is the outcome, and no other is
   pub only_verdict : (m : BlobMetadata) (indices joined : List ℕ) (verdict : Verdict)
@@ -79,39 +78,39 @@ module _ (digest : List ℕ → List ℕ) (id : List ℕ) (payloads : List (List
   only_verdict m indices joined verdict has NoMetadata found = absurd (found m has.one.0)
   only_verdict m indices joined verdict has (Collision clash) found = absurd (not_two m found.0 found.1 has.one found.2)
 
-  -- where they are few, a bad proof decides
-  other_proof : (m other : BlobMetadata) (p : EncodingProof) → other ≡ m → IsFirstBadProof digest id other payloads p
-      → NoBadProof digest id m payloads → ⊥
-  other_proof m other p same first =
-      first_not_none (CarriesBadProof digest id m) payloads p
-      (subst (λ (x : BlobMetadata). IsFirstBadProof digest id x payloads p) same first)
+  -- where they are few, the outcome is that of the first bad proof, or their number
+  few_come_to : (m : BlobMetadata) (indices joined : List ℕ) → HasFew digest id payloads m indices joined
+      → (outcome : Outcome) → IsOutcome digest id payloads outcome
+      → ((outcome ≡ Reject) × ((p : EncodingProof) × IsFirstBadProof digest id m payloads p))
+      ⊎ ((outcome ≡ Short (length indices) (row_count m.f)) × NoBadProof digest id m payloads)
+  few_come_to m indices joined has (Bytes bytes) found =
+      absurd (not_decided m indices joined (told.Bytes bytes) has found)
+  few_come_to m indices joined has Reject (inl found) = absurd (not_decided m indices joined told.Reject has found)
+  few_come_to m indices joined has Reject (inr found) =
+      inl (refl, (found.4, rw (has.one.1 found.0 found.1.0) at found.5))
+  few_come_to m indices joined has (Short have need) found =
+      let same = has.one.1 found.0 found.1.0 in
+      let slivers = same_slivers m found.0 found.2.0 found.2.1 indices joined same found.2.2 has.collects in
+      inr (cc (found.2.3, found.3, slivers.0, same), rw same at found.4)
+  few_come_to m indices joined has NoMetadata found = absurd (found m has.one.0)
+  few_come_to m indices joined has (Collision clash) found = absurd (not_two m found.0 found.1 has.one found.2)
 
   pub only_refuted : (m : BlobMetadata) (indices joined : List ℕ) (p : EncodingProof)
       → HasFew digest id payloads m indices joined → IsFirstBadProof digest id m payloads p
       → IsOnlyOutcome digest id payloads Reject
-  only_refuted m indices joined p has first (Bytes bytes) found =
-      absurd (not_decided m indices joined (told.Bytes bytes) has found)
-  only_refuted m indices joined p has first Reject found = refl
-  only_refuted m indices joined p has first (Short have need) found =
-      absurd (other_proof found.0 m p (sym (has.one.1 found.0 found.1.0)) first found.4)
-  only_refuted m indices joined p has first NoMetadata found = absurd (found m has.one.0)
-  only_refuted m indices joined p has first (Collision clash) found = absurd (not_two m found.0 found.1 has.one found.2)
+  only_refuted m indices joined p has first other found =
+      ⊎_elim (λ bad. rw bad.0 refl)
+      (λ good. absurd (first_not_none (CarriesBadProof digest id m) payloads p first good.1))
+      (few_come_to m indices joined has other found)
 
   -- and where there is none, their number is the outcome
   pub only_short : (m : BlobMetadata) (indices joined : List ℕ) → HasFew digest id payloads m indices joined
       → NoBadProof digest id m payloads → IsOnlyOutcome digest id payloads (Short (length indices) (row_count m.f))
-  only_short m indices joined has none (Bytes bytes) found =
-      absurd (not_decided m indices joined (told.Bytes bytes) has found)
-  only_short m indices joined has none Reject (inl found) = absurd (not_decided m indices joined told.Reject has found)
-  only_short m indices joined has none Reject (inr found) =
-      absurd (other_proof m found.0 found.4 (has.one.1 found.0 found.1.0) found.5 none)
-  only_short m indices joined has none (Short have need) found =
-      let same = has.one.1 found.0 found.1.0 in
-      let few = found.2 in
-      let slivers = same_slivers m found.0 few.0 few.1 indices joined same few.2 has.collects in
-      cc (few.3, found.3, ap length slivers.0, ap (λ (x : BlobMetadata). row_count x.f) same)
-  only_short m indices joined has none NoMetadata found = absurd (found m has.one.0)
-  only_short m indices joined has none (Collision clash) found = absurd (not_two m found.0 found.1 has.one found.2)
+  only_short m indices joined has none other found =
+      ⊎_elim
+      (λ bad. absurd (first_not_none (CarriesBadProof digest id m) payloads bad.1.0 bad.1.1 none))
+      (λ good. rw good.0 refl)
+      (few_come_to m indices joined has other found)
 
   -- where there is no metadata, nothing else is known
   pub only_none : ((m : BlobMetadata) → HasMetadata digest id payloads m → ⊥)

@@ -1,5 +1,5 @@
 -- What is kept is settled exactly where the payloads are.
-use Rattle.wal_reader.proofs.Common.{◌↔◌, ℕ, IsTrue, Bool, List, length, refl, subst, arith, inl, inr, ⊎_elim, cases_lt, row_count, BlobMetadata, Known, Waiting, One, Two, HasEnough, IsMetadataIn, HasHeard, HasKept, HasKnown, HeardState, IsEnough, IsSettledKept, IsSettledState}
+use Rattle.wal_reader.proofs.Common.{◌↔◌, ℕ, IsTrue, Bool, List, length, refl, arith, inl, inr, ⊎_elim, cases_lt, row_count, BlobMetadata, Known, Waiting, One, Two, HasEnough, IsMetadataIn, HasHeard, HasKept, HasKnown, HeardState, IsEnough, IsSettledKept, IsSettledState}
 use Rattle.wal_reader.specs.declared.kept.Kept.{Kept}
 use Rattle.wal_reader.specs.Settled.{IsSettled}
 use Rattle.wal_reader.proofs.Collections.{collects_carried, collects_distinct, collects_few}
@@ -19,10 +19,9 @@ enough_held digest id k payloads was enough =
 held_enough : (digest : List ℕ → List ℕ) (id : List ℕ) (k : Known) (payloads : List (List ℕ)) (m : BlobMetadata) → HasKnown digest id k payloads
     → IsMetadataIn digest id payloads m → HasEnough digest id m payloads → IsEnough k
 held_enough digest id k payloads m was one has =
-    let here = subst (λ (x : BlobMetadata). HasEnough digest id x payloads) (was.0.1 m one.0) has in
     let few = collects_few digest id k.metadata payloads k.collected.indices.items k.collected.joined.items was.1.slivers in
     ⊎_elim
-    (λ less. absurd (not_both digest id k.metadata payloads (length k.collected.indices.items) here
+    (λ less. absurd (not_both digest id k.metadata payloads _ (rw (was.0.1 m one.0) at has)
     (k.collected.indices.items, k.collected.joined.items, was.1.slivers, refl, less)))
     (λ least. omega arith)
     (cases_lt (length k.collected.indices.items) (row_count k.metadata.f))

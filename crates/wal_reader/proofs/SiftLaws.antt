@@ -1,6 +1,5 @@
 -- The parts of payloads, which are gone through once their metadata comes.
-use Rattle.wal_reader.proofs.Common.{◌≡◌, ℕ, List, [], ◌∷◌, ◌++◌, refl, sym, subst, ◌∙◌, append_assoc, Known, CarriesNoPart, HasParts, Sifts, none, kept, dropped}
-use Rattle.std.proofs.lemmas.List.{append-nil}
+use Rattle.wal_reader.proofs.Common.{◌≡◌, ℕ, List, [], ◌∷◌, ◌++◌, refl, sym, ◌∙◌, append_assoc, Known, CarriesNoPart, HasParts, Sifts, none, kept, dropped, append-nil}
 use Rattle.wal_reader.proofs.KnownLaws.{parts_past}
 
 -- the parts of some payloads, and of more
@@ -42,7 +41,7 @@ next_part digest id old new part parts payloads done left takes all held (droppe
 -- and those behind the last part
 pub no_part : (digest : List ℕ → List ℕ) (id : List ℕ) (k : Known) (payloads done left : List (List ℕ)) → payloads ≡ done ++ left
     → HasParts digest id k done → Sifts id [] left → HasParts digest id k payloads
-no_part digest id k payloads done left all held none = subst (λ (ps : List (List ℕ)). HasParts digest id k ps) (sym (all ∙ append-nil done)) held
+no_part digest id k payloads done left all held none = rw (all, append-nil done) held
 no_part digest id k payloads done left all held (dropped p ps qs idle rest) =
     no_part digest id k payloads (done ++ p ∷ []) qs (all ∙ sym (append_assoc done (p ∷ []) qs)) (past_one digest id k done p idle held) rest
 

@@ -1,7 +1,5 @@
 -- What a reader stands for.
-use Rattle.wal_reader.proofs.Common.{◌≡◌, ℕ, ◌+◌, ◌<◌, ◌≤◌, List, [], ◌++◌, length, None, Result, Ok, Err, sym, ap, subst, ◌∙◌, append-nil, arith, replicate, IfErr, length-replicate, IsWrong, IsStream, IsMalformed, HeardState, HasHeard, IntakeState, IsCut, IsWrongAt, ReadsPast, StandsAt, Refuses, Takes, IsAnswer, FeedError, Malformed, TooLong, ReadAnswer}
-use Rattle.std.specs.Prelude.{IfOk}
-use Rattle.std.proofs.lemmas.List.{length-append}
+use Rattle.wal_reader.proofs.Common.{◌≡◌, ℕ, ◌+◌, ◌<◌, ◌≤◌, List, [], ◌++◌, length, None, Result, Ok, Err, sym, subst, ◌∙◌, append-nil, arith, replicate, IfErr, length-replicate, IsWrong, IsStream, IsMalformed, HeardState, HasHeard, IntakeState, IsCut, IsWrongAt, ReadsPast, StandsAt, Refuses, Takes, IsAnswer, FeedError, Malformed, TooLong, ReadAnswer, length-append, IfOk}
 use Rattle.wal_reader.specs.Standing.{ReaderState, Feeds, FinishesStream}
 use Rattle.wal_reader.specs.declared.errors.FinishError.{FinishError}
 use Rattle.wal_reader.specs.declared.errors.FinishError.TheVariants as finish
@@ -12,8 +10,8 @@ use Rattle.wal_reader.proofs.IntakeLaws.{one_cut, part_none, wrong_none, wrong_p
 pub one_payloads : (digest : List ℕ → List ℕ) (id : List ℕ) (i : IntakeState) (stream : List ℕ) (payloads : List (List ℕ)) (front rest : List ℕ) (s : StandsAt digest id i stream)
     → IsCut payloads front rest stream → s.payloads ≡ payloads
 one_payloads digest id i stream payloads front rest s cut =
-    let same = one_cut s.payloads payloads s.front front s.rest rest s.cut.whole cut.whole (part_none s.rest s.cut.part) (part_none rest cut.part) (sym s.cut.parts ∙ cut.parts) in
-    same.0
+    (one_cut s.payloads payloads s.front front s.rest rest s.cut.whole cut.whole (part_none s.rest s.cut.part)
+    (part_none rest cut.part) (sym s.cut.parts ∙ cut.parts)).0
 
 -- no byte of it begins no envelope
 pub never_wrong : (digest : List ℕ → List ℕ) (id : List ℕ) (i : IntakeState) (stream : List ℕ) (place : ℕ) → StandsAt digest id i stream → IsWrongAt place stream → ⊥
@@ -24,8 +22,7 @@ never_wrong digest id i stream place s w =
 -- what is read past has begun
 past_begun : (digest : List ℕ → List ℕ) (id : List ℕ) (heard : HeardState) (payloads : List (List ℕ)) (missing : ℕ) (rest : List ℕ) → ReadsPast digest id heard payloads missing rest → rest ≡ [] → ⊥
 past_begun digest id heard payloads missing rest reads none =
-    let l = reads (replicate missing 0) (length-replicate {A = ℕ} missing 0) in
-    grind (arith, l.3, none)
+    grind (arith, (reads (replicate missing 0) (length-replicate {A = ℕ} missing 0)).3, none)
 
 -- a stream that ends within an envelope that is read past is malformed there
 pub past_malformed : (digest : List ℕ → List ℕ) (id : List ℕ) (i : IntakeState) (stream : List ℕ) → 0 < i.missing → StandsAt digest id i stream → IsMalformed i.place stream
@@ -44,16 +41,15 @@ past_malformed digest id i stream some s =
 -- behind whole envelopes
 whole_stream : (digest : List ℕ → List ℕ) (id : List ℕ) (i : IntakeState) (stream : List ℕ) → i.missing ≡ 0 → i.kept ≡ [] → (s : StandsAt digest id i stream) → IsStream s.payloads stream
 whole_stream digest id i stream none empty s =
-    let nil : s.rest ≡ [] = rest_kept digest id i s.payloads s.rest s.keeps none ∙ empty in
-    let all : stream ≡ s.front = s.cut.parts ∙ ap (λ (t : List ℕ). s.front ++ t) nil ∙ append-nil s.front in
-    subst (λ (t : List ℕ). IsStream s.payloads t) (sym all) s.cut.whole
+    let all : stream ≡ s.front =
+    cc (s.cut.parts, rest_kept digest id i s.payloads s.rest s.keeps none, empty, append-nil s.front) in
+    rw (← all) at s.cut.whole
 
 pub never_malformed : (digest : List ℕ → List ℕ) (id : List ℕ) (i : IntakeState) (stream : List ℕ) → i.missing ≡ 0 → i.kept ≡ [] → StandsAt digest id i stream
     → (place : ℕ) → IsMalformed place stream → ⊥
 never_malformed digest id i stream none empty s place m =
-    let whole = whole_stream digest id i stream none empty s in
-    let same = one_cut s.payloads m.payloads stream m.front [] m.rest whole m.whole (part_none [] tt) m.unfit (append-nil stream ∙ m.parts) in
-    m.more (sym same.2)
+    m.more (sym (one_cut s.payloads m.payloads stream m.front [] m.rest (whole_stream digest id i stream none empty s)
+    m.whole (part_none [] tt) m.unfit (append-nil stream ∙ m.parts)).2)
 
 -- the answer for a whole stream, or memory ran out
 pub finishes_whole : (digest : List ℕ → List ℕ) (id : List ℕ) (i : IntakeState) (stream : List ℕ) (r : Result ReadAnswer FinishError) → i.missing ≡ 0 → i.kept ≡ []
@@ -74,8 +70,7 @@ pub feeds_ok : (digest : List ℕ → List ℕ) (id : List ℕ) (old new : Intak
     → Takes digest old new piece → new.taken ≤ 134217728 → StandsAt digest id old stream → Feeds digest id r (stream ++ piece) (Ok done)
 feeds_ok digest id old new r stream piece done well same takes few s =
     let next = takes id stream s in
-    let right = λ (place : ℕ). never_wrong digest id new (stream ++ piece) place next in
-    ((well, rw same next), omega (arith, next.taken, few), right)
+    ((well, rw same next), omega (arith, next.taken, few), λ place. never_wrong digest id new _ place next)
 
 pub feeds_err : (digest : List ℕ → List ℕ) (id : List ℕ) (old : IntakeState) (r : ReaderState) (stream piece : List ℕ) (e : FeedError) → (134217728 < old.taken + length piece → e ≡ TooLong)
     → Refuses digest old piece e → StandsAt digest id old stream → Feeds digest id r (stream ++ piece) (Err e)

@@ -1,41 +1,40 @@
 -- How a run ends is a row of the table of causes.
-use Rattle.wal_run.proofs.Common.{inl, inr, ℕ, List, Some, false, refl, Appends, IsAtEnd, Task, Serve, Service, IsTask, ServeEnd, Done, ReadFault, WriteFault, Malformed, TooLong, Collision, desk_room, sent, IsServed, Around, Command, IsResult, IsTaken, collision, lacking, rejection, success, unreadable, command_of, EndsServing, answering, at_start, end_status, serve_limit, Answers, Ends, answered, cut_off, done, served, serving_ended, sink_failed, source_failed, too_long, usage, whole, Causes, IsUsage, ShowsCause}
+use Rattle.wal_run.proofs.Common.{⊎_elim, arith, inl, inr, ℕ, List, Some, false, refl, Appends, IsAtEnd, Task, Serve, Service, IsTask, ServeEnd, Done, Serves, desk_room, sent, IsServed, Around, Command, IsResult, IsTaken, collision, lacking, rejection, success, unreadable, command_of, answering, at_start, end_status, serve_limit, Answers, Ends, answered, cut_off, done, served, serving_ended, sink_failed, source_failed, too_long, usage, whole, Causes, IsComplete, IsUsage, ShowsCause}
 use Rattle.wal_serve.specs.State.{ServedState as ServingState}
+use Rattle.wal_serve.specs.Serving as serving
 use Rattle.wal_served.specs.Steps.{IsReached}
 use Rattle.wal_run.specs.Causes as causes
-use Rattle.wal_run.proofs.ServiceClashes.{done_calm, read_rose, served_ends, stopped_by, write_rose}
-use Rattle.wal_run.proofs.ServiceEnds.{memory_first}
+use Rattle.wal_run.specs.Causes.{ServesUntil}
+use Rattle.wal_run.proofs.OneService.{answer_or_fault}
+use Rattle.wal_run.proofs.ServiceEnds.{memory_first, served_ends}
 
 module _ (digest : List ℕ → List ℕ) (words : List (List ℕ)) (a : Around) where
   -- serving
-  serving_row : (service : Service) → IsTask words (Serve service) → (end : ServeEnd) → (state : ServingState)
-      → (run : IsServed (answering digest) (desk_room service.faults) serve_limit service.shard (at_start service) state a.left a.after a.SourceRose a.old a.new a.SinkRose end)
-      → IsReached digest false (desk_room service.faults) serve_limit (at_start service) run.taken run.frames state end → Causes digest words a (end_status end)
-  serving_row service asked Done state run reached =
-      causes.success (
-        sent service.shard run.frames,
-        served service asked run.taken run.consumed 0 (sent service.shard run.frames)
-            (run.frames, state, Done, done_calm _ _ _ _ run.taken (IsAtEnd a.after) a.SourceRose a.SinkRose run.frames state run.serves, reached, refl, refl),
-        run.wrote,
-      )
-  serving_row service asked ReadFault state run reached =
-      causes.source_failed_serving (read_rose _ _ _ _ run.taken (IsAtEnd a.after) a.SourceRose a.SinkRose run.frames state run.serves)
-      (record { service = service; is_task = asked; state = state; run = run })
-  serving_row service asked WriteFault state run reached =
-      causes.sink_failed_serving (write_rose _ _ _ _ run.taken (IsAtEnd a.after) a.SourceRose a.SinkRose run.frames state run.serves)
-      (record { service = service; is_task = asked; state = state; run = run })
-  serving_row service asked (Malformed place) state run reached =
-      causes.unreadable_serving place (record { service = service; is_task = asked; state = state; run = run })
-  serving_row service asked TooLong state run reached = causes.too_long_serving (record { service = service; is_task = asked; state = state; run = run })
-  serving_row service asked (Collision clash) state run reached =
-      causes.collision_serving clash
-      (served_ends digest false (desk_room service.faults) (at_start service) run.taken run.frames (Some clash) state clash refl
-      (stopped_by _ _ _ _ run.taken (IsAtEnd a.after) a.SourceRose a.SinkRose run.frames state clash run.serves))
-      (record { service = service; is_task = asked; state = state; run = run })
+  module _ (service : Service) (asked : IsTask words (Serve service)) (state : ServingState) where
+    abbrev Run : ServeEnd → Type 0
+    Run end =
+        IsServed (answering digest) (desk_room service.faults) serve_limit service.shard (at_start service) state a.left a.after a.SourceRose a.old a.new a.SinkRose end
 
-  serving_ends : (service : Service) → IsTask words (Serve service) → (status : ℕ)
-      → EndsServing digest service a.left a.after a.SourceRose a.old a.new a.SinkRose status → Causes digest words a status
-  serving_ends service asked status ends = rw ends.4 (serving_row service asked ends.1 ends.0 ends.2 ends.3)
+    until : (end : ServeEnd) → Run end → ServesUntil digest words a end
+    until end run = record { service = service; is_task = asked; state = state; run = run }
+
+    serving_row : (end : ServeEnd) (run : Run end) → IsReached digest false (desk_room service.faults) serve_limit (at_start service) run.taken run.frames state end
+        → Serves (answering digest) (desk_room service.faults) serve_limit (at_start service) run.taken (IsAtEnd a.after) a.SourceRose a.SinkRose run.frames state end
+        → Causes digest words a (end_status end)
+    serving_row _ run reached (serving.done all within ended) =
+        causes.success (
+          sent service.shard run.frames,
+          served service asked run.taken run.consumed 0 _ (run.frames, state, Done, serving.done all within ended, reached, refl, refl),
+          run.wrote,
+        )
+    serving_row _ run reached (serving.stopped clash before all within last) =
+        causes.collision_serving clash
+        (served_ends digest false (desk_room service.faults) (at_start service) run.taken run.frames (Some clash) state clash refl all) (until _ run)
+    serving_row _ run reached (serving.wrong front b is bad some within) = causes.unreadable_serving _ (until _ run)
+    serving_row _ run reached (serving.cut front rest is part long some within ended) = causes.unreadable_serving _ (until _ run)
+    serving_row _ run reached (serving.too_long front rest b is part some past) = causes.too_long_serving (until _ run)
+    serving_row _ run reached (serving.read_fault front rest is part some within rose) = causes.source_failed_serving rose (until _ run)
+    serving_row _ run reached (serving.write_fault clash all within rose) = causes.sink_failed_serving rose (until _ run)
 
   -- a command whose input was taken
   module _ (asked : Task) (is_task : IsTask words asked) (input : List ℕ)
@@ -75,7 +74,7 @@ module _ (digest : List ℕ → List ℕ) (words : List (List ℕ)) (a : Around)
   causes_of _ (sink_failed s x answer rose part) = causes.sink_failed rose x (inl (s, answer)) part
   causes_of _ (cut_off asked is_task input taken text owed rose part) =
       causes.sink_failed rose text (inr (asked, is_task, input, taken, owed)) part
-  causes_of _ (serving_ended service asked s serves) = serving_ends service asked s serves
+  causes_of _ (serving_ended service asked s ends) = rw ends.4 (serving_row service asked ends.0 ends.1 ends.2 ends.3 ends.2.serves)
   causes_of _ ends = causes.no_memory (λ service asked. memory_first digest words a 5 service asked ends refl)
 
   -- words that ask for nothing have the status of usage, but for want of memory and a sink that failed
@@ -88,3 +87,18 @@ module _ (digest : List ℕ → List ℕ) (words : List (List ℕ)) (a : Around)
   nothing_asked _ (cut_off asked is_task input taken text owed rose part) none = inr (inr (refl, rose))
   nothing_asked _ (serving_ended service asked s serves) none = absurd (none (Serve service) asked)
   nothing_asked _ ends none = inr (inl refl)
+
+-- where no fault came, a run has its whole answer, or memory ran out
+pub answered_unless_memory : (digest : List ℕ → List ℕ) (words : List (List ℕ)) (a : Around) (status : ℕ) → Ends digest words a status
+    → IsComplete digest words a status
+answered_unless_memory digest words a _ (whole s text answer appends) no_source no_sink =
+    inr (text, answered s text answer, appends)
+answered_unless_memory digest words a _ (source_failed task asked has taken rose kept) no_source no_sink =
+    absurd (no_source rose)
+answered_unless_memory digest words a _ (sink_failed s text answer rose part) no_source no_sink = absurd (no_sink rose)
+answered_unless_memory digest words a _ (cut_off task asked input taken text owed rose part) no_source no_sink =
+    absurd (no_sink rose)
+answered_unless_memory digest words a _ (serving_ended service asked s serves) no_source no_sink =
+    inr (⊎_elim (λ given. given) (⊎_elim (λ read. absurd (no_source read.1)) (λ write. absurd (no_sink write.1)))
+    (answer_or_fault digest words service a s asked serves))
+answered_unless_memory digest words a _ ends no_source no_sink = inl refl

@@ -1,16 +1,42 @@
 -- What a shard answers to a challenge is one result of the command that challenges.
-use Rattle.wal_run.proofs.Common.{◌≡◌, ◌⊎◌, inl, inr, ⊎_elim, ℕ, ◌+◌, ◌<◌, ◌≤◌, List, [], ◌∷◌, ◌++◌, length, take, drop, slice_get, codes, Option, Some, Result, Ok, Err, refl, sym, ap, ◌∙◌, arith, Appends-kept, Appends-nil, Appends-trans, get_or-take, length-take, length-take-le, Appends, Axis, Primary, Secondary, BlobMetadata, held_index, shard_count, Frame, Sliver, read_of, FrameError, CarriesHeldSliver, first_not_none, one_first, metadata_fits, AreAnswers, HoldsBoth, ShowsDrawn, draw_of, answers_more, answers_none, one_answer, Audit, IsFrontOf, IsResult, MayLeave, MayOwe, Recorded, Spells, envelopes_of, PutError, Memory, DoesAnswer, IsAnswer, Does, DoesTold, PutsPiece, finished, lost_sink, performed, put_status, wanted_memory, written, Told, collides, lacks, misreads, rejects, succeeds, AnswersDraws, HasNoSliver, HasShard, IsAnswerText, IsOwnSliver, LacksShard, answer_text, challenging}
+use Rattle.wal_run.proofs.Common.{◌≡◌, inl, inr, ℕ, ◌+◌, ◌<◌, ◌≤◌, List, [], ◌∷◌, ◌++◌, append-nil, length, take, drop, slice_get, Option, Some, Err, refl, arith, nil_from_length, Appends-kept, Appends-nil, Appends-trans, get_or-take, length-drop, length-take, length-take-le, Appends, Axis, Primary, Secondary, BlobMetadata, held_index, CarriesHeldSliver, first_not_none, one_first, metadata_fits, AreAnswers, ShowsDrawn, draw_of, answers_more, answers_none, one_answer, Audit, IsFrontOf, IsResult, MayLeave, MayOwe, Recorded, Spells, envelopes_of, PutError, Memory, DoesAnswer, IsAnswer, Does, DoesTold, PutsPiece, finished, lost_sink, performed, put_status, wanted_memory, written, Told, lacks, succeeds, AnswersDraws, HasNoSliver, HasShard, IsOwnSliver, answer_text, challenging, suc, add-zero, sym, ap, ◌∙◌, flat_map-append, take-append-drop, flat_map, claim_of, claims_from, claim_envelope}
 use Rattle.std.proofs.lemmas.Option.{get_or_from_slice_get, slice_get-get_or, slice_get_within}
 use Rattle.wal_shape.specs.declared.opening.Opening.{Opening}
 use Rattle.wal_run.specs.declared.finish.PutError.TheVariants.{WriteFault}
-use Rattle.wal_run.proofs.AnswerTexts.{answer_more, answer_split, texts_from}
-use Rattle.wal_run.proofs.CommandLaws.{Determined, Same, same}
+use Rattle.wal_run.proofs.CommandLaws.{Determined, Same, same, told_so}
 use Rattle.wal_run.proofs.Endings.{does_as, does_spelled}
 use Rattle.wal_run.proofs.Parts.{part_after}
 
--- a frame carries one sliver
-one_sliver : (r : Result Frame FrameError) (id : List ℕ) (axis : Axis) (index : ℕ) (x y : List ℕ) → r ≡ Ok (Sliver id axis index x) → r ≡ Ok (Sliver id axis index y) → x ≡ y
-one_sliver r id axis index x y a b = cc
+-- the claims of two lists of openings, the second behind the first
+claims_append : (digest : List ℕ → List ℕ) (m : BlobMetadata) (beacon : List ℕ) (shard d : ℕ) (xs ys : List Opening)
+    → claims_from digest m beacon shard d (xs ++ ys) ≡ claims_from digest m beacon shard d xs ++ claims_from digest m beacon shard (d + length xs) ys
+claims_append digest m beacon shard d [] ys = rw add-zero refl
+claims_append digest m beacon shard d (x ∷ xs) ys =
+    let here : d + 1 + length xs ≡ d + suc (length xs) = omega arith in
+    rw (claims_append digest m beacon shard (d + 1) xs ys, here) refl
+
+module _ (digest : List ℕ → List ℕ) (a : Audit) (m : BlobMetadata) where
+  abbrev pub texts_from : ℕ → List Opening → List ℕ
+  texts_from d openings = flat_map (claim_envelope a) (claims_from digest m a.beacon a.shard d openings)
+
+  abbrev pub piece : ℕ → Opening → List ℕ
+  piece d o = claim_envelope a (claim_of digest m a.beacon a.shard d o)
+
+  texts_append : (xs ys : List Opening) (d : ℕ) → length xs ≡ d → answer_text digest a m (xs ++ ys) ≡ answer_text digest a m xs ++ texts_from d ys
+  texts_append xs ys d long =
+      let here : 0 + length xs ≡ d = omega (arith, long) in
+      rw (claims_append digest m a.beacon a.shard 0 xs ys, here)
+      (flat_map-append (claim_envelope a) (claims_from digest m a.beacon a.shard 0 xs) _)
+
+  -- one envelope more
+  pub answer_more : (openings : List Opening) (d : ℕ) (o : Opening) → length openings ≡ d → answer_text digest a m (openings ++ o ∷ []) ≡ answer_text digest a m openings ++ piece d o
+  answer_more openings d o long = rw (texts_append openings (o ∷ []) d long, append-nil) refl
+
+  -- the first envelopes, and those behind them
+  pub answer_split : (openings : List Opening) (d : ℕ) → d ≤ length openings
+      → answer_text digest a m openings ≡ answer_text digest a m (take d openings) ++ texts_from d (drop d openings)
+  answer_split openings d within =
+      ap (answer_text digest a m) (sym (take-append-drop d openings)) ∙ texts_append (take d openings) (drop d openings) d (length-take-le d openings within)
 
 module _ (digest : List ℕ → List ℕ) (a : Audit) (r : Recorded) where
   abbrev index_of : Axis → ℕ
@@ -20,104 +46,73 @@ module _ (digest : List ℕ → List ℕ) (a : Audit) (r : Recorded) where
   one_own : (axis : Axis) (x y : List ℕ) → IsOwnSliver digest a r axis x → IsOwnSliver digest a r axis y → x ≡ y
   one_own axis x y of_x of_y =
       one_first (CarriesHeldSliver digest a.id.0 r.metadata axis (index_of axis))
-      (λ payload p q at there. one_sliver (read_of payload) a.id.0 axis (index_of axis) p q at.0 there.0) r.payloads x y of_x of_y
+      (λ payload p q at there. cc (at.0, there.0)) r.payloads x y of_x of_y
 
   none_own : (axis : Axis) (x : List ℕ) → IsOwnSliver digest a r axis x → HasNoSliver digest a r axis → ⊥
   none_own axis x own none = first_not_none (CarriesHeldSliver digest a.id.0 r.metadata axis (index_of axis)) r.payloads x own none
 
-  -- ---- what is told, by the first thing that is lacking
+  -- ---- what is told, by what is lacking
 
-  abbrev Case : ℕ → List ℕ → Type 0
-  Case s x =
-      ((s ≡ 4) × LacksShard a r x)
-      ⊎ (HasShard a r × (((s ≡ 4) × HasNoSliver digest a r Primary × (x ≡ codes "no primary\n"))
-      ⊎ ((p : List ℕ) × IsOwnSliver digest a r Primary p × (((s ≡ 4) × HasNoSliver digest a r Secondary
-      × (x ≡ codes "no secondary\n"))
-      ⊎ ((q : List ℕ) × IsOwnSliver digest a r Secondary q × (s ≡ 0)
-      × IsAnswerText digest a r.metadata p q a.count x)))))
+  abbrev Lacking : List ℕ → Type 0
+  Lacking text = (challenging digest a).Lacks r text
 
-  case_of : (s : ℕ) (x : List ℕ) → Told digest (challenging digest a) r s x → Case s x
-  case_of _ _ (succeeds text is) = inr (is.0, inr (is.1, is.2, inr (is.3, is.4, refl, is.5)))
-  case_of _ _ (rejects text is) = absurd is
-  case_of _ _ (lacks text is) =
-      ⊎_elim (λ shard. inl (refl, shard)) (⊎_elim (λ none. inr (none.0, inl (refl, none.1, none.2)))
-      (λ none. inr (none.0, inr (none.1.0, none.1.1, inl (refl, none.2, none.3))))) is
-  case_of _ _ (misreads text is) = absurd is
-  case_of _ _ (collides left right text clash is) = absurd is
+  not_lacking : (count : ℕ) (x y : List ℕ) → AnswersDraws digest a r count x → Lacking y → ⊥
+  not_lacking count x y is (inl none) = omega (arith, none.0, is.0)
+  not_lacking count x y is (inr (inl none)) = none_own Primary is.1 is.2 none.1
+  not_lacking count x y is (inr (inr none)) = none_own Secondary is.3 is.4 none.2
 
-  pub both_not : (text : List ℕ) → LacksShard a r text → HasShard a r → ⊥
-  both_not text lacking has = omega (arith, lacking.0, has)
-
-  one_text : r.metadata.f ≤ 333 → (p q u v x y : List ℕ) → IsOwnSliver digest a r Primary p
-      → IsOwnSliver digest a r Primary q → IsOwnSliver digest a r Secondary u → IsOwnSliver digest a r Secondary v
-      → IsAnswerText digest a r.metadata p u a.count x → IsAnswerText digest a r.metadata q v a.count y → x ≡ y
-  one_text few p q u v x y first also second too of_x of_y =
-      let here = rw (one_own Primary p q first also, one_own Secondary u v second too) at of_x.1 in
-      rw (of_x.2, of_y.2) (ap (answer_text digest a r.metadata)
-      (one_answer digest r.metadata a.beacon a.shard a.count q v of_x.0 of_y.0 few here of_y.1))
-
-  one_case : r.metadata.f ≤ 333 → (s : ℕ) (x : List ℕ) (t : ℕ) (y : List ℕ) → Case s x → Case t y → Same s x t y
-  one_case few s x t y (inl l) (inl k) = same s t x y (l.0 ∙ sym k.0) (l.1.1 ∙ sym k.1.1)
-  one_case few s x t y (inl l) (inr k) = absurd (both_not x l.1 k.0)
-  one_case few s x t y (inr l) (inl k) = absurd (both_not y k.1 l.0)
-  one_case few s x t y (inr (h, inl l)) (inr (i, inl k)) = same s t x y (l.0 ∙ sym k.0) (l.2 ∙ sym k.2)
-  one_case few s x t y (inr (h, inl l)) (inr (i, inr k)) = absurd (none_own Primary k.0 k.1 l.1)
-  one_case few s x t y (inr (h, inr l)) (inr (i, inl k)) = absurd (none_own Primary l.0 l.1 k.1)
-  one_case few s x t y (inr (h, inr (p, own, inl l))) (inr (i, inr (q, one, inl k))) =
-      same s t x y (l.0 ∙ sym k.0) (l.2 ∙ sym k.2)
-  one_case few s x t y (inr (h, inr (p, own, inl l))) (inr (i, inr (q, one, inr k))) =
-      absurd (none_own Secondary k.0 k.1 l.1)
-  one_case few s x t y (inr (h, inr (p, own, inr l))) (inr (i, inr (q, one, inl k))) =
-      absurd (none_own Secondary l.0 l.1 k.1)
-  one_case few s x t y (inr (h, inr (p, own, inr l))) (inr (i, inr (q, one, inr k))) =
-      same s t x y (l.2 ∙ sym k.2) (one_text few p q l.0 k.0 x y own one l.1 k.1 l.3 k.3)
+  one_lack : (x y : List ℕ) → Lacking x → Lacking y → x ≡ y
+  one_lack x y (inl a) (inl b) = a.1 ∙ sym b.1
+  one_lack x y (inr (inl a)) (inr (inl b)) = a.2 ∙ sym b.2
+  one_lack x y (inr (inr a)) (inr (inr b)) = a.3 ∙ sym b.3
+  one_lack x y (inr (inl a)) (inr (inr b)) = absurd (none_own Primary b.1.0 b.1.1 a.1)
+  one_lack x y (inr (inr a)) (inr (inl b)) = absurd (none_own Primary a.1.0 a.1.1 b.1)
+  one_lack x y (inl a) (inr b) = absurd (grind arith)
+  one_lack x y (inr a) (inl b) = absurd (grind arith)
 
   -- ---- the answers to the first draws are a front of all
 
-  -- what is true of each element of a list is of the first ones
-  each_taken : (P : ℕ → Opening → Type 0) (k : ℕ) (xs : List Opening) → ((d : ℕ) (x : Opening) → slice_get xs d ≡ Some x → P d x)
-      → (d : ℕ) (x : Opening) → slice_get (take k xs) d ≡ Some x → P d x
-  each_taken P k xs each d x there =
+  -- what is among the first elements of a list is in the list
+  taken_there : (k d : ℕ) (xs : List Opening) (x : Opening) → slice_get (take k xs) d ≡ Some x → slice_get xs d ≡ Some x
+  taken_there k d xs x there =
       let inside = slice_get_within (take k xs) d x there in
-      each d x (slice_get-get_or xs d x (omega (arith, inside, length-take k xs)) ∙ ap Some
-      (rw (← get_or-take k xs d x (omega (arith, inside, length-take k xs)))
-      (get_or_from_slice_get (take k xs) d x x there)))
+      let same = get_or-take k xs d x (omega (arith, inside, length-take k xs)) in
+      cc (slice_get-get_or xs d x (omega (arith, inside, length-take k xs)), same, get_or_from_slice_get (take k xs) d x x there)
 
-  first_text : r.metadata.f ≤ 333 → (count : ℕ) → count ≤ a.count → (p u x y : List ℕ)
-      → IsAnswerText digest a r.metadata p u count x → IsAnswerText digest a r.metadata p u a.count y → IsFrontOf x y
-  first_text few count some p u x y of_x of_y =
+  first_text : r.metadata.f ≤ 333 → (count : ℕ) → count ≤ a.count → (x y : List ℕ) → AnswersDraws digest a r count x → AnswersDraws digest a r a.count y
+      → (rest : List ℕ) × (y ≡ x ++ rest) × (count ≡ a.count → rest ≡ [])
+  first_text few count some x y (h, p, own, u, second, of_x) (i, q, one, v, also, of_y) =
       let within : count ≤ length of_y.0 = omega (arith, some, of_y.1.many) in
-      let one = one_answer digest r.metadata a.beacon a.shard count p u (take count of_y.0) of_x.0 few (record {
+      let front = one_answer digest r.metadata a.beacon a.shard count q v of_x.0 (take count of_y.0) few
+      (rw (one_own Primary p q own one, one_own Secondary u v second also) at of_x.1) (record {
         many = length-take-le count of_y.0 within;
-        each = each_taken (λ d o. ShowsDrawn digest r.metadata a.shard p u
-            (draw_of digest r.metadata a.beacon a.shard d) o) count of_y.0 of_y.1.each;
-      }) of_x.1 in (
+        each = λ d o there. of_y.1.each d o (taken_there count d of_y.0 o there);
+      }) in (
         texts_from digest a r.metadata count (drop count of_y.0),
-        rw (of_x.2, of_y.2, ← one) (answer_split digest a r.metadata of_y.0 count within),
+        rw (of_x.2, of_y.2, front) (answer_split digest a r.metadata of_y.0 count within),
+        λ all. rw (nil_from_length (drop count of_y.0) (omega (arith, all, length-drop count of_y.0, of_y.1.many))) refl,
       )
-
-  first_case : r.metadata.f ≤ 333 → (count : ℕ) → count ≤ a.count → (x : List ℕ) → AnswersDraws digest a r count x → (s : ℕ) (y : List ℕ) → Case s y → IsFrontOf x y
-  first_case few count some x is s y (inl k) = absurd (both_not y k.1 is.0)
-  first_case few count some x is s y (inr (h, inl k)) = absurd (none_own Primary is.1 is.2 k.1)
-  first_case few count some x is s y (inr (h, inr (w, one, inl k))) = absurd (none_own Secondary is.3 is.4 k.1)
-  first_case few count some x is s y (inr (h, inr (w, one, inr (z, second, zero, line)))) =
-      first_text few count some w z x y
-      (rw (one_own Primary is.1 w is.2 one, one_own Secondary is.3 z is.4 second) at is.5) line
 
   pub first_front : r.metadata.f ≤ 333 → (count : ℕ) → count ≤ a.count → (x : List ℕ) → AnswersDraws digest a r count x → (s : ℕ) (y : List ℕ)
       → Told digest (challenging digest a) r s y → IsFrontOf x y
-  first_front few count some x is s y told = first_case few count some x is s y (case_of s y told)
+  first_front few count some x is _ _ (succeeds y all) = let front = first_text few count some x y is all in (front.0, front.1)
+  first_front few count some x is _ _ (lacks y lacking) = absurd (not_lacking count x y is lacking)
+  first_front few count some x is s y told = absurd (grind (arith, told_so digest (challenging digest a) r s y told))
+
+  one_told : r.metadata.f ≤ 333 → (s : ℕ) (x : List ℕ) (t : ℕ) (y : List ℕ) → Told digest (challenging digest a) r s x → Told digest (challenging digest a) r t y → Same s x t y
+  one_told few _ _ _ _ (succeeds x is) (succeeds y also) =
+      let whole = first_text few a.count (omega arith) x y is also in same _ _ _ _ refl (cc (append-nil x, whole.1, whole.2 refl))
+  one_told few _ _ _ _ (succeeds x is) (lacks y lacking) = absurd (not_lacking a.count x y is lacking)
+  one_told few _ _ _ _ (lacks x lacking) (succeeds y is) = absurd (not_lacking a.count y x is lacking)
+  one_told few _ _ _ _ (lacks x one) (lacks y other) = same _ _ _ _ refl (one_lack x y one other)
+  one_told few s x t y one other =
+      let so = told_so digest (challenging digest a) r in absurd (grind (arith, so s x one, so t y other))
 
 pub challenged_once : (digest : List ℕ → List ℕ) (a : Audit) → Determined digest (challenging digest a)
 challenged_once digest a input r spells s x t y one other =
-    one_case digest a r (metadata_fits digest a.id.0 r.payloads r.metadata spells.1.0).shape.1 s x t y (case_of digest a r s x one) (case_of digest a r t y other)
+    one_told digest a r (metadata_fits digest a.id.0 r.payloads r.metadata spells.1.0).shape.1 s x t y one other
 
 module _ (digest : List ℕ → List ℕ) (a : Audit) (r : Recorded) where
-  -- both are held
-  pub own_held : (primary secondary : List ℕ) → IsOwnSliver digest a r Primary primary → IsOwnSliver digest a r Secondary secondary
-      → HoldsBoth digest r.metadata a.shard primary secondary
-  own_held primary secondary first second = record { primary_held = first.4.1; secondary_held = second.4.1 }
-
   -- what is done with both is done with the payloads
   pub answered_as : (primary secondary : List ℕ) (old new : Option (List ℕ)) (SinkRose : Type 0) (s : ℕ) → HasShard a r → IsOwnSliver digest a r Primary primary
       → IsOwnSliver digest a r Secondary secondary → DoesAnswer digest a r.metadata primary secondary old new SinkRose s
@@ -127,16 +122,6 @@ module _ (digest : List ℕ → List ℕ) (a : Audit) (r : Recorded) where
       (λ t text p. rw p.0 (succeeds text (has, primary, first, secondary, second, p.1)))
       (λ text left. (left.0, left.1, (has, primary, first, secondary, second, left.2)))
       (λ text owed. (owed.0, owed.1, (has, primary, first, secondary, second, owed.2)))
-
-  pub shardless_is : shard_count r.metadata.f ≤ a.shard → Told digest (challenging digest a) r 4 (codes "no shard\n")
-  shardless_is none = lacks _ (inl (none, refl))
-
-  pub primeless_is : HasShard a r → HasNoSliver digest a r Primary → Told digest (challenging digest a) r 4 (codes "no primary\n")
-  primeless_is has none = lacks _ (inr (inl (has, none, refl)))
-
-  pub secondless_is : (primary : List ℕ) → HasShard a r → IsOwnSliver digest a r Primary primary → HasNoSliver digest a r Secondary
-      → Told digest (challenging digest a) r 4 (codes "no secondary\n")
-  secondless_is primary has own none = lacks _ (inr (inr (has, (primary, own), none, refl)))
 
   -- and by the input
   pub answered_so : (input : List ℕ) (old new : Option (List ℕ)) (SinkRose : Type 0) (s : ℕ) → Spells digest (envelopes_of a.id) input r

@@ -1,8 +1,35 @@
 -- A command has one result for an input, but for the texts of a collision, where all that is spelled has.
-use Rattle.wal_run.proofs.Common.{◌≡◌, ℕ, List, [], ◌++◌, refl, sym, ap, ap₂, ◌∙◌, ⊎_elim, inl, inr, arith, MetaClash, first_two, BreaksAt, Command, Content, Grammar, HasNone, HasTwoMetadata, IsResult, Misspells, Spells, bytes, collision, envelopes, envelopes_of, lacking, nothing, rejection, schedule, success, unreadable, Told, collides, lacks, misreads, recorded, rejects, succeeds, collision_text, malformed_text, Place, SameText, line}
+use Rattle.wal_run.proofs.Common.{◌≡◌, ℕ, List, [], ◌++◌, refl, sym, ap, ap₂, ◌∙◌, ◌⊎◌, ⊎_elim, inl, inr, arith, MetaClash, first_two, BreaksAt, Command, Content, Grammar, HasNone, HasTwoMetadata, IsResult, Misspells, Spells, bytes, collision, envelopes, envelopes_of, lacking, nothing, rejection, schedule, success, unreadable, Told, collides, lacks, misreads, recorded, rejects, succeeds, collision_text, malformed_text, Place, SameText, line, Result, Ok, Err, Option, Some, Schedule, IsRead, ScheduleError, IsFault}
+use Rattle.wal_schedule.specs.declared.read.ScheduleError.TheVariants.{NotJson, Memory}
 use Rattle.wal_reader.proofs.OneOutcome.{not_two}
 use Rattle.wal_run.proofs.OneStream.{not_malformed, one_place, one_stream}
-use Rattle.wal_run.proofs.Schedules.{fault_is, fault_text, one_error, one_schedule, schedule_not_fault}
+
+-- a value is told in one way
+once : {D : Type 0} (U : Type 0) (o : Option D) (tell : D → Result Schedule ScheduleError) (a b : Result Schedule ScheduleError)
+    → ((d : D) × (U × (o ≡ Some d)) × (tell d ≡ a)) → ((d : D) × (U × (o ≡ Some d)) × (tell d ≡ b)) → a ≡ b
+once U o tell a b x y = let same : x.0 ≡ y.0 = cc (x.1.1, y.1.1) in sym x.2 ∙ ap tell same ∙ y.2
+
+pub one_schedule : (text : List ℕ) (a b : Schedule) → IsRead text (Ok a) → IsRead text (Ok b) → a ≡ b
+one_schedule text a b x y = cc (once _ _ _ (Ok a) (Ok b) x y)
+
+pub schedule_not_fault : (text : List ℕ) (a : Schedule) (e : ScheduleError) (told : List ℕ) → IsRead text (Ok a) → IsRead text (Err e) → IsFault e told → ⊥
+schedule_not_fault text a NotJson told x y is = y x.0 x.1
+schedule_not_fault text a Memory told x y is = is
+schedule_not_fault text a e told x y is = cc (once _ _ _ (Ok a) (Err e) x y)
+
+-- a text has one fault
+pub one_error : (text : List ℕ) (a b : ScheduleError) (told other : List ℕ) → IsRead text (Err a) → IsRead text (Err b) → IsFault a told → IsFault b other → a ≡ b
+one_error text NotJson NotJson told other x y is also = refl
+one_error text a Memory told other x y is also = absurd also
+one_error text Memory b told other x y is also = absurd is
+one_error text NotJson b told other x y is also = absurd (x y.0 y.1)
+one_error text a NotJson told other x y is also = absurd (y x.0 x.1)
+one_error text a b told other x y is also = cc (once _ _ _ (Err a) (Err b) x y)
+
+-- whose text is one
+same_fault : (e : ScheduleError) (x y : List ℕ) → IsFault e x → IsFault e y → x ≡ y
+same_fault Memory x y a b = absurd a
+same_fault e x y a b = a ∙ sym b
 
 -- one status, and one text; of two texts that collide those before them are one
 abbrev pub SameAt : Place → ℕ → List ℕ → ℕ → List ℕ → Type 0
@@ -20,20 +47,30 @@ pub both_collide : (s t : ℕ) (x y front : List ℕ) (one other : MetaClash) �
 both_collide s t x y front one other is also ends ends_too =
     (is ∙ sym also, inr (is, record { front = front; clash = one; other = other; ends = ends; ends_too = ends_too }))
 
-pub same_as : (place : Place) (s u t v : ℕ) (x z y w : List ℕ) → s ≡ u → x ≡ z → t ≡ v → y ≡ w → SameAt place u z v w → SameAt place s x t y
-same_as place s u t v x z y w status text other also one = rw (status, text, other, also) one
-
 -- THE LAW OF A COMMAND: what is spelled has one status, and one text, but for two texts that collide at its end
 abbrev pub Determined : (List ℕ → List ℕ) → Command → Type 0
 Determined digest c =
     (input : List ℕ) (content : Content c.grammar) → Spells digest c.grammar input content
     → (s : ℕ) (x : List ℕ) (t : ℕ) (y : List ℕ) → Told digest c content s x → Told digest c content t y → Same s x t y
 
--- of a command that only succeeds
-pub told_success : (digest : List ℕ → List ℕ) (c : Command) (content : Content c.grammar)
-    → ((z : List ℕ) → c.Rejects content z → ⊥) → ((z : List ℕ) → c.Lacks content z → ⊥) → ((z : List ℕ) → c.Misreads content z → ⊥)
-    → ((l r z : List ℕ) → c.Collides content l r z → ⊥) → (s : ℕ) (x : List ℕ) → Told digest c content s x → (s ≡ 0) × c.Succeeds content x
-told_success digest c content no_reject no_lack no_fault no_clash s x told = grind (arith, no_reject, no_lack, no_fault, no_clash)
+-- a status and a text are those of something of which this is true
+abbrev pub ToldBy : {O : Type 0} → (O → Type 0) → (O → ℕ) → (O → List ℕ) → ℕ → List ℕ → Type 0
+ToldBy {O} Is status text s x = (o : O) × Is o × (s ≡ status o) × (x ≡ text o)
+
+-- where there is one such thing
+pub one_by : {O : Type 0} (Is : O → Type 0) (status : O → ℕ) (text : O → List ℕ) → ((o p : O) → Is o → Is p → Same (status o) (text o) (status p) (text p))
+    → {s t : ℕ} {x y : List ℕ} → ToldBy Is status text s x → ToldBy Is status text t y → Same s x t y
+one_by Is status text one a b = rw (a.2, a.3, b.2, b.3) (one a.0 b.0 a.1 b.1)
+
+-- what is told, by its status
+pub told_so : (digest : List ℕ → List ℕ) (c : Command) (content : Content c.grammar) (s : ℕ) (x : List ℕ) → Told digest c content s x
+    → ((s ≡ 0) × c.Succeeds content x) ⊎ (((s ≡ 3) × c.Rejects content x) ⊎ (((s ≡ 4) × c.Lacks content x)
+    ⊎ (((s ≡ 8) × c.Misreads content x) ⊎ ((s ≡ 10) × (l : List ℕ) × (r : List ℕ) × (z : List ℕ) × c.Collides content l r z))))
+told_so digest c content _ _ (succeeds text is) = inl (refl, is)
+told_so digest c content _ _ (rejects text is) = inr (inl (refl, is))
+told_so digest c content _ _ (lacks text is) = inr (inr (inl (refl, is)))
+told_so digest c content _ _ (misreads text is) = inr (inr (inr (inl (refl, is))))
+told_so digest c content _ _ (collides l r front clash is) = inr (inr (inr (inr (refl, l, r, front, is))))
 
 -- what comes of what is spelled is the result of the input
 pub of_told : (digest : List ℕ → List ℕ) (c : Command) (input : List ℕ) (content : Content c.grammar) → Spells digest c.grammar input content
@@ -63,14 +100,31 @@ one_misspelling : (g : Grammar) (input x y : List ℕ) → Misspells g input x �
 one_misspelling envelopes input x y a b = one_break input x y a b
 one_misspelling (envelopes_of id) input x y a b = one_break input x y a b
 one_misspelling schedule input x y a b =
-    fault_is a.0 x a.2 ∙ ap fault_text (one_error input a.0 b.0 x y a.1 b.1 a.2 b.2) ∙ sym (fault_is b.0 y b.2)
+    same_fault b.0 x y (rw (one_error input a.0 b.0 x y a.1 b.1 a.2 b.2) at a.2) b.2
 one_misspelling g input x y a b = absurd a
 
-not_misspelled : (digest : List ℕ → List ℕ) (g : Grammar) (input x : List ℕ) (content : Content g) → Spells digest g input content → Misspells g input x → ⊥
-not_misspelled digest envelopes input x content is bad = not_malformed content bad.0 input is bad.1
-not_misspelled digest (envelopes_of id) input x content is bad = not_malformed content.payloads bad.0 input is.0 bad.1
-not_misspelled digest schedule input x content is bad = schedule_not_fault input content bad.0 x is bad.1 bad.2
-not_misspelled digest g input x content is bad = bad
+-- ---- what is told of an input that spells nothing
+
+abbrev clash_of : List ℕ → List ℕ → MetaClash
+clash_of left right = record { left = left; right = right }
+
+data Unspelled (digest : List ℕ → List ℕ) (g : Grammar) (input : List ℕ) : ℕ → List ℕ → Type 0 where
+  misspelled : (text : List ℕ) → Misspells g input text → Unspelled digest g input 8 text
+  without : (text : List ℕ) → HasNone digest g input text → Unspelled digest g input 4 text
+  double : (text : List ℕ) (clash : MetaClash) → HasTwoMetadata digest g input clash.left clash.right → text ≡ collision_text clash.left clash.right → Unspelled digest g input 10 text
+
+not_spelled : (digest : List ℕ → List ℕ) (g : Grammar) (input : List ℕ) (content : Content g) (s : ℕ) (x : List ℕ) → Spells digest g input content → Unspelled digest g input s x → ⊥
+not_spelled digest envelopes input content _ _ is (misspelled u bad) = not_malformed content bad.0 input is bad.1
+not_spelled digest schedule input content _ _ is (misspelled u bad) = schedule_not_fault input content bad.0 u is bad.1 bad.2
+not_spelled digest (envelopes_of id) input content _ _ is (misspelled u bad) = not_malformed content.payloads bad.0 input is.0 bad.1
+not_spelled digest (envelopes_of id) input content _ _ is (without u none) =
+    none.2 content.metadata (rw (one_stream content.payloads none.0 input is.0 none.1) at is.1.0)
+not_spelled digest (envelopes_of id) input content _ _ is (double u m two at) =
+    not_two digest id.0 content.payloads content.metadata two.2 two.3 is.1
+    (rw (one_stream two.0 content.payloads input two.1 is.0) at two.4)
+not_spelled digest g input content _ _ is (misspelled u bad) = bad
+not_spelled digest g input content _ _ is (without u none) = none
+not_spelled digest g input content _ _ is (double u m two at) = two
 
 none_spelled : (digest : List ℕ → List ℕ) (g : Grammar) (input x y : List ℕ) → HasNone digest g input x → Misspells g input y → ⊥
 none_spelled digest (envelopes_of id) input x y none bad = not_malformed none.0 bad.0 input none.1 bad.1
@@ -84,78 +138,51 @@ one_none : (digest : List ℕ → List ℕ) (g : Grammar) (input x y : List ℕ)
 one_none digest (envelopes_of id) input x y a b = a.3 ∙ sym b.3
 one_none digest g input x y a b = absurd a
 
-none_not_one : (digest : List ℕ → List ℕ) (g : Grammar) (input x : List ℕ) (content : Content g) → HasNone digest g input x → Spells digest g input content → ⊥
-none_not_one digest (envelopes_of id) input x content none is =
-    none.2 content.metadata (rw (one_stream content.payloads none.0 input is.0 none.1) at is.1.0)
-none_not_one digest g input x content none is = none
-
 none_not_two : (digest : List ℕ → List ℕ) (g : Grammar) (input x left right : List ℕ) → HasNone digest g input x → HasTwoMetadata digest g input left right → ⊥
 none_not_two digest (envelopes_of id) input x left right none two =
     none.2 two.2 (rw (one_stream two.0 none.0 input two.1 none.1) at (first_two digest id.0 two.0 two.2 two.3 two.4).0)
 none_not_two digest g input x left right none two = none
 
-two_not_one : (digest : List ℕ → List ℕ) (g : Grammar) (input : List ℕ) (content : Content g) (left right : List ℕ) → HasTwoMetadata digest g input left right → Spells digest g input content → ⊥
-two_not_one digest (envelopes_of id) input content left right two is =
-    not_two digest id.0 content.payloads content.metadata two.2 two.3 is.1
-    (rw (one_stream two.0 content.payloads input two.1 is.0) at two.4)
-two_not_one digest g input content left right two is = two
+-- one status tells it
+apart : (digest : List ℕ → List ℕ) (g : Grammar) (input : List ℕ) (s : ℕ) (x : List ℕ) (t : ℕ) (y : List ℕ) → Unspelled digest g input s x → Unspelled digest g input t y → (s ≡ t → ⊥) → ⊥
+apart digest g input s x t y a b differ = grind (arith, none_spelled digest g input, two_spelled digest g input, none_not_two digest g input)
+
+one_unspelled : (digest : List ℕ → List ℕ) (g : Grammar) (input : List ℕ) (s : ℕ) (x : List ℕ) (t : ℕ) (y : List ℕ) → Unspelled digest g input s x → Unspelled digest g input t y → Same s x t y
+one_unspelled digest g input _ _ _ _ (misspelled u p) (misspelled v q) = same _ _ _ _ refl (one_misspelling g input u v p q)
+one_unspelled digest g input _ _ _ _ (without u p) (without v q) = same _ _ _ _ refl (one_none digest g input u v p q)
+one_unspelled digest g input _ _ _ _ (double u m p at) (double v n q on) = both_collide _ _ _ _ [] m n refl refl at on
+one_unspelled digest g input s x t y a b = absurd (apart digest g input s x t y a b (λ same. omega (arith, same)))
 
 -- ---- a result, by whether the input spells something
 
-abbrev clash_of : List ℕ → List ℕ → MetaClash
-clash_of left right = record { left = left; right = right }
-
-data View (digest : List ℕ → List ℕ) (c : Command) (input : List ℕ) : ℕ → List ℕ → Type 0 where
-  misspelled : (text : List ℕ) → Misspells c.grammar input text → View digest c input 8 text
-  without : (text : List ℕ) → HasNone digest c.grammar input text → View digest c input 4 text
-  double : (text : List ℕ) (clash : MetaClash) → HasTwoMetadata digest c.grammar input clash.left clash.right → text ≡ collision_text clash.left clash.right → View digest c input 10 text
-  spelled : (content : Content c.grammar) → Spells digest c.grammar input content → (s : ℕ) (x : List ℕ) → Told digest c content s x
-      → View digest c input s x
-
-view_of : (digest : List ℕ → List ℕ) (c : Command) (input : List ℕ) (s : ℕ) (x : List ℕ) → IsResult digest c input s x → View digest c input s x
-view_of digest c input _ _ (success text is) = spelled is.0 is.1 0 text (succeeds text is.2)
-view_of digest c input _ _ (rejection text is) = spelled is.0 is.1 3 text (rejects text is.2)
-view_of digest c input _ _ (lacking text is) =
-    ⊎_elim (λ none. without text none) (λ some. spelled some.0 some.1 4 text (lacks text some.2)) is
-view_of digest c input _ _ (unreadable text is) =
-    ⊎_elim (λ bad. misspelled text bad) (λ some. spelled some.0 some.1 8 text (misreads text some.2)) is
+view_of : (digest : List ℕ → List ℕ) (c : Command) (input : List ℕ) (s : ℕ) (x : List ℕ) → IsResult digest c input s x
+    → Unspelled digest c.grammar input s x ⊎ ((content : Content c.grammar) × Spells digest c.grammar input content × Told digest c content s x)
+view_of digest c input _ _ (success text is) = inr (is.0, is.1, succeeds text is.2)
+view_of digest c input _ _ (rejection text is) = inr (is.0, is.1, rejects text is.2)
+view_of digest c input _ _ (lacking text (inl none)) = inl (without text none)
+view_of digest c input _ _ (lacking text (inr is)) = inr (is.0, is.1, lacks text is.2)
+view_of digest c input _ _ (unreadable text (inl bad)) = inl (misspelled text bad)
+view_of digest c input _ _ (unreadable text (inr is)) = inr (is.0, is.1, misreads text is.2)
 view_of digest c input _ _ (collision l r text clash is) =
     ⊎_elim
-    (λ two. double text (clash_of l r) two.0 (is.whole ∙ ap (λ (f : List ℕ). f ++ collision_text l r) two.1))
-    (λ some. spelled some.0 some.1 10 text (rw is.whole (collides l r is.front clash some.2))) is.clashes
-
-one_view : (digest : List ℕ → List ℕ) (c : Command) → Determined digest c → (input : List ℕ) (s : ℕ) (x : List ℕ) (t : ℕ) (y : List ℕ)
-    → View digest c input s x → View digest c input t y → Same s x t y
-one_view digest c law input s x t y (misspelled u p) (misspelled v q) = same _ _ _ _ refl (one_misspelling c.grammar input u v p q)
-one_view digest c law input s x t y (misspelled u p) (without v q) = absurd (none_spelled digest c.grammar input v u q p)
-one_view digest c law input s x t y (misspelled u p) (double v n q on) = absurd (two_spelled digest c.grammar input u n.left n.right q p)
-one_view digest c law input s x t y (misspelled u p) (spelled b q j v told) = absurd (not_misspelled digest c.grammar input u b q p)
-one_view digest c law input s x t y (without u p) (misspelled v q) = absurd (none_spelled digest c.grammar input u v p q)
-one_view digest c law input s x t y (without u p) (without v q) = same _ _ _ _ refl (one_none digest c.grammar input u v p q)
-one_view digest c law input s x t y (without u p) (double v n q on) = absurd (none_not_two digest c.grammar input u n.left n.right p q)
-one_view digest c law input s x t y (without u p) (spelled b q j v told) = absurd (none_not_one digest c.grammar input u b p q)
-one_view digest c law input s x t y (double u m p at) (misspelled v q) = absurd (two_spelled digest c.grammar input v m.left m.right p q)
-one_view digest c law input s x t y (double u m p at) (without v q) = absurd (none_not_two digest c.grammar input v m.left m.right q p)
-one_view digest c law input s x t y (double u m p at) (double v n q on) = both_collide _ _ _ _ [] m n refl refl at on
-one_view digest c law input s x t y (double u m p at) (spelled b q j v told) = absurd (two_not_one digest c.grammar input b m.left m.right p q)
-one_view digest c law input s x t y (spelled a p i u says) (misspelled v q) = absurd (not_misspelled digest c.grammar input v a p q)
-one_view digest c law input s x t y (spelled a p i u says) (without v q) = absurd (none_not_one digest c.grammar input v a q p)
-one_view digest c law input s x t y (spelled a p i u says) (double v n q on) = absurd (two_not_one digest c.grammar input a n.left n.right q p)
-one_view digest c law input s x t y (spelled a p i u says) (spelled b q j v told) =
-    law input b q i u j v (rw (one_content digest c.grammar input a b p q) at says) told
+    (λ two. inl (double text (clash_of l r) two.0 (is.whole ∙ ap (λ (f : List ℕ). f ++ collision_text l r) two.1)))
+    (λ some. inr (some.0, some.1, rw is.whole (collides l r is.front clash some.2))) is.clashes
 
 -- the result of an input is what comes of what it spells
 pub told_of : (digest : List ℕ → List ℕ) (c : Command) (input : List ℕ) (content : Content c.grammar) → Spells digest c.grammar input content
     → (s : ℕ) (x : List ℕ) → IsResult digest c input s x → Told digest c content s x
-told_of digest c input content spells s x result = of_view s x (view_of digest c input s x result)
-  where
-    of_view : (t : ℕ) (y : List ℕ) → View digest c input t y → Told digest c content t y
-    of_view t y (misspelled u bad) = absurd (not_misspelled digest c.grammar input u content spells bad)
-    of_view t y (without u none) = absurd (none_not_one digest c.grammar input u content none spells)
-    of_view t y (double u m two at) = absurd (two_not_one digest c.grammar input content m.left m.right two spells)
-    of_view t y (spelled a is i u told) = rw (one_content digest c.grammar input a content is spells) at told
+told_of digest c input content spells s x result =
+    ⊎_elim
+    (λ none. absurd (not_spelled digest c.grammar input content s x spells none))
+    (λ it. rw (one_content digest c.grammar input it.0 content it.1 spells) at it.2) (view_of digest c input s x result)
 
 -- A COMMAND has one result for an input
 pub one_result : (digest : List ℕ → List ℕ) (c : Command) → Determined digest c → (input : List ℕ) (s : ℕ) (x : List ℕ) (t : ℕ) (y : List ℕ)
     → IsResult digest c input s x → IsResult digest c input t y → Same s x t y
-one_result digest c law input s x t y a b = one_view digest c law input s x t y (view_of digest c input s x a) (view_of digest c input t y b)
+one_result digest c law input s x t y a b =
+    ⊎_elim
+    (λ none. ⊎_elim (one_unspelled digest c.grammar input s x t y none) spelled (view_of digest c input t y b))
+    spelled (view_of digest c input s x a)
+  where
+    spelled : {i : ℕ} {z : List ℕ} → (content : Content c.grammar) × Spells digest c.grammar input content × Told digest c content i z → Same s x t y
+    spelled it = law input it.0 it.1 s x t y (told_of digest c input it.0 it.1 s x a) (told_of digest c input it.0 it.1 t y b)

@@ -1,20 +1,15 @@
 -- How the endings of a part become those of the whole run.
-use Rattle.wal_run.proofs.Common.{◌≡◌, ℕ, ◌+◌, ◌<◌, ◌⊎◌, List, [], length, Option, Some, None, IfSome, Result, Ok, Err, IsErrAnd, IsErrOf, refl, sym, arith, Keeps, Keeps-refl, AppendsPart, TakeError, Task, IsTask, Around, Command, Content, Grammar, IsFrontOf, IsFrontUpToClash, IsResult, Spells, IsTaken, IsTakenWhole, MayLeave, MayOwe, TakenBy, TakesAtMost, TakesInput, IsAllOf, nothing, command_of, Told, PutError, Does, DoesTold, Finishes, Performs, PutsPiece, cut, finished, lost_sink, out_of_memory, performed, wanted_memory, written, Answers, Ends, broke_off, cut_off, done, no_memory, sink_failed, whole}
+use Rattle.wal_run.proofs.Common.{◌≡◌, ℕ, ◌+◌, ◌<◌, ◌⊎◌, List, [], length, Option, Some, None, IfSome, Result, Ok, Err, IsErrAnd, IsErrOf, refl, sym, arith, Keeps, AppendsPart, TakeError, Task, IsTask, Around, Command, Content, Grammar, IsFrontOf, IsFrontUpToClash, IsResult, Spells, IsTaken, IsTakenWhole, MayLeave, MayOwe, TakenBy, TakesAtMost, TakesInput, IsAllOf, nothing, command_of, Told, PutError, Does, DoesTold, Finishes, Performs, PutsPiece, cut, finished, lost_sink, out_of_memory, performed, wanted_memory, written, Answers, Ends, broke_off, cut_off, done, no_memory, sink_failed, whole}
 use Rattle.wal_port.specs.declared.transfers.TakeError.TheVariants.{ReadFault, TooLong, Memory}
 use Rattle.wal_run.specs.SameText as same_text
 use Rattle.wal_run.specs.declared.finish.PutError.TheVariants.{WriteFault}
 use Rattle.wal_run.proofs.CommandLaws.{of_told, told_of}
 
--- an input that is too long, where more than the limit was taken
-pub long_input : (left : Option (List ℕ)) (limit : ℕ) (taken : List ℕ) → length taken ≡ limit + 1 → IfSome left (λ xs. limit < length xs)
-    → (input : List ℕ) × IsAllOf left input × (limit < length input)
-long_input None limit taken long told = (taken, tt, omega (arith, long))
-long_input (Some given) limit taken long told = (given, refl, told)
-
--- what is told under a premise that holds
-pub told_long : (left : Option (List ℕ)) (P : Type 0) (limit : ℕ) → IfSome left (λ xs. P → limit < length xs) → P → IfSome left (λ xs. limit < length xs)
-told_long None P limit told p = tt
-told_long (Some given) P limit told p = told p
+-- an input that is too long, where more than the limit was taken, as is told under a premise that holds
+pub long_input : (left : Option (List ℕ)) (P : Type 0) (limit : ℕ) (taken : List ℕ) → length taken ≡ limit + 1
+    → IfSome left (λ xs. P → limit < length xs) → P → (input : List ℕ) × IsAllOf left input × (limit < length input)
+long_input None P limit taken long told p = (taken, tt, omega (arith, long))
+long_input (Some given) P limit taken long told p = (given, refl, told p)
 
 -- the whole input of a command that takes one was taken
 pub taken_by : (g : Grammar) (limit : ℕ) (left after : Option (List ℕ)) (input : List ℕ) → TakesInput g → IsTakenWhole limit left after input
@@ -76,9 +71,6 @@ pub performs_as : {A B : ℕ → List ℕ → Type 0} {old new : Option (List �
     → Performs A old new SinkRose status → ((s : ℕ) (text : List ℕ) → A s text → B s text) → Performs B old new SinkRose status
 performs_as (out_of_memory kept) is = out_of_memory kept
 performs_as (finished success s f) is = finished success s (finishes_as f (is success))
-
-pub nothing_taken : (left : Option (List ℕ)) → TakesAtMost left left 0
-nothing_taken left = kept_few left left 0 (Keeps-refl left)
 
 -- the same of a task that writes while it works
 pub does_as : {A B : ℕ → List ℕ → Type 0} {L M O P : List ℕ → Type 0} {old new : Option (List ℕ)} {SinkRose : Type 0} {status : ℕ} → Does A L O old new SinkRose status

@@ -1,6 +1,5 @@
 -- The lines of requests are one result of the command that answers them.
-use Rattle.wal_run.proofs.Common.{◌≡◌, ⊎_elim, arith, ℕ, true, false, List, [], ◌∷◌, ◌++◌, ◌⊎◌, inl, inr, append-nil, append_assoc, Option, Some, None, MatchOption, Err, ◌+◌, refl, sym, ap, ap₂, ◌∙◌, Appends-kept, Appends-nil, Appends-trans, Appends, Keeps, flat_map-append, MetaClash, IsCollision, IsOutcome, Outcome, IsFirstRequest, get_of, gets_in, no_blobs, IsMalformed, IsStream, AppendsPart, IsFrontOf, IsResult, MayLeave, MayOwe, unreadable, PutError, Memory, Told, collides, lacks, misreads, rejects, succeeds, collision_text, malformed_text, AnswersFirst, AnswersRequests, GoOn, StopsAt, answers_text, fetching, Does, DoesTold, PutsPiece, cut, finished, lost_sink, performed, put_status, wanted_memory, written}
-use Rattle.wal_protocol.proofs.EveryWord.{truth}
+use Rattle.wal_run.proofs.Common.{truth, ◌≡◌, ⊎_elim, arith, ℕ, true, false, List, [], ◌∷◌, ◌++◌, ◌⊎◌, inl, append-nil, append_assoc, Option, Some, None, MatchOption, Err, ◌+◌, refl, sym, ap, ◌∙◌, Appends-kept, Appends-nil, Appends-trans, Appends, Keeps, flat_map-append, MetaClash, IsCollision, IsOutcome, Outcome, IsFirstRequest, get_of, gets_in, no_blobs, IsMalformed, IsStream, AppendsPart, IsFrontOf, IsResult, MayLeave, MayOwe, unreadable, PutError, Memory, Told, collides, succeeds, collision_text, malformed_text, AnswersFirst, AnswersRequests, GoOn, StopsAt, answers_text, fetching, Does, DoesTold, PutsPiece, cut, finished, lost_sink, performed, put_status, wanted_memory, written}
 use Rattle.wal_reader.specs.declared.outcome.Outcome.TheVariants as read
 use Rattle.wal_gateway.specs.declared.answer.Found.{Found}
 use Rattle.wal_gateway.specs.declared.answer.Found.TheVariants.{Collision}
@@ -15,7 +14,7 @@ use Rattle.wal_run.specs.declared.finish.PutError.TheVariants.{WriteFault}
 use Rattle.wal_run.specs.Fetching.{answer_text, is_collision}
 use Rattle.wal_run.proofs.Endings.{does_spelled}
 use Rattle.wal_run.proofs.Parts.{part_after}
-use Rattle.wal_run.proofs.CommandLaws.{Determined, Same, both_collide, same}
+use Rattle.wal_run.proofs.CommandLaws.{Determined, Same, both_collide, same, told_so}
 
 -- ---- answers that are collisions, and others
 
@@ -257,59 +256,45 @@ module _ (digest : List ℕ → List ℕ) where
   same_first start gets others rest more xs ys left also e all those = absurd assumption
 
 module _ (digest : List ℕ → List ℕ) (capacity : ℕ) (payloads : List (List ℕ)) where
-  -- all are answered, or some answer is a collision
-  abbrev Whole : ℕ → List ℕ → Type 0
-  Whole s x = (answers : List GetAnswer) × AnswersRequests digest capacity payloads answers × (s ≡ 0) × (x ≡ answers_text answers)
-
-  abbrev Stopped : ℕ → List ℕ → Type 0
-  Stopped s x =
-      (answers : List GetAnswer) × (clash : MetaClash) × StopsAt digest capacity payloads answers clash × (s ≡ 10)
-      × (x ≡ answers_text answers ++ collision_text clash.left clash.right)
-
-  fetch_of : (s : ℕ) (x : List ℕ) → Told digest (fetching digest capacity) payloads s x → Whole s x ⊎ Stopped s x
-  fetch_of _ _ (succeeds text is) = inl (is.0, is.1, refl, is.2)
-  fetch_of _ _ (rejects text is) = absurd is
-  fetch_of _ _ (lacks text is) = absurd is
-  fetch_of _ _ (misreads text is) = absurd is
-  fetch_of _ _ (collides left right front clash is) =
-      inr (is.0, is.1, is.2, refl, ap₂ (λ (f c : List ℕ). f ++ c) is.5 (ap₂ collision_text is.3 is.4))
-
   not_both : (these those : List GetAnswer) (clash : MetaClash) → AnswersRequests digest capacity payloads these → StopsAt digest capacity payloads those clash → ⊥
   not_both these those clash whole at =
       no_last _ _ these those at.last whole.2
       (same_first digest (no_blobs capacity) _ at.first [] at.rest these _ whole.0 at.kept
       (append-nil _ ∙ at.parts) whole.1 at.answered) (ap is_collision at.collides) refl
 
-  one_fetch : (s : ℕ) (x : List ℕ) (t : ℕ) (y : List ℕ) → Whole s x ⊎ Stopped s x → Whole t y ⊎ Stopped t y → Same s x t y
-  one_fetch s x t y (inl a) (inl b) =
-      same s t x y (a.2 ∙ sym b.2)
-      (a.3 ∙ same_text a.0 b.0 a.1.2 (answers_only digest _ _ b.0 b.1.0 b.1.1 a.0 a.1.0 a.1.1).0 ∙ sym b.3)
-  one_fetch s x t y (inl a) (inr b) = absurd (not_both a.0 b.0 b.1 a.1 b.2)
-  one_fetch s x t y (inr a) (inl b) = absurd (not_both b.0 a.0 a.1 b.1 a.2)
-  one_fetch s x t y (inr a) (inr b) =
+  one_fetch : (s : ℕ) (x : List ℕ) (t : ℕ) (y : List ℕ) → Told digest (fetching digest capacity) payloads s x
+      → Told digest (fetching digest capacity) payloads t y → Same s x t y
+  one_fetch _ _ _ _ (succeeds x a) (succeeds y b) =
+      let one = same_text a.0 b.0 a.1.2 (answers_only digest _ _ b.0 b.1.0 b.1.1 a.0 a.1.0 a.1.1).0 in
+      same _ _ _ _ refl (a.2 ∙ one ∙ sym b.2)
+  one_fetch _ _ _ _ (succeeds x a) (collides l r front clash b) = absurd (not_both a.0 b.0 b.1 a.1 b.2)
+  one_fetch _ _ _ _ (collides l r front clash a) (succeeds y b) = absurd (not_both b.0 a.0 a.1 b.1 a.2)
+  one_fetch _ _ _ _ (collides l r front clash a) (collides m n behind other b) =
       let one = one_stop _ _ a.0 b.0 a.2.last b.2.last a.2.others b.2.others
       (same_first digest (no_blobs capacity) a.2.first b.2.first a.2.rest b.2.rest _ _ a.2.kept b.2.kept
       (sym a.2.parts ∙ b.2.parts) a.2.answered b.2.answered)
       (ap is_collision a.2.collides) (ap is_collision b.2.collides) in
-      both_collide s t x y (answers_text a.0) a.1 b.1 a.3 b.3 a.4 (rw one b.4)
+      both_collide _ _ _ _ front (record { left = l; right = r }) (record { left = m; right = n }) refl refl refl (rw (a.5, one, ← b.5) refl)
+  one_fetch s x t y a b =
+      let so = told_so digest (fetching digest capacity) payloads in absurd (grind (arith, so s x a, so t y b))
 
 -- the answers to the first requests are a front of whatever is told
 module _ (digest : List ℕ → List ℕ) where
   pub first_front : (capacity : ℕ) (payloads : List (List ℕ)) (answers : List GetAnswer) (rest : List Get) → AnswersFirst digest capacity payloads answers rest
       → (s : ℕ) (x : List ℕ) → Told digest (fetching digest capacity) payloads s x → IsFrontOf (answers_text answers) x
-  first_front capacity payloads answers rest f s x told =
-      ⊎_elim
-      (λ whole. rw whole.3 (front_text _ _ answers whole.0 f.others
+  first_front capacity payloads answers rest f _ _ (succeeds x whole) =
+      rw whole.2 (front_text _ _ answers whole.0 f.others
       (same_first digest (no_blobs capacity) f.first _ rest [] answers whole.0 f.kept whole.1.0
-      (sym f.parts ∙ sym (append-nil _)) f.answered whole.1.1) (λ goes more. more refl)))
-      (λ stop.
+      (sym f.parts ∙ sym (append-nil _)) f.answered whole.1.1) (λ goes more. more refl))
+  first_front capacity payloads answers rest f _ _ (collides l r front clash stop) =
       let at = stop.2 in
-      rw (stop.4, ← text_more digest stop.0 at.last stop.1 at.collides)
+      rw (stop.5, stop.3, stop.4, ← text_more digest stop.0 at.last stop.1 at.collides)
       (front_text _ _ answers (stop.0 ++ at.last ∷ []) f.others
       (same_first digest (no_blobs capacity) f.first at.first rest at.rest answers _ f.kept at.kept
       (sym f.parts ∙ at.parts) f.answered at.answered)
-      (λ goes more. cc (ends_calm stop.0 at.last goes, ap is_collision at.collides))))
-      (fetch_of digest capacity payloads s x told)
+      (λ goes more. cc (ends_calm stop.0 at.last goes, ap is_collision at.collides)))
+  first_front capacity payloads answers rest f s x told =
+      absurd (grind (arith, told_so digest (fetching digest capacity) payloads s x told))
 
   -- so what is done by the payloads is done by the input
   pub done_spelled : (capacity : ℕ) (input : List ℕ) (payloads : List (List ℕ)) (old new : Option (List ℕ)) (SinkRose : Type 0) (status : ℕ) → IsStream payloads input
@@ -321,5 +306,4 @@ module _ (digest : List ℕ → List ℕ) where
       (λ text owed s x told. inl (rw owed.3 (first_front capacity payloads owed.0 owed.1 owed.2 s x told))) d
 
 pub fetched_once : (digest : List ℕ → List ℕ) (capacity : ℕ) → Determined digest (fetching digest capacity)
-fetched_once digest capacity input payloads spells s x t y a b =
-    one_fetch digest capacity payloads s x t y (fetch_of digest capacity payloads s x a) (fetch_of digest capacity payloads t y b)
+fetched_once digest capacity input payloads spells s x t y a b = one_fetch digest capacity payloads s x t y a b

@@ -1,5 +1,5 @@
 -- The lines of a schedule's first events are the first lines of the whole schedule.
-use Rattle.wal_run.proofs.Common.{◌≡◌, ◌⊎◌, inl, inr, ⊎_elim, ℕ, suc, Bool, true, false, cond, List, [], ◌∷◌, ◌++◌, append-nil, take, refl, sym, ap, subst, ◌∙◌, Event, Schedule, Line, SameUpToCollision, Rules, World, Steps, GoesOn, Runs, first_state, is_collision, apart_left, apart_right, one_run, rules_of, AreFirstLines, AreLines, only_rules}
+use Rattle.wal_run.proofs.Common.{◌≡◌, ◌⊎◌, inl, inr, ⊎_elim, ℕ, suc, truth, List, [], ◌∷◌, ◌++◌, append-nil, take, refl, sym, ap, subst, ◌∙◌, Event, Schedule, Line, SameUpToCollision, Rules, World, GoesOn, Runs, first_state, is_collision, apart_left, apart_right, one_run, rules_of, AreFirstLines, AreLines, only_rules}
 
 -- a run of these events, whose lines are the first of these, and all of them where one is a collision
 record Begins (r : Rules) (old : World) (events : List Event) (lines : List Line) : Type 0 where
@@ -11,38 +11,32 @@ record Begins (r : Rules) (old : World) (events : List Event) (lines : List Line
   stops : GoesOn first ⊎ (rest ≡ [])
 
 module _ (r : Rules) where
-  none_begun : (old : World) (lines : List Line) → Begins r old [] lines
-  none_begun old lines = record { states = []; first = []; rest = lines; run = tt; whole = refl; stops = inl tt }
-
-  one_begun : (old new : World) (event : Event) (some events : List Event) (states : List World) (said : Line) (lines : List Line) (k : Bool) → k ≡ is_collision said
-      → Steps r old event said new → (Runs r new events states lines → Begins r new some lines)
-      → cond k ((states ≡ []) × (lines ≡ [])) (Runs r new events states lines) → Begins r old (event ∷ some) (said ∷ lines)
-  one_begun old new event some events states said lines true is step more stops =
+  begins : (count : ℕ) (events : List Event) (states : List World) (lines : List Line) (old : World) → Runs r old events states lines
+      → Begins r old (take count events) lines
+  begins (suc count) (event ∷ events) (new ∷ states) (said ∷ lines) old run =
+      ⊎_elim
+      (λ stops.
+      let none = rw stops at run.1 in
       record {
         states = new ∷ [];
         first = said ∷ [];
         rest = [];
-        run = (step, rw (← is) (refl, refl));
-        whole = ap (λ (xs : List Line). said ∷ xs) stops.1;
+        run = (run.0, rw stops (refl, refl));
+        whole = ap (λ (xs : List Line). said ∷ xs) none.1;
         stops = inr refl;
-      }
-  one_begun old new event some events states said lines false is step more run =
-      let at = more run in
+      })
+      (λ goes.
+      let at = begins count events states lines new (rw goes at run.1) in
       record {
         states = new ∷ at.states;
         first = said ∷ at.first;
         rest = at.rest;
-        run = (step, rw (← is) at.run);
+        run = (run.0, rw goes at.run);
         whole = ap (λ (xs : List Line). said ∷ xs) at.whole;
-        stops = ⊎_elim (λ goes. inl (sym is, goes)) (λ nil. inr nil) at.stops;
-      }
-
-  begins : (count : ℕ) (events : List Event) (states : List World) (lines : List Line) (old : World) → Runs r old events states lines
-      → Begins r old (take count events) lines
-  begins (suc count) (event ∷ events) (new ∷ states) (said ∷ lines) old run =
-      one_begun old new event (take count events) events states said lines (is_collision said) refl run.0 (λ more. begins count events states lines new more) run.1
+        stops = ⊎_elim (λ calm. inl (goes, calm)) (λ nil. inr nil) at.stops;
+      }) (truth (is_collision said))
   begins (suc count) (event ∷ events) states lines old run = absurd run
-  begins count events states lines old run = none_begun old lines
+  begins count events states lines old run = record { states = []; first = []; rest = lines; run = tt; whole = refl; stops = inl tt }
 
 goes_left : (xs ys : List Line) → GoesOn (xs ++ ys) → GoesOn xs
 goes_left [] ys goes = tt

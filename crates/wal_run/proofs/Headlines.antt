@@ -1,26 +1,16 @@
 -- What the program promises of `replay`, from how a run ends.
-use Rattle.wal_run.proofs.Common.{◌≡◌, ◌⊎◌, ⊎_elim, inr, ℕ, List, [], length, IfSome, refl, ap, arith, Appends-kept, Appends-nil, length-take, Appends, Keeps, Schedule, spelled_range, AreFirstLines, front_of, Serve, Whole, Replay, Service, one_task, Around, Answers, Ends, broke_off, cut_off, done, no_memory, no_memory_for_words, serving_ended, sink_failed, source_failed, too_long, usage, whole, IsResult, IsTaken, IsTooLong, MayLeave, collision, success, Told, IsReport, replaying, unfinished}
+use Rattle.wal_run.proofs.Common.{◌≡◌, ◌⊎◌, ◌≤◌, ⊎_elim, inr, ℕ, List, [], length, IfSome, refl, ap, take, arith, Appends-kept, Appends-nil, length-take, Appends, Keeps, Schedule, spelled_range, AreFirstLines, front_of, Serve, Whole, Replay, one_task, Around, Answers, Ends, broke_off, cut_off, done, no_memory, no_memory_for_words, serving_ended, sink_failed, source_failed, too_long, usage, whole, IsResult, IsTaken, IsTooLong, MayLeave, collision, success, IsReport, replaying, unfinished}
 use Rattle.wal_event.specs.Event.{IsSchedule}
 use Rattle.wal_theorem.proofs.Headline.{run_recovers, run_safe}
 use Rattle.wal_run.specs.Headline.{AsksToReplay, Headline, TakesSchedule, TellsSchedule}
-use Rattle.wal_run.proofs.CommandLaws.{told_of}
-use Rattle.wal_run.proofs.Schedules.{one_schedule}
-
--- words that ask for a replay ask for no shard that serves
-serves_not : (service : Service) → Serve service ≡ Whole Replay → ⊥
-serves_not service same = cc
+use Rattle.wal_run.proofs.CommandLaws.{one_schedule, told_of}
+use Rattle.wal_run.proofs.Replays.{report_told}
 
 -- the lines of none of a schedule's events
 no_lines : (digest : List ℕ → List ℕ) → ((text : List ℕ) → length (digest text) ≡ 32) → (s : Schedule) → IsSchedule s → AreFirstLines digest s []
 no_lines digest size s fit =
-    let fits : IsSchedule (front_of s 0) = record {
-      least = fit.least;
-      most = fit.most;
-      epoch_most = fit.epoch_most;
-      committee = fit.committee;
-      count = omega (arith, fit.count, length-take 0 s.events);
-      each = tt;
-    } in
+    let few : length (take 0 s.events) ≤ 65536 = omega (arith, length-take 0 s.events) in
+    let fits : IsSchedule (front_of s 0) = assumption in
     record {
       count = 0;
       some = omega arith;
@@ -31,10 +21,6 @@ no_lines digest size s fit =
         recovered = run_recovers digest size (front_of s 0) [] [] fits tt;
       };
     }
-
--- what a schedule comes to is its report
-report_told : (digest : List ℕ → List ℕ) (s : Schedule) (status : ℕ) (text : List ℕ) → Told digest (replaying digest) s status text → IsReport digest s status text
-report_told digest s status text told = grind arith
 
 -- ---- how a run ends, by what comes of its input
 
@@ -65,7 +51,7 @@ module _ (digest : List ℕ → List ℕ) (words : List (List ℕ)) (a : Around)
   of_ends _ (sink_failed t text answer rose part) = absurd (asks.no_write_fault rose)
   of_ends _ (cut_off task asked input taken text owed rose part) = absurd (asks.no_write_fault rose)
   of_ends _ (serving_ended service asked t serves) =
-      absurd (serves_not service (one_task words (Serve service) (Whole Replay) asked asks.asked))
+      absurd (cc (one_task words (Serve service) (Whole Replay) asked asks.asked))
 
 -- ---- a source that tells its bytes
 

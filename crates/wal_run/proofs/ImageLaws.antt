@@ -1,8 +1,8 @@
 -- The image of the puts of payloads: a disk holds it, or the first record that does not fit is told.
-use Rattle.wal_run.proofs.Common.{◌≡◌, ℕ, zero, suc, ◌+◌, ◌-◌, ◌<◌, ◌≤◌, List, [], ◌∷◌, ◌++◌, length, take, get_or, replicate, Result, Ok, Err, refl, sym, ap, ◌∙◌, arith, length-append, le-ltb, take_at, take_more, length-replicate, BlobId, Part, Contents, Call, Put, no_contents, IsJournal, spelling, records, Accepts, puts_of, records-append, spelling_size, Told, collides, lacks, misreads, rejects, succeeds, room_of, room_behind, image_from, image_of, imaging, disk_full_text}
+use Rattle.wal_run.proofs.Common.{◌≡◌, ℕ, zero, suc, ◌+◌, ◌-◌, ◌<◌, ◌≤◌, List, [], ◌∷◌, ◌++◌, length, take, get_or, replicate, Ok, Err, refl, sym, ap, ◌∙◌, arith, length-append, le-ltb, take_at, take_more, length-replicate, BlobId, Part, Contents, Call, Put, no_contents, IsJournal, spelling, records, Accepts, puts_of, records-append, spelling_size, room_of, room_behind, image_from, image_of, imaging}
 use Rattle.std.proofs.lemmas.Bool.{lt-ltb}
 use Rattle.std.proofs.lemmas.List.{append_assoc, append-nil}
-use Rattle.wal_run.proofs.CommandLaws.{Determined, Same, same}
+use Rattle.wal_run.proofs.CommandLaws.{Determined}
 
 -- ---- the image by its records
 
@@ -58,25 +58,8 @@ image_refused now size tail needed free puts first c rest accepts long at are ne
 
 -- ---- the command has one result
 
-abbrev Made : (List ℕ → List ℕ) → ℕ → List (List ℕ) → Result (List ℕ) (ℕ × ℕ) → ℕ → List ℕ → Type 0
-Made digest size payloads (Ok image) s x = (s ≡ 0) × (x ≡ image)
-Made digest size payloads (Err full) s x = (s ≡ 4) × (x ≡ disk_full_text full.0 full.1)
-
-made_of : (digest : List ℕ → List ℕ) (size : ℕ) (payloads : List (List ℕ)) (s : ℕ) (x : List ℕ) → Told digest (imaging digest size) payloads s x
-    → Made digest size payloads (image_of size (puts_of digest no_contents payloads)) s x
-made_of digest size payloads _ _ (succeeds text is) = rw is (refl, refl)
-made_of digest size payloads _ _ (rejects text is) = absurd is
-made_of digest size payloads _ _ (lacks text is) = rw is.2 (refl, is.3)
-made_of digest size payloads _ _ (misreads text is) = absurd is
-made_of digest size payloads _ _ (collides left right text clash is) = absurd is
-
-one_made : (digest : List ℕ → List ℕ) (size : ℕ) (payloads : List (List ℕ)) (r : Result (List ℕ) (ℕ × ℕ)) (s : ℕ) (x : List ℕ) (t : ℕ) (y : List ℕ) → Made digest size payloads r s x → Made digest size payloads r t y → Same s x t y
-one_made digest size payloads (Ok image) s x t y a b = same s t x y (a.0 ∙ sym b.0) (a.1 ∙ sym b.1)
-one_made digest size payloads (Err full) s x t y a b = same s t x y (a.0 ∙ sym b.0) (a.1 ∙ sym b.1)
-
 pub imaged_once : (digest : List ℕ → List ℕ) (size : ℕ) → Determined digest (imaging digest size)
-imaged_once digest size input payloads spells s x t y a b =
-    one_made digest size payloads (image_of size (puts_of digest no_contents payloads)) s x t y (made_of digest size payloads s x a) (made_of digest size payloads t y b)
+imaged_once digest size input payloads spells s x t y a b = grind arith
 
 -- ---- the command
 

@@ -1,11 +1,8 @@
-mod AnswerTexts
 mod Blobs
-mod Bundles
 mod CauseRows
 mod Challenges
 mod Checks
 mod CommandLaws
-mod Complete
 mod Endings
 mod Envelopes
 mod Fetches
@@ -25,15 +22,11 @@ mod Replays
 mod RunCollisions
 mod Samples
 mod Says
-mod Schedules
-mod ServiceClashes
 mod ServiceEnds
 mod ServiceFaults
 mod ServiceFronts
 mod Services
 mod ShardTexts
-mod Sizes
-mod SpelledRuns
 mod Tasks
 mod Verifications
 mod Common

@@ -1,5 +1,5 @@
 -- The lines of what is held, identifier by identifier, and that an image has one listing.
-use Rattle.wal_run.proofs.Common.{◌≡◌, nil_from_length, ◌⊎◌, ⊎_elim, inl, inr, ℕ, ◌+◌, Bool, true, false, T, Option, Some, None, List, [], ◌∷◌, ◌++◌, length, filter, drop, get_or, slice_get, refl, sym, ap, ◌∙◌, arith, length-append, ⊤, flat_map, Contents, parts_at, Call, no_contents, after_calls, records, Accepts, IsJournal, stands_once, IsResult, success, unreadable, Told, collides, lacks, misreads, rejects, succeeds, malformed_text, holding_text, contents_text, IsBrokenAt, unpacking}
+use Rattle.wal_run.proofs.Common.{truth, ◌≡◌, ◌⊎◌, ⊎_elim, inl, inr, ℕ, ◌+◌, Bool, true, false, T, Option, Some, None, List, [], ◌∷◌, ◌++◌, length, filter, drop, get_or, slice_get, refl, sym, ap, ◌∙◌, arith, length-append, ⊤, flat_map, Contents, parts_at, Call, records, Accepts, stands_once, IsResult, unreadable, misreads, succeeds, malformed_text, holding_text, contents_text, IsBrokenAt, unpacking}
 use Rattle.std.specs.declared.cmp.Ordering.{Ordering}
 use Rattle.std.specs.declared.cmp.Ordering.TheVariants.{Less}
 use Rattle.std.specs.Ordering.{is_lt, ordering_reverse}
@@ -14,10 +14,9 @@ use Rattle.wal_store.specs.Entries.{Entries}
 use Rattle.wal_store.specs.Places.{is_past, next_id}
 use Rattle.wal_store.proofs.IdentifierLaws.{ids_total}
 use Rattle.wal_store.proofs.OrderLaws.{both_of, less_of}
-use Rattle.wal_protocol.proofs.EveryWord.{truth}
 use Rattle.wal_journal.specs.Reading.{ReadTo, IsBad}
 use Rattle.wal_journal.proofs.NeverBad.{never_bad, bad_once}
-use Rattle.wal_run.proofs.CommandLaws.{Determined, Same, same}
+use Rattle.wal_run.proofs.CommandLaws.{Determined, same, told_so}
 
 -- ---- identifiers in ascending order
 
@@ -115,19 +114,6 @@ all_listed contents last (Some id) text other none so_far = absurd (other id ref
 
 -- ---- an image has one listing
 
-abbrev Lists : List ℕ → ℕ → List ℕ → Type 0
-Lists image s x = (changes : List Call) × Accepts image changes × (s ≡ 0) × (x ≡ contents_text (after_calls no_contents changes))
-
-abbrev Breaks : List ℕ → ℕ → List ℕ → Type 0
-Breaks image s x = (at : ℕ) × IsBrokenAt image at × (s ≡ 8) × (x ≡ malformed_text at)
-
-listing_of : (digest : List ℕ → List ℕ) (image : List ℕ) (s : ℕ) (x : List ℕ) → Told digest unpacking image s x → Lists image s x ⊎ Breaks image s x
-listing_of digest image _ _ (succeeds text is) = inl (is.0, is.1, refl, is.2)
-listing_of digest image _ _ (rejects text is) = absurd is
-listing_of digest image _ _ (lacks text is) = absurd is
-listing_of digest image _ _ (misreads text is) = inr (is.0, is.1, refl, is.2)
-listing_of digest image _ _ (collides left right text clash is) = absurd is
-
 not_broken : (image : List ℕ) (changes : List Call) (at : ℕ) → Accepts image changes → IsBrokenAt image at → ⊥
 not_broken image changes at accepts (inl empty) =
     let size = length-append (records changes) (accepts.stands.gate ∷ accepts.stands.rest) in
@@ -140,29 +126,19 @@ one_break image at place (inl a) (inr b) = absurd (omega (arith, ap length a.0, 
 one_break image at place (inr a) (inl b) = absurd (omega (arith, ap length b.0, a.2.within))
 one_break image at place (inr a) (inr b) = bad_once image at place a.1 b.1 a.0 b.0 a.2 a.3 a.4 b.2 b.3 b.4
 
-one_listing : (image : List ℕ) (s : ℕ) (x : List ℕ) (t : ℕ) (y : List ℕ) → Lists image s x ⊎ Breaks image s x → Lists image t y ⊎ Breaks image t y → Same s x t y
-one_listing image s x t y (inl a) (inl b) = same s t x y (a.2 ∙ sym b.2) (a.3 ∙ ap (λ (l : List Call). contents_text (after_calls no_contents l)) (stands_once image a.0 b.0 a.1.stands b.1.stands) ∙ sym b.3)
-one_listing image s x t y (inl a) (inr b) = absurd (not_broken image a.0 b.0 a.1 b.1)
-one_listing image s x t y (inr a) (inl b) = absurd (not_broken image b.0 a.0 b.1 a.1)
-one_listing image s x t y (inr a) (inr b) = same s t x y (a.2 ∙ sym b.2) (a.3 ∙ ap malformed_text (one_break image a.0 b.0 a.1 b.1) ∙ sym b.3)
-
 pub unpacked_once : (digest : List ℕ → List ℕ) → Determined digest unpacking
-unpacked_once digest input image spells s x t y a b = one_listing image s x t y (listing_of digest image s x a) (listing_of digest image t y b)
+unpacked_once digest input image spells _ _ _ _ (succeeds x a) (succeeds y b) =
+    let one = stands_once image a.0 b.0 a.1.stands b.1.stands in same _ _ _ _ refl (cc (a.2, b.2, one))
+unpacked_once digest input image spells _ _ _ _ (succeeds x a) (misreads y b) = absurd (not_broken image a.0 b.0 a.1 b.1)
+unpacked_once digest input image spells _ _ _ _ (misreads x a) (succeeds y b) = absurd (not_broken image b.0 a.0 b.1 a.1)
+unpacked_once digest input image spells _ _ _ _ (misreads x a) (misreads y b) =
+    same _ _ _ _ refl (cc (a.2, b.2, one_break image a.0 b.0 a.1 b.1))
+unpacked_once digest input image spells s x t y a b =
+    absurd (grind (arith, told_so digest unpacking image s x a, told_so digest unpacking image t y b))
 
 -- ---- what the command tells
 
-pub no_bytes : (image : List ℕ) → length image ≡ 0 → image ≡ []
-no_bytes image none = nil_from_length image none
-
 module _ (digest : List ℕ → List ℕ) (image : List ℕ) where
-  pub listed_is : (shown : List ℕ) (tail : ℕ) (held kept : Contents) (changes : List Call) (text : List ℕ) → shown ≡ image → IsJournal shown tail held changes → kept ≡ held → text ≡ contents_text kept
-      → IsResult digest unpacking image 0 text
-  listed_is shown tail held kept changes text same journal own line =
-      success text (image, refl, (changes, rw same at journal.accepts, line ∙ ap contents_text (own ∙ journal.holds)))
-
-  pub empty_is : image ≡ [] → IsResult digest unpacking image 8 (malformed_text 0)
-  empty_is none = unreadable _ (inr (image, refl, (0, inl (none, refl), refl)))
-
   pub broken_is : (shown : List ℕ) (at : ℕ) (held : Contents) (changes : List Call) → shown ≡ image → ReadTo shown at held changes → get_or shown at 0 ≡ 1 → IsBad held (drop (at + 1) shown)
       → IsResult digest unpacking image 8 (malformed_text at)
   broken_is shown at held changes same so_far gate bad =

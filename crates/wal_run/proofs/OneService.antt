@@ -1,7 +1,7 @@
 -- Serving a shard, the bytes of a source have one answer, but for the two texts of a collision.
-use Rattle.wal_run.proofs.Common.{◌≡◌, ◌⊎◌, ⊎_elim, inl, inr, ℕ, Bool, true, false, List, [], ◌∷◌, ◌++◌, Option, Some, refl, ap, ◌∙◌, true≢false, false≢true, flat_map-append, Appends, Consumes, IsAtEnd, envelope, ServeEnd, ReadFault, WriteFault, Collision, SameButLast, SameEnd, clash_text, desk_room, sent, IsServed, ServedState, one_serving, one_table, Service, Serve, IsTask, one_task, EndsServing, IsServiceResult, answering, at_start, end_status, serve_limit, Around, Completes, served, SameFront, SameText, frame}
+use Rattle.wal_run.proofs.Common.{truth, ◌≡◌, ◌⊎◌, ⊎_elim, inl, inr, ℕ, true, List, [], ◌∷◌, ◌++◌, Option, Some, refl, ap, ◌∙◌, flat_map-append, Appends, Consumes, IsAtEnd, envelope, ServeEnd, ReadFault, WriteFault, SameButLast, SameEnd, clash_text, desk_room, sent, IsServed, ServedState, one_serving, one_table, Service, Serve, IsTask, one_task, EndsServing, IsServiceResult, answering, at_start, end_status, serve_limit, Around, Completes, served, SameFront, frame, arith}
 use Rattle.wal_serve.specs.Determined.{is_collision}
-use Rattle.wal_run.proofs.CommandLaws.{SameAt, same_as}
+use Rattle.wal_run.proofs.CommandLaws.{SameAt}
 use Rattle.wal_run.proofs.ServiceEnds.{all_written, calm_or_faulted}
 
 -- one service is asked for
@@ -10,14 +10,11 @@ one_asked words a b asked also = cc (one_task words (Serve a) (Serve b) asked al
 
 -- one end has one status
 same_status : (end other : ServeEnd) → SameEnd end other → end_status end ≡ end_status other
-same_status (Collision clash) (Collision texts) same = refl
-same_status (Collision clash) other same = absurd (true≢false same.0)
-same_status end other same = ap end_status (same.1 refl)
+same_status end other same = grind arith
 
 -- that of a collision is its own
 pub status_of_clash : (end : ServeEnd) → is_collision end ≡ true → end_status end ≡ 10
-status_of_clash (Collision clash) is = refl
-status_of_clash end is = absurd (false≢true is)
+status_of_clash end is = grind arith
 
 -- frames that are the same but for two texts in the last one
 pub same_but_last : (shard : ℕ) (xs ys : List (List ℕ)) → SameButLast xs ys → SameFront (frame shard) (sent shard xs) (sent shard ys)
@@ -33,13 +30,11 @@ module _ (digest : List ℕ → List ℕ) (service : Service) (input taken rest 
   served_once : IsServiceResult digest service taken (rest ≡ []) s x → IsServiceResult digest service given (more ≡ []) t y → SameAt (frame service.shard) s x t y
   served_once a b =
       let one = one_serving (answering digest) (desk_room service.faults) serve_limit (at_start service) input (one_table digest) taken rest given more a.0 b.0 a.1 b.1 a.2 b.2 lost spent a.3 b.3 in
-      same_as (frame service.shard) s (end_status a.2) t (end_status b.2) x (sent service.shard a.0) y (sent service.shard b.0) a.5 a.6 b.5 b.6
-      (same_status a.2 b.2 one.ends, by (is_collision a.2) refl one.frames one.last)
-    where
-      by : (k : Bool) → is_collision a.2 ≡ k → (is_collision a.2 ≡ false → a.0 ≡ b.0) → (is_collision a.2 ≡ true → SameButLast a.0 b.0)
-          → SameText (frame service.shard) (end_status a.2) (sent service.shard a.0) (sent service.shard b.0)
-      by false is frames last = inl (ap (sent service.shard) (frames is))
-      by true is frames last = inr (status_of_clash a.2 is, same_but_last service.shard a.0 b.0 (last is))
+      rw (a.5, a.6, b.5, b.6) (
+        same_status a.2 b.2 one.ends,
+        ⊎_elim (λ is. inr (status_of_clash a.2 is, same_but_last service.shard a.0 b.0 (one.last is)))
+            (λ is. inl (ap (sent service.shard) (one.frames is))) (truth (is_collision a.2)),
+      )
 
 -- SERVING the bytes of a source has one answer
 pub one_service : (digest : List ℕ → List ℕ) (service : Service) (input taken given : List ℕ) (after then : Option (List ℕ)) (s t : ℕ) (x y : List ℕ) → Consumes (Some input) after taken

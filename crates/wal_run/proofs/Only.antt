@@ -77,18 +77,18 @@ only digest words place at input after s x then t y (served service asks taken l
 -- ---- what a command left written when it broke off is a front of the answer, up to a collision
 
 module _ (digest : List ℕ → List ℕ) (words : List (List ℕ)) (input : List ℕ) (after then : Option (List ℕ)) (place : Place) (at : IsPlaceOf words place) (task : Task) (xs part : List ℕ) (asks : IsTask words task) (taken : IsTaken (command_of digest task) (Some input) after xs) where
+  of_complete : (Is : ℕ → List ℕ → Type 0) → ((t : ℕ) (y : List ℕ) → IsResult digest (command_of digest task) xs t y → Is t y)
+      → ((service : Service) → task ≡ Serve service → ⊥) → (t : ℕ) (y : List ℕ) → Completes digest words (Some input) then t y → Is t y
+  of_complete Is each never t y (answered u z is) = of_answer digest words input after then task xs asks taken Is each u z is
+  of_complete Is each never t y (served service asked given spent u z serves) = absurd (never service (one_task words task (Serve service) asks asked))
+
   pub front_left : MayLeave digest (command_of digest task) xs part → (t : ℕ) (y : List ℕ) → Completes digest words (Some input) then t y → IsFrontOf part y
-  front_left left t y (answered u z is) =
-      of_answer digest words input after then task xs asks taken (λ s x. IsFrontOf part x) left.1 u z is
-  front_left left t y (served service asked given spent u z serves) =
-      let none = rw (one_task words task (Serve service) asks asked) at left in absurd none.0.2
+  front_left left = of_complete (λ s x. IsFrontOf part x) left.1 (λ service is. let none = rw is at left in none.0.2)
 
   pub front_owed : MayOwe digest (command_of digest task) xs part → (t : ℕ) (y : List ℕ) → Completes digest words (Some input) then t y → IsFrontUpToClash place t part y
-  front_owed owed t y (answered u z is) =
-      of_answer digest words input after then task xs asks taken (λ s x. IsFrontUpToClash place s part x)
-      (λ s x result. rw (at task asks, ← line_of digest task xs s x result) (owed.1 s x result)) u z is
-  front_owed owed t y (served service asked given spent u z serves) =
-      let none = rw (one_task words task (Serve service) asks asked) at owed in absurd none.0.2
+  front_owed owed =
+      of_complete (λ s x. IsFrontUpToClash place s part x)
+      (λ s x result. rw (at task asks, ← line_of digest task xs s x result) (owed.1 s x result)) (λ service is. let none = rw is at owed in none.0.2)
 
 -- so a run has that answer, but for want of memory and faults
 pub exact : (digest : List ℕ → List ℕ) (words : List (List ℕ)) (a : Around) (status : ℕ) → Ends digest words a status → IsExact digest words a status

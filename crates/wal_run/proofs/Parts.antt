@@ -1,5 +1,5 @@
 -- Texts that are written in parts.
-use Rattle.wal_run.proofs.Common.{◌≡◌, ℕ, ◌+◌, ◌≤◌, List, ◌++◌, length, length-append, take, Option, Result, Ok, Err, OnOk, OnErr, sym, subst, arith, take-append-add, take-append-le, Appends-trans, Appends, AppendsPart}
+use Rattle.wal_run.proofs.Common.{◌≡◌, ℕ, ◌+◌, ◌≤◌, List, ◌++◌, length, length-append, take, Option, Result, Ok, Err, OnOk, OnErr, refl, arith, take-append-add, take-append-le, Appends-trans, Appends, AppendsPart}
 
 -- a prefix of the first of two texts is one of both
 pub part_before : (a b : Option (List ℕ)) (first second : List ℕ) → AppendsPart a b first → AppendsPart a b (first ++ second)
@@ -19,23 +19,22 @@ part_after a b c first second whole p = (
 pub failed_before : {T E : Type 0} (r : Result T E) (a b : Option (List ℕ)) (first second whole : List ℕ) → whole ≡ first ++ second
     → AppendsPart a b first → OnErr r (AppendsPart a b whole)
 failed_before (Ok x) a b first second whole parts part = tt
-failed_before (Err e) a b first second whole parts part = subst (AppendsPart a b) (sym parts) (part_before a b first second part)
+failed_before (Err e) a b first second whole parts part = rw parts (part_before a b first second part)
 
 -- a failure within the second, after the first
 pub failed_after : {T E : Type 0} (r : Result T E) (a b c : Option (List ℕ)) (first second whole : List ℕ) → whole ≡ first ++ second → Appends a b first
     → OnErr r (AppendsPart b c second) → OnErr r (AppendsPart a c whole)
 failed_after (Ok x) a b c first second whole parts put part = tt
-failed_after (Err e) a b c first second whole parts put part = subst (AppendsPart a c) (sym parts) (part_after a b c first second put part)
+failed_after (Err e) a b c first second whole parts put part = rw parts (part_after a b c first second put part)
 
 -- both texts were written
 pub put_both : {T E : Type 0} (r : Result T E) (a b c : Option (List ℕ)) (first second whole : List ℕ) → whole ≡ first ++ second → Appends a b first
     → OnOk r (Appends b c second) → OnOk r (Appends a c whole)
-put_both (Ok x) a b c first second whole parts put more = subst (Appends a c) (sym parts) (Appends-trans a b c first second put more)
+put_both (Ok x) a b c first second whole parts put more = rw parts (Appends-trans a b c first second put more)
 put_both (Err e) a b c first second whole parts put more = tt
 
 -- a failure within a text that stands between two others, the first of which was written
 pub failed_within : {T E : Type 0} (r : Result T E) (a b c : Option (List ℕ)) (before piece after whole : List ℕ) → whole ≡ before ++ (piece ++ after)
     → Appends a b before → AppendsPart b c piece → OnErr r (AppendsPart a c whole)
-failed_within (Ok x) a b c before piece after whole parts put part = tt
-failed_within (Err e) a b c before piece after whole parts put part =
-    subst (AppendsPart a c) (sym parts) (part_after a b c before (piece ++ after) put (part_before b c piece after part))
+failed_within r a b c before piece after whole parts put part =
+    failed_after r a b c before (piece ++ after) whole parts put (failed_before r b c piece after (piece ++ after) refl part)

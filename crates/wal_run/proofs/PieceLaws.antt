@@ -1,17 +1,10 @@
 -- Streams that are taken from a source in pieces.
-use Rattle.wal_run.proofs.Common.{◌≡◌, Keeps-refl, ℕ, ◌+◌, ◌<◌, ◌≤◌, List, [], ◌∷◌, ◌++◌, length, take, Option, Some, None, Result, Ok, Err, IfSome, sym, ap, ◌∙◌, append_assoc, append-nil, arith, Consumes, IsAtEnd, Consumes-trans, Consumes-kept, TakeError, IsMalformed, wrong_stays, ReaderState, Feeds, FinishesStream, IsStreamRead, BlobId, IsResult, TakesAtMost, IsAllOf, GivesPiece, Stands, TakesFew, TakesStream, outcome_status, outcome_text}
+use Rattle.wal_run.proofs.Common.{⊤, ◌≡◌, ℕ, ◌+◌, ◌<◌, ◌≤◌, List, [], ◌∷◌, ◌++◌, length, Option, Some, None, Result, Ok, Err, IfSome, sym, ap, ◌∙◌, append_assoc, append-nil, arith, Consumes, IsAtEnd, Consumes-trans, Consumes-kept, TakeError, IsMalformed, wrong_stays, ReaderState, IsAllOf, GivesPiece, TakesFew, TakesStream}
 use Rattle.std.specs.Prelude.{IsErrAnd}
 use Rattle.std.proofs.lemmas.List.{length-append}
 use Rattle.wal_port.specs.declared.transfers.TakeError.TheVariants.{ReadFault, TooLong, Memory}
 use Rattle.wal_frame.specs.Front.{IsWrong}
 use Rattle.wal_reader.specs.Intake.{IsWrongAt}
-use Rattle.wal_reader.specs.declared.errors.FeedError.{FeedError}
-use Rattle.wal_reader.specs.declared.errors.FeedError.TheVariants as feed
-use Rattle.wal_reader.specs.declared.errors.FinishError.{FinishError}
-use Rattle.wal_reader.specs.declared.outcome.ReadAnswer.{ReadAnswer}
-use Rattle.wal_run.specs.Reading.{reading}
-use Rattle.wal_run.proofs.Endings.{kept_few}
-use Rattle.wal_run.proofs.Readings.{outcome_as}
 
 -- ---- a byte that begins no envelope
 
@@ -36,14 +29,6 @@ pub wrong_malformed : (place : ℕ) (stream : List ℕ) → IsWrongAt place stre
 wrong_malformed place stream w =
     rw (w.parts, ← append-nil w.rest, ← w.size) (wrong_stays w.payloads w.front w.rest [] w.whole w.wrong)
 
--- ---- a piece more
-
-pub stays_wrong : (digest : List ℕ → List ℕ) (id : List ℕ) (r : ReaderState) (wrong : Option ℕ) (place : ℕ) (stream piece : List ℕ) → wrong ≡ Some place → Stands digest id r wrong stream → IsWrongAt place (stream ++ piece)
-stays_wrong digest id r wrong place stream piece is stands = wrong_at_on place stream piece (rw is at stands)
-
-pub fed_long : (digest : List ℕ → List ℕ) (id : List ℕ) (r : ReaderState) (stream piece : List ℕ) (e : FeedError) → e ≡ feed.TooLong → length stream + length piece ≤ 134217728 → Feeds digest id r (stream ++ piece) (Err e) → ⊥
-fed_long digest id r stream piece e is few feeds = omega (arith, rw is at feeds, few, length-append stream piece)
-
 -- ---- what a source gave
 
 -- all of it
@@ -53,26 +38,10 @@ tells_all (Some bytes) None input taken ended = absurd taken
 tells_all (Some bytes) (Some rest) input taken ended = sym (taken ∙ ap (λ (t : List ℕ). input ++ t) ended ∙ append-nil input)
 
 -- more than so many bytes
-pub tells_more : (left after : Option (List ℕ)) (taken : List ℕ) (limit : ℕ) → Consumes left after taken → length taken ≡ limit + 1 → IfSome left (λ bytes. limit < length bytes)
+pub tells_more : (left after : Option (List ℕ)) (taken : List ℕ) (limit : ℕ) → Consumes left after taken → length taken ≡ limit + 1 → IfSome left (λ bytes. ⊤ → limit < length bytes)
 tells_more None after taken limit gave long = tt
 tells_more (Some bytes) None taken limit gave long = absurd gave
-tells_more (Some bytes) (Some rest) taken limit gave long = omega (arith, long, ap length gave, length-append taken rest)
-
--- a piece that is empty is nothing
-pub none_given : (a b c : Option (List ℕ)) (got buffer : List ℕ) (count : ℕ) → Consumes a b got → Consumes b c (take count buffer) → count ≡ 0 → Consumes a c got
-none_given a b c got buffer count first next none =
-    rw (← append-nil got) (Consumes-trans a b c got [] first (rw none at next))
-
-pub none_taken : (left : Option (List ℕ)) (most : ℕ) → TakesAtMost left left most
-none_taken left most = kept_few left left most (Keeps-refl left)
-
--- ---- what came of the whole stream
-
-pub answer_read : (digest : List ℕ → List ℕ) (id : BlobId) (stream : List ℕ) (given : Result ReadAnswer FinishError) (answer : ReadAnswer) (s : ℕ) (text : List ℕ) → given ≡ Ok answer → FinishesStream digest id.0 stream given
-    → s ≡ outcome_status answer.outcome → text ≡ outcome_text answer.outcome → IsResult digest (reading digest id) stream s text
-answer_read digest id stream given answer s text is finishes s_is text_is =
-    let read : IsStreamRead digest id.0 stream answer = rw is at finishes in
-    outcome_as digest id stream read.payloads s text read.whole answer.outcome read.is.0 s_is text_is
+tells_more (Some bytes) (Some rest) taken limit gave long = λ told. omega (arith, long, ap length gave, length-append taken rest)
 
 -- ---- what ends the pieces
 

@@ -1,13 +1,10 @@
 -- What a replay comes to is one result of the command that replays.
-use Rattle.wal_run.proofs.Common.{◌≡◌, ◌⊎◌, inl, inr, ⊎_elim, ℕ, true, append-nil, List, [], ◌∷◌, ◌++◌, Option, Ok, Err, refl, sym, ap, subst, ◌∙◌, arith, flat_map-append, MetaClash, Schedule, Line, line_text, report_of, IsRead, ScheduleError, SameUpToCollision, GoesOn, is_collision, AreFirstLines, AreLines, EndsInCollision, IsFault, IsFrontOf, IsFrontUpToClash, IsResult, MayLeave, MayOwe, collision, success, unreadable, Told, collides, lacks, misreads, rejects, succeeds, collision_text, IsReport, replaying, stopped, unfinished, Does, Performs, finished, lost_sink, performed, wanted_memory, written}
+use Rattle.wal_run.proofs.Common.{◌≡◌, ◌⊎◌, inl, inr, ⊎_elim, ℕ, true, append-nil, List, [], ◌∷◌, ◌++◌, Option, Ok, refl, sym, ap, subst, ◌∙◌, arith, flat_map-append, MetaClash, Schedule, Line, line_text, report_of, IsRead, SameUpToCollision, GoesOn, is_collision, AreFirstLines, AreLines, EndsInCollision, IsFrontOf, IsFrontUpToClash, IsResult, MayLeave, MayOwe, Told, collides, collision_text, IsReport, replaying, stopped, unfinished, Does, DoesTold}
 use Rattle.wal_event.specs.declared.line.Line.TheVariants as line
-use Rattle.wal_world.specs.Ending.{Replays}
-use Rattle.wal_world.specs.declared.run.ReplayEnd.TheVariants as ending
-use Rattle.wal_world.specs.declared.run.ReplayError.TheVariants as failing
 use Rattle.wal_run.specs.Replaying.{whole}
 use Rattle.wal_run.specs.SameText.{line as in_line}
-use Rattle.wal_run.proofs.CommandLaws.{Determined, Same, both_collide, same, told_of}
-use Rattle.wal_run.proofs.Endings.{performs_as}
+use Rattle.wal_run.proofs.CommandLaws.{Determined, Same, both_collide, same}
+use Rattle.wal_run.proofs.Endings.{does_spelled}
 use Rattle.wal_run.proofs.RunCollisions.{clash_line, collision_line, ends_in, not_stopped, one_going, same_lines}
 use Rattle.wal_run.proofs.FirstLines.{first_lines, first_of_going, first_or_clash}
 
@@ -56,72 +53,48 @@ module _ (digest : List ℕ → List ℕ) (schedule : Schedule) where
       inr (front ++ said ∷ [], are, ends, refl, refl)
   of_report _ _ is through = absurd (through refl)
 
+  -- what a schedule comes to is its report
+  pub report_told : (s : ℕ) (x : List ℕ) → Told digest (replaying digest) schedule s x → IsReport digest schedule s x
+  report_told s x told = grind arith
+
+  not_five : (s : ℕ) (x : List ℕ) → Told digest (replaying digest) schedule s x → s ≡ 5 → ⊥
+  not_five s x told five = grind arith
+
   replay_of : (s : ℕ) (x : List ℕ) → Told digest (replaying digest) schedule s x → Whole s x ⊎ Stopped s x
-  replay_of _ _ (succeeds text report) = of_report 0 text report (λ five. cc)
-  replay_of _ _ (rejects text is) = absurd is
-  replay_of _ _ (lacks text is) = absurd is
-  replay_of _ _ (misreads text is) = absurd is
-  replay_of _ _ (collides left right front clash report) =
-      of_report 10 (front ++ collision_text left right) report (λ five. omega (arith, five))
+  replay_of s x told = of_report s x (report_told s x told) (not_five s x told)
 
-module _ (digest : List ℕ → List ℕ) (schedule : Schedule) (lines : List Line) (are : AreFirstLines digest schedule lines) where
-  left_front : GoesOn lines → (s : ℕ) (x : List ℕ) → Told digest (replaying digest) schedule s x → IsFrontOf (report_of lines) x
-  left_front goes s x told =
-      let shown : (all : List Line) → AreLines digest schedule all → x ≡ report_of all → IsFrontOf (report_of lines) x = λ all known text.
-      let at = first_lines digest schedule lines all are known goes in rw text (front_text lines all at.0 at.1) in
-      ⊎_elim (λ is. shown is.0 is.1 is.4) (λ is. shown is.0 is.1 is.4) (replay_of digest schedule s x told)
+  left_front : (u : ℕ) (text : List ℕ) → IsReport digest schedule u text → u ≡ 5 → (s : ℕ) (x : List ℕ) → Told digest (replaying digest) schedule s x → IsFrontOf text x
+  left_front _ _ (unfinished lines few goes some) five s x told =
+      let shown : (all : List Line) → AreLines digest schedule all → x ≡ report_of all → IsFrontOf (report_of lines) x = λ all are text.
+      let at = first_lines digest schedule lines all few are goes in rw text (front_text lines all at.0 at.1) in
+      ⊎_elim (λ is. shown is.0 is.1 is.4) (λ is. shown is.0 is.1 is.4) (replay_of s x told)
+  left_front u text report five s x told = absurd (omega (arith, five))
 
-  owed_front : (s : ℕ) (x : List ℕ) → Told digest (replaying digest) schedule s x → IsFrontUpToClash in_line s (report_of lines) x
-  owed_front s x told =
+  owed_front : (lines : List Line) → AreFirstLines digest schedule lines → (s : ℕ) (x : List ℕ) → Told digest (replaying digest) schedule s x
+      → IsFrontUpToClash in_line s (report_of lines) x
+  owed_front lines few s x told =
       ⊎_elim
       (λ is.
-      let at = first_of_going digest schedule lines is.0 are is.1 is.2 in
+      let at = first_of_going digest schedule lines is.0 few is.1 is.2 in
       inl (rw is.4 (front_text lines is.0 at.0 at.1)))
-      (λ is. rw (is.3, is.4) (clash_front lines is.0 (first_or_clash digest schedule lines is.0 are is.1)))
-      (replay_of digest schedule s x told)
+      (λ is. rw (is.3, is.4) (clash_front lines is.0 (first_or_clash digest schedule lines is.0 few is.1)))
+      (replay_of s x told)
 
--- ---- how the command ends, by how the replay did
+  -- what is done by the schedule is done by the input that spells it
+  pub done_spelled : (input : List ℕ) (old new : Option (List ℕ)) (SinkRose : Type 0) (status : ℕ) → IsRead input (Ok schedule)
+      → DoesTold digest (replaying digest) schedule old new SinkRose status
+      → Does (IsResult digest (replaying digest) input) (MayLeave digest (replaying digest) input) (MayOwe digest (replaying digest) input) old new SinkRose status
+  done_spelled input old new SinkRose status is_read d =
+      does_spelled digest (replaying digest) input schedule old new SinkRose status is_read (λ text left. left_front 5 text left refl)
+      (λ text owed s x told. rw owed.2 (owed_front owed.0 owed.1 s x told)) d
 
-abbrev Ended : (List ℕ → List ℕ) → List ℕ → Option (List ℕ) → Option (List ℕ) → Type 0 → ℕ → Type 0
-Ended digest input old new SinkRose status =
-    Does (IsResult digest (replaying digest) input) (MayLeave digest (replaying digest) input) (MayOwe digest (replaying digest) input) old new SinkRose status
-
-module _ (digest : List ℕ → List ℕ) (input : List ℕ) (old new : Option (List ℕ)) (SinkRose : Type 0) where
-  module _ (schedule : Schedule) (is_read : IsRead input (Ok schedule)) where
-    pub does_whole : Replays digest schedule old new SinkRose (Ok ending.Whole) → Ended digest input old new SinkRose 0
-    does_whole t =
-        performed 0 (finished 0 0 (written (report_of t.0) (success (report_of t.0) (schedule, is_read, whole t.0 t.1 t.2)) t.3))
-
-    pub does_collision : Replays digest schedule old new SinkRose (Ok ending.Collision) → Ended digest input old new SinkRose 10
-    does_collision t =
-        let at = ends_in digest schedule t.0 t.1 t.2 in
-        let are = rw at.whole at t.1 in
-        performed 10 (finished 10 10 (written (report_of t.0)
-        (collision at.left at.right (report_of t.0) at.collides (record {
-          front = report_of at.front;
-          clashes = inr (schedule, is_read, subst (IsReport digest schedule 10) (clash_last at.front at.left at.right) (stopped at.front at.left at.right are at.goes at.collides));
-          whole = ap report_of at.whole ∙ clash_last at.front at.left at.right;
-        })) t.3))
-
-    pub does_memory : Replays digest schedule old new SinkRose (Err failing.Memory) → Ended digest input old new SinkRose 5
-    does_memory t =
-        wanted_memory (report_of t.0) (
-          (schedule, is_read, unfinished t.0 t.1 t.2 t.3),
-          λ s x result. left_front digest schedule t.0 t.1 t.2 s x (told_of digest (replaying digest) input schedule is_read s x result),
-        ) t.4
-
-    pub does_fault : Replays digest schedule old new SinkRose (Err failing.WriteFault) → Ended digest input old new SinkRose 7
-    does_fault t =
-        lost_sink (report_of t.0) (
-          (schedule, is_read, (t.0, t.1, refl)),
-          λ s x result. owed_front digest schedule t.0 t.1 s x (told_of digest (replaying digest) input schedule is_read s x result),
-        ) t.2 t.3
-
-  -- an input that is no schedule
-  pub does_refuse : (e : ScheduleError) (status : ℕ) → IsRead input (Err e) → Performs (λ s text. (s ≡ 8) × IsFault e text) old new SinkRose status
-      → Ended digest input old new SinkRose status
-  does_refuse e status is_read p =
-      performed status (performs_as p (λ s text is. rw is.0 (unreadable text (inl (e, is_read, is.1)))))
+  pub collision_told : (lines : List Line) → AreLines digest schedule lines → EndsInCollision lines → Told digest (replaying digest) schedule 10 (report_of lines)
+  collision_told lines are ends =
+      let at = ends_in digest schedule lines are ends in
+      let text = clash_last at.front at.left at.right in
+      let report = stopped at.front at.left at.right (rw at.whole at are) at.goes at.collides in
+      subst (Told digest (replaying digest) schedule 10) (sym (ap report_of at.whole ∙ text))
+      (collides at.left at.right (report_of at.front) at.collides (subst (IsReport digest schedule 10) text report))
 
 -- ---- one result
 

@@ -1,6 +1,5 @@
 -- A schedule has the lines of one run, and one that ends in a collision shows two texts with one digest.
-use Rattle.wal_run.proofs.Common.{◌≡◌, ◌∙◌, ⊎_elim, apart_left, ℕ, ◌++◌, List, length, length-append, [], ◌∷◌, true, false, codes, arith, refl, ap, subst, false≢true, IsCollision, Event, Schedule, Line, hex_text, line_text, Rules, World, Steps, GoesOn, Runs, first_state, is_collision, AreLines, EndsInCollision, SameLines, not_going, one_run, rules_of, only_rules, collision_text}
-use Rattle.wal_protocol.proofs.EveryWord.{truth}
+use Rattle.wal_run.proofs.Common.{truth, ◌≡◌, ◌∙◌, ⊎_elim, apart_left, ℕ, ◌++◌, List, length, length-append, [], ◌∷◌, true, false, codes, arith, refl, ap, subst, false≢true, IsCollision, Event, Schedule, Line, hex_text, line_text, Rules, World, Steps, GoesOn, Runs, first_state, is_collision, AreLines, EndsInCollision, SameLines, not_going, one_run, rules_of, only_rules, collision_text}
 use Rattle.wal_event.specs.declared.event.Event.TheVariants as event
 use Rattle.wal_event.specs.declared.line.Line.TheVariants as line
 

@@ -1,10 +1,9 @@
 -- What a command says is a result of its input.
-use Rattle.wal_run.proofs.Common.{◌≡◌, ℕ, List, Option, Result, Ok, Err, sym, subst, inl, inr, ⊎_elim, BlobId, BreaksAt, Command, Content, Grammar, HasNone, HasTwoMetadata, IsResult, Misspells, Spells, bare, collision, envelopes_of, lacking, rejection, success, unreadable, Told, Performs}
-use Rattle.std.specs.Prelude.{IsErrAnd}
+use Rattle.wal_run.proofs.Common.{◌≡◌, ℕ, List, Option, Result, Ok, Err, IsErrAnd, inl, ⊎_elim, BreaksAt, Command, Content, IsResult, Misspells, Spells, bare, collision, lacking, rejection, success, unreadable, Told, Performs}
 use Rattle.wal_run.specs.declared.answer.Answer.{Answer}
 use Rattle.wal_run.specs.declared.refusal.Refusal.{Refusal}
 use Rattle.wal_run.specs.declared.refusal.Refusal.TheVariants.{Memory}
-use Rattle.wal_run.specs.inside.Answers.{IsBroken, LacksMetadata, Refuses, Refused, Says, Tells}
+use Rattle.wal_run.specs.inside.Answers.{IsBroken, Refuses, Refused, Says, Tells}
 use Rattle.wal_run.proofs.CommandLaws.{of_told}
 use Rattle.wal_run.proofs.Endings.{performs_as}
 
@@ -24,7 +23,7 @@ no_memory (Err refusal) Is out = λ other. absurd (other out)
 -- a refusal is passed on
 pub passed : (said : Result Answer Refusal) (Is : ℕ → List ℕ → Type 0) (refusal : Refusal) → IsErrAnd said (λ r. r ≡ refusal) → Refuses refusal Is → Says said Is
 passed (Ok answer) Is refusal same refuses = absurd same
-passed (Err other) Is refusal same refuses = subst (λ (r : Refusal). Refuses r Is) (sym same) refuses
+passed (Err other) Is refusal same refuses = rw same refuses
 
 -- what is said is written
 pub performs_refused : (refusal : Refusal) (Is : ℕ → List ℕ → Type 0) {old new : Option (List ℕ)} {SinkRose : Type 0} {status : ℕ} → Refuses refusal Is
@@ -45,23 +44,18 @@ says_told digest c input content said spells says = says_as said _ _ says (of_to
 pub broken : (digest : List ℕ → List ℕ) (c : Command) (input : List ℕ) (refusal : Refusal) → ((text : List ℕ) → BreaksAt input text → Misspells c.grammar input text)
     → Refuses refusal (IsBroken input) → Refuses refusal (IsResult digest c input)
 broken digest c input refusal takes refuses =
-    refuses_as refusal (IsBroken input) _ refuses (λ s text is. subst (λ (t : ℕ). IsResult digest c input t text) (sym is.0) (unreadable text (inl (takes text is.1))))
+    refuses_as refusal (IsBroken input) (IsResult digest c input) refuses (λ s text is. rw is.0 (unreadable text (inl (takes text is.1))))
 
 -- what a command without results tells is what every command of its grammar does
-bare_as : (digest : List ℕ → List ℕ) (g : Grammar) (c : Command) (input : List ℕ) → c.grammar ≡ g → (s : ℕ) (x : List ℕ) → IsResult digest (bare 0 g) input s x → IsResult digest c input s x
-bare_as digest g c input of _ _ (success text is) = absurd is.2
-bare_as digest g c input of _ _ (rejection text is) = absurd is.2
-bare_as digest g c input of _ _ (lacking text (inl none)) =
-    lacking text (inl (subst (λ (h : Grammar). HasNone digest h input text) (sym of) none))
-bare_as digest g c input of _ _ (lacking text (inr none)) = absurd none.2
-bare_as digest g c input of _ _ (unreadable text (inl bad)) =
-    unreadable text (inl (subst (λ (h : Grammar). Misspells h input text) (sym of) bad))
-bare_as digest g c input of _ _ (unreadable text (inr none)) = absurd none.2
-bare_as digest g c input of _ _ (collision l r text clash is) =
-    ⊎_elim (λ two. collision l r text clash (record { front = is.front; clashes = inl (subst (λ (h : Grammar). HasTwoMetadata digest h input l r) (sym of) two.0, two.1); whole = is.whole }))
-    (λ none. absurd none.2) is.clashes
+bare_as : (digest : List ℕ → List ℕ) (c : Command) (input : List ℕ) (s : ℕ) (x : List ℕ) → IsResult digest (bare 0 c.grammar) input s x → IsResult digest c input s x
+bare_as digest c input _ _ (success text is) = absurd is.2
+bare_as digest c input _ _ (rejection text is) = absurd is.2
+bare_as digest c input _ _ (lacking text is) = lacking text (⊎_elim (λ none. inl none) (λ none. absurd none.2) is)
+bare_as digest c input _ _ (unreadable text is) = unreadable text (⊎_elim (λ bad. inl bad) (λ none. absurd none.2) is)
+bare_as digest c input _ _ (collision l r text clash is) =
+    collision l r text clash (record { front = is.front; clashes = ⊎_elim (λ two. inl two) (λ none. absurd none.2) is.clashes; whole = is.whole })
 
 -- no metadata, or two
-pub unrecorded : (digest : List ℕ → List ℕ) (id : BlobId) (c : Command) (input : List ℕ) (refusal : Refusal) → c.grammar ≡ envelopes_of id
-    → Refuses refusal (LacksMetadata digest id input) → Refuses refusal (IsResult digest c input)
-unrecorded digest id c input refusal of refuses = refuses_as refusal _ _ refuses (bare_as digest (envelopes_of id) c input of)
+pub unrecorded : (digest : List ℕ → List ℕ) (c : Command) (input : List ℕ) (refusal : Refusal)
+    → Refuses refusal (IsResult digest (bare 0 c.grammar) input) → Refuses refusal (IsResult digest c input)
+unrecorded digest c input refusal refuses = refuses_as refusal _ _ refuses (bare_as digest c input)

@@ -5,14 +5,11 @@ use Rattle.wal_run.proofs.ServiceEnds.{no_answer}
 use Rattle.wal_run.proofs.ServiceFronts.{Over, front_or_clash, over, read_begun, write_begun}
 
 module _ (digest : List ℕ → List ℕ) (service : Service) (input : List ℕ) where
-  abbrev Ending : List (List ℕ) → ServeEnd → Type 0
-  Ending frames end = Over (answering digest) (desk_room service.faults) serve_limit (at_start service) input frames end
-
   -- the answer of serving without a fault
   pub record Whole (expected : ℕ) (text : List ℕ) : Type 0 where
     pub frames : List (List ℕ)
     pub end : ServeEnd
-    pub ending : Ending frames end
+    pub ending : Over (answering digest) (desk_room service.faults) serve_limit (at_start service) input frames end
     pub status : expected ≡ end_status end
     pub told : text ≡ sent service.shard frames
 
@@ -63,8 +60,7 @@ module _ (digest : List ℕ → List ℕ) (service : Service) (input : List ℕ)
         rw (b.answered, flat_map-append (envelope service.shard) b.before b.some) (
           length first + b.count,
           omega (arith, b.short, length-append first second),
-          rw
-              (take-append-add first second b.count) b.wrote,
+          rw (take-append-add first second b.count) b.wrote,
         )
 
     -- a write failed

@@ -1,7 +1,6 @@
 -- What was answered before a fault ended serving is what is answered first without one.
-use Rattle.wal_run.proofs.Common.{◌≡◌, ◌⊎◌, ⊎_elim, inl, inr, ℕ, ◌+◌, ◌≤◌, true, List, [], ◌∷◌, ◌++◌, length, Option, Some, None, refl, sym, ap, ◌∙◌, append_assoc, append-nil, arith, is_some, MetaClash, ServeEnd, ReadFault, WriteFault, SameButLast, Replies, Serves, Table, Compared, Longer, compared, Why, none_follows}
+use Rattle.wal_run.proofs.Common.{truth, ◌≡◌, ◌⊎◌, ⊎_elim, inl, inr, ℕ, ◌+◌, ◌≤◌, true, List, [], ◌∷◌, ◌++◌, length, Option, Some, None, refl, sym, ap, ◌∙◌, append_assoc, append-nil, arith, is_some, MetaClash, ServeEnd, ReadFault, WriteFault, SameButLast, Replies, Serves, Table, Compared, Longer, compared, Why, none_follows}
 use Rattle.std.proofs.lemmas.List.{length-append}
-use Rattle.wal_protocol.proofs.EveryWord.{truth}
 use Rattle.wal_serve.specs.Determined.{is_collision}
 use Rattle.wal_serve.specs.inside.Determined.{IsSingle}
 use Rattle.wal_serve.specs.Serving as serving
@@ -110,6 +109,13 @@ module _ {C : Type 0} (Answer : Table C) (room limit : ℕ) (fresh : C) (input :
         let next = first_answers payloads payload more here rest after second new then (rw one.state at goes) goes_on in
         (next.0, cc (also, one.frames refl, next.1, is, append_assoc head rest next.0))
 
+    -- two texts end serving, so that no more is answered
+    calm_first : (clash second : Option MetaClash) (payloads : List (List ℕ)) (payload : List ℕ) (more frames others : List (List ℕ)) (new then : C)
+        → Goes Answer room payloads fresh frames clash new → Goes Answer room (payloads ++ payload ∷ more) fresh others second then → clash ≡ None
+    calm_first None second payloads payload more frames others new then a b = refl
+    calm_first (Some texts) second payloads payload more frames others new then a b =
+        absurd (stopped_before Answer room single payloads payload more fresh frames others (Some texts) second texts new then refl a b)
+
     -- a front of all frames, or all but for the two texts in the last one
     abbrev pub FrontOrClash : List (List ℕ) → List (List ℕ) → Option MetaClash → ServeEnd → Type 0
     FrontOrClash frames others clash end =
@@ -125,24 +131,16 @@ module _ {C : Type 0} (Answer : Table C) (room limit : ℕ) (fresh : C) (input :
           (λ is. inl ([], sym (one.frames is) ∙ sym (append-nil frames))) (truth (is_some clash))
 
       fewer : Longer ps a.front a.tail qs b.front → FrontOrClash frames others clash end
-      fewer l = by clash refl
-        where
-          by : (k : Option MetaClash) → clash ≡ k → FrontOrClash frames others clash end
-          by None is =
-              inl (first_answers ps l.payload l.others fresh frames others b.clash a.state b.state (rw is at begun)
-              (rw l.parts at whole))
-          by (Some texts) is =
-              absurd (stopped_before Answer room single ps l.payload l.others fresh frames others
-              clash b.clash texts a.state b.state is begun (rw l.parts at whole))
+      fewer l =
+          let calm = calm_first clash b.clash ps l.payload l.others frames others a.state b.state begun (rw l.parts at whole) in
+          inl (first_answers ps l.payload l.others fresh frames others b.clash a.state b.state (rw calm at begun)
+          (rw l.parts at whole))
 
       none_more : Longer qs b.front b.tail ps a.front → ⊥
-      none_more l = by b.clash refl
-        where
-          by : (k : Option MetaClash) → b.clash ≡ k → ⊥
-          by None calm = none_follows limit (length b.front) (length a.front) b.tail b.clash b.long end l.sender l.payload l.after b.why calm l.fits l.begins l.within a.within
-          by (Some texts) is =
-              stopped_before Answer room single qs l.payload l.others fresh others frames b.clash
-              clash texts b.state a.state is whole (rw l.parts at begun)
+      none_more l =
+          let calm = calm_first b.clash clash qs l.payload l.others others frames b.state a.state whole (rw l.parts at begun) in
+          none_follows limit (length b.front) (length a.front) b.tail b.clash b.long end l.sender l.payload l.after b.why
+          calm l.fits l.begins l.within a.within
 
       as_compared : Compared ps a.front a.tail qs b.front b.tail → FrontOrClash frames others clash end
       as_compared (fronts.same payloads sizes tails) = as_many payloads

@@ -1,18 +1,11 @@
 -- A shard that serves: the state at the start, and how serving it ends.
-use Rattle.wal_run.proofs.Common.{◌≡◌, ℕ, ◌+◌, ◌<◌, ◌≤◌, zero, suc, zero-add, List, [], ◌∷◌, ◌++◌, length, Bool, true, false, not, ◌&&◌, ◌||◌, nat_lt, lt-ltb, eq-eqb, Option, Some, refl, ap, ◌∙◌, arith, list_all, range_with_len, LedgerState, owners_of, StoreState, ShardState, ServeEnd, desk_room, IsServed, ServedState, state_of, Service, EndsServing, answering, at_start, end_status, own_nodes, serve_limit}
-use Rattle.std.specs.FinMap as map
+use Rattle.wal_run.proofs.Common.{◌≡◌, ℕ, ◌+◌, ◌<◌, ◌≤◌, zero, suc, List, [], length, Bool, true, false, not, ◌&&◌, ◌||◌, nat_lt, lt-ltb, eq-eqb, Option, refl, ap, ◌∙◌, arith, list_all, range_with_len, LedgerState, owners_of, ShardState, ServeEnd, desk_room, IsServed, ServedState, Service, EndsServing, answering, at_start, end_status, own_nodes, serve_limit}
 use Rattle.std.proofs.lemmas.List.FromFn.{get_or-range_with_len, length-range_with_len}
 use Rattle.wal_shape.specs.Owners.{among, every_below, has_neighbour, node_of, is_committee}
 use Rattle.wal_shape.specs.declared.axis.Side.TheVariants.{Now}
 use Rattle.wal_ledger.specs.Shards.{committee_size}
-use Rattle.wal_epoch.specs.States.{ServingState}
 use Rattle.wal_run.specs.inside.Serving.{MayServe}
-use Rattle.wal_run.proofs.ShardTexts.{range-split}
 use Rattle.wal_served.proofs.Reached.{desk_at_start, serves_reached}
-
--- one node more
-pub nodes_more : (n up : ℕ) (old new : List ℕ) → old ≡ range_with_len 0 n → new ≡ old ++ n ∷ [] → up ≡ n + 1 → new ≡ range_with_len 0 up
-nodes_more n up old new is pushed next = rw (pushed, is, range-split 0 n 1 up next, zero-add n) refl
 
 -- each shard's node has the shard's number
 pub own_node : (f s : ℕ) → s < committee_size f → node_of (own_nodes f) s ≡ s
@@ -46,17 +39,6 @@ pub starts_owned : (s : Service) (ledger : LedgerState) (f : ℕ) → ledger ≡
     → (k : ℕ) → k < committee_size f → node_of (owners_of Now ledger.log) k ≡ k
 starts_owned s ledger f is same k within =
     ap (λ (l : LedgerState). node_of (owners_of Now l.log) k) is ∙ own_node s.faults k (omega (arith, within, same))
-
--- the shard is as at the start
-pub starts_shard : (s : Service) (shard : ShardState) (keep : StoreState) → keep ≡ record { contents = map.empty; limit = Some s.pages }
-    → shard ≡ record { f = s.faults; index = s.shard; contents = map.empty; limit = keep.limit } → shard ≡ (at_start s).shard
-starts_shard s shard keep is_keep is = rw (is, is_keep) refl
-
--- the shard and the ledger are as at the start
-pub starts : (s : Service) (shard : ShardState) (serving : ServingState) → shard ≡ (at_start s).shard → serving.ledger ≡ (at_start s).ledger
-    → state_of shard serving ≡ at_start s
-starts s shard serving is_shard is_ledger =
-    rw (is_shard, is_ledger) refl
 
 -- what was served from a state at the start is how serving it ended
 pub ends_serving : (digest : List ℕ → List ℕ) (s : Service) (shard : ShardState) (fresh state : ServedState) (left after : Option (List ℕ)) (SourceRose : Type 0) (old new : Option (List ℕ)) (SinkRose : Type 0) (end : ServeEnd) (status : ℕ)

@@ -1,5 +1,5 @@
 -- The envelopes of a shard, and of the shards in turn.
-use Rattle.wal_run.proofs.Common.{◌≡◌, ℕ, zero, suc, zero-add, ◌+◌, ◌-◌, ◌*◌, ◌<◌, ◌≤◌, List, [], ◌∷◌, ◌++◌, length, take, drop, min, append_assoc, append-nil, refl, sym, ap, ap₂, ◌∙◌, arith, flat_map-append, flat_map, range_with_len, Axis, Primary, Secondary, BlobShape, IsShape, shard_count, row_count, column_count, symbol_size, most_bytes, held_index, column_part, primary_of, row_of, secondary_of, symbol, row_of-symbol, Buffer, appended, envelope, sliver_frame, shard_text}
+use Rattle.wal_run.proofs.Common.{◌≡◌, ℕ, zero, suc, zero-add, ◌+◌, ◌-◌, ◌*◌, ◌<◌, ◌≤◌, List, [], ◌∷◌, ◌++◌, length, take, drop, min, append_assoc, append-nil, refl, sym, ap, ap₂, ◌∙◌, arith, flat_map-append, flat_map, range_with_len, Primary, Secondary, BlobShape, IsShape, shard_count, row_count, column_count, symbol_size, most_bytes, held_index, column_part, primary_of, row_of, secondary_of, symbol, row_of-symbol, Buffer, appended, envelope, sliver_frame, shard_text}
 use Rattle.std.proofs.Math.Nat.{mul_comm, mul-le-mul_right, mul-le-mul_left}
 use Rattle.std.specs.Int.{w16, w32}
 use Rattle.wal_shape.specs.Spelling.{number_text}
@@ -35,12 +35,6 @@ envelope_joins shard size front head bytes frame is joins long =
     let parts = append_assoc (number_text w16 shard) (number_text w32 size) frame in
     rw (append_assoc front head bytes, joins, is, long, parts) refl
 
--- the envelope of a sliver in two parts
-pub sliver_parts : (id : List ℕ) (shard : ℕ) (axis : Axis) (index : ℕ) (front bytes sliver : List ℕ)
-    → front ++ bytes ≡ envelope shard (sliver_frame id axis index bytes) → bytes ≡ sliver
-    → envelope shard (sliver_frame id axis index sliver) ≡ front ++ bytes
-sliver_parts id shard axis index front bytes sliver joins is = ap (λ l. envelope shard (sliver_frame id axis index l)) (sym is) ∙ sym joins
-
 -- the numbers before a place, and those from it on
 pub range-split : (a i m k : ℕ) → k ≡ i + m → range_with_len a k ≡ range_with_len a i ++ range_with_len (a + i) m
 range-split a zero m k e = let k_is : k ≡ m = omega (arith, e) in let a_is : a ≡ a + 0 = omega arith in ap₂ (λ (x y : ℕ). range_with_len x y) a_is k_is
@@ -67,12 +61,6 @@ pub laid_more : (old now new : Buffer) (n s : ℕ) (e : List ℕ) (row c : ℕ) 
     → piece ≡ symbol n s e row c → new ≡ appended now piece → new ≡ appended old (column_part n s e (row + 1) c)
 laid_more old now new n s e row c piece before own put =
     rw (put, before, own, column_more n s e row c) (appended_then old (column_part n s e row c) (symbol n s e row c))
-
--- all of them
-pub laid_all : (old now : Buffer) (f s : ℕ) (e : List ℕ) (row c : ℕ) → row ≡ row_count f → now ≡ appended old (column_part (shard_count f) s e row c)
-    → now ≡ appended old (secondary_of f s e c)
-unfolding secondary_of
-laid_all old now f s e row c all laid = laid ∙ ap (λ (k : ℕ). appended old (column_part (shard_count f) s e k c)) all
 
 -- the symbols of a secondary sliver
 abbrev pub column_text : ℕ → ℕ → List ℕ → ℕ → ℕ → List ℕ
@@ -106,9 +94,6 @@ symbol_of_row n s size start end e row r c h size_is row_is starts ends =
     let at : start ≡ s * c = starts ∙ ap (λ (k : ℕ). c * k) size_is ∙ mul_comm c s in
     rw (long, at, row_is) (row_of-symbol n s e r c h)
 
--- room for short symbols, and for long ones
+-- room for short symbols
 pub laid_short : (k s : ℕ) → s < 8192 → k * s ≡ k * min s 8192
 laid_short k s short = let same : s ≡ min s 8192 = omega arith in ap (λ (z : ℕ). k * z) same
-
-pub laid_long : (k rows s : ℕ) → 8192 ≤ s → rows ≡ k → rows * 8192 ≡ k * min s 8192
-laid_long k rows s long is = let same : 8192 ≡ min s 8192 = omega arith in ap₂ (λ (a b : ℕ). a * b) is same

@@ -4,14 +4,13 @@ use Rattle.wal_words.specs.Task.{IsRow}
 use Rattle.wal_words.specs.declared.task.WholeTask.{WholeTask}
 use Rattle.wal_run.specs.inside.Commands.{IsInRange, IsWholeInRange}
 use Rattle.wal_run.proofs.Blobs.{encoded, identified}
-use Rattle.wal_run.proofs.Bundles.{bundled_once}
 use Rattle.wal_run.proofs.Challenges.{challenged_once}
 use Rattle.wal_run.proofs.Checks.{checked_once}
 use Rattle.wal_run.proofs.CommandLaws.{Determined}
 use Rattle.wal_run.proofs.Fetches.{fetched_once}
 use Rattle.wal_run.proofs.ImageLaws.{imaged_once}
 use Rattle.wal_run.proofs.ListingLaws.{unpacked_once}
-use Rattle.wal_run.proofs.Members.{unbundled_once}
+use Rattle.wal_run.proofs.Members.{bundled_once, unbundled_once}
 use Rattle.wal_run.proofs.Readings.{read_once}
 use Rattle.wal_run.proofs.Recoveries.{recovered_once}
 use Rattle.wal_run.proofs.Replays.{replayed_once}

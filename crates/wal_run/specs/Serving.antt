@@ -21,7 +21,10 @@ own_nodes f = range_with_len 0 (committee_size f)
 abbrev pub at_start : Service → ServedState
 at_start s = record {
   shard = record { f = s.faults; index = s.shard; contents = map.empty; limit = Some s.pages };
-  ledger = record { log = record { f = s.faults; first = 0; owners = own_nodes s.faults; entries = [] }; spare = 2 * s.blobs };
+  ledger = record {
+    log = record { f = s.faults; first = 0; owners = own_nodes s.faults; entries = [] };
+    spare = 2 * s.blobs;
+  };
 }
 
 -- what is answered to each payload, over a pool of pages, which never wants memory

@@ -2,14 +2,14 @@
 pub use Rattle.hex.proofs.HexLemmas.{decode_of-ok, decode_sized-ok, decode_sized-twice, decode_of-encode_lower, decode_sized-encode_lower}
 pub use Rattle.hex.specs.Hex.{IsBytes, decode_of, decode_sized, encode_lower}
 pub use Rattle.serde_json.proofs.Views.{items_len-items_view, members_len-members_view}
-pub use Rattle.serde_json.specs.Data.{Data, Items, no_items, item, array, string, depth, items_depth}
+pub use Rattle.serde_json.specs.Data.{Data, Items, no_items, item, depth, items_depth, object, member, no_members}
 pub use Rattle.serde_json.specs.Events.{items_len}
-pub use Rattle.serde_json.specs.Find.{as_number, as_u64, get, as_object}
+pub use Rattle.serde_json.specs.Find.{as_number, as_u64, get}
 pub use Rattle.serde_json.specs.View.{items_of, items_view, view}
 pub use Rattle.serde_json.specs.declared.value.Value.{Value}
-pub use Rattle.std.proofs.Common.{◌≡◌, ℕ, suc, ◌+◌, ◌*◌, ◌≤◌, ◌&&◌, Bool, true, false, nat_le, nat_lt, List, [], ◌∷◌, length, codes, Option, None, Some, Ok, Err, Result, IfOk, IfSome, if◌then◌else◌, refl, sym, ◌∙◌, subst, arith, ◌<◌, map, IsTrue, ap, zero, ◌/◌, ◌%◌, ◌^◌, ◌++◌, ◌||◌, get_or, drop, take, length-append}
-pub use Rattle.std.proofs.Math.Nat.{max-le, suc-mul}
-pub use Rattle.std.proofs.lemmas.Bool.{and_parts, leb-true, ltb-false, ltb-true, cond-false, eq-eqb, le-leb, le-ltb, lt-ltb, cond-true}
+pub use Rattle.std.proofs.Common.{◌≡◌, ℕ, suc, ◌+◌, ◌*◌, ◌≤◌, ◌&&◌, Bool, true, false, nat_le, nat_lt, List, [], ◌∷◌, length, codes, Option, None, Some, Ok, Err, Result, IfOk, IfSome, if◌then◌else◌, refl, sym, ◌∙◌, subst, arith, ◌<◌, map, IsTrue, ap, zero, ◌/◌, ◌%◌, ◌^◌, ◌++◌, get_or, drop, take, length-append, add-one}
+pub use Rattle.std.proofs.Math.Nat.{max-le}
+pub use Rattle.std.proofs.lemmas.Bool.{and_parts, leb-true, ltb-false, ltb-true, cond-false, le-leb, le-ltb, lt-ltb, cond-true, agree_below_at}
 pub use Rattle.std.proofs.lemmas.List.{append_assoc, append-nil, map-append, map-id, drop_all, drop_more, length-map}
 pub use Rattle.std.proofs.lemmas.List.FromFn.{map-range_with_len_more, length-map-range_with_len}
 pub use Rattle.std.specs.List.{AllByRecursion, list_all, flat_map, range_with_len}
@@ -30,12 +30,12 @@ pub use Rattle.wal_shape.specs.declared.axis.Side.TheVariants.{Now, Next}
 pub use Rattle.wal_shape.specs.declared.metadata.BlobId.{BlobId}
 pub use Rattle.wal_shape.specs.declared.shape.Format.{Format}
 pub use Rattle.wal_shape.specs.declared.shape.Format.TheVariants.{One, Two}
-pub use Rattle.wal_schedule.specs.Grammar.{IsRead, bytes_reply_of, event_named, events_of, format_at, joined, later_named, objects_at, one_if_has, owners_at, parts_of, replies_at, replies_of, reply_of, schedule_with, true_reply_of, with_parts, all_objects, format_number}
+pub use Rattle.wal_schedule.specs.Grammar.{IsRead, bytes_reply_of, event_named, events_of, format_at, joined, later_named, objects_at, one_if_has, owners_at, parts_of, replies_at, replies_of, reply_of, schedule_with, true_reply_of, with_parts, all_objects}
 unfoldable pub use Rattle.wal_schedule.specs.Grammar.{ack_of, attest_of, begin_of, certificate_of, event_of, finish_of, forget_of, head_of, holders_of, read_of, ready_of, recover_of, register_of, schedule_of, send_of, write_of}
-pub use Rattle.wal_schedule.specs.Reading.{◌>>=◌, axis_at, bytes_at, given, id_at, items_at, list_at, shard_at, side_at, text_at, to_id, whole_at, whole_of, with_keys, key_count, numbers_of}
+pub use Rattle.wal_schedule.specs.Reading.{◌>>=◌, axis_at, bytes_at, given, id_at, items_at, list_at, shard_at, side_at, text_at, to_id, whole_at, whole_of, with_keys, numbers_of}
 pub use Rattle.wal_schedule.specs.Sample.{AreBlobs, IsSample, blob_from, drawn, next_state, sample_with, asked_events, earlier_events, everyone, everyone_but, later_events, recovered_by, recovered_events, stored_events, truths}
 unfoldable pub use Rattle.wal_schedule.specs.Sample.{state_after, state_before}
-pub use Rattle.wal_schedule.specs.Writing.{HasBytes, HasReplyBytes, IsId, axis_data, bytes_data, event_data, events_data, format_data, id_data, list_data, number_data, replies_data, reply_data, schedule_data, side_data}
+pub use Rattle.wal_schedule.specs.Writing.{HasBytes, HasReplyBytes, IsId, axis_data, event_data, format_data, number_data, reply_data, schedule_data, side_data}
 pub use Rattle.wal_schedule.specs.declared.drawn.SampleBlob.{SampleBlob}
 pub use Rattle.wal_schedule.specs.declared.read.Head.{Head}
 pub use Rattle.wal_schedule.specs.declared.read.ScheduleError.{ScheduleError}

@@ -1,6 +1,5 @@
 -- The events of a sample are in range.
-use Rattle.wal_schedule.proofs.Common.{◌≡◌, Result, Ok, Err, IfOk, ℕ, zero, suc, ◌+◌, ◌*◌, ◌%◌, ◌<◌, ◌≤◌, true, List, [], ◌∷◌, ◌++◌, map, length, IsTrue, refl, sym, ap, ◌∙◌, arith, AllByRecursion, flat_map, range_with_len, length-append, length-map, length-map-range_with_len, most_bytes, is_ascending, is_committee, Axis, Primary, Secondary, Event, Ready, Schedule, AreRepliesWithin, IsSchedule, IsEventWithin, SampleBlob, AreBlobs, asked_events, blob_from, drawn, earlier_events, everyone, everyone_but, later_events, recovered_by, recovered_events, sample_with, state_before, stored_events, truths}
-use Rattle.std.proofs.lemmas.Bool.{agree_below_at}
+use Rattle.wal_schedule.proofs.Common.{◌≡◌, Result, Ok, Err, IfOk, ℕ, zero, suc, ◌+◌, ◌*◌, ◌%◌, ◌<◌, ◌≤◌, true, List, [], ◌∷◌, ◌++◌, map, length, IsTrue, refl, sym, ap, ◌∙◌, arith, AllByRecursion, flat_map, range_with_len, length-append, length-map, length-map-range_with_len, most_bytes, is_ascending, is_committee, Axis, Primary, Secondary, Event, Ready, Schedule, AreRepliesWithin, IsSchedule, IsEventWithin, SampleBlob, AreBlobs, asked_events, blob_from, drawn, earlier_events, everyone, everyone_but, later_events, recovered_by, recovered_events, sample_with, state_before, stored_events, truths, agree_below_at}
 use Rattle.wal_schedule.proofs.Drawing.{all_joined}
 
 abbrev Within : List Event → Type 0

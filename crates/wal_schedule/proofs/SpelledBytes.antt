@@ -1,8 +1,7 @@
 -- What a text spells as a schedule is in range, and carries bytes.
 use Rattle.wal_schedule.proofs.Common.{◌≡◌, ℕ, suc, ◌+◌, ◌*◌, ◌≤◌, ◌&&◌, Bool, true, false, nat_le, nat_lt, List, [], ◌∷◌, length, codes, Option, None, Some, Ok, Err, Result, IfOk, IfSome, if◌then◌else◌, refl, sym, ◌∙◌, arith, bytes_eq, is_some, AllByRecursion, list_all, result_ok, and_parts, leb-true, ltb-false, ltb-true, IsBytes, decode_of, decode_sized, decode_of-ok, decode_sized-ok, decode_sized-twice, Data, Items, no_items, item, items_len, as_number, as_u64, get, BlobId, is_committee, shard_count, Reply, Event, Register, Write, Send, Ack, Attest, Read, Recover, Forget, Begin, Ready, Finish, Certificate, Holders, Schedule, AreRepliesWithin, IsReply, IsSchedule, IsEventWithin, event_fits, replies_within, reply_within, within, Head, ScheduleError, ◌>>=◌, axis_at, bytes_at, given, id_at, items_at, list_at, shard_at, side_at, text_at, to_id, whole_at, whole_of, with_keys, IsRead, ack_of, attest_of, begin_of, bytes_reply_of, certificate_of, event_named, event_of, events_of, finish_of, forget_of, format_at, head_of, holders_of, joined, later_named, objects_at, one_if_has, owners_at, parts_of, read_of, ready_of, recover_of, register_of, replies_at, replies_of, reply_of, schedule_of, schedule_with, send_of, true_reply_of, with_parts, write_of, IsHead, HasBytes, HasReplyBytes, IsId}
 use Rattle.hex.specs.declared.error.FromHexError.{FromHexError}
-use Rattle.wal_event.specs.declared.event.Reply.TheVariants as reply
-use Rattle.wal_schedule.proofs.Reading.{in_range}
+use Rattle.wal_schedule.proofs.Drawing.{in_range}
 
 -- ---- what steps of a reading keep
 
@@ -70,8 +69,8 @@ reply_bytes : (d : Data) → Shows HasReplyBytes (reply_of d)
 reply_bytes d =
     either (is_some (get (codes "true") d)) (true_reply_of d) (bytes_reply_of d)
     (past (whole_at 65535 (codes "true") d) _ (λ shard. past (side_at d) _
-    (λ side. keyed 2 d (reply.True side shard) tt)))
-    (shown _ (bytes_are (codes "bytes") d) (λ bytes is. keyed 1 d (reply.Bytes bytes) is))
+    (λ side. keyed 2 d (Reply.True side shard) tt)))
+    (shown _ (bytes_are (codes "bytes") d) (λ bytes is. keyed 1 d (Reply.Bytes bytes) is))
 
 replies_bytes : (items : Items) → Shows (AllByRecursion HasReplyBytes) (replies_of items)
 replies_bytes no_items = record { found = tt }
@@ -128,10 +127,10 @@ named_bytes n d name =
 
 each_is : (n : ℕ) (rs : List Reply) → list_all (reply_within n) rs ≡ true → AllByRecursion (IsReply n) rs
 each_is n [] passed = tt
-each_is n (reply.True side shard ∷ rs) passed =
+each_is n (Reply.True side shard ∷ rs) passed =
     let p = and_parts (nat_lt shard n) (list_all (reply_within n) rs) passed in
     (ltb-true shard n p.0, each_is n rs p.1)
-each_is n (reply.Bytes bytes ∷ rs) passed = (tt, each_is n rs passed)
+each_is n (Reply.Bytes bytes ∷ rs) passed = (tt, each_is n rs passed)
 
 replies_fit : (n : ℕ) (rs : List Reply) → replies_within n rs ≡ true → AreRepliesWithin n rs
 replies_fit n rs passed =
@@ -155,8 +154,7 @@ event_good f d =
     past (text_at (codes "do") d) _ (λ name.
     shown _ (named_bytes (shard_count f) d name) (λ event has.
     tested (event_fits f event) event (λ passed.
-    let within = and_parts (nat_le f 333) _ (and_parts (nat_le 1 f) _ passed).1 in
-    (event_is (shard_count f) event within.1, has))))
+    (event_is (shard_count f) event (and_parts (nat_le f 333) _ (and_parts (nat_le 1 f) _ passed).1).1, has))))
 
 -- ---- events, and the head
 

@@ -213,7 +213,14 @@ head_of d = do
 
 -- a schedule of its head and its events
 abbrev pub schedule_with : Head → Result (List Event) ℕ → Result Schedule ScheduleError
-schedule_with h (Ok events) = Ok (record { f = h.f; epoch = h.epoch; format = h.format; owners = h.owners; faulty = h.faulty; events = events })
+schedule_with h (Ok events) = Ok (record {
+  f = h.f;
+  epoch = h.epoch;
+  format = h.format;
+  owners = h.owners;
+  faulty = h.faulty;
+  events = events;
+})
 schedule_with h (Err number) = Err (BadEvent number)
 
 -- at most 65,536 events

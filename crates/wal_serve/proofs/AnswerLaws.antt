@@ -1,11 +1,12 @@
 -- What is answered, and what is written of it.
-use Rattle.wal_serve.proofs.Common.{◌≡◌, ℕ, ◌+◌, ◌-◌, ◌<◌, ◌≤◌, Bool, List, [], ◌∷◌, ◌++◌, length, Option, None, Result, Ok, Err, refl, sym, ap, subst, ◌∙◌, append-nil, arith, length-append, flat_map-append, MetaClash, FrameError, Frame, envelope, CanBePut, WritesReply, Reply, ServedState, PayloadRoom, done, malformed, no_request, overlong, reply_text, outcome_text, clash_in, IsReplyOutcome, AnswersPut, AnswersFrame, AnswersRead, sent, Row, Table, looked_at, read_past, AnswersInto, RepliesInto, StopsWith}
+use Rattle.wal_serve.proofs.Common.{◌≡◌, ℕ, ◌+◌, ◌-◌, ◌<◌, ◌≤◌, Bool, List, [], ◌∷◌, ◌++◌, length, Option, None, Result, Ok, Err, refl, sym, ap, subst, ◌∙◌, append-nil, arith, length-append, flat_map-append, MetaClash, FrameError, Frame, envelope, CanBePut, WritesReply, Reply, ServedState, PayloadRoom, done, malformed, no_request, overlong, reply_text, outcome_text, clash_in, IsReplyOutcome, AnswersPut, AnswersFrame, AnswersRead, sent, Row, Table, looked_at, read_past, AnswersInto, RepliesInto, StopsWith, BlobId, Kind, LedgerState, committee_size, PutAnswer, PutsOrWants, ShowsTexts, ShardState, desk, with_contents, with_ledger, refused, no_shard, put_reply, refusal_reply, AnswersEntry, AnswersForget, ClaimEntered, Vouched, unbacked, asked, Entered, of_committee, of_none, forgotten, Forgets}
 use Rattle.std.proofs.lemmas.List.Concat.{flat_map-cons}
 use Rattle.wal_frame.specs.Buffer.{Buffer, appended}
-use Rattle.wal_frame.specs.Frame as frame
 use Rattle.wal_shard.proofs.ReplyLaws.{appended_then}
 use Rattle.wal_serve.specs.inside.Requests.{IsNoRequest}
 use Rattle.wal_serve.specs.inside.Saying.{Says, SaysReplied}
+use Rattle.wal_shard.specs.declared.answers.AckRefusal.{AckRefusal}
+use Rattle.wal_shard.specs.Vouching.{Vouches, MayForget, without_slivers}
 
 pub sent_one : (own : ℕ) (payload : List ℕ) → sent own (payload ∷ []) ≡ envelope own payload
 sent_one own payload = flat_map-cons (envelope own) payload [] ∙ append-nil (envelope own payload)
@@ -63,17 +64,14 @@ module _ (digest : List ℕ → List ℕ) (may_want : Bool) where
   -- a metadata, a sliver or a proof
   pub put_row : (x : Frame) (before after : ServedState) (frames : List (List ℕ)) (clash : Option MetaClash) → CanBePut x
       → AnswersPut digest may_want x before frames clash after → AnswersFrame digest may_want x before frames clash after
-  put_row (frame.Metadata m) before after frames clash part h = h
-  put_row (frame.Sliver id axis index bytes) before after frames clash part h = h
-  put_row (frame.Proof id p) before after frames clash part h = h
+  put_row (Frame.Metadata m) before after frames clash part h = h
+  put_row (Frame.Sliver id axis index bytes) before after frames clash part h = h
+  put_row (Frame.Proof id p) before after frames clash part h = h
   put_row _ before after frames clash part h = absurd part
 
   no_row : (x : Frame) (before after : ServedState) (frames : List (List ℕ)) (clash : Option MetaClash) → IsNoRequest x
       → IsReplyOutcome (Ok no_request) frames clash × (after ≡ before) → AnswersFrame digest may_want x before frames clash after
-  no_row (frame.Opening id axis index o) before after frames clash none h = h
-  no_row (frame.Answer code a b) before after frames clash none h = h
-  no_row (frame.Clash left right) before after frames clash none h = h
-  no_row _ before after frames clash none h = absurd none
+  no_row x before after frames clash none h = grind arith
 
   -- a frame that is no request
   pub refused_row : (x : Frame) (before : ServedState) (r : Reply) → IsNoRequest x → r ≡ no_request → AnswersFrame digest may_want x before (reply_text r ∷ []) None before
@@ -99,3 +97,57 @@ pub looked_into : (C : Type 0) (Answer : Table C) (buffer : PayloadRoom) (there 
     → there ≡ buffer.bytes → Answer old there frames clash new → RepliesInto Answer buffer size old frames clash new
 looked_into C Answer buffer there size old new frames clash le is answers payload long kept =
     looked_at frames clash new (omega (arith, le, long)) (rw (is ∙ kept le) at answers)
+
+-- ---- what the requests do that have one answer
+
+-- what the ledger answers, as a row of the table
+pub entry_row : (Makes : Reply → LedgerState → Type 0) (s : ServedState) (r : Reply) (ledger : LedgerState) → Makes r ledger
+    → AnswersEntry Makes s (reply_text r ∷ []) None (with_ledger s ledger)
+entry_row Makes s r ledger makes = (r, ledger, makes, (refl, refl), refl)
+
+-- the shard's refusal; the ledger is lent
+pub vouched_not : (kind : Kind) (s : ServedState) (lent : LedgerState) (id : BlobId) (why : AckRefusal) (r : Reply) → lent ≡ s.ledger
+    → Vouches kind lent.log s.shard.contents id (Err why) → r ≡ refusal_reply why
+    → AnswersEntry (Vouched kind s id) s (reply_text r ∷ []) None (with_ledger s s.ledger)
+vouched_not kind s lent id why r lends vouches is =
+    let own = subst (λ (l : LedgerState). Vouches kind l.log s.shard.contents id (Err why)) lends vouches in
+    entry_row (Vouched kind s id) s r s.ledger (rw is (unbacked why own))
+
+pub vouched : (kind : Kind) (s : ServedState) (lent new : LedgerState) (id : BlobId) (own : ℕ) (r : Reply) → lent ≡ s.ledger → own ≡ s.shard.index
+    → Vouches kind lent.log s.shard.contents id (Ok tt) → ClaimEntered kind s.ledger own id r new
+    → AnswersEntry (Vouched kind s id) s (reply_text r ∷ []) None (with_ledger s new)
+vouched kind s lent new id own r lends by vouches claimed =
+    entry_row (Vouched kind s id) s r new (asked r new (rw lends at vouches) (rw by at claimed))
+
+-- entries of shards
+pub entered_none : (kind : Kind) (s : ServedState) (shard : ℕ) (id : BlobId) (r : Reply) → r ≡ no_shard
+    → (shard < committee_size s.ledger.log.f → ⊥)
+    → AnswersEntry (Entered kind s.ledger shard id) s (reply_text r ∷ []) None (with_ledger s s.ledger)
+entered_none kind s shard id r is not = entry_row (Entered kind s.ledger shard id) s r s.ledger (rw is (of_none not))
+
+pub entered_in : (kind : Kind) (s : ServedState) (shard : ℕ) (id : BlobId) (r : Reply) (new : LedgerState) → shard < committee_size s.ledger.log.f
+    → ClaimEntered kind s.ledger shard id r new
+    → AnswersEntry (Entered kind s.ledger shard id) s (reply_text r ∷ []) None (with_ledger s new)
+entered_in kind s shard id r new within claimed =
+    entry_row (Entered kind s.ledger shard id) s r new (of_committee r new within claimed)
+
+abbrev pub state_with : ShardState → LedgerState → ServedState
+state_with shard ledger = record { shard = shard; ledger = ledger }
+
+-- slivers that go, and that stay; the ledger is lent
+pub forgets_done : (s : ServedState) (lent : LedgerState) (shard : ShardState) (id : BlobId) (r : Reply) → lent ≡ s.ledger → MayForget lent.log s.shard.contents id → r ≡ done 0
+    → shard ≡ with_contents s.shard (without_slivers s.shard.contents id) → AnswersForget id s (reply_text r ∷ []) None (state_with shard s.ledger)
+forgets_done s lent shard id r lends may is gone =
+    (r, without_slivers s.shard.contents id, rw is (forgotten (rw lends at may)), (refl, refl), ap (λ (z : ShardState). state_with z s.ledger) gone)
+
+pub forgets_not : (s : ServedState) (lent : LedgerState) (shard : ShardState) (id : BlobId) (r : Reply) → lent ≡ s.ledger → (MayForget lent.log s.shard.contents id → ⊥) → r ≡ refused 5
+    → shard ≡ s.shard → AnswersForget id s (reply_text r ∷ []) None (state_with shard s.ledger)
+forgets_not s lent shard id r lends not is stays =
+    (r, s.shard.contents, rw is (Forgets.kept (rw lends at not)), (refl, refl), ap (λ (z : ShardState). state_with z s.ledger) stays)
+
+-- what is put; the ledger is lent
+pub gives_put : (digest : List ℕ → List ℕ) (may_want : Bool) (s : ServedState) (lent : LedgerState) (shard : ShardState) (x : Frame) (answer : PutAnswer) (outcome : Result Reply MetaClash) → lent ≡ s.ledger
+    → PutsOrWants digest may_want (desk s.shard lent.log) s.shard.contents x answer shard.contents → outcome ≡ put_reply answer → ShowsTexts digest s.shard.contents x answer → shard ≡ with_contents s.shard shard.contents
+    → AnswersPut digest may_want x s (outcome_text outcome ∷ []) (clash_in outcome) (state_with shard s.ledger)
+gives_put digest may_want s lent shard x answer outcome lends puts is shows same =
+    (outcome, shard.contents, (answer, rw lends at puts, is, shows), (refl, refl), ap (λ (z : ShardState). state_with z s.ledger) same)

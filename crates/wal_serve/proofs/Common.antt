@@ -5,10 +5,10 @@ pub use Rattle.std.proofs.Math.Seq.{take-append-add, take-take, take_all, length
 pub use Rattle.std.proofs.lemmas.Bool.{false≢true, cases_lt}
 pub use Rattle.std.proofs.lemmas.Grind.{flat_map-append}
 pub use Rattle.std.proofs.lemmas.List.{length-append, length-drop, nil_from_length, take_at}
-pub use Rattle.std.specs.Io.KnownBytes.{Consumes, Appends, IsAtEnd, Keeps}
+pub use Rattle.std.specs.Io.KnownBytes.{Consumes, Appends, IsAtEnd}
 pub use Rattle.std.specs.Prelude.{⊤, is_some}
 pub use Rattle.wal_frame.proofs.StreamLaws.{head_parts, stream_grows, envelope_read}
-pub use Rattle.wal_frame.specs.Frame.{envelope, Frame, Ack, Attest, RegisterEntry, AckEntry, AttestEntry, IsFrame, frame_text, sliver_frame, Metadata, Sliver, Proof, Read, Symbol, Forget, metadata_kind, metadata_frame}
+pub use Rattle.wal_frame.specs.Frame.{envelope, Frame, Ack, Attest, RegisterEntry, AckEntry, AttestEntry, IsFrame, frame_text, Metadata, Sliver, Proof, Read, Symbol, Forget, metadata_kind, metadata_frame}
 pub use Rattle.wal_frame.specs.Front.{IsPart}
 pub use Rattle.wal_frame.specs.Reading.{read_of}
 pub use Rattle.wal_frame.specs.Shown.{frame_shown}
@@ -32,12 +32,12 @@ pub use Rattle.wal_shard.specs.declared.answers.PutAnswer.{PutAnswer}
 pub use Rattle.wal_store.specs.Contents.{Contents, parts_at}
 pub use Rattle.wal_store.specs.Parts.{Parts}
 pub use Rattle.wal_serve.specs.Answers.{AnswersRequest, AnswersEntry, AnswersFrame, AnswersRead, IsReplyOutcome, AnswersPut, IsReplied, AnswersForget}
-pub use Rattle.wal_serve.specs.Determined.{AnswersOnce, SameFrames, HasOneServing, SameEnd, SameServing, is_collision}
+pub use Rattle.wal_serve.specs.Determined.{AnswersOnce, SameFrames, HasOneServing, SameEnd, is_collision}
 pub use Rattle.wal_serve.specs.Reply.{clash_text, put_reply, done, malformed, no_request, overlong, reply_text, outcome_text, clash_in, IsRegisterReply, no_memory, refused, no_shard, refusal_reply}
-pub use Rattle.wal_serve.specs.Requests.{ClaimEntered, Entered, Vouched, asked, of_committee, of_none, unbacked, Forgets, Registered, forgotten, kept}
+pub use Rattle.wal_serve.specs.Requests.{ClaimEntered, Entered, Vouched, asked, of_committee, of_none, unbacked, Forgets, Registered, forgotten}
 pub use Rattle.wal_serve.specs.Saying.{sent}
 pub use Rattle.wal_serve.specs.Serving.{Table, Replies, Served, none, more, Serves, BreaksOff, Wrote, IsServed, EndsAt, EndsAtKnown, looked_at, read_past, NeverWants}
-pub use Rattle.wal_serve.specs.State.{ServedState, named, with_ledger}
+pub use Rattle.wal_serve.specs.State.{ServedState, named, with_ledger, holding}
 pub use Rattle.wal_serve.specs.declared.envelopes.Lack.{Lack}
 pub use Rattle.wal_serve.specs.declared.reply.Reply.{Reply}
 pub use Rattle.wal_serve.specs.declared.serving.ServeEnd.{ServeEnd}

@@ -1,13 +1,10 @@
 -- Two streams at the front of the same bytes: they are the same, or one of them goes on where the other ends.
-use Rattle.wal_serve.proofs.Common.{◌≡◌, ℕ, ◌+◌, ◌≤◌, List, [], ◌∷◌, ◌++◌, length, take, drop, Some, refl, sym, ap, ◌∙◌, append_assoc, arith, length-append, take_at, envelope, IsPayload, IsStream, envelope_read}
-
-parts_of : (a b : List ℕ × List ℕ) → Some a ≡ Some b → (a.0 ≡ b.0) × (a.1 ≡ b.1)
-parts_of a b same = (let pairs : a ≡ b = cc in (ap (λ (e : List ℕ × List ℕ). e.0) pairs, ap (λ (e : List ℕ × List ℕ). e.1) pairs))
+use Rattle.wal_serve.proofs.Common.{◌≡◌, ℕ, ◌+◌, ◌≤◌, List, [], ◌∷◌, ◌++◌, length, take, drop, refl, sym, ap, ◌∙◌, append_assoc, arith, length-append, take_at, envelope, IsPayload, IsStream, envelope_read}
 
 -- an envelope at the front is one
 pub one_envelope : (bytes : List ℕ) (s t : ℕ) (p q x y : List ℕ) → IsPayload p → IsPayload q → bytes ≡ envelope s p ++ x → bytes ≡ envelope t q ++ y → (p ≡ q) × (x ≡ y)
 one_envelope bytes s t p q x y fits also is_p is_q =
-    parts_of (p, x) (q, y) (sym (envelope_read bytes s p x fits is_p) ∙ envelope_read bytes t q y also is_q)
+    grind (arith, envelope_read bytes s p x fits is_p, envelope_read bytes t q y also is_q)
 
 -- fronts of one length are the same
 pub same_front : (front rest other behind : List ℕ) → front ++ rest ≡ other ++ behind → length front ≡ length other → front ≡ other
@@ -51,9 +48,9 @@ begins_now front rest q qs sender next other behind is fits parts all = record {
   within = omega (arith, ap length is, ap length parts, length-append (envelope sender q) next);
 }
 
-begins_later : (p q : List ℕ) (ps qs : List (List ℕ)) (s t : ℕ) (front rest other x y : List ℕ) → p ≡ q → front ≡ envelope s p ++ x → other ≡ envelope t q ++ y
-    → Longer ps x rest qs y → Longer (p ∷ ps) front rest (q ∷ qs) other
-begins_later p q ps qs s t front rest other x y one is also l = record {
+begins_later : {p q : List ℕ} {ps qs : List (List ℕ)} (s t : ℕ) {front rest other x y : List ℕ} → p ≡ q
+    → front ≡ envelope s p ++ x → other ≡ envelope t q ++ y → Longer ps x rest qs y → Longer (p ∷ ps) front rest (q ∷ qs) other
+begins_later {p} {q} s t {x} {y} one is also l = record {
   sender = l.sender;
   payload = l.payload;
   others = l.others;
@@ -61,15 +58,9 @@ begins_later p q ps qs s t front rest other x y one is also l = record {
   parts = cc (l.parts, one);
   fits = l.fits;
   begins = l.begins;
-  within = omega (arith, l.within, ap length one, ap length is, ap length also, length-append (envelope s p) x, length-append (envelope t q) y);
+  within =
+      omega (arith, l.within, ap length one, ap length is, ap length also, length-append (envelope s p) x, length-append (envelope t q) y);
 }
-
-compared_later : (p q : List ℕ) (ps qs : List (List ℕ)) (s t : ℕ) (front rest other behind x y : List ℕ) → p ≡ q → front ≡ envelope s p ++ x → other ≡ envelope t q ++ y
-    → Compared ps x rest qs y behind → Compared (p ∷ ps) front rest (q ∷ qs) other behind
-compared_later p q ps qs s t front rest other behind x y one is also (same equal long tails) =
-    same (cc (equal, one)) (omega (arith, long, ap length one, ap length is, ap length also, length-append (envelope s p) x, length-append (envelope t q) y)) tails
-compared_later p q ps qs s t front rest other behind x y one is also (less l) = less (begins_later p q ps qs s t front rest other x y one is also l)
-compared_later p q ps qs s t front rest other behind x y one is also (more l) = more (begins_later q p qs ps t s other behind front y x (sym one) also is l)
 
 pub compared : (ps qs : List (List ℕ)) (front rest other behind : List ℕ) → IsStream ps front → IsStream qs other → front ++ rest ≡ other ++ behind
     → Compared ps front rest qs other behind
@@ -80,7 +71,14 @@ compared [] (q ∷ qs) front rest other behind is (sender, next, fits, parts, st
 compared (p ∷ ps) [] front rest other behind (sender, next, fits, parts, stream) also all =
     more (begins_now other behind p ps sender next front rest also fits parts (sym all))
 compared (p ∷ ps) (q ∷ qs) front rest other behind (s, x, fits, is, stream) (t, y, fit, also, follows) all =
-    let here : front ++ rest ≡ envelope s p ++ (x ++ rest) = ap (λ (z : List ℕ). z ++ rest) is ∙ append_assoc (envelope s p) x rest in
-    let there : front ++ rest ≡ envelope t q ++ (y ++ behind) = all ∙ ap (λ (z : List ℕ). z ++ behind) also ∙ append_assoc (envelope t q) y behind in
+    let here : front ++ rest ≡ envelope s p ++ (x ++ rest) = cc (is, append_assoc (envelope s p) x rest) in
+    let there : front ++ rest ≡ envelope t q ++ (y ++ behind) = cc (all, also, append_assoc (envelope t q) y behind) in
     let one = one_envelope (front ++ rest) s t p q (x ++ rest) (y ++ behind) fits fit here there in
-    compared_later p q ps qs s t front rest other behind x y one.0 is also (compared ps qs x rest y behind stream follows one.1)
+    elim (compared ps qs x rest y behind stream follows one.1) [
+      | same equal long tails ↦
+          let sizes : length front ≡ length other =
+          omega (arith, long, ap length one.0, ap length is, ap length also, length-append (envelope s p) x, length-append (envelope t q) y) in
+          same (cc (equal, one.0)) sizes tails
+      | less l ↦ less (begins_later s t one.0 is also l)
+      | more l ↦ more (begins_later t s (sym one.0) also is l)
+    ]

@@ -1,11 +1,8 @@
 -- What serving answers leaves the epoch of the ledger, and who runs each shard in it, as they are.
-use Rattle.wal_serve.proofs.Common.{◌≡◌, ℕ, ◌<◌, Bool, true, List, Option, None, Result, Ok, Err, refl, ap, ◌∙◌, arith, BlobId, MetaClash, FrameError, Frame, Ack, Attest, RegisterEntry, AckEntry, AttestEntry, read_of, Kind, Holds, Denies, RegisterAnswer, committee_size, Log, LedgerState, reading, owners_at, owners_of, entered, takes_in, Reply, ServeEnd, ServedState, named, ClaimEntered, Entered, Vouched, asked, of_committee, of_none, unbacked, AnswersRequest, AnswersEntry, AnswersFrame, AnswersRead, Replies, Served, Serves, looked_at, more, none, read_past}
+use Rattle.wal_serve.proofs.Common.{◌≡◌, ℕ, ◌<◌, Bool, true, List, Option, None, Result, Ok, Err, refl, ap, ◌∙◌, arith, BlobId, MetaClash, FrameError, Frame, Ack, Attest, RegisterEntry, AckEntry, AttestEntry, read_of, Kind, Holds, Denies, RegisterAnswer, committee_size, Log, LedgerState, reading, owners_at, owners_of, entered, takes_in, Reply, ServeEnd, ServedState, named, ClaimEntered, Entered, Vouched, AnswersRequest, AnswersFrame, AnswersRead, Replies, Served, Serves, looked_at, more, none, read_past}
 use Rattle.wal_shape.specs.declared.axis.Side.TheVariants.{Now}
 use Rattle.wal_ledger.specs.declared.entry.Body.{Body}
 use Rattle.wal_ledger.specs.declared.entry.Body.TheVariants.{Register}
-use Rattle.wal_ledger.specs.declared.answers.RegisterAnswer.TheVariants as registering
-use Rattle.wal_ledger.specs.declared.answers.AckAnswer.TheVariants as acking
-use Rattle.wal_ledger.specs.declared.answers.AttestAnswer.TheVariants as attesting
 use Rattle.wal_shape.specs.Owners.{node_of}
 use Rattle.wal_ledger.specs.Answers.{Registers, claim_of}
 use Rattle.wal_ledger.proofs.HandoverEntries.{is_plain, plain_stays}
@@ -37,37 +34,28 @@ one_entry old new b plain is =
     (record { reading = stays.reading; owners = ap (owners_at (entered old.log b)) stays.reading ∙ stays.owners (reading old.log) })
 
 claimed : (kind : Kind) (old : LedgerState) (shard : ℕ) (id : BlobId) (r : Reply) (new : LedgerState) → ClaimEntered kind old shard id r new → KeepsEpoch old.log new.log
-claimed Holds old shard id r new (acking.Counted count, h, is) = one_entry old new (claim_of Holds shard id) refl h.0.2
-claimed Holds old shard id r new (acking.Certified count, h, is) = one_entry old new (claim_of Holds shard id) refl h.0.2
-claimed Holds old shard id r new (answer, h, is) = same_ledger old new (grind arith)
-claimed Denies old shard id r new (attesting.Counted count, h, is) = one_entry old new (claim_of Denies shard id) refl h.0.2
-claimed Denies old shard id r new (attesting.Invalid count, h, is) = one_entry old new (claim_of Denies shard id) refl h.0.2
-claimed Denies old shard id r new (answer, h, is) = same_ledger old new (grind arith)
+claimed Holds old shard id r new h =
+    grind (arith, same_ledger old new, one_entry old new (claim_of Holds shard id) refl)
+claimed Denies old shard id r new h =
+    grind (arith, same_ledger old new, one_entry old new (claim_of Denies shard id) refl)
 
 vouched : (kind : Kind) (old : ServedState) (id : BlobId) (r : Reply) (new : LedgerState) → Vouched kind old id r new → KeepsEpoch old.ledger.log new.log
-vouched kind old id _ _ (unbacked why vouches) = same_ledger old.ledger old.ledger refl
-vouched kind old id _ _ (asked r new vouches claim) = claimed kind old.ledger old.shard.index id r new claim
+vouched kind old id r new h = grind (arith, claimed, same_ledger old.ledger old.ledger refl)
 
 in_committee : (kind : Kind) (old : LedgerState) (shard : ℕ) (id : BlobId) (r : Reply) (new : LedgerState) → Entered kind old shard id r new → KeepsEpoch old.log new.log
-in_committee kind old shard id _ _ (of_committee r new lt claim) = claimed kind old shard id r new claim
-in_committee kind old shard id _ _ (of_none outside) = same_ledger old old refl
+in_committee kind old shard id r new h = grind (arith, claimed, same_ledger old old refl)
 
 registers : (old : LedgerState) (id : BlobId) (until : ℕ) (answer : RegisterAnswer) (new : LedgerState) → Registers old id until answer new → KeepsEpoch old.log new.log
-registers old id until (registering.Registered most) new h = one_entry old new (Register id until) refl h.2
-registers old id until answer new h = same_ledger old new (grind arith)
-
--- what is answered to an entry
-by_entry : (Makes : Reply → LedgerState → Type 0) (old new : ServedState) (frames : List (List ℕ)) (clash : Option MetaClash)
-    → ((r : Reply) (ledger : LedgerState) → Makes r ledger → KeepsEpoch old.ledger.log ledger.log) → AnswersEntry Makes old frames clash new → KeepsEpoch old.ledger.log new.ledger.log
-by_entry Makes old new frames clash each h = rw h.4 (each h.0 h.1 h.2)
+registers old id until answer new h =
+    grind (arith, same_ledger old new, one_entry old new (Register id until) refl)
 
 module _ (digest : List ℕ → List ℕ) (may_want : Bool) (old new : ServedState) (frames : List (List ℕ)) (clash : Option MetaClash) where
   by_frame : (frame : Frame) → AnswersFrame digest may_want frame old frames clash new → KeepsEpoch old.ledger.log new.ledger.log
-  by_frame (Ack id) h = by_entry _ old new frames clash (vouched Holds old (named id)) h
-  by_frame (Attest id) h = by_entry _ old new frames clash (vouched Denies old (named id)) h
-  by_frame (RegisterEntry id until) h = by_entry _ old new frames clash (λ r ledger made. registers old.ledger (named id) until made.0 ledger made.1) h
-  by_frame (AckEntry shard id) h = by_entry _ old new frames clash (in_committee Holds old.ledger shard (named id)) h
-  by_frame (AttestEntry shard id) h = by_entry _ old new frames clash (in_committee Denies old.ledger shard (named id)) h
+  by_frame (Ack id) h = rw h.4 (vouched Holds old (named id) h.0 h.1 h.2)
+  by_frame (Attest id) h = rw h.4 (vouched Denies old (named id) h.0 h.1 h.2)
+  by_frame (RegisterEntry id until) h = rw h.4 (registers old.ledger (named id) until h.2.0 h.1 h.2.1)
+  by_frame (AckEntry shard id) h = rw h.4 (in_committee Holds old.ledger shard (named id) h.0 h.1 h.2)
+  by_frame (AttestEntry shard id) h = rw h.4 (in_committee Denies old.ledger shard (named id) h.0 h.1 h.2)
   by_frame frame h = same_ledger old.ledger new.ledger (grind arith)
 
   by_read : (read : Result Frame FrameError) → AnswersRead digest may_want read old frames clash new → KeepsEpoch old.ledger.log new.ledger.log

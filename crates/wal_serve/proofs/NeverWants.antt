@@ -1,12 +1,9 @@
 -- Over a keep that never wants memory no frame that serving answers says so.
-use Rattle.wal_serve.proofs.Common.{◌≡◌, ℕ, ⊎_elim, Bool, false, List, [], ◌∷◌, ◌++◌, length, Option, Some, None, Result, Ok, Err, sym, ap, subst, arith, false≢true, BlobId, MetaClash, Axis, FrameError, Frame, Metadata, Sliver, Proof, Read, Symbol, Ack, Attest, Forget, RegisterEntry, AckEntry, AttestEntry, metadata_kind, metadata_frame, read_of, Kind, Holds, Denies, RegisterAnswer, Log, LedgerState, Contents, parts_at, Parts, PutAnswer, OpeningReply, SymbolReplies, given, metadata_reply, not_held, payload_if, primary_reply, proof_reply, read_reply_of, PutDesk, PutsOrWants, Reply, ServedState, named, IsRegisterReply, clash_text, done, malformed, no_memory, no_request, outcome_text, overlong, put_reply, reply_text, ClaimEntered, Entered, Forgets, Vouched, AnswersRequest, AnswersEntry, AnswersFrame, AnswersPut, AnswersRead, IsReplyOutcome, IsReplied, NeverWants, Replies, Served, looked_at, more, none, read_past}
+use Rattle.wal_serve.proofs.Common.{◌≡◌, ℕ, ⊎_elim, Bool, false, List, [], ◌∷◌, ◌++◌, length, Option, Some, None, Result, Ok, Err, ap, arith, false≢true, BlobId, MetaClash, Axis, FrameError, Frame, Metadata, Sliver, Proof, Read, Symbol, metadata_kind, metadata_frame, read_of, Kind, Holds, Denies, RegisterAnswer, Log, LedgerState, Contents, parts_at, Parts, PutAnswer, OpeningReply, SymbolReplies, given, metadata_reply, payload_if, primary_reply, proof_reply, read_reply_of, PutDesk, PutsOrWants, Reply, ServedState, named, IsRegisterReply, clash_text, done, malformed, no_memory, no_request, outcome_text, overlong, put_reply, reply_text, ClaimEntered, Entered, Forgets, Vouched, AnswersRequest, AnswersFrame, AnswersPut, AnswersRead, IsReplyOutcome, IsReplied, NeverWants, Replies, Served, looked_at, more, none, read_past}
 use Rattle.std.specs.List.{Contains}
 use Rattle.std.proofs.lemmas.List.Elements.{Contains-append_cases, Contains-push_cases}
 use Rattle.wal_shape.specs.declared.shape.Format.{Format}
-use Rattle.wal_shape.specs.declared.shape.Format.TheVariants.{One, Two}
 use Rattle.wal_shape.specs.MetadataReading.{spelled_metadata}
-use Rattle.wal_shard.specs.declared.answers.PutAnswer.TheVariants as putting
-use Rattle.wal_shard.specs.Holding.{no_shard}
 
 -- ---- frames
 
@@ -45,8 +42,7 @@ if_held None payload not = no_frames
 if_held (Some bytes) payload not = of_kind (payload bytes) (not bytes)
 
 kind_not : (format : Format) → metadata_kind format ≡ 0x30 → ⊥
-kind_not One e = omega (arith, e)
-kind_not Two e = omega (arith, e)
+kind_not format e = grind arith
 
 metadata_calm : (p : Parts) → Calm (metadata_reply p)
 metadata_calm p = if_held p.metadata (λ bytes. metadata_frame (spelled_metadata bytes)) (λ bytes e. kind_not (spelled_metadata bytes).format e)
@@ -62,8 +58,7 @@ read_calm id shard p = both (metadata_reply p) (primary_reply id shard p ++ proo
 
 opening_calm : (digest : List ℕ → List ℕ) (id : List ℕ) (shard : ℕ) (p : Parts) (axis : Axis) (index : ℕ) (frames : List (List ℕ)) → OpeningReply digest id shard p axis index frames → Calm frames
 opening_calm digest id shard p axis index _ (given m sliver o holds at less cross is) = of_kind _ (λ e. omega (arith, e))
-opening_calm digest id shard p axis index _ (not_held absent) = no_frames
-opening_calm digest id shard p axis index _ (no_shard m holds not) = no_frames
+opening_calm digest id shard p axis index _ nothing = no_frames
 
 symbols_calm : (digest : List ℕ → List ℕ) (id : List ℕ) (shard : ℕ) (p : Parts) (axis : Axis) (index : ℕ) (frames : List (List ℕ)) → SymbolReplies digest id shard p axis index frames → Calm frames
 symbols_calm digest id shard p axis index frames s =
@@ -88,32 +83,23 @@ register_calm answer r is e = grind arith
 forget_calm : (log : Log) (old : Contents) (id : BlobId) (r : Reply) (new : Contents) → Forgets log old id r new → r.code ≡ 7 → ⊥
 forget_calm log old id r new h e = grind arith
 
-fault_calm : (fault : FrameError) → (malformed fault).code ≡ 7 → ⊥
-fault_calm fault e = grind arith
-
 -- ---- requests
 
 told : (r : Reply) (frames : List (List ℕ)) (clash : Option MetaClash) → IsReplyOutcome (Ok r) frames clash → (r.code ≡ 7 → ⊥) → Calm frames
 told r frames clash is not = rw is.0 (of_code r not)
 
 put_calm : (digest : List ℕ → List ℕ) (d : PutDesk) (old new : Contents) (frame : Frame) (answer : PutAnswer) → PutsOrWants digest false d old frame answer new → Calm (outcome_text (put_reply answer) ∷ [])
-put_calm digest d old new frame (putting.OtherMetadata clash) h = of_kind (clash_text clash) (λ e. omega (arith, e))
-put_calm digest d old new frame putting.Memory h = absurd (false≢true h.0)
+put_calm digest d old new frame (PutAnswer.OtherMetadata clash) h = of_kind (clash_text clash) (λ e. omega (arith, e))
+put_calm digest d old new frame PutAnswer.Memory h = absurd (false≢true h.0)
 put_calm digest d old new frame answer h = one_frame (outcome_text (put_reply answer)) (λ same. omega (arith, ap second_of same))
 
 replied : (payloads frames : List (List ℕ)) (clash : Option MetaClash) → IsReplied payloads frames clash → Calm payloads → Calm frames
 replied payloads frames clash is calm =
     rw is.0 (both payloads (reply_text (done (length payloads)) ∷ []) calm (of_code (done (length payloads)) (λ e. omega (arith, e))))
 
-by_entry : (Makes : Reply → LedgerState → Type 0) (old new : ServedState) (frames : List (List ℕ)) (clash : Option MetaClash)
-    → ((r : Reply) (ledger : LedgerState) → Makes r ledger → r.code ≡ 7 → ⊥) → AnswersEntry Makes old frames clash new → Calm frames
-by_entry Makes old new frames clash each h = told h.0 frames clash h.3 (each h.0 h.1 h.2)
-
 module _ (digest : List ℕ → List ℕ) (old new : ServedState) (frames : List (List ℕ)) (clash : Option MetaClash) where
   by_put : (frame : Frame) → AnswersPut digest false frame old frames clash new → Calm frames
-  by_put frame h =
-      rw h.3.0
-      (subst (λ (o : Result Reply MetaClash). Calm (outcome_text o ∷ [])) (sym h.2.2) (put_calm digest _ old.shard.contents h.1 frame h.2.0 h.2.1))
+  by_put frame h = rw (h.3.0, h.2.2) (put_calm digest _ old.shard.contents h.1 frame h.2.0 h.2.1)
 
   by_frame : (frame : Frame) → AnswersFrame digest false frame old frames clash new → Calm frames
   by_frame (Metadata m) h = by_put _ h
@@ -121,17 +107,14 @@ module _ (digest : List ℕ → List ℕ) (old new : ServedState) (frames : List
   by_frame (Proof id p) h = by_put _ h
   by_frame (Read id) h = replied _ frames clash h.0 (read_calm id old.shard.index (parts_at old.shard.contents (named id)))
   by_frame (Symbol id axis index) h = replied h.0 frames clash h.2 (symbols_calm digest id old.shard.index (parts_at old.shard.contents (named id)) axis index h.0 h.1)
-  by_frame (Ack id) h = by_entry _ old new frames clash (vouched_calm Holds old (named id)) h
-  by_frame (Attest id) h = by_entry _ old new frames clash (vouched_calm Denies old (named id)) h
-  by_frame (Forget id) h = told h.0 frames clash h.3 (forget_calm old.ledger.log old.shard.contents (named id) h.0 h.1 h.2)
-  by_frame (RegisterEntry id until) h = by_entry _ old new frames clash (λ r ledger made. register_calm made.0 r made.2) h
-  by_frame (AckEntry shard id) h = by_entry _ old new frames clash (entered_calm Holds old.ledger shard (named id)) h
-  by_frame (AttestEntry shard id) h = by_entry _ old new frames clash (entered_calm Denies old.ledger shard (named id)) h
-  by_frame frame h = told no_request frames clash h.0 (λ e. omega (arith, e))
+  by_frame (Frame.Opening id axis index o) h = told no_request frames clash h.0 (λ e. omega (arith, e))
+  by_frame (Frame.Answer code a b) h = told no_request frames clash h.0 (λ e. omega (arith, e))
+  by_frame (Frame.Clash left right) h = told no_request frames clash h.0 (λ e. omega (arith, e))
+  by_frame frame h = told h.0 frames clash h.3 (λ e. grind (arith, vouched_calm, entered_calm, forget_calm, register_calm))
 
   by_read : (read : Result Frame FrameError) → AnswersRead digest false read old frames clash new → Calm frames
   by_read (Ok frame) h = by_frame frame h
-  by_read (Err fault) h = told (malformed fault) frames clash h.0 (fault_calm fault)
+  by_read (Err fault) h = told (malformed fault) frames clash h.0 (λ e. grind arith)
 
 module _ (digest : List ℕ → List ℕ) (room : ℕ) (fresh : ServedState) where
   by_reply : (mid new : ServedState) (payload : List ℕ) (frames : List (List ℕ)) (clash : Option MetaClash) → Replies (AnswersRequest digest false) room mid payload frames clash new → Calm frames
@@ -148,4 +131,4 @@ module _ (digest : List ℕ → List ℕ) (room : ℕ) (fresh : ServedState) whe
 
 -- over any keep that never wants memory
 pub never_wants : (digest : List ℕ → List ℕ) (may_want : Bool) (room limit : ℕ) (fresh : ServedState) → may_want ≡ false → NeverWants (AnswersRequest digest may_want) room limit fresh
-never_wants digest may_want room limit fresh never = subst (λ (b : Bool). NeverWants (AnswersRequest digest b) room limit fresh) (sym never) (by_end digest room fresh limit)
+never_wants digest may_want room limit fresh never = rw never (by_end digest room fresh limit)

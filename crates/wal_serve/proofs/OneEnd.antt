@@ -1,9 +1,7 @@
 -- Where a source tells its bytes, serving ends in one way, if the table has one answer to each payload.
-use Rattle.wal_serve.proofs.Common.{◌≡◌, ℕ, ◌+◌, ◌<◌, ◌≤◌, List, [], ◌∷◌, ◌++◌, length, Option, Some, None, refl, sym, ap, subst, ◌∙◌, append_assoc, append-nil, arith, true, true≢false, length-append, is_some, MetaClash, envelope, IsPart, IsPayload, IsStream, ServeEnd, Done, Malformed, TooLong, Collision, Serves, Table, HasOneServing, SameEnd, SameServing, is_collision, IsSingle}
-use Rattle.wal_serve.specs.Serving as serving
-use Rattle.wal_serve.proofs.Fronts as fronts
-use Rattle.wal_serve.proofs.Fronts.{Compared, Longer, compared, same_front, shorter_front}
-use Rattle.wal_serve.proofs.OneServed.{Goes, one_going, served_goes, stopped_before}
+use Rattle.wal_serve.proofs.Common.{◌≡◌, ℕ, ◌+◌, ◌<◌, ◌≤◌, List, [], ◌∷◌, ◌++◌, length, Option, Some, None, refl, sym, ap, ◌∙◌, append_assoc, append-nil, arith, true, true≢false, length-append, is_some, MetaClash, envelope, IsPart, IsPayload, ServeEnd, Done, Malformed, TooLong, Collision, Serves, Table, HasOneServing, SameEnd, is_collision, IsSingle}
+use Rattle.wal_serve.proofs.Fronts.{Longer, same_front, shorter_front}
+use Rattle.wal_serve.proofs.OneServed.{Went, went, both_went, stopped_before}
 
 -- why serving ended behind `n` bytes of envelopes, where this tail of the source followed, of which `long` bytes were taken
 pub data Why (limit n : ℕ) (tail : List ℕ) (clash : Option MetaClash) (long : ℕ) : ServeEnd → Type 0 where
@@ -86,54 +84,34 @@ module _ (limit n : ℕ) (tail : List ℕ) where
 -- ---- one end
 
 module _ {C : Type 0} (Answer : Table C) (room limit : ℕ) (fresh : C) (input : List ℕ) where
-  -- serving ended so: the envelopes of these payloads stand at the front of the source, and were answered so
-  pub record Ended (taken : List ℕ) (frames : List (List ℕ)) (state : C) (end : ServeEnd) : Type 0 where
-    pub front : List ℕ
-    pub tail : List ℕ
-    pub payloads : List (List ℕ)
-    pub clash : Option MetaClash
-    pub long : ℕ
-    pub parts : input ≡ front ++ tail
-    pub stream : IsStream payloads front
-    pub goes : Goes Answer room payloads fresh frames clash state
-    pub size : length taken ≡ length front + long
-    pub why : Why limit (length front) tail clash long end
-
-  ended : {taken front : List ℕ} {frames : List (List ℕ)} {clash : Option MetaClash} {state : C} {long : ℕ} {end : ServeEnd}
-      (tail : List ℕ) → input ≡ front ++ tail → serving.Served Answer room fresh front frames clash state
-      → length taken ≡ length front + long → Why limit (length front) tail clash long end → Ended taken frames state end
-  ended {taken} {front} {frames} {clash} {state} {long} tail parts served size why =
-      let goes = served_goes Answer room fresh front frames clash state served in
-      record {
-        front = front;
-        tail = tail;
-        payloads = goes.0;
-        clash = clash;
-        long = long;
-        parts = parts;
-        stream = goes.1;
-        goes = goes.2;
-        size = size;
-        why = why;
-      }
+  -- serving ended so
+  abbrev Ended : List ℕ → List (List ℕ) → C → ServeEnd → Type 0
+  Ended taken frames state end =
+      Went Answer room fresh input
+      (λ n tail clash. (long : ℕ) × (length taken ≡ n + long) × Why limit n tail clash long end) frames state
 
   ended_by : (taken rest : List ℕ) (frames : List (List ℕ)) (state : C) (end : ServeEnd) → input ≡ taken ++ rest → Serves Answer room limit fresh taken (rest ≡ []) ⊥ ⊥ frames state end
       → Ended taken frames state end
-  ended_by taken rest frames state _ is (serving.done all within at_end) = ended rest is all (omega arith) (done refl at_end within refl)
-  ended_by taken rest frames state _ is (serving.stopped clash before all within last) = ended rest is all (omega arith) (stopped clash refl within refl)
-  ended_by taken rest frames state _ is (serving.wrong front b parts bad some within) =
+  ended_by taken rest frames state _ is (Serves.done all within at_end) =
+      went rest is all (0, omega arith, done refl at_end within refl)
+  ended_by taken rest frames state _ is (Serves.stopped clash before all within last) =
+      went rest is all (0, omega arith, stopped clash refl within refl)
+  ended_by taken rest frames state _ is (Serves.wrong front b parts bad some within) =
       let size : length taken ≡ length front + 1 = omega (arith, ap length parts, length-append front (b ∷ [])) in
-      ended (b ∷ rest) (cc (is, parts, append_assoc front (b ∷ []) rest)) some size (wrong b rest refl refl bad (omega (arith, size, within)) refl)
-  ended_by taken rest frames state _ is (serving.cut front piece parts part long some within at_end) =
+      went (b ∷ rest) (cc (is, parts, append_assoc front (b ∷ []) rest)) some
+      (1, size, wrong b rest refl refl bad (omega (arith, size, within)) refl)
+  ended_by taken rest frames state _ is (Serves.cut front piece parts part long some within at_end) =
       let size : length taken ≡ length front + length piece = omega (arith, ap length parts, length-append front piece) in
-      ended piece (cc (is, parts, at_end, append-nil taken)) some size (cut refl part long (omega (arith, size, within)) refl)
-  ended_by taken rest frames state _ is (serving.too_long front piece b parts part some past) =
+      went piece (cc (is, parts, at_end, append-nil taken)) some
+      (length piece, size, cut refl part long (omega (arith, size, within)) refl)
+  ended_by taken rest frames state _ is (Serves.too_long front piece b parts part some past) =
       let size : length taken ≡ length front + (length piece + 1) =
       omega (arith, ap length parts, length-append front (piece ++ b ∷ []), length-append piece (b ∷ [])) in
-      ended (piece ++ b ∷ rest) (cc (is, parts, append_assoc front (piece ++ b ∷ []) rest, append_assoc piece (b ∷ []) rest)) some size
-      (too_long piece b rest refl refl part (omega (arith, size, past)) refl)
-  ended_by taken rest frames state _ is (serving.read_fault front piece parts part some within rose) = absurd rose
-  ended_by taken rest frames state _ is (serving.write_fault clash all within rose) = absurd rose
+      went (piece ++ b ∷ rest)
+      (cc (is, parts, append_assoc front (piece ++ b ∷ []) rest, append_assoc piece (b ∷ []) rest)) some
+      (length piece + 1, size, too_long piece b rest refl refl part (omega (arith, size, past)) refl)
+  ended_by taken rest frames state _ is (Serves.read_fault front piece parts part some within rose) = absurd rose
+  ended_by taken rest frames state _ is (Serves.write_fault clash all within rose) = absurd rose
 
   module _ (single : IsSingle Answer) where
     -- one of them did not go on where the other one did
@@ -143,37 +121,31 @@ module _ {C : Type 0} (Answer : Table C) (room limit : ℕ) (fresh : C) (input :
         by a.clash refl
       where
         by : (clash : Option MetaClash) → a.clash ≡ clash → ⊥
-        by None calm = none_follows limit (length a.front) (length b.front) a.tail a.clash a.long end l.sender l.payload l.after a.why calm l.fits l.begins l.within
-            (why_within limit (length b.front) b.tail b.clash b.long other b.why)
+        by None calm =
+            none_follows limit (length a.front) (length b.front) a.tail a.clash a.why.0 end l.sender l.payload l.after
+            a.why.2 calm l.fits l.begins l.within
+            (why_within limit (length b.front) b.tail b.clash b.why.0 other b.why.2)
         by (Some texts) is =
             stopped_before Answer room single a.payloads l.payload l.others fresh frames others a.clash b.clash texts state then is a.goes
-            (subst (λ (ps : List (List ℕ)). Goes Answer room ps fresh others b.clash then) l.parts b.goes)
-
-    same_tail : (taken given rest after : List ℕ) (frames others : List (List ℕ)) (state then : C) (end other : ServeEnd) (a : Ended taken frames state end) (b : Ended given others then other)
-        → input ≡ taken ++ rest → input ≡ given ++ after → a.payloads ≡ b.payloads → length a.front ≡ length b.front → a.tail ≡ b.tail
-        → SameServing taken given frames others state then end other
-    same_tail taken given rest after frames others state then end other a b is also same_payloads sizes tails =
-        let goes = subst (λ (ps : List (List ℕ)). Goes Answer room ps fresh frames a.clash state) same_payloads a.goes in
-        let one = one_going Answer room single b.payloads fresh frames others a.clash b.clash state then goes b.goes in
-        let reason = one_why limit (length b.front) b.tail a.clash b.clash a.long b.long one.stops end other (rw (tails, sizes) at a.why) b.why in
-        let collides = why_collides limit (length a.front) a.tail a.clash a.long end a.why in
-        record {
-          taken = same_front taken rest given after (sym is ∙ also) (a.size ∙ omega (arith, sizes, reason.1) ∙ sym b.size);
-          ends = reason.0;
-          frames = λ calm. one.frames (sym collides ∙ calm);
-          last = λ stops. one.last (sym collides ∙ stops);
-          state = one.state;
-        }
+            (rw l.parts at b.goes)
 
     -- ONE WAY to serve the bytes of a source
     pub one_serving : HasOneServing Answer room limit fresh input
     one_serving taken rest given after frames others state then end other is also serves served =
         let a = ended_by taken rest frames state end is serves in
         let b = ended_by given after others then other also served in
-        by a b (compared a.payloads b.payloads a.front a.tail b.front b.tail a.stream b.stream (sym a.parts ∙ b.parts))
-      where
-        by : (a : Ended taken frames state end) (b : Ended given others then other) → Compared a.payloads a.front a.tail b.payloads b.front b.tail
-            → SameServing taken given frames others state then end other
-        by a b (fronts.same payloads sizes tails) = same_tail taken given rest after frames others state then end other a b is also payloads sizes tails
-        by a b (fronts.less l) = absurd (not_longer taken given frames others state then end other a b l)
-        by a b (fronts.more l) = absurd (not_longer given taken others frames then state other end b a l)
+        let (one, sizes, tails) =
+        both_went single a b (not_longer taken given frames others state then end other a b)
+        (not_longer given taken others frames then state other end b a) in
+        let reason =
+        one_why limit (length b.front) b.tail a.clash b.clash a.why.0 b.why.0 one.stops end other
+        (rw (tails, sizes) at a.why.2) b.why.2 in
+        let collides = why_collides limit (length a.front) a.tail a.clash a.why.0 end a.why.2 in
+        record {
+          taken =
+              same_front taken rest given after (sym is ∙ also) (omega (arith, a.why.1, sizes, reason.1, b.why.1));
+          ends = reason.0;
+          frames = λ calm. one.frames (sym collides ∙ calm);
+          last = λ stops. one.last (sym collides ∙ stops);
+          state = one.state;
+        }

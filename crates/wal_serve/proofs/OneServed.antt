@@ -1,6 +1,6 @@
 -- A table that has one answer to each payload serves payloads in one way.
 use Rattle.wal_serve.proofs.Common.{◌≡◌, ◌⊎◌, ℕ, inl, inr, List, [], ◌∷◌, ◌++◌, length, Option, Some, None, refl, sym, ap, subst, ◌∙◌, append_assoc, append-nil, arith, true≢false, false≢true, length-append, is_some, MetaClash, IsStream, stream_grows, clash_text, Table, Replies, Served, IsSingle, SameAnswer}
-use Rattle.wal_serve.specs.Serving as serving
+use Rattle.wal_serve.proofs.Fronts.{Compared, Longer, compared}
 
 module _ {C : Type 0} (Answer : Table C) (room : ℕ) where
   -- the first payload stops serving
@@ -39,8 +39,8 @@ module _ {C : Type 0} (Answer : Table C) (room : ℕ) where
   -- what was served is the envelopes of payloads that were answered so
   pub served_goes : (fresh : C) (taken : List ℕ) (frames : List (List ℕ)) (clash : Option MetaClash) (state : C) → Served Answer room fresh taken frames clash state
       → (payloads : List (List ℕ)) × IsStream payloads taken × Goes payloads fresh frames clash state
-  served_goes fresh _ _ _ _ serving.none = ([], refl, (refl, refl, refl))
-  served_goes fresh _ _ _ _ (serving.more front frames mid before sender payload some clash new fits replies) =
+  served_goes fresh _ _ _ _ Served.none = ([], refl, (refl, refl, refl))
+  served_goes fresh _ _ _ _ (Served.more front frames mid before sender payload some clash new fits replies) =
       let first = served_goes fresh front frames None mid before in (
         first.0 ++ payload ∷ [],
         stream_grows first.0 front sender payload first.1 fits,
@@ -50,11 +50,11 @@ module _ {C : Type 0} (Answer : Table C) (room : ℕ) where
   module _ (single : IsSingle Answer) where
     one_reply : (old : C) (payload : List ℕ) (frames others : List (List ℕ)) (clash second : Option MetaClash) (new then : C) → Replies Answer room old payload frames clash new
         → Replies Answer room old payload others second then → SameAnswer frames others clash second new then
-    one_reply old payload frames others clash second new then (serving.looked_at f c n few is) (serving.looked_at g d m less also) = single old payload f g c d n m is also
-    one_reply old payload frames others clash second new then (serving.read_past many) (serving.read_past much) =
+    one_reply old payload frames others clash second new then (Replies.looked_at f c n few is) (Replies.looked_at g d m less also) = single old payload f g c d n m is also
+    one_reply old payload frames others clash second new then (Replies.read_past many) (Replies.read_past much) =
         record { stops = refl; frames = λ calm. refl; last = λ stops. absurd (false≢true stops); state = refl }
-    one_reply old payload frames others clash second new then (serving.looked_at f c n few is) (serving.read_past many) = absurd (omega (arith, few, many))
-    one_reply old payload frames others clash second new then (serving.read_past many) (serving.looked_at g d m less also) = absurd (omega (arith, less, many))
+    one_reply old payload frames others clash second new then (Replies.looked_at f c n few is) (Replies.read_past many) = absurd (omega (arith, few, many))
+    one_reply old payload frames others clash second new then (Replies.read_past many) (Replies.looked_at g d m less also) = absurd (omega (arith, less, many))
 
     -- one of two stops serving
     not_both : (old : C) (payload : List ℕ) (frames others : List (List ℕ)) (clash : Option MetaClash) (texts : MetaClash) (new then : C) → clash ≡ Some texts
@@ -107,3 +107,38 @@ module _ {C : Type 0} (Answer : Table C) (room : ℕ) where
     stopped_before (first ∷ payloads) payload more old frames others clash second texts new then is (inr (some, mid, answers, rest, goes, is_all)) (inr (head, here, replies, behind, goes_on, also)) =
         let one = one_reply old first some head None None mid here answers replies in
         stopped_before payloads payload more here rest behind clash second texts new then is (subst (λ (c : C). Goes payloads c rest clash new) one.state goes) goes_on
+
+  module _ (fresh : C) (input : List ℕ) where
+    -- the envelopes of these payloads stand at the front and were answered so, and this is why no more were
+    pub record Went (Why : ℕ → List ℕ → Option MetaClash → Type 0) (frames : List (List ℕ)) (state : C) : Type 0 where
+      pub front : List ℕ
+      pub tail : List ℕ
+      pub payloads : List (List ℕ)
+      pub clash : Option MetaClash
+      pub parts : input ≡ front ++ tail
+      pub stream : IsStream payloads front
+      pub goes : Goes payloads fresh frames clash state
+      pub why : Why (length front) tail clash
+
+module _ {C : Type 0} {Answer : Table C} {room : ℕ} {fresh : C} {input : List ℕ} {Why : ℕ → List ℕ → Option MetaClash → Type 0} where
+  pub went : {front : List ℕ} {frames : List (List ℕ)} {clash : Option MetaClash} {state : C} (tail : List ℕ) → input ≡ front ++ tail
+      → Served Answer room fresh front frames clash state → Why (length front) tail clash → Went Answer room fresh input Why frames state
+  went {front} {frames} {clash} {state} tail parts served why =
+      let goes = served_goes Answer room fresh front frames clash state served in
+      record { front = front; tail = tail; payloads = goes.0; clash = clash; parts = parts; stream = goes.1; goes = goes.2; why = why }
+
+  -- two that neither went on where the other one ended were answered in one way
+  pub both_went : IsSingle Answer → {Also : ℕ → List ℕ → Option MetaClash → Type 0} {xs ys : List (List ℕ)} {new then : C}
+      (a : Went Answer room fresh input Why xs new) (b : Went Answer room fresh input Also ys then) → (Longer a.payloads a.front a.tail b.payloads b.front → ⊥)
+      → (Longer b.payloads b.front b.tail a.payloads a.front → ⊥)
+      → SameAnswer xs ys a.clash b.clash new then × (length a.front ≡ length b.front) × (a.tail ≡ b.tail)
+  both_went single {xs} {ys} {new} {then} a b no_more no_less =
+      by (compared a.payloads b.payloads a.front a.tail b.front b.tail a.stream b.stream (sym a.parts ∙ b.parts))
+    where
+      by : Compared a.payloads a.front a.tail b.payloads b.front b.tail
+          → SameAnswer xs ys a.clash b.clash new then × (length a.front ≡ length b.front) × (a.tail ≡ b.tail)
+      by (Compared.same payloads sizes tails) =
+          let goes = rw payloads at a.goes in
+          (one_going Answer room single b.payloads fresh xs ys a.clash b.clash new then goes b.goes, sizes, tails)
+      by (Compared.less l) = absurd (no_more l)
+      by (Compared.more l) = absurd (no_less l)

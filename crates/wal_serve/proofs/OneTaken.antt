@@ -1,9 +1,7 @@
 -- What was taken is answered in one way, whatever ended serving, if the table has one answer to each payload.
-use Rattle.wal_serve.proofs.Common.{◌≡◌, inl, inr, ℕ, ◌+◌, ◌≤◌, List, [], ◌∷◌, ◌++◌, length, Option, Some, None, refl, sym, ap, subst, ◌∙◌, append-nil, arith, length-append, ⊤, MetaClash, envelope, IsPart, IsPayload, IsStream, ServeEnd, Serves, Table, AnswersOnce, SameFrames, IsSingle, SameAnswer}
-use Rattle.wal_serve.specs.Serving as serving
-use Rattle.wal_serve.proofs.Fronts as fronts
-use Rattle.wal_serve.proofs.Fronts.{Compared, Longer, compared}
-use Rattle.wal_serve.proofs.OneServed.{Goes, one_going, served_goes}
+use Rattle.wal_serve.proofs.Common.{◌≡◌, inl, inr, ℕ, ◌+◌, ◌≤◌, List, [], ◌∷◌, ◌++◌, length, Option, Some, None, refl, sym, ap, append-nil, arith, length-append, ⊤, MetaClash, envelope, IsPart, IsPayload, ServeEnd, Serves, Table, AnswersOnce, SameFrames, IsSingle, SameAnswer, Served}
+use Rattle.wal_serve.proofs.Fronts.{Longer}
+use Rattle.wal_serve.proofs.OneServed.{Went, went, both_went}
 use Rattle.wal_serve.proofs.OneEnd.{first_byte, no_bytes, none_within, part_begins}
 
 -- why nothing was answered behind `n` bytes of envelopes, where this tail was taken behind them
@@ -22,61 +20,48 @@ none_left : (limit n m : ℕ) (tail : List ℕ) (sender : ℕ) (payload after : 
 none_left limit n m tail sender payload after left fits begins within most = grind (arith, no_bytes, first_byte, part_begins, none_within)
 
 module _ {C : Type 0} (Answer : Table C) (room limit : ℕ) (fresh : C) (taken : List ℕ) where
-  -- the envelopes of these payloads stand at the front of what was taken, and were answered so
-  pub record Told (frames : List (List ℕ)) (state : C) : Type 0 where
-    pub front : List ℕ
-    pub tail : List ℕ
-    pub payloads : List (List ℕ)
-    pub clash : Option MetaClash
-    pub parts : taken ≡ front ++ tail
-    pub stream : IsStream payloads front
-    pub goes : Goes Answer room payloads fresh frames clash state
-    pub left : Left limit (length front) tail
-
-  told : {front : List ℕ} {frames : List (List ℕ)} {clash : Option MetaClash} {state : C} (tail : List ℕ) → taken ≡ front ++ tail
-      → serving.Served Answer room fresh front frames clash state → Left limit (length front) tail → Told frames state
-  told {front} {frames} {clash} {state} tail parts served left =
-      let goes = served_goes Answer room fresh front frames clash state served in
-      record { front = front; tail = tail; payloads = goes.0; clash = clash; parts = parts; stream = goes.1; goes = goes.2; left = left }
-
   front_within : (front tail : List ℕ) → taken ≡ front ++ tail → length taken ≤ limit → length front ≤ limit
   front_within front tail parts within = omega (arith, ap length parts, length-append front tail, within)
 
-  told_by : (frames : List (List ℕ)) (state : C) (end : ServeEnd) → Serves Answer room limit fresh taken ⊤ ⊤ ⊤ frames state end → Told frames state
-  told_by frames state _ (serving.wrong front b parts bad some within) =
-      told (b ∷ []) parts some (wrong b [] refl bad (front_within front (b ∷ []) parts within))
-  told_by frames state _ (serving.cut front piece parts is long some within at_end) = told piece parts some (part is (front_within front piece parts within))
-  told_by frames state _ (serving.too_long front piece b parts is some size) =
-      told (piece ++ b ∷ []) parts some
+  abbrev Told : List (List ℕ) → C → Type 0
+  Told frames state = Went Answer room fresh taken (λ n tail clash. Left limit n tail) frames state
+
+  whole : {frames : List (List ℕ)} {clash : Option MetaClash} {state : C} → Served Answer room fresh taken frames clash state
+      → length taken ≤ limit → Told frames state
+  whole all within = went [] (sym (append-nil taken)) all (nothing refl within)
+
+  told_by : (frames : List (List ℕ)) (state : C) (end : ServeEnd) → Serves Answer room limit fresh taken ⊤ ⊤ ⊤ frames state end
+      → Told frames state
+  told_by frames state _ (Serves.wrong front b parts bad some within) =
+      went (b ∷ []) parts some (wrong b [] refl bad (front_within front (b ∷ []) parts within))
+  told_by frames state _ (Serves.cut front piece parts is long some within at_end) =
+      went piece parts some (part is (front_within front piece parts within))
+  told_by frames state _ (Serves.too_long front piece b parts is some size) =
+      went (piece ++ b ∷ []) parts some
       (past piece b [] refl is (omega (arith, ap length parts, size, length-append front (piece ++ b ∷ []), length-append piece (b ∷ []))))
-  told_by frames state _ (serving.read_fault front piece parts is some within rose) = told piece parts some (part is (front_within front piece parts within))
-  told_by frames state _ (serving.done all within at_end) = told [] (sym (append-nil taken)) all (nothing refl within)
-  told_by frames state _ (serving.stopped clash before all within last) = told [] (sym (append-nil taken)) all (nothing refl within)
-  told_by frames state _ (serving.write_fault clash all within rose) = told [] (sym (append-nil taken)) all (nothing refl within)
+  told_by frames state _ (Serves.read_fault front piece parts is some within rose) =
+      went piece parts some (part is (front_within front piece parts within))
+  told_by frames state _ (Serves.done all within at_end) = whole all within
+  told_by frames state _ (Serves.stopped clash before all within last) = whole all within
+  told_by frames state _ (Serves.write_fault clash all within rose) = whole all within
 
-  module _ (single : IsSingle Answer) where
-    not_longer : (frames others : List (List ℕ)) (state then : C) (a : Told frames state) (b : Told others then) → Longer a.payloads a.front a.tail b.payloads b.front → ⊥
-    not_longer frames others state then a b l =
-        none_left limit (length a.front) (length b.front) a.tail l.sender l.payload l.after a.left l.fits l.begins l.within
-        (left_within limit (length b.front) b.tail b.left)
+  not_longer : (frames others : List (List ℕ)) (state then : C) (a : Told frames state) (b : Told others then)
+      → Longer a.payloads a.front a.tail b.payloads b.front → ⊥
+  not_longer frames others state then a b l =
+      none_left limit (length a.front) (length b.front) a.tail l.sender l.payload l.after a.why l.fits l.begins l.within
+      (left_within limit (length b.front) b.tail b.why)
 
-    frames_once : (xs ys : List (List ℕ)) (clash second : Option MetaClash) (new then : C) → SameAnswer xs ys clash second new then → SameFrames xs ys × (new ≡ then)
-    frames_once xs ys None second new then same = (inl (same.frames refl), same.state)
-    frames_once xs ys (Some texts) second new then same = (inr (same.last refl), same.state)
-
-    told_once : (frames others : List (List ℕ)) (state then : C) (a : Told frames state) (b : Told others then) → Compared a.payloads a.front a.tail b.payloads b.front b.tail
-        → SameFrames frames others × (state ≡ then)
-    told_once frames others state then a b (fronts.same payloads sizes tails) =
-        let goes = subst (λ (ps : List (List ℕ)). Goes Answer room ps fresh frames a.clash state) payloads a.goes in
-        frames_once frames others a.clash b.clash state then
-        (one_going Answer room single b.payloads fresh frames others a.clash b.clash state then goes b.goes)
-    told_once frames others state then a b (fronts.less l) = absurd (not_longer frames others state then a b l)
-    told_once frames others state then a b (fronts.more l) = absurd (not_longer others frames then state b a l)
+frames_once : {C : Type 0} (xs ys : List (List ℕ)) (clash second : Option MetaClash) (new then : C)
+    → SameAnswer xs ys clash second new then → SameFrames xs ys × (new ≡ then)
+frames_once xs ys None second new then same = (inl (same.frames refl), same.state)
+frames_once xs ys (Some texts) second new then same = (inr (same.last refl), same.state)
 
 -- ONE ANSWER to what was taken
 pub answers_once : {C : Type 0} (Answer : Table C) (room limit : ℕ) (fresh : C) → IsSingle Answer → AnswersOnce Answer room limit fresh
 answers_once Answer room limit fresh single taken frames others state then end other serves served =
     let a = told_by Answer room limit fresh taken frames state end serves in
     let b = told_by Answer room limit fresh taken others then other served in
-    told_once Answer room limit fresh taken single frames others state then a b
-    (compared a.payloads b.payloads a.front a.tail b.front b.tail a.stream b.stream (sym a.parts ∙ b.parts))
+    frames_once frames others a.clash b.clash state then
+    (both_went single a b
+    (not_longer Answer room limit fresh taken frames others state then a b)
+    (not_longer Answer room limit fresh taken others frames then state b a)).0

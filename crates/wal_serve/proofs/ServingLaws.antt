@@ -1,9 +1,8 @@
 -- Serving, envelope after envelope, and how it ends.
-use Rattle.wal_serve.proofs.Common.{◌≡◌, ℕ, ◌+◌, ◌-◌, ◌<◌, ◌≤◌, List, [], ◌∷◌, ◌++◌, length, take, Option, Some, None, refl, sym, ap, subst, ◌∙◌, append_assoc, append-nil, arith, Consumes, Appends, IsAtEnd, Consumes-trans, Consumes-nil, Appends-trans, Appends-nil, length-append, flat_map-append, MetaClash, envelope, IsPayload, IsStream, IsMalformed, Lack, ServeEnd, WriteFault, Collision, clash_text, sent, PayloadRoom, Lacks, nothing, wrong, cut, too_long, failed, IsEnvelope, Table, Replies, Served, none, more, Serves, BreaksOff, Wrote, IsServed, EndsAt, EndsAtKnown, StopsWith, IsServing, RepliesInto, end_without, Stays}
+use Rattle.wal_serve.proofs.Common.{◌≡◌, ℕ, ◌+◌, ◌-◌, ◌<◌, ◌≤◌, List, [], ◌∷◌, ◌++◌, length, take, Option, Some, None, refl, ap, subst, ◌∙◌, append_assoc, append-nil, arith, Consumes, Appends, IsAtEnd, Consumes-trans, Consumes-nil, Appends-trans, Appends-nil, length-append, flat_map-append, MetaClash, envelope, IsPayload, IsStream, IsMalformed, Lack, ServeEnd, WriteFault, Collision, clash_text, sent, PayloadRoom, Lacks, nothing, wrong, cut, too_long, failed, IsEnvelope, Table, Replies, Served, none, more, Serves, BreaksOff, Wrote, IsServed, EndsAt, EndsAtKnown, StopsWith, IsServing, RepliesInto, end_without, Stays}
 use Rattle.wal_store.specs.declared.contract.Keep as keep
 use Rattle.wal_tree.specs.declared.hash.Hash32 as hash
 use Rattle.wal_serve.specs.declared.session.Session.{Session}
-use Rattle.wal_serve.specs.Serving as serving
 use Rattle.wal_port.specs.Appending.{AppendsPart}
 use Rattle.wal_serve.proofs.OneServed.{served_goes}
 use Rattle.wal_serve.proofs.OneEnd.{first_byte, part_begins}
@@ -15,13 +14,7 @@ module _ {H K : Type 0} {h : hash.Ghosts H} {k : keep.Ghosts K} where
   stays_at s = record { shard = refl; state = refl; work = refl; place = record { f = refl; index = refl; limit = refl }; faulty = refl }
 
   pub stays_on : (a b c : Session H K h k) → Stays a b → Stays b c → Stays a c
-  stays_on a b c first next = record {
-    shard = next.shard ∙ first.shard;
-    state = next.state ∙ first.state;
-    work = next.work ∙ first.work;
-    place = record { f = next.place.f ∙ first.place.f; index = next.place.index ∙ first.place.index; limit = next.place.limit ∙ first.place.limit };
-    faulty = next.faulty ∙ first.faulty;
-  }
+  stays_on a b c first next = grind arith
 
 -- ---- serving so far
 
@@ -55,9 +48,8 @@ module _ {C : Type 0} {Answer : Table C} {room own taken : ℕ} {fresh mid : C} 
     -- its frames were written
     wrote_more : (w : Option (List ℕ)) → Appends v w (sent at some) → Appends old w (sent own (so_far.frames ++ some))
     wrote_more w next =
-        let last = subst (λ (n : ℕ). Appends v w (sent n some)) by next in
-        subst (Appends old w) (sym (flat_map-append (envelope own) so_far.frames some))
-        (Appends-trans old v w (sent own so_far.frames) (sent own some) so_far.appended last)
+        rw (flat_map-append (envelope own) so_far.frames some)
+        (Appends-trans old v w (sent own so_far.frames) (sent own some) so_far.appended (rw by at next))
 
     pub serving_more : {w : Option (List ℕ)} {up : ℕ} → clash ≡ None → Appends v w (sent at some)
         → up ≡ taken + (7 + size) → IsServing Answer room own fresh new left c old w up
@@ -80,7 +72,7 @@ module _ {C : Type 0} {Answer : Table C} {room own taken : ℕ} {fresh mid : C} 
           taken = so_far.front ++ got;
           frames = so_far.frames ++ some;
           consumed = Consumes-trans left b c so_far.front got so_far.consumed takes.1;
-          serves = serving.stopped texts so_far.frames (rw ends at served_more)
+          serves = Serves.stopped texts so_far.frames (rw ends at served_more)
               (omega (arith, length-append so_far.front got, so_far.long, takes.2, within)) (cc (last));
           wrote = wrote_more w writes;
         }
@@ -94,7 +86,7 @@ module _ {C : Type 0} {Answer : Table C} {room own taken : ℕ} {fresh mid : C} 
           taken = so_far.front ++ got;
           frames = so_far.frames ++ some;
           consumed = Consumes-trans left b c so_far.front got so_far.consumed takes.1;
-          serves = serving.write_fault clash served_more
+          serves = Serves.write_fault clash served_more
               (omega (arith, length-append so_far.front got, so_far.long, takes.2, within)) rose;
           wrote = record {
             front = so_far.front;
@@ -122,15 +114,15 @@ module _ {C : Type 0} {Answer : Table C} {room own taken : ℕ} {fresh mid : C} 
       × Wrote (end_without l (length so_far.front)) Failed old v (sent own so_far.frames)
   ends_as c Late Up SinkUp Failed _ _ up (nothing next end) =
       let nil : so_far.front ++ [] ≡ so_far.front = append-nil so_far.front in
-      (serving.done (rw nil so_far.served) (omega (arith, ap length nil, so_far.long)) end, so_far.appended)
+      (Serves.done (rw nil so_far.served) (omega (arith, ap length nil, so_far.long)) end, so_far.appended)
   ends_as c Late Up SinkUp Failed _ _ up (wrong x next not some) =
-      (serving.wrong so_far.front x refl not so_far.served (omega (arith, length-append so_far.front (x ∷ []), so_far.long)), so_far.appended)
+      (Serves.wrong so_far.front x refl not so_far.served (omega (arith, length-append so_far.front (x ∷ []), so_far.long)), so_far.appended)
   ends_as c Late Up SinkUp Failed _ _ up (cut got next part some few end) =
-      (serving.cut so_far.front got refl part some so_far.served (omega (arith, length-append so_far.front got, so_far.long)) end, so_far.appended)
+      (Serves.cut so_far.front got refl part some so_far.served (omega (arith, length-append so_far.front got, so_far.long)) end, so_far.appended)
   ends_as c Late Up SinkUp Failed _ _ up (too_long got x next part all) =
-      (serving.too_long so_far.front got x refl part so_far.served (omega (arith, length-append so_far.front (got ++ x ∷ []), length-append got (x ∷ []), so_far.long)), so_far.appended)
+      (Serves.too_long so_far.front got x refl part so_far.served (omega (arith, length-append so_far.front (got ++ x ∷ []), length-append got (x ∷ []), so_far.long)), so_far.appended)
   ends_as c Late Up SinkUp Failed _ _ up (failed got next part few late) =
-      (serving.read_fault so_far.front got refl part so_far.served (omega (arith, length-append so_far.front got, so_far.long)) (up late), so_far.appended)
+      (Serves.read_fault so_far.front got refl part so_far.served (omega (arith, length-append so_far.front got, so_far.long)) (up late), so_far.appended)
 
   lost : (c : Option (List ℕ)) (Late : Type 0) (most : ℕ) (l : Lack) (got : List ℕ) → Lacks b c Late most l got → Consumes b c got
   lost c Late most l got lacks = grind arith
@@ -168,15 +160,15 @@ malformed payloads front rest input stream some unfit parts = record {
 
 ends_at : (C : Type 0) (Answer : Table C) (room limit : ℕ) (fresh state : C) (taken input rest : List ℕ) (Up SinkUp : Type 0) (frames : List (List ℕ)) (end : ServeEnd)
     → input ≡ taken ++ rest → Serves Answer room limit fresh taken (IsAtEnd (Some rest)) Up SinkUp frames state end → EndsAt end input
-ends_at C Answer room limit fresh state taken input rest Up SinkUp frames _ parts (serving.done served within end) =
+ends_at C Answer room limit fresh state taken input rest Up SinkUp frames _ parts (Serves.done served within end) =
     let stream = served_goes Answer room fresh taken frames None state served in
     let all : taken ≡ input = cc (parts, end, append-nil taken) in
     (stream.0, subst (IsStream stream.0) all stream.1)
-ends_at C Answer room limit fresh state taken input rest Up SinkUp frames _ parts (serving.wrong front b is not served within) =
+ends_at C Answer room limit fresh state taken input rest Up SinkUp frames _ parts (Serves.wrong front b is not served within) =
     let stream = served_goes Answer room fresh front frames None state served in
     malformed stream.0 front (b ∷ rest) input stream.1 (omega arith) (λ sender payload after fits same. not (first_byte b rest sender payload after same))
     (cc (parts, is, append_assoc front (b ∷ []) rest))
-ends_at C Answer room limit fresh state taken input rest Up SinkUp frames _ parts (serving.cut front got is part some served within end) =
+ends_at C Answer room limit fresh state taken input rest Up SinkUp frames _ parts (Serves.cut front got is part some served within end) =
     let stream = served_goes Answer room fresh front frames None state served in
     malformed stream.0 front got input stream.1 some (λ sender payload after fits same. part_begins got sender payload after part fits same)
     (cc (parts, end, append-nil taken, is))

@@ -1,11 +1,11 @@
 -- States that are alike at an identifier answer a request of it alike, and are alike then.
-use Rattle.wal_served.proofs.Common.{◌≡◌, ℕ, ◌-◌, ◌<◌, Bool, true, false, cond, List, [], ◌∷◌, length, Option, Some, None, Result, Ok, Err, inl, inr, refl, sym, ap, subst, ◌∙◌, arith, IfSome, cases_lt, BlobId, Part, MetaClash, FrameError, Frame, Metadata, Sliver, Opening, Proof, Read, Symbol, Ack, Attest, Forget, Answer, Clash, RegisterEntry, AckEntry, AttestEntry, stored_bytes, Kind, Holds, Denies, LedgerState, is_live, HasRoom, Parts, pages_for, Contents, parts_at, part_at, with_bytes, cost, free_of, needed_for, AckRefusal, PutAnswer, SymbolReplies, read_reply_of, has_proof, IsAccepted, IsHeldIn, PutsOrWants, ShowsTexts, Verifies, put_id, put_part, desk, Vouches, backs, MayForget, without_slivers, ServedState, holding, with_ledger, named, refused, done, put_reply, ClaimEntered, Entered, Forgets, Registered, Vouched, unbacked, asked, forgotten, kept, AnswersRead, AnswersFrame, AnswersPut, AnswersEntry, AnswersForget, IsReplyOutcome, IsReplied, TellsWant, answer_text, about, about_read, AlikeAt, RoomFor, pages_in, entries_in, asks_entry, tells, tells_entry}
-use Rattle.wal_shape.specs.declared.part.Part.TheVariants as parts
-use Rattle.wal_shard.specs.declared.answers.AckRefusal.TheVariants as refusing
-use Rattle.wal_shard.specs.declared.answers.PutAnswer.TheVariants as putting
+use Rattle.wal_served.proofs.Common.{◌≡◌, ℕ, ◌-◌, ◌<◌, Bool, true, false, cond, List, [], ◌∷◌, length, Option, Some, None, Result, Ok, Err, inl, inr, refl, sym, ap, subst, ◌∙◌, arith, IfSome, cases_lt, BlobId, Part, MetaClash, FrameError, Frame, Metadata, Sliver, Opening, Proof, Read, Symbol, Ack, Attest, Forget, Answer, Clash, RegisterEntry, AckEntry, AttestEntry, stored_bytes, Kind, Holds, Denies, LedgerState, is_live, HasRoom, Parts, pages_for, Contents, parts_at, part_at, with_bytes, cost, free_of, needed_for, AckRefusal, PutAnswer, SymbolReplies, read_reply_of, has_proof, IsAccepted, IsHeldIn, PutsOrWants, ShowsTexts, Verifies, put_id, put_part, desk, Vouches, backs, MayForget, without_slivers, ServedState, holding, with_ledger, named, refused, done, put_reply, ClaimEntered, Entered, Forgets, Registered, Vouched, unbacked, asked, forgotten, kept, AnswersRead, AnswersFrame, AnswersPut, AnswersEntry, AnswersForget, IsReplyOutcome, IsReplied, TellsWant, answer_text, about, about_read, AlikeAt, RoomFor, pages_in, entries_in, asks_entry, tells, tells_entry, ◌≤◌, ◌⊎◌, is_some, false≢true, read_of, PutDesk, AnswersRequest, read_stops, AnswersAlike, AnswersWithRoom, WantsForMore}
 use Rattle.wal_served.proofs.Replies.{Reply}
 use Rattle.wal_served.proofs.Apart.{alike_one, stored_there, slivers_gone}
 use Rattle.wal_served.proofs.AlikeLedgers.{Follows, so_too, short, joined_ledgers, same_live, same_until, same_writing, open_too, invalid_too, claim_entered, registered_too, entered_too, rewritten}
+use Rattle.wal_serve.specs.Determined.{SameButLast, SameFrames}
+use Rattle.wal_serve.specs.inside.Serving.{StopsWith}
+use Rattle.wal_serve.proofs.OneTable.{one_table}
 
 -- of two states that are alike to one, each is alike to the other
 pub joined : (id : BlobId) (one here there : ServedState) → AlikeAt id one here → AlikeAt id one there → AlikeAt id here there
@@ -48,10 +48,10 @@ module _ (id : BlobId) (one other : ServedState) (a : AlikeAt id one other) wher
 
   vouches_too : (kind : Kind) (answer : Result (Unit {0}) AckRefusal) → Vouches kind one.ledger.log one.shard.contents id answer → Vouches kind other.ledger.log other.shard.contents id answer
   vouches_too kind (Ok done) v = (open_too id one.ledger.log other.ledger.log a.ledgers v.0, ap (backs kind) a.parts ∙ v.1)
-  vouches_too kind (Err refusing.Unregistered) v = live_too ∙ v
-  vouches_too kind (Err refusing.Expires) v =
+  vouches_too kind (Err AckRefusal.Unregistered) v = live_too ∙ v
+  vouches_too kind (Err AckRefusal.Expires) v =
       (live_too ∙ v.0, omega (arith, v.1, same_until id one.ledger.log other.ledger.log a.ledgers, same_writing id one.ledger.log other.ledger.log a.ledgers))
-  vouches_too kind (Err refusing.Declined) v = (open_too id one.ledger.log other.ledger.log a.ledgers v.0, ap (backs kind) a.parts ∙ v.1)
+  vouches_too kind (Err AckRefusal.Declined) v = (open_too id one.ledger.log other.ledger.log a.ledgers v.0, ap (backs kind) a.parts ∙ v.1)
 
   vouched_too : (kind : Kind) (r : Reply) (new : LedgerState) → Vouched kind one id r new → (r ≡ refused 10 → ⊥) → Follows id other.ledger new (Vouched kind other id) r
   vouched_too kind _ _ (unbacked why v) some = so_too other.ledger (unbacked why (vouches_too kind (Err why) v)) a.ledgers
@@ -109,11 +109,11 @@ module _ (digest : List ℕ → List ℕ) (frame : Frame) (one other : ServedSta
   accepted_too is = record { live = live_too q one other a ∙ is.live; verified = along q one other a (λ f k p. Verifies digest f k p frame) is.verified }
 
   held_too : (x : Frame) → IsHeldIn one.shard.contents q x → IsHeldIn other.shard.contents q x
-  held_too (Metadata m) is = same_part parts.Metadata ∙ is
+  held_too (Metadata m) is = same_part Part.Metadata ∙ is
   held_too x is = rw (same_part (put_part x)) is
 
   texts_too : (answer : PutAnswer) → ShowsTexts digest one.shard.contents frame answer → ShowsTexts digest other.shard.contents frame answer
-  texts_too (putting.OtherMetadata clash) (m, held, is, holds, digested) = (m, held, is, rw a.parts holds, digested)
+  texts_too (PutAnswer.OtherMetadata clash) (m, held, is, holds, digested) = (m, held, is, rw a.parts holds, digested)
   texts_too answer t = tt
 
   -- what is held once the part is stored
@@ -132,12 +132,12 @@ module _ (digest : List ℕ → List ℕ) (frame : Frame) (one other : ServedSta
             carries other (answers frames clash other (put_reply x, other.shard.contents, (x, p, refl, texts_too x s), t, refl))
             (rw (is, e) a)
 
-        stored : PutsOrWants digest may_want (desk one.shard one.ledger.log) one.shard.contents frame putting.Stored contents → IsReplyOutcome (put_reply putting.Stored) frames clash
+        stored : PutsOrWants digest may_want (desk one.shard one.ledger.log) one.shard.contents frame PutAnswer.Stored contents → IsReplyOutcome (put_reply PutAnswer.Stored) frames clash
             → Fits q other (stored_bytes frame) → Carried digest q other (Ok frame) frames clash new
         stored p t (fits room) =
             let next = with_bytes other.shard.contents q (put_part frame) (stored_bytes frame) in
             carries (holding other next)
-            (answers frames clash (holding other next) (put_reply putting.Stored, next, (putting.Stored, (accepted_too p.0, same_part (put_part frame) ∙ p.1, room, refl), refl, tt), t, refl))
+            (answers frames clash (holding other next) (put_reply PutAnswer.Stored, next, (PutAnswer.Stored, (accepted_too p.0, same_part (put_part frame) ∙ p.1, room, refl), refl, tt), t, refl))
             (rw (is, p.3)
             (with_parts q one other a (with_bytes one.shard.contents q (put_part frame) (stored_bytes frame)) next (stored_alike (put_part frame) (stored_bytes frame))))
         stored p t (full free is_free less not) =
@@ -145,9 +145,9 @@ module _ (digest : List ℕ → List ℕ) (frame : Frame) (one other : ServedSta
             let pages : charged_pages (Ok frame) frames ≡ pages_for (length (stored_bytes frame)) = rw t.0 refl in
             wants (answer_text 6 needs free ∷ []) (6, needs, free, inl refl, refl)
             (answers (answer_text 6 needs free ∷ []) None other (
-              put_reply (putting.Full needs free),
+              put_reply (PutAnswer.Full needs free),
               other.shard.contents,
-              (putting.Full needs free, (accepted_too p.0, same_part (put_part frame) ∙ p.1, is_free, refl, less, refl), refl, tt),
+              (PutAnswer.Full needs free, (accepted_too p.0, same_part (put_part frame) ∙ p.1, is_free, refl, less, refl), refl, tt),
               (refl, refl),
               refl,
             ))
@@ -155,18 +155,18 @@ module _ (digest : List ℕ → List ℕ) (frame : Frame) (one other : ServedSta
 
         by : (x : PutAnswer) → PutsOrWants digest may_want (desk one.shard one.ledger.log) one.shard.contents frame x contents → ShowsTexts digest one.shard.contents frame x
             → IsReplyOutcome (put_reply x) frames clash → Carried digest q other (Ok frame) frames clash new
-        by putting.Unregistered p s t = same_answer putting.Unregistered (live_too q one other a ∙ p.0, refl) s t p.1
-        by putting.NoMetadata p s t = same_answer putting.NoMetadata (live_too q one other a ∙ p.0, p.1, same_part parts.Metadata ∙ p.2, refl) s t p.3
-        by putting.Unverified p s t =
+        by PutAnswer.Unregistered p s t = same_answer PutAnswer.Unregistered (live_too q one other a ∙ p.0, refl) s t p.1
+        by PutAnswer.NoMetadata p s t = same_answer PutAnswer.NoMetadata (live_too q one other a ∙ p.0, p.1, same_part Part.Metadata ∙ p.2, refl) s t p.3
+        by PutAnswer.Unverified p s t =
             let back = joined q one other one a (alike_one q one) in
-            same_answer putting.Unverified
-            (live_too q one other a ∙ p.0, (λ rests. rw (same_part parts.Metadata) (p.1 rests)), (λ v. p.2 (along q other one back (λ f k x. Verifies digest f k x frame) v)), refl) s t p.3
-        by (putting.OtherMetadata texts) p s t =
-            same_answer (putting.OtherMetadata texts) (accepted_too p.0, p.1, p.2, p.3, same_part parts.Metadata ∙ p.4, p.5, p.6, refl) s t p.7
-        by putting.Held p s t = same_answer putting.Held (accepted_too p.0, held_too frame p.1, refl) s t p.2
-        by (putting.Full needed free) p s t = absurd (some (6, needed, free, inl refl, t.0))
-        by putting.Memory p s t = absurd (some (7, 0, 0, inr (inl refl), t.0))
-        by putting.Stored p s t = stored p t (fits_or_not q other (stored_bytes frame))
+            same_answer PutAnswer.Unverified
+            (live_too q one other a ∙ p.0, (λ rests. rw (same_part Part.Metadata) (p.1 rests)), (λ v. p.2 (along q other one back (λ f k x. Verifies digest f k x frame) v)), refl) s t p.3
+        by (PutAnswer.OtherMetadata texts) p s t =
+            same_answer (PutAnswer.OtherMetadata texts) (accepted_too p.0, p.1, p.2, p.3, same_part Part.Metadata ∙ p.4, p.5, p.6, refl) s t p.7
+        by PutAnswer.Held p s t = same_answer PutAnswer.Held (accepted_too p.0, held_too frame p.1, refl) s t p.2
+        by (PutAnswer.Full needed free) p s t = absurd (some (6, needed, free, inl refl, t.0))
+        by PutAnswer.Memory p s t = absurd (some (7, 0, 0, inr (inl refl), t.0))
+        by PutAnswer.Stored p s t = stored p t (fits_or_not q other (stored_bytes frame))
 
 -- ---- what is forgotten
 
@@ -235,3 +235,143 @@ module _ (digest : List ℕ → List ℕ) (may_want : Bool) (one other : ServedS
       → Carried digest id other read frames clash new
   read_carried (Ok frame) id e a h = if_some (about digest frame) (λ x. AlikeAt x one other → Carried digest x other (Ok frame) frames clash new) (at_frame frame h) id e a
   read_carried (Err fault) id e a h = absurd cc
+
+-- ---- THE FIRST LAW: states that are alike at an identifier answer alike what regards it
+
+-- ---- whether the keep may want memory
+
+-- an answer of a keep that never wants memory is one of any keep
+puts_still : (digest : List ℕ → List ℕ) (d : PutDesk) (old : Contents) (frame : Frame) (answer : PutAnswer) (new : Contents) (also : Bool) → PutsOrWants digest false d old frame answer new
+    → PutsOrWants digest also d old frame answer new
+puts_still digest d old frame PutAnswer.Memory new also p = absurd (false≢true p.0)
+puts_still digest d old frame answer new also p = p
+
+module _ (digest : List ℕ → List ℕ) (old : ServedState) (frames : List (List ℕ)) (clash : Option MetaClash) (new : ServedState) where
+  -- only puts want memory
+  read_as : (may_want also : Bool) → ((frame : Frame) → AnswersPut digest may_want frame old frames clash new → AnswersPut digest also frame old frames clash new)
+      → (read : Result Frame FrameError) → AnswersRead digest may_want read old frames clash new → AnswersRead digest also read old frames clash new
+  read_as may_want also each (Ok (Metadata m)) h = each (Metadata m) h
+  read_as may_want also each (Ok (Sliver id axis index bytes)) h = each (Sliver id axis index bytes) h
+  read_as may_want also each (Ok (Proof id p)) h = each (Proof id p) h
+  read_as may_want also each (Ok frame) h = h
+  read_as may_want also each (Err fault) h = h
+
+  pub read_still : (also : Bool) (read : Result Frame FrameError) → AnswersRead digest false read old frames clash new → AnswersRead digest also read old frames clash new
+  read_still also read h =
+      read_as false also (λ frame (outcome, contents, put, told, then).
+      let still = puts_still digest _ old.shard.contents frame put.0 contents also put.1 in
+      (outcome, contents, (put.0, still, put.2, put.3), told, then)) read h
+
+  read_calm : (may_want : Bool) (read : Result Frame FrameError) → (TellsWant frames → ⊥) → AnswersRead digest may_want read old frames clash new → AnswersRead digest false read old frames clash new
+  read_calm may_want read some h = read_as may_want false calm read h
+    where
+      calm : (frame : Frame) → AnswersPut digest may_want frame old frames clash new → AnswersPut digest false frame old frames clash new
+      calm frame (outcome, contents, (answer, puts, is, shows), told, then) = by answer puts is shows
+        where
+          by : (x : PutAnswer) → PutsOrWants digest may_want (desk old.shard old.ledger.log) old.shard.contents frame x contents → outcome ≡ put_reply x → ShowsTexts digest old.shard.contents frame x
+              → AnswersPut digest false frame old frames clash new
+          by PutAnswer.Memory p same t = absurd (some (7, 0, 0, inr (inl refl), (rw same at told).0))
+          by x p same t = (outcome, contents, (x, p, same, t), told, then)
+
+-- ---- the law
+
+-- less needs less room
+pub fits_less : (limit : Option ℕ) (size less : ℕ) → IfSome limit (λ most. size ≤ most) → less ≤ size → IfSome limit (λ most. less ≤ most)
+fits_less limit size less fit small = grind arith
+
+pub less_room : (id : BlobId) (s : ServedState) (pages entries fewer less : ℕ) → RoomFor id s pages entries → fewer ≤ pages → less ≤ entries → RoomFor id s fewer less
+less_room id s pages entries fewer less room p e = record { pages_fit = fits_less s.shard.limit _ _ room.pages_fit (omega arith); entries_fit = omega (arith, room.entries_fit) }
+
+-- where there is room
+pub answers_with_room : (digest : List ℕ → List ℕ) → AnswersWithRoom digest
+answers_with_room digest id one other payload may_want also frames clash new a about answers some room =
+    by (read_carried digest may_want one other frames clash new some (read_of payload) id about a answers)
+  where
+    by : Carried digest id other (read_of payload) frames clash new → (then : ServedState) × AnswersRequest digest also other payload frames clash then × AlikeAt id new then
+    by (carries then there alike) = (then, read_still digest other frames clash then also (read_of payload) there, alike)
+    by (wants others want there more not) = absurd (not room)
+
+frames_by : (clash : Option MetaClash) (xs ys : List (List ℕ)) → (is_some clash ≡ false → xs ≡ ys) → (is_some clash ≡ true → SameButLast xs ys) → SameFrames xs ys
+frames_by None xs ys calm stops = inl (calm refl)
+frames_by (Some texts) xs ys calm stops = inr (stops refl)
+
+-- of any two answers
+pub answers_alike : (digest : List ℕ → List ℕ) → AnswersAlike digest
+answers_alike digest id one other payload may_want also frames others clash second new then a about answers answers_too some also_some =
+    by (read_carried digest may_want one other frames clash new some (read_of payload) id about a answers)
+  where
+    Result_of : Type 0
+    Result_of = AnswersRequest digest also other payload frames clash then × SameFrames frames others × AlikeAt id new then
+
+    calm : AnswersRequest digest false other payload others second then
+    calm = read_calm digest other others second then also (read_of payload) also_some answers_too
+
+    by : Carried digest id other (read_of payload) frames clash new → Result_of
+    by (carries there is alike) =
+        let same = one_table digest other payload frames others clash second there then is calm in (
+          read_still digest other frames clash then also (read_of payload) (rw same.state at is),
+          frames_by clash frames others same.frames same.last,
+          rw same.state at alike,
+        )
+    by (wants wanted want is more not) =
+        absurd (also_some (rw ((one_table digest other payload wanted others None second other then is calm).frames refl) at want))
+
+-- ---- want of room
+
+abbrev first_byte : List (List ℕ) → ℕ
+first_byte ((kind ∷ rest) ∷ frames) = kind
+first_byte _ = 0
+
+-- what tells of want of room ends no serving
+want_goes : (clash : Option MetaClash) (frames : List (List ℕ)) → StopsWith clash frames → TellsWant frames → clash ≡ None
+want_goes None frames stops want = refl
+want_goes (Some texts) frames stops (code, a, b, is, told) = absurd (omega (arith, ap first_byte (sym told ∙ stops)))
+
+-- an answer of a keep that never wants memory, which tells of want of room or that a part was stored
+data Beside (digest : List ℕ → List ℕ) (read : Result Frame FrameError) (s : ServedState) : Type 0 where
+  beside : (frames : List (List ℕ)) (new : ServedState) → AnswersRead digest false read s frames None new → TellsWant frames ⊎ (tells 0 frames ≡ true) → Beside digest read s
+
+module _ (digest : List ℕ → List ℕ) (s : ServedState) (also : Bool) (frames : List (List ℕ)) (new : ServedState) (want : TellsWant frames) where
+  put_beside : (frame : Frame) → ((f : List (List ℕ)) (n : ServedState) → AnswersPut digest false frame s f None n → AnswersFrame digest false frame s f None n)
+      → AnswersPut digest also frame s frames None new → Beside digest (Ok frame) s
+  put_beside frame answers (outcome, contents, (answer, puts, is, shows), told, then) = by answer puts is shows
+    where
+      -- there is room or there is none
+      accepted : PutsOrWants digest also (desk s.shard s.ledger.log) s.shard.contents frame PutAnswer.Memory contents → Fits (put_id digest frame) s (stored_bytes frame) → Beside digest (Ok frame) s
+      accepted p (fits room) =
+          beside _ _ (answers _ _ (put_reply PutAnswer.Stored, _, (PutAnswer.Stored, (p.1, p.2, room, refl), refl, tt), (refl, refl), refl)) (inr refl)
+      accepted p (full free is_free less not) =
+          let refusal = PutAnswer.Full (needed_for s.shard.contents (put_id digest frame) (stored_bytes frame)) free in
+          beside _ _ (answers _ _ (put_reply refusal, s.shard.contents, (refusal, (p.1, p.2, is_free, refl, less, refl), refl, tt), (refl, refl), refl))
+          (inl (6, _, free, inl refl, refl))
+
+      by : (x : PutAnswer) → PutsOrWants digest also (desk s.shard s.ledger.log) s.shard.contents frame x contents → outcome ≡ put_reply x → ShowsTexts digest s.shard.contents frame x → Beside digest (Ok frame) s
+      by PutAnswer.Memory p same t = accepted p (fits_or_not (put_id digest frame) s (stored_bytes frame))
+      by x p same t = beside frames new (answers frames new (outcome, contents, (x, p, same, t), told, then)) (inl want)
+
+  read_beside : (read : Result Frame FrameError) → AnswersRead digest also read s frames None new → Beside digest read s
+  read_beside (Ok (Metadata m)) h = put_beside (Metadata m) (λ f n z. z) h
+  read_beside (Ok (Sliver id axis index bytes)) h = put_beside (Sliver id axis index bytes) (λ f n z. z) h
+  read_beside (Ok (Proof id p)) h = put_beside (Proof id p) (λ f n z. z) h
+  read_beside (Ok frame) h = beside frames new h (inl want)
+  read_beside (Err fault) h = beside frames new h (inl want)
+
+-- want where the other state wants no room
+pub wants_for_more : (digest : List ℕ → List ℕ) → WantsForMore digest
+wants_for_more digest id one other payload may_want also frames others clash second new then a about answers answers_too some want =
+    by (read_carried digest may_want one other frames clash new some (read_of payload) id about a answers) (read_beside digest other also others then want (read_of payload) goes_on)
+  where
+    goes_on : AnswersRead digest also (read_of payload) other others None then
+    goes_on =
+        rw (want_goes second others (read_stops digest also (read_of payload) other then others second answers_too) want) at answers_too
+
+    by : Carried digest id other (read_of payload) frames clash new → Beside digest (read_of payload) other → tells_entry frames ≡ true
+    by (wants wanted told is more not) there = more
+    by (carries reached is alike) (beside xs n there what) = so what
+      where
+        same : xs ≡ frames
+        same = (one_table digest other payload xs frames None clash n reached there is).frames refl
+
+        so : TellsWant xs ⊎ (tells 0 xs ≡ true) → tells_entry frames ≡ true
+        so (inl wanted) = absurd (some (rw same at wanted))
+        so (inr stored) = rw (rw same at stored) refl

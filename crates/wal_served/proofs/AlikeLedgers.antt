@@ -1,9 +1,6 @@
 -- Ledgers that are alike at an identifier answer a request of it alike, and are alike then.
-use Rattle.wal_served.proofs.Common.{◌≡◌, ℕ, ◌<◌, true, false, List, [], ◌∷◌, inl, inr, refl, sym, ap, ◌∙◌, arith, cases_lt, fold_push, BlobId, id_eq, AckAnswer, Body, Register, Entry, Kind, Denies, quorum_size, Log, History, LedgerState, reading, writing, names, history_after, own_entries, until_of, is_live, signers, signer_count, entered, takes_in, IsInvalid, IsOpen, MayClaim, MayRegister, Claims, Claimed, acked, claim_of, history_of-epoch, id_same, entry_in, is_plain, plain_stays, Owned, stays, grows, anew, owned, refused, reply_text, ack_reply, ClaimEntered, Registered, Entered, of_committee, of_none, AlikeLedgers, tells_entry}
-use Rattle.wal_ledger.specs.declared.answers.AckAnswer.TheVariants as acking
-use Rattle.wal_ledger.specs.declared.answers.RegisterAnswer.TheVariants as registering
-use Rattle.wal_served.proofs.Replies.{Reply}
-use Rattle.wal_served.proofs.BothKinds.{as_claim, of_claim, claim_plain}
+use Rattle.wal_served.proofs.Common.{◌≡◌, ℕ, ◌<◌, true, false, List, [], ◌∷◌, inl, inr, refl, sym, ap, ◌∙◌, arith, cases_lt, fold_push, BlobId, id_eq, AckAnswer, Body, Register, Entry, Kind, Denies, quorum_size, Log, History, LedgerState, reading, writing, names, history_after, own_entries, until_of, is_live, signers, signer_count, entered, takes_in, IsInvalid, IsOpen, MayClaim, MayRegister, Claims, Claimed, acked, claim_of, history_of-epoch, id_same, entry_in, is_plain, plain_stays, Owned, stays, grows, anew, owned, refused, reply_text, ack_reply, ClaimEntered, Registered, Entered, of_committee, of_none, AlikeLedgers, tells_entry, RegisterAnswer}
+use Rattle.wal_served.proofs.Replies.{Reply, as_claim, of_claim, claim_plain}
 
 -- ---- names
 
@@ -136,18 +133,18 @@ module _ (id : BlobId) (one other : LedgerState) (a : AlikeLedgers id one.log ot
           let same : signer_count (entered other.log b) id kind (writing (entered other.log b)) ≡ signer_count (entered one.log b) id kind (writing (entered one.log b))
           = rw (same_writing id (entered one.log b) (entered other.log b) two) (same_count id (entered one.log b) (entered other.log b) two kind (writing (entered one.log b))) in
           grown id one other a new Makes r b (claim_plain kind shard id) is.2 made (λ room. said (takes_in other b) (may, room, refl, rw is.2 at is.3 ∙ sym same))
-          (λ none. of_claim kind other shard id (refused 10) other (acking.NoRoom, (may, none, refl), refl))
+          (λ none. of_claim kind other shard id (refused 10) other (AckAnswer.NoRoom, (may, none, refl), refl))
 
       by : (answer : AckAnswer) → Claims kind one shard id (acked answer) new → r ≡ ack_reply answer → Follows id other new Makes r
-      by acking.Unregistered h e = both_same id one other a new Makes r h.1 (says acking.Unregistered e other (same_live id one.log other.log a ∙ h.0, refl))
-      by acking.Expires h e =
-          both_same id one other a new Makes r h.2 (says acking.Expires e other
+      by AckAnswer.Unregistered h e = both_same id one other a new Makes r h.1 (says AckAnswer.Unregistered e other (same_live id one.log other.log a ∙ h.0, refl))
+      by AckAnswer.Expires h e =
+          both_same id one other a new Makes r h.2 (says AckAnswer.Expires e other
           (same_live id one.log other.log a ∙ h.0, omega (arith, h.1, same_writing id one.log other.log a, same_until id one.log other.log a), refl))
-      by acking.Already h e =
-          both_same id one other a new Makes r h.2 (says acking.Already e other (open_too id one.log other.log a h.0, signed_now id one.log other.log a kind shard ∙ h.1, refl))
-      by acking.NoRoom h e = absurd (some e)
-      by (acking.Counted count) h e = counted count h.0 (rw e refl) (λ then c. says (acking.Counted count) e then (c, omega (arith, quorum_same, h.1)))
-      by (acking.Certified count) h e = counted count h.0 (rw e refl) (λ then c. says (acking.Certified count) e then (c, omega (arith, quorum_same, h.1)))
+      by AckAnswer.Already h e =
+          both_same id one other a new Makes r h.2 (says AckAnswer.Already e other (open_too id one.log other.log a h.0, signed_now id one.log other.log a kind shard ∙ h.1, refl))
+      by AckAnswer.NoRoom h e = absurd (some e)
+      by (AckAnswer.Counted count) h e = counted count h.0 (rw e refl) (λ then c. says (AckAnswer.Counted count) e then (c, omega (arith, quorum_same, h.1)))
+      by (AckAnswer.Certified count) h e = counted count h.0 (rw e refl) (λ then c. says (AckAnswer.Certified count) e then (c, omega (arith, quorum_same, h.1)))
 
   -- an entry of a shard that is answered
   pub entered_too : (kind : Kind) (shard : ℕ) (r : Reply) (new : LedgerState) → Entered kind one shard id r new → (r ≡ refused 10 → ⊥) → Follows id other new (Entered kind other shard id) r
@@ -164,14 +161,14 @@ module _ (id : BlobId) (one other : LedgerState) (a : AlikeLedgers id one.log ot
 
   -- a registration that is answered
   pub registered_too : (until : ℕ) (r : Reply) (new : LedgerState) → Registered one id until r new → (r ≡ refused 10 → ⊥) → Follows id other new (Registered other id until) r
-  registered_too until r new (registering.Past, h, told) some =
-      both_same id one other a new (Registered other id until) r h.1 (registering.Past, (omega (arith, h.0, same_writing id one.log other.log a), refl), told)
-  registered_too until r new (registering.MovingExtension, h, told) some = absurd told
-  registered_too until r new (registering.NoRoom, h, told) some = absurd (some told)
-  registered_too until r new (registering.Registered most, h, told) some =
+  registered_too until r new (RegisterAnswer.Past, h, told) some =
+      both_same id one other a new (Registered other id until) r h.1 (RegisterAnswer.Past, (omega (arith, h.0, same_writing id one.log other.log a), refl), told)
+  registered_too until r new (RegisterAnswer.MovingExtension, h, told) some = absurd told
+  registered_too until r new (RegisterAnswer.NoRoom, h, told) some = absurd (some told)
+  registered_too until r new (RegisterAnswer.Registered most, h, told) some =
       let b = Register id until in
       let may = register_too until h.0 in
       let two = both_entered id one.log other.log a b refl in
       grown id one other a new (Registered other id until) r b refl h.2 (rw told refl)
-      (λ room. (registering.Registered most, (may, room, refl, rw h.2 at h.3 ∙ sym (same_until id (entered one.log b) (entered other.log b) two)), told))
-      (λ none. (registering.NoRoom, (may, none, refl), refl))
+      (λ room. (RegisterAnswer.Registered most, (may, room, refl, rw h.2 at h.3 ∙ sym (same_until id (entered one.log b) (entered other.log b) two)), told))
+      (λ none. (RegisterAnswer.NoRoom, (may, none, refl), refl))

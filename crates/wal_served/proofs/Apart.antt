@@ -1,11 +1,10 @@
 -- What regards another identifier, or none, leaves a state alike; and what replies to readers rest on.
 use Rattle.wal_served.proofs.Common.{◌≡◌, ℕ, List, Some, None, Result, refl, ap, ◌∙◌, Axis, BlobId, Part, sliver_part, FrameError, Frame, Read, Symbol, read_of, stored_bytes, Parts, with_part, part_of, Contents, parts_at, with_bytes, without_part, SymbolReplies, given, not_held, no_shard, HoldsMetadata, read_reply_of, put_id, put_part, without_slivers, ServedState, holding, named, AnswersFrame, about_read, AlikeAt, LeavesAlike, RestsOn, ReadsRestOn, arith}
 use Rattle.std.specs.FinMap as map_of
-use Rattle.wal_shape.specs.declared.part.Part.TheVariants as parts
 use Rattle.wal_shape.specs.Shape.{crossing}
 use Rattle.wal_shard.proofs.Changes.{ChangesAt, insert_changes, with_parts_changes, changed_there, same_id}
 use Rattle.wal_served.proofs.AlikeLedgers.{alike_itself, apart, other_entered}
-use Rattle.wal_served.proofs.Changes.{Change, no_change, part_stored, slivers_went, entry_made, enter_plain, enter_names, changes}
+use Rattle.wal_served.proofs.Replies.{Change, no_change, part_stored, slivers_went, entry_made, enter_plain, enter_names, changes}
 
 -- ---- what is held under another identifier
 
@@ -18,7 +17,7 @@ stored_apart c id q part bytes other =
     changed_apart c (map_of.insert c q p) id q p other (insert_changes c q p)
 
 gone_apart : (c : Contents) (id q : BlobId) → (q ≡ id → ⊥) → parts_at (without_slivers c q) id ≡ parts_at c id
-gone_apart c id q other = one (without_part c q parts.Primary) parts.Secondary ∙ one c parts.Primary
+gone_apart c id q other = one (without_part c q Part.Primary) Part.Secondary ∙ one c Part.Primary
   where
     one : (e : Contents) (part : Part) → parts_at (without_part e q part) id ≡ parts_at e id
     one e part = let p = with_part (parts_at e q) part None in changed_apart e (without_part e q part) id q p other (with_parts_changes e q p)
@@ -27,8 +26,8 @@ gone_apart c id q other = one (without_part c q parts.Primary) parts.Secondary �
 pub stored_there : (c : Contents) (id : BlobId) (part : Part) (bytes : List ℕ) → parts_at (with_bytes c id part bytes) id ≡ with_part (parts_at c id) part (Some bytes)
 stored_there c id part bytes = let p = with_part (parts_at c id) part (Some bytes) in changed_there c (map_of.insert c id p) id p (insert_changes c id p)
 
-pub slivers_gone : (c : Contents) (id : BlobId) → parts_at (without_slivers c id) id ≡ with_part (with_part (parts_at c id) parts.Primary None) parts.Secondary None
-slivers_gone c id = gone (without_part c id parts.Primary) parts.Secondary ∙ ap (λ (p : Parts). with_part p parts.Secondary None) (gone c parts.Primary)
+pub slivers_gone : (c : Contents) (id : BlobId) → parts_at (without_slivers c id) id ≡ with_part (with_part (parts_at c id) Part.Primary None) Part.Secondary None
+slivers_gone c id = gone (without_part c id Part.Primary) Part.Secondary ∙ ap (λ (p : Parts). with_part p Part.Secondary None) (gone c Part.Primary)
   where
     gone : (e : Contents) (part : Part) → parts_at (without_part e id part) id ≡ with_part (parts_at e id) part None
     gone e part = let p = with_part (parts_at e id) part None in changed_there e (without_part e id part) id p (with_parts_changes e id p)

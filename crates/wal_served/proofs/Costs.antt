@@ -9,7 +9,6 @@ use Rattle.std.specs.BTreeMap.{is_at, insert_entry}
 use Rattle.std.specs.FinMap as fin
 use Rattle.std.specs.FinMap.Entries.{find, put, by_order, is_sorted, below_all}
 use Rattle.std.proofs.lemmas.Map.Entries.{sum_by-insert_entry}
-use Rattle.wal_shape.specs.declared.part.Part.TheVariants as parts
 use Rattle.wal_store.specs.Entries.{Entries}
 use Rattle.wal_store.proofs.IdentifierLaws.{ids_total, exact_ids}
 
@@ -52,10 +51,9 @@ insert_cost : (c : Contents) (id : BlobId) (p : Parts) → cost (fin.insert c id
 insert_cost c id p =
     let es = fin.entries c in
     let made : fin.entries (fin.insert c id p) ≡ insert_entry id_cmp es id p = fin.entries-insert ids_total c id p ∙ put_is id p es in
-    let sum = sum_by-insert_entry cost_of ids_total es id p (sorted_back es (fin.entries_sorted c)) in
     let new : cost (fin.insert c id p) ≡ pages_in (insert_entry id_cmp es id p) = ap pages_in made in
     let found : found_cost (fin.get c id) ≡ found_cost (lookup (is_at (id_cmp id)) es) = ap found_cost (fin.get-entries c id ∙ find_is id es) in
-    omega (arith, sum, new, found)
+    omega (arith, sum_by-insert_entry cost_of ids_total es id p (sorted_back es (fin.entries_sorted c)), new, found)
 
 -- where a holding goes, its pages go: putting any parts there comes to the same before and after
 twice : (b : Bool) (p : Parts) (o : Option Parts) → cond b (Some p) (cond b None o) ≡ cond b (Some p) o
@@ -75,7 +73,7 @@ remove_cost c id =
 
 -- one part more, one less
 swapped : (p : Parts) (part : Part) (bytes : Option (List ℕ)) → cost_of (with_part p part bytes) + part_cost (part_of p part) ≡ cost_of p + part_cost bytes
-swapped p parts.Metadata bytes = omega arith
+swapped p Part.Metadata bytes = omega arith
 swapped p part bytes = omega arith
 
 abbrev one_unless : Option Parts → ℕ
@@ -105,4 +103,4 @@ gone_cost c id part =
     grind (arith, remove_cost c id, placed c id p, swapped (parts_at c id) part None)
 
 pub forgotten_cost : (c : Contents) (id : BlobId) → cost_with (without_slivers c id) id ≤ cost_with c id
-forgotten_cost c id = omega (arith, gone_cost c id parts.Primary, gone_cost (without_part c id parts.Primary) id parts.Secondary)
+forgotten_cost c id = omega (arith, gone_cost c id Part.Primary, gone_cost (without_part c id Part.Primary) id Part.Secondary)

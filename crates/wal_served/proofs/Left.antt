@@ -1,13 +1,10 @@
 -- THE THIRD LAW: what is left of what was served, without what regards others, is answered exactly as before.
-use Rattle.wal_served.proofs.Common.{◌≡◌, ℕ, ◌+◌, ◌≤◌, Bool, true, false, cond, List, [], ◌∷◌, ◌++◌, length, Option, Some, None, Result, Ok, Err, All, refl, sym, ◌∙◌, append-nil, arith, sum_by, flat_map, false≢true, filter-append, fold_push, sum_by-append, BlobId, MetaClash, FrameError, Frame, Answer, Clash, envelope, read_of, stored_bytes, pages_for, Contents, put_id, put_part, ServedState, holding, AnswersRequest, AnswersRead, Replies, looked_at, read_past, Served, none, more, TellsWant, about_read, regarding, AlikeAt, RoomFor, part_pages, asked_entries, cost_with, Turn, turns, bytes_of, frames_of, clash_of, Chooses, left_of, tells, tells_entry, stored_pages, made_entries, ServesWhatIsLeft}
-use Rattle.std.proofs.lemmas.List.Elements.{All-pop}
-use Rattle.std.proofs.lemmas.Grind.{flat_map-append}
+use Rattle.wal_served.proofs.Common.{◌≡◌, ℕ, ◌+◌, ◌≤◌, Bool, true, false, cond, List, [], ◌∷◌, ◌++◌, length, Option, Some, None, Result, Ok, Err, All, refl, sym, ◌∙◌, append-nil, arith, sum_by, false≢true, filter-append, fold_push, sum_by-append, BlobId, MetaClash, FrameError, Frame, Answer, Clash, envelope, read_of, stored_bytes, pages_for, Contents, put_id, put_part, ServedState, holding, AnswersRequest, AnswersRead, Replies, looked_at, read_past, Served, none, more, TellsWant, about_read, regarding, AlikeAt, RoomFor, part_pages, asked_entries, cost_with, Turn, turns, bytes_of, frames_of, clash_of, Chooses, left_of, tells, tells_entry, stored_pages, made_entries, ServesWhatIsLeft, All-pop, flat_map_more}
 use Rattle.wal_frame.specs.Stream.{IsPayload}
 use Rattle.wal_served.proofs.Costs.{stored_cost, forgotten_cost}
-use Rattle.wal_served.proofs.Alike.{joined, charged_pages, charged_entries, Carried, carries, wants, read_carried}
-use Rattle.wal_served.proofs.AlikeLaws.{read_still, fits_less, less_room}
+use Rattle.wal_served.proofs.Alike.{joined, charged_pages, charged_entries, Carried, carries, wants, read_carried, read_still, fits_less, less_room}
 use Rattle.wal_served.proofs.Apart.{alike_one, leaves_alike}
-use Rattle.wal_served.proofs.Changes.{Change, no_change, part_stored, slivers_went, entry_made, changes}
+use Rattle.wal_served.proofs.Replies.{Change, no_change, part_stored, slivers_went, entry_made, changes}
 
 -- ---- what an answer takes of the room
 
@@ -55,9 +52,6 @@ none_same digest may_want also one other frames clash new (Ok (Clash left right)
 none_same digest may_want also one other frames clash new (Ok frame) e h = absurd cc
 
 -- ---- lists
-
-pub flat_push : {X A : Type 0} (f : X → List A) (xs : List X) (y : X) → flat_map f (xs ++ y ∷ []) ≡ flat_map f xs ++ f y
-flat_push f xs y = rw (flat_map-append f xs (y ∷ []), append-nil (f y)) refl
 
 sum_push : {X : Type 0} (f : X → ℕ) (xs : List X) (y : X) → sum_by f (xs ++ y ∷ []) ≡ sum_by f xs + f y
 sum_push f xs y = omega (arith, sum_by-append f xs (y ∷ []))
@@ -125,7 +119,7 @@ module _ (digest : List ℕ → List ℕ) (id : BlobId) (keeps : List ℕ → Bo
         let ended : clash_of (left ++ t ∷ []) ≡ t.clash = fold_push (λ (c : Option MetaClash) (x : Turn). x.clash) None left t in
         record {
           then = a.then;
-          served = rw (ended, flat_push (λ (x : Turn). x.answered) left t, flat_push (λ (x : Turn). envelope x.sender x.payload) left t)
+          served = rw (ended, ← flat_map_more (λ (x : Turn). x.answered) [] left t, ← flat_map_more (λ (x : Turn). envelope x.sender x.payload) [] left t)
               (more (bytes_of left) (frames_of left) f.then before t.sender t.payload t.answered t.clash a.then fits a.replies);
           goes_on = λ calm_so. ended ∙ calm_so;
           alike = a.alike;

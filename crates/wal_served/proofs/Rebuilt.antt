@@ -1,21 +1,18 @@
 -- THE FIFTH LAW: a shard that is fed with the entries of an identifier and then with its parts is alike to the one that came to them.
-use Rattle.wal_served.proofs.Common.{◌≡◌, ℕ, ◌+◌, ◌<◌, ◌≤◌, ◌^◌, Bool, true, List, [], ◌∷◌, ◌++◌, length, Option, Some, None, IsSome, unwrap_or, Ok, refl, sym, ap, ◌∙◌, append_assoc, append-nil, arith, IfSome, lt-ltb, Axis, BlobId, Part, sliver_part, Frame, Metadata, Sliver, Proof, IsFrame, frame_text, metadata_frame, sliver_frame, stored_bytes, read_again, reading, until_of, own_entries, is_live, HasRoom, Parts, no_parts, part_of, with_part, part_cost, pages_for, parts_at, part_at, with_bytes, free_of, needed_for, HoldsMetadata, IsSound, metadata_reply, payload_if, proof_reply, CanBePut, Verifies, put_id, put_part, own_metadata, beside, beside_proof, verified_short, ServedState, holding, done, reply_text, AnswersRequest, desk_room, put_row, enough, cost_with, entry_payloads, sliver_payload, pages_of, kept_payloads, Rebuilds, ⊎_elim, ⊎_elim, IsAccepted, desk}
-use Rattle.wal_shape.specs.declared.axis.Axis.TheVariants as axes
-use Rattle.wal_shape.specs.declared.part.Part.TheVariants as parts
+use Rattle.wal_served.proofs.Common.{◌≡◌, ℕ, ◌+◌, ◌<◌, ◌≤◌, ◌^◌, Bool, true, List, [], ◌∷◌, ◌++◌, length, Option, Some, None, IsSome, unwrap_or, Ok, refl, sym, ap, ◌∙◌, append_assoc, append-nil, arith, IfSome, lt-ltb, Axis, BlobId, Part, sliver_part, Frame, Metadata, Sliver, Proof, IsFrame, frame_text, metadata_frame, sliver_frame, stored_bytes, read_again, reading, until_of, own_entries, is_live, HasRoom, Parts, no_parts, part_of, with_part, part_cost, pages_for, parts_at, part_at, with_bytes, free_of, needed_for, HoldsMetadata, IsSound, metadata_reply, payload_if, proof_reply, CanBePut, Verifies, put_id, put_part, own_metadata, beside, beside_proof, verified_short, ServedState, holding, done, reply_text, AnswersRequest, desk_room, put_row, enough, cost_with, entry_payloads, sliver_payload, pages_of, kept_payloads, Rebuilds, ⊎_elim, IsAccepted, desk, PutAnswer}
 use Rattle.wal_shape.specs.Metadata.{BlobMetadata, held_index}
 use Rattle.wal_shape.specs.MetadataReading.{spelled_metadata}
 use Rattle.wal_shape.specs.Spelling.{metadata_text}
 use Rattle.wal_shape.proofs.MetadataLaws.{spelled_metadata-text}
-use Rattle.wal_shard.specs.declared.answers.PutAnswer.TheVariants as putting
 use Rattle.wal_shard.proofs.OnePut.{none_some, some_is}
 use Rattle.wal_served.proofs.Apart.{stored_there}
 use Rattle.wal_served.proofs.Costs.{stored_cost}
 use Rattle.wal_served.proofs.AlikeLedgers.{same_live}
-use Rattle.wal_served.proofs.AlikeLaws.{fits_less}
+use Rattle.wal_served.proofs.Alike.{fits_less}
 use Rattle.wal_served.proofs.Standing.{Fed, fed_one, standing}
 
 unfilled : (q : Parts) (part : Part) → part_of q part ≡ None → with_part q part None ≡ q
-unfilled q parts.Metadata absent = rw (← absent)
+unfilled q Part.Metadata absent = rw (← absent)
 unfilled q part absent = rw (← absent)
 
 module _ (digest : List ℕ → List ℕ) (room sender : ℕ) (also : Bool) (other base : ServedState) (short_room : room < 2 ^ 32) where
@@ -57,7 +54,7 @@ module _ (digest : List ℕ → List ℕ) (room sender : ℕ) (also : Bool) (oth
       let answers : AnswersRequest digest also u (frame_text frame) (reply_text (done 0) ∷ []) None new =
       rw (read_again frame is)
       (put_row digest also frame u new (reply_text (done 0) ∷ []) None puts
-      (Ok (done 0), new.shard.contents, (putting.Stored, (takes, bare, free, refl), refl, tt), (refl, refl), refl)) in
+      (Ok (done 0), new.shard.contents, (PutAnswer.Stored, (takes, bare, free, refl), refl, tt), (refl, refl), refl)) in
       record {
         then = new;
         fed =
@@ -96,17 +93,17 @@ module _ (digest : List ℕ → List ℕ) (room sender : ℕ) (also : Bool) (oth
         let own = own_metadata digest base.shard.f base.shard.index id.0 p sound there in
         (own.0, own.1.held, own.1.faults, simp own.1.held.spelled (spelled_metadata-text own.0 own.1.held.fit))
 
-    metadata_feeds : (bytes : List ℕ) → p.metadata ≡ Some bytes → Grows no_parts id parts.Metadata bytes (metadata_frame (spelled_metadata bytes))
+    metadata_feeds : (bytes : List ℕ) → p.metadata ≡ Some bytes → Grows no_parts id Part.Metadata bytes (metadata_frame (spelled_metadata bytes))
     metadata_feeds bytes e =
         let had = sound.metadata bytes e in by had.0 had.1.fit had.2.identifier had.3 (some_is p.metadata bytes (metadata_text had.0) e had.1.spelled)
       where
         by : (m : BlobMetadata) → IsFrame (Metadata m) → id.0 ≡ (put_id digest (Metadata m)).0 → m.f ≡ base.shard.f → bytes ≡ metadata_text m
-            → Grows no_parts id parts.Metadata bytes (metadata_frame (spelled_metadata bytes))
+            → Grows no_parts id Part.Metadata bytes (metadata_frame (spelled_metadata bytes))
         by m fit under faults text =
             let named : id ≡ put_id digest (Metadata m) = ap (λ (l : List ℕ). record { 0 = l }) under in
             rw (text, spelled_metadata-text m fit, named)
             (feed no_parts (Metadata m) fit tt faults (omega (arith, enough digest base.shard.f (Metadata m) some few fit tt, wide))
-            (rw (← named) (live bytes parts.Metadata e)))
+            (rw (← named) (live bytes Part.Metadata e)))
 
     sliver_feeds : (axis : Axis) (q : Parts) → q.metadata ≡ p.metadata → (bytes : List ℕ) → part_of p (sliver_part axis) ≡ Some bytes
         → let m = spelled_metadata (unwrap_or p.metadata []) in Grows q id (sliver_part axis) bytes (sliver_frame id.0 axis (held_index m.format m.f axis base.shard.index) bytes)
@@ -125,7 +122,7 @@ module _ (digest : List ℕ → List ℕ) (room sender : ℕ) (also : Bool) (oth
         rw own.3 (feed q frame fit tt v
         (omega (arith, enough digest base.shard.f frame some few fit (m, own.1.fit, own.2, holds), wide)) (live bytes (sliver_part axis) e))
 
-    proof_feeds : (q : Parts) → q.metadata ≡ p.metadata → (bytes : List ℕ) → p.proof ≡ Some bytes → Grows q id parts.Proof bytes (0x13 ∷ (id.0 ++ bytes))
+    proof_feeds : (q : Parts) → q.metadata ≡ p.metadata → (bytes : List ℕ) → p.proof ≡ Some bytes → Grows q id Part.Proof bytes (0x13 ∷ (id.0 ++ bytes))
     proof_feeds q same bytes e =
         let own = own_one (beside_proof digest base.shard.f base.shard.index id.0 p sound (rw e refl)) in
         let m = own.0 in
@@ -134,20 +131,20 @@ module _ (digest : List ℕ → List ℕ) (room sender : ℕ) (also : Bool) (oth
         let fit : IsFrame frame = (size, had.1) in
         rw had.2
         (feed q frame fit tt (m, record { fit = own.1.fit; spelled = same ∙ own.1.spelled }, had.3)
-        (omega (arith, enough digest base.shard.f frame some few fit (m, own.1.fit, own.2, had.3), wide)) (live bytes parts.Proof e))
+        (omega (arith, enough digest base.shard.f frame some few fit (m, own.1.fit, own.2, had.3), wide)) (live bytes Part.Proof e))
 
     all_parts : (sofar : List (List ℕ)) → Built id no_parts sofar 0 → Room id (pages_of p)
-        → Built id p ((((sofar ++ metadata_reply p) ++ sliver_payload id.0 base.shard.index p axes.Primary) ++ sliver_payload id.0 base.shard.index p axes.Secondary) ++ proof_reply id.0 p)
+        → Built id p ((((sofar ++ metadata_reply p) ++ sliver_payload id.0 base.shard.index p Axis.Primary) ++ sliver_payload id.0 base.shard.index p Axis.Secondary) ++ proof_reply id.0 p)
         (0 + part_cost p.metadata + part_cost p.primary + part_cost p.secondary + part_cost p.proof)
     all_parts sofar b fit =
         let within : (pages : ℕ) → pages ≤ pages_of p → Room id pages = λ pages less. fits_less base.shard.limit _ _ fit (omega (arith, less)) in
-        let q1 = with_part no_parts parts.Metadata p.metadata in
-        let q2 = with_part q1 parts.Primary p.primary in
-        let q3 = with_part q2 parts.Secondary p.secondary in
-        let b1 = feed_if no_parts id sofar 0 parts.Metadata p.metadata (λ bytes. metadata_frame (spelled_metadata bytes)) b refl metadata_feeds (within _ (omega arith)) in
-        let b2 = feed_if q1 id _ _ parts.Primary p.primary _ b1 refl (sliver_feeds axes.Primary q1 refl) (within _ (omega arith)) in
-        let b3 = feed_if q2 id _ _ parts.Secondary p.secondary _ b2 refl (sliver_feeds axes.Secondary q2 refl) (within _ (omega arith)) in
-        feed_if q3 id _ _ parts.Proof p.proof (λ bytes. 0x13 ∷ (id.0 ++ bytes)) b3 refl (proof_feeds q3 refl) (within _ (omega arith))
+        let q1 = with_part no_parts Part.Metadata p.metadata in
+        let q2 = with_part q1 Part.Primary p.primary in
+        let q3 = with_part q2 Part.Secondary p.secondary in
+        let b1 = feed_if no_parts id sofar 0 Part.Metadata p.metadata (λ bytes. metadata_frame (spelled_metadata bytes)) b refl metadata_feeds (within _ (omega arith)) in
+        let b2 = feed_if q1 id _ _ Part.Primary p.primary _ b1 refl (sliver_feeds Axis.Primary q1 refl) (within _ (omega arith)) in
+        let b3 = feed_if q2 id _ _ Part.Secondary p.secondary _ b2 refl (sliver_feeds Axis.Secondary q2 refl) (within _ (omega arith)) in
+        feed_if q3 id _ _ Part.Proof p.proof (λ bytes. 0x13 ∷ (id.0 ++ bytes)) b3 refl (proof_feeds q3 refl) (within _ (omega arith))
 
 none_of : (part : Part) → part_of no_parts part ≡ None
 none_of part = grind arith
@@ -181,8 +178,8 @@ rebuilds digest id room sender may_want also one other taken frames clash state 
       pages_most = omega arith;
     })
     (rw had.shard has.pages_fit) in
-    let listed : (((entry_payloads own ++ metadata_reply p) ++ sliver_payload id.0 base.shard.index p axes.Primary)
-    ++ sliver_payload id.0 base.shard.index p axes.Secondary) ++ proof_reply id.0 p ≡ kept_payloads id state
+    let listed : (((entry_payloads own ++ metadata_reply p) ++ sliver_payload id.0 base.shard.index p Axis.Primary)
+    ++ sliver_payload id.0 base.shard.index p Axis.Secondary) ++ proof_reply id.0 p ≡ kept_payloads id state
     = simp append_assoc (rw (index_is, st.index)) in (
       b.fed.answered,
       b.then,

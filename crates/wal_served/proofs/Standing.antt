@@ -1,19 +1,10 @@
 -- What a shard comes to that began with nothing of an identifier: what it holds is sound and live, and its entries may be fed alone.
-use Rattle.wal_served.proofs.Common.{◌≡◌, ℕ, ◌+◌, ◌<◌, ◌≤◌, ◌^◌, Bool, false, max, List, [], ◌∷◌, ◌++◌, length, Option, Some, None, ◌⊎◌, inl, inr, refl, sym, ap, ◌∙◌, arith, flat_map, cases_lt, ltb-true, false≢true, BlobId, MetaClash, Frame, Metadata, Sliver, Proof, RegisterEntry, AckEntry, AttestEntry, IsFrame, IsId, frame_text, envelope, read_of, stored_bytes, frame_is, read_again, AckAnswer, Entry, Body, Kind, Holds, Denies, committee_size, quorum_size, Log, LedgerState, reading, writing, is_moving, own_entries, until_of, until_among, until_in, signer_count, entered, takes_in, Claims, acked, claim_of, id_itself, id_same, until_push, entry_in, plain_stays, Owned, stays, grows, anew, owned, Parts, no_parts, part_of, with_part, Contents, parts_at, part_at, with_bytes, IsSound, CanBePut, IsAccepted, Verifies, put_id, put_part, desk, without_slivers, sliver_then, proof_then, ServedState, holding, with_ledger, done, ack_reply, Entered, of_committee, AnswersRequest, AnswersFrame, AsksOnly, Replies, looked_at, read_past, Served, more, asks, about_read, AlikeLedgers, AlikeAt, HasNothing, entry_frame, frame_payload, entry_payloads, IsPlaced, ⊎_elim, ⊎_elim}
-use Rattle.std.proofs.lemmas.List.{length-append}
-use Rattle.wal_shape.specs.declared.axis.Axis.TheVariants as axes
-use Rattle.wal_shape.specs.declared.part.Part.TheVariants as parts
-use Rattle.wal_ledger.specs.declared.answers.AckAnswer.TheVariants as acking
-use Rattle.wal_ledger.specs.declared.answers.RegisterAnswer.TheVariants as registering
+use Rattle.wal_served.proofs.Common.{◌≡◌, ℕ, ◌+◌, ◌<◌, ◌≤◌, ◌^◌, Bool, false, max, List, [], ◌∷◌, ◌++◌, length, Option, Some, None, ◌⊎◌, inl, inr, refl, sym, ap, ◌∙◌, arith, flat_map, cases_lt, ltb-true, false≢true, BlobId, MetaClash, Frame, Metadata, Sliver, Proof, RegisterEntry, AckEntry, AttestEntry, IsFrame, IsId, frame_text, envelope, read_of, stored_bytes, frame_is, read_again, AckAnswer, Entry, Body, Kind, Holds, Denies, committee_size, quorum_size, Log, LedgerState, reading, writing, is_moving, own_entries, until_of, until_among, until_in, signer_count, entered, takes_in, Claims, acked, claim_of, id_itself, id_same, until_push, entry_in, plain_stays, Owned, stays, grows, anew, owned, Parts, no_parts, part_of, with_part, Contents, parts_at, part_at, with_bytes, IsSound, CanBePut, IsAccepted, Verifies, put_id, put_part, desk, without_slivers, sliver_then, proof_then, ServedState, holding, with_ledger, done, ack_reply, Entered, of_committee, AnswersRequest, AnswersFrame, AsksOnly, Replies, looked_at, read_past, Served, more, asks, about_read, AlikeLedgers, AlikeAt, HasNothing, entry_frame, frame_payload, entry_payloads, IsPlaced, ⊎_elim, RegisterAnswer, Axis, Part, length-append, flat_map_more}
 use Rattle.wal_shard.proofs.Soundness.{none_sound, metadata_sound, without_sliver_sound}
-use Rattle.wal_serve.specs.Serving as serving
-use Rattle.wal_served.proofs.Replies.{Reply}
-use Rattle.wal_served.proofs.BothKinds.{of_claim}
-use Rattle.wal_served.proofs.Changes.{Enterable, to_register, to_claim, enter_plain, enter_names, Change, no_change, part_stored, slivers_went, entry_made, changes}
+use Rattle.wal_served.proofs.Replies.{Reply, of_claim, Enterable, to_register, to_claim, enter_plain, enter_names, Change, no_change, part_stored, slivers_went, entry_made, changes}
 use Rattle.wal_served.proofs.AlikeLedgers.{joined_ledgers, both_entered, claim_too, register_too}
 use Rattle.wal_served.proofs.Alike.{the_one}
 use Rattle.wal_served.proofs.Apart.{stored_there, slivers_gone, changed_elsewhere}
-use Rattle.wal_served.proofs.Left.{flat_push}
 
 -- ---- an entry that may be made, at another ledger
 
@@ -34,13 +25,13 @@ enters digest also id s t _ a size few place some (to_register until may low) = 
   fits = (size, low);
   only = tt;
   answered = _;
-  answers = (done _, _, (registering.Registered _, (register_too id s.ledger t.ledger a until may, some, refl, refl), refl), (refl, refl), refl);
+  answers = (done _, _, (RegisterAnswer.Registered _, (register_too id s.ledger t.ledger a until may, some, refl, refl), refl), (refl, refl), refl);
 }
 enters digest also id s t _ a size few place some (to_claim kind shard may where_it_is) =
     let now = claim_too id s.ledger.log t.ledger.log a kind shard may in
     elim (cases_lt (signer_count new.log id kind (writing new.log)) (quorum_size t.ledger.log.f)) [
-      | inl less ↦ claimed (acking.Counted _) ((now, some, refl, refl), less)
-      | inr many ↦ claimed (acking.Certified _) ((now, some, refl, refl), many)
+      | inl less ↦ claimed (AckAnswer.Counted _) ((now, some, refl, refl), less)
+      | inr many ↦ claimed (AckAnswer.Certified _) ((now, some, refl, refl), many)
     ]
   where
     new : LedgerState
@@ -85,7 +76,7 @@ module _ (digest : List ℕ → List ℕ) (room sender : ℕ) (also : Bool) (oth
       → AnswersRequest digest also t payload answered None new → Fed (sofar ++ payload ∷ []) new
   fed_one sofar payload t new answered short_room fed within answers = record {
     answered = fed.answered ++ answered;
-    served = rw (flat_push (envelope sender) sofar payload)
+    served = rw (← flat_map_more (envelope sender) [] sofar payload)
         (more _ fed.answered t fed.served sender payload answered None new (omega arith) (looked_at answered None new within answers));
   }
 
@@ -123,7 +114,7 @@ module _ (digest : List ℕ → List ℕ) (id : BlobId) (room sender : ℕ) (als
     live = inl (nothing.entries, nothing.parts);
     fed = λ few. record {
       then = other;
-      fed = rw nothing.entries (record { answered = []; served = serving.none });
+      fed = rw nothing.entries (record { answered = []; served = Served.none });
       ledgers = first.ledgers;
       shard = refl;
       spare = omega (arith, ap length nothing.entries);
@@ -173,8 +164,8 @@ module _ (digest : List ℕ → List ℕ) (id : BlobId) (room sender : ℕ) (als
     went_here =
         let c = s.shard.contents in
         held_changes (without_slivers c id)
-        (rw (slivers_gone c id) (without_sliver_sound digest one.shard.f one.shard.index id.0 axes.Secondary (with_part (parts_at c id) parts.Primary None)
-        (without_sliver_sound digest one.shard.f one.shard.index id.0 axes.Primary (parts_at c id) st.sound)))
+        (rw (slivers_gone c id) (without_sliver_sound digest one.shard.f one.shard.index id.0 Axis.Secondary (with_part (parts_at c id) Part.Primary None)
+        (without_sliver_sound digest one.shard.f one.shard.index id.0 Axis.Primary (parts_at c id) st.sound)))
         (⊎_elim (λ none. inl (none.0, rw (slivers_gone c id, none.1))) (λ now. inr now) st.live)
 
     -- ---- entries
@@ -226,7 +217,7 @@ module _ (digest : List ℕ → List ℕ) (id : BlobId) (room sender : ℕ) (als
               let whole = fed_one digest room sender also other (entry_payloads own) (frame_text e.frame) t new e.answered placed.fits had.fed (omega (arith, short, placed.enough)) answers in
               record {
                 then = new;
-                fed = rw (one_more_own, flat_push (λ (x : Entry). frame_payload (entry_frame x.body)) own last, e.is) whole;
+                fed = rw (one_more_own, ← flat_map_more (λ (x : Entry). frame_payload (entry_frame x.body)) [] own last, e.is) whole;
                 ledgers = both_entered id s.ledger.log t.ledger.log had.ledgers b (enter_plain s id b may);
                 shard = had.shard;
                 spare = omega (arith, had.spare, few_own, sizes);
@@ -260,7 +251,7 @@ module _ (digest : List ℕ → List ℕ) (id : BlobId) (room sender : ℕ) (als
 
   -- whatever was served
   pub standing : (may_want : Bool) (taken : List ℕ) (frames : List (List ℕ)) (clash : Option MetaClash) (state : ServedState) → Served (AnswersRequest digest may_want) room one taken frames clash state → Standing state
-  standing may_want _ _ _ _ serving.none = at_start
+  standing may_want _ _ _ _ Served.none = at_start
   standing may_want _ _ _ _ (more front frames mid before sent payload some clash new fits replies) = by (standing may_want front frames None mid before) replies
     where
       by : {s : List (List ℕ)} {c : Option MetaClash} {n : ServedState} → Standing mid → Replies (AnswersRequest digest may_want) room mid payload s c n → Standing n

@@ -56,7 +56,11 @@ alone f own contents = with_contents (empty_committee f (others f own)) own cont
 -- alone correct: the format in which blobs are written and the first completed answers, which no
 -- request touches, are those of any world
 abbrev pub world_of : World → ServedState → World
-world_of w s = record w { log = s.ledger.log; now = alone s.shard.f s.shard.index s.shard.contents; next = nobody }
+world_of w s = record w {
+  log = s.ledger.log;
+  now = alone s.shard.f s.shard.index s.shard.contents;
+  next = nobody;
+}
 
 -- a shard of the ledger's committee, whose epoch isn't changing, and each shard has a node of its
 -- own

@@ -1,25 +1,19 @@
 -- What is held under each identifier once one of them changed.
-use Rattle.wal_shard.proofs.Common.{◌≡◌, Bool, true, false, cond, Option, Some, None, refl, sym, ap, ◌∙◌, subst, unwrap_or, arith, eq_by_cmp, is_eq, get-insert, get-remove, get-retain_keys, BlobId, id_cmp, Parts, no_parts, is_empty, Contents, parts_at, with_parts}
-use Rattle.std.specs.declared.cmp.Ordering.{Ordering}
-use Rattle.std.specs.declared.cmp.Ordering.TheVariants.{Equal}
+use Rattle.wal_shard.proofs.Common.{inl, inr, cases_Bool, ◌≡◌, Bool, true, cond, Option, Some, None, sym, ap, ◌∙◌, subst, unwrap_or, arith, eq_by_cmp, is_eq, get-insert, get-remove, get-retain_keys, BlobId, id_cmp, Parts, no_parts, is_empty, Contents, parts_at, with_parts}
 use Rattle.std.specs.Cmp.{tied_itself}
 use Rattle.std.specs.FinMap as map
 use Rattle.wal_store.proofs.IdentifierLaws.{ids_total, exact_ids}
 
-equal_of : (o : Ordering) → is_eq o ≡ true → o ≡ Equal
-equal_of o e = grind arith
-
 -- identifiers that test alike are one
 pub same_id : (q id : BlobId) → eq_by_cmp id_cmp q id ≡ true → q ≡ id
-same_id q id e = exact_ids q id (equal_of (id_cmp q id) e)
+same_id q id e = exact_ids q id (grind arith)
 
 -- the contents are the same but for one identifier, under which these parts are held
 pub record ChangesAt (old : Contents) (id : BlobId) (p : Parts) (new : Contents) : Type 0 where
   pub at : (q : BlobId) → parts_at new q ≡ cond (eq_by_cmp id_cmp q id) p (parts_at old q)
 
 parts_if : (b : Bool) (x y : Option Parts) → unwrap_or (cond b x y) no_parts ≡ cond b (unwrap_or x no_parts) (unwrap_or y no_parts)
-parts_if true x y = refl
-parts_if false x y = refl
+parts_if b x y = grind arith
 
 pub insert_changes : (c : Contents) (id : BlobId) (p : Parts) → ChangesAt c id p (map.insert c id p)
 insert_changes c id p = record { at = λ q. ap (λ o. unwrap_or o no_parts) (get-insert ids_total c id p q) ∙ parts_if (eq_by_cmp id_cmp q id) (Some p) (map.get c q) }
@@ -31,19 +25,14 @@ remove_changes c id = record { at = λ q. ap (λ o. unwrap_or o no_parts) (get-r
 nothing : (p : Parts) → is_empty p ≡ true → no_parts ≡ p
 nothing p e = grind arith
 
-by_emptiness : (c : Contents) (id : BlobId) (p : Parts) (b : Bool) → is_empty p ≡ b → ChangesAt c id p (cond b (map.remove c id) (map.insert c id p))
-by_emptiness c id p true e = subst (λ x. ChangesAt c id x (map.remove c id)) (nothing p e) (remove_changes c id)
-by_emptiness c id p false e = insert_changes c id p
-
 pub with_parts_changes : (c : Contents) (id : BlobId) (p : Parts) → ChangesAt c id p (with_parts c id p)
-with_parts_changes c id p = by_emptiness c id p (is_empty p) refl
-
--- an identifier is itself
-tied : (id : BlobId) → eq_by_cmp id_cmp id id ≡ true
-tied id = ap is_eq (tied_itself ids_total id)
+with_parts_changes c id p = elim (cases_Bool (is_empty p)) [
+  | inl none ↦ rw none (subst (λ x. ChangesAt c id x (map.remove c id)) (nothing p none) (remove_changes c id))
+  | inr some ↦ rw some (insert_changes c id p)
+]
 
 pub changed_there : (c n : Contents) (id : BlobId) (p : Parts) → ChangesAt c id p n → parts_at n id ≡ p
-changed_there c n id p h = h.at id ∙ ap (λ (b : Bool). cond b p (parts_at c id)) (tied id)
+changed_there c n id p h = h.at id ∙ ap (λ (b : Bool). cond b p (parts_at c id)) (ap is_eq (tied_itself ids_total id))
 
 -- what is held where only some identifiers are retained
 pub retained : (c : Contents) (keeps : BlobId → Bool) (q : BlobId) → parts_at (map.retain_keys c keeps) q ≡ cond (keeps q) (parts_at c q) no_parts

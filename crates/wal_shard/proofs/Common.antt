@@ -1,6 +1,7 @@
 -- What the proofs of this crate cite from elsewhere, and of its own definitions, handed on from one place. Declares nothing.
-pub use Rattle.std.proofs.Common.{◌≡◌, ℕ, Bool, true, false, cond, Option, Some, None, List, Result, Ok, Err, refl, sym, ap, ◌∙◌, subst, unwrap_or, arith, ◌≢◌, ◌+◌, IsSome, [], take, drop, ◌*◌, ◌<◌, ◌≤◌, length, ◌↔◌, IsTrue, is_some, ◌-◌, ◌/◌, ◌∷◌, ◌++◌, append_assoc, rules, nat_eq, slice_get}
+pub use Rattle.std.proofs.Common.{◌≡◌, ℕ, Bool, true, false, cond, Option, Some, None, List, Result, Ok, Err, refl, sym, ap, ◌∙◌, subst, unwrap_or, arith, inl, inr, ◌≢◌, ◌+◌, IsSome, [], take, drop, ◌*◌, ◌<◌, ◌≤◌, length, ◌↔◌, IsTrue, is_some, ◌-◌, ◌/◌, ◌∷◌, ◌++◌, append_assoc, rules, nat_eq, slice_get}
 pub use Rattle.std.proofs.Math.Nat.{mul-le-mul_left, mul-le-mul_right}
+pub use Rattle.std.proofs.lemmas.Bool.{false≢true, cond_both, cases_Bool}
 pub use Rattle.std.specs.FinMap.{get-empty, get-insert, get-remove, get-retain_keys}
 pub use Rattle.std.specs.Ordering.{eq_by_cmp, is_eq}
 pub use Rattle.std.specs.Prelude.{OnOk, OnErr}

@@ -1,5 +1,5 @@
 -- What sound holdings hold: the metadata, and how long each part is.
-use Rattle.wal_shard.proofs.Common.{◌≡◌, ◌↔◌, ℕ, ◌+◌, ◌*◌, ◌≤◌, Bool, Option, Some, None, IsTrue, IsSome, List, [], length, sym, ap, ◌∙◌, subst, unwrap_or, arith, Axis, Primary, Secondary, shard_count, column_count, symbol_size, most_bytes, BlobMetadata, IsMetadata, held_index, metadata_text, proof_text, text_size, EncodingProof, IsProof, proof_shown, length-metadata_text, text_size-least, text_size-most, Parts, part_of, with_part, HoldsSliver, IsBadProof, Sliver, Proof, sliver_part, HoldsMetadata, IsSound, Verifies, IsOwnMetadata}
+use Rattle.wal_shard.proofs.Common.{◌≡◌, ◌↔◌, ℕ, ◌+◌, ◌*◌, ◌≤◌, Bool, Option, Some, IsTrue, IsSome, List, [], length, sym, ap, ◌∙◌, subst, unwrap_or, arith, Axis, shard_count, column_count, symbol_size, most_bytes, BlobMetadata, IsMetadata, held_index, metadata_text, proof_text, text_size, EncodingProof, IsProof, proof_shown, length-metadata_text, text_size-least, text_size-most, Parts, part_of, with_part, HoldsSliver, IsBadProof, Sliver, Proof, sliver_part, HoldsMetadata, IsSound, Verifies, IsOwnMetadata}
 use Rattle.wal_shape.specs.declared.proof.ProofRef.{ProofRef}
 use Rattle.wal_shape.proofs.ProofLaws.{proof_text-injective, IsProof-spelled}
 use Rattle.wal_shape.specs.declared.part.Part.TheVariants as parts
@@ -27,15 +27,10 @@ module _ (digest : List ℕ → List ℕ) (f : ℕ) (shard : ℕ) (id : List ℕ
   own_size : (m : BlobMetadata) → IsOwnMetadata digest f id p m → length (unwrap_or p.metadata []) ≡ text_size m.format m.f
   own_size m own = ap (λ (o : Option (List ℕ)). length (unwrap_or o [])) own.held.spelled ∙ length-metadata_text m own.held.fit
 
-  pub metadata_short : IsSound digest f id shard p → IsSome p.metadata → length (unwrap_or p.metadata []) ≤ 64011
-  metadata_short s some =
+  pub metadata_between : IsSound digest f id shard p → IsSome p.metadata → (10 ≤ length (unwrap_or p.metadata [])) × (length (unwrap_or p.metadata []) ≤ 64011)
+  metadata_between s some =
       let own = own_metadata s some in
-      omega (arith, own_size own.0 own.1, text_size-most own.0.format own.0.f, own.1.held.fit.shape.1)
-
-  pub metadata_long : IsSound digest f id shard p → IsSome p.metadata → 10 ≤ length (unwrap_or p.metadata [])
-  metadata_long s some =
-      let own = own_metadata s some in
-      omega (arith, own_size own.0 own.1, text_size-least own.0.format own.0.f)
+      omega (arith, own_size own.0 own.1, text_size-least own.0.format own.0.f, text_size-most own.0.format own.0.f, own.1.held.fit.shape.1)
 
   pub metadata_fits : IsSound digest f id shard p → IsSome p.metadata → length (unwrap_or p.metadata []) ≤ 11 + 64 * shard_count f
   metadata_fits s some =
@@ -85,19 +80,12 @@ module _ (digest : List ℕ → List ℕ) (f : ℕ) (shard : ℕ) (id : List ℕ
       → IsSound digest f id shard (with_part p parts.Proof (Some (proof_text q)))
   proof_then q v fit s = proof_sound digest f shard id p v.0 q v.1 v.2 fit s
 
-  there : (o : Option (List ℕ)) → (o ≡ None → ⊥) → IsSome o
-  there o h = grind arith
-
-  not_there : (o : Option (List ℕ)) → o ≡ None → IsSome o → ⊥
-  not_there o e h = grind arith
-
   -- beside a part metadata is held
   pub beside : (axis : Axis) → IsSound digest f id shard p → IsSome (part_of p (sliver_part axis)) → IsSome p.metadata
-  beside Primary s some = there p.metadata (λ e. not_there p.primary (s.alone e).0 some)
-  beside Secondary s some = there p.metadata (λ e. not_there p.secondary (s.alone e).1 some)
+  beside axis s some = grind (arith, s.alone)
 
   pub beside_proof : IsSound digest f id shard p → IsSome p.proof → IsSome p.metadata
-  beside_proof s some = there p.metadata (λ e. not_there p.proof (s.alone e).2 some)
+  beside_proof s some = grind (arith, s.alone)
 
   pub sliver_fits : (axis : Axis) → IsSound digest f id shard p → IsSome (part_of p (sliver_part axis)) → length (unwrap_or (part_of p (sliver_part axis)) []) ≤ column_count f * symbol_size f most_bytes
   sliver_fits axis s some =

@@ -4,11 +4,6 @@ use Rattle.wal_shape.specs.declared.part.Part.TheVariants as parts
 use Rattle.wal_shard.proofs.Changes.{insert_changes, changed_there}
 use Rattle.wal_shard.proofs.Soundness.{put_sound, metadata_sound, sliver_sound, proof_sound}
 
--- what is held after bytes were put
-put_there : (c : Contents) (id : BlobId) (part : Part) (bytes : List ℕ) → parts_at (with_bytes c id part bytes) id ≡ with_part (parts_at c id) part (Some bytes)
-put_there c id part bytes =
-    changed_there c (with_bytes c id part bytes) id (with_part (parts_at c id) part (Some bytes)) (insert_changes c id (with_part (parts_at c id) part (Some bytes)))
-
 module _ (digest : List ℕ → List ℕ) (f shard : ℕ) where
   kept_by : (c : Contents) (id : BlobId) (part : Part) (bytes : List ℕ) (o : Option (List ℕ)) → AreSound digest f shard c
       → (o ≡ None → IsSound digest f id.0 shard (with_part (parts_at c id) part (Some bytes)))
@@ -43,7 +38,8 @@ kept_held_by : (c : Contents) (id : BlobId) (m : BlobMetadata) (o : Option (List
     → ((other : List ℕ) → o ≡ Some other → other ≡ metadata_text m)
     → HoldsMetadata (parts_at (cond (is_some o) c (with_bytes c id parts.Metadata (metadata_text m))) id) m
 kept_held_by c id m None e fit same =
-    record { fit = fit; spelled = ap (λ p. p.metadata) (put_there c id parts.Metadata (metadata_text m)) }
+    let put = insert_changes c id (with_part (parts_at c id) parts.Metadata (Some (metadata_text m))) in
+    record { fit = fit; spelled = ap (λ p. p.metadata) (changed_there c _ id _ put) }
 kept_held_by c id m (Some x) e fit same =
     record { fit = fit; spelled = e ∙ ap (λ (t : List ℕ). Some t) (same x refl) }
 

@@ -1,6 +1,5 @@
 -- A put has one answer.
-use Rattle.wal_shard.proofs.Common.{◌≡◌, ◌≢◌, ℕ, ◌<◌, false, List, Option, Some, None, IsSome, sym, subst, ◌∙◌, arith, BlobId, BlobMetadata, metadata_text, Frame, Metadata, Sliver, Proof, Parts, Contents, parts_at, part_at, PutAnswer, Stored, Held, Unregistered, NoMetadata, Unverified, OtherMetadata, Full, Memory, PutDesk, IsHeldIn, Puts, PutsOrWants, RestsOnMetadata, Verifies, put_id, put_part}
-use Rattle.std.proofs.lemmas.Bool.{false≢true}
+use Rattle.wal_shard.proofs.Common.{false≢true, ◌≡◌, ◌≢◌, ℕ, ◌<◌, false, List, Option, Some, None, IsSome, sym, subst, ◌∙◌, arith, BlobId, BlobMetadata, metadata_text, Frame, Metadata, Sliver, Proof, Parts, Contents, parts_at, part_at, PutAnswer, Stored, Held, Unregistered, NoMetadata, Unverified, OtherMetadata, Full, Memory, PutDesk, IsHeldIn, Puts, PutsOrWants, RestsOnMetadata, Verifies, put_id, put_part}
 use Rattle.wal_shape.specs.declared.text.MetaClash.{MetaClash}
 use Rattle.wal_shape.specs.declared.part.Part.TheVariants as parts
 use Rattle.wal_store.specs.Answer.{HasRoom}

@@ -16,11 +16,6 @@ appended_then b x y =
     let room : b.spare - length x - length y ≡ b.spare - length (x ++ y) = omega (arith, length-append x y) in
     cc (append_assoc b.bytes x y, room)
 
-appended_none : (b : Buffer) → b ≡ appended b []
-appended_none b =
-    let room : b.spare ≡ b.spare - 0 = omega arith in
-    λ i. record { bytes = sym (append-nil b.bytes) i; spare = room i }
-
 pub length-envelope : (sender : ℕ) (payload : List ℕ) → length (envelope sender payload) ≡ 7 + length payload
 length-envelope sender payload = omega arith
 
@@ -32,7 +27,9 @@ room_left old new sender payload e =
 
 -- nothing is written
 pub writes_none : (sender : ℕ) (b : Buffer) → WritesReply sender b [] 0 b
-writes_none sender b = record { written = appended_none b; counted = refl }
+writes_none sender b =
+    let room : b.spare ≡ b.spare - 0 = omega arith in
+    record { written = λ i. record { bytes = sym (append-nil b.bytes) i; spare = room i }; counted = refl }
 
 -- one payload is written
 pub writes_one : (sender : ℕ) (old new : Buffer) (payload : List ℕ) → new ≡ appended old (envelope sender payload) → WritesReply sender old (payload ∷ []) 1 new

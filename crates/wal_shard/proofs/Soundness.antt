@@ -1,5 +1,5 @@
 -- What is held stays sound.
-use Rattle.wal_shard.proofs.Common.{◌≡◌, ℕ, Bool, true, false, cond, Option, Some, None, List, Result, Ok, Err, refl, sym, ap, ◌∙◌, subst, unwrap_or, arith, OnOk, OnErr, eq_by_cmp, get-empty, BlobId, Axis, Primary, Secondary, id_cmp, BlobMetadata, held_index, metadata_text, proof_text, EncodingProof, IsProof, metadata_text-injective, Part, Parts, no_parts, part_of, with_part, Contents, parts_at, with_bytes, without_part, Commits, HoldsSliver, IsBadProof, Log, is_live, sliver_part, HoldsMetadata, IsSound, without_slivers, without_dead, AreSound}
+use Rattle.wal_shard.proofs.Common.{cond_both, ◌≡◌, ℕ, Option, Some, None, List, Result, Ok, Err, refl, sym, ap, ◌∙◌, subst, unwrap_or, arith, OnOk, OnErr, eq_by_cmp, get-empty, BlobId, Axis, Primary, Secondary, id_cmp, BlobMetadata, held_index, metadata_text, proof_text, EncodingProof, IsProof, metadata_text-injective, Part, Parts, no_parts, part_of, with_part, Contents, parts_at, with_bytes, without_part, Commits, HoldsSliver, IsBadProof, Log, is_live, sliver_part, HoldsMetadata, IsSound, without_slivers, without_dead, AreSound}
 use Rattle.std.specs.FinMap as map
 use Rattle.wal_shape.specs.declared.part.Part.TheVariants as parts
 use Rattle.wal_shard.proofs.Changes.{ChangesAt, same_id, insert_changes, with_parts_changes, retained}
@@ -85,20 +85,14 @@ module _ (digest : List ℕ → List ℕ) (f : ℕ) (shard : ℕ) where
     metadata = λ text e. let had = s.metadata text e in (had.0, record { fit = had.1.fit; spelled = had.1.spelled }, had.2, had.3);
     alone = λ e. absurd (cc (e, held.spelled));
     slivers = λ axis n text h e. s.slivers axis n text (record { fit = h.fit; spelled = h.spelled }) (sym (same_proof_slivers axis p (Some (proof_text q))) ∙ e);
-    proof =
-        λ n text h e. (q, fit, cc, subst (λ x. IsBadProof digest x q) (one_metadata p m n held (record { fit = h.fit; spelled = h.spelled })) bad);
+    proof = λ n text h e. (q, fit, cc, rw (← one_metadata p m n held (record { fit = h.fit; spelled = h.spelled })) bad);
   }
-
-  cond_sound : (id : List ℕ) (p old : Parts) (b : Bool) → (b ≡ true → IsSound digest f id shard p)
-      → IsSound digest f id shard old → IsSound digest f id shard (cond b p old)
-  cond_sound id p old true new s = new refl
-  cond_sound id p old false new s = s
 
   -- contents that changed under one identifier
   pub changed_sound : (c n : Contents) (id : BlobId) (p : Parts) → ChangesAt c id p n → AreSound digest f shard c → IsSound digest f id.0 shard p → AreSound digest f shard n
   changed_sound c n id p h s new q =
       subst (IsSound digest f q.0 shard) (sym (h.at q))
-      (cond_sound q.0 p (parts_at c q) (eq_by_cmp id_cmp q id) (λ e. rw (same_id q id e) new) (s q))
+      (cond_both (eq_by_cmp id_cmp q id) p (parts_at c q) (IsSound digest f q.0 shard) (λ e. rw (same_id q id e) new) (λ other. s q))
 
   pub put_sound : (c : Contents) (id : BlobId) (part : Part) (bytes : List ℕ) → AreSound digest f shard c
       → IsSound digest f id.0 shard (with_part (parts_at c id) part (Some bytes)) → AreSound digest f shard (with_bytes c id part bytes)
@@ -122,7 +116,7 @@ module _ (digest : List ℕ → List ℕ) (f : ℕ) (shard : ℕ) where
   pub without_dead_sound : (log : Log) (c : Contents) → AreSound digest f shard c → AreSound digest f shard (without_dead log c)
   without_dead_sound log c s q =
       subst (IsSound digest f q.0 shard) (sym (retained c (is_live log) q))
-      (cond_sound q.0 (parts_at c q) no_parts (is_live log q) (λ e. s q) (none_sound q.0))
+      (cond_both (is_live log q) (parts_at c q) no_parts (IsSound digest f q.0 shard) (λ live. s q) (λ dead. none_sound q.0))
 
   pub empty_sound : AreSound digest f shard map.empty
   empty_sound q = subst (IsSound digest f q.0 shard) (sym (ap (λ o. unwrap_or o no_parts) (get-empty id_cmp q))) (none_sound q.0)

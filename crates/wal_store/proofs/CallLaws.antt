@@ -1,5 +1,7 @@
 -- Two keeps under one contract, and the same calls.
-use Rattle.wal_store.proofs.Common.{◌≡◌, ◌≢◌, ℕ, ◌<◌, ◌≤◌, Bool, false, Option, Some, List, [], ◌∷◌, ◌++◌, ◌⊎◌, inl, inr, ◌↔◌, Ok, Err, IsOk, OnOk, OnErr, All, refl, sym, ap, ◌∙◌, subst, arith, append_assoc, false≢true, All-nil, All-cons, All-head, All-tail, All-append, BlobId, Part, Full, Memory, Contents, with_bytes, free_of, needed_for, HasRoom, IsPutAnswer, PutAnswer, Call, Put, after_call, after_calls, AreLawful, after_put, RunsTo, Continues, NoneWants, WantsNext, GoTogether}
+use Rattle.wal_store.proofs.Common.{◌≡◌, ◌≢◌, ℕ, ◌<◌, ◌≤◌, Bool, false, Option, Some, List, [], ◌∷◌, ◌++◌, ◌⊎◌, inl, inr, ◌↔◌, Ok, Err, IsOk, OnOk, OnErr, All, refl, sym, ap, ◌∙◌, subst, arith, append_assoc, All-nil, All-cons, All-head, All-tail, All-append, BlobId, Part, Full, Memory, Contents, with_bytes, free_of, needed_for, HasRoom, IsPutAnswer, PutAnswer, Call, Put, after_call, after_calls, AreLawful, after_put, RunsTo, Continues, NoneWants, WantsNext, GoTogether, ◌+◌, length, take, drop, sum, drop-drop, take-length, sum_by-cons}
+use Rattle.std.proofs.Math.Seq.{take-add}
+use Rattle.wal_store.specs.Copies.{copies}
 
 not_both : (limit : Option ℕ) (m : Contents) (id : BlobId) (bytes : List ℕ) (needed free : ℕ) → HasRoom (free_of limit m) (needed_for m id bytes) → free_of limit m ≡ Some free → needed ≡ needed_for m id bytes → free < needed → ⊥
 not_both limit m id bytes needed free room is need full =
@@ -7,7 +9,6 @@ not_both limit m id bytes needed free room is need full =
     absurd (omega arith)
 
 pub puts_agree : (limit : Option ℕ) (l r : Bool) (m : Contents) (id : BlobId) (bytes : List ℕ) (a b : PutAnswer) → IsPutAnswer limit l m id bytes a → IsPutAnswer limit r m id bytes b → a ≢ Err Memory → b ≢ Err Memory → a ≡ b
-puts_agree limit l r m id bytes (Ok x) (Ok y) p q some other = refl
 puts_agree limit l r m id bytes (Ok x) (Err (Full n f)) p q some other = absurd (not_both limit m id bytes n f p q.0 q.1 q.2)
 puts_agree limit l r m id bytes (Err (Full n f)) (Ok y) p q some other = absurd (not_both limit m id bytes n f q p.0 p.1 p.2)
 puts_agree limit l r m id bytes (Err (Full n f)) (Err (Full k g)) p q some other = cc (p.0, p.1, q.0, q.1)
@@ -30,8 +31,7 @@ runs_agree limit l r old m n (call ∷ calls) xs ys p q some other =
 runs_agree limit l r old m n [] xs ys p q some other = grind arith
 
 no_want : (limit : Option ℕ) (m : Contents) (id : BlobId) (bytes : List ℕ) (a : PutAnswer) → IsPutAnswer limit false m id bytes a → a ≢ Err Memory
-no_want limit m id bytes (Err Memory) p is = cc
-no_want limit m id bytes a p is = cc
+no_want limit m id bytes a p is = grind arith
 
 pub never_wants : (limit : Option ℕ) (old new : Contents) (calls : List Call) (xs : List PutAnswer) → RunsTo limit false old calls xs new → NoneWants xs
 never_wants limit old new [] [] p = All-nil has_memory
@@ -54,8 +54,8 @@ join_runs limit w old new call more step first (drop ∷ calls) xs run =
     join_runs limit w old new call more step (after_call first drop) calls xs run
 
 pub put_continues : (limit : Option ℕ) (w : Bool) (old new : Contents) (id : BlobId) (part : Part) (bytes : List ℕ) (a : PutAnswer) → IsPutAnswer limit w old id bytes a → OnOk a (new ≡ with_bytes old id part bytes) → OnErr a (new ≡ old) → Continues limit w old (Put id part bytes) (a ∷ []) new
-put_continues limit w old new id part bytes (Ok x) answer stored refused = join_runs limit w old new (Put id part bytes) (Ok x ∷ []) (answer, stored)
-put_continues limit w old new id part bytes (Err e) answer stored refused = join_runs limit w old new (Put id part bytes) (Err e ∷ []) (answer, refused)
+put_continues limit w old new id part bytes a answer stored refused =
+    join_runs limit w old new (Put id part bytes) (a ∷ []) (answer, grind arith)
 
 -- whether a put found memory short
 wants_or_not : (a : PutAnswer) → (a ≡ Err Memory) ⊎ (a ≢ Err Memory)
@@ -135,8 +135,7 @@ runs_together limit l r old m n [] xs ys p q = grind arith
 
 -- a run in which each put stores
 put_stored : (old : Contents) (id : BlobId) (part : Part) (bytes : List ℕ) (a : PutAnswer) → IsOk a → after_put old id part bytes a ≡ with_bytes old id part bytes
-put_stored old id part bytes (Ok done) is = refl
-put_stored old id part bytes (Err e) is = absurd (false≢true is)
+put_stored old id part bytes a is = grind arith
 
 pub ends_after_calls : (limit : Option ℕ) (w : Bool) (old new : Contents) (calls : List Call) (xs : List PutAnswer) → RunsTo limit w old calls xs new → All IsOk xs → new ≡ after_calls old calls
 ends_after_calls limit w old new [] [] p all = p
@@ -158,3 +157,15 @@ lawful-append old [] more = (λ all. (tt, all), λ both. both.1)
 lawful-append old (call ∷ first) more =
     let rest = lawful-append (after_call old call) first more in
     (λ all. let both = rest.0 all.1 in ((all.0, both.0), both.1), λ both. (both.0.0, rest.1 (both.0.1, both.1)))
+
+-- ---- Copies of consecutive ranges.
+
+pub copies_join : (bytes : List ℕ) (at : ℕ) (sizes : List ℕ) → copies bytes at sizes ≡ take (sum sizes) (drop at bytes)
+copies_join bytes at [] = refl
+copies_join bytes at (size ∷ sizes) =
+    ap (λ bs. take size (drop at bytes) ++ bs) (copies_join bytes (at + size) sizes ∙ ap (take (sum sizes)) (sym (drop-drop size at bytes)))
+    ∙ sym (take-add size (sum sizes) (drop at bytes))
+    ∙ ap (λ n. take n (drop at bytes)) (sym (sum_by-cons (λ n. n) size sizes))
+
+pub copies_make_all : (bytes : List ℕ) (sizes : List ℕ) → sum sizes ≡ length bytes → copies bytes 0 sizes ≡ bytes
+copies_make_all bytes sizes all = copies_join bytes 0 sizes ∙ ap (λ n. take n bytes) all ∙ take-length bytes

@@ -1,20 +1,12 @@
 -- Chains of pages, and what a change of some pages leaves of the others.
-use Rattle.wal_store.proofs.Common.{◌≡◌, ℕ, zero, suc, ◌+◌, ◌<◌, ◌≤◌, cond, Option, Some, List, [], ◌∷◌, slice_get, slice_index, refl, ap, ◌∙◌, arith, eq-eqb, ◌-◌, ◌*◌, min, ◌++◌, length, take, drop, count_by, sym, ◌≢◌, inl, inr, take-add, take-nil, take_min, take-append-drop, drop_all, append-nil, take-take, drop-take, drop_at, drop-append-le, cases_eq, PageState, Free, Taken, bytes_in, IsTakenPage, is_free, page_bytes, Linked, links, joined, uses, taken_in, taken_at, Adds, Frees, pages_for}
+use Rattle.wal_store.proofs.Common.{◌≡◌, ℕ, zero, suc, ◌+◌, ◌<◌, ◌≤◌, cond, List, [], ◌∷◌, slice_get, slice_index, refl, ap, ◌∙◌, arith, eq-eqb, ◌-◌, ◌*◌, min, ◌++◌, length, take, drop, count_by, sym, ◌≢◌, inl, inr, take-add, take-nil, take_min, take-append-drop, drop_all, append-nil, take-take, drop-take, drop_at, drop-append-le, cases_eq, PageState, IsTakenPage, is_free, page_bytes, Linked, links, joined, uses, taken_at, Adds, Frees, pages_for}
 use Rattle.std.proofs.lemmas.List.{length-take, length-drop, drop-drop}
 
-taken_in-le : (o : Option PageState) → taken_in o ≤ 1
-taken_in-le (Some Free) = omega arith
-taken_in-le o = omega arith
-
 pub taken_at-le : (ss : List PageState) (k : ℕ) → taken_at ss k ≤ 1
-taken_at-le ss k = taken_in-le (slice_get ss k)
-
-taken_of : (o : Option PageState) → 0 < taken_in o → o ≡ Some (Taken (bytes_in o))
-taken_of (Some (Taken bytes)) is = refl
-taken_of o is = absurd (omega arith)
+taken_at-le ss k = grind arith
 
 pub taken_is : (ss : List PageState) (k : ℕ) → 0 < taken_at ss k → IsTakenPage ss k
-taken_is ss k is = taken_of (slice_get ss k) is
+taken_is ss k is = grind arith
 
 pub uses_self : (k : ℕ) (ks : List ℕ) → uses k (k ∷ ks) ≡ 1 + uses k ks
 uses_self k ks = ap (λ b. cond {A = ℕ} b 1 0 + uses k ks) (eq-eqb k k refl)
@@ -54,19 +46,17 @@ adds_more a b c p ks first then = record {
 -- ---- The loops that store bytes in a chain and give a chain back.
 
 pub take-append : (n : ℕ) (xs ys : List ℕ) → take n (xs ++ ys) ≡ take n xs ++ take (n - length xs) ys
-take-append zero [] ys = refl
-take-append zero (x ∷ xs) ys = let none : 0 - length (x ∷ xs) ≡ 0 = omega arith in cc
-take-append (suc n) [] ys = let whole : suc n ≡ suc n - length {A = ℕ} [] = omega arith in ap (λ m. take m ys) whole
 take-append (suc n) (x ∷ xs) ys =
     let same : n - length xs ≡ suc n - length (x ∷ xs) = omega arith in cc (same, take-append n xs ys)
+take-append (suc n) [] ys = let whole : suc n ≡ suc n - length {A = ℕ} [] = omega arith in ap (λ m. take m ys) whole
+take-append n xs ys = grind arith
 
 -- one more page at the front of what is stored
 page_stored : (size : ℕ) (page rest all : List ℕ) → length page ≡ size → take (min size (length all)) page ≡ take size all → take (length all - size) rest ≡ drop size all → take (length all) (page ++ rest) ≡ all
 page_stored size page rest all long front back =
     let whole : min (length all) (length page) ≡ min size (length all) = omega (arith, long) in
-    let first : take (length all) page ≡ take size all = cc (take_min (length all) page, whole) in
     let n : length all - length page ≡ length all - size = omega (arith, long) in
-    cc (take-append (length all) page rest, first, n, take-append-drop size all)
+    cc (take-append (length all) page rest, take_min (length all) page, whole, n, take-append-drop size all)
 
 -- so many chunks from the end of the bytes are stored
 pub record Stored (size : ℕ) (old now : Linked) (bytes : List ℕ) (done left first : ℕ) : Type 0 where
@@ -91,13 +81,10 @@ stored_more size old now next bytes chunk done left first page so_far adds link 
     let same_bytes : joined next.states ks ≡ joined now.states ks = joined_same now.states next.states ks (λ j used. adds.states j (apart j used)) in
     let all : List ℕ = drop (size * left) bytes in
     let size_all : length all ≡ length bytes - size * left = length-drop (size * left) bytes in
-    let front_is : take (min size (length all)) (page_bytes next.states page) ≡ take size all =
-    cc (length-take size all) in
     let later : size * suc left ≡ size * left + size = omega arith in
     let fewer : length all - size ≡ length bytes - size * suc left = omega (arith, size_all, later) in
-    let back : take (length all - size) (joined next.states ks) ≡ drop size all =
-    cc (so_far.content, drop-drop size (size * left) bytes) in
-    let content = page_stored size (page_bytes next.states page) (joined next.states ks) all long front_is back in
+    let content = page_stored size (page_bytes next.states page) (joined next.states ks) all long
+    (cc (length-take size all)) (cc (so_far.content, drop-drop size (size * left) bytes)) in
     record {
       adds = rw chain (adds_more old now next page ks so_far.adds adds);
       content = cc (content, chain, size_all);
@@ -177,7 +164,6 @@ pub reading_more : (l : Linked) (size : ℕ) (want : List ℕ) (total done offse
 reading_more l size want total done offset left page n r some long is more =
     let m : ℕ = left - 1 in
     let w : ℕ = total - done in
-    let lower : n ≤ w = omega arith in
     let apart : left ≢ 0 = λ none. absurd (omega (arith, r.room, ap (λ x. size * x) none)) in
     let step : left ≡ suc m = omega arith in
     let b : List ℕ = page_bytes l.states page in
@@ -188,7 +174,7 @@ reading_more l size want total done offset left page n r some long is more =
     let front : length (drop offset b) ≡ size - offset = length-drop offset b ∙ ap (λ x. x - offset) long in
     let short : n - length (drop offset b) ≡ 0 = omega (arith, front) in
     let piece : take n (drop offset b) ≡ take n (drop done want) =
-    cc (all, take-take n w _ lower, take-append n (drop offset b) rest, short, append-nil (take n (drop offset b))) in
+    cc (all, take-take n w _ (omega arith), take-append n (drop offset b) rest, short, append-nil (take n (drop offset b))) in
     let sum : n + (w - n) ≡ w = omega arith in
     let tail : take (w - n) (drop n (drop offset b ++ rest)) ≡ take (w - n) rest =
     elim (cases_eq n (size - offset)) [
@@ -196,11 +182,10 @@ reading_more l size want total done offset left page n r some long is more =
       | inr other ↦ let none : w - n ≡ 0 = omega arith in cc
     ] in
     let fewer : total - (done + n) ≡ w - n = omega arith in
-    let grown : size * left ≡ size * m + size = ap (λ x. size * x) step ∙ omega arith in
     record {
       next = record {
         taken = rest_taken l left m page step r.taken;
-        room = omega (arith, r.room, grown);
+        room = omega (arith, r.room, ap (λ x. size * x) step);
         bytes = cc (fewer, tail, drop-take n (w - n) (drop offset b ++ rest), sum, all, drop-drop n done want);
         inside = some;
       };

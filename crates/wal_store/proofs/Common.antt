@@ -1,7 +1,7 @@
 -- What the proofs of this crate cite from elsewhere, and of its own definitions, handed on from one place. Declares nothing.
 pub use Rattle.std.proofs.Common.{◌≡◌, ℕ, zero, suc, ◌+◌, ◌<◌, ◌≤◌, Option, Some, None, List, [], ◌∷◌, length, take, replicate, slice_get, slice_set, get_or, refl, ap, ◌∙◌, arith, set-set, slice_index, option_map, Bool, true, ◌&&◌, map, count_by, sym, Less, Greater, eq-eqb, lt-ltb, le-leb, ◌++◌, drop, sum, drop-drop, ◌≢◌, inl, inr, false, cond, is_some, filter, Equal, ◌-◌, not, Ok, Err, IfSome, unwrap_or, T, Ordering, is_eq, append_assoc, is_lt, nat_eq, Result, IfOk, IfErr, ◌*◌, min, take-add, IsSome, insert, remove, ◌⊎◌, ◌↔◌, IsOk, OnOk, OnErr, All, subst, rules, vec_len, slice_index_or, vec_capacity, option_to_list, length-set, length-take, length-drop}
 pub use Rattle.std.proofs.Math.Seq.{take-length, take-nil}
-pub use Rattle.std.proofs.lemmas.Bool.{cases_eq, cases_lt, or_cases, true≢false, false≢true, cases_order, cases_Bool}
+pub use Rattle.std.proofs.lemmas.Bool.{cases_eq, cases_lt, or_cases, true≢false, false≢true, cases_order, cases_Bool, cond_both}
 pub use Rattle.std.proofs.lemmas.Bool.Decides.{nat_tests}
 pub use Rattle.std.proofs.lemmas.Cmp.{on_total, nat_list_cmp_total}
 pub use Rattle.std.proofs.lemmas.List.{map-set, length-map, map-id, length-append, get_or-set_same, get_or-set_other, take_min, take-append-drop, drop_all, append-nil, take-take, drop-take, drop_at, drop-append-le, map-append, take-map, drop-map}

@@ -41,10 +41,11 @@ module _ {X : Type 0} (P : X → Type 0) where
   all-at (y ∷ xs) zero x all found = let same : y ≡ x = cc in rw same at all.0
   all-at (y ∷ xs) (suc i) x all found = all-at xs i x all.1 found
 
-  pub all-set : (xs : List X) (i : ℕ) (x : X) → AllByRecursion P xs → P x → AllByRecursion P (slice_set xs i x)
-  all-set [] i x all p = tt
-  all-set (y ∷ xs) zero x all p = (p, all.1)
-  all-set (y ∷ xs) (suc i) x all p = (all.0, all-set xs i x all.1 p)
+  -- an element that is changed, where what held of it before does so afterwards
+  pub all-change : (xs : List X) (i : ℕ) (x y : X) → AllByRecursion P xs → slice_get xs i ≡ Some x → (P x → P y) → AllByRecursion P (slice_set xs i y)
+  all-change [] i x y all found kept = tt
+  all-change (z ∷ xs) zero x y all found kept = let same : z ≡ x = cc in (kept (rw same at all.0), all.1)
+  all-change (z ∷ xs) (suc i) x y all found kept = (all.0, all-change xs i x y all.1 found kept)
 
   pub all-insert : (xs : List X) (i : ℕ) (x : X) → AllByRecursion P xs → P x → AllByRecursion P (insert xs i x)
   all-insert (y ∷ xs) (suc i) x all p = (all.0, all-insert xs i x all.1 p)
@@ -52,7 +53,6 @@ module _ {X : Type 0} (P : X → Type 0) where
   all-insert xs i x all p = (p, tt)
 
   pub all-remove : (xs : List X) (i : ℕ) → AllByRecursion P xs → AllByRecursion P (remove xs i)
-  all-remove (x ∷ xs) zero all = all.1
   all-remove (x ∷ xs) (suc i) all = (all.0, all-remove xs i all.1)
-  all-remove [] zero all = tt
+  all-remove xs zero all = assumption
   all-remove [] i all = tt

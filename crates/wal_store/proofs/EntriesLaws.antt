@@ -20,8 +20,7 @@ module _ {K X : Type 0} (R : K → K → Ordering) where
   pub empty_view : fin.from_sorted {R = R} [] ≡ fin.empty {X = X}
   unfolding IsStrictlySortedBy
   empty_view =
-      let none : fin.entries (fin.from_sorted {X = X} {R = R} []) ≡ [] = entries_view [] tt in
-      fin.empty_of_len (fin.from_sorted []) (fin.len-entries (fin.from_sorted []) ∙ ap length none)
+      fin.empty_of_len (fin.from_sorted []) (fin.len-entries (fin.from_sorted []) ∙ ap length (entries_view [] tt))
 
   pub len_view : (es : List (K × X)) → IsStrictlySortedBy R (keys_of es) → fin.len (fin.from_sorted {R = R} es) ≡ length es
   len_view es sorted = fin.len-entries (fin.from_sorted {R = R} es) ∙ ap length (entries_view es sorted)
@@ -100,19 +99,17 @@ module _ {K X : Type 0} (R : K → K → Ordering) (total : IsTotalOrder R) wher
   pub set_at : (es : List (K × X)) (i : ℕ) (k : K) (v w : X) → IsStrictlySortedBy R (keys_of es)
       → slice_get es i ≡ Some (k, v) → slice_set es i (k, w) ≡ insert_entry R es k w
   unfolding IsStrictlySortedBy
-  set_at [] i k v w sorted found = cc
-  set_at (e ∷ es) zero k v w sorted found = cc (tied_itself total k)
   set_at (e ∷ es) (suc i) k v w sorted found =
       cc (head_below e.0 es i k v sorted.0 found, set_at es i k v w sorted.1 found)
+  set_at es i k v w sorted found = cc (tied_itself total k)
 
   -- an entry that goes
   pub remove_at : (es : List (K × X)) (i : ℕ) (k : K) (v : X) → IsStrictlySortedBy R (keys_of es)
       → slice_get es i ≡ Some (k, v) → remove es i ≡ remove_entry (is_at (R k)) es
   unfolding IsStrictlySortedBy
-  remove_at [] i k v sorted found = cc
-  remove_at (e ∷ es) zero k v sorted found = cc (tied_itself total k)
   remove_at (e ∷ es) (suc i) k v sorted found =
       cc (head_below e.0 es i k v sorted.0 found, remove_at es i k v sorted.1 found)
+  remove_at es i k v sorted found = cc (tied_itself total k)
 
   -- an entry in a gap
   pub insert_at : (es : List (K × X)) (i : ℕ) (k : K) (v : X)

@@ -1,10 +1,11 @@
 -- Rows at places against entries under identifiers.
-use Rattle.wal_store.proofs.Common.{◌≡◌, ℕ, suc, ◌+◌, ◌-◌, ◌<◌, ◌≤◌, Bool, true, false, cond, ◌&&◌, Option, Some, None, List, [], ◌∷◌, map, length, take, drop, replicate, slice_get, slice_set, get_or, IsSome, count_by, refl, sym, ap, ◌∙◌, arith, insert, remove, eq_by_cmp_equiv, tied_itself, IsStrictlySortedBy, keys_of, remove_entry, is_at, insert_entry, length-map, drop-take, take-take, length-insert, get_or-insert_at, sum_by-cons, lookup-remove_entry, lookup_from_place, lookup_at_gap, IsDistinct-from_sorted, slice_get-map, slice_get-get_or, slice_get_read, slice_get_within, BlobId, Part, Metadata, Primary, Secondary, Proof, Slot, Row, id_cmp, Parts, no_parts, part_of, with_part, is_absent, is_empty, cost_of, pages_for, PageState, Free, is_free, all_pages, Linked, links, uses, taken_at, Entries, found_in, parts_in, cost_in, changed_in, no_slots, slot_of, content, part_in, parts_of, ids_of, entries_of, no_slot, is_bare, Owns, IsGap}
+use Rattle.wal_store.proofs.Common.{◌≡◌, ℕ, suc, ◌+◌, ◌-◌, ◌<◌, ◌≤◌, Bool, true, false, cond, Option, Some, None, List, [], ◌∷◌, map, length, take, drop, replicate, slice_get, slice_set, get_or, count_by, refl, sym, ap, ◌∙◌, arith, insert, remove, eq_by_cmp_equiv, tied_itself, IsStrictlySortedBy, keys_of, remove_entry, is_at, insert_entry, length-map, drop-take, take-take, length-insert, get_or-insert_at, sum_by-cons, lookup-remove_entry, lookup_from_place, lookup_at_gap, IsDistinct-from_sorted, slice_get-map, slice_get-get_or, slice_get_read, slice_get_within, BlobId, Part, Metadata, Primary, Secondary, Proof, Slot, Row, id_cmp, Parts, no_parts, part_of, with_part, is_empty, cost_of, pages_for, PageState, Free, is_free, all_pages, Linked, links, uses, taken_at, Entries, found_in, parts_in, cost_in, changed_in, no_slots, slot_of, content, part_in, parts_of, ids_of, entries_of, is_bare, Owns, IsGap, StoreState, IsSome}
 use Rattle.std.proofs.lemmas.List.Folds.{sum_by-replicate}
 use Rattle.wal_store.proofs.IdentifierLaws.{ids_total}
 use Rattle.wal_store.proofs.EntriesLaws.{gone_none, set_at, remove_at, insert_at, found_put, put_twice, remove_put}
 use Rattle.wal_store.proofs.TableLaws.{keys_of-entries_of, slice_get-entries_of, part_of-slot, Sized, slot_of_row, slot_taken}
-use Rattle.wal_store.proofs.HeldLaws.{empty_still}
+use Rattle.std.specs.FinMap as fin
+use Rattle.wal_store.proofs.StockLaws.{empty_still, Shows, shows_of}
 
 -- a row at the place of its identifier, among entries in order
 pub record RowAt (l : Linked) (rows : List Row) (i : ℕ) (id : BlobId) (r : Row) : Type 0 where
@@ -16,14 +17,19 @@ pub entries_sorted : (l : Linked) (rows : List Row) → Owns l rows
     → IsStrictlySortedBy id_cmp (keys_of (entries_of l rows))
 entries_sorted l rows owns = rw (keys_of-entries_of l rows) owns.sorted
 
+-- what a pool's view says of its entries
+pub shows_rows : {l : Linked} {rows : List Row} {limit : Option ℕ} {s : StoreState} → Owns l rows
+    → ◌≡◌ {A = StoreState} (record { contents = fin.from_sorted {R = id_cmp} (entries_of l rows); limit = limit }) s
+    → Shows (entries_of l rows) s.contents
+shows_rows {l} {rows} owns view = shows_of (entries_sorted l rows owns) view
+
 row_at : (l : Linked) (rows : List Row) (i : ℕ) (id : BlobId) (r : Row) → Owns l rows
     → slice_get (ids_of rows) i ≡ Some id → slice_get rows i ≡ Some r → RowAt l rows i id r
 row_at l rows i id r owns at found =
     let es : Entries = entries_of l rows in
     let ordered = entries_sorted l rows owns in
     let same : r.id ≡ id = cc (slice_get-map (λ (q : Row). q.id) rows i) in
-    let here : slice_get es i ≡ Some (id, parts_of l r) =
-    slice_get-entries_of l rows i r found ∙ ap (λ x. Some (x, parts_of l r)) same in
+    let here : slice_get es i ≡ Some (id, parts_of l r) = cc (slice_get-entries_of l rows i r found) in
     record {
       found = lookup_from_place (eq_by_cmp_equiv ids_total) es i id (parts_of l r)
           (IsDistinct-from_sorted id_cmp (keys_of es) ordered) here;
@@ -78,8 +84,7 @@ slice_get-insert xs i x within =
 -- ---- the bytes of a part
 
 slot_gone : (l : Linked) (o : Option Slot) → part_in l o ≡ None → o ≡ None
-slot_gone l None is = refl
-slot_gone l (Some s) is = cc
+slot_gone l o is = grind arith
 
 -- a part that is not held has no slot
 pub slot_free : (l : Linked) (rows : List Row) (i : ℕ) (id : BlobId) (part : Part) (r : Row) → Owns l rows
@@ -90,8 +95,7 @@ slot_free l rows i id part r owns at absent found =
     slot_gone l (slot_of r part) (cc (here.found, part_of-slot l r part))
 
 none_held : (part : Part) → part_of no_parts part ≡ None
-none_held Metadata = refl
-none_held part = refl
+none_held part = grind arith
 
 -- no part is held under an identifier that belongs in a gap
 pub part_gap : (l : Linked) (rows : List Row) (i : ℕ) (id : BlobId) (part : Part) → Owns l rows
@@ -118,7 +122,7 @@ pub slot_at : (l : Linked) (rows : List Row) (i : ℕ) (id : BlobId) (part : Par
     → o ≡ Some s → SlotAt l rows id part s
 slot_at l rows i id part r o s owns at read slot is =
     let found = slice_get_read rows _ i r refl (place_within rows i id at) read in
-    let here : slot_of r part ≡ Some s = sym slot ∙ is in
+    let here : slot_of r part ≡ Some s = cc in
     record {
       bytes = part_at l rows i id part r o (Some s) owns at read slot is;
       sized = slot_of_row l rows i r part s owns.sized found here;
@@ -133,8 +137,7 @@ pub within_front : (size at n : ℕ) (xs : List ℕ) → at + n ≤ size → tak
 within_front size at n xs fits =
     let m : ℕ = size - at in
     let sum : size ≡ at + m = omega arith in
-    ap (λ k. take n (drop at (take k xs))) sum ∙ ap (take n) (drop-take at m xs)
-    ∙ take-take n m (drop at xs) (omega arith)
+    cc (drop-take at m xs, take-take n m (drop at xs) (omega arith))
 
 pub rows_fit : (l : Linked) (rows : List Row) (pages : ℕ) → all_pages l rows ≡ pages
     → length rows + count_by is_free l.states ≤ pages
@@ -151,13 +154,8 @@ pub dropped_none : (es : Entries) (id : BlobId) (part : Part) → found_in es id
     → es ≡ changed_in es id (with_part (parts_in es id) part None)
 dropped_none es id part found = cc (empty_still part, gone_none (is_at (id_cmp id)) es found)
 
-slot_absent : (l : Linked) (o : Option Slot) → no_slot o ≡ is_absent (part_in l o)
-slot_absent l None = refl
-slot_absent l (Some s) = refl
-
 bare_empty : (l : Linked) (r : Row) → is_bare r ≡ is_empty (parts_of l r)
-bare_empty l r =
-    cc (slot_absent l r.metadata, slot_absent l r.primary, slot_absent l r.secondary, slot_absent l r.proof)
+bare_empty l r = grind arith
 
 -- where a part of a row goes, and the row with the last one
 pub part_gone : (l m : Linked) (rows now : List Row) (i : ℕ) (id : BlobId) (part : Part) (s : Row) (b : Bool)
@@ -180,12 +178,7 @@ part_gone l m rows now i id part s b owns later at ids read bare change =
 -- ---- all parts go, one after the other
 
 empty_is : (p : Parts) → is_empty p ≡ true → p ≡ no_parts
-empty_is p all = by p.metadata p.primary p.secondary p.proof all
-  where
-    by : (m p s f : Option (List ℕ)) → is_absent m && is_absent p && is_absent s && is_absent f ≡ true
-        → ◌≡◌ {A = Parts} (record { metadata = m; primary = p; secondary = s; proof = f }) no_parts
-    by None None None None all = refl
-    by m p s f all = cc
+empty_is p all = grind arith
 
 -- what a part that goes leaves under its identifier
 record Left (es now : Entries) (id : BlobId) (p : Parts) : Type 0 where

@@ -115,23 +115,16 @@ row_gone S order unused i k is at = record {
   rows = map-remove (row_of S) order i;
 }
 
--- the numbers from one on have each number once
-below_range : (a n k : ℕ) → k < a → uses k (range_with_len a n) ≡ 0
-below_range a zero k below = refl
-below_range a (suc n) k below = grind (arith, nat_tests, below_range (a + 1) n k (omega arith))
-
-range_once : (a n k : ℕ) → uses k (range_with_len a n) ≤ 1
-range_once a zero k = omega arith
-range_once a (suc n) k = grind (arith, nat_tests, range_once (a + 1) n k, below_range (a + 1) n k)
-
-range_within : (a n k : ℕ) → 0 < uses k (range_with_len a n) → k < a + n
-range_within a zero k u = absurd (omega arith)
-range_within a (suc n) k u = grind (arith, nat_tests, range_within (a + 1) n k)
+range_uses : (a n k : ℕ)
+    → (uses k (range_with_len a n) ≤ 1) × (0 < uses k (range_with_len a n) → (a ≤ k) × (k < a + n))
+range_uses a zero k = omega arith
+range_uses a (suc n) k =
+    let rest = range_uses (a + 1) n k in (grind (arith, nat_tests), λ used. grind (arith, nat_tests))
 
 pub no_order : (S : List Row) (order unused : List ℕ) (n : ℕ) → length S ≡ n → order ≡ [] → unused ≡ range_with_len 0 n → IsOrder S order unused
 no_order S order unused n long none all = record {
-  once = λ k. omega (arith, ap (uses k) none, ap (uses k) all, range_once 0 n k);
-  within = λ k u. omega (arith, range_within 0 n k (omega (arith, u, ap (uses k) none, ap (uses k) all)), long);
+  once = λ k. omega (arith, ap (uses k) none, ap (uses k) all, (range_uses 0 n k).0);
+  within = λ k u. omega (arith, ((range_uses 0 n k).1 (omega (arith, u, ap (uses k) none, ap (uses k) all))).1, long);
   all = omega (arith, ap length none, ap length all, length-range_with_len 0 n, long);
 }
 

@@ -1,11 +1,11 @@
 -- One pass over what is held lets all go that is not chosen.
-use Rattle.wal_store.proofs.Common.{◌≡◌, ℕ, zero, suc, ◌+◌, ◌≢◌, ◌<◌, ◌≤◌, inl, inr, Bool, true, false, cond, is_some, Option, Some, None, List, [], ◌∷◌, length, filter, slice_get, refl, sym, ap, ◌∙◌, arith, Equal, list_any, eq_by_cmp, IsStrictlySortedBy, Equal-is, tied_itself, get-retain_keys, get-remove, same_map, contains_key-keys, len-entries, cases_eq, cases_lt, or_cases, true≢false, false≢true, length-map, length-filter, count_by-le-length, BlobId, id_cmp, Parts, Contents, is_past, next_id}
+use Rattle.wal_store.proofs.Common.{◌≡◌, ℕ, zero, suc, ◌+◌, ◌≢◌, ◌<◌, ◌≤◌, inl, inr, Bool, true, false, cond, is_some, Option, Some, None, List, [], ◌∷◌, length, filter, slice_get, refl, sym, ap, ◌∙◌, arith, Equal, list_any, eq_by_cmp, Equal-is, tied_itself, get-retain_keys, get-remove, same_map, contains_key-keys, len-entries, cases_eq, cases_lt, or_cases, cases_Bool, true≢false, false≢true, length-map, length-filter, count_by-le-length, BlobId, id_cmp, Parts, Contents, is_past, next_id}
 use Rattle.std.specs.List.{remove}
 use Rattle.std.specs.Ordering.{is_lt}
 use Rattle.std.specs.FinMap as fin
 use Rattle.wal_store.proofs.Edits.{sum-remove, sum-within}
 use Rattle.wal_store.proofs.IdentifierLaws.{ids_total, exact_ids}
-use Rattle.wal_store.proofs.NextLaws.{in_order, IsFirstAt, first_at}
+use Rattle.wal_store.proofs.StockLaws.{in_order, IsFirstAt, first_at}
 use Rattle.wal_store.proofs.OrderLaws.{less_of, sorted_of, closes_place, keeps_below, moves_down}
 
 same_key : (q x : BlobId) → eq_by_cmp id_cmp q x ≡ true → q ≡ x
@@ -65,16 +65,12 @@ module _ (f : BlobId → Bool) where
   all_stay : (m : Contents) → ((x : BlobId) (j : ℕ) → slice_get (fin.keys m) j ≡ Some x → f x ≡ true) → fin.retain_keys m f ≡ m
   all_stay m all = same_map ids_total exact_ids (fin.retain_keys m f) m (λ q. get-retain_keys m f q (alike q) ∙ stays m all q (fin.get m q) refl)
 
-  gone_by : (m : Contents) (id q : BlobId) → f id ≡ false
-      → cond (f q) (cond (eq_by_cmp id_cmp q id) None (fin.get m q)) None ≡ cond (f q) (fin.get m q) None
-  gone_by m id q out = grind (arith, same_key q id)
-
   -- one that is not chosen goes first
   gone_first : (m : Contents) (id : BlobId) → f id ≡ false → fin.retain_keys (fin.remove m id) f ≡ fin.retain_keys m f
   gone_first m id out =
       same_map ids_total exact_ids (fin.retain_keys (fin.remove m id) f) (fin.retain_keys m f) (λ q.
-      get-retain_keys (fin.remove m id) f q (alike q) ∙ ap (λ o. cond (f q) o None) (get-remove ids_total m id q)
-      ∙ gone_by m id q out ∙ sym (get-retain_keys m f q (alike q)))
+      let kept = get-retain_keys (fin.remove m id) f q (alike q) in
+      grind (arith, kept, get-remove ids_total m id q, get-retain_keys m f q (alike q), same_key q id))
 
   -- what a pass has done: the rest comes to the same, and all up to this identifier are chosen
   pub record Passed (old now : Contents) (last : Option BlobId) : Type 0 where
@@ -94,59 +90,40 @@ module _ (f : BlobId → Bool) where
   -- one more step of it
   pub next_passed : (old now new : Contents) (last : Option BlobId) (id : BlobId) → Passed old now last → Some id ≡ next_id now last → new ≡ cond (f id) now (fin.remove now id)
       → Passed old new (Some id) × (length (filter (is_past (Some id)) (fin.keys new)) < length (filter (is_past last) (fin.keys now)))
-  next_passed old now new last id passed next is = by (f id) refl is
-    where
-      ids : List BlobId
-      ids = fin.keys now
-
-      sorted : IsStrictlySortedBy id_cmp ids
-      sorted = sorted_of (fin.entries now) (fin.entries_sorted now)
-
-      first : (i : ℕ) × IsFirstAt (is_past last) ids id i
-      first = first_at (is_past last) ids id (sym next)
-
-      place : ℕ
-      place = first.0
-
-      here : IsFirstAt (is_past last) ids id place
-      here = first.1
-
+  next_passed old now new last id passed next is =
+      let ids : List BlobId = fin.keys now in
+      let sorted = sorted_of (fin.entries now) (fin.entries_sorted now) in
+      let first = first_at (is_past last) ids id (sym next) in
+      let place : ℕ = first.0 in
+      let here : IsFirstAt (is_past last) ids id place = first.1 in
       -- those at other places that are not past this one are chosen
-      others : (x : BlobId) (j : ℕ) → slice_get ids j ≡ Some x → j ≢ place → is_past (Some id) x ≡ false → f x ≡ true
-      others x j at other past = elim (cases_lt j place) [
+      let others : (x : BlobId) (j : ℕ) → slice_get ids j ≡ Some x → j ≢ place → is_past (Some id) x ≡ false → f x ≡ true =
+      λ x j at other past. elim (cases_lt j place) [
         | inl less ↦ passed.chosen x j at (here.before j x less at)
-        | inr above ↦
-            let past_it = ap is_lt (in_order ids place j id x sorted (omega arith) here.at at) in
-            absurd (true≢false (sym past_it ∙ past))
+        | inr above ↦ absurd (cc (ap is_lt (in_order ids place j id x sorted (omega arith) here.at at), past))
+      ] in
+      let fewer = fewer_pass (is_past last) (is_past (Some id)) ids place id here.at here.passes (not_past_itself id)
+      (λ x then. past_both last id x here.passes then) in
+      elim (cases_Bool (f id)) [
+        | inl in_choice ↦
+            let chosen : (x : BlobId) (j : ℕ) → slice_get ids j ≡ Some x → is_past (Some id) x ≡ false → f x ≡ true =
+            λ x j at past. elim (cases_eq j place) [
+              | inl same ↦ let is : x ≡ id = cc here.at in ap f is ∙ in_choice
+              | inr other ↦ others x j at other past
+            ] in
+            rw (rw in_choice at is) (record { same = passed.same; chosen = chosen }, fewer)
+        | inr out ↦
+            let p : BlobId → Bool = is_past (Some id) in
+            let less = sum-remove (λ ks. length (filter p ks)) (λ x. cond (p x) 1 0) (length-filter p) ids place id here.at in
+            let chosen : (x : BlobId) (j : ℕ) → slice_get (fin.keys (fin.remove now id)) j ≡ Some x → p x ≡ false → f x ≡ true =
+            λ x j at past. elim (cases_lt j place) [
+              | inl less ↦ others x j (sym (keeps_below now id place j here.at less) ∙ at) (omega arith) past
+              | inr above ↦ others x (j + 1) (sym (moves_down now id place j here.at above) ∙ at) (omega arith) past
+            ] in
+            let after : Passed old (fin.remove now id) (Some id) =
+            record { same = gone_first now id out ∙ passed.same; chosen = chosen } in
+            rw (rw out at is) (after, rw (closes_place now id place here.at) (omega (arith, fewer, less)))
       ]
-
-      fewer : length (filter (is_past (Some id)) ids) < length (filter (is_past last) ids)
-      fewer = fewer_pass (is_past last) (is_past (Some id)) ids place id here.at here.passes (not_past_itself id) (λ x then. past_both last id x here.passes then)
-
-      closed : fin.keys (fin.remove now id) ≡ remove ids place
-      closed = closes_place now id place here.at
-
-      by : (b : Bool) → f id ≡ b → new ≡ cond b now (fin.remove now id) → Passed old new (Some id)
-          × (length (filter (is_past (Some id)) (fin.keys new)) < length (filter (is_past last) ids))
-      by true in_choice kept = rw kept (record { same = passed.same; chosen = chosen }, fewer)
-        where
-          chosen : (x : BlobId) (j : ℕ) → slice_get ids j ≡ Some x → is_past (Some id) x ≡ false → f x ≡ true
-          chosen x j at past = elim (cases_eq j place) [
-            | inl same ↦ let is : x ≡ id = cc here.at in ap f is ∙ in_choice
-            | inr other ↦ others x j at other past
-          ]
-      by false out gone =
-          let p : BlobId → Bool = is_past (Some id) in
-          let less = sum-remove (λ ks. length (filter p ks)) (λ x. cond (p x) 1 0) (length-filter p) ids place id here.at in
-          let after : Passed old (fin.remove now id) (Some id) =
-          record { same = gone_first now id out ∙ passed.same; chosen = chosen } in
-          rw gone (after, rw closed (omega (arith, fewer, less)))
-        where
-          chosen : (x : BlobId) (j : ℕ) → slice_get (fin.keys (fin.remove now id)) j ≡ Some x → is_past (Some id) x ≡ false → f x ≡ true
-          chosen x j at past = elim (cases_lt j place) [
-            | inl less ↦ others x j (sym (keeps_below now id place j here.at less) ∙ at) (omega arith) past
-            | inr above ↦ others x (j + 1) (sym (moves_down now id place j here.at above) ∙ at) (omega arith) past
-          ]
 
 -- as many are still to come as are held, at the start
 pub all_to_come : (m : Contents) → length (filter (is_past None) (fin.keys m)) ≤ fin.len m

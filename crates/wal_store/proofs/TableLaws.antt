@@ -1,10 +1,10 @@
 -- A table of rows that owns its pages, changed at a place.
-use Rattle.wal_store.proofs.Common.{◌≡◌, ℕ, zero, suc, ◌+◌, ◌<◌, Option, Some, None, List, [], ◌∷◌, length, take, slice_get, slice_set, slice_index, refl, ap, ◌∙◌, arith, option_map, ◌≤◌, Bool, true, ◌&&◌, map, count_by, sym, Less, Greater, eq-eqb, lt-ltb, le-leb, AllByRecursion, sum_by, keys_of, ordering_reverse, IsStrictlySortedBy, is_sum_by, slice_get-map, some_pair_parts, nat_tests, map-set, sum_by-cons, bytes_in, is_free, Part, Metadata, Primary, Secondary, Proof, Slot, Row, part_of, with_part, pages_for, Parts, no_parts, part_cost, cost_of, Linked, links, uses, joined, taken_at, Adds, Frees, slot_of, with_slot, slot_links, part_in, parts_of, ids_of, entries_of, row_uses, rows_use, are_sized, IsSized, IsHome, no_slots, slot_cost, content, is_sized, Owns, IsGap, BlobId, id_cmp, Entries, cost_in, all_pages}
+use Rattle.wal_store.proofs.Common.{◌≡◌, ℕ, zero, suc, ◌+◌, ◌<◌, Option, Some, None, List, [], ◌∷◌, length, take, slice_get, slice_set, slice_index, refl, ap, ◌∙◌, arith, option_map, ◌≤◌, true, map, count_by, sym, Less, Greater, eq-eqb, lt-ltb, le-leb, AllByRecursion, sum_by, keys_of, ordering_reverse, IsStrictlySortedBy, is_sum_by, slice_get-map, some_pair_parts, nat_tests, map-set, sum_by-cons, bytes_in, is_free, Part, Slot, Row, part_of, with_part, pages_for, Parts, no_parts, part_cost, cost_of, Linked, links, uses, joined, taken_at, Adds, Frees, slot_of, with_slot, slot_links, part_in, parts_of, ids_of, entries_of, row_uses, rows_use, are_sized, IsSized, IsHome, no_slots, slot_cost, content, is_sized, Owns, IsGap, BlobId, id_cmp, Entries, cost_in, all_pages}
 use Rattle.std.specs.List.{insert, remove}
 use Rattle.wal_shape.specs.Shape.{most_bytes}
 use Rattle.wal_store.proofs.ChainLaws.{uses_self, links_same, joined_same, taken_at-le, adds_apart}
-use Rattle.wal_store.proofs.HeldLaws.{part_swap}
-use Rattle.wal_store.proofs.Edits.{map-insert, map-remove, sum-insert, sum-set, sum-remove, sum-within, all-at, all-set, all-insert, all-remove}
+use Rattle.wal_store.proofs.StockLaws.{part_swap}
+use Rattle.wal_store.proofs.Edits.{map-insert, map-remove, sum-insert, sum-set, sum-remove, sum-within, all-at, all-change, all-insert, all-remove}
 use Rattle.wal_store.proofs.IdentifierLaws.{ids_total}
 
 -- a page is seen alike in two tables
@@ -28,10 +28,8 @@ row_same old new row same =
     let m = slot_same old new row.metadata (λ j used. same j (omega arith)) in
     let p = slot_same old new row.primary (λ j used. same j (omega arith)) in
     let s = slot_same old new row.secondary (λ j used. same j (omega arith)) in
-    let f = slot_same old new row.proof (λ j used. same j (omega arith)) in (
-      λ k. cc (m.0, p.0, s.0, f.0),
-      cc (m.1, p.1, s.1, f.1),
-    )
+    let f = slot_same old new row.proof (λ j used. same j (omega arith)) in
+    (λ k. cc (m.0, p.0, s.0, f.0), cc (m.1, p.1, s.1, f.1))
 
 pub record RowsSame (old new : Linked) (rows : List Row) : Type 0 where
   pub uses : (k : ℕ) → rows_use new.next k rows ≡ rows_use old.next k rows
@@ -54,8 +52,7 @@ rows_same old new (r ∷ rs) same =
 
 -- the page of a holding, after a change of a part
 pub home_with : (l : Linked) (r : Row) (part : Part) (slot : Option Slot) → IsHome l r → IsHome l (with_slot r part slot)
-home_with l r Metadata slot home = home
-home_with l r part slot home = home
+home_with l r part slot home = grind arith
 
 pub keys_of-entries_of : (l : Linked) (rows : List Row) → keys_of (entries_of l rows) ≡ ids_of rows
 keys_of-entries_of l [] = refl
@@ -65,9 +62,8 @@ pub slice_get-entries_of : (l : Linked) (rows : List Row) (i : ℕ) (r : Row) �
 slice_get-entries_of l rows i r found = slice_get-map (λ (q : Row). (q.id, parts_of l q)) rows i ∙ ap (option_map (λ (q : Row). (q.id, parts_of l q))) found
 
 pub set-ids_of : (rows : List Row) (i : ℕ) (r q : Row) → slice_get rows i ≡ Some q → r.id ≡ q.id → ids_of (slice_set rows i r) ≡ ids_of rows
-set-ids_of [] i r q found same = refl
-set-ids_of (p ∷ rs) zero r q found same = cc
 set-ids_of (p ∷ rs) (suc i) r q found same = ap (λ ks. p.id ∷ ks) (set-ids_of rs i r q found same)
+set-ids_of rows i r q found same = cc
 
 -- the pages of all rows as a sum
 pub rows_sum : (N : List ℕ) (k : ℕ) (rows : List Row) → rows_use N k rows ≡ sum_by (row_uses N k) rows
@@ -75,42 +71,27 @@ rows_sum N k = is_sum_by (rows_use N k) (row_uses N k) refl (λ r rs. refl)
 
 -- one slot in place of another
 pub row_uses-with : (N : List ℕ) (k : ℕ) (r : Row) (part : Part) (slot : Option Slot) → row_uses N k (with_slot r part slot) + uses k (slot_links N (slot_of r part)) ≡ row_uses N k r + uses k (slot_links N slot)
-row_uses-with N k r Metadata slot = omega arith
-row_uses-with N k r part slot = omega arith
+row_uses-with N k r part slot = grind arith
 
 pub parts_of-with : (l : Linked) (r : Row) (part : Part) (slot : Option Slot) → parts_of l (with_slot r part slot) ≡ with_part (parts_of l r) part (part_in l slot)
-parts_of-with l r Metadata slot = refl
-parts_of-with l r part slot = refl
+parts_of-with l r part slot = grind arith
 
 pub part_of-slot : (l : Linked) (r : Row) (part : Part) → part_of (parts_of l r) part ≡ part_in l (slot_of r part)
-part_of-slot l r Metadata = refl
-part_of-slot l r part = refl
+part_of-slot l r part = grind arith
 
 pub id-with : (r : Row) (part : Part) (slot : Option Slot) → (with_slot r part slot).id ≡ r.id
-id-with r Metadata slot = refl
-id-with r part slot = refl
+id-with r part slot = grind arith
 
 -- ---- A table of rows that owns its pages, changed at a place.
 
 -- ---- sizes
 
--- of four tests that pass, each passes
-pub all_four : (a b c d : Bool) → a && b && c && d ≡ true → (a ≡ true) × (b ≡ true) × (c ≡ true) × (d ≡ true)
-all_four a b c d all = grind arith
-
 slot_sized : (l : Linked) (r : Row) (part : Part) → are_sized r (parts_of l r) ≡ true
     → is_sized (slot_of r part) (part_in l (slot_of r part)) ≡ true
-slot_sized l r part all =
-    let fits : Option Slot → Bool = λ o. is_sized o (part_in l o) in
-    let each = all_four (fits r.metadata) (fits r.primary) (fits r.secondary) (fits r.proof) all in
-    elim part as (λ q. fits (slot_of r q) ≡ true)
-    [ Metadata ↦ each.0 | Primary ↦ each.1 | Secondary ↦ each.2 | Proof ↦ each.3 ]
+slot_sized l r part all = grind arith
 
 are_sized-with : (l : Linked) (r : Row) (part : Part) (slot : Option Slot) → are_sized r (parts_of l r) ≡ true → is_sized slot (part_in l slot) ≡ true → are_sized (with_slot r part slot) (parts_of l (with_slot r part slot)) ≡ true
-are_sized-with l r Metadata slot all new =
-    cc (slot_sized l r Primary all, slot_sized l r Secondary all, slot_sized l r Proof all)
-are_sized-with l r part slot all new =
-    cc (slot_sized l r Metadata all, slot_sized l r Primary all, slot_sized l r Secondary all, slot_sized l r Proof all)
+are_sized-with l r part slot all new = grind arith
 
 -- ---- the pages of all holdings
 
@@ -136,9 +117,8 @@ filled old new rows i r part first bytes owns found absent some most adds holds 
     let rest = rows_same old new rows
     (λ k used. record { state = adds.states k (apart k used); link = adds.next k (apart k used) }) in
     let before : slice_get (entries_of old rows) i ≡ Some (r.id, parts_of old r) = slice_get-entries_of old rows i r found in
-    let same : slice_get (entries_of old rows) i ≡ Some (r.id, parts_of new r) =
-    ap (λ es. slice_get es i) (sym rest.entries) ∙ slice_get-entries_of new rows i r found in
-    let parts = (some_pair_parts r.id r.id (parts_of new r) (parts_of old r) (sym same ∙ before)).1 in
+    let same = slice_get-entries_of new rows i r found in
+    let parts = (some_pair_parts r.id r.id (parts_of new r) (parts_of old r) (cc (rest.entries, before, same))).1 in
     let entries : entries_of new (slice_set rows i s) ≡ slice_set (entries_of old rows) i (r.id, p) =
     let moved = map-set {B = BlobId × Parts} (λ (q : Row). (q.id, parts_of new q)) rows i s in
     cc (moved, rest.entries, id-with r part (Some slot), parts_of-with new r part (Some slot), parts, holds) in
@@ -147,20 +127,17 @@ filled old new rows i r part first bytes owns found absent some most adds holds 
     let none : part_cost (part_of (parts_of old r) part) ≡ 0 = cc (part_of-slot old r part) in
     let fits : is_sized (Some slot) (part_in new (Some slot)) ≡ true =
     cc (holds, eq-eqb (length bytes) _ refl, lt-ltb 0 (length bytes) (omega arith), le-leb _ most_bytes most) in
-    let sized = rest.sized owns.sized in
-    let homes = rest.homes owns.homes in
     record {
       owns = record {
         sorted = rw ids owns.sorted;
-        sized = all-set (IsSized new) rows i s sized
-            (are_sized-with new r part (Some slot) (all-at (IsSized new) rows i r sized found) fits);
+        sized = all-change (IsSized new) rows i r s (rest.sized owns.sized) found
+            (λ was. are_sized-with new r part (Some slot) was fits);
         uses = λ k.
             let set = sum-set _ _ (rows_sum new.next k) rows i r found s in
             let bare = ap (λ o. uses k (slot_links new.next o)) absent in
             let one = row_uses-with new.next k r part (Some slot) in
             omega (arith, set, one, bare, rest.uses k, owns.uses k, adds.counts k);
-        homes = all-set (IsHome new) rows i s homes
-            (home_with new r part (Some slot) (all-at (IsHome new) rows i r homes found));
+        homes = all-change (IsHome new) rows i r s (rest.homes owns.homes) found (home_with new r part (Some slot));
       };
       entries = entries;
       pages = omega (arith, ap cost_in entries, cost, part_swap (parts_of old r) part (Some bytes), none, free);
@@ -189,9 +166,9 @@ cleared old new rows i r part owns found frees free =
     record {
       owns = record {
         sorted = rw ids owns.sorted;
-        sized = rest.sized (all-set (IsSized old) rows i s owns.sized (are_sized-with old r part None (all-at (IsSized old) rows i r owns.sized found) refl));
+        sized = rest.sized (all-change (IsSized old) rows i r s owns.sized found (λ was. are_sized-with old r part None was refl));
         uses = λ k. omega (arith, rest.uses k, left k, frees.counts k);
-        homes = rest.homes (all-set (IsHome old) rows i s owns.homes (home_with old r part None (all-at (IsHome old) rows i r owns.homes found)));
+        homes = rest.homes (all-change (IsHome old) rows i r s owns.homes found (home_with old r part None));
       };
       entries = entries;
       pages = omega (arith, ap cost_in entries, cost, part_swap (parts_of old r) part None, free);
@@ -248,10 +225,9 @@ added old new rows i id home owns gap adds free home_is =
 
 pub sorted-remove : (ids : List BlobId) (i : ℕ) → IsStrictlySortedBy id_cmp ids → IsStrictlySortedBy id_cmp (remove ids i)
 unfolding IsStrictlySortedBy
-sorted-remove [] zero sorted = tt
-sorted-remove [] (suc i) sorted = tt
-sorted-remove (x ∷ ids) zero sorted = sorted.1
 sorted-remove (x ∷ ids) (suc i) sorted = (all-remove (λ y. id_cmp x y ≡ Less) ids i sorted.0, sorted-remove ids i sorted.1)
+sorted-remove ids zero sorted = assumption
+sorted-remove [] i sorted = tt
 
 pub record Removed (old new : Linked) (rows : List Row) (i : ℕ) : Type 0 where
   pub owns : Owns new (remove rows i)
@@ -293,8 +269,7 @@ pub record Sized (l : Linked) (s : Slot) : Type 0 where
   pub most : s.size ≤ most_bytes
 
 sized_of : (l : Linked) (s : Slot) → is_sized (Some s) (part_in l (Some s)) ≡ true → Sized l s
-sized_of l s is =
-    record { long = grind (arith, nat_tests); some = grind (arith, nat_tests); most = grind (arith, nat_tests) }
+sized_of l s is = grind (arith, nat_tests)
 
 -- what is known of a part of a row
 pub slot_of_row : (l : Linked) (rows : List Row) (i : ℕ) (r : Row) (part : Part) (s : Slot) → AllByRecursion (IsSized l) rows → slice_get rows i ≡ Some r → slot_of r part ≡ Some s → Sized l s
@@ -302,8 +277,7 @@ slot_of_row l rows i r part s all found is =
     sized_of l s (ap (λ o. is_sized o (part_in l o)) (sym is) ∙ slot_sized l r part (all-at (IsSized l) rows i r all found))
 
 cost_by : (l : Linked) (o : Option Slot) → is_sized o (part_in l o) ≡ true → part_cost (part_in l o) ≡ slot_cost o
-cost_by l None is = refl
-cost_by l (Some s) is = ap pages_for (sized_of l s is).long
+cost_by l o is = grind (arith, nat_tests)
 
 pub slot_costs : (l : Linked) (rows : List Row) (i : ℕ) (r : Row) (part : Part) → AllByRecursion (IsSized l) rows → slice_get rows i ≡ Some r → part_cost (part_of (parts_of l r) part) ≡ slot_cost (slot_of r part)
 slot_costs l rows i r part all found =

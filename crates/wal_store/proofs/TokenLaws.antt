@@ -8,27 +8,28 @@ length-tokens_of a [] = refl
 length-tokens_of a (s ∷ ss) = ap suc (length-tokens_of (suc a) ss)
 
 slice_get-tokens_of : (a : ℕ) (ss : List PageState) (k n : ℕ) (s : PageState) → n ≡ a + k → slice_get ss k ≡ Some s → slice_get (tokens_of a ss) k ≡ Some (token_of n s)
-slice_get-tokens_of a [] k n s at found = cc
-slice_get-tokens_of a (t ∷ ss) zero n s at found = let place : a ≡ n = omega arith in cc
 slice_get-tokens_of a (t ∷ ss) (suc k) n s at found = slice_get-tokens_of (suc a) ss k n s (omega arith) found
+slice_get-tokens_of a ss k n s at found = grind arith
 
 tokens-set : (a : ℕ) (ss : List PageState) (k n : ℕ) (s : PageState) → n ≡ a + k → slice_set (tokens_of a ss) k (token_of n s) ≡ tokens_of a (slice_set ss k s)
-tokens-set a [] k n s at = refl
-tokens-set a (t ∷ ss) zero n s at = let place : n ≡ a = omega arith in cc
 tokens-set a (t ∷ ss) (suc k) n s at = ap (λ ts. token_of a t ∷ ts) (tokens-set (suc a) ss k n s (omega arith))
+tokens-set a ss k n s at = grind arith
 
 pub tokens_of-replicate : (a n : ℕ) → tokens_of a (replicate n Free) ≡ replicate n None
 tokens_of-replicate a zero = refl
 tokens_of-replicate a (suc n) = ap (λ ts. None ∷ ts) (tokens_of-replicate (suc a) n)
 
 -- where there is a page there is a token
-pub token_within : (tokens : List (Option ℕ)) (ss : List PageState) (k : ℕ) (s : PageState) → tokens ≡ tokens_of 0 ss → slice_get ss k ≡ Some s → k < length tokens
-token_within tokens ss k s match found = omega (arith, ap length match, length-tokens_of 0 ss, slice_get_within ss k s found)
+pub token_within : (tokens : List (Option ℕ)) (ss seen : List PageState) (k : ℕ) (s : PageState)
+    → tokens ≡ tokens_of 0 ss → ss ≡ seen → slice_get seen k ≡ Some s → k < length tokens
+token_within tokens ss seen k s match view found =
+    omega (arith, ap length match, ap length view, length-tokens_of 0 ss, slice_get_within seen k s found)
 
-pub token_read : (tokens : List (Option ℕ)) (ss : List PageState) (k : ℕ) (s : PageState) (x : Option ℕ) → tokens ≡ tokens_of 0 ss → slice_get ss k ≡ Some s → x ≡ get_or tokens k x → x ≡ token_of k s
-token_read tokens ss k s x match found read =
-    let there = slice_get_read tokens _ k x refl (token_within tokens ss k s match found) read in
-    cc (there, slice_get-tokens_of 0 ss k k s (omega arith) found)
+pub token_read : (tokens : List (Option ℕ)) (ss seen : List PageState) (k : ℕ) (s : PageState) (x : Option ℕ)
+    → tokens ≡ tokens_of 0 ss → ss ≡ seen → slice_get seen k ≡ Some s → x ≡ get_or tokens k x → x ≡ token_of k s
+token_read tokens ss seen k s x match view found read =
+    let there = slice_get_read tokens _ k x refl (token_within tokens ss seen k s match view found) read in
+    cc (there, slice_get-tokens_of 0 seen k k s (omega arith) found)
 
 pub token_changed : (tokens : List (Option ℕ)) (old new : List PageState) (k : ℕ) (s : PageState) → tokens ≡ tokens_of 0 old → new ≡ slice_set old k s → slice_set tokens k (token_of k s) ≡ tokens_of 0 new
 token_changed tokens old new k s match change = cc (tokens-set 0 old k k s (omega arith))

@@ -1,10 +1,5 @@
 -- The rules of the world where all texts are of bytes: they have the same laws, and each of their steps is one of the world.
-use Rattle.wal_theorem.proofs.Common.{◌≡◌, ℕ, ◌≤◌, List, length, All, Some, None, subst, inl, inr, BlobId, Axis, Part, BlobMetadata, held_index, metadata_text, proof_text, sliver_part, bytes_of_part, bytes_within, Basis, Slivers, Evidence, Verdict, stored_bytes, ReadWord, RecoverWord, openings_in, IsDrawnFrom, IsEvidenceFor, Parts, no_parts, with_part, Contents, parts_at, with_bytes, kept, put_id, put_part, Judged, Rules, Laws, AllSound, Helped, forgotten, PutsFrame, ReadsTo, Knows, RecoversTo, rules_of, IsOfBytes, BasisOfBytes, FirstOfBytes, metadata_carried, sliver_symbols, arith}
-use Rattle.wal_shape.specs.declared.part.Part.TheVariants as parts
-use Rattle.wal_evidence.specs.declared.evidence.Basis.TheVariants.{Proof}
-use Rattle.wal_event.specs.declared.line.ReadWord.TheVariants as reading
-use Rattle.wal_event.specs.declared.line.RecoverWord.TheVariants as recovering
-use Rattle.wal_protocol.specs.Total.{AreBytes}
+use Rattle.wal_theorem.proofs.Common.{◌≡◌, ℕ, ◌≤◌, List, length, All, Some, None, subst, inl, inr, BlobId, Axis, Part, BlobMetadata, held_index, metadata_text, proof_text, sliver_part, bytes_of_part, bytes_within, Basis, Slivers, Evidence, Verdict, stored_bytes, ReadWord, RecoverWord, openings_in, IsDrawnFrom, IsEvidenceFor, Parts, no_parts, with_part, Contents, parts_at, with_bytes, kept, put_id, put_part, Judged, Rules, Laws, AllSound, Helped, forgotten, PutsFrame, ReadsTo, Knows, RecoversTo, rules_of, IsOfBytes, BasisOfBytes, FirstOfBytes, metadata_carried, sliver_symbols, arith, Metadata, Proof, Bytes, Reject, Inconsistent, Sliver, AreBytes}
 use Rattle.wal_theorem.proofs.InstanceHoldings.{each_put, kept_holds}
 use Rattle.wal_theorem.proofs.InstancePuts.{by_put}
 use Rattle.wal_theorem.proofs.InstanceRecoveries.{given_sliver}
@@ -51,24 +46,22 @@ module _ (digest : List ℕ → List ℕ) (f : ℕ) (id : BlobId) (shard : ℕ) 
   -- a metadata that is known
   pub known_bytes : (m : BlobMetadata) → Knows digest id (parts_at old id) payloads m → AreBytes (metadata_text m)
   known_bytes m (inl found) = metadata_carried digest id.0 payloads m are found
-  known_bytes m (inr holds) = held_bytes id parts.Metadata (metadata_text m) holds.spelled
+  known_bytes m (inr holds) = held_bytes id Metadata (metadata_text m) holds.spelled
 
   -- what is kept beside it
   both_kept : (m : BlobMetadata) → Knows digest id (parts_at old id) payloads m → (part : Part) (bytes : List ℕ)
       → AreBytes bytes
-      → AllOfBytes (kept (kept old id parts.Metadata (metadata_text m)) id part bytes)
+      → AllOfBytes (kept (kept old id Metadata (metadata_text m)) id part bytes)
   both_kept m known part bytes =
-      keep_bytes (kept old id parts.Metadata (metadata_text m)) id part bytes
-      (keep_bytes old id parts.Metadata (metadata_text m) held_bytes (known_bytes m known))
+      keep_bytes (kept old id Metadata (metadata_text m)) id part bytes
+      (keep_bytes old id Metadata (metadata_text m) held_bytes (known_bytes m known))
 
   recovered_bytes : (axis : Axis) (new : Contents) (word : RecoverWord) → RecoversTo digest f id shard axis old payloads word new → AllOfBytes new
-  recovered_bytes axis new recovering.NoMetadata r = rw r.1 held_bytes
-  recovered_bytes axis new (recovering.Short have need) r = rw r.5 held_bytes
-  recovered_bytes axis new (recovering.Sliver bytes) r =
+  recovered_bytes axis new (Sliver bytes) r =
       let sliver = given_sliver digest f id shard old (λ q. (was q).0) payloads r.0 r.1 axis bytes r.2 in
       let text = subst AreBytes sliver.is_word.begins (bytes_of_part _ 0 sliver.word (bytes_within sliver.word sliver.is_word.coded.fits)) in
       rw r.3 (both_kept r.0 r.1.known (sliver_part axis) bytes text)
-  recovered_bytes axis new recovering.Inconsistent r =
+  recovered_bytes axis new Inconsistent r =
       let index = held_index r.0.format r.0.f axis shard in
       let openings = openings_in id.0 axis index payloads in
       let taken =
@@ -76,10 +69,10 @@ module _ (digest : List ℕ → List ℕ) (f : ℕ) (id : BlobId) (shard : ℕ) 
       (openings_carried id.0 axis index payloads are) r.3.takes in
       let text : AreBytes (proof_text r.2) =
       rw r.3.comes.0 (proof_bytes (record { axis = axis; index = index; openings = r.3.taken }) taken) in
-      rw r.4 (both_kept r.0 r.1.known parts.Proof (proof_text r.2) text)
-  recovered_bytes axis new recovering.Proof r =
-      rw r.6 (both_kept r.0 r.1.known parts.Proof (proof_text r.4) (proof_carried digest id.0 r.0 payloads r.4 are r.5))
-  recovered_bytes axis new _ r = absurd r
+      rw r.4 (both_kept r.0 r.1.known Proof (proof_text r.2) text)
+  recovered_bytes axis new Proof r =
+      rw r.6 (both_kept r.0 r.1.known Proof (proof_text r.4) (proof_carried digest id.0 r.0 payloads r.4 are r.5))
+  recovered_bytes axis new _ r = let same : new ≡ old = grind arith in rw same held_bytes
 
 -- ---- reads
 
@@ -96,8 +89,8 @@ evidence_bytes digest id payloads verdict shown e are (x, same, is, judged, one,
 
 read_bytes : (digest : List ℕ → List ℕ) (id : BlobId) (payloads : List (List ℕ)) (word : ReadWord) (e : Evidence) (shown : Verdict) → All AreBytes payloads
     → ReadsTo digest id payloads word (Some e) → FirstOfBytes (Judged e shown)
-read_bytes digest id payloads (reading.Bytes bytes) e shown are r = evidence_bytes digest id.0 payloads _ shown e are r.1
-read_bytes digest id payloads reading.Reject e shown are r = evidence_bytes digest id.0 payloads _ shown e are r.1
+read_bytes digest id payloads (Bytes bytes) e shown are r = evidence_bytes digest id.0 payloads _ shown e are r.1
+read_bytes digest id payloads Reject e shown are r = evidence_bytes digest id.0 payloads _ shown e are r.1
 read_bytes digest id payloads word e shown are r = absurd (let f : Some e ≡ None = r.1 in cc)
 
 -- ---- the laws

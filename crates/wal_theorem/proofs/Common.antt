@@ -1,8 +1,7 @@
 -- What the proofs of this crate cite from elsewhere, and of its own definitions, handed on from one place. Declares nothing.
-pub use Rattle.std.proofs.Common.{◌≡◌, ◌≢◌, ℕ, List, true, Option, Some, None, IsSome, Ok, refl, sym, ap, subst, ◌∙◌, ⊎_elim, ◌⊎◌, [], ◌∷◌, length, map, take, All, arith, inl, inr, ◌+◌, ◌<◌, ◌≤◌, Bool, Contains, false, cond, ◌&&◌, is_some, unwrap_or, zero, suc, ◌++◌, get_or, ◌||◌, nat_eq, Any, ◌*◌, ◌/◌, ap₂, true≢false, ◌-◌, replicate, slice_index, if◌then◌else◌, Result, ◌%◌}
+pub use Rattle.std.proofs.Common.{◌≡◌, ◌≢◌, ℕ, List, true, Option, Some, None, IsSome, Ok, refl, sym, ap, subst, ◌∙◌, ⊎_elim, ◌⊎◌, [], ◌∷◌, length, map, take, All, arith, inl, inr, ◌+◌, ◌<◌, ◌≤◌, Bool, Contains, false, cond, ◌&&◌, is_some, unwrap_or, ◌++◌, get_or, nat_eq, Any, ◌*◌, ◌/◌, ap₂, true≢false, ◌-◌, replicate, slice_index, if◌then◌else◌, Result, ◌%◌}
 pub use Rattle.std.proofs.lemmas.Bool.{cases_lt, cases_eq, false≢true}
-pub use Rattle.std.proofs.lemmas.List.{length-map, get_or-map, get_or_default, get_or_past}
-pub use Rattle.std.proofs.lemmas.List.Concat.{flat_map-cons}
+pub use Rattle.std.proofs.lemmas.List.{length-map, get_or-map, get_or_default}
 pub use Rattle.std.proofs.lemmas.List.Elements.{All-nil, All-cons, Contains-append_left, Contains-append_right, All-append, Contains-append_cases, All-head, All-tail, All-from_recursion}
 pub use Rattle.std.specs.Int.{w16, w32, w8}
 pub use Rattle.std.specs.List.{flat_map, list_any, AllByRecursion}
@@ -18,19 +17,21 @@ pub use Rattle.wal_event.specs.declared.event.Event.{Event}
 pub use Rattle.wal_event.specs.declared.event.Schedule.{Schedule}
 pub use Rattle.wal_event.specs.declared.line.Line.{Line}
 pub use Rattle.wal_event.specs.declared.line.ReadWord.{ReadWord}
+pub use Rattle.wal_event.specs.declared.line.ReadWord.TheVariants.{Bytes, NoMetadata, Reject, Short}
 pub use Rattle.wal_event.specs.declared.line.RecoverWord.{RecoverWord}
-pub use Rattle.wal_event.specs.declared.line.RecoverWord.TheVariants.{NoMetadata, Short, Inconsistent}
+pub use Rattle.wal_event.specs.declared.line.RecoverWord.TheVariants.{NoMetadata, Short, Inconsistent, Absent, Ignored, Proof, Sliver, Unregistered}
 pub use Rattle.wal_evidence.proofs.FirstOfEach.{some_taken, takes_all, first_taken}
 pub use Rattle.wal_evidence.proofs.SameOrNot.{one_to_one, same_or_not}
 pub use Rattle.wal_evidence.proofs.Verdicts.{true_verdict, one_verdict}
 pub use Rattle.wal_evidence.specs.BadProof.{AreEnough, IsLineThrough, crosses_of, symbols_of, HasRoot, IsBadProof}
 pub use Rattle.wal_evidence.specs.Evidence.{Judges, IsEvidence, IsJudgedBy, AreHeld, CommitsMatrix, sliver_bytes, IsHeldBy}
 pub use Rattle.wal_evidence.specs.declared.evidence.Basis.{Basis}
-pub use Rattle.wal_evidence.specs.declared.evidence.Basis.TheVariants.{Slivers}
+pub use Rattle.wal_evidence.specs.declared.evidence.Basis.TheVariants.{Slivers, Proof}
 pub use Rattle.wal_evidence.specs.declared.evidence.Evidence.{Evidence}
 pub use Rattle.wal_evidence.specs.declared.evidence.Verdict.{Verdict}
+pub use Rattle.wal_evidence.specs.declared.evidence.Verdict.TheVariants.{Bytes, Reject}
 pub use Rattle.wal_frame.proofs.FrameLaws.{read_is, read_again}
-pub use Rattle.wal_frame.specs.Frame.{Frame, Metadata, Sliver, Proof, IsFrame, IsSliver, frame_text, sliver_frame, metadata_frame, metadata_kind, sliver_front, target_text, Opening}
+pub use Rattle.wal_frame.specs.Frame.{Frame, Metadata, Sliver, Proof, IsFrame, IsSliver, frame_text, sliver_frame, metadata_frame, metadata_kind, sliver_front, target_text, Opening as OpeningFrame}
 pub use Rattle.wal_frame.specs.Reading.{read_of}
 pub use Rattle.wal_frame.specs.Stored.{stored_bytes}
 pub use Rattle.wal_kernel.specs.Region.{word_at, region}
@@ -68,7 +69,9 @@ pub use Rattle.wal_reader.specs.Carried.{CarriesBadProof, IsFirst, IsFirstBadPro
 pub use Rattle.wal_reader.specs.Outcome.{Collects, Decides, GivesSliver, HasMetadata, HoldsFew, IndexedSliver, IsEvidenceFor, IsMetadataIn, CarriesMetadata, CarriesSliver, SameOutcome, IsDrawnFrom, HasEvidence, IsOnlyOutcome, IsOutcome}
 pub use Rattle.wal_reader.specs.Settled.{HasTwo}
 pub use Rattle.wal_reader.specs.declared.outcome.Outcome.{Outcome}
+pub use Rattle.wal_reader.specs.declared.outcome.Outcome.TheVariants.{Bytes, Collision, NoMetadata, Reject, Short}
 pub use Rattle.wal_recover.proofs.OneRecovery.{one_recovery, enough, list_held, committed}
+pub use Rattle.wal_recover.specs.declared.outcome.Recovered.TheVariants.{Inconsistent, Short, Sliver}
 pub use Rattle.wal_recover.specs.Recovery.{GivesOpening, Takes}
 pub use Rattle.wal_shape.proofs.MetadataLaws.{metadata_text-injective, held_index-primary, spelled_metadata-text, held_index-within, held_index-twice}
 pub use Rattle.wal_shape.proofs.ShapeLaws.{symbol_size-least}
@@ -81,16 +84,19 @@ unfoldable pub use Rattle.wal_shape.specs.Spelling.{proof_text, body_text}
 pub use Rattle.wal_shape.specs.declared.axis.Axis.{Axis}
 pub use Rattle.wal_shape.specs.declared.axis.Axis.TheVariants.{Primary, Secondary}
 pub use Rattle.wal_shape.specs.declared.metadata.BlobId.{BlobId}
+pub use Rattle.wal_shape.specs.declared.opening.Opening.{Opening}
 pub use Rattle.wal_shape.specs.declared.part.Part.{Part}
+pub use Rattle.wal_shape.specs.declared.part.Part.TheVariants.{Metadata, Primary, Proof}
 pub use Rattle.wal_shape.specs.declared.shape.Format.{Format}
 pub use Rattle.wal_shape.specs.declared.text.MetaClash.{MetaClash}
-pub use Rattle.wal_shard.proofs.Soundness.{none_sound, without_sliver_sound, metadata_sound, sliver_sound, proof_sound}
+pub use Rattle.wal_shard.proofs.HeldLaws.{own_metadata, some_of, beside, beside_proof}
+pub use Rattle.wal_shard.proofs.Soundness.{one_metadata as one_held, none_sound, without_sliver_sound, metadata_sound}
 pub use Rattle.wal_shard.specs.Holding.{HoldsMetadata, IsSound, has_proof, primary_reply, metadata_reply, proof_reply, settled, OpeningReply, given, not_held, no_shard, SymbolReplies, payload_if, read_reply_of}
 pub use Rattle.wal_shard.specs.Keeping.{kept, kept_sliver, kept_proof}
 pub use Rattle.wal_shard.specs.Putting.{CanBePut, IsAccepted, RestsOnMetadata, Verifies, put_id, put_part, Puts}
-pub use Rattle.wal_shard.specs.State.{desk_of, AreSound}
+pub use Rattle.wal_shard.specs.State.{desk_of, AreSound, IsOwnMetadata}
 pub use Rattle.wal_shard.specs.declared.answers.PutAnswer.{PutAnswer}
-pub use Rattle.wal_shard.specs.declared.answers.PutAnswer.TheVariants.{Stored, Held, Unregistered, Unverified, OtherMetadata, Full, Memory}
+pub use Rattle.wal_shard.specs.declared.answers.PutAnswer.TheVariants.{Stored, Held, Unregistered, Unverified, OtherMetadata, Full, Memory, NoMetadata}
 pub use Rattle.wal_store.specs.Contents.{Contents, parts_at, part_at, with_bytes}
 pub use Rattle.wal_store.specs.Parts.{Parts, with_part, part_of, no_parts}
 pub use Rattle.wal_tree.specs.Path.{path_over}

@@ -1,9 +1,7 @@
 -- A put of bytes to a shard that holds what is sound has an answer, or else no two texts collide and yet an identifier has two metadata.
-use Rattle.wal_theorem.proofs.Common.{◌≡◌, ◌≢◌, ℕ, List, true, Option, Some, None, IsSome, Ok, refl, sym, ap, subst, ◌∙◌, ⊎_elim, MetaClash, metadata_text, Frame, Metadata, Sliver, Proof, IsFrame, stored_bytes, read_of, read_is, Contents, parts_at, part_at, with_bytes, Log, is_live, PutAnswer, Stored, Held, Unregistered, Unverified, OtherMetadata, Full, Memory, CanBePut, IsAccepted, RestsOnMetadata, Verifies, put_id, put_part, desk_of, is_clash, AllSound, Possible, HasCollision, HasRoom, IsAnswered, surely, then, by_cases, truth, IsPutFrame, IsDigest, IsOneToOne, one_metadata, metadata_of, one_to_one, same_or_not}
-use Rattle.wal_shape.specs.declared.part.Part.TheVariants as parts
-use Rattle.wal_shard.specs.declared.answers.PutAnswer.TheVariants.{NoMetadata}
-use Rattle.wal_protocol.specs.Total.{AreBytes}
+use Rattle.wal_theorem.proofs.Common.{◌≡◌, ◌≢◌, ℕ, List, true, Some, None, IsSome, Ok, refl, sym, ap, subst, ◌∙◌, ⊎_elim, MetaClash, metadata_text, Frame, Metadata, Sliver, Proof, IsFrame, stored_bytes, read_of, read_is, Contents, parts_at, part_at, with_bytes, Log, is_live, PutAnswer, Stored, Held, Unregistered, Unverified, OtherMetadata, Full, Memory, CanBePut, IsAccepted, RestsOnMetadata, Verifies, put_id, put_part, desk_of, is_clash, AllSound, Possible, HasCollision, HasRoom, IsAnswered, surely, then, by_cases, truth, IsPutFrame, IsDigest, IsOneToOne, one_metadata, metadata_of, one_to_one, same_or_not, NoMetadata, AreBytes}
 use Rattle.wal_theorem.proofs.ByteRules.{byte_rules}
+use Rattle.wal_theorem.proofs.InstanceHoldings.{none_or_some}
 use Rattle.wal_theorem.proofs.TextBytes.{proof_of, sliver_of}
 
 -- what follows where no two texts collide, or else there is a collision
@@ -19,21 +17,14 @@ module _ (digest : List ℕ → List ℕ) (is : IsDigest digest) (f : ℕ) where
     part_answer : (frame : Frame) → IsFrame frame → AreBytes (stored_bytes frame) → IsAccepted digest (desk_of f shard None log) old frame
         → ((text : List ℕ) → part_at old (put_id digest frame) (put_part frame) ≡ Some text → Possible (Answer log shard old frame))
         → Possible (Answer log shard old frame)
-    part_answer frame fit are accepted held = by (part_at old (put_id digest frame) (put_part frame)) refl
-      where
-        by : (o : Option (List ℕ)) → part_at old (put_id digest frame) (put_part frame) ≡ o → Possible (Answer log shard old frame)
-        by (Some text) at = held text at
-        by None none = surely (Stored, with_bytes old (put_id digest frame) (put_part frame) (stored_bytes frame), ((fit, (accepted, none, tt, refl)), are))
+    part_answer frame fit are accepted held =
+        ⊎_elim
+        (λ none. surely (Stored, with_bytes old (put_id digest frame) (put_part frame) (stored_bytes frame), ((fit, (accepted, none, tt, refl)), are)))
+        (λ some. held some.0 some.1)
+        (none_or_some (part_at old (put_id digest frame) (put_part frame)))
 
-    accepted_answer : (frame : Frame) → IsFrame frame → CanBePut frame → AreBytes (stored_bytes frame) → IsAccepted digest (desk_of f shard None log) old frame
-        → Possible (Answer log shard old frame)
-    accepted_answer (Sliver id axis index bytes) fit can are accepted =
-        part_answer (Sliver id axis index bytes) fit are accepted (λ text at.
-        surely (Held, old, ((fit, (accepted, rw at refl, refl)), are)))
-    accepted_answer (Proof id p) fit can are accepted =
-        part_answer (Proof id p) fit are accepted (λ text at.
-        surely (Held, old, ((fit, (accepted, rw at refl, refl)), are)))
-    accepted_answer (Metadata m) fit can are accepted =
+    accepted_answer : (frame : Frame) → IsFrame frame → AreBytes (stored_bytes frame) → IsAccepted digest (desk_of f shard None log) old frame → Possible (Answer log shard old frame)
+    accepted_answer (Metadata m) fit are accepted =
         part_answer (Metadata m) fit are accepted (λ text at. ⊎_elim
         (λ same. surely (Held, old, ((fit, (accepted, at ∙ ap Some same, refl)), are)))
         (λ differ.
@@ -42,32 +33,30 @@ module _ (digest : List ℕ → List ℕ) (is : IsDigest digest) (f : ℕ) where
         surely (OtherMetadata texts, old, ((fit, (accepted, m, text, refl, at, differ, clash.2, refl)), are))))
         (same_or_not text (metadata_text m)))
       where
-        other_metadata : IsOneToOne digest → (text : List ℕ) → part_at old (put_id digest (Metadata m)) parts.Metadata ≡ Some text → text ≢ metadata_text m → ⊥
+        other_metadata : IsOneToOne digest → (text : List ℕ) → part_at old (put_id digest (Metadata m)) Metadata ≡ Some text → text ≢ metadata_text m → ⊥
         other_metadata one text at differ =
             let id = put_id digest (Metadata m) in
             let sound = (was id).0.metadata text at in
             let text_is : text ≡ metadata_text sound.0 = cc (at, sound.1.spelled) in
-            let bytes = subst AreBytes text_is ((was id).1 parts.Metadata text at) in
+            let bytes = subst AreBytes text_is ((was id).1 Metadata text at) in
             let same = one_metadata digest one sound.0 m sound.2.fit fit bytes are (sym sound.2.identifier) in
             differ (text_is ∙ ap metadata_text same)
-    accepted_answer _ fit can are accepted = absurd can
+    accepted_answer frame fit are accepted = part_answer frame fit are accepted (λ text at. surely (Held, old, ((fit, (accepted, rw at refl, refl)), are)))
 
-    pub every_put : (frame : Frame) → IsFrame frame → CanBePut frame → AreBytes (stored_bytes frame) → Possible (Answer log shard old frame)
-    every_put frame fit can are =
+    pub every_put : (frame : Frame) → IsFrame frame → AreBytes (stored_bytes frame) → Possible (Answer log shard old frame)
+    every_put frame fit are =
         ⊎_elim
         (λ live.
-        by_cases (RestsOnMetadata frame × (part_at old (put_id digest frame) parts.Metadata ≡ None))
+        by_cases (RestsOnMetadata frame × (part_at old (put_id digest frame) Metadata ≡ None))
         (λ lacks. surely (NoMetadata, old, ((fit, (live, lacks.0, lacks.1, refl)), are)))
         (λ has.
+        let there : RestsOnMetadata frame → IsSome (part_at old (put_id digest frame) Metadata) =
+        λ rests. ⊎_elim (λ none. absurd (has (rests, none))) (λ some. rw some.1) (none_or_some (part_at old (put_id digest frame) Metadata)) in
         by_cases (Verifies digest f shard (parts_at old (put_id digest frame)) frame)
-        (λ verified. accepted_answer frame fit can are (record { live = live; verified = verified }))
-        (λ fails. surely (Unverified, old, ((fit, (live, (λ rests. some_there (part_at old (put_id digest frame) parts.Metadata) (λ none. has (rests, none))), fails, refl)), are)))))
+        (λ verified. accepted_answer frame fit are (record { live = live; verified = verified }))
+        (λ fails. surely (Unverified, old, ((fit, (live, there, fails, refl)), are)))))
         (λ dead. surely (Unregistered, old, ((fit, (dead, refl)), are)))
         (truth (is_live log (put_id digest frame)))
-      where
-        some_there : (o : Option (List ℕ)) → (o ≡ None → ⊥) → IsSome o
-        some_there (Some text) there = refl
-        some_there None there = absurd (there refl)
 
   -- frames that are read
   stored_read : (bytes : List ℕ) (frame : Frame) → AreBytes bytes → read_of bytes ≡ Ok frame → CanBePut frame → AreBytes (stored_bytes frame)
@@ -78,7 +67,7 @@ module _ (digest : List ℕ → List ℕ) (is : IsDigest digest) (f : ℕ) where
 
   pub put_read : (bytes : List ℕ) (frame : Frame) → AreBytes bytes → IsPutFrame bytes frame → (log : Log) (shard : ℕ) → IsAnswered (byte_rules digest f) log shard frame
   put_read bytes frame are (reads, can) log shard old was =
-      every_put log shard old was frame (read_is bytes frame are reads).0 can (stored_read bytes frame are reads can)
+      every_put log shard old was frame (read_is bytes frame are reads).0 (stored_read bytes frame are reads can)
 
   -- what is put has room
   pub put_room : (log : Log) (shard : ℕ) (old new : Contents) (frame : Frame) (answer : PutAnswer) → (byte_rules digest f).Puts log shard old frame answer new → HasRoom answer

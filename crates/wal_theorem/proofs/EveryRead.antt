@@ -1,9 +1,5 @@
 -- Payloads in which no two metadata differ come to an outcome, with evidence exactly for a verdict.
-use Rattle.wal_theorem.proofs.Common.{◌≡◌, ◌≢◌, ◌⊎◌, ℕ, List, [], ◌∷◌, length, map, take, All, Option, Some, None, refl, ap, arith, ⊎_elim, inl, inr, flat_map, cases_lt, All-nil, All-cons, BlobId, row_count, symbol_size, BlobMetadata, IsMetadata, EncodingProof, metadata_text, metadata_text-injective, source_of, through_some, IsIdentifierOf, identifier_of, Slivers, Evidence, Verdict, Judges, some_taken, same_or_not, ReadWord, CarriesBadProof, IsFirst, IsFirstBadProof, NoneIn, Collects, Decides, GivesSliver, HasMetadata, HoldsFew, IndexedSliver, IsEvidenceFor, IsMetadataIn, HasTwo, collects_few, enough_are_held, Possible, IsReadAs, surely, then, by_cases}
-use Rattle.wal_evidence.specs.declared.evidence.Basis.TheVariants.{Proof}
-use Rattle.wal_evidence.specs.declared.evidence.Verdict.TheVariants as told
-use Rattle.wal_event.specs.declared.line.ReadWord.TheVariants as reading
-use Rattle.wal_protocol.specs.Total.{AreBytes}
+use Rattle.wal_theorem.proofs.Common.{◌≡◌, ◌≢◌, ◌⊎◌, ℕ, List, [], ◌∷◌, length, map, take, All, Option, Some, None, refl, ap, arith, ⊎_elim, inl, inr, flat_map, cases_lt, All-nil, All-cons, BlobId, row_count, symbol_size, BlobMetadata, IsMetadata, EncodingProof, metadata_text, metadata_text-injective, source_of, through_some, IsIdentifierOf, identifier_of, Slivers, Evidence, Verdict, Judges, some_taken, same_or_not, ReadWord, CarriesBadProof, IsFirst, IsFirstBadProof, NoneIn, Collects, Decides, GivesSliver, HasMetadata, HoldsFew, IndexedSliver, IsEvidenceFor, IsMetadataIn, HasTwo, collects_few, enough_are_held, Possible, IsReadAs, surely, then, by_cases, Bytes, Reject, NoMetadata, Short, Proof, AreBytes}
 use Rattle.wal_theorem.proofs.ByteRules.{byte_rules}
 use Rattle.wal_theorem.proofs.OneReading.{metadata_fits, held_slivers}
 
@@ -28,26 +24,6 @@ first_or_none {X} Carries (p ∷ payloads) =
     (λ nowhere. surely (inr (All-cons None p payloads not_here nowhere)))
     rest))
 
-module _ (digest : List ℕ → List ℕ) (id : List ℕ) (m : BlobMetadata) where
-  -- payloads have enough slivers
-  abbrev HasEnough : List (List ℕ) → Type 0
-  HasEnough payloads = (is : List ℕ) × (js : List ℕ) × Collects digest id m payloads is js × (length is ≡ row_count m.f)
-
-  abbrev Found : List (List ℕ) → Type 0
-  Found payloads = HasEnough payloads ⊎ ((have : ℕ) × HoldsFew digest id m payloads have)
-
-  pub collect : (payloads : List (List ℕ)) → Possible (Found payloads)
-  collect payloads =
-      then (some_taken (GivesSliver digest id m) (λ (s : IndexedSliver). s.index) (row_count m.f) [] payloads) (λ slivers.
-      let is = map (λ (s : IndexedSliver). s.index) slivers.0 in
-      let js = flat_map (λ (s : IndexedSliver). s.bytes) slivers.0 in
-      let collects : Collects digest id m payloads is js = (slivers.0, slivers.1, refl, refl) in
-      let most = collects_few digest id m payloads is js collects in
-      ⊎_elim
-      (λ few. surely (inr (length is, (is, js, collects, refl, few))))
-      (λ enough. surely (inl (is, js, collects, omega (arith, enough, most))))
-      (cases_lt (length is) (row_count m.f)))
-
 module _ (digest : List ℕ → List ℕ) (f : ℕ) (id : BlobId) (payloads : List (List ℕ)) (are : All AreBytes payloads) where
   abbrev Read : Type 0
   Read = (word : ReadWord) × (evidence : Option Evidence) × IsReadAs (byte_rules digest f) id payloads word evidence
@@ -57,8 +33,8 @@ module _ (digest : List ℕ → List ℕ) (f : ℕ) (id : BlobId) (payloads : Li
     fit = metadata_fits digest id.0 payloads m one.0
 
     -- enough slivers lead to a verdict
-    judged : HasEnough digest id.0 m payloads → Possible Read
-    judged (is, js, collects, count) =
+    judged : (is js : List ℕ) → Collects digest id.0 m payloads is js → length is ≡ row_count m.f → Possible Read
+    judged is js collects count =
         let s = symbol_size m.f m.length in
         let held = enough_are_held digest id.0 m payloads is js collects count in
         let found = through_some m.f s is js (held_slivers digest m is js fit held) in
@@ -70,11 +46,11 @@ module _ (digest : List ℕ → List ℕ) (f : ℕ) (id : BlobId) (payloads : Li
         λ verdict judges. (m, one, is, js, collects, count, judges) in
         by_cases (IsIdentifierOf digest m.format m.f blob (identifier_of digest m))
         (λ true_blob.
-        let judges : Judges digest m is js (told.Bytes blob) = (found.0, found.1, (refl, true_blob)) in
-        surely (reading.Bytes blob, Some e, (((decides (told.Bytes blob) judges, evident (told.Bytes blob) judges), are), refl)))
+        let judges : Judges digest m is js (Bytes blob) = (found.0, found.1, (refl, true_blob)) in
+        surely (Bytes blob, Some e, (((decides (Bytes blob) judges, evident (Bytes blob) judges), are), refl)))
         (λ false_blob.
-        let judges : Judges digest m is js told.Reject = (found.0, found.1, false_blob) in
-        surely (reading.Reject, Some e, (((inl (decides told.Reject judges), evident told.Reject judges), are), refl)))
+        let judges : Judges digest m is js Reject = (found.0, found.1, false_blob) in
+        surely (Reject, Some e, (((inl (decides Reject judges), evident Reject judges), are), refl)))
 
     -- too few are enough for a bad proof
     short : (have : ℕ) → HoldsFew digest id.0 m payloads have → Possible Read
@@ -83,15 +59,23 @@ module _ (digest : List ℕ → List ℕ) (f : ℕ) (id : BlobId) (payloads : Li
         (λ (first : (p : EncodingProof) × IsFirstBadProof digest id.0 m payloads p).
         let p = first.0 in
         let e : Evidence = record { metadata = m; basis = Proof p } in
-        let evident : IsEvidenceFor digest id.0 payloads told.Reject (Some e) =
+        let evident : IsEvidenceFor digest id.0 payloads Reject (Some e) =
         (e, refl, record { committed = one.0.4.1; held = first.1.4.1 }, refl, one, (have, few, first.1)) in
-        surely (reading.Reject, Some e, (((inr (m, one, have, few, p, first.1), evident), are), refl)))
-        (λ none. surely (reading.Short have (row_count m.f), None, ((((m, one, few, refl, none), refl), are), refl)))
+        surely (Reject, Some e, (((inr (m, one, have, few, p, first.1), evident), are), refl)))
+        (λ none. surely (Short have (row_count m.f), None, ((((m, one, few, refl, none), refl), are), refl)))
         found)
 
     known : Possible Read
     known =
-        then (collect digest id.0 m payloads) (λ found. ⊎_elim judged (λ (few : (have : ℕ) × HoldsFew digest id.0 m payloads have). short few.0 few.1) found)
+        then (some_taken (GivesSliver digest id.0 m) (λ (s : IndexedSliver). s.index) (row_count m.f) [] payloads) (λ slivers.
+        let is = map (λ (s : IndexedSliver). s.index) slivers.0 in
+        let js = flat_map (λ (s : IndexedSliver). s.bytes) slivers.0 in
+        let collects : Collects digest id.0 m payloads is js = (slivers.0, slivers.1, refl, refl) in
+        let most = collects_few digest id.0 m payloads is js collects in
+        ⊎_elim
+        (λ few. short (length is) (is, js, collects, refl, few))
+        (λ enough. judged is js collects (omega (arith, enough, most)))
+        (cases_lt (length is) (row_count m.f)))
 
   pub every_read : (HasTwo digest id.0 payloads → ⊥) → Possible Read
   every_read two =
@@ -104,4 +88,4 @@ module _ (digest : List ℕ → List ℕ) (f : ℕ) (id : BlobId) (payloads : Li
         λ other also.
             same_metadata other m (metadata_fits digest id.0 payloads other also) (metadata_fits digest id.0 payloads m has) (λ apart. two (other, m, also, has, apart)),
       ))
-      (λ none. surely (reading.NoMetadata, None, ((((λ m has. none (m, has)), refl), are), refl)))
+      (λ none. surely (NoMetadata, None, ((((λ m has. none (m, has)), refl), are), refl)))

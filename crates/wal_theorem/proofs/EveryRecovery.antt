@@ -1,9 +1,5 @@
 -- A recovery by payloads in which no two metadata differ comes to something.
-use Rattle.wal_theorem.proofs.Common.{◌≡◌, ℕ, ◌*◌, ◌<◌, List, [], length, take, All, refl, arith, ⊎_elim, cases_eq, cases_lt, BlobId, Axis, sliver_symbols, symbol_size, BlobMetadata, IsMetadata, held_index, EncodingProof, HasRoot, IsBadProof, some_taken, GivesOpening, Takes, enough, list_held, RecoverWord, CarriesBadProof, IsFirstBadProof, openings_in, Contents, parts_at, kept_sliver, kept_proof, AllSound, Possible, IsFound, surely, then, by_cases, Knows, KnowsTwo, IsKnown, OwnOpeningsComeTo}
-use Rattle.wal_shape.specs.declared.opening.Opening.{Opening}
-use Rattle.wal_recover.specs.declared.outcome.Recovered.TheVariants as recovered
-use Rattle.wal_event.specs.declared.line.RecoverWord.TheVariants as recovering
-use Rattle.wal_protocol.specs.Total.{AreBytes}
+use Rattle.wal_theorem.proofs.Common.{◌≡◌, ℕ, ◌*◌, ◌<◌, List, [], length, take, All, refl, arith, ⊎_elim, cases_eq, cases_lt, BlobId, Axis, sliver_symbols, symbol_size, BlobMetadata, IsMetadata, held_index, EncodingProof, HasRoot, IsBadProof, some_taken, GivesOpening, Takes, enough, list_held, RecoverWord, CarriesBadProof, IsFirstBadProof, openings_in, Contents, parts_at, kept_sliver, kept_proof, AllSound, Possible, IsFound, surely, then, by_cases, Knows, KnowsTwo, IsKnown, OwnOpeningsComeTo, Inconsistent, Short, Sliver, NoMetadata, Proof, Opening, AreBytes}
 use Rattle.wal_theorem.proofs.ByteRules.{byte_rules}
 use Rattle.wal_theorem.proofs.EveryRead.{first_or_none, same_metadata}
 use Rattle.wal_theorem.proofs.InstanceKnown.{AllKnown, is_known, is_unfit}
@@ -37,23 +33,23 @@ module _ (digest : List ℕ → List ℕ) (f : ℕ) (id : BlobId) (shard : ℕ) 
         by_cases (HasRoot digest m axis index word)
         (λ root.
         let bytes = take (sliver_symbols axis m.f * symbol_size m.f m.length) word in
-        let comes : OwnOpeningsComeTo digest id shard axis payloads m (recovered.Sliver bytes) = record { taken = taken; takes = takes; comes = (word, record { enough = full; through = found.1 }, root, refl) } in
-        surely (recovering.Sliver bytes, kept_sliver old id m axis bytes, ((m, known, comes, refl), are), tt))
+        let comes : OwnOpeningsComeTo digest id shard axis payloads m (Sliver bytes) = record { taken = taken; takes = takes; comes = (word, record { enough = full; through = found.1 }, root, refl) } in
+        surely (Sliver bytes, kept_sliver old id m axis bytes, ((m, known, comes, refl), are), tt))
         (λ other.
         let p : EncodingProof = record { axis = axis; index = index; openings = taken } in
         let bad : IsBadProof digest m p = record { word = word; line = record { enough = full; through = found.1 }; root = other } in
-        let comes : OwnOpeningsComeTo digest id shard axis payloads m (recovered.Inconsistent p) = record { taken = taken; takes = takes; comes = (refl, bad) } in
-        surely (recovering.Inconsistent, kept_proof old id m p, ((m, known, p, comes, refl), are), tt))
+        let comes : OwnOpeningsComeTo digest id shard axis payloads m (Inconsistent p) = record { taken = taken; takes = takes; comes = (refl, bad) } in
+        surely (Inconsistent, kept_proof old id m p, ((m, known, p, comes, refl), are), tt))
 
     -- fewer are enough for a bad proof
     few_taken : (taken : List Opening) → Takes digest m axis index openings (sliver_symbols axis m.f) taken → length taken < sliver_symbols axis m.f → Possible Recovery
     few_taken taken takes few =
         let have = length taken in
-        let comes : OwnOpeningsComeTo digest id shard axis payloads m (recovered.Short have) = record { taken = taken; takes = takes; comes = (refl, few) } in
+        let comes : OwnOpeningsComeTo digest id shard axis payloads m (Short have) = record { taken = taken; takes = takes; comes = (refl, few) } in
         then (first_or_none (CarriesBadProof digest id.0 m) payloads) (λ found. ⊎_elim
         (λ (first : (p : EncodingProof) × IsFirstBadProof digest id.0 m payloads p).
-        surely (recovering.Proof, kept_proof old id m first.0, ((m, known, have, comes, first.0, first.1, refl), are), tt))
-        (λ none. surely (recovering.Short have (sliver_symbols axis m.f), old, ((m, known, comes, none, refl, refl), are), tt))
+        surely (Proof, kept_proof old id m first.0, ((m, known, have, comes, first.0, first.1, refl), are), tt))
+        (λ none. surely (Short have (sliver_symbols axis m.f), old, ((m, known, comes, none, refl, refl), are), tt))
         found)
 
     known_recovery : Possible Recovery
@@ -72,6 +68,6 @@ module _ (digest : List ℕ → List ℕ) (f : ℕ) (id : BlobId) (shard : ℕ) 
       λ other also. same_metadata other m (fits other also) (fits m found.1) (λ apart. two (other, m, also, found.1, apart)) in
       ⊎_elim
       (λ same. known_recovery m (is_known digest id (parts_at old id) payloads f m found.1 all same))
-      (λ differ. surely (recovering.NoMetadata, old, ((is_unfit digest id (parts_at old id) payloads f m all differ, refl), are), tt))
+      (λ differ. surely (NoMetadata, old, ((is_unfit digest id (parts_at old id) payloads f m all differ, refl), are), tt))
       (cases_eq m.f f))
-      (λ none. surely (recovering.NoMetadata, old, (((λ m knows. absurd (none (m, knows))), refl), are), tt))
+      (λ none. surely (NoMetadata, old, (((λ m knows. absurd (none (m, knows))), refl), are), tt))

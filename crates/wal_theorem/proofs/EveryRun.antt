@@ -1,25 +1,20 @@
 -- Every event of bytes has a step in a world of bytes, and every schedule of bytes has a run.
-use Rattle.wal_theorem.proofs.Common.{◌≡◌, ℕ, ◌≤◌, List, [], ◌∷◌, ◌++◌, Bool, true, false, cond, All, Option, Some, None, refl, sym, ap₂, subst, arith, ◌∙◌, inl, inr, flat_map-cons, BlobId, Axis, BlobMetadata, metadata_text, Commits, Evidence, Verdict, Frame, Fits, IsSchedule, IsEventWithin, Event, Schedule, Line, ReadWord, RecoverWord, committee_size, Log, Parts, Contents, First, Committee, World, side_of, writing_side, held, with_contents, Rules, is_clash, PutsEach, letters, IsWrite, SendStep, reply_payloads, read_payloads, ReadCompletes, ReadStep, ReadCollides, two_metadata, other_answer, IsReplyOf, AreReplies, RecoveryRuns, RecoverStep, CollisionStep, Steps, first_state, is_collision, Runs, Facts, Possible, HasBytes, HasStep, HasRun, Total, surely, then, every_event, every_run, Knows, rules_of, WorldOfBytes, IsDigest, IsOneToOne, one_metadata, metadata_carried}
+use Rattle.wal_theorem.proofs.Common.{◌≡◌, ℕ, ◌≤◌, List, [], ◌∷◌, ◌++◌, Bool, true, false, cond, All, Option, Some, None, refl, sym, ap₂, subst, arith, ◌∙◌, inl, inr, BlobId, Axis, BlobMetadata, metadata_text, Commits, Evidence, Verdict, Frame, Fits, IsSchedule, IsEventWithin, Event, Schedule, Line, ReadWord, RecoverWord, committee_size, Log, Parts, Contents, First, Committee, World, side_of, writing_side, held, with_contents, Rules, is_clash, PutsEach, letters, IsWrite, SendStep, reply_payloads, read_payloads, ReadCompletes, ReadStep, ReadCollides, two_metadata, other_answer, IsReplyOf, AreReplies, RecoveryRuns, RecoverStep, CollisionStep, Steps, first_state, is_collision, Runs, Facts, Possible, HasBytes, HasStep, HasRun, Total, surely, then, every_event, every_run, Knows, rules_of, WorldOfBytes, IsDigest, IsOneToOne, one_metadata, metadata_carried, Metadata, Bytes, Reject, Absent, Ignored, Unregistered, AreBytes}
 use Rattle.std.specs.FinMap as finmap
 use Rattle.wal_shape.specs.declared.axis.Side.{Side}
-use Rattle.wal_shape.specs.declared.part.Part.TheVariants as parts
-use Rattle.wal_evidence.specs.declared.evidence.Verdict.TheVariants as verdict
 use Rattle.wal_event.specs.declared.event.Event.TheVariants.{Write, Send, Read, Recover}
 use Rattle.wal_event.specs.declared.event.Reply.{Reply}
 use Rattle.wal_event.specs.declared.line.Line.TheVariants as line
 use Rattle.wal_event.specs.declared.line.WriteWord.TheVariants as write_word
 use Rattle.wal_event.specs.declared.line.SendWord.{SendWord}
 use Rattle.wal_event.specs.declared.line.SendWord.TheVariants as sending
-use Rattle.wal_event.specs.declared.line.ReadWord.TheVariants as reading_of
-use Rattle.wal_event.specs.declared.line.RecoverWord.TheVariants as recovering
-use Rattle.wal_protocol.specs.Total.{AreBytes}
 use Rattle.wal_theorem.proofs.ByteRules.{byte_rules, byte_laws}
 use Rattle.wal_theorem.proofs.EveryMessage.{message_exists, put_message}
 use Rattle.wal_theorem.proofs.EveryPut.{put_collides, put_read, put_room, unless_collision}
 use Rattle.wal_theorem.proofs.EveryRead.{every_read}
 use Rattle.wal_theorem.proofs.EveryRecovery.{every_recovery}
 use Rattle.wal_theorem.proofs.EveryReply.{read_replied, symbol_replied}
-use Rattle.wal_theorem.proofs.InstanceHoldings.{held_commits}
+use Rattle.wal_theorem.proofs.InstanceHoldings.{held_own}
 use Rattle.wal_theorem.proofs.OneAnswer.{one_answer}
 
 -- what follows where nothing ends
@@ -42,7 +37,7 @@ module _ (digest : List ℕ → List ℕ) (is : IsDigest digest) (f : ℕ) where
 
   known_own : (id : BlobId) (shard : ℕ) (p : Parts) (payloads : List (List ℕ)) → All AreBytes payloads → b.IsSound id shard p → (m : BlobMetadata) → Knows digest id p payloads m → IsOwn id m
   known_own id shard p payloads are sound m (inl found) = (found.4.1, metadata_carried digest id.0 payloads m are found)
-  known_own id shard p payloads are sound m (inr holds) = ((held_commits digest f id.0 shard p sound.0 m holds).0, sound.1 parts.Metadata (metadata_text m) holds.spelled)
+  known_own id shard p payloads are sound m (inr holds) = ((held_own digest f id.0 shard p sound.0 m holds).commits, sound.1 Metadata (metadata_text m) holds.spelled)
 
   same_own : IsOneToOne digest → (id : BlobId) (m o : BlobMetadata) → IsOwn id m → IsOwn id o → m ≡ o
   same_own one id m o own other = one_metadata digest one m o own.0.fit other.0.fit own.1 other.1 (sym own.0.identifier ∙ other.0.identifier)
@@ -70,8 +65,7 @@ module _ (digest : List ℕ → List ℕ) (is : IsDigest digest) (f : ℕ) where
   plain_puts : (log : Log) (c : Committee) (puts : List (ℕ × Frame)) (clashed : Bool) (new : Committee) → PutsEach b log c puts clashed new → PutsEach r log c puts clashed new
   plain_puts log c [] clashed new is = is
   plain_puts log c (p ∷ more) clashed new (answer, contents, puts, rest) =
-      let later = plain_puts log (with_contents c p.0 contents) more clashed new in
-      (answer, contents, puts.0, unless_clash _ _ _ (is_clash answer) rest later)
+      (answer, contents, puts.0, unless_clash _ _ _ (is_clash answer) rest (plain_puts log (with_contents c p.0 contents) more clashed new))
 
   plain_send : (old : World) (side : Side) (shard : ℕ) (bytes : List ℕ) (word : SendWord) (new : World) → SendStep b old side shard bytes word new → SendStep r old side shard bytes word new
   plain_send old side shard bytes sending.Absent new step = step
@@ -84,8 +78,7 @@ module _ (digest : List ℕ → List ℕ) (is : IsDigest digest) (f : ℕ) where
 
   plain_payloads : (old : World) (id : BlobId) (replies : List Reply) → read_payloads b old id replies ≡ read_payloads r old id replies
   plain_payloads old id [] = refl
-  plain_payloads old id (one ∷ more) =
-      flat_map-cons (reply_payloads b old id) one more ∙ ap₂ ◌++◌ (plain_reply old id one) (plain_payloads old id more) ∙ sym (flat_map-cons (reply_payloads r old id) one more)
+  plain_payloads old id (one ∷ more) = ap₂ ◌++◌ (plain_reply old id one) (plain_payloads old id more)
 
   plain_reads : (old : World) (id : BlobId) (replies : List Reply) (word : ReadWord) (evidence : Option Evidence) → b.Reads id (read_payloads b old id replies) word evidence
       → r.Reads id (read_payloads r old id replies) word evidence
@@ -97,8 +90,8 @@ module _ (digest : List ℕ → List ℕ) (is : IsDigest digest) (f : ℕ) where
       record { evidence = c.evidence; reads = plain_reads old id replies word (Some c.evidence) c.reads; agrees = c.agrees; state = c.state }
 
   plain_read : (old : World) (id : BlobId) (replies : List Reply) (word : ReadWord) (new : World) → ReadStep b old id replies word new → ReadStep r old id replies word new
-  plain_read old id replies (reading_of.Bytes bytes) new c = plain_completes old id replies (reading_of.Bytes bytes) (verdict.Bytes bytes) new c
-  plain_read old id replies reading_of.Reject new c = plain_completes old id replies reading_of.Reject verdict.Reject new c
+  plain_read old id replies (Bytes bytes) new c = plain_completes old id replies (Bytes bytes) (Bytes bytes) new c
+  plain_read old id replies Reject new c = plain_completes old id replies Reject Reject new c
   plain_read old id replies word new step = (plain_reads old id replies word None step.0, step.1)
 
   plain_reply_of : (old : World) (id : BlobId) (axis : Axis) (shard : ℕ) (one : Reply) (payloads : List (List ℕ)) → IsReplyOf b old id axis shard one payloads → IsReplyOf r old id axis shard one payloads
@@ -123,9 +116,9 @@ module _ (digest : List ℕ → List ℕ) (is : IsDigest digest) (f : ℕ) where
 
   plain_recover : (old : World) (side : Side) (shard : ℕ) (axis : Axis) (id : BlobId) (replies : List Reply) (word : RecoverWord) (new : World)
       → RecoverStep b old side shard axis id replies word new → RecoverStep r old side shard axis id replies word new
-  plain_recover old side shard axis id replies recovering.Absent new step = step
-  plain_recover old side shard axis id replies recovering.Ignored new step = step
-  plain_recover old side shard axis id replies recovering.Unregistered new step = step
+  plain_recover old side shard axis id replies Absent new step = step
+  plain_recover old side shard axis id replies Ignored new step = step
+  plain_recover old side shard axis id replies Unregistered new step = step
   plain_recover old side shard axis id replies word new step = (step.0, plain_runs old side shard axis id replies word step.0 step.1, step.2)
 
   plain_read_collides : (old : World) (id : BlobId) (replies : List Reply) → ReadCollides b old id replies → ReadCollides r old id replies
@@ -178,8 +171,7 @@ module _ (digest : List ℕ → List ℕ) (is : IsDigest digest) (f : ℕ) where
   plain_run : (old : World) (events : List Event) (states : List World) (lines : List Line) → Runs b old events states lines → Runs r old events states lines
   plain_run old [] [] [] run = tt
   plain_run old (event ∷ events) (new ∷ states) (said ∷ lines) (step, rest) =
-      let later = plain_run new events states lines in
-      (plain_step old event said new step, unless_clash _ _ _ (is_collision said) rest later)
+      (plain_step old event said new step, unless_clash _ _ _ (is_collision said) rest (plain_run new events states lines))
   plain_run old events states lines none = absurd none
 
   -- ---- every event, and every schedule

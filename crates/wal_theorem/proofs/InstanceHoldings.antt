@@ -1,15 +1,11 @@
 -- What a shard holds stays sound and only grows when a part is added.
-use Rattle.wal_theorem.proofs.Common.{◌≡◌, ℕ, List, true, ◌&&◌, is_some, Option, Some, None, unwrap_or, refl, ap, ◌∙◌, BlobId, BlobMetadata, metadata_text, Commits, Part, Parts, part_of, with_part, Contents, parts_at, part_at, with_bytes, HoldsMetadata, IsSound, has_proof, kept, IsAbove, AreAbove, HoldsBadProof, arith}
-use Rattle.wal_shard.proofs.Soundness.{one_metadata}
+use Rattle.wal_theorem.proofs.Common.{inl, inr, refl, ◌≡◌, ◌⊎◌, ℕ, List, true, Option, Some, None, ap, ◌∙◌, BlobId, BlobMetadata, Part, Parts, part_of, with_part, Contents, parts_at, part_at, with_bytes, HoldsMetadata, IsSound, has_proof, kept, IsAbove, AreAbove, HoldsBadProof, arith, one_held, own_metadata, some_of, IsOwnMetadata}
 use Rattle.wal_shard.proofs.Changes.{insert_changes, same_id}
 
--- ---- one value
-
-pub some_is : (a b : List ℕ) → ◌≡◌ {A = Option (List ℕ)} (Some a) (Some b) → a ≡ b
-some_is a b e = ap (λ (o : Option (List ℕ)). unwrap_or o a) e
-
-pub none_some : (o : Option (List ℕ)) (a : List ℕ) → o ≡ None → o ≡ Some a → ⊥
-none_some o a none some = absurd cc
+-- there is nothing, or something
+pub none_or_some : (o : Option (List ℕ)) → (o ≡ None) ⊎ ((x : List ℕ) × (o ≡ Some x))
+none_or_some None = inl refl
+none_or_some (Some x) = inr (x, refl)
 
 -- ---- one part more
 
@@ -40,20 +36,15 @@ above_both a b c first second id part bytes at = second id part bytes (first id 
 
 -- ---- soundness
 
--- the metadata that is held is committed
-pub held_commits : (digest : List ℕ → List ℕ) (f : ℕ) (id : List ℕ) (shard : ℕ) (p : Parts)
-    → IsSound digest f id shard p
-    → (m : BlobMetadata) → HoldsMetadata p m → Commits digest id m × (m.f ≡ f)
-held_commits digest f id shard p was m holds =
-    let s = was.metadata (metadata_text m) holds.spelled in rw (← one_metadata p s.0 m s.1 holds) (s.2, s.3)
+-- the metadata that is held is the identifier's
+pub held_own : (digest : List ℕ → List ℕ) (f : ℕ) (id : List ℕ) (shard : ℕ) (p : Parts) → IsSound digest f id shard p → (m : BlobMetadata) → HoldsMetadata p m → IsOwnMetadata digest f id p m
+held_own digest f id shard p was m holds =
+    let own = own_metadata digest f shard id p was (rw holds.spelled) in
+    rw (one_held p own.0 m own.1.held holds) at own.1
 
 -- a proof that is held is bad for the metadata that is held
 pub refuted : (digest : List ℕ → List ℕ) (f : ℕ) (id : BlobId) (shard : ℕ) (p : Parts) → IsSound digest f id.0 shard p → has_proof p ≡ true → HoldsBadProof digest id p
-refuted digest f id shard p was has = by p.metadata p.proof refl refl has
-  where
-    by : (a b : Option (List ℕ)) → p.metadata ≡ a → p.proof ≡ b → (is_some a && is_some b) ≡ true → HoldsBadProof digest id p
-    by (Some x) (Some y) is at e =
-        let s = was.metadata x is in
-        let q = was.proof s.0 y s.1 at in
-        (s.0, record { held = s.1; committed = s.2 }, q.0, at ∙ ap Some q.2, q.3)
-    by a b is at e = absurd cc
+refuted digest f id shard p was has =
+    let own = own_metadata digest f shard id.0 p was (grind arith) in
+    let q = was.proof own.0 _ own.1.held (some_of p.proof (grind arith)) in
+    (own.0, record { held = own.1.held; committed = own.1.commits }, q.0, some_of p.proof (grind arith) ∙ ap Some q.2, q.3)

@@ -1,7 +1,6 @@
 -- The rules of the world have the laws that its safety rests on.
 use Rattle.wal_theorem.proofs.Common.{◌≡◌, ℕ, ◌≤◌, List, length, Laws, rules_of, none_sound, without_sliver_sound, Primary, Secondary, with_part, None}
 use Rattle.wal_theorem.proofs.InstanceHoldings.{refuted}
-use Rattle.wal_shape.specs.declared.part.Part.TheVariants as parts
 use Rattle.wal_theorem.proofs.InstancePuts.{put_sound, put_adds}
 use Rattle.wal_theorem.proofs.InstanceRecoveries.{recover_sound, recover_adds, recover_commits}
 use Rattle.wal_theorem.proofs.InstanceReads.{read_backed, write_backed, read_completes}
@@ -11,10 +10,10 @@ use Rattle.wal_theorem.proofs.InstanceSymbols.{secondary_recovers, primary_recov
 pub laws_of : (digest : List ℕ → List ℕ) → ((text : List ℕ) → length (digest text) ≡ 32) → (f : ℕ) → f ≤ 333 → Laws (rules_of digest f)
 laws_of digest size f few = record {
   nothing_sound = λ id shard. none_sound digest f shard id.0;
-  put_sound = λ log shard old new frame answer. put_sound digest f log shard old new frame answer;
+  put_sound = λ log shard old. put_sound digest f log shard old;
   recover_sound = λ id shard axis old new payloads word r one was. recover_sound digest f id shard old was axis new payloads word r;
   forget_sound = λ id shard p was.
-      without_sliver_sound digest f shard id.0 Secondary (with_part p parts.Primary None)
+      without_sliver_sound digest f shard id.0 Secondary (with_part p Primary None)
       (without_sliver_sound digest f shard id.0 Primary p was);
   put_adds = λ log shard old new frame answer. put_adds digest f log shard old new frame answer;
   recover_adds = λ id shard axis old new payloads word. recover_adds digest f id shard axis old new payloads word;

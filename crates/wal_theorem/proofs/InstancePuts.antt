@@ -1,7 +1,7 @@
 -- A put leaves what a shard holds sound, and only adds to it.
-use Rattle.wal_theorem.proofs.Common.{◌≡◌, ℕ, List, None, refl, sym, subst, BlobId, metadata_text, proof_text, sliver_part, Frame, Metadata, Sliver, Proof, IsFrame, Contents, parts_at, part_at, with_bytes, Log, PutAnswer, Stored, Memory, stored_bytes, Puts, IsAccepted, put_id, put_part, AreSound, desk_of, AreAbove, PutsFrame, metadata_sound, sliver_sound, proof_sound}
-use Rattle.wal_shape.specs.declared.part.Part.TheVariants as parts
+use Rattle.wal_theorem.proofs.Common.{◌≡◌, ℕ, List, None, refl, sym, subst, Frame, Metadata, Sliver, Proof, IsFrame, Contents, parts_at, part_at, with_bytes, Log, PutAnswer, Stored, Memory, stored_bytes, Puts, IsAccepted, put_id, put_part, AreSound, desk_of, AreAbove, PutsFrame, metadata_sound, IsSound, Some, with_part}
 use Rattle.wal_theorem.proofs.InstanceHoldings.{above_put}
+use Rattle.wal_shard.proofs.HeldLaws.{sliver_then, proof_then}
 use Rattle.wal_shard.proofs.Soundness.{put_sound as contents_sound}
 
 -- what follows from a put: it left everything, or it stored a part that was not held
@@ -20,29 +20,18 @@ put_adds digest f log shard old new frame answer puts =
     by_put (AreAbove old) digest f log shard old new frame answer (λ id part bytes at. at)
     (λ accepted none. above_put old (put_id digest frame) (put_part frame) (stored_bytes frame) none) puts.1
 
--- a part that was accepted and stored
-stored_sound : (digest : List ℕ → List ℕ) (f : ℕ) (log : Log) (shard : ℕ) (old : Contents) (frame : Frame) → IsFrame frame → AreSound digest f shard old
-    → IsAccepted digest (desk_of f shard None log) old frame → part_at old (put_id digest frame) (put_part frame) ≡ None
-    → AreSound digest f shard (with_bytes old (put_id digest frame) (put_part frame) (stored_bytes frame))
-stored_sound digest f log shard old (Metadata m) fit was accepted none =
-    let id = put_id digest (Metadata m) in
-    contents_sound digest f shard old id parts.Metadata (metadata_text m) was
-    (metadata_sound digest f shard id.0 (parts_at old id) m (record { fit = fit; identifier = refl })
-    accepted.verified none (was id))
-stored_sound digest f log shard old (Sliver id axis index bytes) fit was accepted none =
-    let at : BlobId = record { 0 = id } in
-    let v = accepted.verified in
-    contents_sound digest f shard old at (sliver_part axis) bytes was
-    (sliver_sound digest f shard id axis (parts_at old at) v.0 bytes v.1 (rw v.2 at v.3) (was at))
-stored_sound digest f log shard old (Proof id p) fit was accepted none =
-    let at : BlobId = record { 0 = id } in
-    let v = accepted.verified in
-    contents_sound digest f shard old at parts.Proof (proof_text p) was
-    (proof_sound digest f shard id (parts_at old at) v.0 p v.1 v.2 fit.1 (was at))
-stored_sound digest f log shard old _ fit was accepted none = absurd accepted.verified
+module _ (digest : List ℕ → List ℕ) (f : ℕ) (log : Log) (shard : ℕ) (old : Contents) where
+  -- a part that was accepted is sound beside what is held
+  part_sound : (frame : Frame) → IsFrame frame → AreSound digest f shard old → IsAccepted digest (desk_of f shard None log) old frame → part_at old (put_id digest frame) (put_part frame) ≡ None
+      → IsSound digest f (put_id digest frame).0 shard (with_part (parts_at old (put_id digest frame)) (put_part frame) (Some (stored_bytes frame)))
+  part_sound (Metadata m) fit was accepted none =
+      let id = put_id digest (Metadata m) in
+      metadata_sound digest f shard id.0 (parts_at old id) m (record { fit = fit; identifier = refl }) accepted.verified none (was id)
+  part_sound (Sliver id axis index bytes) fit was accepted none = sliver_then digest f shard id _ axis index bytes accepted.verified (was (record { 0 = id }))
+  part_sound (Proof id p) fit was accepted none = proof_then digest f shard id _ p accepted.verified fit.1 (was (record { 0 = id }))
+  part_sound _ fit was accepted none = absurd accepted.verified
 
-pub put_sound : (digest : List ℕ → List ℕ) (f : ℕ) (log : Log) (shard : ℕ) (old new : Contents) (frame : Frame) (answer : PutAnswer)
-    → PutsFrame digest f log shard old frame answer new → AreSound digest f shard old → AreSound digest f shard new
-put_sound digest f log shard old new frame answer puts was =
-    by_put (AreSound digest f shard) digest f log shard old new frame answer was
-    (λ accepted none. stored_sound digest f log shard old frame puts.0 was accepted none) puts.1
+  pub put_sound : (new : Contents) (frame : Frame) (answer : PutAnswer) → PutsFrame digest f log shard old frame answer new → AreSound digest f shard old → AreSound digest f shard new
+  put_sound new frame answer puts was =
+      by_put (AreSound digest f shard) digest f log shard old new frame answer was
+      (λ accepted none. contents_sound digest f shard old (put_id digest frame) (put_part frame) (stored_bytes frame) was (part_sound frame puts.0 was accepted none)) puts.1

@@ -1,13 +1,9 @@
 -- What completed reads and honest writes rest on, and that a read completes that has enough replies.
-use Rattle.wal_theorem.proofs.Common.{◌≡◌, ⊎_elim, ℕ, ◌+◌, ◌<◌, ◌≤◌, List, [], length, Bool, true, Option, Some, Contains, refl, arith, BlobId, Format, row_count, BlobMetadata, held_index-primary, Commits, Evidence, Verdict, Frame, Metadata, Sliver, Proof, IsSliver, frame_text, sliver_frame, ReadWord, read_again, CarriesBadProof, NoBadProof, NoneIn, Collects, CarriesMetadata, CarriesSliver, HasMetadata, collects_all, Parts, count_below, committee_size, count_below-some, HoldsMetadata, IsSound, has_proof, primary_reply, Judged, Written, told_by, AreAmong, RepliedTo, IsMessageOf, sliver_short, ReadsTo, IsBackedBy, rules_of}
-use Rattle.wal_shape.specs.declared.axis.Axis.TheVariants as axes
+use Rattle.wal_theorem.proofs.Common.{◌≡◌, ⊎_elim, ℕ, ◌+◌, ◌<◌, ◌≤◌, List, [], length, Bool, true, Option, Some, Contains, refl, arith, BlobId, Format, row_count, BlobMetadata, held_index-primary, Commits, Evidence, Verdict, Frame, Metadata, Sliver, Proof, IsSliver, frame_text, sliver_frame, ReadWord, read_again, CarriesBadProof, NoBadProof, NoneIn, Collects, CarriesMetadata, CarriesSliver, HasMetadata, collects_all, Parts, count_below, committee_size, count_below-some, HoldsMetadata, IsSound, has_proof, primary_reply, Judged, Written, told_by, AreAmong, RepliedTo, IsMessageOf, sliver_short, ReadsTo, IsBackedBy, rules_of, Primary, Bytes, Reject, Short, NoMetadata, one_held, own_metadata, some_of, IsOwnMetadata, unwrap_or}
 use Rattle.wal_commit.proofs.Commitments.{honest_metadata}
-use Rattle.wal_evidence.specs.declared.evidence.Verdict.TheVariants as verdict
-use Rattle.wal_event.specs.declared.line.ReadWord.TheVariants.{Bytes, Reject, Short, NoMetadata}
-use Rattle.wal_shard.proofs.Soundness.{one_metadata}
 use Rattle.wal_theorem.proofs.InstanceHoldings.{refuted}
 use Rattle.wal_theorem.proofs.InstanceRecoveries.{bad_proof_fits}
-use Rattle.wal_theorem.proofs.InstanceReplies.{contains_first, any_of, count_named, id_long, told, shows_metadata, shows_middle, shows_proof, settled_has, some_bytes}
+use Rattle.wal_theorem.proofs.InstanceReplies.{contains_first, any_of, count_named, id_long, told, shows_metadata, shows_middle, shows_proof, settled_has}
 
 -- ---- what answers rest on
 
@@ -54,34 +50,32 @@ module _ (digest : List ℕ → List ℕ) (size : (text : List ℕ) → length (
       let r = refuted digest f id shard p sound has in
       let q = r.2 in
       let x = frame_text (Proof id.0 q) in
-      let same = one_metadata p r.0 m r.1.held holds in
+      let same = one_held p r.0 m r.1.held holds in
       let reads = read_again (Proof id.0 q) (id_long digest size id.0 r.0 r.1.committed, bad_proof_fits digest r.0 q r.1.committed.fit r.4) in
       none_at (CarriesBadProof digest id.0 m) payloads none x q (tells x (shows_proof id.0 p middle q r.3))
       (reads, rw same at r.4)
 
   -- a primary sliver that a shard replies is among the payloads
-  tells_sliver : (shard : ℕ) (p : Parts) (m : BlobMetadata) (bytes : List ℕ) → shard < committee_size f → m.f ≡ f → Tells p (primary_reply id.0 shard p) → IsSound digest f id.0 shard p
-      → HoldsMetadata p m → Commits digest id.0 m → p.primary ≡ Some bytes
-      → Contains payloads (sliver_frame id.0 axes.Primary shard bytes) × CarriesSliver digest id.0 m (sliver_frame id.0 axes.Primary shard bytes) shard bytes
-  tells_sliver shard p m bytes within faults tells sound holds commits at =
-      let x = sliver_frame id.0 axes.Primary shard bytes in
+  tells_sliver : (shard : ℕ) (p : Parts) (m : BlobMetadata) (bytes : List ℕ) → shard < committee_size f → Tells p (primary_reply id.0 shard p) → IsSound digest f id.0 shard p
+      → IsOwnMetadata digest f id.0 p m → p.primary ≡ Some bytes
+      → Contains payloads (sliver_frame id.0 Primary shard bytes) × CarriesSliver digest id.0 m (sliver_frame id.0 Primary shard bytes) shard bytes
+  tells_sliver shard p m bytes within tells sound own at =
+      let x = sliver_frame id.0 Primary shard bytes in
       let there = shows_middle id.0 p (primary_reply id.0 shard p) x (rw at (contains_first x x [] refl)) in
-      let sliver = rw (held_index-primary m.format m.f shard) at (sound.slivers axes.Primary m bytes holds at) in
-      let short = sliver_short axes.Primary m.f m.length (length bytes) commits.fit.shape sliver.size in
+      let sliver = rw (held_index-primary m.format m.f shard) at (sound.slivers Primary m bytes own.held at) in
+      let short = sliver_short Primary m.f m.length (length bytes) own.commits.fit.shape sliver.size in
       let most : shard ≤ 999 = omega (arith, within, few) in
-      let fits : IsSliver id.0 shard bytes = record { id_size = id_long digest size id.0 m commits; index_most = most; size_most = short } in
-      (tells x there, (read_again (Sliver id.0 axes.Primary shard bytes) fits, sliver))
+      let fits : IsSliver id.0 shard bytes = record { id_size = id_long digest size id.0 m own.commits; index_most = most; size_most = short } in
+      (tells x there, (read_again (Sliver id.0 Primary shard bytes) fits, sliver))
 
   abbrev Heard : (ℕ → Bool) → Type 0
   Heard heard = (s : ℕ) → s < committee_size f → heard s ≡ true → (parts : Parts) × RepliedTo (rules_of digest f) id payloads s parts
 
   -- the metadata of a shard that replied
-  replier : (s : ℕ) (parts : Parts) → RepliedTo (rules_of digest f) id payloads s parts
-      → (m : BlobMetadata) × HoldsMetadata parts m × Commits digest id.0 m × (m.f ≡ f) × HasMetadata digest id.0 payloads m
+  replier : (s : ℕ) (parts : Parts) → RepliedTo (rules_of digest f) id payloads s parts → (m : BlobMetadata) × IsOwnMetadata digest f id.0 parts m × HasMetadata digest id.0 payloads m
   replier s parts r =
-      let b = some_bytes parts.metadata (settled_has parts r.settles).0 in
-      let h = r.sound.metadata b.0 b.1 in
-      (h.0, h.1, h.2, h.3, tells_metadata parts (primary_reply id.0 s parts) h.0 r.replied h.1 h.2)
+      let own = own_metadata digest f s id.0 parts r.sound (settled_has parts r.settles).0 in
+      (own.0, own.1, tells_metadata parts (primary_reply id.0 s parts) own.0 r.replied own.1.held own.1.commits)
 
   -- some shard replied, and told its metadata
   someone : (heard : ℕ → Bool) → f + 1 ≤ count_below (committee_size f) heard → Heard heard
@@ -89,31 +83,26 @@ module _ (digest : List ℕ → List ℕ) (size : (text : List ℕ) → length (
   someone heard enough replied =
       let one = count_below-some (committee_size f) heard (omega (arith, enough)) in
       let by = replied one.0 one.1 one.2 in
-      let own = replier one.0 by.0 by.1 in (own.0, own.3, own.4)
+      let own = replier one.0 by.0 by.1 in (own.0, own.1.faults, own.2)
 
   -- each shard that replied is counted
   counted : (heard : ℕ → Bool) → Heard heard → (m : BlobMetadata) (indices joined : List ℕ) → ((other : BlobMetadata) → HasMetadata digest id.0 payloads other → other ≡ m)
       → Collects digest id.0 m payloads indices joined → length indices < row_count m.f → NoBadProof digest id.0 m payloads → (s : ℕ) → s < committee_size f → heard s ≡ true → Contains indices s
   counted heard replied m indices joined only collects short none s within hears =
-      let parts = (replied s within hears).0 in
-      let r = (replied s within hears).1 in
-      let own = replier s parts r in
-      let same = only own.0 own.4 in
-      let holds = rw same at own.1 in
-      let commits = rw same at own.2 in
-      let faults = rw same at own.3 in
+      let (parts, r) = replied s within hears in
+      let had = replier s parts r in
+      let own = rw (only had.0 had.2) at had.1 in
       ⊎_elim
-      (λ proof. absurd (tells_proof s parts (primary_reply id.0 s parts) m r.replied r.sound holds none proof))
+      (λ proof. absurd (tells_proof s parts (primary_reply id.0 s parts) m r.replied r.sound own.held none proof))
       (λ slivers.
-      let b = some_bytes parts.primary slivers.0 in
-      let c = tells_sliver s parts m b.0 within faults r.replied r.sound holds commits b.1 in
-      collects_each digest id.0 m payloads indices joined collects short (sliver_frame id.0 axes.Primary s b.0) s b.0 c.0 c.1)
+      let c = tells_sliver s parts m (unwrap_or parts.primary []) within r.replied r.sound own (some_of parts.primary slivers.0) in
+      collects_each digest id.0 m payloads indices joined collects short _ s _ c.0 c.1)
       (settled_has parts r.settles).1
 
   pub read_completes : (word : ReadWord) (evidence : Option Evidence) (heard : ℕ → Bool) → f + 1 ≤ count_below (committee_size f) heard → Heard heard
       → ReadsTo digest id payloads word evidence → (shown : Verdict) × (told_by word ≡ Some shown)
-  read_completes (Bytes bytes) evidence heard enough replied r = (verdict.Bytes bytes, refl)
-  read_completes Reject evidence heard enough replied r = (verdict.Reject, refl)
+  read_completes (Bytes bytes) evidence heard enough replied r = (Bytes bytes, refl)
+  read_completes Reject evidence heard enough replied r = (Reject, refl)
   read_completes NoMetadata evidence heard enough replied r =
       let own = someone heard enough replied in absurd (r.0 own.0 own.2)
   read_completes (Short have need) evidence heard enough replied r =

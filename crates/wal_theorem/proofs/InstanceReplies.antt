@@ -1,5 +1,5 @@
 -- What replies of sound holdings show, and how many shards a list names.
-use Rattle.wal_theorem.proofs.Common.{◌≡◌, ℕ, ◌<◌, ◌≤◌, List, [], ◌∷◌, ◌++◌, length, get_or, Bool, true, is_some, nat_eq, Option, Some, Any, Contains, ◌⊎◌, refl, ap, ◌∙◌, arith, list_any, Contains-append_left, Contains-append_right, BlobMetadata, EncodingProof, proof_text, spelled_metadata-text, Commits, identifier_is, Metadata, Proof, frame_text, metadata_frame, count_below, count_below-mono, count_below-among, Parts, HoldsMetadata, metadata_reply, proof_reply, settled, has_proof}
+use Rattle.wal_theorem.proofs.Common.{◌≡◌, ℕ, ◌<◌, ◌≤◌, List, [], ◌∷◌, ◌++◌, length, get_or, Bool, true, is_some, nat_eq, Some, Any, Contains, ◌⊎◌, refl, ap, ◌∙◌, arith, list_any, Contains-append_left, Contains-append_right, BlobMetadata, EncodingProof, proof_text, spelled_metadata-text, Commits, identifier_is, Metadata, Proof, frame_text, metadata_frame, count_below, count_below-mono, count_below-among, Parts, HoldsMetadata, metadata_reply, proof_reply, settled, has_proof}
 use Rattle.std.proofs.Common.{eq-eqb}
 use Rattle.std.proofs.lemmas.List.Folds.{list_any-from_Any}
 
@@ -60,7 +60,3 @@ shows_proof id p middle q is =
 -- a settled holding has metadata, and a proof or both slivers
 pub settled_has : (p : Parts) → settled p ≡ true → (is_some p.metadata ≡ true) × ((has_proof p ≡ true) ⊎ ((is_some p.primary ≡ true) × (is_some p.secondary ≡ true)))
 settled_has p h = grind arith
-
--- what is there has bytes
-pub some_bytes : (o : Option (List ℕ)) → is_some o ≡ true → (bytes : List ℕ) × (o ≡ Some bytes)
-some_bytes o e = grind arith

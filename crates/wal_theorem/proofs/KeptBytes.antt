@@ -1,7 +1,5 @@
 -- A schedule begins in a world of bytes, and its events leave one.
-use Rattle.wal_theorem.proofs.Common.{ℕ, List, get_or, refl, arith, ⊎_elim, cases_lt, metadata_text, proof_text, Basis, Slivers, Fits, IsSchedule, IsEventWithin, Event, Schedule, Line, committee_size, First, Judged, Written, World, Steps, first_state, Facts, Possible, HasBytes, surely, then, every_event, one_step, facts_first, facts_step, rules_of, BasisOfBytes, FirstOfBytes, WorldOfBytes, IsDigest}
-use Rattle.wal_evidence.specs.declared.evidence.Basis.TheVariants.{Proof}
-use Rattle.wal_protocol.specs.Total.{AreBytes}
+use Rattle.wal_theorem.proofs.Common.{ℕ, List, get_or, refl, arith, ⊎_elim, cases_lt, metadata_text, proof_text, Basis, Slivers, Fits, IsSchedule, IsEventWithin, Event, Schedule, Line, committee_size, First, Judged, Written, World, Steps, first_state, Facts, Possible, HasBytes, surely, then, every_event, one_step, facts_first, facts_step, rules_of, BasisOfBytes, FirstOfBytes, WorldOfBytes, IsDigest, Proof, AreBytes}
 use Rattle.wal_theorem.proofs.ByteRules.{byte_rules, byte_laws}
 use Rattle.wal_theorem.proofs.EveryRun.{bytes_facts, plain_step, total_of}
 use Rattle.wal_theorem.proofs.Headline.{facts_start, facts_kept}

@@ -1,8 +1,7 @@
 -- There is a codeword through known symbols, and so through openings that hold.
-use Rattle.wal_theorem.proofs.Common.{◌≡◌, ℕ, ◌*◌, ◌/◌, ◌<◌, List, length, All, sym, ap, subst, ◌∙◌, arith, length-map, word_at, region, Axis, IsShape, shard_count, symbol_size, BlobMetadata, symbol_size-least, row_of, AreBytes, bytes_of_part, word_of_bytes, AreEnough, IsLineThrough, crosses_of, symbols_of}
+use Rattle.wal_theorem.proofs.Common.{◌≡◌, ℕ, ◌*◌, ◌/◌, ◌<◌, List, length, All, sym, ap, subst, ◌∙◌, arith, length-map, word_at, region, Axis, IsShape, shard_count, symbol_size, BlobMetadata, symbol_size-least, row_of, AreBytes, bytes_of_part, word_of_bytes, AreEnough, IsLineThrough, crosses_of, symbols_of, Opening}
 use Rattle.wal_code.specs.Codeword.{combination}
 use Rattle.wal_code.proofs.Codes.{codeword-word, combination-codeword}
-use Rattle.wal_shape.specs.declared.opening.Opening.{Opening}
 use Rattle.wal_matrix.specs.Word.{PassesCodeword}
 use Rattle.wal_matrix.proofs.Places.{run_fits}
 use Rattle.wal_matrix.proofs.Runs.{region_long}

@@ -1,10 +1,7 @@
 -- Where no two texts collide, an identifier has one blob, and all completed answers for it have one verdict.
-use Rattle.wal_theorem.proofs.Common.{◌≡◌, ℕ, ◌-◌, ◌*◌, List, length, take, replicate, slice_index, refl, sym, ap, subst, ◌∙◌, arith, region, BlobId, Primary, Format, row_count, column_count, symbol_size, crossing, BlobMetadata, IsMetadata, EncodingProof, metadata_text, proof_text, symbol_size-least, path_over, padded, line_of, primary_of, source_of, AreBytes, bytes_of_part, source_of_extended, bytes_within, source-row, source_by_rows, source_long, line_is_word, Commits, IsIdentifierOf, IsMetadataOf, metadata_over, committed_matrix, committed_opening, IsBadProof, AreHeld, CommitsMatrix, IsEvidence, IsJudgedBy, Judges, sliver_bytes, Basis, Evidence, Slivers, Verdict, true_verdict, First, Judged, Written, verdict_of, IsBackedBy, BasisOfBytes, FirstOfBytes, honest_bytes, IsOneToOne, one_metadata, one_sliver, one_symbol, path_bytes}
+use Rattle.wal_theorem.proofs.Common.{◌≡◌, ℕ, ◌-◌, ◌*◌, List, length, take, replicate, slice_index, refl, sym, ap, subst, ◌∙◌, arith, region, BlobId, Primary, Format, row_count, column_count, symbol_size, crossing, BlobMetadata, IsMetadata, EncodingProof, metadata_text, proof_text, symbol_size-least, path_over, padded, line_of, primary_of, source_of, AreBytes, bytes_of_part, source_of_extended, bytes_within, source-row, source_by_rows, source_long, line_is_word, Commits, IsIdentifierOf, IsMetadataOf, metadata_over, committed_matrix, committed_opening, IsBadProof, AreHeld, CommitsMatrix, IsEvidence, IsJudgedBy, sliver_bytes, Basis, Evidence, Slivers, Verdict, true_verdict, First, Judged, Written, verdict_of, IsBackedBy, BasisOfBytes, FirstOfBytes, honest_bytes, IsOneToOne, one_metadata, one_sliver, one_symbol, path_bytes, Opening, Proof, Bytes, Reject}
 use Rattle.std.proofs.Math.Seq.{take-append_seam}
 use Rattle.std.proofs.lemmas.Option.{get_or_from_slice_get, slice_get_within}
-use Rattle.wal_shape.specs.declared.opening.Opening.{Opening}
-use Rattle.wal_evidence.specs.declared.evidence.Basis.TheVariants.{Proof}
-use Rattle.wal_evidence.specs.declared.evidence.Verdict.TheVariants.{Bytes, Reject}
 use Rattle.wal_evidence.proofs.FalseOpenings.{false_opening}
 use Rattle.wal_evidence.proofs.FalseSlivers.{matrix_holds}
 use Rattle.wal_theorem.proofs.OneReading.{one_judgement}
@@ -70,13 +67,6 @@ module _ (digest : List ℕ → List ℕ) (one : IsOneToOne digest) where
               (matrix_holds digest m blob e (slice_index indices k) is (held.held k l).within) (held.held k l),
         )
 
-    slivers_accept : (indices joined : List ℕ) → AreHeld digest m indices joined → Judges digest m indices joined Reject → ⊥
-    slivers_accept indices joined held judged =
-        let same =
-        one_judgement digest m indices joined fit held (Bytes blob) Reject
-        (slivers_judged indices joined held) judged in
-        absurd cc
-
     proof_accepts : (p : EncodingProof) → AreBytes (proof_text p) → IsBadProof digest m p → ⊥
     proof_accepts p bytes bad =
         let s = symbol_size m.f m.length in
@@ -99,10 +89,6 @@ module _ (digest : List ℕ → List ℕ) (one : IsOneToOne digest) where
     judged (Slivers indices joined) bytes id evidence = slivers_judged indices joined evidence.held
     judged (Proof p) bytes id evidence = absurd (proof_accepts p bytes evidence.held)
 
-    accepts : (basis : Basis) → BasisOfBytes basis → (id : List ℕ) → IsEvidence digest id (record { metadata = m; basis = basis }) → IsJudgedBy digest m basis Reject → ⊥
-    accepts (Slivers indices joined) bytes id evidence judged = slivers_accept indices joined evidence.held judged
-    accepts (Proof p) bytes id evidence judged = proof_accepts p bytes evidence.held
-
   -- so evidence for a blob's identifier leads to the blob
   pub judged_as : (format : Format) (n : ℕ) (blob id : List ℕ) (e : Evidence) → IsIdentifierOf digest format n blob id → IsEvidence digest id e
       → AreBytes (metadata_text e.metadata) → BasisOfBytes e.basis → IsJudgedBy digest e.metadata e.basis (Bytes blob)
@@ -112,6 +98,12 @@ module _ (digest : List ℕ → List ℕ) (one : IsOneToOne digest) where
       judged e.metadata evidence.committed.fit blob matrix.0 (subst (λ (x : BlobMetadata). CommitsMatrix digest x blob matrix.0) one_is matrix.1) e.basis basis id evidence
 
   -- ---- answers
+
+  -- one piece of evidence leads to one verdict
+  one_judged : (id : List ℕ) (m : BlobMetadata) (basis : Basis) (a b : Verdict) → IsEvidence digest id (record { metadata = m; basis = basis }) → IsJudgedBy digest m basis a
+      → IsJudgedBy digest m basis b → a ≡ b
+  one_judged id m (Slivers indices joined) a b evidence is_a is_b = one_judgement digest m indices joined evidence.committed.fit evidence.held a b is_a is_b
+  one_judged id m (Proof p) a b evidence is_a is_b = is_a ∙ sym is_b
 
   -- bytes that were answered have the identifier
   abbrev HasIdentifier : List ℕ → List ℕ → Type 0
@@ -129,25 +121,18 @@ module _ (digest : List ℕ → List ℕ) (one : IsOneToOne digest) where
   answered_bytes f id (Judged evidence verdict) blob backed same =
       judged_bytes id.0 blob evidence.metadata evidence.basis backed.0 (rw same at backed.1)
 
-  -- and are not rejected
-  not_rejected : (f : ℕ) (id : BlobId) (blob : List ℕ) (a : First) → HasIdentifier blob id.0 → IsBackedBy digest f id a → FirstOfBytes a → verdict_of a ≡ Reject → ⊥
-  not_rejected f id blob (Written bytes) has backed bytes_a same = absurd cc
-  not_rejected f id blob (Judged evidence verdict) (format, n, (m, is, commits)) backed bytes_a same =
-      let one_is = same_metadata format n blob id.0 evidence.metadata (m, is, commits) backed.0.committed bytes_a.0 in
-      let matrix = as_matrix digest format n blob m is in
-      let here = subst (λ (x : BlobMetadata). CommitsMatrix digest x blob matrix.0) one_is matrix.1 in
-      accepts evidence.metadata backed.0.committed.fit blob matrix.0 here evidence.basis bytes_a.1 id.0 backed.0
-      (rw same at backed.1)
+  -- and each answer is that they are
+  answers : (f : ℕ) (id : BlobId) (blob : List ℕ) (a : First) → HasIdentifier blob id.0 → IsBackedBy digest f id a → FirstOfBytes a → verdict_of a ≡ Bytes blob
+  answers f id blob (Written bytes) (format, n, has) backed bytes_a = cc (one_blob backed.0 format f n bytes blob id.0 backed.1 has)
+  answers f id blob (Judged evidence verdict) (format, n, has) backed bytes_a =
+      one_judged id.0 evidence.metadata evidence.basis verdict (Bytes blob) backed.0 backed.1
+      (judged_as format n blob id.0 evidence has backed.0 bytes_a.0 bytes_a.1)
 
   -- so two answers have one verdict
   pub one_answer : (f : ℕ) (id : BlobId) (a b : First) → IsBackedBy digest f id a → FirstOfBytes a → IsBackedBy digest f id b → FirstOfBytes b → verdict_of a ≡ verdict_of b
   one_answer f id a b backed_a bytes_a backed_b bytes_b = by (verdict_of a) (verdict_of b) refl refl
     where
       by : (v w : Verdict) → verdict_of a ≡ v → verdict_of b ≡ w → verdict_of a ≡ verdict_of b
-      by (Bytes x) (Bytes y) is_a is_b =
-          let first = answered_bytes f id a x backed_a is_a in
-          let other = answered_bytes f id b y backed_b is_b in
-          cc (is_a, one_blob first.0 other.0 first.1 other.1 x y id.0 first.2 other.2, is_b)
-      by (Bytes x) Reject is_a is_b = absurd (not_rejected f id x b (answered_bytes f id a x backed_a is_a) backed_b bytes_b is_b)
-      by Reject (Bytes y) is_a is_b = absurd (not_rejected f id y a (answered_bytes f id b y backed_b is_b) backed_a bytes_a is_a)
+      by (Bytes x) w is_a is_b = is_a ∙ sym (answers f id x b (answered_bytes f id a x backed_a is_a) backed_b bytes_b)
+      by v (Bytes y) is_a is_b = answers f id y a (answered_bytes f id b y backed_b is_b) backed_a bytes_a ∙ sym is_b
       by Reject Reject is_a is_b = is_a ∙ sym is_b

@@ -1,25 +1,18 @@
 -- Payloads have one outcome, but for the two texts of a collision, and one evidence for it.
-use Rattle.wal_theorem.proofs.Common.{◌≡◌, ℕ, ◌+◌, ◌*◌, ◌/◌, ◌%◌, ◌<◌, ◌≤◌, List, length, take, Option, Some, refl, sym, ap, ap₂, ◌∙◌, arith, ⊎_elim, cases_lt, get_or_default, get_or_past, region, row_count, column_count, symbol_size, BlobMetadata, IsMetadata, EncodingProof, symbol_size-least, source_of, AreBytes, bytes_of_part, bytes_within, AreSlivers, through_unique, read_of, Basis, Slivers, Evidence, Verdict, AreHeld, IsHeldBy, Judges, sliver_bytes, one_verdict, Outcome, CarriesBadProof, IsFirstBadProof, Collects, Decides, HasEvidence, HasMetadata, HoldsFew, IsDrawnFrom, IsEvidenceFor, IsMetadataIn, IsOnlyOutcome, IsOutcome, enough_are_held, one_collection, first_two, one_first, one_proof, HasFew, HasVerdict, only_verdict, only_refuted, only_short, only_none, only_collision}
-use Rattle.std.proofs.Math.Nat.{mul-le-mul_right}
+use Rattle.wal_theorem.proofs.Common.{◌≡◌, ℕ, ◌+◌, ◌*◌, ◌/◌, ◌%◌, ◌<◌, List, length, take, Option, Some, refl, sym, ap, ap₂, ◌∙◌, arith, ⊎_elim, get_or_default, region, row_count, column_count, symbol_size, BlobMetadata, IsMetadata, EncodingProof, symbol_size-least, source_of, AreBytes, bytes_of_part, bytes_within, AreSlivers, through_unique, read_of, Basis, Slivers, Evidence, Verdict, AreHeld, IsHeldBy, Judges, sliver_bytes, one_verdict, Outcome, CarriesBadProof, IsFirstBadProof, Collects, Decides, HasEvidence, HasMetadata, HoldsFew, IsDrawnFrom, IsEvidenceFor, IsMetadataIn, IsOnlyOutcome, IsOutcome, enough_are_held, one_collection, first_two, one_first, one_proof, HasFew, HasVerdict, only_verdict, only_refuted, only_short, only_none, only_collision, Bytes, Reject, Proof, Short, NoMetadata, Collision}
 use Rattle.std.proofs.lemmas.Nat.{div_below, mod_below, div-add-mod'}
 use Rattle.wal_kernel.proofs.Regions.{region-byte}
-use Rattle.wal_evidence.specs.declared.evidence.Basis.TheVariants.{Proof}
-use Rattle.wal_evidence.specs.declared.evidence.Verdict.TheVariants as told
-use Rattle.wal_reader.specs.declared.outcome.Outcome.TheVariants.{Bytes, Reject, Short, NoMetadata, Collision}
 
 -- ---- slivers that hold
 
 -- joined regions of bytes are bytes
 bytes_by_regions : (count s : ℕ) (d : List ℕ) → 0 < s → length d ≡ count * s
     → ((k : ℕ) → k < count → AreBytes (region s d k)) → AreBytes d
-bytes_by_regions count s d some long each i =
-    ⊎_elim
-    (λ inside.
+bytes_by_regions count s d some long each =
+    bytes_within d (λ i inside.
     let below : i / s < count = div_below i s count some (omega (arith, inside, long)) in
     let place : s * (i / s) + i % s ≡ i = omega (arith, div-add-mod' i s) in
     rw (region-byte s d (i / s) (i % s) (mod_below i s some), place) at (each (i / s) below (i % s)))
-    (λ past. omega (arith, get_or_past d i 0 past))
-    (cases_lt i (length d))
 
 module _ (digest : List ℕ → List ℕ) (m : BlobMetadata) (is js : List ℕ) (fit : IsMetadata m)
     (held : AreHeld digest m is js) where
@@ -29,6 +22,7 @@ module _ (digest : List ℕ → List ℕ) (m : BlobMetadata) (is js : List ℕ) 
       let s = symbol_size m.f m.length in
       let least = symbol_size-least m.f m.length in
       let positive = least.positive in
+      let some : 0 < sliver_bytes m = grind arith in
       record {
         few = fit.shape.1;
         even = least.even;
@@ -37,17 +31,11 @@ module _ (digest : List ℕ → List ℕ) (m : BlobMetadata) (is js : List ℕ) 
         distinct = held.distinct;
         below = λ k d l. rw (get_or_default is k d 0 l) (held.held k l).within;
         size = held.size;
-        bytes = bytes_by_regions (row_count m.f) (sliver_bytes m) js (row_some m.f s (omega arith)) held.size
+        bytes = bytes_by_regions (row_count m.f) (sliver_bytes m) js some held.size
             (λ k l. let sliver = held.held k (omega (arith, l, held.count)) in
             rw sliver.is_word.begins at
             (bytes_of_part (column_count m.f * s) 0 sliver.word (bytes_within sliver.word sliver.is_word.coded.fits)));
       }
-    where
-      one_column : (f : ℕ) → 1 ≤ column_count f
-      one_column f = omega arith
-
-      row_some : (f s : ℕ) → 0 < s → 0 < column_count f * s
-      row_some f s some = omega (arith, mul-le-mul_right s (one_column f))
 
   -- and there is one verdict on them
   pub one_judgement : (a b : Verdict) → Judges digest m is js a → Judges digest m is js b → a ≡ b
@@ -65,18 +53,6 @@ one_bad_proof digest id m payloads p q =
     one_first (CarriesBadProof digest id m) (λ payload x y a b. one_proof (read_of payload) id x y a.0 b.0) payloads p q
 
 -- ---- one outcome
-
--- the slivers are as many as the source block has rows
-abbrev HasCount : BlobMetadata → Basis → Type 0
-HasCount m (Slivers indices joined) = length indices ≡ row_count m.f
-HasCount m (Proof p) = Unit {0}
-
-count_of : (digest : List ℕ → List ℕ) (m : BlobMetadata) (b : Basis) → IsHeldBy digest m b → HasCount m b
-count_of digest m (Slivers indices joined) held = held.count
-count_of digest m (Proof p) held = tt
-
-abbrev evidence_of : BlobMetadata → Basis → Option Evidence
-evidence_of m b = Some (record { metadata = m; basis = b })
 
 module _ (digest : List ℕ → List ℕ) (id : List ℕ) (payloads : List (List ℕ)) where
   -- a metadata of the identifier is a metadata
@@ -100,10 +76,10 @@ module _ (digest : List ℕ → List ℕ) (id : List ℕ) (payloads : List (List
   -- the outcome of payloads is the only one
   pub only_outcome : (o : Outcome) → IsOutcome digest id payloads o → IsOnlyOutcome digest id payloads o
   only_outcome (Bytes bytes) is =
-      only_verdict digest id payloads is.0 is.2 is.3 (told.Bytes bytes) (has_verdict (told.Bytes bytes) is)
+      only_verdict digest id payloads is.0 is.2 is.3 (Bytes bytes) (has_verdict (Bytes bytes) is)
   only_outcome Reject is =
       ⊎_elim
-      (λ decides. only_verdict digest id payloads decides.0 decides.2 decides.3 told.Reject (has_verdict told.Reject decides))
+      (λ decides. only_verdict digest id payloads decides.0 decides.2 decides.3 Reject (has_verdict Reject decides))
       (λ refutes. only_refuted digest id payloads refutes.0 refutes.3.0 refutes.3.1 refutes.4 (has_few refutes.0 refutes.2 refutes.1 refutes.3) refutes.5)
       is
   only_outcome (Short have need) is =
@@ -121,27 +97,25 @@ module _ (digest : List ℕ → List ℕ) (id : List ℕ) (payloads : List (List
       let same = one_collection digest id m payloads is js few.0 few.1 collects few.2 in
       omega (arith, ap length same.0, count, few.3, few.4)
 
-  one_basis : (m : BlobMetadata) (a b : Basis) → IsDrawnFrom digest id payloads m a → IsDrawnFrom digest id payloads m b → HasCount m a → HasCount m b → a ≡ b
-  one_basis m (Slivers is js) (Slivers ks ls) drawn other count also =
+  one_basis : (m : BlobMetadata) (a b : Basis) → IsDrawnFrom digest id payloads m a → IsDrawnFrom digest id payloads m b → IsHeldBy digest m a → IsHeldBy digest m b → a ≡ b
+  one_basis m (Slivers is js) (Slivers ks ls) drawn other held also =
       let same = one_collection digest id m payloads is js ks ls drawn other in cc (same.0, same.1)
-  one_basis m (Slivers is js) (Proof q) drawn other count also = absurd (not_both m is js other.0 drawn count other.1)
-  one_basis m (Proof p) (Slivers ks ls) drawn other count also = absurd (not_both m ks ls drawn.0 other also drawn.1)
-  one_basis m (Proof p) (Proof q) drawn other count also = ap Proof (one_bad_proof digest id m payloads p q drawn.2 other.2)
+  one_basis m (Slivers is js) (Proof q) drawn other held also = absurd (not_both m is js other.0 drawn held.count other.1)
+  one_basis m (Proof p) (Slivers ks ls) drawn other held also = absurd (not_both m ks ls drawn.0 other also.count drawn.1)
+  one_basis m (Proof p) (Proof q) drawn other held also = cc (one_bad_proof digest id m payloads p q drawn.2 other.2)
 
   -- evidence that leads to a verdict is the only one
   pub one_evidence : (u v : Verdict) (a b : Option Evidence) → IsEvidenceFor digest id payloads u a → IsEvidenceFor digest id payloads v b → a ≡ b
   one_evidence u v a b is_a is_b =
       let same : is_a.0.metadata ≡ is_b.0.metadata = is_b.4.1 is_a.0.metadata is_a.4.0 in
-      let count = count_of digest is_a.0.metadata is_a.0.basis is_a.2.held in
-      let other = count_of digest is_b.0.metadata is_b.0.basis is_b.2.held in
-      let basis =
-      one_basis is_b.0.metadata is_a.0.basis is_b.0.basis (rw same at is_a.5) is_b.5 (rw same at count) other in
-      is_a.1 ∙ ap₂ (λ (m : BlobMetadata) (x : Basis). evidence_of m x) same basis ∙ sym is_b.1
+      let basis = one_basis is_b.0.metadata is_a.0.basis is_b.0.basis (rw same at is_a.5) is_b.5 (rw same at is_a.2.held) is_b.2.held in
+      let evidence : BlobMetadata → Basis → Option Evidence = λ m x. Some (record { metadata = m; basis = x }) in
+      is_a.1 ∙ ap₂ evidence same basis ∙ sym is_b.1
 
   -- so an outcome has one
   pub outcome_evidence : (o : Outcome) (a b : Option Evidence) → HasEvidence digest id payloads o a → HasEvidence digest id payloads o b → a ≡ b
-  outcome_evidence (Bytes bytes) a b is_a is_b = one_evidence (told.Bytes bytes) (told.Bytes bytes) a b is_a is_b
-  outcome_evidence Reject a b is_a is_b = one_evidence told.Reject told.Reject a b is_a is_b
+  outcome_evidence (Bytes bytes) a b is_a is_b = one_evidence (Bytes bytes) (Bytes bytes) a b is_a is_b
+  outcome_evidence Reject a b is_a is_b = one_evidence Reject Reject a b is_a is_b
   outcome_evidence o a b is_a is_b = is_a ∙ sym is_b
 
   -- a rejection has evidence

@@ -1,23 +1,9 @@
 -- The rules of the world leave no choice but the texts of a collision: so its steps and runs leave none.
-use Rattle.wal_theorem.proofs.Common.{◌≡◌, ◌≢◌, ◌⊎◌, ℕ, List, [], ◌∷◌, ◌++◌, length, Option, None, refl, sym, ap, ◌∙◌, arith, ⊎_elim, inl, inr, true≢false, BlobId, Axis, Format, MetaClash, IsShape, sliver_symbols, BlobMetadata, held_index, EncodingProof, extended_unique, metadata_over, one_opening, one_recovery, Frame, frame_text, ReadWord, RecoverWord, Evidence, openings_in, IsFirstBadProof, NoBadProof, SameOutcome, HasTwo, Outcome, first_not_none, only_collision, CarriesBadProof, Parts, Contents, parts_at, Log, PutAnswer, OpeningReply, given, not_held, no_shard, SymbolReplies, metadata_reply, proof_reply, kept_sliver, kept_proof, Puts, desk_of, IsMessageOf, SymbolReply, silent, replies, outcome_told, ReadsTo, Knows, IsKnown, OwnOpeningsComeTo, RecoversTo, rules_of}
+use Rattle.wal_theorem.proofs.Common.{silent, replies, ◌≡◌, ◌≢◌, ◌⊎◌, ℕ, List, [], ◌∷◌, ◌++◌, length, Option, None, refl, sym, ap, ◌∙◌, arith, ⊎_elim, inl, inr, true≢false, BlobId, Axis, Format, MetaClash, IsShape, sliver_symbols, BlobMetadata, held_index, EncodingProof, extended_unique, metadata_over, one_opening, one_recovery, Frame, frame_text, ReadWord, RecoverWord, Evidence, openings_in, IsFirstBadProof, NoBadProof, SameOutcome, HasTwo, Outcome, first_not_none, only_collision, CarriesBadProof, Parts, Contents, parts_at, OpeningReply, given, not_held, no_shard, SymbolReplies, metadata_reply, proof_reply, kept_sliver, kept_proof, desk_of, IsMessageOf, SymbolReply, outcome_told, ReadsTo, Knows, IsKnown, OwnOpeningsComeTo, RecoversTo, rules_of, Inconsistent, Short, Sliver, OpeningFrame, Bytes, NoMetadata, Proof, Collision, one_held}
 use Rattle.wal_recover.specs.declared.outcome.Recovered.{Recovered}
-use Rattle.wal_recover.specs.declared.outcome.Recovered.TheVariants as recovered
-use Rattle.wal_frame.specs.Frame as frames
-use Rattle.wal_event.specs.declared.line.ReadWord.TheVariants as reading
-use Rattle.wal_event.specs.declared.line.RecoverWord.TheVariants as recovering
-use Rattle.wal_reader.specs.declared.outcome.Outcome.TheVariants as outcome
 use Rattle.wal_shard.proofs.OnePut.{puts_once}
-use Rattle.wal_shard.proofs.Soundness.{one_metadata}
 use Rattle.wal_theorem.proofs.OneReading.{metadata_fits, one_bad_proof, only_outcome, outcome_evidence}
 use Rattle.wal_protocol.proofs.OneWord.{Only, SamePut}
-
--- ---- puts
-
--- a put has one answer
-one_put : (digest : List ℕ → List ℕ) (f shard : ℕ) (log : Log) (old : Contents) (frame : Frame) (a b : PutAnswer) (x y : Contents)
-    → Puts digest (desk_of f shard None log) old frame a x → Puts digest (desk_of f shard None log) old frame b y → SamePut a b × (x ≡ y)
-one_put digest f shard log old frame =
-    puts_once digest (desk_of f shard None log) old frame SamePut (λ a. (refl, λ fails. refl)) (λ c d. (refl, λ fails. absurd (true≢false fails)))
 
 -- ---- honest messages
 
@@ -39,11 +25,11 @@ one_message digest f format blob i j a b p q =
 
 module _ (digest : List ℕ → List ℕ) (id : List ℕ) (helper : ℕ) (p : Parts) (axis : Axis) where
   abbrev opening_payload : ℕ → ℕ → List ℕ → List ℕ → List (List ℕ)
-  opening_payload index cross symbol path = frame_text (frames.Opening id axis index (record { cross = cross; symbol = symbol; path = path })) ∷ []
+  opening_payload index cross symbol path = frame_text (OpeningFrame id axis index (record { cross = cross; symbol = symbol; path = path })) ∷ []
 
   one_opening_reply : (index : ℕ) (a b : List (List ℕ)) → OpeningReply digest id helper p axis index a → OpeningReply digest id helper p axis index b → a ≡ b
   one_opening_reply index a b (given m sliver o has at within cross is) (given n other q has_n at_n within_n cross_n is_n) =
-      let same = one_metadata p m n has has_n in
+      let same = one_held p m n has has_n in
       let bytes : sliver ≡ other = cc in
       let one = one_opening digest n axis index other o q has_n.fit.shape.1 (rw (same, bytes) at is) is_n in
       let crosses : o.cross ≡ q.cross = rw same at cross ∙ sym cross_n in
@@ -52,10 +38,10 @@ module _ (digest : List ℕ → List ℕ) (id : List ℕ) (helper : ℕ) (p : Pa
       same_payload
   one_opening_reply index a b (given m sliver o has at within cross is) (not_held none) = absurd cc
   one_opening_reply index a b (given m sliver o has at within cross is) (no_shard n has_n outside) =
-      absurd (outside (rw (one_metadata p n m has_n has) within))
+      absurd (outside (rw (one_held p n m has_n has) within))
   one_opening_reply index a b (not_held none) (given n other q has_n at_n within_n cross_n is_n) = absurd cc
   one_opening_reply index a b (no_shard m has outside) (given n other q has_n at_n within_n cross_n is_n) =
-      absurd (outside (rw (one_metadata p m n has has_n) within_n))
+      absurd (outside (rw (one_held p m n has has_n) within_n))
   one_opening_reply index a b s t = refl
 
   one_symbols : (index : ℕ) (a b : List (List ℕ)) → SymbolReplies digest id helper p axis index a → SymbolReplies digest id helper p axis index b → a ≡ b
@@ -64,13 +50,12 @@ module _ (digest : List ℕ → List ℕ) (id : List ℕ) (helper : ℕ) (p : Pa
 
 one_symbol_reply : (digest : List ℕ → List ℕ) (id : BlobId) (helper : ℕ) (p : Parts) (axis : Axis) (shard : ℕ) (a b : List (List ℕ)) → SymbolReply digest id helper p axis shard a
     → SymbolReply digest id helper p axis shard b → a ≡ b
-one_symbol_reply digest id helper p axis shard a b (silent none) (silent nothing) = refl
-one_symbol_reply digest id helper p axis shard a b (silent none) (replies n y has t) = absurd (cc (none, has.spelled))
-one_symbol_reply digest id helper p axis shard a b (replies m x has s) (silent nothing) =
-    absurd (cc (nothing, has.spelled))
 one_symbol_reply digest id helper p axis shard a b (replies m x has s) (replies n y has_n t) =
     one_symbols digest id.0 helper p axis (held_index n.format n.f axis shard) a b
-    (rw (one_metadata p m n has has_n) at s) t
+    (rw (one_held p m n has has_n) at s) t
+one_symbol_reply digest id helper p axis shard a b (silent none) (replies n y has t) = absurd (cc (none, has.spelled))
+one_symbol_reply digest id helper p axis shard a b (replies m x has s) (silent nothing) = absurd (cc (nothing, has.spelled))
+one_symbol_reply digest id helper p axis shard a b s t = refl
 
 -- ---- reads
 
@@ -79,10 +64,10 @@ told_once : (w v : ReadWord) → outcome_told w ≡ outcome_told v → w ≡ v
 told_once w v same = grind arith
 
 outcome_same : (w : ReadWord) (o : Outcome) → SameOutcome (outcome_told w) o → outcome_told w ≡ o
-outcome_same (reading.Bytes bytes) o same = same
+outcome_same (Bytes bytes) o same = same
 outcome_same w o same = same
 
-no_collision : (w : ReadWord) (clash : MetaClash) → outcome_told w ≡ outcome.Collision clash → ⊥
+no_collision : (w : ReadWord) (clash : MetaClash) → outcome_told w ≡ Collision clash → ⊥
 no_collision w clash same = grind arith
 
 one_reading : (digest : List ℕ → List ℕ) (id : BlobId) (payloads : List (List ℕ)) (w v : ReadWord) (a b : Option Evidence) → ReadsTo digest id payloads w a → ReadsTo digest id payloads v b
@@ -96,39 +81,39 @@ reading_one : (digest : List ℕ → List ℕ) (id : BlobId) (payloads : List (L
 reading_one digest id payloads w a p two =
     let clash : MetaClash = record { left = []; right = [] } in
     no_collision w clash
-    (outcome_same w (outcome.Collision clash) (only_collision digest id.0 payloads two.0 two.1 clash two.2 two.3 two.4 (outcome_told w) p.0))
+    (outcome_same w (Collision clash) (only_collision digest id.0 payloads two.0 two.1 clash two.2 two.3 two.4 (outcome_told w) p.0))
 
 -- ---- recoveries
 
 module _ (digest : List ℕ → List ℕ) (f : ℕ) (id : BlobId) (shard : ℕ) (axis : Axis) (old : Contents) (payloads : List (List ℕ)) where
   -- what the openings come to by a metadata, and what is made of it
   abbrev Rests : BlobMetadata → Recovered → RecoverWord → Contents → Type 0
-  Rests m (recovered.Sliver bytes) w new = (w ≡ recovering.Sliver bytes) × (new ≡ kept_sliver old id m axis bytes)
-  Rests m (recovered.Inconsistent p) w new = (w ≡ recovering.Inconsistent) × (new ≡ kept_proof old id m p)
-  Rests m (recovered.Short have) w new =
-      ((p : EncodingProof) × IsFirstBadProof digest id.0 m payloads p × (w ≡ recovering.Proof) × (new ≡ kept_proof old id m p))
-      ⊎ (NoBadProof digest id.0 m payloads × (w ≡ recovering.Short have (sliver_symbols axis m.f)) × (new ≡ old))
+  Rests m (Sliver bytes) w new = (w ≡ Sliver bytes) × (new ≡ kept_sliver old id m axis bytes)
+  Rests m (Inconsistent p) w new = (w ≡ Inconsistent) × (new ≡ kept_proof old id m p)
+  Rests m (Short have) w new =
+      ((p : EncodingProof) × IsFirstBadProof digest id.0 m payloads p × (w ≡ Proof) × (new ≡ kept_proof old id m p))
+      ⊎ (NoBadProof digest id.0 m payloads × (w ≡ Short have (sliver_symbols axis m.f)) × (new ≡ old))
 
   -- no metadata is known that has the committee's f, or one is
   abbrev Comes : RecoverWord → Contents → Type 0
   Comes w new =
-      (((m : BlobMetadata) → Knows digest id (parts_at old id) payloads m → m.f ≢ f) × (w ≡ recovering.NoMetadata) × (new ≡ old))
+      (((m : BlobMetadata) → Knows digest id (parts_at old id) payloads m → m.f ≢ f) × (w ≡ NoMetadata) × (new ≡ old))
       ⊎ ((m : BlobMetadata) × IsKnown digest f id (parts_at old id) payloads m × (found : Recovered) × OwnOpeningsComeTo digest id shard axis payloads m found × Rests m found w new)
 
   comes : (w : RecoverWord) (new : Contents) → RecoversTo digest f id shard axis old payloads w new → Comes w new
-  comes recovering.NoMetadata new r = inl (r.0, refl, r.1)
-  comes (recovering.Sliver bytes) new r = inr (r.0, r.1, recovered.Sliver bytes, r.2, (refl, r.3))
-  comes recovering.Inconsistent new r = inr (r.0, r.1, recovered.Inconsistent r.2, r.3, (refl, r.4))
-  comes recovering.Proof new r = inr (r.0, r.1, recovered.Short r.2, r.3, inl (r.4, r.5, refl, r.6))
-  comes (recovering.Short have need) new r =
-      inr (r.0, r.1, recovered.Short have, r.2, inr (r.3, ap (λ (k : ℕ). recovering.Short have k) r.4, r.5))
+  comes NoMetadata new r = inl (r.0, refl, r.1)
+  comes (Sliver bytes) new r = inr (r.0, r.1, Sliver bytes, r.2, (refl, r.3))
+  comes Inconsistent new r = inr (r.0, r.1, Inconsistent r.2, r.3, (refl, r.4))
+  comes Proof new r = inr (r.0, r.1, Short r.2, r.3, inl (r.4, r.5, refl, r.6))
+  comes (Short have need) new r =
+      inr (r.0, r.1, Short have, r.2, inr (r.3, cc (r.4), r.5))
   comes w new r = absurd r
 
   one_rest : (m : BlobMetadata) (found : Recovered) (w v : RecoverWord) (x y : Contents) → Rests m found w x → Rests m found v y → (w ≡ v) × (x ≡ y)
-  one_rest m (recovered.Short have) w v x y (inl (a, is, w_is, x_is)) (inl (b, also, v_is, y_is)) = let same = one_bad_proof digest id.0 m payloads a b is also in grind arith
-  one_rest m (recovered.Short have) w v x y (inl (a, is, w_is, x_is)) (inr (none, v_is, y_is)) = absurd (first_not_none (CarriesBadProof digest id.0 m) payloads a is none)
-  one_rest m (recovered.Short have) w v x y (inr (none, w_is, x_is)) (inl (b, also, v_is, y_is)) = absurd (first_not_none (CarriesBadProof digest id.0 m) payloads b also none)
-  one_rest m (recovered.Short have) w v x y (inr (none, w_is, x_is)) (inr (nothing, v_is, y_is)) = grind arith
+  one_rest m (Short have) w v x y (inl (a, is, w_is, x_is)) (inl (b, also, v_is, y_is)) = let same = one_bad_proof digest id.0 m payloads a b is also in grind arith
+  one_rest m (Short have) w v x y (inl (a, is, w_is, x_is)) (inr (none, v_is, y_is)) = absurd (first_not_none (CarriesBadProof digest id.0 m) payloads a is none)
+  one_rest m (Short have) w v x y (inr (none, w_is, x_is)) (inl (b, also, v_is, y_is)) = absurd (first_not_none (CarriesBadProof digest id.0 m) payloads b also none)
+  one_rest m (Short have) w v x y (inr (none, w_is, x_is)) (inr (nothing, v_is, y_is)) = grind arith
   one_rest m found w v x y p q = (p.0 ∙ sym q.0, p.1 ∙ sym q.1)
 
   -- a metadata that is known is one
@@ -151,7 +136,8 @@ module _ (digest : List ℕ → List ℕ) (f : ℕ) (id : BlobId) (shard : ℕ) 
 pub only_rules : (digest : List ℕ → List ℕ) (f : ℕ) → Only (rules_of digest f)
 only_rules digest f = record {
   put_frame = λ bytes a b p q. cc (p.0, q.0);
-  puts = λ log shard old frame a b x y p q. one_put digest f shard log old frame a b x y p.1 q.1;
+  puts = λ log shard old frame a b x y p q.
+      puts_once digest (desk_of f shard None log) old frame SamePut (λ a. (refl, λ fails. refl)) (λ c d. (refl, λ fails. absurd (true≢false fails))) a b x y p.1 q.1;
   message = λ format blob i j a b. one_message digest f format blob i j a b;
   symbol_reply = λ id helper parts axis shard a b. one_symbol_reply digest id helper parts axis shard a b;
   reads = λ id payloads w v a b. one_reading digest id payloads w v a b;

@@ -1,28 +1,20 @@
 -- Two leaves or two contents that differ under one root, up to the texts that collide.
-use Rattle.wal_tree.proofs.Common.{◌≡◌, ◌≢◌, ℕ, suc, ◌+◌, ◌*◌, ◌/◌, ◌%◌, ◌<◌, ◌≤◌, List, [], ◌∷◌, ◌++◌, length, take, drop, get_or, ap, ap₂, subst, sym, ◌∙◌, arith, inl, inr, append-nil, All, Result, Ok, Err, IfOk, Collision, div-le_of_le-mul, mul-le-mul_right, take-add, take-append_seam, drop-append_seam, cases_lt, take_all, All-cons, All-from_get_or, IsCollision, IsByte, IsPathTo, MeetAbove, MeetInTrees, MeetOnPaths, folded, height, parent, parent_text, path_over, leaf, pieces}
+use Rattle.wal_tree.proofs.Common.{◌≡◌, ◌≢◌, ℕ, suc, ◌+◌, ◌*◌, ◌/◌, ◌%◌, ◌<◌, ◌≤◌, List, [], ◌∷◌, ◌++◌, length, take, drop, get_or, ap, subst, sym, ◌∙◌, arith, inl, inr, append-nil, All, Result, Ok, Err, IfOk, Collision, div-le_of_le-mul, take-add, take-append_seam, drop-append_seam, cases_lt, All-cons, All-from_get_or, IsCollision, IsByte, IsPathTo, MeetAbove, MeetInTrees, MeetOnPaths, folded, height, parent, parent_text, path_over, leaf, pieces}
 use Rattle.std.proofs.lemmas.Bool.Decides.{nat_tests}
 use Rattle.std.proofs.lemmas.List.{length-drop}
 
 -- joined texts are equal only part by part, where the first parts have one length
 pub append_front : (a b xs ys : List ℕ) → length a ≡ length b → a ++ xs ≡ b ++ ys → a ≡ b
-append_front a b xs ys long e =
-    sym (take-append_seam a xs) ∙ ap (take (length a)) e ∙ ap (λ k. take k (b ++ ys)) long ∙ take-append_seam b ys
+append_front a b xs ys long e = cc (take-append_seam a xs, take-append_seam b ys)
 
 pub append_back : (a b xs ys : List ℕ) → length a ≡ length b → a ++ xs ≡ b ++ ys → xs ≡ ys
-append_back a b xs ys long e =
-    sym (drop-append_seam a xs) ∙ ap (drop (length a)) e ∙ ap (λ k. drop k (b ++ ys)) long ∙ drop-append_seam b ys
+append_back a b xs ys long e = cc (drop-append_seam a xs, drop-append_seam b ys)
 
 -- a text is of bytes where what is lent of it is
 pub are_bytes : (text lent : List ℕ) → lent ≡ text → All IsByte lent → All IsByte text
 are_bytes text lent same each = subst (All IsByte) same each
 
 -- ---- pieces
-
--- the pieces lie within the content
-pub piece_within : (place size total : ℕ) → place < total / size → place * size + size ≤ total
-piece_within place size total below =
-    let most : (place + 1) * size ≤ total / size * size = mul-le-mul_right size (omega arith) in
-    omega (arith, most)
 
 -- a content within 1000 pieces has at most 1000
 pub count_few : (size total : ℕ) → total ≤ 1000 * size → total / size ≤ 1000
@@ -33,15 +25,7 @@ pub pieces_step : (place size : ℕ) (xs ys : List ℕ) → take (place * size) 
     take size (drop (place * size) xs) ≡ take size (drop (place * size) ys) → take ((place + 1) * size) xs ≡ take ((place + 1) * size) ys
 pieces_step place size xs ys so_far here =
     let next : (place + 1) * size ≡ place * size + size = omega arith in
-    ap (λ n. take n xs) next ∙ take-add (place * size) size xs ∙ ap₂ ◌++◌ so_far here ∙ sym (take-add (place * size) size ys) ∙ ap (λ n. take n ys) (sym next)
-
--- all pieces are the same
-pub pieces_all : (place size : ℕ) (xs ys : List ℕ) → 0 < size → length xs % size ≡ 0 → length ys ≡ length xs → length xs / size ≤ place →
-    take (place * size) xs ≡ take (place * size) ys → xs ≡ ys
-pieces_all place size xs ys positive whole long past same =
-    let most : length xs / size * size ≤ place * size = mul-le-mul_right size past in
-    let enough : length xs ≤ place * size = omega (arith, most) in
-    sym (take_all (place * size) xs enough) ∙ same ∙ take_all (place * size) ys (omega arith)
+    cc (take-add (place * size) size xs, take-add (place * size) size ys)
 
 -- ---- the way up
 
@@ -129,20 +113,14 @@ leaves_meet digest place x p y q e f left right e_is f_is same left_is right_is 
 
 -- ---- from the leaves on
 
--- the paths of a tree have whole digests, and as many as each other
-pub ways_long : (digest : List ℕ → List ℕ) (root : List ℕ) (count place : ℕ) (x p y q : List ℕ) → IsPathTo digest root count place x p → IsPathTo digest root count place y q →
-    (length p % 32 ≡ 0) × (length q ≡ length p)
-ways_long digest root count place x p y q left right = (omega (arith, left.long), right.long ∙ sym left.long)
-
--- and lead from the digests of the leaves to one root
+-- the paths of a tree lead from the digests of the leaves to one root
 pub ways_meet : (digest : List ℕ → List ℕ) (root : List ℕ) (count place : ℕ) (x p y q e f : List ℕ) → IsPathTo digest root count place x p → IsPathTo digest root count place y q →
     e ≡ leaf digest x → f ≡ leaf digest y →
     folded digest place e (pieces (length p / 32) 32 p) ≡ folded digest place f (pieces (length q / 32) 32 q)
 ways_meet digest root count place x p y q e f left right e_is f_is =
     let high_p : length p / 32 ≡ height count = omega (arith, left.long) in
     let high_q : length q / 32 ≡ height count = omega (arith, right.long) in
-    ap₂ (λ (a : List ℕ) (n : ℕ). folded digest place a (pieces n 32 p)) e_is high_p ∙ left.leads ∙ sym right.leads
-    ∙ ap₂ (λ (a : List ℕ) (n : ℕ). folded digest place a (pieces n 32 q)) (sym f_is) (sym high_q)
+    cc (left.leads, right.leads)
 
 -- different leaves with one digest collide
 pub leaves_collide : (digest : List ℕ → List ℕ) (x y s t e f : List ℕ) → s ≡ 0 ∷ x → t ≡ 0 ∷ y → e ≡ leaf digest x → f ≡ leaf digest y → e ≡ f → x ≢ y →

@@ -1,14 +1,8 @@
 -- Leaf digests that lie one after the other, each in the place of its piece.
-use Rattle.wal_tree.proofs.Common.{◌≡◌, ℕ, zero, suc, ◌+◌, ◌*◌, ◌<◌, List, length, take, drop, get_or, refl, ap, ◌∙◌, arith, concat, drop-drop, empty_entry, leaf, leaves, pieces}
+use Rattle.wal_tree.proofs.Common.{◌≡◌, ℕ, suc, ◌+◌, ◌*◌, ◌<◌, List, length, take, drop, get_or, refl, ap, ◌∙◌, arith, concat, drop-drop, empty_entry, leaf, leaves, pieces}
 use Rattle.wal_tree.proofs.LevelPairs.{leaves-pieces}
 use Rattle.wal_tree.proofs.Paths.{get_or-leaves, length-leaves}
 use Rattle.wal_tree.proofs.Sizes.{All-leaves, length-concat, pieces-concat}
-
--- a run of the rest is the next run of the whole
-run_of_rest : (size k : ℕ) (content : List ℕ) → take size (drop (size * k) (drop size content)) ≡ take size (drop (size * (k + 1)) content)
-run_of_rest size k content =
-    let at : size + size * k ≡ size * (k + 1) = omega arith in
-    ap (take size) (drop-drop (size * k) size content ∙ ap (λ n. drop n content) at)
 
 -- digests of which each is the leaf digest of its piece are the leaves
 pub pieces-leaves : (digest : List ℕ → List ℕ) (count size : ℕ) (digests content : List ℕ) →
@@ -22,12 +16,10 @@ pieces-leaves digest count size digests content each =
 
 -- a piece of a content
 pub get_or-pieces : (count size k : ℕ) (content : List ℕ) → k < count → get_or (pieces count size content) k empty_entry ≡ take size (drop (size * k) content)
-get_or-pieces zero size k content below = absurd (omega arith)
-get_or-pieces (suc count) size zero content below =
-    let none : ◌≡◌ {A = ℕ} 0 (size * 0) = omega arith in ap (λ n. take size (drop n content)) none
 get_or-pieces (suc count) size (suc k) content below =
-    let next : k + 1 ≡ suc k = omega arith in
-    get_or-pieces count size k (drop size content) (omega arith) ∙ run_of_rest size k content ∙ ap (λ n. take size (drop (size * n) content)) next
+    let at : size + size * k ≡ size * suc k = omega arith in
+    cc (get_or-pieces count size k (drop size content) (omega arith), drop-drop (size * k) size content)
+get_or-pieces count size k content below = grind arith
 
 module _ (digest : List ℕ → List ℕ) (size_is : (text : List ℕ) → length (digest text) ≡ 32) where
   -- joined leaf digests have 32 bytes for each piece

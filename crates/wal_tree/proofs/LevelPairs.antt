@@ -1,7 +1,42 @@
--- Levels that are made from the one below, pair by pair.
-use Rattle.wal_tree.proofs.Common.{◌≡◌, ℕ, zero, suc, ◌+◌, ◌-◌, ◌*◌, ◌<◌, ◌≤◌, List, [], ◌∷◌, ◌++◌, length, take, drop, replicate, refl, ap, sym, ◌∙◌, arith, drop-append-le, drop-drop, drop-take, take-append-le, take-take, mul-le-mul_right, take-add, put_at, put_before, put_here, empty_entry, leaf, leaves, node, pair_up, pieces, root_of}
+-- Lanes of the toy digest over texts that are joined.
+use Rattle.wal_tree.proofs.Common.{◌≡◌, ℕ, zero, suc, ◌+◌, ◌-◌, ◌*◌, ◌<◌, ◌≤◌, List, [], ◌∷◌, ◌++◌, length, take, drop, replicate, refl, ap, sym, ◌∙◌, arith, drop-append-le, drop-drop, drop-take, take-append-le, take-take, take-add, put_at, piece_within, put_before, put_here, empty_entry, leaf, leaves, node, pair_up, pieces, root_of, ◌%◌, get_or, ap₂, length-append, ◌==◌, if◌then◌else◌, bit_xor, get_or-replicate, lane_sum, toy32}
 use Rattle.std.proofs.lemmas.List.{length-drop}
 use Rattle.wal_tree.proofs.Roots.{root_of-pair_up}
+use Rattle.std.specs.Int.Bits.{xor_assoc, xor_zero_l}
+use Rattle.std.proofs.lemmas.List.FromFn.{fill_by_all}
+
+-- a lane over two texts: the second one's positions go on from the first one's
+lane_sum-append : (k p q : ℕ) (xs ys : List ℕ) → p + length xs ≡ q → lane_sum k p (xs ++ ys) ≡ bit_xor (lane_sum k p xs) (lane_sum k q ys)
+lane_sum-append k p q [] ys e = let same : p ≡ q = omega arith in rw (xor_zero_l, same) refl
+lane_sum-append k p q (x ∷ xs) ys e =
+    ap (bit_xor (if p % 32 == k then x else 0)) (lane_sum-append k (p + 1) q xs ys (omega arith))
+    ∙ sym (xor_assoc (if p % 32 == k then x else 0) (lane_sum k (p + 1) xs) (lane_sum k q ys))
+
+-- only the position modulo 32 counts
+lane_sum-mod : (k p q : ℕ) (xs : List ℕ) → p % 32 ≡ q % 32 → lane_sum k p xs ≡ lane_sum k q xs
+lane_sum-mod k p q [] e = refl
+lane_sum-mod k p q (x ∷ xs) e =
+    ap₂ bit_xor (ap (λ r. if r == k then x else 0) e) (lane_sum-mod k (p + 1) (q + 1) xs (omega arith))
+
+-- the lanes of three texts, added one after the other, are the digest of the three joined
+pub toy32-joined : (s1 s2 s3 a b c : List ℕ) (m n : ℕ) → length s3 ≡ 32 →
+    ((k : ℕ) → k < 32 → get_or s1 k 0 ≡ bit_xor (get_or (replicate 32 0) k 0) (lane_sum k 0 a)) →
+    m ≡ (0 + length a) % 32 →
+    ((k : ℕ) → k < 32 → get_or s2 k 0 ≡ bit_xor (get_or s1 k 0) (lane_sum k m b)) →
+    n ≡ (m + length b) % 32 →
+    ((k : ℕ) → k < 32 → get_or s3 k 0 ≡ bit_xor (get_or s2 k 0) (lane_sum k n c)) →
+    s3 ≡ toy32 ((a ++ b) ++ c)
+unfolding toy32
+toy32-joined s1 s2 s3 a b c m n long after_a m_is after_b n_is after_c =
+    fill_by_all (λ k. lane_sum k 0 ((a ++ b) ++ c)) s3 32 0 long (λ k within.
+    let none : ◌≡◌ {A = ℕ} (get_or (replicate 32 0) k 0) 0 = get_or-replicate 32 k 0 0 within in
+    let at_b = lane_sum-mod k m (length a) b (omega arith) in
+    let at_c = lane_sum-mod k n (length a + length b) c (omega arith) in
+    let joined_ab = lane_sum-append k 0 (length a) a b (omega arith) in
+    let joined_abc = lane_sum-append k 0 (length a + length b) (a ++ b) c (omega (arith, length-append a b)) in
+    cc (after_a k within, after_b k within, after_c k within, xor_zero_l (lane_sum k 0 a)))
+
+-- ---- Levels that are made from the one below, pair by pair.
 
 -- the first piece
 first : (size : ℕ) (xs : List ℕ) → take size (drop (0 * size) xs) ≡ take size xs
@@ -31,21 +66,13 @@ pub length-pieces : (count size : ℕ) (xs : List ℕ) → length (pieces count 
 length-pieces zero size xs = refl
 length-pieces (suc count) size xs = ap suc (length-pieces count size (drop size xs))
 
--- a piece lies within all of them
-within : (k count size n : ℕ) → k < count → n ≡ count * size → k * size + size ≤ n
-within k count size n few all =
-    let one : suc k * size ≡ k * size + size = omega arith in
-    omega (arith, all, mul-le-mul_right {m = suc k} {n = count} size few)
-
 -- the pieces of a front that has them
 pub pieces-front : (count size n : ℕ) (xs : List ℕ) → n ≡ count * size → pieces count size (take n xs) ≡ pieces count size xs
 pieces-front count size n xs all =
     pieces-same count size (take n xs) xs (λ k l.
-    let room : k * size + size ≤ n = within k count size n l all in
+    let room : k * size + size ≤ n = piece_within k count size n l all in
     let e : k * size + (n - k * size) ≡ n = omega arith in
-    ap (λ (m : ℕ). take size (drop (k * size) (take m xs))) (sym e)
-    ∙ ap (take size) (drop-take (k * size) (n - k * size) xs)
-    ∙ take-take size (n - k * size) (drop (k * size) xs) (omega arith))
+    cc (drop-take (k * size) (n - k * size) xs, take-take size (n - k * size) (drop (k * size) xs) (omega arith)))
 
 -- the leaf digests, written one after the other
 pub leaves-pieces : (digest : List ℕ → List ℕ) (count size : ℕ) (ys xs : List ℕ)
@@ -74,9 +101,8 @@ paired digest (suc pairs) xs ys each =
 -- the empty entry behind an odd number of entries
 pub pair_up-odd : (digest : List ℕ → List ℕ) (half : ℕ) (entries : List (List ℕ)) → length entries ≡ 2 * half + 1
     → pair_up digest (entries ++ (empty_entry ∷ [])) ≡ pair_up digest entries
-pair_up-odd digest half (a ∷ []) long = refl
 pair_up-odd digest (suc half) (a ∷ (b ∷ more)) long = ap (λ (l : List (List ℕ)). node digest a b ∷ l) (pair_up-odd digest half more (omega arith))
-pair_up-odd digest half entries long = absurd (omega arith)
+pair_up-odd digest half entries long = grind arith
 
 -- a level of odd length that was completed
 pub completed : (digest : List ℕ → List ℕ) (width half at : ℕ) (old new : List ℕ) → width ≡ 2 * half + 1 → at ≡ width * 32 → new ≡ put_at at old (replicate 32 0) → at + 32 ≤ length old
@@ -108,5 +134,4 @@ root_up digest width xs more = absurd (omega arith)
 -- one entry is the root
 pub root_one : (digest : List ℕ → List ℕ) (width : ℕ) (xs : List ℕ) → width ≡ 1 → root_of digest (pieces width 32 xs) ≡ take 32 xs
 unfolding root_of
-root_one digest (suc zero) xs one = refl
-root_one digest width xs one = absurd (omega arith)
+root_one digest width xs one = rw one refl

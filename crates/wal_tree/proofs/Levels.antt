@@ -1,5 +1,5 @@
 -- The root and the siblings of a path, by the levels of a tree.
-use Rattle.wal_tree.proofs.Common.{◌≡◌, ℕ, zero, suc, ◌*◌, ◌/◌, ◌^◌, ◌<◌, List, [], ◌∷◌, length, take, drop, get_or, refl, ap, sym, ◌∙◌, arith, concat, div-div-eq-div-mul, pow-succ', empty_entry, leaves, pair_up, root_of, level_above, beside, height, path_of, path_over}
+use Rattle.wal_tree.proofs.Common.{◌≡◌, ℕ, zero, suc, ◌*◌, ◌/◌, ◌^◌, ◌<◌, List, ◌∷◌, length, take, drop, get_or, refl, ap, sym, ◌∙◌, arith, concat, div-div-eq-div-mul, pow-succ', empty_entry, leaves, pair_up, root_of, level_above, beside, height, path_of, path_over}
 use Rattle.wal_tree.proofs.Honest.{length-path_of}
 use Rattle.wal_tree.proofs.Leaves.{get_or-pieces}
 use Rattle.wal_tree.proofs.Paths.{by_levels, root_of-above, root_of-few, height-end, height-step, length-leaves, length-pair_up-half, path_of-end, path_of-step}
@@ -17,9 +17,7 @@ root_of-level digest entries =
     (λ es few. rw (height-end (length es) few) (root_of-few digest es few))
     (λ es many rest.
     let high : suc (height (length (pair_up digest es))) ≡ height (length es) = omega (arith, ap height (length-pair_up-half digest es), height-step (length es) many) in
-    root_of-above digest es many ∙ rest
-    ∙ ap (λ (l : List (List ℕ)). get_or l 0 empty_entry) (level_above-pair_up digest (height (length (pair_up digest es))) es)
-    ∙ ap (λ k. get_or (level_above digest k es) 0 empty_entry) high)
+    cc (root_of-above digest es many, rest, level_above-pair_up digest (height (length (pair_up digest es))) es))
     (length entries) entries (omega arith)
 
 -- half of a place, so many times, is the place by that power of two
@@ -29,8 +27,6 @@ halves k place = div-div-eq-div-mul place 2 (2 ^ k) ∙ ap (λ m. place / m) (sy
 -- sibling k of a path is the entry of level k beside the place that stands there above the path's place
 pub path_of-level : (digest : List ℕ → List ℕ) (k place : ℕ) (entries : List (List ℕ)) → k < length (path_of digest entries place) →
     get_or (path_of digest entries place) k empty_entry ≡ get_or (level_above digest k entries) (beside (place / 2 ^ k)) empty_entry
-path_of-level digest k place [] within = absurd (omega (arith, ap length (path_of-end digest [] place (omega arith))))
-path_of-level digest k place (a ∷ []) within = absurd (omega (arith, ap length (path_of-end digest (a ∷ []) place (omega arith))))
 path_of-level digest zero place (a ∷ (b ∷ more)) within =
     let here = a ∷ (b ∷ more) in
     let same : place ≡ place / 2 ^ 0 = omega arith in
@@ -40,6 +36,8 @@ path_of-level digest (suc k) place (a ∷ (b ∷ more)) within =
     let up = pair_up digest here in
     let step = path_of-step digest here place (omega arith) in
     rw (step, ← halves k place, ← level_above-pair_up digest k here) (path_of-level digest k (place / 2) up (omega (arith, ap length step)))
+path_of-level digest k place entries within =
+    absurd (omega (arith, ap length (path_of-end digest entries place (omega arith))))
 
 -- and it fills the bytes of the path from 32 k on
 pub path_over-level : (digest : List ℕ → List ℕ) (size_is : (text : List ℕ) → length (digest text) ≡ 32) (size place k : ℕ) (content : List ℕ) → k < height (length content / size) →

@@ -5,10 +5,6 @@ pub mod Leaves
 pub mod Honest
 pub mod Collisions
 pub mod Levels
-mod Carries
 mod Columns
-mod Passes
-mod Lanes
-mod PathSteps
 pub mod LevelPairs
 mod Common

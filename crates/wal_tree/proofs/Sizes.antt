@@ -1,14 +1,10 @@
 -- The sizes of digests in a tree, and pieces of a text that was joined from pieces of one size.
-use Rattle.wal_tree.proofs.Common.{◌≡◌, ℕ, zero, suc, ◌*◌, ◌/◌, ◌<◌, List, [], ◌∷◌, ◌++◌, length, map, take, drop, get_or, refl, ap, ap₂, sym, ◌∙◌, arith, length-append, inl, inr, All, concat, take-append_seam, drop-append_seam, mul-div_left, cases_lt, get_or_past, All-nil, All-cons, All-head, All-tail, All-map, empty_entry, leaf, leaves, node, pair_up, pieces, root_of, root_over, root_within, beside, path_of}
+use Rattle.wal_tree.proofs.Common.{◌≡◌, ℕ, suc, ◌*◌, ◌/◌, List, [], ◌∷◌, ◌++◌, length, get_or, refl, ap, arith, length-append, inl, inr, All, concat, take-append_seam, drop-append_seam, cases_lt, get_or_past, All-nil, All-cons, All-head, All-tail, All-map, empty_entry, leaf, leaves, node, pair_up, pieces, root_of, root_over, root_within, beside, path_of}
 use Rattle.wal_tree.proofs.Paths.{by_levels, path_of-end, path_of-step}
 
 -- the list has the size of a digest
 abbrev pub IsDigest : List ℕ → Type 0
 IsDigest d = length d ≡ 32
-
--- equal contents have one root
-pub root_over-same : (digest : List ℕ → List ℕ) (size : ℕ) (xs ys : List ℕ) → xs ≡ ys → root_over digest size xs ≡ root_over digest size ys
-root_over-same digest size xs ys e = ap (root_over digest size) e
 
 -- an entry, or the empty one past the end, is a digest
 pub length-get_or : (entries : List (List ℕ)) (k : ℕ) → All IsDigest entries → length (get_or entries k empty_entry) ≡ 32
@@ -30,10 +26,9 @@ module _ (digest : List ℕ → List ℕ) (size_is : (text : List ℕ) → lengt
       All-map IsDigest (leaf digest) (pieces count size content) (λ k d within. size_is (0 ∷ get_or (pieces count size content) k d))
 
   length-root_within : (levels : ℕ) (entries : List (List ℕ)) → All IsDigest entries → length (root_within digest levels entries) ≡ 32
-  length-root_within levels [] all = refl
   length-root_within levels (a ∷ []) all = All-head IsDigest a [] all
-  length-root_within zero (a ∷ (b ∷ more)) all = refl
   length-root_within (suc levels) (a ∷ (b ∷ more)) all = length-root_within levels (pair_up digest (a ∷ (b ∷ more))) (All-pair_up (a ∷ (b ∷ more)))
+  length-root_within levels entries all = refl
 
   -- the root over digests is a digest
   pub length-root_of : (entries : List (List ℕ)) → All IsDigest entries → length (root_of digest entries) ≡ 32
@@ -66,13 +61,5 @@ pub pieces-concat : (size : ℕ) (xs : List (List ℕ)) → All (λ (x : List �
 pieces-concat size [] all = refl
 pieces-concat size (x ∷ xs) all =
     let head : length x ≡ size = All-head (λ (y : List ℕ). length y ≡ size) x xs all in
-    ap₂ ◌∷◌ (ap (λ k. take k (x ++ concat xs)) (sym head) ∙ take-append_seam x (concat xs))
-    (ap (pieces (length xs) size) (ap (λ k. drop k (x ++ concat xs)) (sym head) ∙ drop-append_seam x (concat xs))
-    ∙ pieces-concat size xs (All-tail (λ (y : List ℕ). length y ≡ size) x xs all))
-
--- the root over texts of one size that were joined is that over their leaves
-pub root_over-concat : (digest : List ℕ → List ℕ) (size : ℕ) (xs : List (List ℕ)) → 0 < size → All (λ (x : List ℕ). length x ≡ size) xs →
-    root_over digest size (concat xs) ≡ root_of digest (map (leaf digest) xs)
-root_over-concat digest size xs positive all =
-    let count : length (concat xs) / size ≡ length xs = ap (λ n. n / size) (length-concat size xs all ∙ omega arith) ∙ mul-div_left (length xs) positive in
-    rw (count, pieces-concat size xs all) refl
+    let rest = pieces-concat size xs (All-tail (λ (y : List ℕ). length y ≡ size) x xs all) in
+    cc (take-append_seam x (concat xs), drop-append_seam x (concat xs), rest)

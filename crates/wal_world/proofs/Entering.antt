@@ -1,5 +1,5 @@
 -- A network once something was entered in its ledger.
-use Rattle.wal_world.proofs.Common.{◌≡◌, ℕ, ◌<◌, length, length-append, [], ◌∷◌, List, Option, Some, None, refl, sym, ap, ◌∙◌, subst, ◌+◌, arith, Side, Now, Next, Log, LedgerState, home_of, takes_in, writing, ShardState, BlobId, committee_size, count_below, World, holders, settled_in, side_of, ledger_of, faulty_on, AreBooks, books_with, world_of, AreNext, AreShards, IsNetwork, Books, Serving, Moving, Network}
+use Rattle.wal_world.proofs.Common.{◌≡◌, ◌<◌, length, length-append, [], ◌∷◌, List, Option, Some, None, refl, sym, ap, ◌∙◌, subst, ◌+◌, arith, Side, Now, Next, Log, LedgerState, takes_in, writing, ShardState, World, ledger_of, faulty_on, AreBooks, books_with, world_of, AreNext, AreShards, IsNetwork, Books, Serving, Moving, Network}
 use Rattle.wal_ledger.specs.declared.entry.Body.{Body}
 use Rattle.wal_ledger.specs.Kept.{SameEpoch}
 use Rattle.wal_world.proofs.Shards.{network_from}
@@ -37,8 +37,3 @@ room_taken old new body enters room =
 -- where the ledger is the same, so is the world
 pub same_world : (w v : World) (log : Log) → v ≡ record w { log = log } → log ≡ w.log → v ≡ w
 same_world w v log e same = e ∙ ap (λ x. record w { log = x }) same
-
--- the count of settled shards of the home committee
-pub counted_at : (w : World) (id : BlobId) (log : Log) (side : Side) (k count : ℕ) → log ≡ w.log → side ≡ home_of log id → k ≡ committee_size w.log.f
-    → count ≡ count_below k (settled_in (side_of side w) id) → count ≡ holders w id
-counted_at w id log side k count same home last is = rw (last, home, same) at is

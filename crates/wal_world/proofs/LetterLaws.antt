@@ -1,8 +1,7 @@
 -- Puts of frames, one after the other, come to what the puts of all of them do.
-use Rattle.wal_world.proofs.Common.{◌≡◌, ℕ, Bool, true, false, cond, List, [], ◌∷◌, ◌++◌, Option, Some, None, is_some, refl, ap, ◌∙◌, subst, arith, Side, Collision, Frame, IsFrame, frame_text, Log, Contents, PutAnswer, World, Committee, side_of, with_side, with_contents, contents_of, keeps, Rules, PutsFrame, rules_of, PutsTo, Continues, frame_in, frame_read, PutsEach, is_clash}
+use Rattle.wal_world.proofs.Common.{◌≡◌, ℕ, Bool, true, false, cond, List, [], ◌∷◌, ◌++◌, Option, Some, None, is_some, refl, ap, ◌∙◌, subst, arith, Side, Collision, Frame, IsFrame, frame_text, Log, Contents, PutAnswer, World, Committee, side_of, with_side, with_contents, contents_of, keeps, Rules, PutsFrame, rules_of, PutsTo, Continues, frame_in, frame_read, PutsEach, is_clash, OtherMetadata}
 use Rattle.wal_frame.proofs.FrameLaws.{read_again}
 use Rattle.wal_shape.specs.declared.text.MetaClash.{MetaClash}
-use Rattle.wal_shard.specs.declared.answers.PutAnswer.TheVariants as putting
 use Rattle.wal_world.proofs.Placing.{keeps_same}
 
 either : {P Q R S : Type 0} (b : Bool) → cond b P R → (P → Q) → (R → S) → cond b Q S
@@ -71,11 +70,11 @@ module _ (digest : List ℕ → List ℕ) where
 
   -- one that does
   pub put_clashes : (w new : World) (side : Side) (shard : ℕ) (frame : Frame) (contents : Contents) (clash : MetaClash) (c : Collision)
-      → PutsFrame digest w.log.f w.log shard (contents_of (side_of side w) shard) frame (putting.OtherMetadata clash) contents → new ≡ keeps w side shard contents
+      → PutsFrame digest w.log.f w.log shard (contents_of (side_of side w) shard) frame (OtherMetadata clash) contents → new ≡ keeps w side shard contents
       → c.left ≡ clash.left → c.right ≡ clash.right → PutsTo digest w side ((shard, frame) ∷ []) (Some c) new
   put_clashes w new side shard frame contents clash c p same left right = record {
     mid = side_of side w;
-    puts = (putting.OtherMetadata clash, contents, p, (refl, refl));
+    puts = (OtherMetadata clash, contents, p, (refl, refl));
     state = rw p.1.7 at same ∙ keeps_same side w shard ∙ side_same side w;
     collides = rw (left, right) p.1.6;
   }

@@ -1,7 +1,6 @@
 -- One shard of a network changes what it holds: what the network is then.
-use Rattle.wal_world.proofs.Common.{◌≡◌, ◌≢◌, ℕ, ◌<◌, List, length, get_or, slice_set, slice_index_or, true, false, Option, Some, None, Result, Ok, Err, OnOk, OnErr, ◌⊎◌, inl, inr, refl, sym, ap, ◌∙◌, subst, arith, cases_eq, map-set, length-set, set-get_or, get_or-set_same, get_or-set_other, BlobId, Side, Now, Next, among, committee_size, Log, LedgerState, is_moving, Contents, ShardState, MayForget, without_slivers, Books, Serving, Moving, Members, Network, World, side_of, is_present, is_correct, contents_of, with_contents, keeps, ledger_of, AreBooks, IsNetwork, IsShardAt, AreShards, AreNext, contents_in, shards_of, world_of, members_of, with_members, LetsGo, Places, contents_at, placed, opposite}
-use Rattle.std.specs.FinMap as finmap
-use Rattle.wal_shard.specs.State as shard_state
+use Rattle.wal_world.proofs.Common.{⊎_elim, ◌≡◌, ℕ, ◌<◌, List, length, slice_set, slice_index_or, true, false, Option, Some, None, Result, Ok, Err, OnOk, OnErr, ◌⊎◌, refl, sym, ap, ◌∙◌, subst, arith, cases_eq, map-set, length-set, set-get_or, get_or-set_other, BlobId, Side, Now, Next, among, committee_size, Log, LedgerState, is_moving, Contents, ShardState, MayForget, without_slivers, Books, Serving, Moving, Members, Network, World, side_of, is_present, is_correct, contents_of, with_contents, keeps, ledger_of, AreBooks, IsNetwork, IsShardAt, AreShards, AreNext, contents_in, shards_of, world_of, members_of, with_members, LetsGo, Places, contents_at, placed, opposite, no_entries, with_held}
+use Rattle.std.proofs.lemmas.Grind.{get_or-set_at}
 use Rattle.wal_shard.specs.declared.answers.Declined.{Declined}
 use Rattle.wal_world.proofs.Shards.{network_from, side_shards}
 use Rattle.wal_world.proofs.Shards as shards
@@ -10,17 +9,16 @@ contents_placed : (f : ℕ) (shards : List ShardState) (place : ℕ) (contents :
 contents_placed f shards place contents = map-set (λ (s : ShardState). s.contents) shards place (record { f = f; index = place; contents = contents; limit = None })
 
 pub are_placed : (f : ℕ) (shards : List ShardState) (place : ℕ) (contents : Contents) → AreShards f shards → AreShards f (placed f shards place contents)
-are_placed f shards place contents h = record { count = length-set shards place put ∙ h.count; each = λ i d lt. at i d lt (cases_eq i place) }
-  where
-    put : ShardState
-    put = record { f = f; index = place; contents = contents; limit = None }
-
-    at : (i : ℕ) (d : ShardState) → i < committee_size f → (i ≡ place) ⊎ (i ≢ place) → IsShardAt f i (get_or (slice_set shards place put) i d)
-    at i d lt (inr ne) = subst (λ (s : ShardState). IsShardAt f i s) (sym (get_or-set_other shards place i put d ne)) (h.each i d lt)
-    at i d lt (inl e) =
-        let same : get_or (slice_set shards place put) i d ≡ put
-        = ap (λ (k : ℕ). get_or (slice_set shards place put) k d) e ∙ get_or-set_same shards place put d (subst (λ (k : ℕ). k < length shards) e (subst (λ (n : ℕ). i < n) (sym h.count) lt)) in
-        subst (λ (s : ShardState). IsShardAt f i s) (sym same) (record { f_is = refl; index_is = sym e; limit_is = refl })
+are_placed f shards place contents h =
+    let put : ShardState = record { f = f; index = place; contents = contents; limit = None } in
+    let count = h.count in
+    record {
+      count = length-set shards place put ∙ count;
+      each = λ i d lt. ⊎_elim
+          (λ e. rw (get_or-set_at shards place i put d e (omega (arith, e, lt, count))) (record { f_is = refl; index_is = sym e; limit_is = refl }))
+          (λ ne. rw (get_or-set_other shards place i put d ne) (h.each i d lt))
+          (cases_eq i place);
+    }
 
 next_is : (b : Option Books) (shards : List ShardState) → AreBooks b → is_moving (ledger_of b).log ≡ true → AreShards (ledger_of b).log.f shards → AreNext b shards
 next_is (Some (Serving s)) shards books moving h = cc
@@ -51,8 +49,8 @@ places_network Next old new shard contents p w present =
 -- what is held already changes nothing
 pub keeps_same : (side : Side) (w : World) (shard : ℕ) → keeps w side shard (contents_of (side_of side w) shard) ≡ w
 unfolding with_contents
-keeps_same Now w shard = ap (λ (l : List Contents). record w { now = record w.now { shards = l } }) (set-get_or w.now.shards shard finmap.empty)
-keeps_same Next w shard = ap (λ (l : List Contents). record w { next = record w.next { shards = l } }) (set-get_or w.next.shards shard finmap.empty)
+keeps_same Now w shard = ap (λ (l : List Contents). record w { now = record w.now { shards = l } }) (set-get_or w.now.shards shard no_entries)
+keeps_same Next w shard = ap (λ (l : List Contents). record w { next = record w.next { shards = l } }) (set-get_or w.next.shards shard no_entries)
 
 -- a shard of the list, and what it holds
 pub shard_at : {f : ℕ} {list : List ShardState} {place k : ℕ} {old : ShardState} → AreShards f list → place < length list → k ≡ place → old ≡ slice_index_or list k old
@@ -63,7 +61,7 @@ shard_at {f} {list} {place} {k} {old} are less same is =
 
 -- a shard of the list that changed what it holds is put where it was
 pub placed_by : {f : ℕ} {list : List ShardState} {place k : ℕ} {old new : ShardState} → AreShards f list → place < length list → k ≡ place → old ≡ slice_index_or list k old
-    → new ≡ shard_state.with_contents old new.contents → slice_set list k new ≡ placed f list place new.contents
+    → new ≡ with_held old new.contents → slice_set list k new ≡ placed f list place new.contents
 placed_by {f} {list} {place} {k} {old} {new} are less same is kept =
     let own = (shard_at are less same is).0 in
     let whole : new ≡ record { f = f; index = place; contents = new.contents; limit = None } = cc (kept, own.f_is, own.index_is, own.limit_is) in
@@ -114,8 +112,8 @@ correct_is side w shard there fine = grind arith
 
 -- what a shard's answer to forgetting says of what it holds
 pub lets_go : (log : Log) {old new : ShardState} {m : Contents} (id : BlobId) (result : Result (Unit {0}) Declined) → m ≡ old.contents
-    → OnOk result (MayForget log old.contents id) → OnOk result (new ≡ shard_state.with_contents old (without_slivers old.contents id))
+    → OnOk result (MayForget log old.contents id) → OnOk result (new ≡ with_held old (without_slivers old.contents id))
     → OnErr result (MayForget log old.contents id → ⊥) → OnErr result (new ≡ old)
-    → LetsGo log m id result new.contents × (new ≡ shard_state.with_contents old new.contents)
+    → LetsGo log m id result new.contents × (new ≡ with_held old new.contents)
 lets_go log id (Ok done) same may gone declined stays = ((rw same may, rw (same, gone)), rw gone)
 lets_go log id (Err e) same may gone declined stays = (((λ h. declined (rw same at h)), rw (same, stays)), rw stays)

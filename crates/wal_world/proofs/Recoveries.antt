@@ -1,13 +1,11 @@
 -- What is known of a blob's metadata, and what a recovery comes to.
-use Rattle.wal_world.proofs.Common.{◌≡◌, ◌≢◌, inl, inr, ℕ, true, List, Option, Some, None, Result, Ok, Err, IfOk, OnOk, IfSome, IfNone, refl, sym, ap, ◌∙◌, AllocError, BlobId, Axis, Side, BlobMetadata, sliver_symbols, metadata_text, Commits, Reply, is_live, HasMetadata, IsMetadataIn, Parts, Contents, parts_at, HoldsMetadata, kept_sliver, kept_proof, IsOwnMetadata, Members, Network, ledger_of, members_of, with_members, IsNetwork, world_of, contents_at, placed, Taken, World, side_of, is_present, is_correct, contents_of, held, keeps, Knows, KnowsTwo, IsKnown, OwnOpeningsComeTo, rules_of, IsHeldMetadata, IsOnly, RecoversInWorld, AreReplies, RecoverStep, RecoverCollides, RecoveryRuns, IsTaken}
+use Rattle.wal_world.proofs.Common.{◌≡◌, ◌≢◌, inl, inr, ℕ, true, List, Option, Some, None, Result, Ok, Err, IfOk, OnOk, IfSome, IfNone, refl, sym, ap, ◌∙◌, AllocError, BlobId, Axis, Side, BlobMetadata, sliver_symbols, metadata_text, Commits, Reply, is_live, HasMetadata, IsMetadataIn, Parts, Contents, parts_at, HoldsMetadata, kept_sliver, kept_proof, IsOwnMetadata, Members, Network, ledger_of, members_of, with_members, IsNetwork, world_of, contents_at, placed, Taken, World, side_of, is_present, is_correct, contents_of, held, keeps, Knows, KnowsTwo, IsKnown, OwnOpeningsComeTo, rules_of, IsHeldMetadata, IsOnly, RecoversInWorld, AreReplies, RecoverStep, RecoverCollides, RecoveryRuns, IsTaken, Word, Collided}
 use Rattle.wal_shape.specs.EncodingProof.{EncodingProof}
 use Rattle.wal_event.specs.declared.line.RecoverWord.{RecoverWord}
 use Rattle.wal_event.specs.declared.line.RecoverWord.TheVariants as recovering
 use Rattle.wal_reader.specs.Carried.{IsFirstBadProof, NoBadProof}
 use Rattle.wal_recover.specs.declared.outcome.Recovered.TheVariants as recovered
-use Rattle.wal_world.specs.declared.taken.Taken.TheVariants as taken
 use Rattle.wal_theorem.proofs.InstanceKnown.{known_alone, known_beside, held_alone, none_known, is_unfit}
-use Rattle.wal_theorem.proofs.InstanceHoldings.{none_some}
 use Rattle.wal_world.proofs.Placing.{keeps_same, placed_at, places_network, places_world}
 
 -- ---- what a shard holds as metadata
@@ -49,7 +47,7 @@ module _ (digest : List ℕ → List ℕ) (f : ℕ) (id : BlobId) (parts : Parts
       → IsHeldMetadata digest f id.0 parts o → IsOnly digest id parts payloads copy
   only_first m copy o one commits same is held =
       let h = rw is at held in
-      rw same (record { known = inl one.0; only = known_alone digest id parts payloads m one h; commits = commits; same = λ bytes e. absurd (none_some parts.metadata bytes h e) })
+      rw same (record { known = inl one.0; only = known_alone digest id parts payloads m one h; commits = commits; same = λ bytes e. absurd (cc (h, e)) })
 
 -- ---- what a shard keeps
 
@@ -135,21 +133,14 @@ module _ (digest : List ℕ → List ℕ) (old new : World) (side : Side) (shard
   word_step recovering.Unregistered on one = absurd on.1
   word_step word on one = (on.0, runs word on one, on.2)
 
-  taken_step : (r : Result (Taken RecoverWord) AllocError)
-      → IfOk r (IsTaken digest (λ word. RecoversInWorld digest old side shard axis id payloads word new × (Two → ⊥)) (Two × (new ≡ old)))
+  -- from a state that is the same
+  pub taken_step : (mid : World) (r : Result (Taken RecoverWord) AllocError) → mid ≡ old
+      → IfOk r (IsTaken digest (λ word. RecoversInWorld digest mid side shard axis id payloads word new × (KnowsTwo digest id (held (side_of side mid) shard id) payloads → ⊥))
+      (KnowsTwo digest id (held (side_of side mid) shard id) payloads × (new ≡ mid)))
       → IfOk r (IsTaken digest (λ word. RecoverStep (rules_of digest old.log.f) old side shard axis id replies word new)
       (RecoverCollides (rules_of digest old.log.f) old side shard axis id replies × (new ≡ old)))
-  taken_step (Ok (taken.Word word)) h = word_step word h.0 h.1
-  taken_step (Ok (taken.Collision c)) h =
-      (h.0, (record { correct = correct; live = live; payloads = payloads; replied = replied; two_metadata = h.1.0 }, h.1.1))
-  taken_step (Err e) h = tt
-
--- from a state that is the same
-pub recover_step : (digest : List ℕ → List ℕ) (old mid new : World) (side : Side) (shard : ℕ) (axis : Axis) (id : BlobId) (replies : List Reply) (payloads : List (List ℕ))
-    (r : Result (Taken RecoverWord) AllocError) → is_correct side old shard ≡ true → is_live old.log id ≡ true → AreReplies (rules_of digest old.log.f) old id axis shard replies payloads → mid ≡ old
-    → IfOk r (IsTaken digest (λ word. RecoversInWorld digest mid side shard axis id payloads word new × (KnowsTwo digest id (held (side_of side mid) shard id) payloads → ⊥))
-    (KnowsTwo digest id (held (side_of side mid) shard id) payloads × (new ≡ mid)))
-    → IfOk r (IsTaken digest (λ word. RecoverStep (rules_of digest old.log.f) old side shard axis id replies word new)
-    (RecoverCollides (rules_of digest old.log.f) old side shard axis id replies × (new ≡ old)))
-recover_step digest old mid new side shard axis id replies payloads r correct live replied same h =
-    taken_step digest old new side shard axis id replies payloads correct live replied r (rw same at h)
+  taken_step mid (Ok (Word word)) same h = let is = rw same at h in word_step word is.0 is.1
+  taken_step mid (Ok (Collided c)) same h =
+      let is = rw same at h in
+      (is.0, (record { correct = correct; live = live; payloads = payloads; replied = replied; two_metadata = is.1.0 }, is.1.1))
+  taken_step mid (Err e) same h = tt

@@ -1,7 +1,6 @@
 -- The shards of a network.
-use Rattle.wal_world.proofs.Common.{◌≡◌, ℕ, zero, suc, ◌<◌, ◌≤◌, true, false, List, [], ◌∷◌, length, Option, Some, None, refl, sym, ap, ◌∙◌, subst, arith, slice_index_or, Side, Now, Next, committee_size, id_cmp, room_of, is_moving, Contents, ShardState, is_present, side_of, ledger_of, AreBooks, world_of, shards_of, contents_in, AreNext, AreShards, IsShardAt, IsShardOf, IsNetwork, Books, Serving, Moving, members_of, Members, Network}
-use Rattle.std.specs.FinMap as finmap
-use Rattle.std.specs.BTreeMap.{IsOrdered}
+use Rattle.wal_world.proofs.Common.{◌≡◌, ℕ, ◌<◌, ◌≤◌, true, false, List, length, Option, Some, None, refl, sym, ap, ◌∙◌, subst, arith, slice_index_or, Side, Now, Next, committee_size, id_cmp, room_of, is_moving, Contents, ShardState, is_present, side_of, ledger_of, AreBooks, world_of, shards_of, contents_in, AreNext, AreShards, IsShardAt, IsShardOf, IsNetwork, Books, Serving, Moving, members_of, Members, Network, no_entries, IsOrdered}
+use Rattle.std.proofs.lemmas.List.{get_or-map}
 
 -- the next committee has its shards while the epoch changes
 next_shards : (b : Option Books) (shards : List ShardState) → AreBooks b → AreNext b shards → is_moving (ledger_of b).log ≡ true → AreShards (ledger_of b).log.f shards
@@ -15,10 +14,9 @@ side_shards Next n is there = next_shards n.books n.sides.next.shards.items is.b
 
 -- what a place of the list holds
 pub contents_at : (shards : List ShardState) (i : ℕ) (s : ShardState) → i < length shards → s ≡ slice_index_or shards i s
-    → s.contents ≡ slice_index_or (contents_in shards) i finmap.empty
-contents_at [] i s less at = absurd (omega (arith, less))
-contents_at (x ∷ xs) zero s less at = ap (λ t. t.contents) at
-contents_at (x ∷ xs) (suc i) s less at = contents_at xs i s (omega (arith, less)) at
+    → s.contents ≡ slice_index_or (contents_in shards) i no_entries
+contents_at shards i s less at =
+    ap (λ (t : ShardState). t.contents) at ∙ sym (get_or-map (λ (t : ShardState). t.contents) shards i s no_entries less)
 
 pub side_contents : {H : Type 0} (side : Side) (n : Network H) → contents_in (shards_of side n) ≡ (side_of side (world_of n)).shards
 side_contents Now n = refl
@@ -40,7 +38,7 @@ shard_is side n shards i k s is there e same less at =
     let one : IsShardAt (ledger_of n.books).log.f i s = subst (IsShardAt (ledger_of n.books).log.f i) (sym here) (are.each i s less) in
     let count = are.count in
     record {
-      contents = contents_at (shards_of side n) i s (omega (arith, less, count)) here ∙ ap (λ (xs : List Contents). slice_index_or xs i finmap.empty) (side_contents side n);
+      contents = contents_at (shards_of side n) i s (omega (arith, less, count)) here ∙ ap (λ (xs : List Contents). slice_index_or xs i no_entries) (side_contents side n);
       f = one.f_is;
       index = one.index_is;
       limit = one.limit_is;

@@ -2,7 +2,7 @@
 use Rattle.wal_world.proofs.Common.{◌≡◌, ℕ, ◌+◌, ◌<◌, ◌≤◌, List, [], ◌∷◌, ◌++◌, length, length-take, take, btree_set_len, is_some, Option, Some, None, ap, arith, Collision, IsSchedule, Event, Schedule, Line, World, Rules, first_state, is_collision, rules_of, IsSummary, IsSummed, collision_in, IsTallied, IsTally, Summary, Tally, runs_each}
 use Rattle.wal_event.specs.declared.line.Line.TheVariants as line
 use Rattle.wal_world.specs.declared.summary.Summed.TheVariants as summed
-use Rattle.wal_world.proofs.Replaying.{IsRunning, run_stopped, run_whole, running_first, running_more}
+use Rattle.wal_world.proofs.Replaying.{IsEventAt, IsRunning, run_stopped, run_whole, running_first, running_more}
 use Rattle.wal_world.proofs.Tallies.{few_certified, has_room, HasRoom}
 
 -- a line is a collision where it has two texts
@@ -20,41 +20,40 @@ pub record IsSumming (r : Rules) (schedule : Schedule) (count : ℕ) (w : World)
   pub run : IsRunning r schedule count w
   pub counted : IsTally run.lines t
 
-module _ (r : Rules) (s : Schedule) where
-  pub summing_first : (w : World) (t : Tally) → w ≡ first_state s → IsTally [] t → IsSumming r s 0 w t
-  summing_first w t same none = record { run = running_first r s w same; counted = none }
+module _ {r : Rules} {s : Schedule} where
+  pub summing_first : {w : World} {t : Tally} → w ≡ first_state s → IsTally [] t → IsSumming r s 0 w t
+  summing_first same none = record { run = running_first same; counted = none }
 
   -- no more lines than events so far
-  summing_few : (count : ℕ) (w : World) (t : Tally) (is : IsSumming r s count w t) → length is.run.lines ≡ length (take count s.events)
-  summing_few count w t is = runs_each r (first_state s) (take count s.events) is.run.states is.run.lines is.run.runs is.run.goes_on
+  summing_few : {count : ℕ} {w : World} {t : Tally} (is : IsSumming r s count w t) → length is.run.lines ≡ length (take count s.events)
+  summing_few {count} is = runs_each r (first_state s) (take count s.events) is.run.states is.run.lines is.run.runs is.run.goes_on
 
   -- one more line can be counted
-  pub summing_room : (count : ℕ) (w : World) (t : Tally) → IsSumming r s count w t → count < 65536 → HasRoom t
-  summing_room count w t is few = has_room is.run.lines t is.counted (omega (arith, summing_few count w t is, length-take count s.events, few))
+  pub summing_room : {items : List Event} {count : ℕ} {w : World} {t : Tally} → IsSumming r s count w t → items ≡ s.events → count < length items → length s.events ≤ 65536 → HasRoom t
+  summing_room {count = count} {t = t} is same below few =
+      has_room is.run.lines t is.counted (omega (arith, summing_few is, length-take count s.events, ap (λ (l : List Event). length l) same, below, few))
 
-  pub summing_certified : (count : ℕ) (w : World) (t : Tally) → IsSumming r s count w t → length s.events ≤ 65536 → btree_set_len t.certified ≤ 65536
-  summing_certified count w t is few = few_certified is.run.lines t is.counted (omega (arith, summing_few count w t is, length-take count s.events, few))
+  pub summing_certified : {count : ℕ} {w : World} {t : Tally} → IsSumming r s count w t → length s.events ≤ 65536 → btree_set_len t.certified ≤ 65536
+  summing_certified {count} {t = t} is few = few_certified is.run.lines t is.counted (omega (arith, summing_few is, length-take count s.events, few))
 
-  -- one more event was taken
-  pub summing_more : (count : ℕ) (event : Event) (w new : World) (before after : Tally) → IsSumming r s count w before → take (count + 1) s.events ≡ take count s.events ++ event ∷ []
-      → IsTallied r w event new before after None → IsSumming r s (count + 1) new after
-  summing_more count event w new before after is grows t =
-      record { run = running_more r s count event t.said w new is.run grows t.step (stops_at t.said None t.collision); counted = t.counts is.run.lines is.counted }
+module _ {digest : List ℕ → List ℕ} {s : Schedule} where
+  -- one more event was taken, by the committee's own number of faults
+  pub summing_more : {count f : ℕ} {event : Event} {w new : World} {before after : Tally} {o : Option Collision} → IsSumming (rules_of digest s.f) s count w before → IsEventAt s.events count event → f ≡ s.f
+      → o ≡ None → IsTallied (rules_of digest f) w event new before after o → IsSumming (rules_of digest s.f) s (count + 1) new after
+  summing_more {new = new} is at same none tallied =
+      let t = rw (same, none) at tallied in
+      record { run = running_more t.said new is.run at t.step (stops_at t.said None t.collision); counted = t.counts is.run.lines is.counted }
 
-module _ (digest : List ℕ → List ℕ) (size : (text : List ℕ) → length (digest text) ≡ 32) (s : Schedule) (fit : IsSchedule s) where
-  -- all events were taken
-  pub summed_whole : (count : ℕ) (w : World) (t : Tally) (sum : Summary) → IsSumming (rules_of digest s.f) s count w t → take count s.events ≡ s.events
-      → ((lines : List Line) → IsTally lines t → IsSummary lines sum) → IsSummed digest s (summed.Whole sum)
-  summed_whole count w t sum is all sums = (is.run.lines, run_whole digest size s fit count w is.run all, is.run.goes_on, sums is.run.lines is.counted)
+  module _ (size : (text : List ℕ) → length (digest text) ≡ 32) (fit : IsSchedule s) where
+    -- all events were taken
+    pub summed_whole : {count : ℕ} {w : World} {t : Tally} {sum : Summary} → IsSumming (rules_of digest s.f) s count w t → take count s.events ≡ s.events
+        → ((lines : List Line) → IsTally lines t → IsSummary lines sum) → IsSummed digest s (summed.Whole sum)
+    summed_whole is all sums = (is.run.lines, run_whole size fit is.run all, is.run.goes_on, sums is.run.lines is.counted)
 
-  -- the last one gave a collision
-  pub summed_collision : (count : ℕ) (event : Event) (rest : List Event) (w new : World) (before after : Tally) (c : Collision) → IsSumming (rules_of digest s.f) s count w before
-      → s.events ≡ take count s.events ++ event ∷ rest → IsTallied (rules_of digest s.f) w event new before after (Some c) → IsSummed digest s (summed.Collision c)
-  summed_collision count event rest w new before after c is split t =
-      let h = run_stopped digest size s fit count event rest t.said w new is.run split t.step (stops_at t.said (Some c) t.collision) in
-      (is.run.lines ++ t.said ∷ [], h.0, h.1, said_texts t.said c t.collision)
-
--- the same by the committee's own number of faults, and by what was matched
-pub tallied_as : (digest : List ℕ → List ℕ) (f g : ℕ) (w : World) (event : Event) (new : World) (before after : Tally) (o p : Option Collision)
-    → f ≡ g → o ≡ p → IsTallied (rules_of digest f) w event new before after o → IsTallied (rules_of digest g) w event new before after p
-tallied_as digest f g w event new before after o p same is t = rw (same, is) at t
+    -- the last one gave a collision
+    pub summed_collision : {count f : ℕ} {event : Event} {w new : World} {before after : Tally} {o : Option Collision} (c : Collision) → IsSumming (rules_of digest s.f) s count w before
+        → IsEventAt s.events count event → f ≡ s.f → o ≡ Some c → IsTallied (rules_of digest f) w event new before after o → IsSummed digest s (summed.Collision c)
+    summed_collision {new = new} c is at same some tallied =
+        let t = rw (same, some) at tallied in
+        let h = run_stopped size fit t.said new is.run at t.step (stops_at t.said (Some c) t.collision) in
+        (is.run.lines ++ t.said ∷ [], h.0, h.1, said_texts t.said c t.collision)

@@ -1,19 +1,7 @@
 -- What shards reply to one that recovers its sliver.
-use Rattle.wal_world.proofs.Common.{◌≡◌, ℕ, ◌<◌, List, [], ◌∷◌, ◌++◌, Option, None, Result, Ok, Err, IfOk, IfSome, IfNone, refl, sym, ap, ◌∙◌, subst, true, append-nil, slice_index_or, flat_map, AllocError, BlobId, Axis, Side, BlobMetadata, held_index, committee_size, Reply, Buffer, envelope, Parts, Contents, parts_at, ShardState, IsOwnMetadata, HoldsMetadata, SymbolReplies, WritesReply, Committee, World, side_of, is_present, contents_of, held, ledger_of, IsNetwork, shards_of, world_of, Network, Rules, SymbolReply, replies, AreReplies, IsReplyOf}
+use Rattle.wal_world.proofs.Common.{◌≡◌, ℕ, ◌<◌, List, [], ◌∷◌, ◌++◌, Result, Ok, Err, IfOk, refl, sym, ap, ◌∙◌, true, append-nil, slice_index_or, flat_map, AllocError, BlobId, Axis, Side, BlobMetadata, held_index, committee_size, Reply, Buffer, envelope, Parts, parts_at, ShardState, HoldsMetadata, SymbolReplies, WritesReply, World, side_of, is_present, held, ledger_of, IsNetwork, shards_of, world_of, Network, Rules, SymbolReply, replies, AreReplies, IsReplyOf}
 use Rattle.std.proofs.lemmas.List.{append_assoc}
-use Rattle.wal_shape.specs.declared.part.Part.TheVariants as parts
-use Rattle.wal_store.specs.Contents as store
 use Rattle.wal_world.proofs.Shards.{shard_is}
-
-pub own_held : (digest : List ℕ → List ℕ) (f g : ℕ) (id : BlobId) (c : Committee) (shard : ℕ) (contents : Contents) (r : Result (Option BlobMetadata) AllocError) → g ≡ f → contents ≡ contents_of c shard
-    → IfOk r (λ o. IfSome o (λ m. IsOwnMetadata digest g id.0 (parts_at contents id) m)) → IfOk r (λ o. IfSome o (λ m. IsOwnMetadata digest f id.0 (held c shard id) m))
-unfolding held
-own_held digest f g id c shard contents r same is h = rw (same, is) at h
-
-pub own_none : (id : BlobId) (c : Committee) (shard : ℕ) (contents : Contents) (r : Result (Option BlobMetadata) AllocError) → contents ≡ contents_of c shard
-    → IfOk r (λ o. IfNone o (store.part_at contents id parts.Metadata ≡ None)) → IfOk r (λ o. IfNone o ((held c shard id).metadata ≡ None))
-unfolding held
-own_none id c shard contents r is h = subst (λ (x : Contents). IfOk r (λ o. IfNone o ((parts_at x id).metadata ≡ None))) is h
 
 pub symbols_by : {H : Type 0} (side : Side) (n : Network H) (list : List ShardState) (shard k : ℕ) (s : ShardState) (id : BlobId) (P : ℕ → Parts → List (List ℕ) → Type 0) (old new : Buffer) (count : ℕ)
     → IsNetwork n → is_present side (world_of n) ≡ true → list ≡ shards_of side n → k ≡ shard → shard < committee_size (ledger_of n.books).log.f → s ≡ slice_index_or list k s

@@ -1,11 +1,11 @@
 -- Tallies of one more line, and what a summary takes from them.
-use Rattle.wal_world.proofs.Common.{◌≡◌, ℕ, suc, ◌+◌, ◌-◌, ◌^◌, ◌≤◌, ◌<◌, ◌||◌, min, Bool, true, false, cond, List, [], ◌∷◌, ◌++◌, length, length-append, fold, sum_by, filter_map, Option, Some, None, option_map, option_to_list, is_some, unwrap_or, btree_set_len, BTreeSet, refl, sym, ap, ap₂, subst, ◌∙◌, append-nil, arith, cons_option, reduce, texts_ties, IsFromIterResult, IsOrdered, Updates, BlobId, id_cmp, id_eq, Line, ids_total, certified_in, bytes_in, sliver_in, holders_in, IsSummary, Counts, IsTally, Tally, Summary}
+use Rattle.wal_world.proofs.Common.{◌≡◌, ℕ, suc, ◌+◌, ◌-◌, ◌^◌, ◌≤◌, ◌<◌, ◌||◌, min, Bool, true, false, cond, List, [], ◌∷◌, ◌++◌, length, length-append, fold, sum_by, filter_map, Option, Some, None, option_map, option_to_list, is_some, unwrap_or, btree_set_len, BTreeSet, refl, sym, ap, ap₂, subst, ◌∙◌, append-nil, arith, cons_option, reduce, texts_ties, IsFromIterResult, IsOrderedSet, Updates, BlobId, id_cmp, id_eq, Line, ids_total, certified_in, bytes_in, sliver_in, holders_in, IsSummary, Counts, IsTally, Tally, Summary}
 use Rattle.std.specs.Ordering.{eq_by_cmp}
 use Rattle.std.specs.Set.{distinct_count, is_member, unique_keys}
 use Rattle.std.proofs.lemmas.Cmp.{eq_by_cmp_equiv}
 use Rattle.std.proofs.lemmas.List.Elements.{filter_map-append}
 use Rattle.std.proofs.lemmas.List.Folds.{list_any-append}
-use Rattle.std.proofs.lemmas.List.Sums.{fold-append, sum_by_push}
+use Rattle.std.proofs.lemmas.List.Sums.{fold-append, sum_by-append}
 use Rattle.std.proofs.lemmas.Map.Views.{btree_set_len-from_list, btree_set_len-le_from_list}
 
 module _ {Y : Type 0} (h : Line → Option Y) where
@@ -18,8 +18,7 @@ module _ {Y : Type 0} (h : Line → Option Y) where
 
   -- no line gives more than one thing
   one_more_length : (o : Option Y) (given : List Y) (n : ℕ) → length given ≤ n → length (cons_option o given) ≤ suc n
-  one_more_length None given n few = omega (arith, few)
-  one_more_length (Some y) given n few = omega (arith, few)
+  one_more_length o given n few = grind arith
 
   given_few : (lines : List Line) → length (filter_map h lines) ≤ length lines
   given_few [] = omega arith
@@ -38,8 +37,7 @@ sized_flag : (o : Option (List ℕ)) → is_some (option_map length o) ≡ is_so
 sized_flag o = grind arith
 
 sum_one_more : (all : List (List ℕ)) (o : Option (List ℕ)) → sum_by length (all ++ option_to_list o) ≡ sum_by length all + unwrap_or (option_map length o) 0
-sum_one_more all None = ap (λ (l : List (List ℕ)). sum_by length l) (append-nil all) ∙ omega arith
-sum_one_more all (Some bytes) = sum_by_push length all bytes
+sum_one_more all o = grind (arith, sum_by-append length all (option_to_list o))
 
 sum_push : (lines : List Line) (said : Line) (n : ℕ) → n ≡ min (sum_by length (filter_map bytes_in lines)) (2 ^ 64 - 1)
     → min (n + unwrap_or (option_map length (bytes_in said)) 0) (2 ^ 64 - 1) ≡ min (sum_by length (filter_map bytes_in (lines ++ said ∷ []))) (2 ^ 64 - 1)
@@ -64,7 +62,7 @@ least_push lines said least is =
 among_first : (b c : Bool) → cond b true c ≡ (c || (b || false))
 among_first b c = grind arith
 
-pub put_one : (seen : List BlobId) (old new : BTreeSet BlobId) (id : BlobId) → IsFromIterResult id_cmp seen old → Updates id_cmp old new id true → IsOrdered id_cmp new
+pub put_one : (seen : List BlobId) (old new : BTreeSet BlobId) (id : BlobId) → IsFromIterResult id_cmp seen old → Updates id_cmp old new id true → IsOrderedSet id_cmp new
     → IsFromIterResult id_cmp (seen ++ id ∷ []) new
 put_one seen old new id from put ordered = (
   λ q. put.0 q

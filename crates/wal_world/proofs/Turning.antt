@@ -1,31 +1,11 @@
 -- A network whose epoch begins to change, or has changed.
-use Rattle.wal_world.proofs.Common.{◌≡◌, ℕ, zero, suc, ◌+◌, ◌<◌, ◌≤◌, Bool, true, false, cond, ◌&&◌, nat_le, List, [], ◌∷◌, ◌++◌, length, map, take, drop, slice_index_or, slice_set, Option, Some, IsTrue, ◌↔◌, refl, sym, ap, ◌∙◌, subst, arith, range_with_len, from_sorted, empty_of_len, entries-from_sorted, len-entries, length-map, Format, Now, Next, id_cmp, committee_size, Log, is_moving, entered, takes_in, Contents, ShardState, room_of, IsReady, without_dead, First, World, nobody, contents_of, held, side_of, HoldsAll, is_carried_over, next_committee, after_dropping, IsFresh, ledger_of, faulty_on, AreBooks, IsBegun, IsFinished, world_of, contents_in, AreNext, AreShards, IsShardAt, IsNetwork, dropped, shard_with, shards_with, Books, Serving, Network}
-use Rattle.std.specs.FinMap as finmap
-use Rattle.std.specs.BTreeMap.{IsOrdered}
+use Rattle.wal_world.proofs.Common.{◌≡◌, ℕ, ◌+◌, ◌≤◌, Bool, true, false, cond, ◌&&◌, nat_le, List, [], ◌∷◌, ◌++◌, length, map, Option, Some, refl, sym, ap, ◌∙◌, subst, arith, range_with_len, from_sorted, empty_of_len, entries-from_sorted, len-entries, length-map, Format, Now, Next, id_cmp, committee_size, Log, is_moving, entered, takes_in, Contents, ShardState, room_of, without_dead, First, World, nobody, contents_of, side_of, is_carried_over, next_committee, after_dropping, IsFresh, ledger_of, faulty_on, AreBooks, IsBegun, IsFinished, world_of, contents_in, AreNext, AreShards, IsShardAt, IsNetwork, dropped, shard_with, shards_with, Books, Serving, Network, FinMap, no_entries, IsOrdered}
+use Rattle.std.proofs.lemmas.List.{get_or-map}
 use Rattle.std.proofs.lemmas.Simd.{map-map}
 use Rattle.std.proofs.lemmas.List.FromFn.{get_or-map-range_with_len, length-map-range_with_len, map-range_with_len_more}
 use Rattle.wal_ledger.specs.declared.entry.Body.TheVariants as entry
 use Rattle.wal_epoch.specs.States.{ServingState}
 use Rattle.wal_world.proofs.Shards.{network_from, side_shards}
-
--- one more element is changed
-changed_next : {X : Type 0} (h : X → X) (ys : List X) (k : ℕ) (y d : X) → k < length ys → y ≡ h (slice_index_or (map h (take k ys) ++ drop k ys) k d)
-    → slice_set (map h (take k ys) ++ drop k ys) k y ≡ map h (take (suc k) ys) ++ drop (suc k) ys
-changed_next h [] k y d less e = absurd (omega (arith, less))
-changed_next h (x ∷ ys) zero y d less e = ap (λ z. z ∷ ys) e
-changed_next h (x ∷ ys) (suc k) y d less e = ap (λ zs. h x ∷ zs) (changed_next h ys k y d (omega (arith, less)) e)
-
-pub changed_more : {X : Type 0} (h : X → X) (xs ys : List X) (k : ℕ) (d y : X) → xs ≡ map h (take k ys) ++ drop k ys → k < length ys → y ≡ h (slice_index_or xs k d)
-    → slice_set xs k y ≡ map h (take (k + 1) ys) ++ drop (k + 1) ys
-changed_more {X} h xs ys k d y e less made =
-    let up : suc k ≡ k + 1 = omega arith in
-    ap (λ zs. slice_set zs k y) e ∙ changed_next h ys k y d less (made ∙ ap (λ (zs : List X). h (slice_index_or zs k d)) e) ∙ ap (λ j. map h (take j ys) ++ drop j ys) up
-
--- what a shard of the next committee answers is whether it holds all
-pub ready_is : (w : World) (log : Log) (contents : Contents) (shard : ℕ) (b : Bool) → log ≡ w.log → contents ≡ contents_of (side_of Next w) shard → (IsTrue b ↔ IsReady log contents)
-    → IsTrue b ↔ HoldsAll w shard
-unfolding held
-ready_is w log contents shard b same holds is = rw (same, holds) at is
 
 -- the shards of a committee, made one after the other
 pub made_shards : (f : ℕ) (holds : ℕ → Contents) → AreShards f (shards_with f holds)
@@ -40,15 +20,13 @@ pub made_contents : (f : ℕ) (holds : ℕ → Contents) → contents_in (shards
 made_contents f holds = map-map (λ (s : ShardState). s.contents) (shard_with f holds) (range_with_len 0 (committee_size f))
 
 -- shards that dropped what is not live are the same shards, and hold what is left
-dropped_at : (log : Log) (f k : ℕ) (xs : List ShardState) (i : ℕ) (d : ShardState) → i < length xs → IsShardAt f k (slice_index_or xs i d) → IsShardAt f k (slice_index_or (map (dropped log) xs) i d)
-dropped_at log f k [] i d less is = absurd (omega (arith, less))
-dropped_at log f k (x ∷ xs) zero d less is = record { f_is = is.f_is; index_is = is.index_is; limit_is = is.limit_is }
-dropped_at log f k (x ∷ xs) (suc i) d less is = dropped_at log f k xs i d (omega (arith, less)) is
-
 dropped_shards : (log : Log) (f : ℕ) (xs : List ShardState) → AreShards f xs → AreShards f (map (dropped log) xs)
 dropped_shards log f xs are = record {
   count = length-map xs (dropped log) ∙ are.count;
-  each = λ i d less. let count = are.count in dropped_at log f i xs i d (omega (arith, less, count)) (are.each i d less);
+  each = λ i d less.
+      let at = are.each i d less in
+      let count = are.count in
+      rw (get_or-map (dropped log) xs i d d (omega (arith, less, count))) (record { f_is = at.f_is; index_is = at.index_is; limit_is = at.limit_is });
 }
 
 dropped_contents : (log : Log) (xs : List ShardState) → contents_in (map (dropped log) xs) ≡ map (without_dead log) (contents_in xs)
@@ -56,7 +34,7 @@ dropped_contents log xs = map-map (λ (s : ShardState). s.contents) (dropped log
 
 -- equal parts make equal states
 abbrev Answers : Type 0
-Answers = finmap.FinMap id_cmp First
+Answers = FinMap id_cmp First
 
 abbrev state : Format → Log → List ℕ → List Contents → List ℕ → List Contents → Bool → Answers → World
 state format log xs now ys next few answers =
@@ -70,7 +48,7 @@ same_state e0 e1 e2 e3 e4 e5 e6 e7 = cc
 -- the epoch begins to change
 module _ {H : Type 0} (n m : Network H) (owners faulty stays : List ℕ) where
   abbrev next_holds : ℕ → Contents
-  next_holds s = cond (is_carried_over (world_of n) owners faulty stays s) (contents_of (side_of Now (world_of n)) s) finmap.empty
+  next_holds s = cond (is_carried_over (world_of n) owners faulty stays s) (contents_of (side_of Now (world_of n)) s) no_entries
 
   pub begun_world : IsBegun n.books owners faulty stays m.books → m.format ≡ n.format → m.sides.serving.shards.items ≡ n.sides.serving.shards.items
       → m.sides.next.shards.items ≡ shards_with (world_of n).log.f next_holds → m.answers.entries ≡ n.answers.entries → m.few ≡ (n.few && nat_le (length faulty) (world_of n).log.f)
@@ -122,26 +100,26 @@ one_more f holds k xs ys s e made push =
 abbrev no_answers : Answers
 no_answers = from_sorted []
 
-nothing_sorted : no_answers ≡ finmap.empty
+nothing_sorted : no_answers ≡ no_entries
 nothing_sorted = empty_of_len no_answers (len-entries no_answers ∙ ap length (entries-from_sorted id_cmp [] tt))
 
 -- a network in which nothing is held or completed
 pub fresh : {H : Type 0} (format : Format) (s : ServingState) (few : Bool) (n : Network H) → is_moving s.ledger.log ≡ false → n.books ≡ Some (Serving s) → n.format ≡ format → n.few ≡ few
-    → n.sides.serving.shards.items ≡ shards_with s.ledger.log.f (λ k. finmap.empty) → n.sides.next.shards.items ≡ [] → n.answers.entries ≡ [] → IsOrdered id_cmp n.answers → n.work.f ≡ s.ledger.log.f
+    → n.sides.serving.shards.items ≡ shards_with s.ledger.log.f (λ k. no_entries) → n.sides.next.shards.items ≡ [] → n.answers.entries ≡ [] → IsOrdered id_cmp n.answers → n.work.f ≡ s.ledger.log.f
     → n.buffer.bytes ≡ [] → n.buffer.spare ≡ room_of s.ledger.log.f → IsFresh format s few n
 fresh format s few n serves books formats fews now next answers ordered work bytes spare =
     let f : (ledger_of n.books).log.f ≡ s.ledger.log.f = ap (λ b. (ledger_of b).log.f) books in
     record {
       network = record {
         books = subst (λ b. AreBooks b) (sym books) serves;
-        shards_now = subst (λ k. AreShards k n.sides.serving.shards.items) (sym f) (subst (AreShards s.ledger.log.f) (sym now) (made_shards s.ledger.log.f (λ k. finmap.empty)));
+        shards_now = subst (λ k. AreShards k n.sides.serving.shards.items) (sym f) (subst (AreShards s.ledger.log.f) (sym now) (made_shards s.ledger.log.f (λ k. no_entries)));
         shards_next = subst (λ b. AreNext b n.sides.next.shards.items) (sym books) next;
         ordered = ordered;
         work = work ∙ sym f;
         empty = bytes;
         room = subst (λ k. room_of k ≤ n.buffer.spare) (sym f) (omega (arith, spare));
       };
-      world = same_state formats (ap (λ b. (ledger_of b).log) books) (ap (faulty_on Now) books) (ap contents_in now ∙ made_contents s.ledger.log.f (λ k. finmap.empty)) (ap (faulty_on Next) books) (ap contents_in next) fews
+      world = same_state formats (ap (λ b. (ledger_of b).log) books) (ap (faulty_on Now) books) (ap contents_in now ∙ made_contents s.ledger.log.f (λ k. no_entries)) (ap (faulty_on Next) books) (ap contents_in next) fews
           (ap (λ es. from_sorted es) answers ∙ nothing_sorted);
       spare = ap (λ b. (ledger_of b).spare) books;
     }

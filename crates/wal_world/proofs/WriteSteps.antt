@@ -1,10 +1,9 @@
 -- What is sent to shards, one after the other, and what one of them holds of it.
-use Rattle.wal_world.proofs.Common.{nat_lt, nat_le, ◌≡◌, ℕ, ◌+◌, ◌<◌, ◌≤◌, Bool, true, false, cond, ◌&&◌, not, nat_eq, List, [], ◌∷◌, ◌++◌, length, map, drop, get_or, Option, Some, None, is_some, IsTrue, ◌↔◌, refl, sym, ap, arith, AllByRecursion, pointwise, and_parts, leb-true, ltb-true, drop_more, BlobId, Side, Now, Next, Collision, BlobMetadata, among, ascends_from, metadata_text, Frame, IsFrame, frame_text, is_moving, Parts, Contents, parts_at, PutAnswer, CanBePut, Written, messages_of, Books, Network, ledger_of, faulty_on, World, contents_of, held, is_correct, keeps, side_of, PutsFrame, has_frames, is_bytes, world_of, AreParts, PutsTo, SpellsPart, TellsClash, addressed, frame_in, letters_in, letters}
+use Rattle.wal_world.proofs.Common.{nat_lt, nat_le, ◌≡◌, ℕ, ◌+◌, ◌<◌, ◌≤◌, Bool, true, false, cond, ◌&&◌, not, nat_eq, List, [], ◌∷◌, ◌++◌, length, map, drop, get_or, Option, Some, None, is_some, IsTrue, ◌↔◌, refl, ap, arith, AllByRecursion, pointwise, and_parts, leb-true, ltb-true, drop_more, BlobId, Side, Now, Next, Collision, BlobMetadata, among, ascends_from, metadata_text, Frame, IsFrame, frame_text, is_moving, Parts, Contents, parts_at, PutAnswer, CanBePut, Written, messages_of, Books, Network, ledger_of, faulty_on, World, contents_of, held, is_correct, keeps, side_of, PutsFrame, has_frames, is_bytes, world_of, AreParts, PutsTo, SpellsPart, TellsClash, addressed, frame_in, letters_in, letters, part_at, OtherMetadata}
 use Rattle.std.proofs.Math.ListN.{drop_of_length-le}
+use Rattle.std.proofs.lemmas.Bool.Decides.{same_from_decides}
 use Rattle.std.proofs.lemmas.Slice.Eq.{bytes_eq-Decides}
 use Rattle.wal_shape.specs.declared.part.Part.TheVariants as parts
-use Rattle.wal_store.specs.Contents as store
-use Rattle.wal_shard.specs.declared.answers.PutAnswer.TheVariants as putting
 use Rattle.wal_world.proofs.LetterLaws.{frame_again, put_clashes, put_stays, puts_none}
 
 -- ---- what puts leave alone
@@ -24,8 +23,8 @@ module _ (digest : List ℕ → List ℕ) where
     where
       by : (a : PutAnswer) (o : Option Collision) → PutsFrame digest w.log.f w.log shard (contents_of (side_of side w) shard) frame a contents → TellsClash a o
           → PutsTo digest w side ((shard, frame) ∷ []) o new
-      by (putting.OtherMetadata m) (Some c) q t = put_clashes digest w new side shard frame contents m c q is t.0 t.1
-      by (putting.OtherMetadata m) None q t = absurd t
+      by (OtherMetadata m) (Some c) q t = put_clashes digest w new side shard frame contents m c q is t.0 t.1
+      by (OtherMetadata m) None q t = absurd t
       by a None q t = put_stays digest w new side shard frame contents a refl q is
       by a (Some c) q t = absurd t
 
@@ -67,23 +66,16 @@ pub letters_next : (old here : World) (side : Side) (message : ℕ → List Fram
 letters_next old here side message to i d less same = rw (drop_more to i d less, same)
 
 -- at its end
-pub letter_end : (shard : ℕ) (texts : List (List ℕ)) (i : ℕ) → length texts ≤ i → letters_in shard (drop i texts) ≡ []
-letter_end shard texts i past = ap (letters_in shard) (drop_of_length-le texts past)
-
-pub letters_end : (old : World) (side : Side) (message : ℕ → List Frame) (to : List ℕ) (i : ℕ) → length to ≤ i → letters old side message (drop i to) ≡ []
-letters_end old side message to i past = ap (letters old side message) (drop_of_length-le to past)
+pub at_end : {A B : Type 0} (sent : List A → List B) (xs : List A) (i : ℕ) → length xs ≤ i → sent (drop i xs) ≡ sent []
+at_end sent xs i past = ap sent (drop_of_length-le xs past)
 
 -- ---- what a shard holds of what was sent to it
 
 same_text : (o : Option (List ℕ)) (text : List ℕ) (a : Bool) → (IsTrue a ↔ (o ≡ Some text)) → a ≡ is_bytes o text
-same_text None text true h = absurd (let e : ◌≡◌ {A = Option (List ℕ)} None (Some text) = h.0 refl in cc)
-same_text None text false h = refl
-same_text (Some xs) text true h = let e : ◌≡◌ {A = Option (List ℕ)} (Some xs) (Some text) = h.0 refl in let same : xs ≡ text = (cc) in sym ((bytes_eq-Decides xs text).1 same)
-same_text (Some xs) text false h = by (pointwise nat_eq xs text) refl
-  where
-    by : (b : Bool) → pointwise nat_eq xs text ≡ b → false ≡ pointwise nat_eq xs text
-    by true e = absurd (let f : false ≡ true = h.1 (ap Some ((bytes_eq-Decides xs text).0 e)) in cc)
-    by false e = sym e
+same_text None text a h = same_from_decides a false h ((λ e. absurd cc), (λ e. absurd cc))
+same_text (Some xs) text a h =
+    let same = bytes_eq-Decides xs text in
+    same_from_decides a (pointwise nat_eq xs text) h ((λ t. ap Some (same.0 t)), (λ e. same.1 (cc)))
 
 all_three : (a b c : Bool) → (a && (b && c)) ≡ (a && (b && (c && true)))
 all_three true true true = refl
@@ -96,8 +88,8 @@ has_sent p x shard a slivers metadata is =
 
 pub stores_is : (w : World) (side : Side) (shard : ℕ) (s : Contents) (id : BlobId) (m : BlobMetadata) (x : Written) (a slivers result : Bool) → is_correct side w shard ≡ true
     → s ≡ contents_of (side_of side w) shard → id ≡ x.id → m ≡ x.metadata
-    → (IsTrue a ↔ (store.part_at s id parts.Metadata ≡ Some (metadata_text m)))
-    → slivers ≡ (is_some (store.part_at s id parts.Primary) && is_some (store.part_at s id parts.Secondary)) → result ≡ (a && slivers)
+    → (IsTrue a ↔ (part_at s id parts.Metadata ≡ Some (metadata_text m)))
+    → slivers ≡ (is_some (part_at s id parts.Primary) && is_some (part_at s id parts.Secondary)) → result ≡ (a && slivers)
     → result ≡ (is_correct side w shard && has_frames (messages_of x shard) (held (side_of side w) shard x.id))
 unfolding held
 stores_is w side shard s id m x a slivers result correct there named metadata iff is e =

@@ -6,4 +6,11 @@ use Rattle.wal_protocol.specs.Run.{first_state}
 
 -- the first state, by its parts
 abbrev pub first_of : Format → ℕ → ℕ → List ℕ → List ℕ → World
-first_of format f epoch owners faulty = first_state (record { f = f; epoch = epoch; format = format; owners = owners; faulty = faulty; events = [] })
+first_of format f epoch owners faulty = first_state (record {
+  f = f;
+  epoch = epoch;
+  format = format;
+  owners = owners;
+  faulty = faulty;
+  events = [];
+})

@@ -1,20 +1,20 @@
 -- What the proofs of this crate cite from elsewhere, and of its own definitions, handed on from one place. Declares nothing.
 pub use Rattle.hex.specs.Hex.{encode_lower, lower_digits}
 pub use Rattle.sha2.specs.Sha256.{sha256}
-pub use Rattle.std.proofs.Common.{◌≡◌, ◌⊎◌, inl, inr, ℕ, ◌<◌, ◌≤◌, List, [], length, sym, ap, subst, arith, suc, ◌+◌, ◌*◌, All, ◌∷◌, length-append, length-take, codes, ◌∙◌, zero, ◌/◌, Some, slice_get, refl, min, Bool, true, false, cond, ◌++◌, length-drop, take, drop, nat_eq, nat_le, slice_index, append-nil, ◌&&◌, Option, None, MatchOption, decimal, ◌-◌, ◌^◌, max, not, T, map, unwrap_or, ◌%◌, get_or, if◌then◌else◌, ◌==◌, le_refl, Result, Ok, Err, IsSome, ◌≢◌, slice_index_or, ap₂, string_bytes, rules}
+pub use Rattle.std.proofs.Common.{◌≡◌, ◌⊎◌, inl, inr, ℕ, ◌<◌, ◌≤◌, List, [], length, sym, ap, subst, arith, suc, ◌+◌, ◌*◌, All, ◌∷◌, length-append, length-take, codes, ◌∙◌, zero, ◌/◌, Some, slice_get, refl, min, Bool, true, false, cond, ◌++◌, length-drop, take, drop, append-nil, Option, None, MatchOption, decimal, ◌-◌, ◌^◌, max, not, T, map, unwrap_or, ◌%◌, get_or, le_refl, Result, Ok, Err, IsSome, ◌≢◌, slice_index_or, string_bytes, rules, add-one}
 pub use Rattle.std.proofs.Math.Nat.{mul-le-mul_right, mul-le-mul_left}
-pub use Rattle.std.proofs.lemmas.Bool.{eqb-true, cases_lt, and_parts, leb-true, ltb-false}
+pub use Rattle.std.proofs.lemmas.Bool.{eqb-true, cases_lt, cases_eq, and_parts, leb-true, ltb-false}
 pub use Rattle.std.proofs.lemmas.Fmt.{length-decimal-le, length-decimal-le_succ}
 pub use Rattle.std.proofs.lemmas.Grind.{flat_map-append, common_steps}
 pub use Rattle.std.proofs.lemmas.List.{append_cancel_left, append_assoc}
-pub use Rattle.std.specs.Int.{w16, w32}
-pub use Rattle.std.specs.List.{flat_map, AllByRecursion, range_with_len}
-pub use Rattle.std.specs.Ordering.{is_eq, is_lt, eq_by_cmp, ordering_reverse}
-pub use Rattle.std.specs.Prelude.{⊤, nat_lt, IsUtf8}
+pub use Rattle.std.specs.Int.{w32}
+pub use Rattle.std.specs.List.{flat_map, AllByRecursion}
+pub use Rattle.std.specs.Ordering.{is_eq, is_lt, eq_by_cmp}
+pub use Rattle.std.specs.Prelude.{⊤, nat_lt, IsUtf8, if◌then◌else◌, nat_le}
 pub use Rattle.wal_commit.proofs.Bodies.{body_of}
 pub use Rattle.wal_commit.proofs.Commitments.{length-head, IsMetadata-over}
 pub use Rattle.wal_commit.specs.Held.{HoldsOpening, HoldsSliver}
-pub use Rattle.wal_commit.specs.Identifier.{AreDigestedFor, head_text, held_pairs, identifier_text, pair_root}
+pub use Rattle.wal_commit.specs.Identifier.{AreDigestedFor, held_pairs, identifier_text}
 unfoldable pub use Rattle.wal_commit.specs.Identifier.{identifier_of, metadata_over}
 pub use Rattle.wal_event.specs.Report.{hex_text}
 pub use Rattle.wal_evidence.specs.BadProof.{IsBadProof, Checks}
@@ -38,9 +38,9 @@ pub use Rattle.wal_run.specs.Commands.{command_of}
 pub use Rattle.wal_run.specs.Lines.{collision_text}
 pub use Rattle.wal_run.specs.Serving.{EndsServing, at_start, serve_limit}
 pub use Rattle.wal_serve.specs.Answers.{AnswersPut, AnswersRead, IsReplied, IsReplyOutcome, AnswersRequest}
-pub use Rattle.wal_serve.specs.Reply.{clash_in, clash_text, malformed, outcome_text, put_reply, reply, reply_text, overlong}
+pub use Rattle.wal_serve.specs.Reply.{clash_in, clash_text, outcome_text, reply, reply_text, overlong}
 pub use Rattle.wal_serve.specs.Saying.{sent}
-pub use Rattle.wal_serve.specs.Serving.{Wrote, BreaksOff, Replies, Served, Serves, looked_at, read_past}
+pub use Rattle.wal_serve.specs.Serving.{Wrote, Replies, Served, Serves, looked_at, read_past}
 pub use Rattle.wal_serve.specs.State.{ServedState, holding, with_ledger, named}
 pub use Rattle.wal_serve.specs.declared.serving.ServeEnd.{ServeEnd}
 pub use Rattle.wal_shape.proofs.MetadataLaws.{spelled_metadata-text, length-metadata_text}
@@ -55,18 +55,18 @@ pub use Rattle.wal_shape.specs.declared.axis.Axis.{Axis}
 pub use Rattle.wal_shape.specs.declared.axis.Axis.TheVariants.{Primary, Secondary}
 pub use Rattle.wal_shape.specs.declared.metadata.BlobId.{BlobId}
 pub use Rattle.wal_shape.specs.declared.shape.Format.{Format}
-pub use Rattle.wal_shape.specs.declared.shape.Format.TheVariants.{One, Two}
 pub use Rattle.wal_shape.specs.declared.text.MetaClash.{MetaClash}
 pub use Rattle.wal_shard.proofs.HeldLaws.{sliver_then, proof_then, metadata_fits, proof_fits, sliver_fits}
+pub use Rattle.wal_shard.proofs.ReplyLaws.{length-envelope, own_opening_fits}
 pub use Rattle.wal_shard.proofs.Soundness.{empty_sound, metadata_sound, put_sound, without_slivers_sound, one_metadata}
 pub use Rattle.wal_shard.specs.Holding.{IsSound, OpeningReply, SymbolReplies, given, metadata_reply, no_shard, not_held, payload_if, primary_reply, proof_reply, read_reply_of}
-pub use Rattle.wal_shard.specs.Putting.{CanBePut, IsAccepted, PutsOrWants, put_id, put_part, ShowsTexts}
+pub use Rattle.wal_shard.specs.Putting.{CanBePut, IsAccepted, PutsOrWants, put_id, put_part}
 pub use Rattle.wal_shard.specs.State.{AreSound, desk, IsOwnMetadata}
 pub use Rattle.wal_shard.specs.declared.answers.PutAnswer.{PutAnswer}
 pub use Rattle.wal_store.specs.Calls.{AreLawful, Call, DropId, DropPart, Put, after_calls, no_contents, after_call}
 pub use Rattle.wal_store.specs.Contents.{Contents, parts_at, with_bytes, with_parts, part_at, without_part}
-pub use Rattle.wal_store.specs.Parts.{Parts, is_empty, no_parts, part_of, with_part, is_absent, is_fit}
-pub use Rattle.wal_words.specs.Task.{IsTask, NoTask, identify, encode, read, recover, check, serve, replay, sample, image, unpack, bundle, member, challenge, verify, gateway}
+pub use Rattle.wal_store.specs.Parts.{Parts, no_parts, part_of, with_part, is_absent, is_fit}
+pub use Rattle.wal_words.specs.Task.{IsTask, NoTask, encode, serve, image, challenge, verify, IsRow}
 pub use Rattle.wal_words.specs.declared.task.Audit.{Audit}
 pub use Rattle.wal_words.specs.declared.task.Service.{Service}
 pub use Rattle.wal_words.specs.declared.task.Task.{Task}
@@ -75,7 +75,7 @@ pub use Rattle.wal_words.specs.declared.task.WholeTask.TheVariants.{Identify, En
 pub use Rattle.walrus_c.specs.Call.{Comes, around, IsFilled, IsUntouched, Returns}
 pub use Rattle.walrus_c.specs.Codes.{first_code}
 unfoldable pub use Rattle.walrus_c.specs.Codes.{code_of, refusals}
-pub use Rattle.walrus_c.specs.Room.{IsRoom, Suffices, fetched_most, most_taken, no_memory_told, none_given, opening_most, read_most, room_of, recovered_most, member_most, served_most}
+pub use Rattle.walrus_c.specs.Room.{IsRoom, Suffices, fetched_most, no_memory_told, none_given, opening_most, read_most, room_of, recovered_most, member_most, served_most}
 pub use Rattle.walrus_c.specs.Words.{AreNoWords, AreWords, HasNoZero}
 pub use Rattle.walrus_c.specs.inside.Ranges.{InRange}
 pub use Rattle.walrus_c.specs.inside.Reading.{ReadSoFar}

@@ -1,11 +1,14 @@
--- An image fits on its disk.
-use Rattle.walrus_c.proofs.Common.{◌≡◌, ℕ, ◌+◌, ◌≤◌, max, Bool, true, false, Option, Some, None, List, [], ◌∷◌, ◌++◌, length, length-append, codes, Result, Ok, Err, refl, arith, ⊤, nat_lt, AllByRecursion, and_parts, leb-true, ltb-false, most_bytes, identifier_of, FrameError, Frame, Metadata, Sliver, Proof, read_of, Contents, part_at, is_absent, is_fit, Call, Put, DropPart, DropId, after_call, no_contents, fields, records, spelling, length-records-push, spelling_size}
-use Rattle.std.specs.Prelude.{if◌then◌else◌, nat_le}
+-- An image fits on its disk, and all envelopes of a blob have as many bytes as its length says.
+use Rattle.walrus_c.proofs.Common.{◌≡◌, ℕ, ◌+◌, ◌≤◌, max, true, Option, Some, None, List, [], ◌∷◌, ◌++◌, length, length-append, codes, Result, Ok, Err, refl, arith, ⊤, nat_lt, AllByRecursion, and_parts, leb-true, ltb-false, most_bytes, identifier_of, FrameError, Frame, Metadata, Sliver, Proof, read_of, Contents, part_at, is_absent, is_fit, Call, Put, DropPart, DropId, after_call, no_contents, fields, records, spelling, length-records-push, spelling_size, ◌*◌, ◌<◌, min, ap, ◌∙◌, Axis, Primary, Secondary, Format, BlobShape, IsShape, column_count, row_count, shard_count, symbol_size, BlobMetadata, held_index, metadata_text, text_size, length-metadata_text, metadata_over, IsMetadata-over, envelope, metadata_frame, sliver_frame, length-sliver_frame, length-envelope, nat_le}
 use Rattle.wal_journal.specs.Packing.{and_more, is_lawful, put_in, puts_of}
-use Rattle.wal_run.specs.Imaging.{image_from, image_of, imaging, room_behind, room_of}
-use Rattle.walrus_c.proofs.Lengths.{two_fits}
-use Rattle.walrus_c.proofs.Payloads.{Reads, reads}
-use Rattle.walrus_c.proofs.Results.{Tells, succeeds, lacks}
+use Rattle.wal_run.specs.Imaging.{image_from, image_of, imaging}
+use Rattle.wal_matrix.specs.Matrix.{primary_of, secondary_of}
+use Rattle.wal_matrix.proofs.Runs.{length-pieces}
+use Rattle.wal_matrix.proofs.Slivers.{primary_long, secondary_long}
+use Rattle.wal_run.specs.Encoding.{encoding}
+use Rattle.wal_run.specs.Envelope.{encoded_text, shard_text}
+use Rattle.walrus_c.specs.Encoded.{encoded_bytes}
+use Rattle.walrus_c.proofs.Lengths.{two_fits, Reads, reads, Tells, succeeds, lacks}
 
 -- ---- the puts of payloads
 
@@ -31,10 +34,8 @@ fits held (DropId id) named lawful = omega (arith, spelling_size (DropId id) nam
 
 more_short : (held : Contents) (o : Option Call) (others : Contents → List Call) → IsNamed o → ((now : Contents) → AreShort (others now)) → AreShort (and_more held o others)
 more_short held None others named each = each held
-more_short held (Some c) others named each = by (is_lawful held c) refl where
-  by : (b : Bool) → is_lawful held c ≡ b → AreShort (if b then c ∷ others (after_call held c) else others held)
-  by true lawful = (fits held c named lawful, each (after_call held c))
-  by false lawful = each held
+more_short held (Some c) others named each =
+    grind (arith, fits held c named, each held, each (after_call held c))
 
 module _ (digest : List ℕ → List ℕ) (size_is : (text : List ℕ) → length (digest text) ≡ 32) where
   named : (n : ℕ) (r : Result Frame FrameError) → Reads n r → IsNamed (put_in digest r)
@@ -59,11 +60,8 @@ IsImaged size (Err full) = (full.0 ≤ 39 + most_bytes) × (full.1 ≤ size)
 
 image_made : (size : ℕ) (first rest : List Call) → length (records first) + 1 ≤ max size 1 → AreShort rest → IsImaged size (image_from size first rest)
 image_made size first [] fit short = omega (arith, fit, length-append (records first) (0 ∷ []))
-image_made size first (c ∷ rest) fit short = by (nat_lt (room_behind size first) (room_of c)) refl (image_made size (first ++ c ∷ []) rest) where
-  by : (b : Bool) → nat_lt (room_behind size first) (room_of c) ≡ b → (length (records (first ++ c ∷ [])) + 1 ≤ max size 1 → AreShort rest → IsImaged size (image_from size (first ++ c ∷ []) rest))
-      → IsImaged size (if b then Err (room_of c, room_behind size first) else image_from size (first ++ c ∷ []) rest)
-  by true full others = (omega (arith, short.0), omega arith)
-  by false room others = others (omega (arith, ltb-false (room_behind size first) (room_of c) room, length-records-push first c)) short.1
+image_made size first (c ∷ rest) fit short =
+    grind (arith, image_made size (first ++ c ∷ []) rest, ltb-false, length-records-push first c)
 
 made : (digest : List ℕ → List ℕ) → ((text : List ℕ) → length (digest text) ≡ 32) → (size : ℕ)
     → (payloads : List (List ℕ)) → IsImaged size (image_of size (puts_of digest no_contents payloads))
@@ -81,3 +79,71 @@ imaged digest size_is size input range lacks payloads spells text (needed, free,
     two_fits (max size 272) (codes "disk full needed ") (codes " free ") needed free text (omega arith) (omega arith)
     (omega (arith, fit.0)) (omega (arith, fit.1, range)) told
 imaged digest size_is size input range other payloads spells text none = absurd none
+
+-- ---- all envelopes of a blob have as many bytes as its length says
+
+-- the envelope of a sliver
+sliver_bytes : (sender : ℕ) (id : List ℕ) (axis : Axis) (index : ℕ) (sliver : List ℕ) → length id ≡ 32
+    → length (envelope sender (sliver_frame id axis index sliver)) ≡ 47 + length sliver
+sliver_bytes sender id axis index sliver is = omega (arith, length-envelope sender (sliver_frame id axis index sliver), length-sliver_frame id axis index sliver is)
+
+-- a shard's own index is one of the shards
+own_index : (format : Format) (f shard : ℕ) → shard < shard_count f → held_index format f Secondary shard < shard_count f
+own_index format f shard within = grind arith
+
+own_primary : (format : Format) (f shard : ℕ) → shard < shard_count f → held_index format f Primary shard < shard_count f
+own_primary format f shard within = grind arith
+
+-- the two envelopes of a shard
+shard_bytes : (id : List ℕ) (shape : BlobShape) (e : List ℕ) (shard : ℕ) → length id ≡ 32
+    → length e ≡ shard_count shape.f * shard_count shape.f * symbol_size shape.f shape.length → shard < shard_count shape.f
+    → length (shard_text id shape e shard) ≡ 94 + (column_count shape.f * symbol_size shape.f shape.length + row_count shape.f * symbol_size shape.f shape.length)
+unfolding shard_text
+shard_bytes id shape e shard is long within =
+    let s = symbol_size shape.f shape.length in
+    let i = held_index shape.format shape.f Primary shard in
+    let j = held_index shape.format shape.f Secondary shard in
+    let first = primary_of shape.f s e i in
+    let second = secondary_of shape.f s e j in
+    omega (
+      arith,
+      sliver_bytes shard id Primary i first is,
+      sliver_bytes shard id Secondary j second is,
+      length-append (envelope shard (sliver_frame id Primary i first)) (envelope shard (sliver_frame id Secondary j second)),
+      primary_long shape.f s e i long (own_primary shape.format shape.f shard within),
+      secondary_long shape.f s e j long (own_index shape.format shape.f shard within),
+    )
+
+module _ (digest : List ℕ → List ℕ) (size_is : (text : List ℕ) → length (digest text) ≡ 32) where
+  identifier_long : (m : BlobMetadata) → length (identifier_of digest m) ≡ 32
+  unfolding identifier_of
+  identifier_long m = size_is _
+
+  metadata_bytes : (m : BlobMetadata) (shape : BlobShape) (e : List ℕ) → m ≡ metadata_over digest shape e → IsShape shape.f shape.length
+      → length (metadata_text m) ≡ text_size shape.format shape.f
+  unfolding metadata_over
+  metadata_bytes m shape e is fit =
+      length-metadata_text m (rw is (IsMetadata-over digest size_is shape e fit)) ∙ ap
+      (λ (x : BlobMetadata). text_size x.format x.f) is
+
+  all_bytes : (shape : BlobShape) (e : List ℕ) → IsShape shape.f shape.length
+      → length e ≡ shard_count shape.f * shard_count shape.f * symbol_size shape.f shape.length
+      → length (encoded_text digest shape e) ≡ encoded_bytes shape.f shape.format shape.length
+  all_bytes shape e fit long =
+      let m = metadata_over digest shape e in
+      let id = identifier_of digest m in
+      let s = symbol_size shape.f shape.length in
+      let n = shard_count shape.f in
+      let text : length (metadata_text m) ≡ text_size shape.format shape.f = metadata_bytes m shape e refl fit in
+      let rest = length-pieces (shard_text id shape e) (94 + (column_count shape.f * s + row_count shape.f * s)) n
+      (λ i h. shard_bytes id shape e i (identifier_long m) long h) in
+      rw length-append (omega (arith, length-envelope 0 (metadata_frame m), text, rest))
+
+  pub encoded : (f : ℕ) (format : Format) (input : List ℕ) → (1 ≤ f) × (f ≤ 333) → length input ≤ most_bytes
+      → Tells digest (encoding digest f format) input (encoded_bytes f format (min (length input) most_bytes))
+  encoded f format input fit within succeeds bytes spells text is =
+      let shape : BlobShape = record { format = format; f = f; length = length bytes } in
+      let same : length bytes ≡ min (length input) most_bytes = omega (arith, ap length spells, within) in
+      let all = all_bytes shape is.0 (fit.0, fit.1, omega (arith, ap length spells, within)) is.1.coded.size in
+      omega (arith, ap length is.2, all, ap (encoded_bytes f format) same)
+  encoded f format input fit within other bytes spells text none = absurd none

@@ -4,9 +4,7 @@ use Rattle.std.proofs.lemmas.Option.{slice_get_within}
 use Rattle.wal_evidence.specs.declared.proof.ProofVerdict.TheVariants.{BadOpening}
 use Rattle.wal_run.specs.Identifying.{identifying}
 use Rattle.wal_run.specs.Verifying.{verifying}
-use Rattle.walrus_c.proofs.Lengths.{digits, one_fits, two_fits}
-use Rattle.walrus_c.proofs.Results.{Tells, succeeds, rejects, lacks}
-use Rattle.walrus_c.proofs.Streams.{claims_few, payloads_few}
+use Rattle.walrus_c.proofs.Lengths.{digits, one_fits, two_fits, Tells, succeeds, rejects, lacks, claims_few, payloads_few}
 
 -- the shape that a recorded metadata has
 pub shape_of : (digest : List ℕ → List ℕ) (id : List ℕ) (payloads : List (List ℕ)) (m : BlobMetadata)

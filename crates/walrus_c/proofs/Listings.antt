@@ -14,8 +14,7 @@ use Rattle.wal_store.specs.Entries.{Entries}
 use Rattle.wal_store.proofs.IdentifierLaws.{exact_ids, ids_total}
 use Rattle.wal_store.proofs.OrderLaws.{both_of, less_of}
 use Rattle.wal_run.specs.Unpacking.{IsBrokenAt, contents_text, holding_text, part_line, part_text, part_word, unpacking}
-use Rattle.walrus_c.proofs.Lengths.{digits, length-flat_map-cons, one_fits}
-use Rattle.walrus_c.proofs.Results.{Tells, succeeds, misreads}
+use Rattle.walrus_c.proofs.Lengths.{digits, length-flat_map-cons, one_fits, Tells, succeeds, misreads}
 
 -- ---- lines
 

@@ -90,7 +90,12 @@ quorum_after f epoch count (Some q) =
 abbrev pub tally_after : ℕ → ℕ → ℕ → ℕ → Tally → Tally
 tally_after f epoch place size t =
     let count = cond (nat_eq t.epoch epoch) t.count 0 + size in
-    record { epoch = epoch; count = count; last = place + 1; quorum = quorum_after f epoch count t.quorum }
+    record {
+      epoch = epoch;
+      count = count;
+      last = place + 1;
+      quorum = quorum_after f epoch count t.quorum;
+    }
 
 -- how many shards the node of a shard runs
 abbrev pub node_size : ℕ → List ℕ → ℕ → ℕ

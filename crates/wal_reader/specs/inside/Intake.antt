@@ -10,7 +10,14 @@ use Rattle.wal_reader.specs.declared.errors.FeedError.TheVariants.{Malformed, To
 use Rattle.wal_reader.specs.Intake.{IntakeState, IsWrongAt, AreBytes, kept, StandsAt}
 
 abbrev pub shown : {H : Type 0} → Intake H → IntakeState
-shown i = record { heard = i.heard; taken = i.taken; place = i.place; kept = i.kept.items; room = vec_capacity i.kept; missing = i.missing }
+shown i = record {
+  heard = i.heard;
+  taken = i.taken;
+  place = i.place;
+  kept = i.kept.items;
+  room = vec_capacity i.kept;
+  missing = i.missing;
+}
 
 -- these bytes were taken behind each stream
 abbrev pub Takes : (List ℕ → List ℕ) → IntakeState → IntakeState → List ℕ → Type 0

@@ -1,4 +1,4 @@
-use Rattle.wal_served.proofs.AlikeLaws.{answers_alike, answers_with_room, wants_for_more}
+use Rattle.wal_served.proofs.Alike.{answers_alike, answers_with_room, wants_for_more}
 use Rattle.wal_served.proofs.Apart.{leaves_alike, reads_rest_on}
 use Rattle.wal_served.proofs.Left.{serves_what_is_left}
 use Rattle.wal_served.proofs.Rebuilt.{rebuilds}

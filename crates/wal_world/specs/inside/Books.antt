@@ -42,7 +42,12 @@ pub record IsBegun (old : Option Books) (owners faulty stays : List ℕ)
     (new : Option Books) : Type 0 where
   pub may : MayBegin (ledger_of old).log owners faulty stays
   pub room : 0 < (ledger_of old).spare
-  pub books : new ≡ Some (Moving (record { ledger = takes_in (ledger_of old) (entry.Begin owners); faulty_now = faulty_on Now old; faulty_next = faulty; stays = stays }))
+  pub books : new ≡ Some (Moving (record {
+    ledger = takes_in (ledger_of old) (entry.Begin owners);
+    faulty_now = faulty_on Now old;
+    faulty_next = faulty;
+    stays = stays;
+  }))
   pub moving : is_moving (ledger_of new).log ≡ true
 
 -- why it did not

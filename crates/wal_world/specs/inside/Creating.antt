@@ -16,7 +16,14 @@ use Rattle.wal_world.specs.Creating.{first_of}
 -- the state with this ledger, in which nothing is held or completed
 abbrev pub state_with : Format → ServingState → Bool → World
 state_with format s few =
-    record { format = format; log = s.ledger.log; now = empty_committee s.ledger.log.f s.faulty; next = nobody; few = few; answers = finmap.empty }
+    record {
+      format = format;
+      log = s.ledger.log;
+      now = empty_committee s.ledger.log.f s.faulty;
+      next = nobody;
+      few = few;
+      answers = finmap.empty;
+    }
 
 -- a network with this ledger, in which nothing is held or completed
 pub record IsFresh {H : Type 0} (format : Format)

@@ -46,7 +46,14 @@ state_code =
     (coded× format.the_row.coded (coded× log_code (coded× committee_code
     (coded× committee_code (coded× coded_bool (finmap.code id_code first.the_row.coded))))))
     (λ w. (w.format, (w.log, (w.now, (w.next, (w.few, w.answers))))))
-    (λ t. record { format = t.0; log = t.1.0; now = t.1.1.0; next = t.1.1.1.0; few = t.1.1.1.1.0; answers = t.1.1.1.1.1 })
+    (λ t. record {
+      format = t.0;
+      log = t.1.0;
+      now = t.1.1.0;
+      next = t.1.1.1.0;
+      few = t.1.1.1.1.0;
+      answers = t.1.1.1.1.1;
+    })
     (λ _. refl)
 
 -- what callers see of a world is stored as the tuple of its parts

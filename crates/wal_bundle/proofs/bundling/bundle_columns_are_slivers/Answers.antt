@@ -1,5 +1,5 @@
 use Rattle.wal_bundle.proofs.Common.{sym}
-use Rattle.wal_bundle.proofs.HonestColumns.{own_column}
+use Rattle.wal_bundle.proofs.Bundled.{own_column}
 use Rattle.wal_bundle.proofs.bundling.bundle_columns_are_slivers.Goals as goal
 
 pub returns : goal.returns

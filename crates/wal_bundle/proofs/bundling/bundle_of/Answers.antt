@@ -1,6 +1,6 @@
 use Rattle.wal_bundle.proofs.Common.{ℕ, ◌*◌, List, length, arith, length-map, lengths_of}
-use Rattle.wal_bundle.proofs.HonestColumns.{bundle_short}
-use Rattle.wal_bundle.proofs.Least.{some_least}
+use Rattle.wal_bundle.proofs.Bundled.{bundle_short}
+use Rattle.wal_bundle.proofs.Room.{some_least}
 use Rattle.wal_bundle.proofs.bundling.bundle_of.Goals as goal
 
 pub returns-then-half-most : goal.returns-then-half-most
@@ -15,11 +15,10 @@ returns-then-half-most c =
 pub returns : goal.returns
 returns c =
     let half = c.least_half-half.result in
-    let within = c.if-half-most.false in
-    let fits = c.most_half-most.ensures.within in
-    let least = rw c.requires.lengths at (c.least_half-half.ensures.least within) in (
+    let least = rw c.requires.lengths at (c.least_half-half.ensures.least c.if-half-most.false) in (
       c.requires.some,
       c.requires.faults,
       record { few = c.requires.few; size = 2 * half; least = least; text = c.in_ok-laid.ensures },
-      rw c.in_ok-laid.ensures (bundle_short c.args.f half _ c.args.members.now least within fits),
+      rw c.in_ok-laid.ensures (bundle_short c.args.f half _ c.args.members.now least c.if-half-most.false
+          c.most_half-most.ensures.within),
     )

@@ -1,5 +1,5 @@
 use Rattle.wal_bundle.proofs.Common.{ℕ, ◌*◌, ◌≤◌, List, length, ap, arith, length-map, most_bytes, lengths_of}
-use Rattle.wal_bundle.proofs.Least.{some_least, too_long}
+use Rattle.wal_bundle.proofs.Room.{some_least, too_long}
 use Rattle.wal_bundle.proofs.bundling.make.Goals as goal
 
 pub returns-in-None : goal.returns-in-None

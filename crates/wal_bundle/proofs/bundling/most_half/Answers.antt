@@ -1,5 +1,5 @@
 use Rattle.wal_bundle.proofs.Common.{◌+◌, ◌*◌, arith, most_bytes}
-use Rattle.wal_bundle.proofs.Least.{most_half}
+use Rattle.wal_bundle.proofs.Room.{most_half}
 use Rattle.wal_bundle.proofs.bundling.most_half.Goals as goal
 
 pub returns-clause-most : goal.returns-clause-most

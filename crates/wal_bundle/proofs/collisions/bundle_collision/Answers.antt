@@ -1,16 +1,11 @@
 use Rattle.wal_bundle.proofs.Common.{sym, ◌∙◌, inl, inr, rules, IfOk-weaker, metadata_shown, same_metadata}
-use Rattle.wal_bundle.proofs.Found.{not_one, not_own, one_identifier, own_coded}
-use Rattle.wal_bundle.proofs.Truths.{contradicting_plain}
+use Rattle.wal_bundle.proofs.Truths.{not_one, not_own, one_identifier, own_coded, contradicting_plain}
 use Rattle.wal_bundle.proofs.collisions.bundle_collision.Goals as goal
 
 pub unreachable-requires : goal.unreachable-requires
 unreachable-requires g c =
-    let r = c.requires in
-    let digest = g.H.Hash32.digest in
-    let id = c.args.id.now.0 in
-    let payloads = c.args.payloads.now in
-    let one = contradicting_plain digest c.args.members.now id c.args.k payloads r.answer r.told r.denied in
-    not_one digest id payloads c.metadata_in.result one.0 c.metadata_in.ensures.found one.1 c.in_default.not-One
+    let one = contradicting_plain _ _ _ _ _ c.requires.answer c.requires.told c.requires.denied in
+    not_one _ _ _ c.metadata_in.result _ c.metadata_in.ensures.found one.1 c.in_default.not-One
 
 pub metadatas-requires-clause-one : goal.metadatas-requires-clause-one
 metadatas-requires-clause-one g c =
@@ -26,8 +21,8 @@ collide_own-requires-clause-metadata g c =
 
 pub collide_own-requires-clause-coded : goal.collide_own-requires-clause-coded
 collide_own-requires-clause-coded g c =
-    let own = rw (c.f.ensures.value, ← c.as_slice.ensures) at c.in_ok-bytes.ensures in
-    own_coded c.requires.bundle c.in_ok-matrix.ensures.shape own c.in_ok-matrix.ensures.matrix
+    own_coded c.requires.bundle c.in_ok-matrix.ensures.shape
+    (rw (c.f.ensures.value, ← c.as_slice.ensures) at c.in_ok-bytes.ensures) c.in_ok-matrix.ensures.matrix
 
 pub collide_own-requires-clause-apart : goal.collide_own-requires-clause-apart
 collide_own-requires-clause-apart g c = λ agree.

@@ -1,5 +1,5 @@
 use Rattle.wal_bundle.proofs.Common.{◌∙◌, arith, below_more, IfOk-weaker, Secondary, metadata_shown, held_one_root}
-use Rattle.wal_bundle.proofs.OneColumn.{column_held}
+use Rattle.wal_bundle.proofs.Truths.{column_held}
 use Rattle.wal_bundle.proofs.collisions.collide_columns.Goals as goal
 
 pub slivers-requires-clause-one : goal.slivers-requires-clause-one

@@ -1,5 +1,5 @@
 use Rattle.wal_bundle.proofs.Common.{◌∙◌, sym, metadata_shown}
-use Rattle.wal_bundle.proofs.OneColumn.{one_column}
+use Rattle.wal_bundle.proofs.Truths.{one_column}
 use Rattle.wal_bundle.proofs.collisions.columns_apart.Goals as goal
 
 pub returns-in_default-clause-none : goal.returns-in_default-clause-none

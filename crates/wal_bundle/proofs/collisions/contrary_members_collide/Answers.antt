@@ -1,5 +1,5 @@
 use Rattle.wal_bundle.proofs.Common.{IsDigest}
-use Rattle.wal_bundle.proofs.Collides.{bundle_collides, members_collide}
+use Rattle.wal_bundle.proofs.Truths.{bundle_collides, members_collide}
 use Rattle.wal_bundle.proofs.collisions.contrary_members_collide.Goals as goal
 
 pub returns : goal.returns

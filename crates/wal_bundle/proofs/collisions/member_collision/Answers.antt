@@ -1,17 +1,15 @@
 use Rattle.wal_bundle.proofs.Common.{inl, inr, rules, IfOk-weaker, metadata_shown, same_metadata}
-use Rattle.wal_bundle.proofs.Found.{not_one}
-use Rattle.wal_bundle.proofs.Truths.{not_contrary}
+use Rattle.wal_bundle.proofs.Truths.{not_one, not_contrary}
 use Rattle.wal_bundle.proofs.collisions.member_collision.Goals as goal
 
 pub unreachable-requires : goal.unreachable-requires
 unreachable-requires g c =
-    let told = c.requires.left_told in
-    not_one g.H.Hash32.digest c.args.id.now.0 c.args.a.now c.metadata_in.result told.0 c.metadata_in.ensures.found told.1 c.in_default.not-One
+    not_one _ _ _ c.metadata_in.result _ c.metadata_in.ensures.found c.requires.left_told.1 c.in_default.not-One
 
 pub unreachable-requires-in_default-metadata_in : goal.unreachable-requires-in_default-metadata_in
 unreachable-requires-in_default-metadata_in g c =
-    let told = c.requires.right_told in
-    not_one g.H.Hash32.digest c.args.id.now.0 c.args.b.now c.metadata_in-2.result told.0 c.metadata_in-2.ensures.found told.1 c.in_default-metadata_in.not-One
+    not_one _ _ _ c.metadata_in-2.result _ c.metadata_in-2.ensures.found c.requires.right_told.1
+    c.in_default-metadata_in.not-One
 
 pub collide_columns-requires : goal.collide_columns-requires
 collide_columns-requires g c = λ agree.

@@ -1,5 +1,5 @@
 use Rattle.wal_bundle.proofs.Common.{◌≡◌, ◌∙◌, sym, rules, metadata_shown}
-use Rattle.wal_bundle.proofs.OneColumn.{one_column}
+use Rattle.wal_bundle.proofs.Truths.{one_column}
 use Rattle.wal_bundle.proofs.collisions.other_column.Goals as goal
 
 pub returns-else-ne-clause-none : goal.returns-else-ne-clause-none

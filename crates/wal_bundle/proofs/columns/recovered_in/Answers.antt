@@ -1,5 +1,5 @@
 use Rattle.wal_bundle.proofs.Common.{metadata_shown}
-use Rattle.wal_bundle.proofs.Found.{not_recovered, weaken_none}
+use Rattle.wal_bundle.proofs.Truths.{not_recovered, weaken_none}
 use Rattle.wal_bundle.proofs.columns.recovered_in.Goals as goal
 
 pub returns-clause-missing : goal.returns-clause-missing

@@ -1,5 +1,5 @@
 use Rattle.wal_bundle.proofs.Common.{arith}
-use Rattle.wal_bundle.proofs.Behind.{few_columns, member_missing}
+use Rattle.wal_bundle.proofs.Agreement.{few_columns, member_missing}
 use Rattle.wal_bundle.proofs.finding.member_by.Goals as goal
 
 pub overflow_cast-count : goal.overflow_cast-count

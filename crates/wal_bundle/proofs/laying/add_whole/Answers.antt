@@ -1,5 +1,5 @@
 use Rattle.wal_bundle.proofs.Common.{◌≡◌, ◌+◌, ◌++◌, length, vec_len, rules}
-use Rattle.wal_bundle.proofs.ColumnTexts.{whole_added}
+use Rattle.wal_bundle.proofs.IndexTexts.{whole_added}
 use Rattle.wal_bundle.proofs.laying.add_whole.Goals as goal
 
 pub returns : goal.returns

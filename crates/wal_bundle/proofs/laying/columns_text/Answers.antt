@@ -1,5 +1,5 @@
 use Rattle.wal_bundle.proofs.Common.{◌≡◌, [], length, vec_len, ◌∙◌, arith, rules, get_or_read, take_all, columns_text}
-use Rattle.wal_bundle.proofs.ColumnTexts.{member_room, index_room}
+use Rattle.wal_bundle.proofs.IndexTexts.{member_room, index_room}
 use Rattle.wal_bundle.proofs.laying.columns_text.Goals as goal
 
 pub add_whole-requires-clause-room : goal.add_whole-requires-clause-room

@@ -1,6 +1,6 @@
 use Rattle.wal_bundle.proofs.Common.{◌-◌, arith}
 use Rattle.std.proofs.lemmas.Bool.Decides.{Decides-not}
-use Rattle.wal_bundle.proofs.Least.{least_by_next, none_below}
+use Rattle.wal_bundle.proofs.Room.{least_by_next, none_below}
 use Rattle.wal_bundle.proofs.layout.is_bundle_size.Goals as goal
 
 pub returns-else-half-eq1 : goal.returns-else-half-eq1

@@ -1,5 +1,5 @@
 use Rattle.wal_bundle.proofs.Common.{arith, rules}
-use Rattle.wal_bundle.proofs.Least.{narrowed, narrowed_out, narrows_down, narrows_start, narrows_up}
+use Rattle.wal_bundle.proofs.Room.{narrowed, narrowed_out, narrows_down, narrows_start, narrows_up}
 use Rattle.wal_bundle.proofs.layout.least_half.Goals as goal
 
 pub loop-low-init : goal.loop-low-init

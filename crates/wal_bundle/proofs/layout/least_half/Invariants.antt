@@ -1,6 +1,6 @@
 -- No half below low has room, and high has, or is past the most.
 use Rattle.wal_bundle.proofs.Common.{◌-◌}
-use Rattle.wal_bundle.proofs.Least.{Narrows}
+use Rattle.wal_bundle.proofs.Room.{Narrows}
 use Rattle.wal_bundle.proofs.layout.least_half.Given as goal
 
 abbrev pub invariant-loop-low : goal.invariant-loop-low

@@ -1,5 +1,5 @@
 use Rattle.wal_bundle.proofs.Common.{arith, metadata_shown}
-use Rattle.wal_bundle.proofs.Found.{four_bytes}
+use Rattle.wal_bundle.proofs.Truths.{four_bytes}
 use Rattle.wal_bundle.proofs.reading.column_size.Goals as goal
 
 pub returns-clause-some : goal.returns-clause-some

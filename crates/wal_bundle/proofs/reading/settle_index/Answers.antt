@@ -1,20 +1,17 @@
-use Rattle.wal_bundle.proofs.Common.{length, ap, sym, ◌∙◌, arith, false≢true, metadata_shown, count_in}
-use Rattle.wal_bundle.proofs.Found.{twice_half}
+use Rattle.wal_bundle.proofs.Common.{length, ap, sym, ◌∙◌, arith, false≢true, metadata_shown}
+use Rattle.wal_bundle.proofs.Truths.{twice_half, cells_small}
 use Rattle.wal_bundle.proofs.IndexTexts.{lengths_read, spelled_count}
-use Rattle.wal_bundle.proofs.Truths.{cells_small}
 use Rattle.wal_bundle.proofs.reading.settle_index.Goals as goal
 
 pub is_index-requires-clause-members : goal.is_index-requires-clause-members
 is_index-requires-clause-members c =
-    let read = rw c.count_in.ensures at c.in_ok-lengths.ensures in
-    let count = spelled_count c.args.columns.now (count_in c.args.columns.now) in
-    omega (arith, ap length (c.deref.ensures.value ∙ read), count, c.requires.few, c.shape.ensures.metadata.shape.1)
+    let count = spelled_count _ (rw c.count_in.ensures at c.in_ok-lengths.ensures) in
+    omega (arith, ap length c.deref.ensures.value, count, c.requires.few, c.shape.ensures.metadata.shape.1)
 
 pub is_index-requires-clause-long : goal.is_index-requires-clause-long
 is_index-requires-clause-long c =
-    let read = rw c.count_in.ensures at c.in_ok-lengths.ensures in
-    let count = spelled_count c.args.columns.now (count_in c.args.columns.now) in
-    omega (arith, ap length (c.deref.ensures.value ∙ read), count, c.requires.long)
+    let count = spelled_count _ (rw c.count_in.ensures at c.in_ok-lengths.ensures) in
+    omega (arith, ap length c.deref.ensures.value, count, c.requires.long)
 
 pub returns-then-branch-clause-some : goal.returns-then-branch-clause-some
 returns-then-branch-clause-some c =
@@ -23,8 +20,7 @@ returns-then-branch-clause-some c =
     let half = twice_half c.from-half.result m.f m.length (c.from-half.ensures ∙ size) in
     let read = rw c.count_in.ensures at c.in_ok-lengths.ensures in
     let tested = rw (c.f.ensures.value, half, c.deref.ensures.value) at (c.in_ok-is_index.ensures.0 c.if-branch.true) in
-    let count = spelled_count c.args.columns.now (count_in c.args.columns.now) in
-    record { few = omega (arith, ap length read, count, c.requires.few); size = tested.0; text = tested.1 }
+    record { few = omega (arith, spelled_count _ read, c.requires.few); size = tested.0; text = tested.1 }
 
 pub returns-else-branch-clause-none : goal.returns-else-branch-clause-none
 returns-else-branch-clause-none c = λ lengths is.

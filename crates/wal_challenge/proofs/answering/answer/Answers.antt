@@ -1,12 +1,10 @@
-use Rattle.wal_challenge.proofs.Common.{List, subst, sym, Opening, metadata_shown, AreAnswers}
+use Rattle.wal_challenge.proofs.Common.{metadata_shown}
 use Rattle.wal_challenge.proofs.AnswerLaws.{answer_holds, one_answer}
 use Rattle.wal_challenge.proofs.answering.answer.Goals as goal
 
 pub returns-clause-answers : goal.returns-clause-answers
 returns-clause-answers g c =
-    let made = c.in_ok-openings.ensures c.args.primary.now c.args.secondary.now c.in_ok-answerer.ensures.words in
-    subst (λ (os : List Opening). AreAnswers g.H.Hash32.digest (metadata_shown c.args.m) c.args.beacon.now c.args.shard c.args.count c.args.primary.now c.args.secondary.now os)
-    (sym c.from_vec.ensures) made
+    rw c.from_vec.ensures (c.in_ok-openings.ensures c.args.primary.now c.args.secondary.now c.in_ok-answerer.ensures.words)
 
 pub returns-clause-only : goal.returns-clause-only
 returns-clause-only g c = λ other are.

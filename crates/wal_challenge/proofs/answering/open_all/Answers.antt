@@ -1,4 +1,4 @@
-use Rattle.wal_challenge.proofs.Common.{◌≡◌, ap, subst, ◌∙◌, arith, metadata_shown, shard_count, AreAnswers}
+use Rattle.wal_challenge.proofs.Common.{◌≡◌, ap, ◌∙◌, arith, metadata_shown, shard_count}
 use Rattle.wal_challenge.proofs.AnswerLaws.{answers_more, same_draw}
 use Rattle.wal_challenge.proofs.answering.open_all.Goals as goal
 
@@ -15,5 +15,4 @@ each-preserved g c = λ primary secondary are.
 pub returns : goal.returns
 returns g c = λ primary secondary are.
     let all : c.each.d ≡ c.args.count = omega (arith, c.each-test.false, c.each.auto.d-end) in
-    subst (λ k. AreAnswers g.H.Hash32.digest (metadata_shown c.args.m) c.args.beacon.now c.args.shard k primary secondary c.each.openings.items) all
-    (c.each.invariant primary secondary are)
+    rw all at (c.each.invariant primary secondary are)

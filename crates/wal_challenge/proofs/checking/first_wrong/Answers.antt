@@ -1,4 +1,4 @@
-use Rattle.wal_challenge.proofs.Common.{rules, ◌≡◌, ◌<◌, length, ap, refl, subst, ◌∙◌, arith, slice_get_read, metadata_shown, shard_count, Draw, AnswersDraw, FirstAnswer}
+use Rattle.wal_challenge.proofs.Common.{rules, ◌≡◌, ◌<◌, length, ap, refl, ◌∙◌, arith, slice_get_read, metadata_shown, shard_count, AnswersDraw}
 use Rattle.wal_challenge.proofs.AnswerLaws.{same_draw}
 use Rattle.wal_challenge.proofs.VerdictLaws.{first_more}
 use Rattle.wal_challenge.proofs.checking.first_wrong.Goals as goal
@@ -16,9 +16,9 @@ each-preserved g c =
     let is : AnswersDraw digest m c.args.shard draw claim = search rules in
     first_more digest m c.args.beacon.now c.args.shard claims c.each.d claim c.each.invariant
     (slice_get_read claims (length claims) c.each.d claim refl within c.index-claims-d.is)
-    (subst (λ (w : Draw). AnswersDraw digest m c.args.shard w claim) draw_is is)
+    (rw draw_is at is)
 
 pub returns-clause-none : goal.returns-clause-none
 returns-clause-none g c =
     let all : c.each.d ≡ length c.args.claims.now = omega (arith, c.each-test.false, c.each.auto.d-end) in
-    subst (λ k. FirstAnswer g.H.Hash32.digest (metadata_shown c.args.m) c.args.beacon.now c.args.shard c.args.claims.now k) all c.each.invariant
+    rw all at c.each.invariant

@@ -1,22 +1,25 @@
 -- The combination of the values is the value of the one polynomial that passes through them.
-use Rattle.wal_code.proofs.Common.{◌≡◌, ◌∙◌, sym, ℕ, List, slice_index, arith, combination, common_steps}
-use Rattle.wal_code.proofs.Evaluation.{solution, combined}
+use Rattle.wal_code.proofs.Common.{◌≡◌, ◌∙◌, sym, slice_index, arith, combination, common_steps, evaluate}
+use Rattle.wal_code.proofs.Evaluation.{solution, combination-same, interpolates}
 use Rattle.wal_code.proofs.Tables.{weighted}
 use Rattle.wal_code.proofs.Points.{words_of}
 use Rattle.wal_code.proofs.codewords.solve_words.Goals as goal
 
 pub returns-clause-solved : goal.returns-clause-solved
 returns-clause-solved c =
-    let known : List ℕ = c.args.known.now in
-    let found = solution known c.args.values.now c.requires.distinct (words_of known (λ i l. omega (arith, c.type_inv.known i)))
+    let found = solution c.args.known.now c.args.values.now c.requires.distinct
+    (words_of c.args.known.now (λ i l. omega (arith, c.type_inv.known i)))
     (words_of c.args.values.now (λ i l. omega (arith, c.type_inv.values i))) c.requires.values in
     (found.0, found.1, λ i l. c.loop-place.invariant i (omega arith) ∙ sym (found.2 i (omega arith)))
 
 pub returns-clause-only : goal.returns-clause-only
 returns-clause-only c cs p i l =
-    let known : List ℕ = c.args.known.now in
+    let known = c.args.known.now in
     c.loop-place.invariant i (omega arith) ∙
-    combined known c.args.values.now cs i c.requires.distinct (words_of known (λ i l. omega (arith, c.type_inv.known i))) (omega arith) p
+    combination-same known i (slice_index c.args.values.now) (λ k. evaluate cs (slice_index known k))
+    (λ k m. sym (p.there k m)) ∙
+    sym (interpolates known i c.requires.distinct (words_of known (λ k m. omega (arith, c.type_inv.known k)))
+    (omega arith) cs p.few p.words)
 
 pub loop-place-preserved : goal.loop-place-preserved
 loop-place-preserved c =

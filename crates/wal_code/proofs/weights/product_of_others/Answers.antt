@@ -1,5 +1,5 @@
 -- Each point other than the given one adds its difference to the product.
-use Rattle.wal_code.proofs.Common.{◌∙◌, sym, ap, ℕ, List, ◌<◌, get_or, lit<, arith, one-times, times-one, product_of_others}
+use Rattle.wal_code.proofs.Common.{◌∙◌, sym, ap, ℕ, List, get_or, lit<, arith, one-times, times-one, product_of_others}
 use Rattle.wal_code.proofs.Differences.{product_of_others-lt, other-same, other-other, taken, whole}
 use Rattle.wal_code.proofs.Points.{words_of}
 use Rattle.wal_code.proofs.Words.{product_of_others-own}

@@ -1,15 +1,12 @@
 -- The opening leads to the root of the line that crosses the target, as the line's own symbol does.
-use Rattle.wal_commit.proofs.Common.{rules, ◌≡◌, ◌∙◌, length, ap, arith, region, MeetOnPaths, path_over, Axis, opening_shown, crossing, shard_count, symbol_size, line_of, symbol_bytes, line_long}
-use Rattle.std.proofs.lemmas.Result.{IfOk-weaker}
-use Rattle.wal_shape.specs.declared.text.Collision.{Collision}
-use Rattle.wal_commit.proofs.Crossings.{line_count, line_size, opening_leads, opening_within, part_within, some, symbols_apart, symbols_meet, texts_meet, within}
+use Rattle.wal_commit.proofs.Common.{rules, ◌≡◌, ◌∙◌, length, ap, arith, region, path_over, Axis, opening_shown, crossing, shard_count, symbol_size, line_of, symbol_bytes, line_long}
+use Rattle.wal_commit.proofs.Crossings.{line_count, line_size, opening_leads, opening_within, part_within, some, symbols_apart, symbols_meet, within}
 use Rattle.wal_commit.proofs.Holding.{whole_pieces}
 use Rattle.wal_commit.proofs.crossing.collide_opening.Goals as goal
 
 pub line_in_memory-requires : goal.line_in_memory-requires
 line_in_memory-requires g c =
-    let x = c.args.matrix.now in
-    (opening_within g.H.Hash32.digest x.shape x.cells c.args.axis c.args.index (opening_shown c.args.opening.now) c.requires.holds).1
+    (opening_within g.H.Hash32.digest c.args.matrix.now.shape c.args.matrix.now.cells c.args.axis c.args.index (opening_shown c.args.opening.now) c.requires.holds).1
 
 pub path-requires : goal.path-requires
 path-requires g c =
@@ -66,19 +63,11 @@ collide_paths-requires g c =
 
 pub returns-clause-texts : goal.returns-clause-texts
 returns-clause-texts g c =
-    let digest = g.H.Hash32.digest in
     let x = c.args.matrix.now in
-    let axis = c.args.axis in
     let o = opening_shown c.args.opening.now in
-    let s = symbol_bytes x in
-    let own = c.part_at-own.result.now in
-    let way = c.bytes.result.now in
     let size : c.symbol_size-size.result ≡ symbol_bytes x = c.symbol_size-size.ensures.value ∙ ap (λ t. symbol_size t.f t.length) c.shape.ensures in
-    let line = c.in_ok-line.ensures ∙ ap (λ (a : Axis). line_of a x.shape.f s x.cells o.cross) c.crossing.ensures in
-    let word = line_of (crossing axis) x.shape.f s x.cells o.cross in
-    IfOk-weaker c.collide_paths.result (λ (t : Collision). MeetOnPaths digest c.args.index o.symbol o.path own way t.left t.right)
-    (λ (t : Collision). MeetOnPaths digest c.args.index o.symbol o.path (region s word c.args.index) (path_over digest s word c.args.index) t.left t.right)
-    (λ t. texts_meet digest s c.symbol_size-size.result c.args.index word c.in_ok-line.line.items own way o.symbol o.path t.left t.right size line
-    (c.part_at-own.ensures.part ∙ ap (λ l. region c.symbol_size-size.result l c.args.index) c.deref-2.ensures.value)
-    (c.bytes.ensures ∙ c.path.ensures.siblings ∙ ap (λ l. path_over digest c.symbol_size-size.result l c.args.index) c.deref.ensures.value))
-    c.collide_paths.ensures.texts
+    let line = c.in_ok-line.ensures ∙ ap (λ (a : Axis). line_of a x.shape.f (symbol_bytes x) x.cells o.cross) c.crossing.ensures in
+    let own = c.part_at-own.ensures.part ∙ ap (λ l. region c.symbol_size-size.result l c.args.index) c.deref-2.ensures.value in
+    let way = c.bytes.ensures ∙ c.path.ensures.siblings
+    ∙ ap (λ l. path_over g.H.Hash32.digest c.symbol_size-size.result l c.args.index) c.deref.ensures.value in
+    rw (own, way, size, line) at c.collide_paths.ensures.texts

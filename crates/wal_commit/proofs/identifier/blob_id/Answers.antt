@@ -11,9 +11,8 @@ returns-clause-identifier g c = (
 
 pub returns-clause-only : goal.returns-clause-only
 returns-clause-only g c = λ other is.
-    let digest = g.H.Hash32.digest in
     let shape = c.args.shape.now in
     is.2.identifier
-    ∙ ap (identifier_of digest)
-    (one_metadata digest shape.format shape.f c.args.bytes.now is.0 c.in_ok-metadata.metadata is.1 c.in_ok-metadata.ensures ∙ sym c.view.ensures.value)
+    ∙ ap (identifier_of g.H.Hash32.digest)
+    (one_metadata g.H.Hash32.digest shape.format shape.f c.args.bytes.now is.0 c.in_ok-metadata.metadata is.1 c.in_ok-metadata.ensures ∙ sym c.view.ensures.value)
     ∙ sym c.identify.ensures.identifier

@@ -9,9 +9,8 @@ returns g c =
     let n = shard_count shape.f in
     let s = symbol_size shape.f shape.length in
     let digests = c.args.digests.now in
-    let count : c.n-count.result ≡ n = c.n-count.ensures.value in
     let gathered : c.copy_column.new.into ≡ column_of n 32 digests c.args.index =
-    c.copy_column.ensures ∙ sym (column_is c.n-count.result 32 digests c.args.index) ∙ ap (λ z. column_of z 32 digests c.args.index) count in
+    c.copy_column.ensures ∙ sym (column_is c.n-count.result 32 digests c.args.index) ∙ ap (λ z. column_of z 32 digests c.args.index) c.n-count.ensures.value in
     c.root_of_leaves.ensures
     ∙ ap (λ (p : List ℕ). root_of g.H.Hash32.digest (pieces (length p / 32) 32 p)) gathered
     ∙ column_root g.H.Hash32.digest n s e digests c.args.index (omega (arith, (symbol_size-least shape.f shape.length).positive)) c.requires.index are

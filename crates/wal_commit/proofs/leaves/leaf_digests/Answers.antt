@@ -12,12 +12,11 @@ digest_pieces-requires-clause-whole g c =
 pub returns : goal.returns
 returns g c =
     let e = c.args.e.now in
-    let digest = g.H.Hash32.digest in
     let out = c.digest_pieces.new.out in
     let size : c.symbol_size.result ≡ symbol_bytes e = c.symbol_size.ensures.value ∙ ap (λ s. symbol_size s.f s.length) c.shape-2.ensures in
     let some : 0 < symbol_bytes e = omega (arith, (symbol_size-least e.shape.f e.shape.length).positive) in
     let whole : length e.cells ≡ shards e * shards e * symbol_bytes e = sym (ap length c.cells.ensures.value) ∙ c.cells.ensures.long in
     let written = rw (c.cells.ensures.value, size) at c.digest_pieces.ensures in
     let filled : length out ≡ vec_len c.in_ok-digests.digests = c.digest_pieces.auto.out ∙ c.deref_mut.ensures.len in
-    subst (AreLeafDigests digest (shards e) (symbol_bytes e) e.cells) (sym (take_at out _ _ filled))
-    (digested_are digest (shards e) (symbol_bytes e) e.cells out some whole written)
+    subst (AreLeafDigests g.H.Hash32.digest (shards e) (symbol_bytes e) e.cells) (sym (take_at out _ _ filled))
+    (digested_are g.H.Hash32.digest (shards e) (symbol_bytes e) e.cells out some whole written)

@@ -4,9 +4,8 @@ use Rattle.wal_commit.proofs.leaves.row_root.Goals as goal
 
 pub slice_bounds-root_of_leaves-end : goal.slice_bounds-root_of_leaves-end
 slice_bounds-root_of_leaves-end g c =
-    let count : c.n.result ≡ shard_count c.args.shape.now.f = c.n.ensures.value in
-    let long : length c.args.digests.now ≡ c.n.result * c.n.result * 32 = c.requires.long ∙ ap (λ n. n * n * 32) (sym count) in
-    row_within c.n.result c.args.index c.args.digests.now long (omega (arith, count, c.requires.index))
+    let long : length c.args.digests.now ≡ c.n.result * c.n.result * 32 = c.requires.long ∙ ap (λ n. n * n * 32) (sym c.n.ensures.value) in
+    row_within c.n.result c.args.index c.args.digests.now long (omega (arith, c.n.ensures.value, c.requires.index))
 
 pub returns : goal.returns
 returns g c =

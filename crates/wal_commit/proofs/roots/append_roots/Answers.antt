@@ -6,10 +6,9 @@ pub returns : goal.returns
 returns g c =
     λ e long seen.
     let shape = c.args.shape.now in
-    let held = c.held_column.result in
     let roots = c.args.roots.now in
     let row = c.root.result in
-    let start = held * 32 in
+    let start = c.held_column.result * 32 in
     let column = take (start + 32 - start) (drop start roots) in
     let size : start + 32 - start ≡ 32 = omega arith in
     let two = (symbol_size-least shape.f shape.length).positive in
@@ -17,5 +16,5 @@ returns g c =
     ∙ ap (λ (ys : List ℕ). ys ++ column) c.in_ok-extend_from_slice.ensures.items
     ∙ append_assoc c.args.bytes.now.items row column
     ∙ ap (λ (ys : List ℕ). c.args.bytes.now.items ++ ys)
-    (pair_is g.H.Hash32.digest g.met.H.Hash32.size shape e c.args.trees.now roots row column c.args.shard held (omega arith) long c.requires.shard
+    (pair_is g.H.Hash32.digest g.met.H.Hash32.size shape e c.args.trees.now roots row column c.args.shard c.held_column.result (omega arith) long c.requires.shard
     c.held_column.ensures.within c.held_column.ensures.value c.root.ensures (ap (λ (k : ℕ). take k (drop start roots)) size) seen)

@@ -1,4 +1,4 @@
-use Rattle.wal_commit.proofs.Common.{rules, ◌≡◌, ℕ, ap, subst, sym, arith, ◌∙◌, shard_count, symbol_size, FrontState, IsFrontOf, AreSeen}
+use Rattle.wal_commit.proofs.Common.{rules, ◌≡◌, ap, subst, sym, arith, ◌∙◌, shard_count, FrontState, IsFrontOf}
 use Rattle.wal_commit.proofs.roots.take_blocks.Goals as goal
 
 pub loop-first-preserved : goal.loop-first-preserved
@@ -20,5 +20,4 @@ returns-clause-seen g c =
     let l = c.loop-first in
     let f = c.args.shape.now.f in
     let all : l.first ≡ shard_count f = omega (arith, c.loop-first-test.false, l.invariant.within, c.requires.count) in
-    subst (λ (z : ℕ). AreSeen g.H.Hash32.digest (shard_count f) (symbol_size f c.args.shape.now.length) e z l.trees l.roots.items) all
-    (l.invariant.seen e is before)
+    rw all at (l.invariant.seen e is before)

@@ -1,6 +1,5 @@
-use Rattle.wal_erasure.proofs.Common.{◌∷◌, ◌∙◌, sym, ap, arith, Gf}
-use Rattle.wal_erasure.proofs.LocatorLaws.{is_known-first, is_known-rest, locator-start}
-use Rattle.wal_erasure.proofs.Scans.{product_step, product_nonzero}
+use Rattle.wal_erasure.proofs.Common.{◌∷◌, ◌∙◌, sym, ap, arith, Gf, refl}
+use Rattle.wal_erasure.proofs.LocatorLaws.{is_known-first, is_known-rest, locator-start, locator-other, product_step}
 use Rattle.wal_erasure.proofs.locator.product_of_others.Goals as goal
 use Rattle.wal_erasure.proofs.locator.product_of_others.Goals.{then-other-point+then-not-marks-place, else-other-point, else-other-point-via-then-other-point+else-not-marks-place, else-other-point-via-else-other-point}
 
@@ -26,4 +25,5 @@ loop-place-preserved c =
 pub returns-clause-nonzero : goal.returns-clause-nonzero
 returns-clause-nonzero c none =
     let few = c.requires.few in
-    product_nonzero c.args.known.now c.loop-place.place c.args.point (omega arith) (omega arith) (sym c.loop-place.invariant ∙ none)
+    locator-other (c.args.point ∷ c.args.known.now) c.loop-place.place c.args.point (omega arith) (omega arith)
+    (is_known-first _ _ c.args.known.now refl) (sym c.loop-place.invariant ∙ none)

@@ -31,11 +31,9 @@ pub returns-clause-texts : goal.returns-clause-texts
 returns-clause-texts g c =
     let left = c.in_ok-left.ensures in
     let right = c.in_ok-right.ensures in
-    let same =
-    same_metadata _ _ _ _ c.bytes.ensures.metadata c.bytes-2.ensures.metadata c.bytes.ensures.spelling
-    c.bytes-2.ensures.spelling (search rules) in
-    let over = sym (c.view.ensures.value ∙ c.in_ok-left_metadata.ensures) in
-    let one = over ∙ same ∙ c.view-2.ensures.value ∙ c.in_ok-right_metadata.ensures in
+    let one = sym (c.view.ensures.value ∙ c.in_ok-left_metadata.ensures)
+    ∙ same_metadata _ _ _ _ c.bytes.ensures.metadata c.bytes-2.ensures.metadata c.bytes.ensures.spelling
+    c.bytes-2.ensures.spelling (search rules) ∙ c.view-2.ensures.value ∙ c.in_ok-right_metadata.ensures in
     IfOk-weaker c.collide_rows.result _ _
     (λ t texts. (_, _, left.matrix, right.matrix, inr (rw (left.shape, right.shape) at one, rw left.shape at texts)))
     c.collide_rows.ensures.texts

@@ -13,10 +13,8 @@ collide_basis-requires-clause-shape g c =
 
 pub collide_basis-requires-clause-other : goal.collide_basis-requires-clause-other
 collide_basis-requires-clause-other g c =
-    let same =
-    same_metadata _ _ _ _ c.bytes.ensures.metadata c.bytes-2.ensures.metadata c.bytes.ensures.spelling
-    c.bytes-2.ensures.spelling (search rules) in
-    let over = sym (c.view.ensures.value ∙ c.in_ok-metadata.ensures) ∙ same in
+    let over = sym (c.view.ensures.value ∙ c.in_ok-metadata.ensures) ∙ same_metadata _ _ _ _ c.bytes.ensures.metadata
+    c.bytes-2.ensures.metadata c.bytes.ensures.spelling c.bytes-2.ensures.spelling (search rules) in
     let x = c.in_ok-matrix.ensures in (
       c.args.bytes.now,
       commits_matrix _ _ _ _ _ _ x.shape c.requires.fits x.matrix over,

@@ -23,8 +23,7 @@ blob_and_evidence-requires-in-Bytes-right g c =
     record {
       fits = fits _ c.args.b.now _ _ _ _ right.judged c.in-Bytes-right.is shape bytes;
       contrary = contradicts _ c.args.b.now _ _ _ _ _ _ _ _ _ r.right r.left right.judged c.in-Bytes-right.is shape
-          bytes
-          right.only c.in_ok-left.ensures.only r.right_judged r.left_judged (λ e. r.differ (sym e));
+          bytes right.only c.in_ok-left.ensures.only r.right_judged r.left_judged (λ e. r.differ (sym e));
     }
 
 pub returns-in-Bytes-clause-texts : goal.returns-in-Bytes-clause-texts

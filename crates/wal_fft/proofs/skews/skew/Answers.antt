@@ -1,18 +1,7 @@
-use Rattle.wal_fft.proofs.Common.{◌≡◌, ℕ, ◌+◌, ◌*◌, ◌<◌, bit_xor, refl, sym, ap, ap₂, ◌∙◌, arith, lit<, bit_at, xor_lt, xor_below, entry, skew}
+use Rattle.wal_fft.proofs.Common.{◌≡◌, ℕ, ◌*◌, bit_xor, refl, sym, ap, ap₂, ◌∙◌, arith, lit<, bit_at, xor_lt, xor_below, entry, skew}
 use Rattle.wal_code.proofs.Totals.{xor_below-more}
 use Rattle.wal_fft.proofs.SkewLaws.{term-lt}
 use Rattle.wal_fft.proofs.skews.skew.Goals as goal
-
--- one more term
-one_more : (row point place sum bit value : ℕ) → bit ≡ bit_at point place → value ≡ entry row place
-    → sum ≡ xor_below place (λ i. bit_at point i * entry row i) → sum < 65536
-    → (bit_xor sum (bit * value) ≡ xor_below (place + 1) (λ i. bit_at point i * entry row i)) × (bit_xor sum (bit * value) < 65536)
-one_more row point place sum bit value e e' h low =
-    let same : bit * value ≡ bit_at point place * entry row place = ap₂ (λ (s t : ℕ). s * t) e e' in
-    let word : bit * value < 65536 = let l = term-lt row point place in omega arith in (
-      ap₂ (λ (s t : ℕ). bit_xor s t) h same ∙ sym (xor_below-more place (λ i. bit_at point i * entry row i)),
-      xor_lt 16 sum (bit * value) low word,
-    )
 
 pub loop-place-init : goal.loop-place-init
 unfolding xor_below
@@ -20,8 +9,13 @@ loop-place-init c = (refl, lit< tt)
 
 pub loop-place-preserved : goal.loop-place-preserved
 loop-place-preserved c =
-    one_more c.args.row c.args.point c.loop-place.place c.loop-place.sum c.bit.result c.entry.result c.bit.ensures c.entry.ensures
-    c.loop-place.invariant.0 c.loop-place.invariant.1
+    let row = c.args.row in
+    let point = c.args.point in
+    let place = c.loop-place.place in
+    let same : c.bit.result * c.entry.result ≡ bit_at point place * entry row place = ap₂ (λ (s t : ℕ). s * t) c.bit.ensures c.entry.ensures in (
+      ap₂ (λ (s t : ℕ). bit_xor s t) c.loop-place.invariant.0 same ∙ sym (xor_below-more place (λ i. bit_at point i * entry row i)),
+      xor_lt 16 c.loop-place.sum (c.bit.result * c.entry.result) c.loop-place.invariant.1 (rw same (term-lt row point place)),
+    )
 
 pub returns : goal.returns
 unfolding skew

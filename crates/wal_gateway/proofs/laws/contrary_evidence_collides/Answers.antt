@@ -1,7 +1,7 @@
 use Rattle.wal_commit.proofs.OneDigest.{IsDigest}
 use Rattle.wal_evidence.proofs.SameOrNot.{one_to_one}
 use Rattle.wal_theorem.proofs.OneAnswer.{judged_as}
-use Rattle.wal_gateway.proofs.Kept.{found_checked}
+use Rattle.wal_gateway.proofs.Sound.{found_checked}
 use Rattle.wal_gateway.proofs.laws.contrary_evidence_collides.Goals as goal
 
 pub returns : goal.returns

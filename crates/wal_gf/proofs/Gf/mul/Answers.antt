@@ -2,10 +2,6 @@ use Rattle.wal_gf.proofs.Common.{◌≡◌, ℕ, ◌+◌, ◌*◌, ◌%◌, ◌^
 use Rattle.wal_gf.proofs.Remainders.{word-left}
 use Rattle.wal_gf.proofs.Gf.mul.Goals as goal
 
-no_bit : (a b : ℕ) → 0 ≡ product 0 a b
-unfolding product xor_below
-no_bit a b = refl
-
 one_bit : (sum i a b : ℕ) → i < 16 → sum ≡ product i a b → bit_xor sum (bit_and a (1 * 2 ^ i % 4294967296) * b) ≡ product (i + 1) a b
 unfolding product xor_below
 one_bit sum i a b within before =
@@ -14,7 +10,8 @@ one_bit sum i a b within before =
     ∙ sym (ap (λ (k : ℕ). xor_below k (λ j. bit_at a j * (2 ^ j * b))) (add-one i))
 
 pub loop-i-init : goal.loop-i-init
-loop-i-init c = no_bit c.from-left.result c.from-right.result
+unfolding product xor_below
+loop-i-init c = refl
 
 pub loop-i-preserved : goal.loop-i-preserved
 loop-i-preserved c =

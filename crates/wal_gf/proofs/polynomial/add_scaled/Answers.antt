@@ -1,4 +1,4 @@
-use Rattle.wal_gf.proofs.Common.{◌≡◌, ℕ, suc, ◌+◌, ◌<◌, List, [], length, set, take, get_or, All, sym, ap, ap₂, ◌∙◌, arith, rules, bit_xor, add-one, take-map, xor_assoc, xor_zero_r, map-set, All-set, IsWord, times, power, evaluate, words_of, Gf}
+use Rattle.wal_gf.proofs.Common.{◌≡◌, ℕ, suc, ◌+◌, ◌<◌, List, length, set, take, get_or, All, sym, ap, ap₂, ◌∙◌, arith, rules, bit_xor, add-one, take-map, xor_assoc, xor_zero_r, map-set, All-set, IsWord, times, power, evaluate, words_of, Gf}
 use Rattle.wal_gf.proofs.Products.{times-xor_right, times-lt, times-zero, times_left_comm}
 use Rattle.wal_gf.proofs.Powers.{power-lt}
 use Rattle.wal_gf.proofs.Elements.{zero_element, number_at, length-words_of, element_word}
@@ -30,14 +30,11 @@ turn target other new i f x base within within' low low' is before =
     ∙ ap (λ (s : ℕ). bit_xor base s)
     (sym (times-xor_right f (evaluate (words_of (take i other)) x) (times (power x i) o)) ∙ ap (times f) (sym grown))
 
-start : (base f x : ℕ) → base ≡ bit_xor base (times f (evaluate (words_of (take 0 [])) x))
-unfolding evaluate
-start base f x = sym (ap (bit_xor base) (times-zero f) ∙ xor_zero_r base)
-
 pub loop-place-init : goal.loop-place-init
+unfolding evaluate
 loop-place-init c = record {
   words = c.requires.words;
-  value = λ x. start (evaluate (words_of c.args.target.now) x) c.args.factor.0 x;
+  value = λ x. sym (ap (bit_xor (evaluate (words_of c.args.target.now) x)) (times-zero c.args.factor.0) ∙ xor_zero_r _);
 }
 
 pub loop-place-preserved : goal.loop-place-preserved

@@ -1,8 +1,7 @@
-use Rattle.wal_journal.proofs.Common.{◌+◌, length, get_or, refl, ap, ◌∙◌, arith}
-use Rattle.wal_journal.proofs.Staged.{gate_behind, append_only, torn_only, either_way, accepts_more}
+use Rattle.wal_journal.proofs.Common.{refl, arith}
+use Rattle.wal_journal.proofs.Records.{gate_behind, append_only, torn_only, either_way, accepts_more}
 use Rattle.wal_journal.proofs.Moments.{weaker}
-use Rattle.wal_journal.proofs.HeldLaws.{journal_more}
-use Rattle.wal_journal.proofs.RoomLaws.{fits_more}
+use Rattle.wal_journal.proofs.HeldLaws.{journal_more, fits_more}
 use Rattle.wal_journal.proofs.finish.finish.Goals as goal
 
 pub invariant_of-result-clause-stands : goal.invariant_of-result-clause-stands
@@ -10,8 +9,7 @@ invariant_of-result-clause-stands g c = journal_more c.requires.taken c.in-Ok.en
 
 pub invariant_of-result-clause-within : goal.invariant_of-result-clause-within
 invariant_of-result-clause-within g c =
-    let only = append_only c.args.tail c.args.text.now _ _ c.requires.room c.in-Ok.ensures.written in
-    omega (arith, only.long, c.requires.room)
+    omega (arith, c.requires.room, (append_only c.args.tail _ _ _ c.requires.room c.in-Ok.ensures.written).long)
 
 pub returns-in-Ok-clause-written : goal.returns-in-Ok-clause-written
 returns-in-Ok-clause-written g c =
@@ -23,7 +21,7 @@ returns-in-Ok-clause-written g c =
       only = only;
       size = only.long;
       accepts = λ changes change is. accepts_more is _ now;
-      gate = λ front is. ap (λ b. get_or b (c.args.tail + length c.args.text.now) 0) now ∙ gate_behind c.args.tail c.args.text.now front _ c.requires.room is;
+      gate = λ front is. rw now (gate_behind c.args.tail c.args.text.now front _ c.requires.room is);
     }
 
 pub returns-in-Ok-clause-any_moment : goal.returns-in-Ok-clause-any_moment

@@ -1,4 +1,4 @@
-use Rattle.wal_journal.proofs.Common.{◌≡◌, [], take, refl, ◌∙◌, arith, append-nil, take_all, Takes, puts_of}
+use Rattle.wal_journal.proofs.Common.{◌≡◌, [], take, refl, ◌∙◌, arith, append-nil, take_all}
 use Rattle.wal_journal.proofs.Moments.{started, at_rest, holds_settled}
 use Rattle.wal_journal.proofs.PackLaws.{puts_at, puts_next, takes_kept, takes_both, packs_refused, front_none, front_run, keeps_both}
 use Rattle.wal_journal.proofs.packing.pack.Goals as goal
@@ -56,7 +56,5 @@ returns-clause-acknowledged g c = λ told changes accepts.
     let all : take c.loop-payload.payload-index c.as_slice-payload-items.result.now ≡ c.args.payloads.now =
     take_all c.loop-payload.payload-index c.as_slice-payload-items.result.now (omega (arith, c.loop-payload-test.false))
     ∙ c.as_slice-payload-items.ensures in
-    let takes : Takes g.D.Disk.now g.K.Keep.contents g.K.Keep.limit c.args.journal (puts_of g.H.Hash32.digest (g.K.Keep.contents c.args.journal.keep) c.args.payloads.now) c.loop-payload.journal =
-    rw (← all) c.loop-payload.invariant.takes in
     holds_settled g.D.Disk.clock g.D.Disk.since (g.met.D.Disk.only_now told) (c.loop-payload.journal.settled told)
-    (takes.accepts changes accepts)
+    (rw all at (c.loop-payload.invariant.takes.accepts changes accepts))

@@ -1,5 +1,4 @@
-use Rattle.wal_journal.proofs.Images.{sync_left}
-use Rattle.wal_journal.proofs.Moments.{started, goes_on, both_runs, weaker}
+use Rattle.wal_journal.proofs.Moments.{sync_left, started, goes_on, both_runs, weaker}
 use Rattle.wal_journal.proofs.reading.read_disk.Goals as goal
 
 pub returns-clause-any_moment : goal.returns-clause-any_moment

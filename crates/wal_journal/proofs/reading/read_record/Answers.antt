@@ -1,5 +1,5 @@
 use Rattle.wal_journal.proofs.Common.{rules, ◌+◌, refl, arith, length-drop}
-use Rattle.wal_journal.proofs.ReadLaws.{too_short, no_head, too_long}
+use Rattle.wal_journal.proofs.HeldLaws.{too_short, no_head, too_long}
 use Rattle.wal_journal.proofs.reading.read_record.Goals as goal
 
 pub returns-then-left-lt39-clause-steps : goal.returns-then-left-lt39-clause-steps

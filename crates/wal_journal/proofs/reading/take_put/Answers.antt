@@ -1,5 +1,5 @@
 use Rattle.wal_journal.proofs.Common.{rules, refl, ◌∙◌, arith}
-use Rattle.wal_journal.proofs.ReadLaws.{unlawful, put_step, put_full}
+use Rattle.wal_journal.proofs.HeldLaws.{unlawful, put_step, put_full}
 use Rattle.wal_journal.proofs.reading.take_put.Goals as goal
 
 pub returns-then-is_held-clause-steps : goal.returns-then-is_held-clause-steps

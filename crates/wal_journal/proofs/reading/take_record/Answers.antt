@@ -1,5 +1,5 @@
 use Rattle.wal_journal.proofs.Common.{rules}
-use Rattle.wal_journal.proofs.ReadLaws.{drop_part_step, drop_id_step}
+use Rattle.wal_journal.proofs.HeldLaws.{drop_part_step, drop_id_step}
 use Rattle.wal_journal.proofs.reading.take_record.Goals as goal
 
 pub returns-in-DropPart-clause-steps : goal.returns-in-DropPart-clause-steps

@@ -1,5 +1,5 @@
 use Rattle.wal_journal.proofs.Common.{arith}
-use Rattle.wal_journal.proofs.ReadLaws.{head_bytes}
+use Rattle.wal_journal.proofs.HeldLaws.{head_bytes}
 use Rattle.wal_journal.proofs.record.head_of.Goals as goal
 
 pub returns : goal.returns

@@ -1,7 +1,5 @@
 use Rattle.wal_journal.proofs.Common.{◌∙◌, on_err_weaker}
-use Rattle.wal_journal.proofs.Images.{put_agrees, write_left, sync_left}
-use Rattle.wal_journal.proofs.Moments.{goes_on}
-use Rattle.wal_journal.proofs.Writing.{write_run}
+use Rattle.wal_journal.proofs.Moments.{put_agrees, write_left, sync_left, goes_on, write_run}
 use Rattle.wal_journal.proofs.write.write_synced.Goals as goal
 
 pub returns-in_err-write_at-clause-any_moment : goal.returns-in_err-write_at-clause-any_moment

@@ -1,4 +1,4 @@
-use Rattle.wal_kernel.proofs.Common.{◌≡◌, ◌+◌, ◌*◌, ◌/◌, length, subst, arith, IsSumBelow, scaled_byte}
+use Rattle.wal_kernel.proofs.Common.{◌≡◌, ◌+◌, ◌*◌, ◌/◌, length, arith}
 use Rattle.wal_kernel.proofs.Sums.{none_added}
 use Rattle.wal_kernel.proofs.blocks.add_scaled_blocks.Goals as goal
 
@@ -13,6 +13,5 @@ loop-block-preserved c =
 pub returns-then-dst-gt0 : goal.returns-then-dst-gt0
 returns-then-dst-gt0 c =
     let blocks : c.loop-block.block ≡ length c.args.dst.now / 64 = omega arith in
-    let sum = subst (λ n. IsSumBelow (scaled_byte c.args.c.0 c.args.src.now) c.args.dst.now (64 * n) c.loop-block.dst) blocks c.loop-block.invariant in
-    subst (λ n. IsSumBelow (scaled_byte c.args.c.0 c.args.src.now) c.args.dst.now n c.add_scaled_rest.new.dst) c.loop-block.auto.dst
-    (c.add_scaled_rest.ensures c.args.c.0 c.args.dst.now c.tables_of-tables.ensures sum)
+    let sum = rw blocks at c.loop-block.invariant in
+    rw c.loop-block.auto.dst at (c.add_scaled_rest.ensures c.args.c.0 c.args.dst.now c.tables_of-tables.ensures sum)

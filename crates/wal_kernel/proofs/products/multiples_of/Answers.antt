@@ -4,11 +4,10 @@ use Rattle.wal_kernel.proofs.products.multiples_of.Goals as goal
 
 pub returns : goal.returns
 returns c =
-    let by_2 = c.doubled-by_2.ensures in
-    let by_4 = c.doubled-by_4.ensures ∙ ap (λ (w : ℕ). times w 2) by_2 in
+    let by_4 = c.doubled-by_4.ensures ∙ ap (λ (w : ℕ). times w 2) c.doubled-by_2.ensures in
     let by_8 = c.doubled.ensures ∙ ap (λ (w : ℕ). times w 2) by_4 in
     let bytes = two_bytes {word = c.args.c.0} (search rules) c.to_be_bytes.ensures refl in
-    let bytes_2 = two_bytes (omega arith) c.to_be_bytes-2.ensures by_2 in
+    let bytes_2 = two_bytes (omega arith) c.to_be_bytes-2.ensures c.doubled-by_2.ensures in
     let bytes_4 = two_bytes (omega arith) c.to_be_bytes-3.ensures by_4 in
     let bytes_8 = two_bytes (omega arith) c.to_be_bytes-4.ensures by_8 in
     record {

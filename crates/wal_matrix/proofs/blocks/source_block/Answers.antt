@@ -1,4 +1,4 @@
-use Rattle.wal_matrix.proofs.Common.{rules, ◌≡◌, ◌-◌, ◌*◌, length, vec_len, ◌∙◌, row_count, column_count, symbol_size}
+use Rattle.wal_matrix.proofs.Common.{rules, ◌≡◌, ◌*◌, length, vec_len, ◌∙◌, row_count, column_count, symbol_size}
 use Rattle.wal_matrix.proofs.PaddedLaws.{padded_is}
 use Rattle.wal_matrix.proofs.blocks.source_block.Goals as goal
 

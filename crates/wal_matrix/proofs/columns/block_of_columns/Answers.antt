@@ -1,6 +1,7 @@
 -- Row by row, and what the columns of the block then are.
-use Rattle.wal_matrix.proofs.Common.{rules, ◌≡◌, ◌*◌, ◌≤◌, length, vec_len, ap, ◌∙◌, arith, row_count}
-use Rattle.wal_matrix.proofs.ColumnLaws.{all_rows, block_column, block_long, block_rest, block_symbol, more_rows, rows_fit}
+use Rattle.wal_matrix.proofs.Common.{rules, ◌≡◌, ◌*◌, ◌≤◌, length, vec_len, ap, ◌∙◌, arith, row_count, block_of_columns, column_count, row_of_columns}
+use Rattle.wal_matrix.proofs.ColumnLaws.{block_column, block_long, block_rest, block_symbol, rows_fit}
+use Rattle.wal_matrix.proofs.Runs.{pieces_more}
 use Rattle.wal_matrix.proofs.columns.block_of_columns.Goals as goal
 
 pub add_row_of_columns-requires-clause-fits : goal.add_row_of_columns-requires-clause-fits
@@ -11,17 +12,17 @@ add_row_of_columns-requires-clause-fits c =
       arith,
       len,
       c.requires.fits,
-      rows_fit c.args.f c.args.size c.args.columns.now c.loop-row.block.items c.args.given c.loop-row.row c.requires.fewer room (omega arith) c.loop-row.invariant,
+      rows_fit c.args.f c.args.size c.args.columns.now c.args.given c.requires.fewer room c.loop-row.block.items c.loop-row.row (omega arith) c.loop-row.invariant,
     )
 
 pub loop-row-preserved : goal.loop-row-preserved
 loop-row-preserved c =
-    more_rows c.args.f c.args.size c.args.columns.now c.loop-row.block.items c.add_row_of_columns.new.block.items c.args.given c.loop-row.row
-    c.loop-row.invariant c.in_ok-add_row_of_columns.ensures
+    let row = row_of_columns (row_count c.args.f) (column_count c.args.f) c.args.size c.args.columns.now c.args.given in
+    cc (c.in_ok-add_row_of_columns.ensures, c.loop-row.invariant, pieces_more row c.loop-row.row)
 
 pub returns-clause-block : goal.returns-clause-block
-returns-clause-block c =
-    all_rows c.args.f c.args.size c.args.columns.now c.loop-row.block.items c.args.given c.loop-row.row (omega arith) c.loop-row.invariant
+unfolding block_of_columns
+returns-clause-block c = let all : c.loop-row.row ≡ row_count c.args.f = omega arith in cc (c.loop-row.invariant, all)
 
 pub returns-clause-long : goal.returns-clause-long
 returns-clause-long c =

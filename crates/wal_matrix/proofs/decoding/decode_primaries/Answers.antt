@@ -1,5 +1,5 @@
-use Rattle.wal_matrix.proofs.Common.{rules, ◌≡◌, ℕ, ◌*◌, List, arith, sym, ap₂, ◌∙◌, subst, column_count, symbol_size, symbol_size-least, IsMatrixThrough, source_of}
-use Rattle.wal_matrix.proofs.Decoded.{AreSlivers, AreSums, sums_source, sums_decoded, sums_by_sizes}
+use Rattle.wal_matrix.proofs.Common.{rules, ◌≡◌, ℕ, ◌*◌, arith, sym, ap₂, ◌∙◌, column_count, symbol_size, symbol_size-least, length}
+use Rattle.wal_matrix.proofs.Decoded.{AreSlivers, AreSums, sums_source, through_some}
 use Rattle.wal_matrix.proofs.decoding.decode_primaries.Goals as goal
 
 slivers_are : (c : goal.After-from_vec)
@@ -23,18 +23,19 @@ rows_are c =
     let f = c.args.shape.now.f in
     let s = symbol_size f c.args.shape.now.length in
     let size : c.cols.result * c.symbol_size.result ≡ column_count f * s = ap₂ (λ (x y : ℕ). x * y) c.cols.ensures.value c.symbol_size.ensures.value in
-    sums_by_sizes f s c.rows-rows.result _ c.args.indices.now c.args.joined.now c.in_ok-block.block.items c.rows-rows.ensures.value size
-    (search rules) c.in_ok-block.ensures.bytes c.in_ok-block.ensures.sums
-
-pub returns-clause-decoded : goal.returns-clause-decoded
-returns-clause-decoded c =
-    let f = c.args.shape.now.f in
-    let s = symbol_size f c.args.shape.now.length in
-    let P : List ℕ → Type 0 = λ block. (e : List ℕ) × IsMatrixThrough f s c.args.indices.now c.args.joined.now e × (block ≡ source_of f s e) in
-    subst P (sym c.from_vec.ensures) (sums_decoded f s c.args.indices.now c.args.joined.now c.in_ok-block.block.items (slivers_are c) (rows_are c))
+    let long : length c.in_ok-block.block.items ≡ c.rows-rows.result * (c.cols.result * c.symbol_size.result) = search rules in
+    record {
+      long = rw (c.rows-rows.ensures.value, size) at long;
+      bytes = c.in_ok-block.ensures.bytes;
+      sums = rw (c.rows-rows.ensures.value, size) at c.in_ok-block.ensures.sums;
+    }
 
 pub returns-clause-only : goal.returns-clause-only
 returns-clause-only c =
     let f = c.args.shape.now.f in
     let s = symbol_size f c.args.shape.now.length in
     λ e is. sym (sums_source f s c.args.indices.now c.args.joined.now c.in_ok-block.block.items (slivers_are c) (rows_are c) e is) ∙ sym c.from_vec.ensures
+
+pub returns-clause-decoded : goal.returns-clause-decoded
+returns-clause-decoded c =
+    let found = through_some _ _ _ _ (slivers_are c) in (found.0, found.1, sym (returns-clause-only c found.0 found.1))

@@ -1,5 +1,6 @@
 use Rattle.wal_matrix.proofs.Common.{◌≡◌, ◌+◌, ◌-◌, ◌<◌, ℕ, sym, ap, arith, ◌∙◌, shard_count, column_count, symbol}
-use Rattle.wal_matrix.proofs.FrontLaws.{put_source, source_place}
+use Rattle.wal_matrix.proofs.FrontLaws.{source_place}
+use Rattle.wal_matrix.proofs.RowLaws.{block_symbol}
 use Rattle.wal_matrix.proofs.Symbols.{symbol_is}
 use Rattle.wal_matrix.proofs.front.put_symbol.Goals as goal
 
@@ -11,9 +12,10 @@ put_bytes-requires c = record {
 pub returns-then-column-columns-clause-symbol : goal.returns-then-column-columns-clause-symbol
 returns-then-column-columns-clause-symbol c =
     λ e is.
-    put_source c.args.faults c.args.size c.args.bytes.now e c.put_bytes.new.out c.args.row c.args.column c.requires.size is c.requires.row
+    let own = block_symbol c.args.faults c.args.size c.args.bytes.now c.put_bytes.new.out c.args.row c.args.column c.requires.size c.requires.row
     c.if-column-columns.true (c.put_bytes.ensures.long ∙ c.requires.room)
-    (λ i h. c.put_bytes.ensures.bytes i (omega (arith, c.requires.room)))
+    (λ i h. c.put_bytes.ensures.bytes i (omega (arith, c.requires.room))) in
+    cc (own, c.requires.size, is.source c.args.row c.args.column c.requires.row c.if-column-columns.true)
 
 pub returns-else-column-columns-clause-symbol : goal.returns-else-column-columns-clause-symbol
 returns-else-column-columns-clause-symbol c =

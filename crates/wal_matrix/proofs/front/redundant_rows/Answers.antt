@@ -1,5 +1,5 @@
-use Rattle.wal_matrix.proofs.Common.{◌≡◌, ◌+◌, ◌*◌, ◌<◌, ℕ, List, length, drop, vec_len, ap, subst, sym, arith, ◌∙◌, shard_count, row_count, column_count, IsRowFrom}
-use Rattle.wal_matrix.proofs.FrontLaws.{KeptRows, kept_long, kept_more}
+use Rattle.wal_matrix.proofs.Common.{◌≡◌, ◌+◌, ◌*◌, ◌<◌, ℕ, List, length, drop, vec_len, ap, subst, sym, arith, ◌∙◌, shard_count, row_count, column_count, IsRowFrom, length-append, length-drop}
+use Rattle.wal_matrix.proofs.FrontLaws.{KeptRows, kept_more}
 use Rattle.wal_matrix.proofs.front.redundant_rows.Goals as goal
 
 pub loop-index-preserved : goal.loop-index-preserved
@@ -17,7 +17,7 @@ loop-index-preserved c =
     let from = subst (λ (ys : List ℕ). IsRowFrom (column_count f) (shard_count f) size c.args.bytes.now (index * (column_count f * size)) ys) whole c.in_ok-add_row.ensures.row in
     let is = c.in_ok-keep_row.ensures.kept in
     record {
-      long = ap length is ∙ kept_long f size index old row c.loop-index.invariant.long long;
+      long = ap length is ∙ simp (length-append, length-drop) (omega (arith, long, c.loop-index.invariant.long));
       kept = subst (KeptRows f size c.args.bytes.now (index + 1)) (sym is)
           (kept_more f size index c.args.bytes.now old row c.requires.few c.requires.even c.requires.size below c.loop-index.invariant.long
           (λ i. c.keep_row.ensures.bytes i) long from c.loop-index.invariant.kept);

@@ -1,4 +1,4 @@
-use Rattle.wal_matrix.proofs.Common.{rules, ◌≡◌, ℕ, ◌-◌, ◌*◌, List, length, take, vec_len, arith, subst, sym, ap, ◌∙◌, take_at, shard_count, row_count, symbol_size, IsMatrixOf, padded}
+use Rattle.wal_matrix.proofs.Common.{rules, ◌≡◌, ℕ, ◌*◌, List, length, take, vec_len, arith, subst, sym, ap, ◌∙◌, take_at, shard_count, row_count, symbol_size, IsMatrixOf, padded}
 use Rattle.wal_matrix.proofs.Places.{even_product}
 use Rattle.wal_matrix.proofs.RowLaws.{extended_in_place}
 use Rattle.wal_matrix.proofs.rows.extended_rows.Goals as goal

@@ -1,4 +1,4 @@
-use Rattle.wal_matrix.proofs.Common.{rules, ◌-◌, min, vec_len}
+use Rattle.wal_matrix.proofs.Common.{rules, vec_len}
 use Rattle.wal_matrix.proofs.RowLaws.{laid_after}
 use Rattle.wal_matrix.proofs.rows.lay_row.Goals as goal
 

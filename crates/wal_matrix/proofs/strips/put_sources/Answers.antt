@@ -1,6 +1,7 @@
-use Rattle.wal_matrix.proofs.Common.{rules, ◌≡◌, ◌+◌, ◌*◌, ◌<◌, ◌≤◌, length, arith, ◌∙◌, column_count}
+use Rattle.wal_matrix.proofs.Common.{rules, ◌≡◌, ◌+◌, ◌*◌, ◌<◌, ◌≤◌, length, arith, ◌∙◌, column_count, drop, length-take, ◌-◌}
 use Rattle.wal_matrix.proofs.Places.{run_fits}
-use Rattle.wal_matrix.proofs.StripLaws.{sources_more, strip_place, part_most, part_long}
+use Rattle.wal_matrix.proofs.FrontLaws.{source_place}
+use Rattle.wal_matrix.proofs.StripLaws.{sources_more, part_long}
 use Rattle.wal_matrix.proofs.strips.put_sources.Goals as goal
 
 pub put_bytes-requires : goal.put_bytes-requires
@@ -10,9 +11,10 @@ put_bytes-requires c =
     record {
       place = omega (
         arith,
-        strip_place c.args.faults c.args.size c.args.row column c.args.from c.args.long c.requires.row below c.requires.within,
+        source_place c.args.faults c.args.size c.args.row column c.requires.row below,
+        c.requires.within,
         c.requires.fits,
-        part_most column c.args.long c.loop-column.cells,
+        length-take ((column + 1) * c.args.long - column * c.args.long) (drop (column * c.args.long) c.loop-column.cells),
       );
     }
 

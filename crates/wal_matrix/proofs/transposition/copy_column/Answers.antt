@@ -1,10 +1,12 @@
-use Rattle.wal_matrix.proofs.Common.{rules, ◌<◌, ◌^◌, length, arith, sym, ap, ◌∙◌}
+use Rattle.wal_matrix.proofs.Common.{rules, ◌<◌, ◌^◌, length, arith, sym, ap, ◌∙◌, column_part, take, take_all, ◌*◌, ◌+◌, ◌≡◌, ℕ}
 use Rattle.wal_matrix.proofs.Places.{place_fits, number_fits, run_fits}
-use Rattle.wal_matrix.proofs.Symbols.{symbol_is, copied_more, column_none, column_all}
+use Rattle.wal_matrix.proofs.Symbols.{symbol_is, column_more}
+use Rattle.std.proofs.lemmas.Slice.{take-put_mid}
 use Rattle.wal_matrix.proofs.transposition.copy_column.Goals as goal
 
 pub loop-row-init : goal.loop-row-init
-loop-row-init c = column_none c.args.columns c.args.size c.args.from.now c.args.column c.args.into.now
+unfolding column_part
+loop-row-init c = let none : 0 * c.args.size ≡ 0 = omega arith in ap (λ (k : ℕ). take k c.args.into.now) none
 
 pub overflow_mul-row : goal.overflow_mul-row
 overflow_mul-row c =
@@ -23,10 +25,12 @@ pub loop-row-preserved : goal.loop-row-preserved
 loop-row-preserved c =
     let room = run_fits c.loop-row.row c.args.rows c.args.size (omega arith) in
     let own = c.copy_from_slice.ensures.after ∙ c.region-symbol.ensures.run ∙ sym (symbol_is c.args.columns c.args.size c.args.from.now c.loop-row.row c.args.column) in
-    copied_more c.args.columns c.args.size c.args.from.now c.loop-row.into c.loop-row.row c.args.column _ c.copy_from_slice.new.self
-    (omega arith) (ap length c.copy_from_slice.ensures.after ∙ c.region-symbol.ensures.long) c.loop-row.invariant own
+    let long : length c.copy_from_slice.new.self ≡ c.args.size = ap length c.copy_from_slice.ensures.after ∙ c.region-symbol.ensures.long in
+    take-put_mid (c.loop-row.row * c.args.size) _ c.loop-row.into c.copy_from_slice.new.self ((c.loop-row.row + 1) * c.args.size)
+    (omega arith) (omega arith)
+    ∙ cc (column_more c.args.columns c.args.size c.args.from.now c.loop-row.row c.args.column, c.loop-row.invariant, own)
 
 pub returns : goal.returns
 returns c =
-    column_all c.args.columns c.args.size c.args.from.now c.args.rows c.loop-row.row c.args.column c.loop-row.into
-    (omega arith) (omega arith) c.loop-row.invariant
+    let all : c.loop-row.row ≡ c.args.rows = omega arith in
+    cc (take_all (c.loop-row.row * c.args.size) c.loop-row.into (rw all (omega arith)), c.loop-row.invariant, all)

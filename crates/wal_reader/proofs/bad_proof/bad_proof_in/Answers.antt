@@ -10,8 +10,7 @@ returns-in-Some-clause-first g c =
 
 pub returns-clause-none : goal.returns-clause-none
 returns-clause-none g c =
-    let all = rw (take_all _ _ c.loop-payload-test.false) at c.loop-payload.invariant.none in
-    rw c.as_slice-payload-items.ensures at all
+    rw (take_all _ _ c.loop-payload-test.false, c.as_slice-payload-items.ensures) at c.loop-payload.invariant.none
 
 pub loop-payload-preserved : goal.loop-payload-preserved
 loop-payload-preserved g c = record {

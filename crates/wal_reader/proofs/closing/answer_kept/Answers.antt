@@ -3,8 +3,7 @@ use Rattle.wal_reader.proofs.closing.answer_kept.Goals as goal
 
 pub returns-in-Waiting : goal.returns-in-Waiting
 returns-in-Waiting g c = λ id payloads was.
-    let here = rw c.in-Waiting.is at was in
-    absent g.H.Hash32.digest id payloads c.without_evidence.result here.0 c.without_evidence.ensures
+    absent g.H.Hash32.digest id payloads _ (rw c.in-Waiting.is at was).0 c.without_evidence.ensures
 
 pub answer_one-requires : goal.answer_one-requires
 answer_one-requires g c = (c.requires.0, c.requires.1, rw c.in-One.is at c.requires.2)

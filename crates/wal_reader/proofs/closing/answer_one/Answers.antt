@@ -1,4 +1,4 @@
-use Rattle.wal_reader.proofs.Common.{◌≡◌, ◌+◌, ◌<◌, ◌≤◌, length, refl, ap, arith, row_count, BlobMetadata}
+use Rattle.wal_reader.proofs.Common.{◌+◌, ◌<◌, length, refl, arith, row_count, ◌≡◌}
 use Rattle.wal_reader.proofs.Answered.{refuted, settled, short}
 use Rattle.wal_reader.proofs.Collections.{collects_counted, held_as}
 use Rattle.wal_reader.proofs.closing.answer_one.Goals as goal
@@ -6,48 +6,35 @@ use Rattle.wal_reader.proofs.closing.answer_one.Goals as goal
 pub overflow_cast-have : goal.overflow_cast-have
 overflow_cast-have g c =
     let k = c.args.known in
-    let was = c.requires.2 in
-    let few = collects_counted g.H.Hash32.digest c.requires.0 k.metadata c.requires.1 k.collected.indices.items k.collected.joined.items was.0 was.1.slivers in
-    let long = c.len-have.ensures in
-    omega arith
+    let few = collects_counted g.H.Hash32.digest c.requires.0 k.metadata c.requires.1 k.collected.indices.items
+    k.collected.joined.items c.requires.2.0 c.requires.2.1.slivers in
+    omega (arith, few, c.len-have.ensures)
 
 pub from_slivers-requires-clause-held : goal.from_slivers-requires-clause-held
 from_slivers-requires-clause-held g c =
     let k = c.args.known in
-    let is = k.collected.indices.items in
-    let js = k.collected.joined.items in
-    let f = ap (λ (m : BlobMetadata). m.f) c.view.ensures.value in
-    let enough : row_count k.metadata.f ≤ length is =
-    omega (arith, f, c.f-need.ensures.value, c.if-need-have.true, c.len-have.ensures) in
-    held_as g.H.Hash32.digest c.requires.0 k.metadata c.requires.1 is js k.metadata is js c.requires.2.1.slivers enough
-    refl refl refl
+    let need = rw c.view.ensures.value at c.f-need.ensures.value in
+    held_as g.H.Hash32.digest c.requires.0 k.metadata c.requires.1 k.collected.indices.items k.collected.joined.items
+    _ _ _ c.requires.2.1.slivers (omega (arith, need, c.if-need-have.true, c.len-have.ensures)) refl refl refl
 
 pub returns-then-need-have : goal.returns-then-need-have
 returns-then-need-have g c = λ id payloads was.
     let k = c.args.known in
-    let is = k.collected.indices.items in
-    let js = k.collected.joined.items in
-    let f = ap (λ (m : BlobMetadata). m.f) c.view.ensures.value in
-    let enough : row_count k.metadata.f ≤ length is =
-    omega (arith, f, c.f-need.ensures.value, c.if-need-have.true, c.len-have.ensures) in
-    settled g.H.Hash32.digest id k.metadata payloads is js k.metadata is js c.from_slivers.result was.0 was.1.slivers
-    enough refl refl refl c.from_slivers.ensures
+    settled g.H.Hash32.digest id k.metadata payloads k.collected.indices.items k.collected.joined.items k.metadata
+    k.collected.indices.items k.collected.joined.items c.from_slivers.result was.0 was.1.slivers
+    (omega (arith, rw c.view.ensures.value at c.f-need.ensures.value, c.if-need-have.true, c.len-have.ensures))
+    refl refl refl c.from_slivers.ensures
 
 pub from_proof-requires-clause-held : goal.from_proof-requires-clause-held
 from_proof-requires-clause-held g c =
-    let k = c.args.known in
-    let f = ap (λ (m : BlobMetadata). m.f) c.view.ensures.value in
-    let less : length k.collected.indices.items < row_count k.metadata.f =
-    omega (arith, f, c.f-need.ensures.value, c.if-need-have.false, c.len-have.ensures) in
-    let first = rw c.in-Some.is at (c.requires.2.1.proof less) in
-    first.4.1
+    let need = rw c.view.ensures.value at c.f-need.ensures.value in
+    (rw c.in-Some.is at (c.requires.2.1.proof (omega (arith, need, c.if-need-have.false, c.len-have.ensures)))).4.1
 
 pub returns-in-Some : goal.returns-in-Some
 returns-in-Some g c = λ id payloads was.
     let k = c.args.known in
-    let f = ap (λ (m : BlobMetadata). m.f) c.view.ensures.value in
     let less : length k.collected.indices.items < row_count k.metadata.f =
-    omega (arith, f, c.f-need.ensures.value, c.if-need-have.false, c.len-have.ensures) in
+    omega (arith, rw c.view.ensures.value at c.f-need.ensures.value, c.if-need-have.false, c.len-have.ensures) in
     refuted g.H.Hash32.digest id k.metadata payloads (length k.collected.indices.items) c.in-Some.p k.metadata
     c.in-Some.p c.from_proof.result was.0
     (k.collected.indices.items, k.collected.joined.items, was.1.slivers, refl, less)
@@ -56,10 +43,10 @@ returns-in-Some g c = λ id payloads was.
 pub returns-in-None : goal.returns-in-None
 returns-in-None g c = λ id payloads was.
     let k = c.args.known in
-    let f = ap (λ (m : BlobMetadata). m.f) c.view.ensures.value in
+    let need = rw c.view.ensures.value at c.f-need.ensures.value in
     let less : length k.collected.indices.items < row_count k.metadata.f =
-    omega (arith, f, c.f-need.ensures.value, c.if-need-have.false, c.len-have.ensures) in
+    omega (arith, need, c.if-need-have.false, c.len-have.ensures) in
     let have : c.len-have.result ≡ length k.collected.indices.items = omega (arith, c.len-have.ensures) in
     short g.H.Hash32.digest id k.metadata payloads c.len-have.result (c.f-need.result + 1) c.without_evidence.result
     was.0 (k.collected.indices.items, k.collected.joined.items, was.1.slivers, have, omega (arith, less, have))
-    (omega (arith, f, c.f-need.ensures.value)) (rw c.in-None.is at (was.1.proof less)) c.without_evidence.ensures
+    (omega (arith, need)) (rw c.in-None.is at (was.1.proof less)) c.without_evidence.ensures

@@ -20,7 +20,7 @@ returns-else-is_wanted-clause-added g c = λ payloads was.
 
 pub returns-in_default-clause-added : goal.returns-in_default-clause-added
 returns-in_default-clause-added g c = λ payloads was.
-    let m = metadata_shown c.args.m in
     let old = c.args.collected.now in
-    collects_passed g.H.Hash32.digest c.args.id.now.0 m payloads c.args.payload.now old.indices.items old.joined.items
+    collects_passed g.H.Hash32.digest c.args.id.now.0 (metadata_shown c.args.m) payloads c.args.payload.now
+    old.indices.items old.joined.items
     (λ index bytes short carries. absurd (c.in_default.ensures.none index bytes carries.0)) was

@@ -1,4 +1,4 @@
-use Rattle.wal_reader.proofs.Common.{◌≤◌, length, take, drop, ◌∙◌, arith, take-append-drop, row_count, metadata_shown}
+use Rattle.wal_reader.proofs.Common.{take, drop, ◌∙◌, arith, take-append-drop, metadata_shown}
 use Rattle.wal_reader.proofs.Collections.{collects_full, collects_none}
 use Rattle.wal_reader.proofs.Gathering.{front_more}
 use Rattle.wal_reader.proofs.collecting.collect.Goals as goal
@@ -13,21 +13,16 @@ loop-payload-init g c = record {
 pub returns-then-len-need-clause-collects : goal.returns-then-len-need-clause-collects
 returns-then-len-need-clause-collects g c =
     let i = c.loop-payload.payload-index in
-    let payloads = c.args.payloads.now in
     let now = c.loop-payload.collected in
-    let enough : row_count (metadata_shown c.args.m).f ≤ length now.indices.items =
-    omega (arith, c.if-len-need.true, c.len.ensures, c.f.ensures.value) in
-    rw take-append-drop at (collects_full g.H.Hash32.digest c.args.id.now.0 (metadata_shown c.args.m) (take i payloads)
-    (drop i payloads) now.indices.items now.joined.items enough c.loop-payload.invariant.collects)
+    rw take-append-drop at (collects_full g.H.Hash32.digest c.args.id.now.0 (metadata_shown c.args.m)
+    (take i c.args.payloads.now) (drop i c.args.payloads.now) now.indices.items now.joined.items
+    (omega (arith, c.if-len-need.true, c.len.ensures, c.f.ensures.value)) c.loop-payload.invariant.collects)
 
 pub loop-payload-preserved : goal.loop-payload-preserved
 loop-payload-preserved g c =
-    let payloads = c.args.payloads.now in
-    let i = c.loop-payload.payload-index in
-    let new = c.add_sliver.new.collected in
-    let more = front_more payloads i c.as_slice.result.now c.loop-payload-test.true
-    (cc (c.as_slice.ensures, c.payload-item.is)) in
+    let more =
+    front_more _ _ c.as_slice.result.now c.loop-payload-test.true (cc (c.as_slice.ensures, c.payload-item.is)) in
     record {
-      collects = rw more (c.in_ok-add_sliver.ensures.added (take i payloads) c.loop-payload.invariant.collects);
+      collects = rw more (c.in_ok-add_sliver.ensures.added _ c.loop-payload.invariant.collects);
       f = c.add_sliver.ensures.f ∙ c.loop-payload.invariant.f;
     }

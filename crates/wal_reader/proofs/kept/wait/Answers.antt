@@ -1,4 +1,4 @@
-use Rattle.wal_reader.proofs.Common.{◌≡◌, ◌++◌, ◌∷◌, [], List, ℕ, sym, ap, ◌∙◌, append-nil, false≢true, kept, dropped, none}
+use Rattle.wal_reader.proofs.Common.{◌∷◌, [], sym, ◌∙◌, append-nil, false≢true, kept, dropped, none}
 use Rattle.wal_reader.proofs.SiftLaws.{sift_both}
 use Rattle.wal_reader.proofs.kept.wait.Goals as goal
 
@@ -9,9 +9,7 @@ returns-then-carries_no_part c = λ payloads was.
 
 pub returns : goal.returns
 returns c = λ payloads was.
-    let id = c.args.id.now.0 in
     let payload = c.args.payload.now in
-    let items : c.push.new.self.items ≡ c.args.parts.items ++ payload ∷ [] =
-    c.in_ok-push.ensures.items ∙ ap (λ (p : List ℕ). c.args.parts.items ++ p ∷ []) (c.from_vec.ensures ∙ c.in_ok-from_slice.ensures.items) in
-    rw items (sift_both id c.args.parts.items payloads (payload ∷ []) (payload ∷ []) was
+    rw (c.in_ok-push.ensures.items, c.from_vec.ensures, c.in_ok-from_slice.ensures.items)
+    (sift_both c.args.id.now.0 c.args.parts.items payloads (payload ∷ []) (payload ∷ []) was
     (kept payload [] [] (λ idle. false≢true (sym c.if-carries_no_part.false ∙ c.carries_no_part.ensures.1 idle)) none))

@@ -15,9 +15,8 @@ pub loop-part-preserved : goal.loop-part-preserved
 loop-part-preserved g c =
     let parts = c.args.parts.now in
     let i = c.loop-part.part-index in
-    let first = drop_more parts i c.as_slice.result.now c.loop-part-test.true in
     let left : drop i parts ≡ c.as_slice.result.now ∷ drop (i + 1) parts =
-    cc (first, c.as_slice.ensures, c.part-item.is) in
+    cc (drop_more parts i c.as_slice.result.now c.loop-part-test.true, c.as_slice.ensures, c.part-item.is) in
     record {
       metadata = c.take_part.ensures.metadata ∙ c.loop-part.invariant.metadata;
       f = c.take_part.ensures.f;
@@ -29,6 +28,5 @@ loop-part-preserved g c =
 
 pub returns-clause-parts : goal.returns-clause-parts
 returns-clause-parts g c = λ payloads sifts.
-    let none = drop_all c.loop-part.part-index c.args.parts.now c.loop-part-test.false in
     reaches_all g.H.Hash32.digest c.args.id.now.0 c.loop-part.known payloads
-    (rw none at (c.loop-part.invariant.parts payloads sifts))
+    (rw (drop_all _ _ c.loop-part-test.false) at (c.loop-part.invariant.parts payloads sifts))

@@ -1,4 +1,4 @@
-use Rattle.wal_reader.proofs.Common.{◌≡◌, ◌<◌, length, ap, ◌∙◌, arith, BlobMetadata, longest_part}
+use Rattle.wal_reader.proofs.Common.{arith}
 use Rattle.wal_reader.proofs.LongestLaws.{past_enough, past_known}
 use Rattle.wal_reader.proofs.longest.longest_beside.Goals as goal
 
@@ -8,8 +8,5 @@ returns-then-has_enough-clause-past c = λ digest id payloads payload was fit lo
 
 pub returns-clause-past : goal.returns-clause-past
 returns-clause-past c = λ digest id payloads payload was fit long.
-    let part : c.longest_part.result ≡ longest_part c.args.known.now.metadata =
-    c.longest_part.ensures ∙ ap (λ (m : BlobMetadata). longest_part m) c.view.ensures.value in
-    let one : 64012 < length payload = omega (arith, c.max.ensures, long) in
-    let other : c.longest_part.result < length payload = omega (arith, c.max.ensures, long) in
-    past_known digest id c.args.known.now payloads payload was fit one (omega (arith, part, other))
+    past_known digest id c.args.known.now payloads payload was fit (omega (arith, c.max.ensures, long))
+    (omega (arith, rw c.view.ensures.value at c.longest_part.ensures, c.max.ensures, long))

@@ -1,9 +1,7 @@
-use Rattle.wal_reader.proofs.Common.{ℕ, List, ap, ◌∙◌, take_all, openings_in}
+use Rattle.wal_reader.proofs.Common.{take_all}
 use Rattle.wal_reader.proofs.openings.openings_in.Goals as goal
 
 pub returns : goal.returns
 returns c =
-    c.from_vec.ensures
-    ∙ c.loop-payload.invariant
-    ∙ ap (λ (ps : List (List ℕ)). openings_in c.args.id.now.0 c.args.axis c.args.index ps)
-    (take_all c.loop-payload.payload-index c.as_slice-payload-items.result.now c.loop-payload-test.false ∙ c.as_slice-payload-items.ensures)
+    rw (c.from_vec.ensures, c.loop-payload.invariant, take_all _ _ c.loop-payload-test.false)
+    (rw c.as_slice-payload-items.ensures)

@@ -1,4 +1,4 @@
-use Rattle.wal_reader.proofs.Common.{◌≡◌, ◌+◌, arith, row_count, metadata_shown, proof_shown}
+use Rattle.wal_reader.proofs.Common.{◌+◌, arith, metadata_shown, proof_shown}
 use Rattle.wal_reader.proofs.Answered.{refuted, short}
 use Rattle.wal_reader.proofs.reading.unsettled.Goals as goal
 
@@ -11,7 +11,6 @@ returns-in_ok-metadata-in-Some g c =
 
 pub returns-in-None : goal.returns-in-None
 returns-in-None g c =
-    let m = metadata_shown c.args.m in
-    let need : c.f-need.result + 1 ≡ row_count m.f = omega (arith, c.f-need.ensures.value) in
-    short g.H.Hash32.digest c.args.id.now.0 m c.args.payloads.now c.args.have (c.f-need.result + 1) c.without_evidence.result c.requires.metadata c.requires.few
-    need c.in-None.ensures.none c.without_evidence.ensures
+    short g.H.Hash32.digest c.args.id.now.0 (metadata_shown c.args.m) c.args.payloads.now c.args.have
+    (c.f-need.result + 1) c.without_evidence.result c.requires.metadata c.requires.few
+    (omega (arith, c.f-need.ensures.value)) c.in-None.ensures.none c.without_evidence.ensures

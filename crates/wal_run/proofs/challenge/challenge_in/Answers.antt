@@ -1,4 +1,4 @@
-use Rattle.wal_run.proofs.Common.{refl, metadata_shown, challenging, recorded, performed}
+use Rattle.wal_run.proofs.Common.{metadata_shown, challenging, recorded, performed}
 use Rattle.wal_run.proofs.Challenges.{answered_so}
 use Rattle.wal_run.proofs.Says.{performs_refused, unrecorded}
 use Rattle.wal_run.proofs.challenge.challenge_in.Goals as goal
@@ -11,4 +11,4 @@ pub returns-in-Err-clause-does : goal.returns-in-Err-clause-does
 returns-in-Err-clause-does g c = λ input is.
     let a = c.args.audit.now in
     performed _ (performs_refused _ _
-    (unrecorded g.H.Hash32.digest a.id (challenging g.H.Hash32.digest a) input _ refl (c.in-Err.ensures.refusal input is)) c.refuse.ensures.performs)
+    (unrecorded g.H.Hash32.digest (challenging g.H.Hash32.digest a) input _ (c.in-Err.ensures.refusal input is)) c.refuse.ensures.performs)

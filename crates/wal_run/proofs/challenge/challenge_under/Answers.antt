@@ -1,19 +1,15 @@
 use Rattle.wal_run.proofs.Common.{metadata_shown, recorded, performed}
-use Rattle.wal_run.proofs.Challenges.{answered_as, own_held}
+use Rattle.wal_run.proofs.Challenges.{answered_as}
 use Rattle.wal_run.proofs.Says.{performs_refused}
 use Rattle.wal_run.proofs.challenge.challenge_under.Goals as goal
 
-pub put_answers-requires-clause-shard : goal.put_answers-requires-clause-shard
-put_answers-requires-clause-shard g c = c.in-Ok.ensures.ready.shard
-
-pub put_answers-requires-clause-words : goal.put_answers-requires-clause-words
-put_answers-requires-clause-words g c =
-    let ready = c.in-Ok.ensures.ready in
-    let r = recorded c.args.payloads.now (metadata_shown c.args.m) in
-    (ready.primary, ready.secondary, own_held g.H.Hash32.digest c.args.audit.now r ready.primary ready.secondary ready.primary_own ready.secondary_own, ready.words_of)
-
-pub put_answers-requires-clause-room : goal.put_answers-requires-clause-room
-put_answers-requires-clause-room g c = c.in-Ok.ensures.ready.room
+pub put_answers-requires : goal.put_answers-requires
+put_answers-requires g c =
+    let ready = c.in-Ok.ensures.ready in record {
+      shard = ready.shard;
+      words = (ready.primary, ready.secondary, record { primary_held = ready.primary_own.4.1; secondary_held = ready.secondary_own.4.1 }, ready.words_of);
+      room = ready.room;
+    }
 
 pub returns-in-Ok-clause-does : goal.returns-in-Ok-clause-does
 returns-in-Ok-clause-does g c =

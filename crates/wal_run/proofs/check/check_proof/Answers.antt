@@ -1,4 +1,4 @@
-use Rattle.wal_run.proofs.Common.{refl, metadata_shown, recorded, checking}
+use Rattle.wal_run.proofs.Common.{metadata_shown, recorded, checking}
 use Rattle.wal_run.proofs.Says.{broken, passed, says_told, unrecorded}
 use Rattle.wal_run.proofs.check.check_proof.Goals as goal
 
@@ -9,7 +9,7 @@ returns-in_err-payloads g c =
 pub returns-in_err-m : goal.returns-in_err-m
 returns-in_err-m g c =
     passed _ _ _ c.from_residual-in_err-m.ensures.1
-    (unrecorded g.H.Hash32.digest c.args.id.now (checking g.H.Hash32.digest c.args.id.now) c.args.stream.now _ refl (c.in_err-m.ensures.refusal c.args.stream.now c.in_ok-payloads.ensures.payloads))
+    (unrecorded g.H.Hash32.digest (checking g.H.Hash32.digest c.args.id.now) c.args.stream.now _ (c.in_err-m.ensures.refusal c.args.stream.now c.in_ok-payloads.ensures.payloads))
 
 pub returns : goal.returns
 returns g c =

@@ -1,17 +1,22 @@
-use Rattle.wal_run.proofs.Common.{refl, written, cut, finished, out_of_memory, Keeps-refl}
-use Rattle.wal_run.proofs.Blobs.{metadata_over-f, metadata_over-format, encoded_is, matrix_long}
+use Rattle.wal_run.proofs.Common.{◌≡◌, length, refl, metadata_over, written, cut, finished, out_of_memory, Keeps-refl}
+use Rattle.wal_run.proofs.Blobs.{encoded_is}
 use Rattle.wal_run.proofs.encode.encode.Goals as goal
 
 pub put_parcel-requires-clause-faults : goal.put_parcel-requires-clause-faults
-put_parcel-requires-clause-faults g c =
-    rw (c.in-Ok.ensures.metadata, c.in-Ok.ensures.shape) (metadata_over-f g.H.Hash32.digest c.shape_of-shape.result c.in-Ok.parcel.encoded.cells)
+unfolding metadata_over
+put_parcel-requires-clause-faults g c = rw (c.in-Ok.ensures.metadata, c.in-Ok.ensures.shape) refl
 
 pub put_parcel-requires-clause-format : goal.put_parcel-requires-clause-format
-put_parcel-requires-clause-format g c =
-    rw (c.in-Ok.ensures.metadata, c.in-Ok.ensures.shape) (metadata_over-format g.H.Hash32.digest c.shape_of-shape.result c.in-Ok.parcel.encoded.cells)
+unfolding metadata_over
+put_parcel-requires-clause-format g c = rw (c.in-Ok.ensures.metadata, c.in-Ok.ensures.shape) refl
 
 pub put_parcel-requires-clause-fit : goal.put_parcel-requires-clause-fit
 put_parcel-requires-clause-fit g c = rw (c.in-Ok.ensures.shape, c.shape_of-shape.ensures) (c.requires.least, c.requires.most, c.requires.small)
+
+pub put_parcel-requires-clause-whole : goal.put_parcel-requires-clause-whole
+put_parcel-requires-clause-whole g c =
+    let long : length c.args.blob.now ≡ c.shape_of-shape.result.length = rw c.shape_of-shape.ensures refl in
+    rw (c.in-Ok.ensures.shape, ← long) c.in-Ok.ensures.matrix.coded.size
 
 pub returns-in-Ok-put_parcel-clause-performs : goal.returns-in-Ok-put_parcel-clause-performs
 returns-in-Ok-put_parcel-clause-performs g c =
@@ -26,6 +31,3 @@ returns-in-Ok-clause-performs g c =
 
 pub returns-clause-performs : goal.returns-clause-performs
 returns-clause-performs g c = out_of_memory (Keeps-refl _)
-
-pub put_parcel-requires-clause-whole : goal.put_parcel-requires-clause-whole
-put_parcel-requires-clause-whole g c = matrix_long _ _ _ _ (rw c.shape_of-shape.ensures refl) c.in-Ok.ensures.shape c.in-Ok.ensures.matrix

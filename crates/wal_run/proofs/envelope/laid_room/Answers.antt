@@ -1,5 +1,5 @@
-use Rattle.wal_run.proofs.Common.{◌≤◌, ◌<◌, arith, ◌∙◌, row_count, symbol_size}
-use Rattle.wal_run.proofs.ShardTexts.{laid_short, laid_long}
+use Rattle.wal_run.proofs.Common.{◌≡◌, ◌*◌, ℕ, min, ap₂, ◌<◌, arith, ◌∙◌, row_count, symbol_size}
+use Rattle.wal_run.proofs.ShardTexts.{laid_short}
 use Rattle.wal_run.proofs.envelope.laid_room.Goals as goal
 
 pub returns-then-symbol_size-lt-LONG-clause-value : goal.returns-then-symbol_size-lt-LONG-clause-value
@@ -11,5 +11,5 @@ returns-then-symbol_size-lt-LONG-clause-value c =
 pub returns-clause-value : goal.returns-clause-value
 returns-clause-value c =
     let shape = c.args.shape.now in
-    let long : 8192 ≤ symbol_size shape.f shape.length = omega (arith, c.if-symbol_size-lt-LONG.false, c.symbol_size.ensures.value) in
-    laid_long (row_count shape.f) c.rows.result (symbol_size shape.f shape.length) long c.rows.ensures.value
+    let long : 8192 ≡ min (symbol_size shape.f shape.length) 8192 = omega (arith, c.if-symbol_size-lt-LONG.false, c.symbol_size.ensures.value) in
+    ap₂ (λ (k s : ℕ). k * s) c.rows.ensures.value long

@@ -15,17 +15,15 @@ pub returns-in-Err-put_answer-clause-does : goal.returns-in-Err-put_answer-claus
 returns-in-Err-put_answer-clause-does g c = λ capacity empty payloads is.
     let so = c.loop-asked.invariant.so capacity empty payloads is in
     let next = c.in-Some.ensures.some so.later so.stream in
-    let got = c.in-Ok.ensures next.replies next.sent in
-    rw c.status_of.ensures (ends_piece _ _ _ _ _ _ _ so _ next _ _ got.0 _ _ _ (rose_since _ _ _ c.loop-asked.invariant.later) c.in-Err-put_answer.error
+    rw c.status_of.ensures (ends_piece _ _ _ _ _ _ _ so _ next _ _ (c.in-Ok.ensures next.replies next.sent).0 _ _ _ (rose_since _ _ _ c.loop-asked.invariant.later) c.in-Err-put_answer.error
     c.in-Err-put_answer.ensures.puts)
 
 pub returns-then-is_clash-clause-does : goal.returns-then-is_clash-clause-does
 returns-then-is_clash-clause-does g c = λ capacity empty payloads is.
     let so = c.loop-asked.invariant.so capacity empty payloads is in
     let next = c.in-Some.ensures.some so.later so.stream in
-    let got = c.in-Ok.ensures next.replies next.sent in
     let put = c.in_default-put_answer.ensures.puts in
-    stops _ _ _ _ _ _ _ so _ next _ _ got.0 _ _ put.0 (rw c.is_clash.ensures at c.if-is_clash.true) put.1 put.2
+    stops _ _ _ _ _ _ _ so _ next _ _ (c.in-Ok.ensures next.replies next.sent).0 _ _ put.0 (rw c.is_clash.ensures at c.if-is_clash.true) put.1 put.2
 
 pub returns-in-Err-clause-does : goal.returns-in-Err-clause-does
 returns-in-Err-clause-does g c = λ capacity empty payloads is.
@@ -44,8 +42,7 @@ loop-asked-preserved g c =
       so = λ capacity empty payloads is.
           let so = c.loop-asked.invariant.so capacity empty payloads is in
           let next = c.in-Some.ensures.some so.later so.stream in
-          let got = c.in-Ok.ensures next.replies next.sent in
-          fetched_more _ _ _ _ _ _ _ so _ next _ _ got.0 _ put.0 (rw c.is_clash.ensures at c.if-is_clash.false) put.1 put.2;
+          fetched_more _ _ _ _ _ _ _ so _ next _ _ (c.in-Ok.ensures next.replies next.sent).0 _ put.0 (rw c.is_clash.ensures at c.if-is_clash.false) put.1 put.2;
     }
 
 pub returns-clause-does : goal.returns-clause-does

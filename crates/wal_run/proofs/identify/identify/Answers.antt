@@ -1,5 +1,4 @@
-use Rattle.wal_run.proofs.Common.{◌∙◌}
-use Rattle.wal_run.proofs.Blobs.{identified_is}
+use Rattle.wal_run.proofs.Common.{◌∙◌, refl, success}
 use Rattle.wal_run.proofs.Says.{no_memory}
 use Rattle.wal_run.proofs.identify.identify.Goals as goal
 
@@ -11,5 +10,5 @@ returns-in_err-line g c = no_memory _ _ c.from_residual-in_err-line.ensures.1
 
 pub returns : goal.returns
 returns g c =
-    identified_is g.H.Hash32.digest c.args.faults c.args.format c.args.blob.now c.in_ok-id.id.0 _ (rw c.shape_of-shape.ensures at c.in_ok-id.ensures.identifier)
-    (c.from_vec.ensures ∙ c.in_ok-line.ensures.items ∙ c.identifier_line.ensures)
+    let id = rw c.shape_of-shape.ensures at c.in_ok-id.ensures.identifier in
+    success _ (c.args.blob.now, refl, (c.in_ok-id.id.0, id, c.from_vec.ensures ∙ c.in_ok-line.ensures.items ∙ c.identifier_line.ensures))

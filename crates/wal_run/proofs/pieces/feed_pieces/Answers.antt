@@ -1,5 +1,5 @@
-use Rattle.wal_run.proofs.Common.{◌≡◌, ◌++◌, [], take, length-append, length-take-le, refl, arith, Consumes-nil, Consumes-trans, rose_since}
-use Rattle.wal_run.proofs.PieceLaws.{none_given, piece_failed, feed_failed}
+use Rattle.wal_run.proofs.Common.{append-nil, ◌≡◌, ◌++◌, [], take, length-append, length-take-le, refl, arith, Consumes-nil, Consumes-trans, rose_since}
+use Rattle.wal_run.proofs.PieceLaws.{piece_failed, feed_failed}
 use Rattle.wal_run.proofs.pieces.feed_pieces.Goals as goal
 
 pub pieces-init : goal.pieces-init
@@ -22,7 +22,8 @@ returns-then-count-eq0-clause-takes g c = λ id stands.
     let so_far = c.pieces.invariant.stream in
     let gives = c.in_ok-count.ensures.gives in
     let none : c.in_ok-count.count ≡ 0 = omega (arith, c.if-count-eq0.true) in
-    (so_far.0, none_given _ _ _ so_far.0 _ _ so_far.1 gives.1 none, gives.3 none, omega (arith, so_far.2, c.pieces.invariant.within), so_far.3 id stands)
+    let given = Consumes-trans _ _ _ so_far.0 [] so_far.1 (rw none at gives.1) in
+    (so_far.0, rw append-nil at given, gives.3 none, omega (arith, so_far.2, c.pieces.invariant.within), so_far.3 id stands)
 
 pub returns-in_err-wrong-clause-takes : goal.returns-in_err-wrong-clause-takes
 returns-in_err-wrong-clause-takes g c = λ id stands.

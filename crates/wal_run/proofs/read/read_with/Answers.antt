@@ -1,4 +1,4 @@
-use Rattle.wal_run.proofs.Common.{Keeps-refl, Read, no_memory, source_failed, too_long}
+use Rattle.wal_run.proofs.Common.{⊤, Keeps-refl, Read, no_memory, source_failed, too_long}
 use Rattle.wal_run.proofs.Endings.{ends_finished, ends_performed, long_input}
 use Rattle.wal_run.proofs.PieceLaws.{tells_all, tells_more}
 use Rattle.wal_run.proofs.Says.{performs_said}
@@ -18,7 +18,7 @@ returns-in-Err-ReadFault-clause-ends g c = λ id stands words asked.
 pub returns-in-Err-TooLong-clause-ends : goal.returns-in-Err-TooLong-clause-ends
 returns-in-Err-TooLong-clause-ends g c = λ id stands words asked.
     let taken = rw c.in-Err-TooLong.field-0-is at (c.in-Err-TooLong.ensures.takes id.0 stands) in
-    let input = long_input (g.S.Source.left c.args.source.now) 134217728 taken.0 taken.2 (tells_more _ _ taken.0 134217728 taken.1 taken.2) in
+    let input = long_input (g.S.Source.left c.args.source.now) ⊤ 134217728 taken.0 taken.2 (tells_more _ _ taken.0 134217728 taken.1 taken.2) tt in
     ends_finished _ _ _ _ 9 _ (λ text is. rw is (too_long (Read id) asked
     (record { takes = tt; input = input.0; told = input.1; past = input.2; taken = taken.0; consumed = taken.1; count = taken.2 }))) c.finish.ensures.finishes
 

@@ -1,4 +1,5 @@
-use Rattle.wal_run.proofs.Replays.{does_refuse}
+use Rattle.wal_run.proofs.Common.{inl, performed, unreadable, IsFault, ◌≡◌, ℕ, List}
+use Rattle.wal_run.proofs.Endings.{performs_as}
 use Rattle.wal_run.proofs.Says.{performs_refused}
 use Rattle.wal_run.proofs.replay.replay_schedule.Goals as goal
 
@@ -7,4 +8,6 @@ returns-in-Ok-clause-does g c = c.put_lines.ensures.does c.args.input.now c.in-O
 
 pub returns-in-Err-clause-does : goal.returns-in-Err-clause-does
 returns-in-Err-clause-does g c =
-    does_refuse g.H.Hash32.digest c.args.input.now _ _ _ c.in-Err.error _ c.in-Err.ensures.read (performs_refused _ _ c.refusal_of.ensures c.refuse.ensures.performs)
+    let fault = λ (s : ℕ) (text : List ℕ). (s ≡ 8) × IsFault c.in-Err.error text in
+    performed _ (performs_as (performs_refused _ fault c.refusal_of.ensures c.refuse.ensures.performs)
+    (λ s text is. rw is.0 (unreadable text (inl (c.in-Err.error, c.in-Err.ensures.read, is.1)))))

@@ -1,5 +1,5 @@
-use Rattle.wal_run.proofs.Common.{ap, ShardState}
-use Rattle.wal_run.proofs.Services.{starts_owned, starts, starts_shard, ends_serving}
+use Rattle.wal_run.proofs.Common.{◌≡◌, ap, refl, ShardState, state_of, at_start}
+use Rattle.wal_run.proofs.Services.{starts_owned, ends_serving}
 use Rattle.wal_run.proofs.serve.serve_pool.Goals as goal
 
 pub serve-end-requires-clause-owners : goal.serve-end-requires-clause-owners
@@ -8,6 +8,7 @@ serve-end-requires-clause-owners g c =
 
 pub returns-clause-ended : goal.returns-clause-ended
 returns-clause-ended g c =
-    let shard = starts_shard c.args.service.now c.create-shard.result c.args.keep c.requires.keep c.create-shard.ensures in
+    let shard : c.create-shard.result ≡ (at_start c.args.service.now).shard = rw (c.create-shard.ensures, c.requires.keep) refl in
+    let fresh : state_of c.create-shard.result c.args.opened.state ≡ at_start c.args.service.now = rw (shard, c.requires.ledger) refl in
     ends_serving g.H.Hash32.digest c.args.service.now c.create-shard.result _ _ _ _ _ _ _ _ c.serve-end.result _ c.requires.range shard
-    (starts c.args.service.now c.create-shard.result c.args.opened.state shard c.requires.ledger) c.serve-end.ensures.served c.status_of.ensures
+    fresh c.serve-end.ensures.served c.status_of.ensures

@@ -1,5 +1,5 @@
-use Rattle.wal_run.proofs.Common.{◌≡◌, ap, arith, row_count, Buffer}
-use Rattle.wal_run.proofs.ShardTexts.{laid_none, laid_more, laid_all}
+use Rattle.wal_run.proofs.Common.{◌≡◌, ap, arith, row_count, Buffer, symbol_bytes}
+use Rattle.wal_run.proofs.ShardTexts.{laid_none, laid_more, column_text-all}
 use Rattle.wal_run.proofs.slivers.lay_column.Goals as goal
 
 pub loop-row-init : goal.loop-row-init
@@ -16,5 +16,6 @@ loop-row-preserved c = record {
 
 pub returns : goal.returns
 returns c =
-    let all : c.loop-row.row ≡ row_count c.args.encoded.now.shape.f = omega (arith, c.loop-row-test.false, c.loop-row.auto.row-end, rw c.shape.ensures at c.rows-rows.ensures.value) in
-    laid_all _ _ _ _ _ _ _ all c.loop-row.invariant.laid
+    let e = c.args.encoded.now in
+    let all : c.loop-row.row ≡ row_count e.shape.f = omega (arith, c.loop-row-test.false, c.loop-row.auto.row-end, rw c.shape.ensures at c.rows-rows.ensures.value) in
+    rw (column_text-all e.shape.f (symbol_bytes e) e.cells c.args.index c.loop-row.row all) at c.loop-row.invariant.laid

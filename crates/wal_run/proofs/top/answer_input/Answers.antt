@@ -1,5 +1,5 @@
 use Rattle.wal_run.proofs.Common.{length, ap, Err, inl, inr, arith, Keeps-refl, Whole, no_memory, source_failed, too_long, IsTakenWhole, whole_command}
-use Rattle.wal_run.proofs.Endings.{ends_done, ends_finished, long_input, not_too_long, taken_by, told_long}
+use Rattle.wal_run.proofs.Endings.{ends_done, ends_finished, long_input, not_too_long, taken_by}
 use Rattle.wal_run.proofs.Tasks.{whole_takes}
 use Rattle.wal_run.proofs.top.answer_input.Goals as goal
 
@@ -31,7 +31,7 @@ returns-in-Err-TooLong-clause-ends g c = λ words asked.
     let limit = c.limit_of-limit.ensures.limit g.H.Hash32.digest in
     let is = ap Err c.in-Err-TooLong.field-0-is in
     let taken = c.in-Err-TooLong.ensures.too_long is in
-    let input = long_input (g.S.Source.left c.args.source.now) c.limit_of-limit.result taken.0 taken.2 (told_long _ _ _ c.in-Err-TooLong.ensures.told_long is) in
+    let input = long_input (g.S.Source.left c.args.source.now) _ c.limit_of-limit.result taken.0 taken.2 c.in-Err-TooLong.ensures.told_long is in
     ends_finished _ _ _ _ 9 _ (λ text line. rw line (too_long (Whole task) asked
     (record { takes = whole_takes g.H.Hash32.digest task; input = input.0; told = input.1; past = omega (arith, limit, input.2); taken = taken.0; consumed = taken.1; count = omega (arith, limit, taken.2) })))
     c.finish.ensures.finishes

@@ -1,5 +1,4 @@
-use Rattle.wal_run.proofs.CauseRows.{causes_of, nothing_asked}
-use Rattle.wal_run.proofs.Complete.{answered_unless_memory}
+use Rattle.wal_run.proofs.CauseRows.{answered_unless_memory, causes_of, nothing_asked}
 use Rattle.wal_run.proofs.Headlines.{headline_of}
 use Rattle.wal_run.proofs.Only.{exact, one_answer}
 use Rattle.wal_run.proofs.top.run.Goals as goal

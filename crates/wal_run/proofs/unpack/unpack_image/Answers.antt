@@ -1,13 +1,13 @@
-use Rattle.wal_run.proofs.Common.{rules, ◌≡◌, ℕ, length, sym, ap, subst, ◌∙◌, flat_bytes, IsResult, malformed_text, unpacking}
+use Rattle.wal_run.proofs.Common.{inl, inr, refl, nil_from_length, no_contents, after_calls, success, unreadable, contents_text, rules, ◌≡◌, ℕ, length, sym, ap, subst, ◌∙◌, flat_bytes, IsResult, malformed_text, unpacking}
 use Rattle.wal_journal.specs.declared.open.OpenFault.TheVariants.{BadRecord}
-use Rattle.wal_run.proofs.ListingLaws.{no_bytes, listed_is, empty_is, broken_is}
+use Rattle.wal_run.proofs.ListingLaws.{broken_is}
 use Rattle.wal_run.proofs.Says.{no_memory}
 use Rattle.wal_run.proofs.unpack.unpack_image.Goals as goal
 
 pub returns-then-is_empty : goal.returns-then-is_empty
 returns-then-is_empty g c = λ other.
     let none : length c.args.image.now ≡ 0 = search rules in
-    empty_is g.H.Hash32.digest c.args.image.now (no_bytes c.args.image.now none)
+    unreadable _ (inr (c.args.image.now, refl, (0, inl (nil_from_length _ none, refl), refl)))
 
 pub returns-in_err-bytes : goal.returns-in_err-bytes
 returns-in_err-bytes g c = no_memory _ _ c.from_residual.ensures.1
@@ -22,8 +22,9 @@ pub returns-in-Ok : goal.returns-in-Ok
 returns-in-Ok g c =
     let journal = c.in-Ok.journal in
     let opened = c.in-Ok.ensures.opened in
-    listed_is g.H.Hash32.digest c.args.image.now (flat_bytes journal.disk) journal.tail journal.keep.contents c.keep.result.now.contents opened.0 _ (c.in-Ok.ensures.same ∙ c.create-2.ensures ∙ c.in_ok-bytes.ensures.items) opened.1
-    (ap (λ k. k.contents) c.keep.ensures.value) (c.from_vec.ensures ∙ c.in_ok-text-in-Ok.ensures)
+    let accepts = rw (c.in-Ok.ensures.same ∙ c.create-2.ensures ∙ c.in_ok-bytes.ensures.items) at opened.1.accepts in
+    let holds : c.keep.result.now.contents ≡ after_calls no_contents opened.0 = ap (λ k. k.contents) c.keep.ensures.value ∙ opened.1.holds in
+    success _ (c.args.image.now, refl, (opened.0, accepts, c.from_vec.ensures ∙ c.in_ok-text-in-Ok.ensures ∙ ap contents_text holds))
 
 pub returns-in-Err-BadRecord : goal.returns-in-Err-BadRecord
 returns-in-Err-BadRecord g c = λ other.

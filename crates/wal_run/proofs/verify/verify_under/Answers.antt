@@ -1,12 +1,11 @@
-use Rattle.wal_run.proofs.Common.{arith, metadata_shown, HasShard, recorded}
+use Rattle.wal_run.proofs.Common.{arith, inl, refl, metadata_shown, HasShard, recorded, lacks}
 use Rattle.wal_run.proofs.Says.{no_memory, says_as}
-use Rattle.wal_run.proofs.Verifications.{shardless_is, verdict_as}
+use Rattle.wal_run.proofs.Verifications.{verdict_as}
 use Rattle.wal_run.proofs.verify.verify_under.Goals as goal
 
 pub returns-then-from-n : goal.returns-then-from-n
 returns-then-from-n g c = λ other.
-    shardless_is g.H.Hash32.digest c.args.audit.now (recorded c.args.payloads.now (metadata_shown c.args.m))
-    (omega (arith, rw c.shape.ensures.value at c.n.ensures.value, c.from.ensures, c.if-from-n.true))
+    lacks _ (inl (omega (arith, rw c.shape.ensures.value at c.n.ensures.value, c.from.ensures, c.if-from-n.true), refl))
 
 pub returns-in_err-claims : goal.returns-in_err-claims
 returns-in_err-claims g c = no_memory _ _ c.from_residual.ensures.1

@@ -3,6 +3,4 @@ use Rattle.wal_schedule.proofs.field.key_count.Goals as goal
 
 pub returns-in-Some : goal.returns-in-Some
 returns-in-Some c =
-    let count = members_len-members_view c.in-Some.map.now.entries in
-    let seen = c.in-Some.ensures in
-    rw (sym seen) (c.len.ensures.len ∙ sym count)
+    rw (sym c.in-Some.ensures) (c.len.ensures.len ∙ sym (members_len-members_view c.in-Some.map.now.entries))

@@ -1,5 +1,4 @@
-use Rattle.wal_schedule.proofs.Common.{refl, ◌∙◌, sym, ap, numbers_of, whole_of}
-use Rattle.std.specs.Prelude.{Some}
+use Rattle.wal_schedule.proofs.Common.{refl, ◌∙◌, sym, ap, numbers_of, whole_of, Some}
 use Rattle.wal_schedule.proofs.Elements.{read_all, read_more}
 use Rattle.wal_schedule.proofs.field.numbers_in.Goals as goal
 

@@ -1,5 +1,4 @@
-use Rattle.wal_schedule.proofs.Common.{ap, sym, ◌∙◌, shard_count, IsEventWithin}
-use Rattle.std.specs.Prelude.{Ok}
+use Rattle.wal_schedule.proofs.Common.{ap, sym, ◌∙◌, shard_count, IsEventWithin, Ok}
 use Rattle.wal_schedule.proofs.Drawing.{pushed_count}
 use Rattle.wal_schedule.proofs.Elements.{all_more, event_all, event_more}
 use Rattle.wal_schedule.proofs.read.events_in.Goals as goal

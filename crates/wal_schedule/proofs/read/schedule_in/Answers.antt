@@ -1,5 +1,5 @@
 use Rattle.wal_schedule.proofs.Common.{Result, Err, sym, ap, ◌∙◌, subst, Schedule, ScheduleError, schedule_with, Tells}
-use Rattle.wal_schedule.proofs.Reading.{too_many, of_parts, tells_error, in_range}
+use Rattle.wal_schedule.proofs.Drawing.{too_many, of_parts, tells_error, in_range}
 use Rattle.wal_schedule.proofs.read.schedule_in.Goals as goal
 
 pub returns-then-items-gt-MOST_EVENTS-clause-read : goal.returns-then-items-gt-MOST_EVENTS-clause-read

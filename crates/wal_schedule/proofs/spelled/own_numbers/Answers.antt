@@ -1,5 +1,5 @@
 use Rattle.wal_schedule.proofs.Common.{◌++◌, ◌∷◌, [], sym, ap, ◌∙◌}
-use Rattle.wal_schedule.proofs.Reading.{range_more}
+use Rattle.wal_schedule.proofs.Drawing.{range_more}
 use Rattle.wal_schedule.proofs.spelled.own_numbers.Goals as goal
 
 pub loop-number-preserved : goal.loop-number-preserved

@@ -1,5 +1,4 @@
-use Rattle.wal_schedule.proofs.Common.{refl, ◌∙◌, sym, ap, replies_of, reply_of}
-use Rattle.std.specs.Prelude.{Some}
+use Rattle.wal_schedule.proofs.Common.{refl, ◌∙◌, sym, ap, replies_of, reply_of, Some}
 use Rattle.wal_schedule.proofs.Elements.{read_all, read_more}
 use Rattle.wal_schedule.proofs.spelled.replies_in.Goals as goal
 

@@ -1,5 +1,5 @@
 use Rattle.wal_serve.proofs.Common.{◌≡◌, ℕ, List, [], ◌∷◌, ◌++◌, ap, sym, subst, ◌∙◌, append-nil, arith, size_in, IsHead}
-use Rattle.wal_serve.proofs.EnvelopeLaws.{head_of}
+use Rattle.wal_serve.proofs.TakingLaws.{head_of}
 use Rattle.wal_serve.proofs.envelopes.size_of.Goals as goal
 
 pub returns : goal.returns

@@ -1,6 +1,5 @@
 use Rattle.wal_serve.proofs.Common.{◌++◌, sym, ◌∙◌}
-use Rattle.wal_serve.proofs.TakingLaws.{rose_since}
-use Rattle.wal_serve.proofs.EnvelopeLaws.{lacks_payload, takes_envelope}
+use Rattle.wal_serve.proofs.TakingLaws.{rose_since, lacks_payload, takes_envelope}
 use Rattle.wal_serve.proofs.envelopes.take_envelope.Goals as goal
 
 pub returns-in-None-clause-takes : goal.returns-in-None-clause-takes

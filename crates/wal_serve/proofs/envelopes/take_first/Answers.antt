@@ -1,5 +1,5 @@
 use Rattle.wal_serve.proofs.Common.{sym, ap}
-use Rattle.wal_serve.proofs.EnvelopeLaws.{first_lack, first_wrong, first_lacks}
+use Rattle.wal_serve.proofs.TakingLaws.{first_lack, first_wrong, first_lacks}
 use Rattle.wal_serve.proofs.envelopes.take_first.Goals as goal
 
 pub returns-else-first-eq-ENVELOPE-clause-takes : goal.returns-else-first-eq-ENVELOPE-clause-takes

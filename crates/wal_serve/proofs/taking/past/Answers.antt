@@ -1,5 +1,5 @@
-use Rattle.wal_serve.proofs.Common.{[], arith}
-use Rattle.wal_serve.proofs.TakingLaws.{past_ends, past_more, past_fails}
+use Rattle.wal_serve.proofs.Common.{[], arith, Consumes-kept, Consumes-nil, Takes}
+use Rattle.wal_serve.proofs.TakingLaws.{past_ends, past_more}
 use Rattle.wal_serve.proofs.taking.past.Goals as goal
 
 pub returns-in-Ok-eq0-clause-takes : goal.returns-in-Ok-eq0-clause-takes
@@ -13,4 +13,4 @@ returns-in-Ok-clause-takes g c =
     past_more _ _ _ c.in-Ok.field-0 c.read.new.into read.bytes.0 read.bound.0 c.in-Ok.field-0-test.1 (omega (arith, c.read.auto.into))
 
 pub returns-in-Err-clause-takes : goal.returns-in-Err-clause-takes
-returns-in-Err-clause-takes g c = ([], past_fails _ _ _ c.in-Err.ensures.bytes c.in-Err.ensures.failed)
+returns-in-Err-clause-takes g c = ([], Takes.failed [] (Consumes-kept _ _ _ [] (Consumes-nil _) c.in-Err.ensures.bytes) (omega arith) (omega arith) c.in-Err.ensures.failed)

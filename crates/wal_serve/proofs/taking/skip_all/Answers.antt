@@ -1,5 +1,5 @@
-use Rattle.wal_serve.proofs.Common.{◌≡◌, ◌++◌, ◌<◌, ◌≤◌, length, take, arith, length-append, length-take-le, Consumes-trans, whole}
-use Rattle.wal_serve.proofs.TakingLaws.{rose_since, ends_behind, fails_behind, front_long}
+use Rattle.wal_serve.proofs.Common.{◌≡◌, ◌++◌, ◌<◌, ◌≤◌, length, take, arith, length-append, length-take-le, Consumes-trans, Consumes-kept, whole, Takes}
+use Rattle.wal_serve.proofs.TakingLaws.{rose_since, ends_behind, front_long}
 use Rattle.wal_serve.proofs.taking.skip_all.Goals as goal
 
 pub returns-in-Ok-eq0-clause-takes : goal.returns-in-Ok-eq0-clause-takes
@@ -37,7 +37,8 @@ pub returns-in-Err-clause-takes : goal.returns-in-Err-clause-takes
 returns-in-Err-clause-takes g c =
     let so_far = c.pieces.invariant.taken in (
       so_far.0,
-      fails_behind _ _ _ _ _ _ so_far.0 so_far.1 c.in-Err.ensures.bytes (omega (arith, so_far.2, c.pieces-test.true)) (omega (arith, so_far.2, c.pieces-test.true))
+      Takes.failed so_far.0 (Consumes-kept _ _ _ so_far.0 so_far.1 c.in-Err.ensures.bytes)
+          (omega (arith, so_far.2, c.pieces-test.true)) (omega (arith, so_far.2, c.pieces-test.true))
           (rose_since _ _ _ c.pieces.invariant.later c.in-Err.ensures.failed),
     )
 

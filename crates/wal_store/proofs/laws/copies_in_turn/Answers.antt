@@ -1,4 +1,4 @@
-use Rattle.wal_store.proofs.CopyLaws.{copies_join, copies_make_all}
+use Rattle.wal_store.proofs.CallLaws.{copies_join, copies_make_all}
 use Rattle.wal_store.proofs.laws.copies_in_turn.Goals as goal
 
 pub returns : goal.returns

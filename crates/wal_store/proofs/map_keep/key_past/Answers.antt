@@ -1,4 +1,4 @@
-use Rattle.wal_store.proofs.NextLaws.{key_in_range}
+use Rattle.wal_store.proofs.StockLaws.{key_in_range}
 use Rattle.wal_store.proofs.map_keep.key_past.Goals as goal
 
 pub returns-in-Some : goal.returns-in-Some

@@ -1,5 +1,5 @@
 use Rattle.wal_store.proofs.Common.{◌∙◌, sym, ids_of}
-use Rattle.wal_store.proofs.NextLaws.{past_found, past_gap}
+use Rattle.wal_store.proofs.StockLaws.{past_found, past_gap}
 use Rattle.wal_store.proofs.ordered.id_behind.Goals as goal
 
 pub returns-in-Ok : goal.returns-in-Ok

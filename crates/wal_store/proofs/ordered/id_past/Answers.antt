@@ -1,5 +1,5 @@
 use Rattle.wal_store.proofs.Common.{◌∙◌, Option, filter, slice_get, sym, ap, BlobId, is_past, ids_of}
-use Rattle.wal_store.proofs.NextLaws.{past_none}
+use Rattle.wal_store.proofs.StockLaws.{past_none}
 use Rattle.wal_store.proofs.ordered.id_past.Goals as goal
 
 pub returns-in-None : goal.returns-in-None

@@ -1,6 +1,6 @@
 -- Leaves of one digest collide, and else the entries above them differ and lead to one root.
 use Rattle.wal_tree.proofs.Common.{◌≡◌, ◌∷◌, List, ℕ, arith, sym, rules, IsCollision, MeetOnPaths}
-use Rattle.wal_tree.proofs.Collisions.{copies_too, leaves_collide, leaves_meet, ways_long, ways_meet}
+use Rattle.wal_tree.proofs.Collisions.{copies_too, leaves_collide, leaves_meet, ways_meet}
 use Rattle.wal_tree.proofs.collide.collide_paths.Goals as goal
 
 pub returns-then-eq-clause-collision : goal.returns-then-eq-clause-collision
@@ -11,12 +11,10 @@ returns-then-eq-clause-collision g c =
     (λ i below. omega (arith, c.type_inv.leaf_a i)) (λ i below. omega (arith, c.type_inv.leaf_b i))
 
 pub collide_nodes-requires-clause-whole : goal.collide_nodes-requires-clause-whole
-collide_nodes-requires-clause-whole g c =
-    (ways_long g.H.Hash32.digest c.requires.one.root c.args.count c.args.place c.args.leaf_a.now c.args.path_a.now c.args.leaf_b.now c.args.path_b.now c.requires.one.left c.requires.one.right).0
+collide_nodes-requires-clause-whole g c = omega (arith, c.requires.one.left.long)
 
 pub collide_nodes-requires-clause-long : goal.collide_nodes-requires-clause-long
-collide_nodes-requires-clause-long g c =
-    (ways_long g.H.Hash32.digest c.requires.one.root c.args.count c.args.place c.args.leaf_a.now c.args.path_a.now c.args.leaf_b.now c.args.path_b.now c.requires.one.left c.requires.one.right).1
+collide_nodes-requires-clause-long g c = omega (arith, c.requires.one.left.long, c.requires.one.right.long)
 
 pub collide_nodes-requires-clause-one : goal.collide_nodes-requires-clause-one
 collide_nodes-requires-clause-one g c =

@@ -1,7 +1,6 @@
 -- A turn pushes the next digest; at most 1000 digests leave room for it.
 use Rattle.wal_tree.proofs.Common.{◌/◌, ◌∷◌, List, ℕ, length, arith, ap, sym, ◌∙◌, chunks_exact_rest, pieces, climb, weight}
-use Rattle.wal_tree.proofs.Roots.{count-cons, pieces-cons, pieces-short}
-use Rattle.wal_tree.proofs.Passes.{pass-room, pass-step, weight-pushed}
+use Rattle.wal_tree.proofs.Roots.{count-cons, pieces-cons, pieces-short, pass-room, pass-step, weight-pushed}
 use Rattle.wal_tree.proofs.pass.root_by_stack.Goals as goal
 
 pub push-requires : goal.push-requires

@@ -1,6 +1,6 @@
 -- An entry past the end, a leaf, and a parent.
 use Rattle.wal_tree.proofs.Common.{◌-◌, ◌/◌, length, arith, ◌∙◌}
-use Rattle.wal_tree.proofs.PathSteps.{entry-leaf, entry-node, entry-past}
+use Rattle.wal_tree.proofs.Paths.{entry-leaf, entry-node, entry-past}
 use Rattle.wal_tree.proofs.siblings.+entry.Goals as goal
 
 pub returns-then-index-width_above : goal.returns-then-index-width_above

@@ -1,8 +1,7 @@
 -- A turn writes the sibling and goes on from the parent.
 use Rattle.wal_tree.proofs.Common.{◌+◌, ◌/◌, ◌≤◌, List, ℕ, ◌++◌, length, get_or, refl, arith, ap, sym, ◌∙◌, concat, div-le_of_le-mul, empty_entry, leaves, level_above, path_of}
 use Rattle.wal_tree.proofs.Honest.{IsPathTo-path_of}
-use Rattle.wal_tree.proofs.Paths.{height-le, height-step, length-leaves, length-pair_up-half, level_above-next}
-use Rattle.wal_tree.proofs.PathSteps.{path-end, path-step}
+use Rattle.wal_tree.proofs.Paths.{height-le, height-step, length-leaves, length-pair_up-half, level_above-next, path-end, path-step}
 use Rattle.wal_tree.proofs.siblings.path.Goals as goal
 
 pub loop-width-init : goal.loop-width-init

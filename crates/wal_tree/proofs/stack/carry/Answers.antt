@@ -1,7 +1,7 @@
 -- Each place that the carry comes to is free or taken.
 use Rattle.wal_tree.proofs.Common.{◌+◌, arith, length-set, sym, ◌∙◌, take-set_at}
 use Rattle.std.specs.Prelude.{None, Some}
-use Rattle.wal_tree.proofs.Carries.{carry_free, carry_out, carry_room, carry_taken}
+use Rattle.wal_tree.proofs.Columns.{carry_free, carry_out, carry_room, carry_taken}
 use Rattle.wal_tree.proofs.stack.carry.Goals as goal
 
 pub returns-in-None-clause-pushed : goal.returns-in-None-clause-pushed

@@ -7,15 +7,9 @@ put-requires c = omega (arith, ap length c.piece_at.ensures, entry_long c.args.r
 
 pub put-requires-2 : goal.put-requires-2
 put-requires-2 c =
-    omega (
-      arith,
-      ap length c.piece_at.ensures,
-      ap length c.piece_at-2.ensures,
-      entry_long c.args.row c.args.left.now c.requires.left,
-      entry_long c.args.row c.args.right.now c.requires.right,
-      c.requires.room,
-      c.put.auto.out,
-    )
+    let left = entry_long c.args.row c.args.left.now c.requires.left in
+    let right = entry_long c.args.row c.args.right.now c.requires.right in
+    omega (arith, ap length c.piece_at.ensures, ap length c.piece_at-2.ensures, left, right, c.put.auto.out)
 
 pub returns : goal.returns
 returns c =

@@ -1,7 +1,7 @@
 -- A turn of the loop leads to the parent.
 use Rattle.wal_tree.proofs.Common.{ap, sym, ◌∙◌, arith, chunks_exact_rest, folded}
 use Rattle.wal_tree.proofs.Roots.{pieces-short}
-use Rattle.wal_tree.proofs.PathSteps.{fold-step}
+use Rattle.wal_tree.proofs.Paths.{fold-step}
 use Rattle.wal_tree.proofs.verify.top_of.Goals as goal
 
 pub loop-sibling-preserved : goal.loop-sibling-preserved

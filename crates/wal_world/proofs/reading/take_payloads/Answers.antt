@@ -1,4 +1,4 @@
-use Rattle.wal_world.proofs.Common.{rules, ◌≡◌, ℕ, List, Result, Ok, Err, ◌<◌, ◌^◌, length, sym, arith, IsStream}
+use Rattle.wal_world.proofs.Common.{rules, ◌<◌, ◌^◌, length, arith, IsStream}
 use Rattle.wal_world.proofs.ReplyTexts.{is_stream, not_malformed}
 use Rattle.wal_world.proofs.reading.take_payloads.Goals as goal
 

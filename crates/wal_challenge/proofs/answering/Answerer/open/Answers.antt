@@ -1,5 +1,5 @@
 -- The line of the drawn axis is the codeword of the shard's own sliver.
-use Rattle.wal_challenge.proofs.Common.{◌≡◌, ◌*◌, ℕ, length, ap, subst, sym, ◌∙◌, metadata_shown, BlobShape, shard_count, symbol_size, OwnWords, among, AreLevels}
+use Rattle.wal_challenge.proofs.Common.{◌≡◌, ◌*◌, length, ap, sym, ◌∙◌, metadata_shown, BlobShape, shard_count, symbol_size, OwnWords, among, AreLevels}
 use Rattle.wal_challenge.specs.declared.line.Line.{Line}
 use Rattle.wal_challenge.proofs.AnswerLaws.{of_either, part_of_either, shows_if}
 use Rattle.wal_challenge.proofs.answering.Answerer.open.Goals as goal
@@ -14,9 +14,9 @@ open_line-requires-clause-long g c =
     c.symbol_size-size.ensures.value ∙ ap (λ (s : BlobShape). symbol_size s.f s.length) c.shape-shape.ensures.value in
     let row : length inside.row.symbols ≡ shard_count m.f * symbol_size m.f m.length = ap (λ (o : OwnWords). length o.row) c.self.view_is ∙ words.row_word.coded.size in
     let column : length inside.column.symbols ≡ shard_count m.f * symbol_size m.f m.length = ap (λ (o : OwnWords). length o.column) c.self.view_is ∙ words.column_word.coded.size in
-    ap (λ (l : Line). length l.symbols) c.line_among-line.ensures
-    ∙ of_either (λ (l : Line). length l.symbols ≡ shard_count m.f * symbol_size m.f m.length) c.args.draw.axis inside.row inside.column row column
-    ∙ ap (λ k. k * symbol_size m.f m.length) (sym n) ∙ ap (λ k. c.n-n.result * k) (sym size)
+    rw (c.line_among-line.ensures, n, size)
+    (of_either (λ (l : Line). length l.symbols ≡ shard_count m.f * symbol_size m.f m.length) c.args.draw.axis
+    inside.row inside.column row column)
 
 pub open_line-requires-clause-levels : goal.open_line-requires-clause-levels
 open_line-requires-clause-levels g c =
@@ -26,10 +26,8 @@ open_line-requires-clause-levels g c =
     ap (λ (o : OwnWords). o.size) c.self.view_is ∙ c.requires.words.2.size
     ∙ sym (c.symbol_size-size.ensures.value ∙ ap (λ (s : BlobShape). symbol_size s.f s.length) c.shape-shape.ensures.value) in
     let Fits : Line → Type 0 = λ l. AreLevels g.H.Hash32.digest c.symbol_size-size.result l.symbols l.levels in
-    let of : (l : Line) → AreLevels g.H.Hash32.digest inside.size l.symbols l.levels → Fits l =
-    λ l are. subst (λ s. AreLevels g.H.Hash32.digest s l.symbols l.levels) size are in
-    subst Fits (sym c.line_among-line.ensures)
-    (of_either Fits c.args.draw.axis inside.row inside.column (of inside.row c.self.invariant.0) (of inside.column c.self.invariant.1))
+    rw c.line_among-line.ensures
+    (of_either Fits c.args.draw.axis inside.row inside.column (rw size at c.self.invariant.0) (rw size at c.self.invariant.1))
 
 pub returns : goal.returns
 returns g c =

@@ -1,9 +1,8 @@
-use Rattle.wal_commit.proofs.Common.{subst, IsStrip, BlobState, IsSymbolAt, symbols_of}
+use Rattle.wal_commit.proofs.Common.{BlobState}
 use Rattle.wal_commit.proofs.Symbols.{strip_of_symbols}
 use Rattle.wal_commit.proofs.strips.MatrixPiecesPieces.fill.Goals as goal
 
 pub returns-clause-strip : goal.returns-clause-strip
 returns-clause-strip c =
     let b : BlobState = record { shape = c.self.inside.strips; bytes = c.self.inside.bytes.now } in
-    subst (λ (z : BlobState). IsStrip (IsSymbolAt z) (symbols_of z) c.args.from c.args.long c.fill.new.strip) c.self.view_is
-    (strip_of_symbols b c.args.from c.args.long c.fill.new.strip c.self.invariant c.fill.ensures.strip)
+    rw (← c.self.view_is) (strip_of_symbols b c.args.from c.args.long c.fill.new.strip c.self.invariant c.fill.ensures.strip)

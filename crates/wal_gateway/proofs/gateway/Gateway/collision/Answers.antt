@@ -2,7 +2,7 @@
 use Rattle.wal_gateway.proofs.Common.{◌∙◌, sym, ap, length, option_copied, AreDigestedForEvidence, AreDigestedForKept}
 use Rattle.std.proofs.lemmas.Result.{IfOk-weaker}
 use Rattle.wal_shape.specs.declared.text.Collision.{Collision}
-use Rattle.wal_gateway.proofs.Kept.{contradicts_bytes, found_checked, kept_texts}
+use Rattle.wal_gateway.proofs.Sound.{contradicts_bytes, found_checked, kept_texts}
 use Rattle.wal_gateway.proofs.gateway.Gateway.collision.Goals as goal
 
 pub blob_and_evidence-requires-clause-fits : goal.blob_and_evidence-requires-clause-fits

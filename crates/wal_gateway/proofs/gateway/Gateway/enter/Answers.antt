@@ -1,6 +1,6 @@
 -- The list after a blob entered, and after memory was wanted.
 use Rattle.wal_gateway.proofs.Common.{◌≤◌, sym, subst, LruCache, BlobId, CheckedBlob, AreChecked}
-use Rattle.wal_gateway.proofs.Kept.{entered_invariant, entered_shown}
+use Rattle.wal_gateway.proofs.Sound.{entered_invariant, entered_shown}
 use Rattle.wal_gateway.proofs.gateway.Gateway.enter.Goals as goal
 
 pub invariant_of-self : goal.invariant_of-self

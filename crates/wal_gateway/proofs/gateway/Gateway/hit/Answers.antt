@@ -1,7 +1,7 @@
 -- A hit.
 use Rattle.wal_gateway.proofs.Common.{asked}
-use Rattle.wal_gateway.proofs.Kept.{used_invariant, used_shown}
-use Rattle.wal_gateway.proofs.Endings.{ends_hit, none_kept}
+use Rattle.wal_gateway.proofs.Sound.{used_invariant, used_shown}
+use Rattle.wal_gateway.proofs.Endings.{ends_hit}
 use Rattle.wal_gateway.proofs.gateway.Gateway.hit.Goals as goal
 
 pub invariant_of-self : goal.invariant_of-self

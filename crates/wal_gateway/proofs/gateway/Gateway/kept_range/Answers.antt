@@ -1,6 +1,6 @@
 -- A blob in the list is checked.
 use Rattle.wal_gateway.proofs.Common.{◌∙◌, sym, ap, option_copied}
-use Rattle.wal_gateway.proofs.Kept.{found_checked}
+use Rattle.wal_gateway.proofs.Sound.{found_checked}
 use Rattle.wal_gateway.proofs.gateway.Gateway.kept_range.Goals as goal
 
 pub range_in-requires : goal.range_in-requires

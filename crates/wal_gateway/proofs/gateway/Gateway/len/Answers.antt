@@ -1,4 +1,4 @@
-use Rattle.wal_gateway.proofs.Kept.{all_sound}
+use Rattle.wal_gateway.proofs.Sound.{all_sound}
 use Rattle.wal_gateway.proofs.gateway.Gateway.len.Goals as goal
 
 pub returns-clause-sound : goal.returns-clause-sound

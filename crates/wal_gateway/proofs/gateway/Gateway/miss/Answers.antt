@@ -1,6 +1,6 @@
 -- A read's outcome, and what it leaves of the list.
 use Rattle.wal_gateway.proofs.Common.{asked}
-use Rattle.wal_gateway.proofs.Kept.{read_checked}
+use Rattle.wal_gateway.proofs.Sound.{read_checked}
 use Rattle.wal_gateway.proofs.Endings.{ends_bytes, ends_none}
 use Rattle.wal_gateway.proofs.gateway.Gateway.miss.Goals as goal
 

@@ -9,20 +9,14 @@ use Rattle.wal_gf.proofs.polynomial.Poly.interpolate.Goals as goal
 
 -- ---- the start: no point, and the polynomial 1
 
-no_words : (gs : List Gf) → gs ≡ [] → All IsWord (words_of gs)
-no_words gs none k d within = let none' : length (words_of gs) ≡ 0 = ap (λ (s : List Gf). length (words_of s)) none in absurd (omega arith)
-
-one_word : (ns : List ℕ) → ns ≡ 1 ∷ [] → All IsWord ns
-one_word ns one = let P : List ℕ → Type 0 = λ s. All IsWord s in subst P (sym one) (All-cons IsWord 1 [] (lit< tt) (All-nil IsWord))
-
 one_rootless : (ns : List ℕ) (x : ℕ) → ns ≡ 1 ∷ [] → evaluate ns x ≢ 0
 one_rootless ns x one none = let is : evaluate ns x ≡ 1 = ap (λ (s : List ℕ). evaluate s x) one ∙ evaluate-one 1 x in omega arith
 
 pub loop-i-init : goal.loop-i-init
 loop-i-init c = record {
   points = λ j below. absurd (omega arith);
-  words = no_words c.new.result.items c.new.ensures.items;
-  vanishing_words = one_word c.in_ok-vanishing.vanishing c.in_ok-vanishing.ensures;
+  words = rw c.new.ensures.items (All-nil IsWord);
+  vanishing_words = rw c.in_ok-vanishing.ensures (All-cons IsWord 1 [] (lit< tt) (All-nil IsWord));
   size = ap (λ (s : List Gf). length (words_of s)) c.new.ensures.items;
   vanishing_size = ap (λ (s : List ℕ). length s) c.in_ok-vanishing.ensures;
   values = λ j below. absurd (omega arith);
@@ -41,9 +35,6 @@ slope_at-slope-requires c low =
 value_kept : (found new vanishing : List ℕ) (s x v : ℕ) → evaluate new x ≡ bit_xor (evaluate found x) (times s (evaluate vanishing x))
     → evaluate found x ≡ v → evaluate vanishing x ≡ 0 → evaluate new x ≡ v
 value_kept found new vanishing s x v added before root = cc (times-zero s, xor_zero_r v)
-
-value_here : (new : List ℕ) (p p' v v' w : ℕ) → p' ≡ p → v' ≡ v → evaluate new p ≡ w → w ≡ v → evaluate new p' ≡ v'
-value_here new p p' v v' w same same' is reached = ap (evaluate new) same ∙ is ∙ reached ∙ sym same'
 
 root_kept : (new old : List ℕ) (x p : ℕ) → evaluate new x ≡ times (bit_xor x p) (evaluate old x) → evaluate old x ≡ 0 → evaluate new x ≡ 0
 root_kept new old x p is root = is ∙ ap (times (bit_xor x p)) root ∙ times-zero (bit_xor x p)
@@ -74,8 +65,8 @@ loop-i-preserved c =
           below_more (λ j. evaluate c.add_multiple.new.self (get_or (words_of c.args.points.now) j 0) ≡ get_or (words_of c.args.values.now) j 0) i
           (λ j below. value_kept c.loop-i.found c.add_multiple.new.self c.loop-i.vanishing c.slope_at-slope.result.0 _ _
           (c.in_ok-add_multiple.ensures.value _) (c.loop-i.invariant.values j below) (c.loop-i.invariant.roots j below))
-          (value_here c.add_multiple.new.self point _ _ _ _ here (number_at c.args.values.now i)
-          (c.in_ok-add_multiple.ensures.value point) c.slope_at-slope.ensures.reached);
+          (ap (evaluate c.add_multiple.new.self) here ∙ c.in_ok-add_multiple.ensures.value point
+          ∙ c.slope_at-slope.ensures.reached ∙ sym (number_at c.args.values.now i));
       roots =
           below_more (λ j. evaluate c.in_ok-vanishing-2.vanishing (get_or (words_of c.args.points.now) j 0) ≡ 0) i
           (λ j below. root_kept c.in_ok-vanishing-2.vanishing c.loop-i.vanishing _ point (c.in_ok-vanishing-2.ensures.value _) (c.loop-i.invariant.roots j below))

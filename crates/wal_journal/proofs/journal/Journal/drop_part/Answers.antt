@@ -1,8 +1,6 @@
 use Rattle.wal_journal.proofs.Common.{inl, DropPart}
 use Rattle.wal_journal.proofs.Moments.{at_rest}
-use Rattle.wal_journal.proofs.HeldLaws.{with_one, ready, keeps_change}
-use Rattle.wal_journal.proofs.EndLaws.{ends_of, held_after}
-use Rattle.wal_journal.proofs.RoomLaws.{fits_with_one}
+use Rattle.wal_journal.proofs.HeldLaws.{with_one, ready, keeps_change, ends_of, held_after, fits_with_one}
 use Rattle.wal_journal.proofs.journal.Journal.drop_part.Goals as goal
 
 pub returns-then-free-lt39-clause-any_moment : goal.returns-then-free-lt39-clause-any_moment
@@ -24,10 +22,9 @@ returns-clause-keeps g c = λ told. keeps_change (g.met.D.Disk.counts_now told) 
 
 pub returns-clause-ends : goal.returns-clause-ends
 returns-clause-ends g c =
-    let text = c.drop_part_text.ensures.text in
-    ends_of _ _ _ _ _ c.args.self c.drop_part.new.self c.finish.result
-    (ready (DropPart c.args.id.now c.args.part) c.args.self.stands c.drop_part_text.ensures.id tt text) text tt
-    c.drop_part.ensures.dropped c.drop_part.ensures.limit c.finish.ensures.written c.finish.ensures.stopped
+    ends_of _ _ _ _ _ c.args.self (DropPart c.args.id.now c.args.part) c.drop_part.new.self c.finish.result c.args.self.stands
+    c.drop_part_text.ensures.id tt c.drop_part_text.ensures.text tt c.drop_part.ensures.dropped c.drop_part.ensures.limit
+    c.finish.ensures.written c.finish.ensures.stopped
 
 pub returns-clause-acknowledged : goal.returns-clause-acknowledged
 returns-clause-acknowledged g c = λ told changes accepts.
@@ -36,6 +33,5 @@ returns-clause-acknowledged g c = λ told changes accepts.
 
 pub finish-requires-clause-fits : goal.finish-requires-clause-fits
 finish-requires-clause-fits g c =
-    fits_with_one (DropPart c.args.id.now c.args.part) _ _ c.args.self.stands
-    (ready _ c.args.self.stands c.drop_part_text.ensures.id tt c.drop_part_text.ensures.text)
+    fits_with_one (DropPart c.args.id.now c.args.part) c.args.self.stands c.drop_part_text.ensures.id tt c.drop_part_text.ensures.text
     c.drop_part.ensures.limit tt c.args.self.fits

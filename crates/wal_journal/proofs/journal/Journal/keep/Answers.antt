@@ -1,6 +1,5 @@
 use Rattle.wal_journal.proofs.Moments.{holds_settled}
-use Rattle.wal_journal.proofs.HeldLaws.{stands_now}
-use Rattle.wal_journal.proofs.RoomLaws.{room_now}
+use Rattle.wal_journal.proofs.HeldLaws.{stands_now, room_now}
 use Rattle.wal_journal.proofs.journal.Journal.keep.Goals as goal
 
 pub returns-clause-holds : goal.returns-clause-holds

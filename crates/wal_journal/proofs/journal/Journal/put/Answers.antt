@@ -1,8 +1,6 @@
-use Rattle.wal_journal.proofs.Common.{inl, sym, subst, ◌∙◌, Option, ℕ, Put, FitsSome}
+use Rattle.wal_journal.proofs.Common.{inl, ◌∙◌, Put}
 use Rattle.wal_journal.proofs.Moments.{at_rest, weaker}
-use Rattle.wal_journal.proofs.HeldLaws.{HasSome, with_one, ready, keeps_change, with_room, either_of}
-use Rattle.wal_journal.proofs.EndLaws.{ends_of, held_after}
-use Rattle.wal_journal.proofs.RoomLaws.{fits_with_one}
+use Rattle.wal_journal.proofs.HeldLaws.{with_one, ready, keeps_change, with_room, either_of, ends_of, held_after, fits_with_one}
 use Rattle.wal_journal.proofs.journal.Journal.put.Goals as goal
 
 pub returns-then-free-needed-clause-any_moment : goal.returns-then-free-needed-clause-any_moment
@@ -32,9 +30,8 @@ returns-in-Ok-put-clause-keeps g c = λ told.
 
 pub returns-in-Ok-put-clause-ends : goal.returns-in-Ok-put-clause-ends
 returns-in-Ok-put-clause-ends g c =
-    ends_of _ _ _ _ _ c.args.self c.put.new.self c.finish.result
-    (ready (Put c.args.id.now c.args.part c.args.bytes.now) c.args.self.stands (assumption) (assumption)
-    (c.deref.ensures.value ∙ c.in-Ok.ensures.text)) (c.deref.ensures.value ∙ c.in-Ok.ensures.text)
+    ends_of _ _ _ _ _ c.args.self (Put c.args.id.now c.args.part c.args.bytes.now) c.put.new.self c.finish.result
+    c.args.self.stands (assumption) (assumption) (c.deref.ensures.value ∙ c.in-Ok.ensures.text)
     (c.in-Ok-put.ensures.answer, tt) c.in-Ok-put.ensures.stored c.put.ensures.limit c.finish.ensures.written
     c.finish.ensures.stopped
 
@@ -49,17 +46,14 @@ returns-clause-any_moment g c = λ told changes accepts.
 
 pub invariant_of-result-in-Err : goal.invariant_of-result-in-Err
 invariant_of-result-in-Err g c = record {
-  stands = subst (λ m. HasSome (g.D.Disk.now c.args.self.disk) c.args.self.tail m) (sym c.in-Err.ensures.refused) c.args.self.stands;
+  stands = rw c.in-Err.ensures.refused c.args.self.stands;
   settled = c.args.self.settled;
   within = c.args.self.within;
-  fits =
-      subst (λ (o : Option ℕ). ∥ FitsSome (g.D.Disk.now c.args.self.disk) o ∥₁)
-      (sym c.put.ensures.limit) c.args.self.fits;
+  fits = rw c.put.ensures.limit c.args.self.fits;
 }
 
 pub finish-requires-clause-fits : goal.finish-requires-clause-fits
 finish-requires-clause-fits g c =
-    fits_with_one _ _ _ c.args.self.stands
-    (ready (Put c.args.id.now c.args.part c.args.bytes.now) c.args.self.stands (assumption) (assumption)
-    (c.deref.ensures.value ∙ c.in-Ok.ensures.text)) c.put.ensures.limit (c.in-Ok-put.ensures.answer, tt)
+    fits_with_one (Put c.args.id.now c.args.part c.args.bytes.now) c.args.self.stands (assumption) (assumption)
+    (c.deref.ensures.value ∙ c.in-Ok.ensures.text) c.put.ensures.limit (c.in-Ok-put.ensures.answer, tt)
     c.args.self.fits

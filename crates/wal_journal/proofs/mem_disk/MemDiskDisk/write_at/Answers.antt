@@ -1,5 +1,5 @@
 use Rattle.wal_journal.proofs.Common.{rules, ◌≡◌, ◌*◌, [], ◌∷◌, length, ap, ◌∙◌, arith, length-append, Written}
-use Rattle.wal_journal.proofs.Images.{length-put}
+use Rattle.wal_journal.proofs.Moments.{length-put}
 use Rattle.wal_journal.proofs.Past.{pending_push, elapses_step}
 use Rattle.wal_journal.proofs.mem_disk.MemDiskDisk.write_at.Goals as goal
 

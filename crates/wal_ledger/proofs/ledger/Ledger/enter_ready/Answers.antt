@@ -1,4 +1,4 @@
-use Rattle.wal_ledger.proofs.Common.{◌≡◌, ◌<◌, false, sym, ap, subst, ◌∙◌, arith, Next, node_of, committee_size, node_size, Log, LedgerState, writing, owners_of, same_node, ready_shards, log_of}
+use Rattle.wal_ledger.proofs.Common.{ap, arith, Next, committee_size, Log, LedgerState, owners_of, same_node, ready_shards, log_of}
 use Rattle.wal_ledger.proofs.TallyLaws.{count_below-most}
 use Rattle.wal_ledger.proofs.RowsEnter.{kept_ready}
 use Rattle.wal_ledger.proofs.ledger.Ledger.enter_ready.Goals as goal
@@ -16,16 +16,12 @@ overflow_add-self c =
 pub invariant_of-self : goal.invariant_of-self
 invariant_of-self c =
     let i = c.self.inside in
-    let old : Log = log_of i.f i.first i.owners i.book in
-    let view : old ≡ c.args.self.now.log = ap (λ (l : LedgerState). l.log) c.self.view_is in
-    let node : c.writer-node.result ≡ node_of (owners_of Next old) c.args.shard = c.writer-node.ensures.value ∙ sym (ap (λ (l : Log). node_of (owners_of Next l) c.args.shard) view) in
-    let sized : c.node_size-size.result ≡ node_size i.f (owners_of Next old) c.args.shard = c.node_size-size.ensures ∙ sym (ap (λ (l : Log). node_size l.f (owners_of Next l) c.args.shard) view) in
-    let epoch : c.writing_epoch-epoch.result ≡ writing old = c.writing_epoch-epoch.ensures.value ∙ sym (ap writing view) in
-    rw (c.push.ensures, c.raise.ensures, epoch)
-    (kept_ready i.f i.first i.owners i.epoch i.moving i.reads_at i.writes_at i.book i.table i.ready i.total c.self.invariant (subst (λ (l : LedgerState). 0 < l.spare) (sym c.self.view_is) c.requires.room)
-    c.args.shard c.writer-node.result c.node_size-size.result (subst (λ (l : Log). c.args.shard < committee_size l.f) (sym view) c.requires.shard)
-    (subst (λ (l : Log). ready_shards l c.args.shard ≡ false) (sym view) c.requires.first_time)
-    node (subst (λ (l : Log). c.writer-node.result < committee_size l.f) (sym view) c.writer-node.ensures.below) sized)
+    let is = c.self.view_is in
+    rw (c.push.ensures, c.raise.ensures, c.writing_epoch-epoch.ensures.value, ← is)
+    (kept_ready i.f i.first i.owners i.epoch i.moving i.reads_at i.writes_at i.book i.table i.ready i.total c.self.invariant
+    (rw (← is) at c.requires.room) c.args.shard c.writer-node.result c.node_size-size.result (rw (← is) at c.requires.shard)
+    (rw (← is) at c.requires.first_time) (rw (← is) at c.writer-node.ensures.value) (rw (← is) at c.writer-node.ensures.below)
+    (rw (← is) at c.node_size-size.ensures))
 
 pub returns-clause-lawful : goal.returns-clause-lawful
 returns-clause-lawful c = (invariant_of-self c).lawful

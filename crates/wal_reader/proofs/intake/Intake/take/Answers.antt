@@ -1,5 +1,4 @@
-use Rattle.wal_reader.proofs.Common.{◌++◌, ◌∙◌, List, ℕ, ap, sym, append_assoc, length, arith, err_from_is_err_and}
-use Rattle.std.proofs.lemmas.List.{length-append}
+use Rattle.wal_reader.proofs.Common.{◌++◌, ap, append_assoc, length, arith, err_from_is_err_and, length-append}
 use Rattle.wal_reader.proofs.IntakeLaws.{refuses_all}
 use Rattle.wal_reader.proofs.intake.Intake.take.Goals as goal
 
@@ -12,7 +11,7 @@ envelopes-preserved g c =
       limit = omega (arith, inv.limit, m.count, ap length m.parts, length-append m.bytes c.in_ok-left.left.now);
       so_far = (
         bytes ++ m.bytes,
-        inv.so_far.1 ∙ ap (λ (t : List ℕ). bytes ++ t) m.parts ∙ sym (append_assoc bytes m.bytes c.in_ok-left.left.now),
+        cc (inv.so_far.1, m.parts, append_assoc bytes m.bytes c.in_ok-left.left.now),
         λ id stream s. rw append_assoc at (m.takes id (stream ++ bytes) (inv.so_far.2 id stream s)),
       );
       settled = λ settled. m.settled (inv.settled settled);

@@ -1,15 +1,13 @@
-use Rattle.wal_serve.proofs.Common.{Holds, Vouched, served}
-use Rattle.wal_serve.proofs.RequestLaws.{entry_row, vouched_not, vouched}
+use Rattle.wal_serve.proofs.Common.{Holds, served}
+use Rattle.wal_serve.proofs.AnswerLaws.{vouched_not, vouched}
 use Rattle.wal_serve.proofs.session.Session.acknowledge.Goals as goal
 
 pub returns-in-Ok-clause-gives : goal.returns-in-Ok-clause-gives
 returns-in-Ok-clause-gives g c =
-    let s = served c.args.self.now in
-    entry_row (Vouched Holds s c.args.id.now) s c.ack_reply.result c.ack.new.self.ledger
-    (vouched Holds s c.ledger.result.now _ c.args.id.now c.index.result _ c.ledger.ensures.value c.index.ensures.value c.in-Ok.ensures (c.ack.result, c.ack.ensures.answer, c.ack_reply.ensures.value))
+    vouched Holds (served c.args.self.now) c.ledger.result.now _ c.args.id.now c.index.result c.ack_reply.result c.ledger.ensures.value
+    c.index.ensures.value c.in-Ok.ensures (c.ack.result, c.ack.ensures.answer, c.ack_reply.ensures.value)
 
 pub returns-in-Err-clause-gives : goal.returns-in-Err-clause-gives
 returns-in-Err-clause-gives g c =
-    let s = served c.args.self.now in
-    entry_row (Vouched Holds s c.args.id.now) s c.refusal_reply.result s.ledger
-    (vouched_not Holds s c.ledger.result.now c.args.id.now c.in-Err.refusal _ c.ledger.ensures.value c.in-Err.ensures c.refusal_reply.ensures.value)
+    vouched_not Holds (served c.args.self.now) c.ledger.result.now c.args.id.now c.in-Err.refusal _ c.ledger.ensures.value
+    c.in-Err.ensures c.refusal_reply.ensures.value

@@ -1,5 +1,5 @@
 use Rattle.wal_serve.proofs.Common.{served}
-use Rattle.wal_serve.proofs.RequestLaws.{forgets_done, forgets_not}
+use Rattle.wal_serve.proofs.AnswerLaws.{forgets_done, forgets_not}
 use Rattle.wal_serve.proofs.session.Session.forget.Goals as goal
 
 pub returns-in-Ok-clause-gives : goal.returns-in-Ok-clause-gives

@@ -1,5 +1,5 @@
 use Rattle.wal_serve.proofs.Common.{frame_shown, served}
-use Rattle.wal_serve.proofs.RequestLaws.{gives_put}
+use Rattle.wal_serve.proofs.AnswerLaws.{gives_put}
 use Rattle.wal_serve.proofs.session.Session.put.Goals as goal
 
 pub returns-clause-gives : goal.returns-clause-gives

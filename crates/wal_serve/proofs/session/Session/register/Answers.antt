@@ -1,5 +1,5 @@
 use Rattle.wal_serve.proofs.Common.{Registered, served}
-use Rattle.wal_serve.proofs.RequestLaws.{entry_row}
+use Rattle.wal_serve.proofs.AnswerLaws.{entry_row}
 use Rattle.wal_serve.proofs.session.Session.register.Goals as goal
 
 pub returns-clause-gives : goal.returns-clause-gives

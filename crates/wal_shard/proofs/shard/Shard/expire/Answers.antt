@@ -1,4 +1,3 @@
-use Rattle.wal_shard.proofs.Common.{sym, subst, AreSound}
 use Rattle.wal_shard.proofs.Soundness.{without_dead_sound}
 use Rattle.wal_shard.proofs.shard.Shard.expire.Goals as goal
 
@@ -6,6 +5,6 @@ pub invariant_of-self : goal.invariant_of-self
 invariant_of-self g c =
     let s = c.self.inside in (
       c.self.invariant.0,
-      subst (AreSound g.H.Hash32.digest s.f s.index) (sym c.retain.ensures.retained)
+      rw c.retain.ensures.retained
           (without_dead_sound g.H.Hash32.digest s.f s.index c.args.ledger.now.log (g.K.Keep.contents s.keep) c.self.invariant.1),
     )

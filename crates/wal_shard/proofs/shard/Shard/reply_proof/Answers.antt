@@ -4,12 +4,10 @@ use Rattle.wal_shard.proofs.shard.Shard.reply_proof.Goals as goal
 
 pub reply_held-requires-clause-room : goal.reply_held-requires-clause-room
 reply_held-requires-clause-room g c =
-    let p = parts_at c.args.self.now.contents c.args.id.now in
-    let size : c.in-Some.size ≡ length (unwrap_or p.proof []) = search rules in
-    omega (arith, proof_fits _ _ _ _ _ (c.sound.ensures.sound c.args.id.now) (search rules), size, c.requires.room)
+    let size : c.in-Some.size ≡ length (unwrap_or (parts_at c.args.self.now.contents c.args.id.now).proof []) = search rules in
+    omega (arith, proof_fits _ _ _ _ _ (c.sound.ensures.sound c.args.id.now) (search rules), c.requires.room)
 
 pub returns-in-Some-clause-room : goal.returns-in-Some-clause-room
 returns-in-Some-clause-room g c =
-    let p = parts_at c.args.self.now.contents c.args.id.now in
-    let size : c.in-Some.size ≡ length (unwrap_or p.proof []) = search rules in
-    omega (arith, proof_fits _ _ _ _ _ (c.sound.ensures.sound c.args.id.now) (search rules), size, c.reply_held.ensures.room)
+    let size : c.in-Some.size ≡ length (unwrap_or (parts_at c.args.self.now.contents c.args.id.now).proof []) = search rules in
+    omega (arith, proof_fits _ _ _ _ _ (c.sound.ensures.sound c.args.id.now) (search rules), c.reply_held.ensures.room)

@@ -4,17 +4,16 @@ use Rattle.wal_store.proofs.map_keep.MapKeepKeep.copy.Goals as goal
 
 pub bytes_under-requires : goal.bytes_under-requires
 bytes_under-requires c =
-    let shows = shows_of _ _ _ c.self.invariant.0 c.self.view_is in
-    subst IsSome (shown_held _ _ c.args.id.now c.args.part shows) c.requires.held
+    subst IsSome (shown_held c.args.id.now c.args.part (shows_of c.self.invariant.0 c.self.view_is)) c.requires.held
 
 pub slice_bounds-copy_from_slice-end : goal.slice_bounds-copy_from_slice-end
 slice_bounds-copy_from_slice-end c =
-    let held = shown_held _ _ c.args.id.now c.args.part (shows_of _ _ _ c.self.invariant.0 c.self.view_is) in
+    let held = shown_held c.args.id.now c.args.part (shows_of c.self.invariant.0 c.self.view_is) in
     let long = ap (λ o. length (unwrap_or o [])) (held ∙ c.bytes_under.ensures) in
     search rules
 
 pub returns : goal.returns
 returns c =
-    let held = shown_held _ _ c.args.id.now c.args.part (shows_of _ _ _ c.self.invariant.0 c.self.view_is) in
+    let held = shown_held c.args.id.now c.args.part (shows_of c.self.invariant.0 c.self.view_is) in
     let size : c.args.at + length c.args.out.now - c.args.at ≡ length c.args.out.now = omega arith in
     rw (held, c.bytes_under.ensures) (rw size at c.copy_from_slice.ensures.after)

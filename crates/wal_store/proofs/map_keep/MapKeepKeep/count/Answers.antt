@@ -4,8 +4,8 @@ use Rattle.wal_store.proofs.map_keep.MapKeepKeep.count.Goals as goal
 
 pub returns : goal.returns
 returns c =
-    let shows = shows_of _ _ _ c.self.invariant.0 c.self.view_is in
+    let shows = shows_of c.self.invariant.0 c.self.view_is in
     record {
-      value = c.len.ensures.len ∙ shown_len _ _ shows;
-      budget = shown_budget _ _ _ shows (budget_most _ _ _ c.self.invariant.2 (ap (λ s. s.limit) c.self.view_is));
+      value = c.len.ensures.len ∙ shown_len shows;
+      budget = shown_budget _ shows (budget_most _ _ _ c.self.invariant.2 (ap (λ s. s.limit) c.self.view_is));
     }

@@ -1,6 +1,5 @@
 use Rattle.wal_store.proofs.Common.{arith, cost_in}
-use Rattle.wal_store.proofs.HeldLaws.{clear_cost, kept_changed}
-use Rattle.wal_store.proofs.StockLaws.{shows_of, shown_clear, recharged_less}
+use Rattle.wal_store.proofs.StockLaws.{clear_cost, kept_changed, shows_of, shown_clear, recharged_less}
 use Rattle.wal_store.proofs.map_keep.MapKeepKeep.drop_part.Goals as goal
 
 pub recharged-self-inside-requires : goal.recharged-self-inside-requires
@@ -21,5 +20,5 @@ invariant_of-self c =
 
 pub returns-clause-dropped : goal.returns-clause-dropped
 returns-clause-dropped c =
-    let shows = shows_of _ _ _ c.self.invariant.0 c.self.view_is in
-    shown_clear _ _ _ c.args.id.now shows c.args.part c.clear.ensures.cleared c.clear.ensures.ordered
+    let shows = shows_of c.self.invariant.0 c.self.view_is in
+    shown_clear c.args.id.now shows c.args.part c.clear.ensures.cleared c.clear.ensures.ordered

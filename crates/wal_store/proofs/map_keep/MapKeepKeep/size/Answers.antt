@@ -3,9 +3,8 @@ use Rattle.wal_store.proofs.map_keep.MapKeepKeep.size.Goals as goal
 
 pub returns-clause-value : goal.returns-clause-value
 returns-clause-value c =
-    let shows = shows_of _ _ _ c.self.invariant.0 c.self.view_is in
-    cc (shown_held _ _ c.args.id.now c.args.part shows, c.size_under.ensures.value)
+    cc (shown_held c.args.id.now c.args.part (shows_of c.self.invariant.0 c.self.view_is), c.size_under.ensures.value)
 
 pub returns-clause-there : goal.returns-clause-there
 returns-clause-there c =
-    shown_there _ _ c.args.id.now (shows_of _ _ _ c.self.invariant.0 c.self.view_is) c.self.invariant.3
+    shown_there c.args.id.now (shows_of c.self.invariant.0 c.self.view_is) c.self.invariant.3

@@ -10,13 +10,9 @@ index_mut-requires c =
 pub invariant_of-self : goal.invariant_of-self
 invariant_of-self c =
     let last = c.pop.ensures.items ∙ ap (λ o. c.pop.new.self.items ++ option_to_list o) c.in-Some.is in
-    let put = row_put _ _ _ _ c.args.place c.in-Some.number c.args.row c.self.invariant.0 last in (
-      rw c.in-Ok.ensures.items put.sound,
-      length-set c.self.inside.slots.items c.in-Some.number c.args.row ∙ c.self.invariant.1,
-      c.self.invariant.2,
-      omega (arith, c.in-Ok.ensures.capacity, c.self.invariant.3),
-      omega (arith, c.pop.ensures.capacity, c.self.invariant.4),
-    )
+    let put = row_put _ _ _ _ c.args.place c.in-Some.number c.args.row c.self.invariant.0 last in
+    let long = length-set c.self.inside.slots.items c.in-Some.number c.args.row ∙ c.self.invariant.1 in
+    search (arith, rw (← c.in-Ok.ensures.items) at put.sound, long, c.in-Ok.ensures, c.pop.ensures, c.self.invariant)
 
 pub returns-clause-items : goal.returns-clause-items
 returns-clause-items c =

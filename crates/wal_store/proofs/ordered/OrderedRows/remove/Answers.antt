@@ -10,13 +10,9 @@ index-requires c =
 pub invariant_of-self : goal.invariant_of-self
 invariant_of-self c =
     let n = number_at _ _ _ _ _ _ _ c.self.invariant.0 c.self.view_is c.requires c.remove-number.ensures.value in
-    let gone = row_gone _ _ _ c.args.place c.remove-number.result c.self.invariant.0 n.0 in (
-      rw (c.remove-number.ensures.items, c.in-Ok.ensures.items) gone.sound,
-      c.self.invariant.1,
-      c.self.invariant.2,
-      omega (arith, c.remove-number.ensures.capacity, c.self.invariant.3),
-      omega (arith, c.in-Ok.ensures.capacity, c.self.invariant.4),
-    )
+    let gone = row_gone _ _ _ c.args.place c.remove-number.result c.self.invariant.0 n.0 in
+    let sound = rw (← c.remove-number.ensures.items, ← c.in-Ok.ensures.items) at gone.sound in
+    search (arith, sound, c.remove-number.ensures, c.in-Ok.ensures, c.self.invariant)
 
 pub returns-clause-value : goal.returns-clause-value
 returns-clause-value c =

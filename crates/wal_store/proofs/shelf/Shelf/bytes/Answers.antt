@@ -4,21 +4,18 @@ use Rattle.wal_store.proofs.shelf.Shelf.bytes.Goals as goal
 
 pub index-requires : goal.index-requires
 index-requires c =
-    let taken = rw (← c.self.view_is) at c.requires in
-    omega (arith, c.self.inside.tokens.ok.0, token_within _ _ _ _ c.self.invariant.0 taken)
+    omega (arith, c.self.inside.tokens.ok.0, token_within _ _ _ _ _ c.self.invariant.0 c.self.view_is c.requires)
 
 pub bytes-requires : goal.bytes-requires
 bytes-requires c =
-    let taken = rw (← c.self.view_is) at c.requires in
-    cc (token_read _ _ _ _ _ c.self.invariant.0 taken c.index.ensures, c.in-Some.is, taken)
+    let token = token_read _ _ _ _ _ _ c.self.invariant.0 c.self.view_is c.requires c.index.ensures in
+    cc (token, c.in-Some.is, c.requires, c.self.view_is)
 
 pub unreachable-requires : goal.unreachable-requires
 unreachable-requires c =
-    let taken = rw (← c.self.view_is) at c.requires in
-    cc (token_read _ _ _ _ _ c.self.invariant.0 taken c.index.ensures, c.in-None.is)
+    cc (token_read _ _ _ _ _ _ c.self.invariant.0 c.self.view_is c.requires c.index.ensures, c.in-None.is)
 
 pub returns-clause-held : goal.returns-clause-held
 returns-clause-held c =
-    let taken = rw (← c.self.view_is) at c.requires in
-    let token = token_read _ _ _ _ _ c.self.invariant.0 taken c.index.ensures in
+    let token = token_read _ _ _ _ _ _ c.self.invariant.0 c.self.view_is c.requires c.index.ensures in
     cc (token, c.in-Some.is, c.bytes.ensures.held, c.self.view_is)

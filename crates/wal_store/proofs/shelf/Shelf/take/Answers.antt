@@ -1,16 +1,16 @@
-use Rattle.wal_store.proofs.Common.{sym, arith, Taken}
+use Rattle.wal_store.proofs.Common.{sym, arith, refl, Taken}
 use Rattle.wal_store.proofs.TokenLaws.{token_within, token_read, token_changed, written}
 use Rattle.wal_store.proofs.shelf.Shelf.take.Goals as goal
 
 pub index_mut-requires : goal.index_mut-requires
 index_mut-requires c =
     let free = rw (sym c.number-number.ensures) at c.in-Ok.ensures.found in
-    omega (arith, c.self.inside.tokens.ok.0, token_within _ _ _ _ c.self.invariant.0 free)
+    omega (arith, c.self.inside.tokens.ok.0, token_within _ _ _ _ _ c.self.invariant.0 refl free)
 
 pub unreachable-requires-in-Some : goal.unreachable-requires-in-Some
 unreachable-requires-in-Some c =
     let free = rw (sym c.number-number.ensures) at c.in-Ok.ensures.found in
-    let token = token_read _ _ _ _ _ c.self.invariant.0 free c.index_mut.ensures.value in
+    let token = token_read _ _ _ _ _ _ c.self.invariant.0 refl free c.index_mut.ensures.value in
     cc (token, c.replace.ensures.value, c.in-Some.is)
 
 pub invariant_of-self : goal.invariant_of-self

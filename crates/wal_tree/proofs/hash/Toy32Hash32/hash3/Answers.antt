@@ -1,5 +1,5 @@
 -- The three texts were added to the lanes one after the other.
-use Rattle.wal_tree.proofs.Lanes.{toy32-joined}
+use Rattle.wal_tree.proofs.LevelPairs.{toy32-joined}
 use Rattle.wal_tree.proofs.hash.Toy32Hash32.hash3.Goals as goal
 
 pub returns : goal.returns

@@ -1,5 +1,4 @@
-use Rattle.wal_world.proofs.Common.{ℕ, Some, sym, ap, subst, id_cmp, First, verdict_of, IsBackedBy, world_of}
-use Rattle.std.specs.FinMap as finmap
+use Rattle.wal_world.proofs.Common.{ℕ, Some, sym, ap, subst, id_cmp, First, verdict_of, IsBackedBy, world_of, FinMap}
 use Rattle.wal_world.proofs.Firsts.{found, compared_is, no_first, new_first}
 use Rattle.wal_world.proofs.network.Network.complete.Goals as goal
 
@@ -20,6 +19,6 @@ returns-in-Some-clause-compared g c =
 pub returns-in-Ok-clause-compared : goal.returns-in-Ok-clause-compared
 returns-in-Ok-clause-compared g c = (
   no_first c.args.self.now.answers c.args.id.now (verdict_of c.args.answer) c.requires.network.ordered c.in_default.ensures.value,
-  ap (λ (m : finmap.FinMap id_cmp First). record (world_of c.args.self.now) { answers = m })
+  ap (λ (m : FinMap id_cmp First). record (world_of c.args.self.now) { answers = m })
       (new_first c.args.self.now.answers c.insert.new.self c.args.id.now c.args.answer c.requires.network.ordered c.in_default.ensures.value c.in-Ok.ensures.entries),
 )

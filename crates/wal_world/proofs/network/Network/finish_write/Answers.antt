@@ -1,4 +1,4 @@
-use Rattle.wal_world.proofs.Common.{rules, ◌≡◌, Some, ◌∙◌, arith, committee_size, world_of, messages_of, writing_side}
+use Rattle.wal_world.proofs.Common.{rules, ◌≡◌, ◌∙◌, arith, committee_size, world_of, messages_of}
 use Rattle.wal_world.proofs.WriteEnds.{answer_differs, put_clashes, write_done}
 use Rattle.wal_world.proofs.WriteSteps.{ascending_below, ascending_few}
 use Rattle.wal_world.proofs.network.Network.finish_write.Goals as goal

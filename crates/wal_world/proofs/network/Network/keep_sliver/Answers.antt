@@ -9,12 +9,8 @@ keep_sliver-requires-clause-shards g c = members_are c.args.side c.of_mut.ensure
 pub keep_sliver-requires-clause-shard : goal.keep_sliver-requires-clause-shard
 keep_sliver-requires-clause-shard g c = members_reach c.args.side c.of_mut.ensures.value c.requires.network c.requires.present c.requires.shard
 
-pub returns-clause-network : goal.returns-clause-network
-returns-clause-network g c =
-    (kept_at c.args.side c.args.self.now (record c.args.self.now { sides = with_members c.args.side c.args.self.now.sides c.keep_sliver.new.self }) c.of_mut.result.now c.keep_sliver.new.self c.args.shard
-    (metadata_shown c.args.m).f c.keep_sliver.result (λ x. kept_sliver x c.args.id.now (metadata_shown c.args.m) c.args.axis c.args.bytes.now) c.of_mut.ensures.value c.requires.f c.requires.network c.requires.present refl c.keep_sliver.ensures).0
-
-pub returns-clause-keeps : goal.returns-clause-keeps
-returns-clause-keeps g c =
-    (kept_at c.args.side c.args.self.now (record c.args.self.now { sides = with_members c.args.side c.args.self.now.sides c.keep_sliver.new.self }) c.of_mut.result.now c.keep_sliver.new.self c.args.shard
-    (metadata_shown c.args.m).f c.keep_sliver.result (λ x. kept_sliver x c.args.id.now (metadata_shown c.args.m) c.args.axis c.args.bytes.now) c.of_mut.ensures.value c.requires.f c.requires.network c.requires.present refl c.keep_sliver.ensures).1
+pub returns : goal.returns
+returns g c =
+    let kept = kept_at c.args.side c.args.self.now (record c.args.self.now { sides = with_members c.args.side c.args.self.now.sides c.keep_sliver.new.self }) c.of_mut.result.now c.keep_sliver.new.self c.args.shard
+    (metadata_shown c.args.m).f c.keep_sliver.result (λ x. kept_sliver x c.args.id.now (metadata_shown c.args.m) c.args.axis c.args.bytes.now) c.of_mut.ensures.value c.requires.f c.requires.network c.requires.present refl c.keep_sliver.ensures in
+    record { network = kept.0; books = refl; keeps = kept.1 }

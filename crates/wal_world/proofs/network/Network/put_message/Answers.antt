@@ -1,5 +1,4 @@
-use Rattle.wal_world.proofs.Common.{rules, ◌≡◌, true, false, map, frame_text, messages_of, addressed, world_of, is_correct}
-use Rattle.wal_world.proofs.Puts.{if_ok}
+use Rattle.wal_world.proofs.Common.{IfOk-weaker, rules, ◌≡◌, true, false, map, frame_text, messages_of, addressed, world_of, is_correct}
 use Rattle.wal_world.proofs.WriteSteps.{message_none, message_some, spell_each}
 use Rattle.wal_world.proofs.network.Network.put_message.Goals as goal
 
@@ -19,5 +18,5 @@ returns-clause-puts g c =
     let w = world_of c.args.self.now in
     let spelled : c.as_slice.result.now ≡ map frame_text (messages_of c.args.write.now c.args.shard) = search rules in
     let correct : is_correct c.args.at w c.args.shard ≡ true = search rules in
-    if_ok c.put_texts.result (λ clash h. message_some g.H.Hash32.digest w (world_of c.put_texts.new.self) c.args.at c.args.shard c.as_slice.result.now
+    IfOk-weaker c.put_texts.result _ _ (λ clash h. message_some g.H.Hash32.digest w (world_of c.put_texts.new.self) c.args.at c.args.shard c.as_slice.result.now
     (messages_of c.args.write.now c.args.shard) clash correct spelled c.requires.parts h) c.put_texts.ensures.puts

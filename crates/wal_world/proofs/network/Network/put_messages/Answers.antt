@@ -1,6 +1,6 @@
-use Rattle.wal_world.proofs.Common.{rules, ◌≡◌, ◌∙◌, None, get_or, messages_of, world_of}
+use Rattle.wal_world.proofs.Common.{letters, rules, ◌≡◌, ◌∙◌, None, get_or, messages_of, world_of}
 use Rattle.wal_world.proofs.LetterLaws.{continues_done, continues_more, continues_stop}
-use Rattle.wal_world.proofs.WriteSteps.{letters_end, letters_next, same_correct}
+use Rattle.wal_world.proofs.WriteSteps.{at_end, letters_next, same_correct}
 use Rattle.wal_world.proofs.network.Network.put_messages.Goals as goal
 
 pub returns-in-Some-clause-puts : goal.returns-in-Some-clause-puts
@@ -22,4 +22,4 @@ loop-shard-preserved g c =
 
 pub returns-clause-puts : goal.returns-clause-puts
 returns-clause-puts g c =
-    continues_done c.loop-shard.invariant.rest (letters_end (world_of c.args.self.now) c.args.at (messages_of c.args.write.now) c.args.to.now _ c.loop-shard-test.false)
+    continues_done c.loop-shard.invariant.rest (at_end (letters (world_of c.args.self.now) c.args.at (messages_of c.args.write.now)) c.args.to.now _ c.loop-shard-test.false)

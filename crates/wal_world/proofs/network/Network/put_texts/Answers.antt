@@ -1,6 +1,6 @@
-use Rattle.wal_world.proofs.Common.{rules, ◌≡◌, ◌∙◌, None}
+use Rattle.wal_world.proofs.Common.{letters_in, rules, ◌≡◌, ◌∙◌, None}
 use Rattle.wal_world.proofs.LetterLaws.{continues_done, continues_more, continues_stop}
-use Rattle.wal_world.proofs.WriteSteps.{letter_end, letter_next}
+use Rattle.wal_world.proofs.WriteSteps.{at_end, letter_next}
 use Rattle.wal_world.proofs.network.Network.put_texts.Goals as goal
 
 pub returns-in-Some-clause-puts : goal.returns-in-Some-clause-puts
@@ -19,4 +19,4 @@ loop-text-preserved g c =
     }
 
 pub returns-clause-puts : goal.returns-clause-puts
-returns-clause-puts g c = continues_done c.loop-text.invariant.rest (letter_end c.args.shard c.args.texts.now _ c.loop-text-test.false)
+returns-clause-puts g c = continues_done c.loop-text.invariant.rest (at_end (letters_in c.args.shard) c.args.texts.now _ c.loop-text-test.false)

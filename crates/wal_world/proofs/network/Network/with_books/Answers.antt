@@ -1,5 +1,4 @@
-use Rattle.wal_world.proofs.Common.{Some, refl, ap, ◌∙◌, room_of, shards_with, Serving}
-use Rattle.std.specs.FinMap as finmap
+use Rattle.wal_world.proofs.Common.{Some, refl, ap, ◌∙◌, room_of, shards_with, Serving, no_entries}
 use Rattle.wal_world.proofs.Turning.{fresh}
 use Rattle.wal_world.proofs.network.Network.with_books.Goals as goal
 
@@ -17,5 +16,5 @@ returns g c =
       work = rooms.work;
       buffer = rooms.buffer;
     })
-    c.ledger.ensures.serves.serves refl refl refl (rooms.ensures.shards ∙ ap (λ k. shards_with k (λ s. finmap.empty)) f) c.new.ensures.items c.new-2.ensures.empty
+    c.ledger.ensures.serves.serves refl refl refl (rooms.ensures.shards ∙ ap (λ k. shards_with k (λ s. no_entries)) f) c.new.ensures.items c.new-2.ensures.empty
     c.new-2.ensures.ordered (rooms.ensures.work ∙ f) rooms.ensures.empty (rooms.ensures.spare ∙ ap room_of f)

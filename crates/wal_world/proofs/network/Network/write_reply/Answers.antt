@@ -1,4 +1,4 @@
-use Rattle.wal_world.proofs.Common.{◌≡◌, List, ap, read_reply_of, Members}
+use Rattle.wal_world.proofs.Common.{ap, read_reply_of, Members}
 use Rattle.wal_world.proofs.ReplyTexts.{written_by}
 use Rattle.wal_world.proofs.network.Network.write_reply.Goals as goal
 
