@@ -12,7 +12,7 @@ from test_shard import LARGE, ShardCase
 
 from walrus import client
 from walrus.envelopes import parts
-from walrus.frames import code_of
+from walrus.frames import PRIMARY, SECONDARY, code_of
 from walrus.network import judge, recovery, shard
 from walrus.network.files import Files
 from walrus.network.intake import Intake
@@ -139,6 +139,34 @@ class Told(ShardCase):
         self.assertEqual((self.node.posted, self.shard.lacks(whole.identifier)), ([], [0, 1, 2]))
         again = await Node.reply(self.node, 0, self.request(whole))  # type: ignore[arg-type]
         self.assertEqual(again.parts, said.parts)
+
+    async def test_what_the_disk_loses_as_soon_as_it_is_kept_is_told_as_refused(self) -> None:
+        """Else a client hears that parts are stored, and the ledger that the node holds them, which are no more."""
+        assert self.store
+        put = self.store.put
+        for is_whole in (True, False):
+            whole = await self.whole(LARGE + 250 * is_whole)
+            if not is_whole:
+                self.assertEqual(code_of(await self.shard.put(bytes(whole.parts[0]))), client.DONE)
+                self.assertTrue(self.store.flush())
+
+            def lost(*words: Any) -> None:
+                """The disk is full once the last part is staged, before anybody else has a turn."""
+                assert self.store
+                put(*words)
+                if words[3] == (SECONDARY if is_whole else PRIMARY):
+                    full = OSError(errno.ENOSPC, "No space left on device")
+                    asyncio.get_running_loop().call_soon(self.store.lose, full)
+
+            request = self.request(whole) if is_whole else bytes(whole.parts[1])
+            with mock.patch.object(self.store, "put", lost):
+                said = await Node.reply(self.node, 0, request)  # type: ignore[arg-type]
+            assert said.written
+            self.assertFalse(await said.written)
+            self.assertEqual(client.split(said.lost)[0][1][:2], bytes([0x30, shard.FULL]))
+            await turns()
+            self.assertEqual(self.node.posted, [])
+            self.assertIn(PRIMARY, self.shard.lacks(whole.identifier))
 
     async def test_no_word_is_given_for_what_is_lost_while_it_is_judged(self) -> None:
         """Else the ledger certifies a blob of which this node has nothing."""

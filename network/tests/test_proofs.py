@@ -1,13 +1,16 @@
-"""Long proofs of bad encoding: a reader asks for them one by one where slivers are too few, and who lies takes none of
-its memory by what is as long."""
+"""Long proofs of bad encoding: who reads or recovers asks for them one by one where the rest is too little, and who
+lies takes no memory by what is as long."""
 import asyncio
 import struct
+import types
 import unittest
 from typing import Any, Sequence
 from unittest import mock
 
 import harness  # noqa: F401  # which says where walrus is
-from walrus import client, shapes, wire
+from walrus import client, frames, shapes, wire
+from walrus.network import recovery
+from walrus.network.heads import Lengths
 
 LENGTH, SYMBOL = 3_000_000, 500_000  # bytes of a blob, and of one of its symbols at f = 1
 METADATA = bytes([client.METADATA]) + struct.pack(">HQ", 1, LENGTH) + bytes(range(256))
@@ -26,8 +29,14 @@ def proof(word: bytes) -> bytes:
     return (bytes([client.PROOF]) + NAME + struct.pack(">BHH", client.PRIMARY, 0, 3) + word).ljust(PROOF, b"p")
 
 
+def opening(cross: int) -> bytes:
+    """As long as an opening of the secondary sliver 0 of this blob, and with the front of one."""
+    front = bytes([client.OPENING]) + NAME + struct.pack(">BHHI", client.SECONDARY, 0, cross, SYMBOL)
+    return front.ljust(36 + 71 + SYMBOL, b"o")
+
+
 class Walrus:
-    """Takes two slivers for a blob, and what says so for a proof."""
+    """Takes two slivers for a blob, two openings for a sliver, and what says so for a proof."""
 
     def __init__(self) -> None:
         self.ran, self.checked = list[str](), list[int]()
@@ -39,8 +48,10 @@ class Walrus:
             self.checked.append(len(payloads))
             is_true = payloads[:1] == [METADATA] and payloads[-1] == proof(b"true")
             return (3, b"inconsistent\n") if is_true else (4, b"consistent\n")
-        slivers = [it for it in payloads if it[0] == client.SLIVER]
-        return (0, b"the blob") if len(slivers) > 1 else (4, b"short %d of 2\n" % len(slivers))
+        of = client.SLIVER if words[0] == "read" else client.OPENING
+        found = [it for it in payloads if it[0] == of]
+        made = b"the blob" if words[0] == "read" else client.envelope(b"the sliver")
+        return (0, made) if len(found) > 1 else (4, b"short %d of 2\n" % len(found))
 
     def code(self, status: int, text: bytes) -> client.Code:
         return client.Code.of(status, text)
@@ -60,7 +71,7 @@ class Shard(client.Shard):
         return self.streams
 
 
-class Reading(unittest.IsolatedAsyncioTestCase):
+class ProofCase(unittest.IsolatedAsyncioTestCase):
     async def asyncSetUp(self) -> None:
         asyncio.get_running_loop().set_debug(False)
         self.enterContext(mock.patch("walrus.shards.LEAST", 60.0))  # nobody is late
@@ -96,6 +107,8 @@ class Reading(unittest.IsolatedAsyncioTestCase):
             made.append(await self.enterAsyncContext(Shard(number, server.sockets[0].getsockname()[1])))
         return made
 
+
+class Reading(ProofCase):
     async def test_who_lies_by_what_is_as_long_as_a_proof_has_no_memory(self) -> None:
         lies = [METADATA, *[proof(b"false")] * 2, DONE]
         shards = await self.shards([lies, *([METADATA, sliver(it), DONE] for it in (1, 2, 3))])
@@ -145,6 +158,44 @@ class Reading(unittest.IsolatedAsyncioTestCase):
             await client.fetch(shards, NAME, self.walrus)  # type: ignore[arg-type]
         self.assertEqual((caught.exception.held, caught.exception.needed), (1, 2))
         self.assertEqual((self.memory.count(PROOF), self.walrus.checked), (2, [2, 2]))
+
+
+class Recovering(ProofCase):
+    """A node that recovers a sliver, and whoever wants no more than a metadata."""
+
+    target = client.Symbol(NAME, client.SECONDARY, 0)
+
+    async def recover(self, replies: Sequence[Sequence[bytes]]) -> tuple[int, bytes]:
+        shards: Any = await self.shards(replies)
+        asked = [recovery.Once(it, [client.write_frame(self.target)]) for it in shards]
+        return await client.recover(asked, self.target, self.walrus)  # type: ignore[arg-type]
+
+    async def test_who_lies_by_what_is_as_long_as_a_proof_has_no_memory(self) -> None:
+        longest = proof(b"false").ljust(client.Shape(1).longest - 2, b"p")  # of another blob
+        lies = [METADATA, longest, proof(b"false"), DONE]
+        said = await self.recover([lies, *([METADATA, opening(it), DONE] for it in (1, 2, 3))])
+        self.assertEqual((said, self.walrus.ran), ((0, b"the sliver"), ["recover"]))
+        self.assertEqual((self.asked, [it for it in self.memory if it > SYMBOL + 107]), ([0, 1, 2], []))
+
+    async def test_a_long_proof_is_asked_for_where_slivers_are_too_few(self) -> None:
+        told = [[METADATA, proof(word), DONE] for word in (b"false", b"true")]
+        said = await self.recover([*told, [METADATA, opening(2), DONE], [DONE]])
+        self.assertEqual(said, (3, proof(b"true")))
+        self.assertEqual((sorted(self.asked[:4]), self.asked[4:]), ([0, 1, 2, 3], [0, 1]))
+        self.assertEqual((self.memory.count(PROOF), self.walrus.checked), (2, [2, 2]))
+
+    async def test_who_wants_a_metadata_has_memory_for_nothing_long(self) -> None:
+        shards = await self.shards([[METADATA, opening(1), proof(b"false"), DONE]] * 4)
+        peers = types.SimpleNamespace(seats=lambda *_: shards)
+        ledger = types.SimpleNamespace(faults=1, now=("a",), next=(), home_epoch=lambda _: 0, owners=lambda _: ("a",))
+        network: Any = types.SimpleNamespace(ledger=ledger, peers=peers)
+        self.assertEqual(await Lengths(network).of_blob(NAME), LENGTH)
+        store = types.SimpleNamespace(parts=lambda *_: [])
+        node: Any = types.SimpleNamespace(ledger=ledger, peers=peers, store=store, sides={})
+        put = mock.AsyncMock(return_value=[frames.answer(client.DONE)])
+        shard: Any = types.SimpleNamespace(epoch=0, holding=1, put=put)
+        self.assertEqual(await recovery.find_metadata(node, shard, NAME), METADATA)
+        self.assertEqual([it for it in self.memory if it >= SYMBOL], [])
 
 
 if __name__ == "__main__":

@@ -800,6 +800,36 @@ class Recovery(NodeCase):
             sizes = [self.store.sizes(self.shard.holding, 0, name) for name in (kept, over)]
             self.assertEqual([*map(len, sizes)], held)
 
+    async def test_what_is_wrong_stays_so_while_nothing_is_judged_of_it(self) -> None:
+        """Else a node without its ledger, or beside the committee behind a blob's last epoch, would call it held."""
+        assert self.store
+        name = (await self.put(self.drawn.randbytes(700)))[1][1:33]
+        self.store.mark(self.shard.holding, name, PRIMARY, True)
+        unheard = Ledger()
+        unheard.apply(Entry(1, entry_key(OPERATOR, "begin", 0, 1, "a,b,c,d")))
+        for is_known, wrong in ((False, {PRIMARY}), (True, set())):
+            self.shard.ledger = self.ledger if is_known else unheard
+            found = await self.shard.check(name)
+            self.assertEqual((self.store.wrong(self.shard.holding, name), found[1]), (wrong, is_known))
+
+    async def test_a_scrub_passes_over_what_a_shard_held_that_is_here_no_more(self) -> None:
+        """A node that gives a large shard away in the midst of a scrub serves others meanwhile."""
+        assert self.store
+        gone, count = self.store.stage("INSERT INTO holdings VALUES (NULL)").lastrowid, 500
+        rows = ((gone, self.drawn.randbytes(32), METADATA, 0, None, 0, 274, 1) for _ in range(count))
+        self.store.base.executemany("INSERT INTO held VALUES (?, ?, ?, ?, ?, ?, ?, ?)", rows)
+        name = await self.certified(b"it is held")
+        node = self.node({0: {0: self.shard}})
+        node.settings = types.SimpleNamespace(scrub_rate=1_000_000)
+        for node.caught_up in (False, True):
+            scrubbing = scrub.Scrub(node)
+            following = mock.Mock(side_effect=self.store.next)
+            with mock.patch.object(self.store, "next", following), mock.patch.object(scrubbing, "sweep"):
+                await scrubbing.scrub()
+            self.assertLess(following.call_count, 5)
+            self.assertEqual(scrubbing.figures.blobs, 1)
+        self.assertTrue(self.shard.settled(name))
+
     async def test_a_late_node_gives_its_word_for_all_that_it_holds(self) -> None:
         names = [await self.certified(b"held", of="bcd"), await self.certified(b"said"), await self.lacks(700)]
         names.append((await self.put(b"unsaid by all"))[1][1:33])

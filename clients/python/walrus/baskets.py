@@ -121,3 +121,14 @@ class Basket:
             self.empty(place)
         if isinstance(self.memory.obj, mmap.mmap) and not self.is_read:
             self.memory.obj.madvise(mmap.MADV_DONTNEED)
+
+
+class Sieve(Basket):
+    """Memory of its own for each large payload of the length that is wanted. All others are read past, so that who lies
+    takes no more memory than who gives what is asked for."""
+
+    def __init__(self) -> None:
+        super().__init__(0)
+
+    def place(self, stream: wire.Wire, size: int) -> Place:
+        return Place(stream, wire.filling(wire.memory(size)) if size == self.size else None)

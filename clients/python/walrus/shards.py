@@ -8,7 +8,7 @@ import time
 from collections.abc import Iterable, Sequence
 from typing import NamedTuple, Optional, Union
 
-from .baskets import OFFERED, PASSED, Basket
+from .baskets import OFFERED, PASSED, Basket, Sieve
 from .kinds import DONE, KINDS, METADATA, SECOND_METADATA, Answer, Clash, Fault, in_words
 from .shapes import Shape, name_of
 from .streams import Sink, Source, Streams, take_envelope, write_in_slices
@@ -33,9 +33,17 @@ class Asked(bytes):
 
     @classmethod
     def of(cls, payload: bytes, count: int, most: int) -> "Asked":
-        """A request of which so many replies are needed, of at most so many."""
+        """A request of which so many replies are needed, of at most so many; of none nothing is, but for what is
+        small."""
         made = cls(payload)
         made.basket = Basket(count, most)
+        return made
+
+    @classmethod
+    def alone(cls, payload: bytes) -> "Asked":
+        """A request whose reply is wanted in memory of its own."""
+        made = cls(payload)
+        made.basket = Sieve()
         return made
 
     def hear(self, shape: Shape, payload: bytes) -> None:

@@ -2,6 +2,7 @@
 from typing import Optional
 
 from .. import client
+from ..shards import Asked
 
 from .chunks import HEAD, NAME
 from .client import Network
@@ -37,7 +38,7 @@ class Lengths:
         ledger = self.network.ledger
         wanted = client.Symbol(identifier, client.PRIMARY, 999)  # which no shard has, or one of 1,000
         seats = self.network.peers.seats(ledger.owners(ledger.home_epoch(identifier)), ledger.faults)
-        listening = client.Listening(seats, client.write_frame(wanted))
+        listening = client.Listening(seats, Asked.of(client.write_frame(wanted), 0, 0))
         listening.ask(ledger.faults + 1)
         try:
             while not listening.is_over():

@@ -10,6 +10,7 @@ import time
 from typing import Any, Iterable, Mapping, Optional
 
 from .. import audit, client
+from ..shards import Asked
 
 from . import health
 from .client import Network
@@ -131,7 +132,7 @@ class Watch:
         seat = self.seat(name, ledger.epoch) or self.seat(name, ledger.writing_epoch)
         try:
             if seat:
-                await seat.ask(client.write_frame(client.Read(bytes(32))))
+                await seat.ask(Asked.of(client.write_frame(client.Read(bytes(32))), 0, 0))
                 self.figures[name] = told = numbers(await self.peers.told(name, FIGURES))
                 if "place" in told.get("ledger", {}):
                     told["ledger"]["behind"] = max(0, self.place() - told["ledger"]["place"])

@@ -10,6 +10,7 @@ from typing import TYPE_CHECKING, NamedTuple, Optional
 
 from .. import client, frames
 from ..frames import METADATA, PRIMARY, SECONDARY, code_of
+from ..shards import Asked
 
 from .groups import several
 from .judge import Busy, Clash, name_of
@@ -37,7 +38,8 @@ class Progress:
 
 
 class Once(client.Shard):
-    """A shard that is asked in one exchange for all symbols that are still wanted when it is first asked for one."""
+    """A shard that is asked in one exchange for all symbols that are still wanted when it is first asked for one. A
+    long proof in its reply is read past, and asked for alone."""
 
     def __init__(self, seat: Seat, wanted: Collection[bytes]):
         super().__init__(seat.number, seat.shape.faults)
@@ -46,9 +48,11 @@ class Once(client.Shard):
         self.asked: Optional["asyncio.Task[list[client.Reply]]"] = None
 
     async def ask(self, *requests: client.Request) -> list[client.Reply]:
+        if not isinstance(requests[0], Asked):
+            return await self.seat.ask(*requests)
         if not self.asked:
             self.sent = [*self.wanted]
-            self.asked = asyncio.create_task(self.seat.ask(*self.sent))
+            self.asked = asyncio.create_task(self.seat.ask(*map(Asked.alone, self.sent)))
             self.asked.add_done_callback(lambda it: it.cancelled() or it.exception())  # also where nobody waits
         replies = await asyncio.shield(self.asked)
         self.late = False
@@ -132,8 +136,8 @@ async def find_metadata(node: "Node", shard: Shard, identifier: bytes) -> bytes:
         for part in node.store.parts(own.holding, own.epoch, identifier, [METADATA]):
             if own is shard or await is_it(part.payload):
                 return part.payload
-    asked = client.write_frame(client.Symbol(identifier, client.PRIMARY, 999))  # which brings little else
-    listening = client.Listening([*itertools.chain(*sides(node))], asked)
+    wanted = client.Symbol(identifier, client.PRIMARY, 999)  # which brings little else
+    listening = client.Listening([*itertools.chain(*sides(node))], Asked.of(client.write_frame(wanted), 0, 0))
     try:
         while not listening.is_over():
             listening.ask(1)

@@ -12,6 +12,7 @@ import time
 from typing import TYPE_CHECKING
 
 from .recovery import passing
+from .store import LAST
 
 if TYPE_CHECKING:
     from .node import Node
@@ -76,10 +77,12 @@ class Scrub:
             (holding, identifier), sides = place, self.node.sides.values()
             figures.holding, figures.after = holding, identifier.hex()
             shards = [it for side in sides for it in side.values() if it.holding == holding]
-            if self.node.caught_up and identifier not in self.node.ledger.blobs:
+            if not shards:
+                place = holding, LAST  # what a shard held that is here no more is swept, and not read
+            elif self.node.caught_up and identifier not in self.node.ledger.blobs:
                 store.expire([identifier])  # its row in the ledger was lost before it was dropped
                 await store.durable()
-            elif shards:
+            else:
                 size, fine = await max(shards, key=lambda it: it.epoch).check(identifier)
                 figures.blobs, figures.bytes = figures.blobs + 1, figures.bytes + size
                 figures.wrong += not fine

@@ -187,7 +187,8 @@ class Shard:
     @contextlib.asynccontextmanager
     async def written(self, identifier: bytes, parts: Parts) -> AsyncIterator[Writing]:
         """Has long parts written to files, beside what else is done. In the end those go that nobody has taken, as soon
-        as all are written: what comes to them is in memory as long."""
+        as all are written: what comes to them is in memory as long. Where they are, nothing else goes on in between:
+        what was kept meanwhile is told before it can be lost."""
         long = {part: it for part, it in parts.items() if len(it) > SMALL}
 
         async def write() -> dict[int, str]:
@@ -199,7 +200,8 @@ class Shard:
         finally:
             if writing:
                 writing.add_done_callback(self.let_go)  # also if who waits here is told to end a second time
-                await asyncio.wait([writing])
+                if not writing.done():
+                    await asyncio.wait([writing])
 
     def let_go(self, writing: "asyncio.Task[dict[int, str]]") -> None:
         """Has files removed that nobody has taken."""
@@ -244,6 +246,8 @@ class Shard:
     async def check(self, identifier: bytes) -> tuple[int, bool]:
         """Has all that is held of a blob judged; its bytes, and whether all is what it should be."""
         async with self.store.alone(self.holding, identifier):
+            if not entries_of(self.ledger, self.epoch, identifier):  # nothing is judged of what is not live
+                return 0, not self.store.wrong(self.holding, identifier)
             judged = await self.judged(identifier, client.write_frame(client.Read(identifier)), ALL, True)
             known = self.store.wrong(self.holding, identifier)
             if new := [part for part in judged.wrong if part not in known]:
