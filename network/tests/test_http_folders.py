@@ -98,6 +98,16 @@ class Manifests(unittest.TestCase):
             self.assertLess(time.process_time() - begun, 20)
             self.assertLess(resource.getrusage(resource.RUSAGE_SELF).ru_maxrss - before, 200_000)  # KiB
 
+    def test_a_deep_path_in_a_folder_of_its_own_costs_little_more_than_another_one(self) -> None:
+        """Else a malicious folder of 64 MiB has half of a processor busy for 20 s whenever somebody asks for it."""
+        used = list[float]()
+        for rest in (b"/".join([b"b" * 244] * 4), b"/".join([b"b"] * 490)):
+            text = b"".join(b"%06d/%b\ta/b\t0\t-\n" % (it, rest) for it in range(1_000))
+            begun = time.process_time()
+            self.assertEqual(len(Manifest(MARK + text)), 1_000)
+            used.append(time.process_time() - begun)
+        self.assertLess(used[1], 6 * used[0])
+
     def test_types_come_from_endings_by_the_table_of_the_page(self) -> None:
         kinds = {"a.html": "text/html", "b/A.PNG": "image/png", "c.tar.gz": "application/gzip", "d": manifest.OTHER}
         kinds |= {".html": manifest.OTHER, "a.b/c": manifest.OTHER, "e.exe": manifest.OTHER, "f.webm": "video/webm"}

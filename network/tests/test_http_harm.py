@@ -25,8 +25,11 @@ from walrus import client
 from walrus.frames import answer
 from walrus.network import archives, connections, digests, folders, intake, metrics, problems, reading, shelf
 from walrus.network import source, turns, unfinished, whole
+from walrus.network.blobs import Blob
+from walrus.network.chunks import NAME, PIECE, File
 from walrus.network.client import Network
 from walrus.network.exposure import Options
+from walrus.network.listing import Lister
 from walrus.network.local import free_port
 from walrus.network.manifest import MARK, Place
 
@@ -378,6 +381,7 @@ class Readings(unittest.IsolatedAsyncioTestCase):
         ledger = mock.Mock(blobs=mock.MagicMock(**{"__contains__.return_value": True}))
         ledger.invalid.return_value = False
         self.reader = reading.Reader(mock.Mock(ledger=ledger), Options())
+        self.lister = Lister(self.reader.network, self.reader, shelf.Shelf(self.reader))
         self.addAsyncCleanup(self.reader.close)
         self.read, self.goes_on = list[str](), collections.defaultdict[str, asyncio.Event](asyncio.Event)
         self.enterContext(mock.patch.object(self.reader.cache, "read", self.fetch))
@@ -467,6 +471,19 @@ class Readings(unittest.IsolatedAsyncioTestCase):
         await self.settle(self.have("a", "now"))
         self.assertEqual(self.read[5:], ["piece 0", "piece 1", "now"])
         self.assertEqual([it.waiting for it in self.reader.readings.own.values()], [{}])  # but for places
+
+    async def test_more_time_for_a_list_of_many_blobs_holds_up_nobody(self) -> None:
+        ledger, count, had = self.reader.network.ledger, 20_000, 0
+        ledger.writing_epoch, ledger.certificate.return_value, ledger.planned.return_value = 0, (0, 4), None
+        ledger.blobs.__getitem__.return_value = Blob(9, "publisher")
+        listed = File(count * PIECE, b"".join(it.to_bytes(NAME, "big") for it in range(count))).listed()
+        self.enterContext(mock.patch.object(self.reader.cache, "read", mock.AsyncMock(return_value=listed)))
+        extending = asyncio.create_task(self.lister.extend(b"listed".ljust(NAME), 5, mock.Mock()))
+        while not extending.done():
+            await asyncio.sleep(0)
+            had += 1
+        self.assertEqual((await extending)["endEpoch"], 9)
+        self.assertGreater(had, 2 * count // shelf.TOGETHER)  # turns of others
 
 
 class Tars(unittest.IsolatedAsyncioTestCase):

@@ -11,7 +11,7 @@ from .groups import all_of
 from .problems import Problem, as_json
 from .reading import Reader
 from .shares import Charge
-from .shelf import Shelf
+from .shelf import TOGETHER, Shelf
 from .turns import Turns, owner_of
 
 PAGE, AT_ONCE = 1_000, 2  # blobs of a list that are told at once; lists that are made at once
@@ -54,9 +54,12 @@ class Lister:
         network, until = self.network, self.network.ledger.writing_epoch + epochs
         self.reader.must_stand(name)
         size, names = await self.shelf.consists(name)
-        for piece in names:
+        short = list[bytes]()
+        for number, piece in enumerate(names):  # of which anybody may list half a million
             self.reader.must_stand(piece)
-        short = [piece for piece in names if network.ledger.blobs[piece].until < until]
+            short += [piece] if network.ledger.blobs[piece].until < until else []
+            if number % TOGETHER == 0:
+                await asyncio.sleep(0)
         if short:
             charge.set_to(size, len(short))  # the file costs its bytes again, and these blobs
         while short:

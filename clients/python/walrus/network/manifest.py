@@ -5,7 +5,7 @@ lines ascend byte by byte. docs: network/HTTP.md, "Folders"."""
 import array
 import base64
 import re
-from typing import Container, Iterator, NamedTuple, Optional, Union
+from typing import Iterable, Iterator, NamedTuple, Optional, Union
 
 from .chunks import LONGEST, PIECE
 
@@ -219,8 +219,8 @@ class Manifest:
             number = self.first(f"{folder}{name}0".encode()) if slash else number + 1  # 0 follows the slash
 
 
-def check(before: bytes, path: bytes, above: Container[bytes], found: "re.Match[bytes]") -> None:
-    """Raises where a line does not fit behind the one before it."""
+def check(before: bytes, path: bytes, above: Iterable[bytes], found: "re.Match[bytes]") -> None:
+    """Raises where a line does not fit behind the one before it. The path begins with each of those above."""
     try:
         text = path.decode()
     except UnicodeError:
@@ -231,7 +231,7 @@ def check(before: bytes, path: bytes, above: Container[bytes], found: "re.Match[
         raise Wrong(f"{shown(path)} does not stand in its order, or twice")
     if CONTROLS.search(text) or len(path) > PATH:
         raise Wrong(f"{shown(path)} is too long, is no UTF-8 or has a control character")
-    if not is_beside and any(path[: it.start()] in above for it in re.finditer(b"/", path)):
+    if not is_beside and any(path[len(it) : len(it) + 1] == b"/" for it in above):  # noqa: E203
         raise Wrong(f"{shown(path)} is in a folder that is a file, too")
     most = LONGEST if found[5] is None else PIECE
     if (length == 0) != (file is None) or offset + length > most:

@@ -16,6 +16,7 @@ from .turns import ASKING, Turns
 
 MOST, ROOM, SLIGHT = 128, 67_108_864, 65_536  # manifests that are kept, their bytes, and those that memory holds
 WAITING = 8  # who have one read at once, of which one is
+TOGETHER = 1_024  # blobs or files that are gone through before others have their turn
 NO_FOLDER = "the blob is no folder: read it under /v1/blobs"
 
 
@@ -117,7 +118,7 @@ class Shelf:
         """The bytes of a file, or of all of a folder, and the blobs of which it consists."""
         async with self.reader.blob(name) as blob:
             file, front = File.of(name, blob), bytes(blob[: len(MARK)])
-        found = dict.fromkeys([name]) | blobs_of(file)
+        found = dict.fromkeys([name]) | await blobs_of(file)
         if file.names != name and file.length <= MOST_BYTES:
             async with self.reader.blob(next(file.pieces(0, 1))[0]) as blob:
                 front = bytes(blob[: len(MARK)])
@@ -133,14 +134,14 @@ class Shelf:
         for number, place in enumerate(manifest):
             if place.length:
                 sizes[place.file] = max(sizes.get(place.file, 0), (place.offset or 0) + place.length)
-            if number % 1_024 == 0:
+            if number % TOGETHER == 0:
                 await asyncio.sleep(0)
         for other, size in sizes.items():
             found[other] = None
             self.reader.must_stand(other)
             if size > PIECE or await self.reader.lengths.of_file(other) is None:
                 async with self.reader.blob(other) as blob:
-                    found |= blobs_of(File.of(other, blob))
+                    found |= await blobs_of(File.of(other, blob))
         return file.length + sum(sizes.values()), found
 
     async def close(self) -> None:
@@ -149,5 +150,12 @@ class Shelf:
         await asyncio.gather(*self.kept.values(), return_exceptions=True)
 
 
-def blobs_of(file: File) -> dict[bytes, None]:
-    return dict.fromkeys(piece for piece, _, _, _ in file.pieces(0, file.length) if len(piece) == NAME)
+async def blobs_of(file: File) -> dict[bytes, None]:
+    """The blobs of a file; of the longest it takes a second, in which others have their turn."""
+    found = dict[bytes, None]()
+    for number, (piece, _, _, _) in enumerate(file.pieces(0, file.length)):
+        if len(piece) == NAME:
+            found[piece] = None
+        if number % TOGETHER == 0:
+            await asyncio.sleep(0)
+    return found
