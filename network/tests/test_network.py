@@ -1,6 +1,7 @@
 """A network on loopback, tried as a bad day would: each test ends with the run replayed by the proved core."""
 import asyncio
 import contextlib
+import shutil
 import sqlite3
 import sys
 import unittest
@@ -108,7 +109,9 @@ class Story(NetworkCase):
         await self.local.up(FOUR)
         async with self.local.network(seconds=60) as network:
             bad = await self.store_badly(network)
-            await self.restart("node-0", 1.0)  # below its reserve it takes the proof and lets slivers go
+            disk = shutil.disk_usage(self.folder)
+            below = min(1.0, 2 * disk.free / disk.total)
+            await self.restart("node-0", below)  # below its reserve it takes the proof and lets slivers go
             seats = network.peers.seats(network.ledger.now, 1)
             crossing = [seats[1], seats[3]]  # the false row is that of shard 3
             status, proof = await client.recover(crossing, client.Symbol(bad, client.SECONDARY, 2), network.walrus)

@@ -21,7 +21,7 @@ from unittest import mock
 from harness import lacking
 
 from walrus import client, kinds, shards
-from walrus.frames import METADATA, PRIMARY, SECONDARY, code_of
+from walrus.frames import METADATA, PRIMARY, SECONDARY, answer, code_of
 from walrus.network import handover, judge, recovery, scrub, shard
 from walrus.network.judge import Busy, Judges, Unjudged
 from walrus.network.ledger import OPERATOR, Entry, Ledger, entry_key
@@ -102,6 +102,11 @@ class ShardCase(unittest.IsolatedAsyncioTestCase):
 
     async def read(self, identifier: bytes) -> list[bytes]:
         return (await self.shard.answer(client.write_frame(client.Read(identifier))))[:-1]
+
+    def free(self, part: float) -> Any:
+        """Has so much of the disk free."""
+        disk = types.SimpleNamespace(total=10**12, free=int(part * 10**12))
+        return mock.patch("walrus.network.shard.shutil.disk_usage", lambda _: disk)
 
     def files(self) -> list[pathlib.Path]:
         assert self.store
@@ -325,7 +330,19 @@ class Disk(ShardCase):
         [reply] = await self.shard.put(parts[0])
         self.assertEqual(client.Answer(*struct.unpack(">BII", reply[1:])), client.Answer(shard.FULL, 1, 0))
         self.assertEqual(await self.read(primary[1:33]), [metadata, primary])
-        self.assertEqual(code_of(await self.shard.put(parts[0], mends=True)), client.DONE)
+        with self.free(0.3):  # of the reserve, which is all of this disk
+            self.assertEqual(code_of(await self.shard.put(parts[0], mends=True)), client.DONE)
+
+    async def test_of_the_reserve_a_part_is_left_for_what_must_be_noted(self) -> None:
+        """Else who writes many blobs badly fills all disks by their proofs, and no epoch turns any more."""
+        parts = await self.parts(b"behind")
+        self.shard.reserve, proof = 1.0, bytes([client.PROOF]) + parts[1][1:33] + bytes(9)
+        takes = mock.AsyncMock(return_value=([[answer(client.DONE)]], []))
+        for free, code in ((0.1, shard.FULL), (0.3, client.DONE)):
+            with self.free(free), mock.patch.object(self.judges, "ask", takes):
+                for payload, mends in ((parts[0], True), (proof, False)):
+                    [reply] = await self.shard.put(payload, mends)
+                    self.assertEqual(reply[1], code)
 
 
 @unittest.skipIf(lacking(), f"{lacking()} is not here (network/install)")
@@ -968,7 +985,12 @@ class Committees(NodeCase):
         refused = await self.parts(b"new")
         self.assertEqual(code_of(await later.put(refused[0])), shard.FULL)
         node = self.node({0: {0: self.shard}, 1: {0: later}})
-        await handover.move(node)
+        node.port.tell = mock.Mock()
+        with self.free(0.1):  # of the reserve, which is all of this disk: the last of it is for what must be noted
+            self.assertEqual(await recovery.settle(node, 1, names), 2)
+        self.assertEqual((node.port.tell.call_count, [it.asked for it in self.seats]), (1, [[], [], [], []]))
+        with self.free(0.3):
+            await handover.move(node)
         self.assertEqual([later.settled(it) for it in names], [True, True])
         self.assertEqual(node.posted, [entry_key("a", "ready", 1)])
 

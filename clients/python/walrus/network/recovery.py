@@ -16,7 +16,7 @@ from .groups import several
 from .judge import Busy, Clash, name_of
 from .ledger import ACK, ATTEST
 from .peers import Seat
-from .shard import Shard
+from .shard import LAST, Shard
 
 if TYPE_CHECKING:
     from .node import Node
@@ -99,6 +99,9 @@ async def settle(node: "Node", epoch: int, owed: Iterable[bytes]) -> int:
             work += [Lack(shard, it) for it in some if it not in held and not shard.settled(it)]
     if not work:
         return 0 if await node.store.durable() else len(owed)
+    if not work[0].shard.free_pages(LAST):  # what comes could not be kept
+        node.port.tell(f"{node.name}: the disk has no room for what is lacking (network/OPERATING.md)", "room")
+        return len(work)
     later = {it.identifier for it in work if not node.ledger.certificate(it.identifier)}
     node.progress = progress = Progress(epoch, len(work))
 

@@ -19,6 +19,7 @@ from .store import Part, Store
 from .whole import Whole
 
 SMALL = 65_536  # bytes of the longest content that SQLite has
+LAST = 0.2  # of the reserve, which no part takes: else nothing could be noted any more, such as that blobs are over
 UNREGISTERED, DECLINED, FULL, NO_MEMORY = 1, 5, 6, 7
 ALL = METADATA, PRIMARY, SECONDARY, PROOF
 WANTING = errno.ENOSPC, errno.EDQUOT, errno.EIO, errno.EROFS  # how a disk does not take what came
@@ -155,14 +156,15 @@ class Shard:
             return self.note(await self.sure(request[1:33], request))
 
     async def put(self, payload: bytes, mends: bool = False) -> list[bytes]:
-        """Stores a part; it is on the disk with the store's next commit. What mends may take of the disk's reserve."""
+        """Stores a part; it is on the disk with the store's next commit. A proof, and what mends, may take of the disk's
+        reserve, but for the last of it."""
         identifier, part = judge.name_of(payload), part_of(payload)
         async with self.store.alone(self.holding, identifier):
             if self.epoch != self.ledger.writing_epoch and part not in self.store.wrong(self.holding, identifier):
                 return [answer(DECLINED)]
             judged = await self.sure(identifier, payload)
             parts = {part: payload} if code_of(judged.replies[0]) == client.DONE else {}
-            fits = mends or part == PROOF or pages(parts.values()) <= self.free_pages()
+            fits = pages(parts.values()) <= self.free_pages(LAST if mends or part == PROOF else 1.0)
             async with self.written(identifier, parts if fits else {}) as files:
                 return await self.keep(identifier, judged, parts if fits else None, files)
 
@@ -208,10 +210,10 @@ class Shard:
         if not writing.cancelled() and not writing.exception():
             self.store.abandon(writing.result().values())
 
-    def free_pages(self) -> int:
-        """The pages of the disk that are free beside the reserve."""
+    def free_pages(self, part: float = 1.0) -> int:
+        """The pages of the disk that are free beside a part of the reserve."""
         disk = shutil.disk_usage(self.store.path.parent)
-        return min(max(0, int(disk.free - self.reserve * disk.total)) // 4096, 2**32 - 1)
+        return min(max(0, int(disk.free - part * self.reserve * disk.total)) // 4096, 2**32 - 1)
 
     async def keep(self, identifier: bytes, judged: Judged, parts: Optional[Parts], files: Writing) -> list[bytes]:
         """Stages parts that the judge takes, unless something was lost meanwhile; its last reply, or that the disk does
