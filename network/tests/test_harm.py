@@ -50,7 +50,7 @@ class Turns(TurnCase):
         made.name, made.judges, made.turned = "node-0", types.SimpleNamespace(least=1), None
         made.scrub = types.SimpleNamespace(left=asyncio.Event(), node=made)
         made.scrub.expire = types.MethodType(Scrub.expire, made.scrub)
-        for name in ("apply", "turn", "epochs"):
+        for name in ("apply", "begins_anew", "turn", "epochs"):
             setattr(made, name, types.MethodType(getattr(Node, name), made))
         return made
 
@@ -129,6 +129,24 @@ class Turns(TurnCase):
                 await self.node.scrub.expire()
             await self.enter([registration("x", 1)])
             self.assertEqual((self.held(names), names[1] in self.state.blobs), ([False, True, False], True))
+
+    async def test_for_all_that_is_registered_anew_together_the_disk_is_waited_for_once(self) -> None:
+        """Else who registers again all that has just ended has each node wait for its disk so often, and hear late."""
+        ends, first = [registration("x", it, 1) for it in range(40)], registration("x", 50, 1)
+        names = [bytes.fromhex(it.split("/")[2]) for it in (*ends, first)]
+        await self.enter([FOUNDED, *ends, first])
+        for name in names:
+            self.store.put(1, 0, name, 0, b"metadata", None)
+        await self.enter([BEGUN])
+        anew = [registration("x", it) for it in (*range(40), 50)]
+        with mock.patch.object(self.store, "persist", mock.AsyncMock(side_effect=self.store.persist)) as persisted:
+            await self.enter([*OVER, *anew[:-1]])  # the last entry of a turn, and what comes behind it
+            self.assertEqual(persisted.await_count, 2)
+            self.assertEqual(self.held(names), [False] * 40 + [True])
+            self.store.put(1, 1, names[0], 0, b"metadata", None)
+            await self.enter([registration("x", 0, 6), anew[-1]])
+            self.assertEqual(persisted.await_count, 3)
+        self.assertEqual(self.held(names), [True] + [False] * 40)
 
     async def test_a_turn_costs_a_ledger_the_same_however_many_blobs_end_with_it(self) -> None:
         self.enterContext(mock.patch.object(state, "DROPPED", 10))

@@ -116,14 +116,20 @@ class Node(View):
                     await settle(self, epoch, wrong)
 
     async def apply(self, entries: list[Entry]) -> None:
-        """Enters entries in their order, perhaps behind a checkpoint."""
-        ledger = self.ledger
+        """Enters entries in their order, perhaps behind a checkpoint. A blob that is over begins anew with no parts: the
+        disk is waited for once for all of these, as anybody may register many again behind a turn."""
+        ledger, gone = self.ledger, set[bytes]()
         await self.turn()
-        for entry in entries:
-            if entry.words[1:2] == [REGISTER] and ledger.blobs.is_over(entry.values[0]):  # it begins anew
-                await self.store.persist(functools.partial(self.store.expire, entry.values[:1], ledger.epoch))
+        for place, entry in enumerate(entries):
+            if self.begins_anew(entry) and entry.values[0] not in gone:
+                gone = {it.values[0] for it in entries[place:] if self.begins_anew(it)}
+                await self.store.persist(functools.partial(self.store.expire, [*gone], ledger.epoch))
             ledger.apply(entry)
             await self.turn()
+
+    def begins_anew(self, entry: Entry) -> bool:
+        """Whether an entry registers a blob that is over, of which the disk may have parts."""
+        return entry.words[1:2] == [REGISTER] and self.ledger.blobs.is_over(entry.values[0])
 
     async def turn(self) -> None:
         """Where there are other committees than before, has their shards go on once that is on the disk: what stays is
