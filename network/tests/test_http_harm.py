@@ -23,7 +23,7 @@ from http_case import DRAWN
 from ledger_case import registration
 from walrus import client
 from walrus.frames import answer
-from walrus.network import archives, connections, digests, folders, intake, metrics, problems, reading, shelf
+from walrus.network import archives, connections, digests, folders, intake, listing, metrics, problems, reading, shelf
 from walrus.network import source, turns, unfinished, whole
 from walrus.network.blobs import Blob
 from walrus.network.chunks import NAME, PIECE, File
@@ -370,6 +370,14 @@ class Harm(GuardCase):
             self.assertEqual((status, [it["blobId"] for it in told["blobs"]]), (200, names))
         self.assertEqual((await self.ask("GET", path + "f" * 64))[2]["blobs"], [])
         self.assertEqual([it for it in ran if "identifier >" in it and "until <=" in it], [])
+        names, had = [bytes.fromhex(names[0])] * 1_000, [0]
+        request: Any = mock.MagicMock(query={})
+        with mock.patch.object(listing, "ending", mock.AsyncMock(return_value=names)):
+            making = asyncio.create_task(self.gateway.lister.list(request))
+            while not making.done():
+                await asyncio.sleep(0)
+                had[0] += 1
+        self.assertGreater(had[0], 1_000 // listing.FEW)  # turns of others
         self.network.state.base.set_trace_callback(None)
 
 

@@ -15,6 +15,7 @@ from .shelf import TOGETHER, Shelf
 from .turns import Turns, owner_of
 
 PAGE, AT_ONCE = 1_000, 2  # blobs of a list that are told at once; lists that are made at once
+FEW = 50  # blobs that are told before others have their turn
 
 
 class Lister:
@@ -35,9 +36,13 @@ class Lister:
         if not re.fullmatch("|[0-9a-f]{64}", after):
             raise Problem(400, "after is the identifier of a blob, or nothing")
         last, start = ledger.epoch + int(within), bytes.fromhex(after)
+        found = list[dict[str, object]]()
         async with self.turns.take(owner_of(request)):
             names = await ending(self.network, start, last)
-        found = [self.tell(name, blob) for name in names[:PAGE] if (blob := ledger.blobs.get(name))]
+            for number, name in enumerate(names[:PAGE]):
+                found += [self.tell(name, blob)] if (blob := ledger.blobs.get(name)) else []
+                if number % FEW == 0:
+                    await asyncio.sleep(0)
         told = {"epoch": ledger.epoch, "blobs": found}
         more = names[PAGE - 1].hex() if len(names) > PAGE else None
         return as_json({**told, "next": more})
