@@ -227,6 +227,11 @@ class Harm(GuardCase):
         for head, data in ((b"Connection: upgrade\r\nUpgrade: h2c\r\n", bytes(16_384)), (b"", put)):
             _, writer = await self.connect(asked + head + b"\r\n")
             self.assertTrue(await self.is_ended(writer, data, 400))
+        long = b"".join(b"H%d: %b\r\n" % (it, b"h" * 5_000) for it in range(5))  # of each request 64 may wait
+        _, writer = await self.connect(asked + b"\r\n")
+        self.assertTrue(await self.is_ended(writer, asked + long + b"\r\n", 40))
+        reader, writer = await self.connect(asked + b"".join(b"H%d: h\r\n" % it for it in range(64)) + b"\r\n")
+        self.assertIn(b" 400 ", await reader.readline())
 
     async def test_of_one_who_asks_and_goes_away_few_requests_are_answered(self) -> None:
         """They go on without their clients, as long as what they wait for: of those who are connected there are few."""

@@ -19,7 +19,8 @@ from .entries import NAME
 FIRST, HANDSHAKE, EACH = 30.0, 5.0, 300  # seconds for a first request and for TLS; connections of one address
 MALFORMED = b"HTTP/1.1 400 Bad Request\r\nContent-Length: 0\r\nConnection: close\r\n\r\n"
 GRACE, LEAST = 60.0, 32_768  # seconds in which a reply is taken, and bytes of it for which there is a second more
-WAITING, AHEAD = 64, 65_536  # requests, and bytes of their bodies, that a client has sent before it is answered
+FIELDS, WAITING, AHEAD = 64, 64, 65_536  # fields of a request's head; what a client has sent before it is answered:
+# requests, and bytes of their heads, and of their bodies
 
 
 class Connection(web.RequestHandler):
@@ -30,7 +31,8 @@ class Connection(web.RequestHandler):
 
     def __init__(self, server: web.Server, most: int, each: "collections.Counter[str]", **words: Any):
         loop = asyncio.get_running_loop()
-        super().__init__(server, loop=loop, keepalive_timeout=30, lingering_time=2, auto_decompress=False, **words)
+        words |= {"keepalive_timeout": 30, "lingering_time": 2, "auto_decompress": False, "max_headers": FIELDS}
+        super().__init__(server, loop=loop, **words)
         self.server, self.most, self.each, self.peer = server, most, each, ""
 
     def whom(self, transport: asyncio.BaseTransport) -> tuple[str, float]:
@@ -62,10 +64,13 @@ class Connection(web.RequestHandler):
             self.transport.abort()
 
     def is_ahead(self) -> bool:
-        """Whether a client has sent more than may wait while it is answered: requests, whole bodies of these behind the
-        first one, or what follows one for another protocol. aiohttp has no bound, and no public way to see it."""
+        """Whether a client has sent more than may wait while it is answered: requests, their heads, whole bodies of
+        these behind the first one, or what follows one for another protocol. aiohttp has no bound, and no public way to
+        see it."""
+        fields = (field for head, _ in self._messages for field in getattr(head, "raw_headers", ()))
+        heads = sum(map(len, itertools.chain.from_iterable(fields)))
         bodies = sum(getattr(body, "total_bytes", 0) for _, body in itertools.islice(self._messages, 1, None))
-        return len(self._messages) > WAITING or bodies + len(self._message_tail) > AHEAD
+        return len(self._messages) > WAITING or heads > AHEAD or bodies + len(self._message_tail) > AHEAD
 
     async def finish_response(self, request: web.BaseRequest, resp: web.StreamResponse, *words: Any) -> Any:
         """Sends a reply, or what is left of one that is a stream. Who does not take it is let go: aiohttp waits for

@@ -116,8 +116,8 @@ class Node(View):
                     await settle(self, epoch, wrong)
 
     async def apply(self, entries: list[Entry]) -> None:
-        """Enters entries in their order, perhaps behind a checkpoint. A blob that is over begins anew with no parts: the
-        disk is waited for once for all of these, as anybody may register many again behind a turn."""
+        """Enters entries in their order, perhaps behind a checkpoint. A blob that is over begins anew with no parts:
+        the disk is waited for once for all of these, as anybody may register many again behind a turn."""
         ledger, gone = self.ledger, set[bytes]()
         await self.turn()
         for place, entry in enumerate(entries):

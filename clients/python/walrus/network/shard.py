@@ -156,8 +156,8 @@ class Shard:
             return self.note(await self.sure(request[1:33], request))
 
     async def put(self, payload: bytes, mends: bool = False) -> list[bytes]:
-        """Stores a part; it is on the disk with the store's next commit. A proof, and what mends, may take of the disk's
-        reserve, but for the last of it."""
+        """Stores a part; it is on the disk with the store's next commit. A proof, and what mends, may take of the
+        disk's reserve, but for the last of it."""
         identifier, part = judge.name_of(payload), part_of(payload)
         async with self.store.alone(self.holding, identifier):
             if self.epoch != self.ledger.writing_epoch and part not in self.store.wrong(self.holding, identifier):
