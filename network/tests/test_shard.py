@@ -800,7 +800,7 @@ class Recovery(NodeCase):
         self.assertGreater(min(size for _, size in read), 90)
         ends = [begun for begun, _ in read[1:]] + [now]
         for (begun, size), end in zip(read, ends):
-            self.assertGreaterEqual(end - begun, size / 1_000 - 1e-6)  # until the next one is read
+            self.assertGreaterEqual(end - begun, max(size, scrub.LEAST) / 1_000 - 1e-6)  # until the next one is read
 
     async def test_a_scrub_drops_what_the_whole_ledger_no_longer_has(self) -> None:
         """Such as what expired by a checkpoint behind which the node was killed."""

@@ -19,6 +19,7 @@ if TYPE_CHECKING:
 
 DAY, PAUSE, LOOKED = 86_400.0, 2.0, 60.0  # seconds: until what failed is tried again; until the clock is looked at
 AT_ONCE = 500  # blobs that expire in one step
+LEAST = 65_536  # bytes that a blob counts with at least, as anybody may have many small ones judged all the time
 
 
 @dataclasses.dataclass
@@ -86,7 +87,8 @@ class Scrub:
                 size, fine = await max(shards, key=lambda it: it.epoch).check(identifier)
                 figures.blobs, figures.bytes = figures.blobs + 1, figures.bytes + size
                 figures.wrong += not fine
-                await asyncio.sleep(begun + size / self.node.settings.scrub_rate - time.monotonic())
+                due = begun + max(size, LEAST) / self.node.settings.scrub_rate
+                await asyncio.sleep(due - time.monotonic())
                 self.note()
         await self.sweep()
         figures.running, figures.ended, figures.holding, figures.after = False, time.time(), 0, ""
