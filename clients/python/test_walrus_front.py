@@ -78,7 +78,7 @@ class Words(unittest.TestCase):
             walrus = example_tools.find_walrus().path
             status, said, told = run_front("--port", taken.getsockname()[1], walrus, 1, 0)
             self.assertEqual((status, said, len(told)), (1, b"", 1))
-            self.assertIn("address already in use", told[0])
+            self.assertIn("Address already in use", told[0])
 
 
 class Ends(unittest.IsolatedAsyncioTestCase):

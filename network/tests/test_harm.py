@@ -1,8 +1,10 @@
 """What one participant may have all others wait for: at a node, and at a turn of the epoch who registers many blobs."""
 import asyncio
+import collections
 import contextlib
 import pathlib
 import sqlite3
+import ssl
 import tempfile
 import threading
 import time
@@ -12,9 +14,9 @@ from typing import Any, Callable
 from unittest import mock
 
 from ledger_case import FOUNDED, registration
-from walrus import client, fairness, port
+from walrus import client, fairness, frames, port
 from walrus.frames import answer
-from walrus.network import figures, recovery, scrub, state
+from walrus.network import certificates, figures, recovery, scrub, state
 from walrus.network.entries import Chain, Entry
 from walrus.network.figures import NodePort
 from walrus.network.follower import News, Recorders, View
@@ -308,9 +310,7 @@ class Ports(unittest.IsolatedAsyncioTestCase):
         said = list[str]()
         self.made.say = said.append
         for host in ("2001:db8:1:2::3", "2001:db8:1:2::4", "2001:db8:1:3::3", "192.0.2.1", "192.0.2.2"):
-            wire = mock.Mock()
-            wire.get_extra_info.return_value = (host, 1)
-            client_ = port.Connection(mock.Mock(), wire)
+            client_ = port.Connection(mock.Mock(), (host, 1))
             self.made.tell(f"client {client_} is cut off", "Fault", client_)
         self.assertEqual(len(said), 4)
 
@@ -336,6 +336,77 @@ class Ports(unittest.IsolatedAsyncioTestCase):
                 await client.take_envelope(it, 99)
         self.assertEqual(len(self.made.connections), 8)
         self.assertEqual(sum(it.whom == "127.0.0.3" for it in self.made.connections), 1)
+
+
+class Handshakes(Ports):
+    """The same over TLS."""
+
+    async def asyncSetUp(self) -> None:
+        await super().asyncSetUp()
+        await self.made.close_port()
+        folder = pathlib.Path(self.enterContext(tempfile.TemporaryDirectory()))
+        certificates.make_authority(folder / "authority")
+        certificates.make(folder / "node", folder / "authority", "node", ["node"])
+        context = ssl.create_default_context(ssl.Purpose.CLIENT_AUTH)
+        context.load_cert_chain(folder / "node.crt", folder / "node.key")
+        self.trusting = ssl.create_default_context(cafile=str(folder / "authority.crt"))
+        self.place = await self.made.listen("127.0.0.1", 0, context)
+
+    async def come(self, host: str, **words: Any) -> tuple[asyncio.StreamReader, asyncio.StreamWriter]:
+        streams = await asyncio.open_connection("127.0.0.1", self.place, local_addr=(host, 0), **words)
+        self.addCleanup(streams[1].transport.abort)
+        return streams
+
+    async def ask(self, number: int, host: str) -> tuple[asyncio.StreamReader, asyncio.StreamWriter]:
+        streams = await self.come(host, ssl=self.trusting, server_hostname="node")
+        streams[1].write(client.envelope(client.write_frame(client.Read(bytes(32))), number))
+        return streams
+
+    async def test_of_who_completes_no_handshake_few_wait_and_nobody_else_gives_way(self) -> None:
+        self.goes_on = asyncio.Semaphore(99)
+        first, _ = await self.ask(1, "127.0.0.3")
+        self.assertEqual(await client.take_envelope(first, 99), (1, answer(client.DONE)))
+        _, early = await self.come("127.0.0.4")
+        opened = [await self.come("127.0.0.2") for _ in range(30)]
+        await self.until(lambda: sum(reader.at_eof() or bool(reader.exception()) for reader, _ in opened) == 23)
+        self.assertEqual(collections.Counter(it.whom for it in self.made.coming), {"127.0.0.2": 7, "127.0.0.4": 1})
+        self.assertEqual(len(self.made.connections), 1)
+        await early.start_tls(self.trusting, server_hostname="node")
+        await self.until(lambda: len(self.made.connections) == 2)
+        second, _ = await self.ask(2, "127.0.0.2")
+        self.assertEqual(await client.take_envelope(second, 99), (2, answer(client.DONE)))
+        self.assertFalse(first.at_eof())
+
+    async def test_of_a_handshake_that_does_not_come_nothing_is_left(self) -> None:
+        self.enterContext(mock.patch.object(port, "HANDSHAKE", 0.2))
+        opened = [await self.come("127.0.0.2") for _ in range(4)]
+        opened[0][1].write(b"GET / HTTP/1.1\r\n\r\n")
+        opened[1][1].write_eof()
+        opened[2][1].transport.abort()
+        await self.until(lambda: opened[3][0].at_eof() and not self.made.coming)
+        self.assertEqual((len(self.made.connections), self.made.kept), (0, 0))
+
+    async def test_long_requests_that_come_with_the_end_of_a_handshake_are_answered(self) -> None:
+        """They are more than what is taken ahead of who reads."""
+        self.goes_on, came, goes = asyncio.Semaphore(99), ssl.MemoryBIO(), ssl.MemoryBIO()
+        tls, (reader, writer) = self.trusting.wrap_bio(came, goes, server_hostname="node"), await self.come("127.0.0.2")
+
+        async def step(take: Callable[[], object]) -> object:
+            while True:
+                try:
+                    return take()
+                except ssl.SSLWantReadError:
+                    writer.write(goes.read())
+                    came.write(await reader.read(65_536))
+
+        await step(tls.do_handshake)
+        sliver = client.write_frame(frames.Sliver(bytes(32), 0, 0, bytes(60_000)))
+        tls.write(b"".join(client.envelope(sliver, number) for number in (1, 2)))
+        async with asyncio.timeout(60):
+            for number in (1, 2):
+                said = await step(lambda: tls.read(17))
+                self.assertEqual(said, client.envelope(answer(client.DONE), number))
+        self.assertEqual(self.order, [1, 2])
 
 
 if __name__ == "__main__":

@@ -11,6 +11,7 @@ import time
 import types
 import unittest
 import weakref
+from typing import Callable
 from unittest import mock
 
 sys.path.insert(0, str(pathlib.Path(__file__).resolve().parents[2] / "clients" / "python"))
@@ -21,7 +22,7 @@ from walrus.network.chunks import Writer  # noqa: E402
 from walrus.network.pieces import Memory  # noqa: E402
 from walrus.network.turns import ASKING  # noqa: E402
 from walrus.baskets import OFFERED, PASSED, Basket  # noqa: E402
-from walrus.streams import take_envelope, write_in_slices  # noqa: E402
+from walrus.streams import take_envelope  # noqa: E402
 
 try:
     import uvloop
@@ -33,6 +34,18 @@ async def settled() -> None:
     """Lets all tasks go on as far as they can."""
     for _ in range(20):
         await asyncio.sleep(0)
+
+
+class Taken(wire.Wire):
+    """A connection that a server has taken, of which somebody is told."""
+
+    def __init__(self, come: Callable[[wire.Wire], object]) -> None:
+        super().__init__()
+        self.come = come
+
+    def connection_made(self, transport: asyncio.BaseTransport) -> None:
+        super().connection_made(transport)
+        self.come(self)
 
 
 class Shares(unittest.IsolatedAsyncioTestCase):
@@ -208,12 +221,8 @@ class Shares(unittest.IsolatedAsyncioTestCase):
 class Baskets(unittest.IsolatedAsyncioTestCase):
     async def asyncSetUp(self) -> None:
         accepted: "asyncio.Queue[wire.Wire]" = asyncio.Queue()
-
-        async def accept(other: wire.Wire) -> None:
-            accepted.put_nowait(other)
-
         loop = asyncio.get_running_loop()
-        server = await loop.create_server(lambda: wire.Wire(accept), "127.0.0.1", 0)
+        server = await loop.create_server(lambda: Taken(accepted.put_nowait), "127.0.0.1", 0)
         self.addCleanup(server.close)
         self.ends = list[tuple[wire.Wire, wire.Wire]]()
         for _ in range(3):
@@ -420,12 +429,8 @@ class Idle(unittest.IsolatedAsyncioTestCase):
 class Cancelled(unittest.IsolatedAsyncioTestCase):
     async def test_of_a_store_that_nobody_waits_for_nothing_is_in_memory(self) -> None:
         accepted = asyncio.Queue[wire.Wire]()
-
-        async def accept(other: wire.Wire) -> None:
-            accepted.put_nowait(other)
-
         loop = asyncio.get_running_loop()
-        server = await loop.create_server(lambda: wire.Wire(accept), "127.0.0.1", 0)
+        server = await loop.create_server(lambda: Taken(accepted.put_nowait), "127.0.0.1", 0)
         self.addCleanup(server.close)
         known = types.SimpleNamespace(seconds=60, connect=lambda _: wire.connect(*server.sockets[0].getsockname()))
         seat = peers.Seat(known, "node-0", 0, 1)  # type: ignore[arg-type]
@@ -468,18 +473,18 @@ class Loops(unittest.TestCase):
         own.load_cert_chain(folder / "node-0.crt", folder / "node-0.key")
         others, large = ssl.create_default_context(cafile=str(folder / "authority.crt")), bytes(range(250)) * 4_000
 
-        async def accept(other: wire.Wire) -> None:
-            _, request = await take_envelope(other, 999)
-            await write_in_slices(other, [request, large], 0)
+        async def reply(shard: int, request: bytes) -> port.Said:
+            return port.Said([client.envelope(request + large)])
 
-        loop, basket = asyncio.get_running_loop(), Basket(1, size=1_000_003)
-        server = await loop.create_server(lambda: wire.Wire(accept), "127.0.0.1", 0, ssl=own)
-        ours = await wire.connect(*server.sockets[0].getsockname(), ssl=others, server_hostname="node-0")
-        ours.write(client.envelope(b"ask"))
-        _, heard = await take_envelope(ours, 1_000_003, basket)
-        self.assertEqual(bytes(basket.stream([heard])), client.envelope(b"ask" + large))
+        served, asked = port.Port(reply, client.Shape(1), port.Bounds()), client.write_frame(client.Read(bytes(32)))
+        number, size = await served.listen("127.0.0.1", 0, own), len(asked) + len(large)
+        basket = Basket(1, size=size)
+        ours = await wire.connect("127.0.0.1", number, ssl=others, server_hostname="node-0")
+        ours.write(client.envelope(asked))
+        _, heard = await take_envelope(ours, size, basket)
+        self.assertEqual(bytes(basket.stream([heard])), client.envelope(asked + large))
         ours.close()
-        server.close()
+        await served.close_port()
         await asyncio.sleep(0.05)
 
 

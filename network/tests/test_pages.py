@@ -25,7 +25,7 @@ class Pages(unittest.TestCase):
 
     def test_the_bounds_stand_in_the_page(self) -> None:
         page = (harness.HERE.parent / "README.md").read_text()
-        bounds = [f"{it:g} s" for it in (node.REQUEST, node.IDLE, node.HANDSHAKE)]
+        bounds = [f"{it:g} s" for it in (node.REQUEST, node.IDLE, port.HANDSHAKE)]
         self.assertIn("; ".join(bounds), page)
         self.assertIn(f"| {intake.HEARD:g} s; {port.ASIDE} |", page)
         unit, page = ((harness.HERE.parent / it).read_text() for it in ("units/walrus-node@.service", "OPERATING.md"))

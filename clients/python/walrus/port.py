@@ -7,6 +7,8 @@ import collections
 import contextlib
 import dataclasses
 import functools
+import socket
+import ssl
 import sys
 import time
 from collections.abc import Awaitable, Callable, Sequence
@@ -16,10 +18,10 @@ from .client import HEAD, MARK, SLICE, Data, Fault, Shape, envelope, in_words, w
 from .fairness import Fair, key_of
 from .frames import refuse
 from .streams import write_parts
-from .wire import Wire, filling, memory
+from .wire import Wire, accept, bound, filling, memory
 
 PIECE, AHEAD, QUIET = 65_536, 64, 60.0  # bytes of one client; replies that wait; seconds between two equal lines
-LARGE_PAGE = 2_097_152  # bytes
+LARGE_PAGE, HANDSHAKE = 2_097_152, 5.0  # bytes; seconds for TLS
 ASIDE = 256  # requests that wait for others without a turn
 MANY = 4  # who has more than one of so many parts of the connections has many
 
@@ -51,18 +53,18 @@ class Connection:
     """A client: since when it is at what it does, whether a shard replied, what is kept for it, and replies to send."""
 
     task: "asyncio.Task[None]"
-    wire: Wire
-    whom: str = dataclasses.field(init=False)  # from where it is, which over TLS nobody knows once it has left
+    address: tuple[Any, ...]
+    whom: str = dataclasses.field(init=False)  # from where it is
     since: float = dataclasses.field(default_factory=time.monotonic)
     had_reply: bool = False
     kept: int = 0
     replies: "asyncio.Queue[Optional[Said]]" = dataclasses.field(default_factory=lambda: asyncio.Queue(AHEAD))
 
     def __post_init__(self) -> None:
-        self.whom = key_of(str((self.wire.get_extra_info("peername") or ("",))[0]))
+        self.whom = key_of(str(self.address[0]))
 
     def __str__(self) -> str:
-        return ":".join(map(str, (self.wire.get_extra_info("peername") or ("a client that left",))[:2]))
+        return ":".join(map(str, self.address[:2]))
 
 
 class Port:
@@ -73,13 +75,13 @@ class Port:
     ) -> None:
         self.reply, self.shape, self.bounds, self.own = reply, shape, bounds, own
         self.turns = Fair(max(2, bounds.kept // shape.longest))  # so many requests are answered at once
-        self.connections: dict[Connection, None] = {}
+        self.connections, self.coming = dict[Connection, None](), dict[Connection, None]()  # and those in a handshake
         self.asking = set[Connection]()  # clients of whom a request is being answered, also those that were cut off
         self.answers, self.at_turn = set["asyncio.Task[Said]"](), set["asyncio.Task[Any]"]()  # under way; with a turn
         self.told: dict[tuple[str, str], float] = {}
         self.say: Callable[[str], None] = functools.partial(print, file=sys.stderr, flush=True)  # to an operator
         self.kept, self.changed = 0, asyncio.Event()
-        self.server: Optional[asyncio.Server] = None
+        self.accepting, self.tls = list["asyncio.Task[None]"](), dict[str, Any]()  # who accepts, and over what TLS
 
     def tell(self, text: str, kind: str, client: object = "") -> None:
         """Says a line, and none of the same kind about the same host, or network of one customer, for a minute."""
@@ -88,17 +90,19 @@ class Port:
             self.told = {key: when for key, when in self.told.items() if now - when < QUIET} | {key: now}
             self.say(text)
 
-    async def listen(self, host: str, port: int, **words: Any) -> int:
-        """Answers from here on; the port."""
-        loop, made = asyncio.get_running_loop(), functools.partial(Wire, self.connect)
-        self.server = await loop.create_server(made, host, port, backlog=1024, **words)
-        return int(self.server.sockets[0].getsockname()[1])
+    async def listen(self, host: str, port: int, context: Optional[ssl.SSLContext] = None) -> int:
+        """Answers from here on, over TLS if so told; the port."""
+        self.tls = {"ssl": context, "ssl_handshake_timeout": HANDSHAKE} if context else {}
+        listening = bound(host, port)
+        self.accepting = [asyncio.create_task(accept(it, self.connect)) for it in listening]
+        return int(listening[0].getsockname()[1])
 
     async def close_port(self) -> None:
         """Listens no more, and cuts off who is connected."""
-        if self.server:
-            self.server.close()
-        while tasks := [*(client.task for client in self.connections), *self.answers]:
+        for accepting in self.accepting:
+            accepting.cancel()
+        await asyncio.gather(*self.accepting, return_exceptions=True)
+        while tasks := [*(client.task for client in (*self.connections, *self.coming)), *self.answers]:
             for task in tasks:
                 task.cancel()
             await asyncio.gather(*tasks, return_exceptions=True)
@@ -110,6 +114,7 @@ class Port:
     def let_go(self, client: Connection) -> None:
         """Has a client no more. What is kept for it counts until the request of it that is answered has its answer."""
         self.connections.pop(client, None)
+        self.coming.pop(client, None)
         if client not in self.asking:
             self.hold(client, -client.kept)
 
@@ -132,30 +137,33 @@ class Port:
             self.tell(f"client {other} is cut off: too much is kept, and it is at it for longest", "kept", other)
             self.cut_off(other)
 
-    def make_room(self, newcomer: Connection) -> None:
+    def make_room(self, newcomer: Connection, among: dict[Connection, None]) -> None:
         """Where there are as many connections as may be, cuts off that which waits longest, first those of who has many
         of them, and those of no reply."""
-        if len(self.connections) >= self.bounds.connections:
-            counts, many = collections.Counter(it.whom for it in self.connections), self.bounds.connections // MANY
-            client = min(self.connections, key=lambda it: (counts[it.whom] <= many, it.had_reply, it.since))
-            text = f"{len(self.connections)} connections: {client}, which waits longest, is cut off for {newcomer}"
-            self.tell(text, "many")
+        if len(among) >= self.bounds.connections:
+            counts, many = collections.Counter(it.whom for it in among), self.bounds.connections // MANY
+            client = min(among, key=lambda it: (counts[it.whom] <= many, it.had_reply, it.since))
+            self.tell(f"{len(among)} connections: {client}, which waits longest, is cut off for {newcomer}", "many")
             self.cut_off(client)
-        self.connections[newcomer] = None
+        among[newcomer] = None
 
-    async def connect(self, wire: Wire) -> None:
+    async def connect(self, connection: socket.socket, address: tuple[Any, ...]) -> None:
         """Answers the requests of one connection until it ends, or is cut off."""
-        task = asyncio.current_task()
+        task, loop, wire = asyncio.current_task(), asyncio.get_running_loop(), Wire()
         assert task
-        client = Connection(task, wire)
-        self.make_room(client)
-        wire.transport.set_write_buffer_limits(high=1, low=0)  # so that what is written is gone once it is drained
+        client = Connection(task, address)
+        self.make_room(client, self.coming)
         try:
-            with contextlib.suppress(asyncio.CancelledError):  # it is cut off
+            with contextlib.suppress(asyncio.CancelledError, OSError):  # it is cut off, or there is no TLS with it
+                await loop.connect_accepted_socket(lambda: wire, connection, **self.tls)
+                self.coming.pop(client, None)
+                client.since = time.monotonic()
+                self.make_room(client, self.connections)
+                wire.transport.set_write_buffer_limits(high=1, low=0)  # so that what is written is gone once drained
                 await self.converse(client, wire)
         finally:
             self.let_go(client)
-            with contextlib.suppress(AttributeError):  # asyncio's, of a transport that is closed already
+            with contextlib.suppress(AttributeError):  # there is no transport yet, or asyncio's is closed already
                 wire.transport.abort()
 
     async def converse(self, client: Connection, reader: Wire) -> None:
@@ -163,7 +171,7 @@ class Port:
         try:
             async with asyncio.TaskGroup() as group:
                 group.create_task(self.receive(client, reader))
-                group.create_task(self.send(client))
+                group.create_task(self.send(client, reader))
         except* (Fault, TimeoutError) as faults:
             error = faults.exceptions[0]
             text = str(error) or f"no whole request, or no reply taken, in {self.bounds.seconds:g} s"
@@ -279,12 +287,12 @@ class Port:
         elif not failed:
             self.keep(client, task.result().size - size)
 
-    async def send(self, client: Connection) -> None:
+    async def send(self, client: Connection, wire: Wire) -> None:
         """Sends the replies, each once what it rests on is on the disk."""
         while said := await client.replies.get():
             written = said.written is None or await asyncio.shield(said.written)
             async with asyncio.timeout(self.bounds.seconds):
-                await write_parts(client.wire, said.parts if written else [said.lost])
+                await write_parts(wire, said.parts if written else [said.lost])
             self.keep(client, -said.size)
             client.since = time.monotonic()
             client.replies.task_done()

@@ -2,13 +2,16 @@
 six times. It has the methods of a `StreamReader` and a `StreamWriter` that envelopes need."""
 import asyncio
 import collections
+import errno
 import mmap
+import socket
 from collections.abc import Callable, Coroutine, Sequence
 from typing import Any, Optional, Union, cast
 
 from . import buffers
 
 LANDING, LARGE = 16_384, 65_536  # bytes that come ahead of who reads; of what has a memory of its own
+LACKING, LULL = (errno.EMFILE, errno.ENFILE, errno.ENOBUFS, errno.ENOMEM), 1.0  # what passes; seconds until it may
 Data = Union[bytes, bytearray, memoryview]
 
 
@@ -35,12 +38,11 @@ def joined(parts: Sequence[Data]) -> Data:
 
 
 class Wire(asyncio.BufferedProtocol):
-    """Both ends of a connection. `accept` is run over each that is taken by a server."""
+    """Both ends of a connection."""
 
     transport: asyncio.Transport
 
-    def __init__(self, accept: Optional[Callable[["Wire"], Coroutine[Any, Any, None]]] = None) -> None:
-        self.accept, self.task = accept, None  # type: Any, Optional[asyncio.Task[None]]
+    def __init__(self) -> None:
         self.landing, self.first, self.last = memoryview(bytearray(LANDING)), 0, 0  # what came, and nobody has read
         self.target: Optional[memoryview] = None  # what is read into just now
         self.ended, self.paused, self.full = False, False, False
@@ -50,8 +52,6 @@ class Wire(asyncio.BufferedProtocol):
 
     def connection_made(self, transport: asyncio.BaseTransport) -> None:
         self.transport = cast(asyncio.Transport, transport)  # uvloop's, over TLS, are of no class of asyncio's
-        if self.accept:
-            self.task = asyncio.get_running_loop().create_task(self.accept(self))
 
     def get_buffer(self, sizehint: int) -> memoryview:
         if self.target:
@@ -178,3 +178,34 @@ async def connect(host: str, port: int, **words: Any) -> Wire:
     """A connection to an address; `words` are further ones for `create_connection`."""
     _, wire = await asyncio.get_running_loop().create_connection(Wire, host, port, **words)
     return wire
+
+
+def bound(host: str, port: int) -> list[socket.socket]:
+    """Sockets that listen, one for each address that a host has here."""
+    made = list[socket.socket]()
+    try:
+        found = socket.getaddrinfo(host or None, port, type=socket.SOCK_STREAM, flags=socket.AI_PASSIVE)
+        for family, _, _, _, address in dict.fromkeys(found):  # as a name may stand for one of them twice
+            made.append(socket.create_server(address, family=family, backlog=1024))
+            made[-1].setblocking(False)
+    except OSError:
+        for listening in made:
+            listening.close()
+        raise
+    return made
+
+
+async def accept(listening: socket.socket, come: Callable[[socket.socket, Any], Coroutine[Any, Any, None]]) -> None:
+    """Has each connection that comes, and its address, be seen to in a task, before anything is read of it. What does
+    not let any come, such as no descriptor that is left, is told, and passes."""
+    loop = asyncio.get_running_loop()
+    with listening:
+        while True:
+            pause = 0.0  # others go on between two
+            try:
+                loop.create_task(come(*await loop.sock_accept(listening)))
+            except OSError as fault:
+                if fault.errno in LACKING:
+                    pause = LULL
+                    loop.call_exception_handler({"message": "no connection is taken just now", "exception": fault})
+            await asyncio.sleep(pause)

@@ -36,7 +36,7 @@ from .whole import WHOLE
 
 VOUCHES = {client.ACK: ACK, client.ATTEST: ATTEST}
 sslproto.SSLProtocol.max_size = 65_536  # bytes that each connection has ready, instead of four times as many
-REQUEST, IDLE, HANDSHAKE, COUNTED = 30.0, 60.0, 5.0, 13  # seconds, and the code of an answer
+REQUEST, IDLE, COUNTED = 30.0, 60.0, 13  # seconds, and the code of an answer
 BARE = 50_331_648  # bytes of a node that does nothing
 PAGES = 8_192  # KiB of the ledger's database that are kept in memory
 TAIL = 2  # epochs whose entries a node keeps, from which a ledger that was restored is made whole
@@ -71,7 +71,7 @@ class Node(View):
         context = ssl.create_default_context(ssl.Purpose.CLIENT_AUTH)
         context.load_cert_chain(self.settings.certificate, self.settings.key)
         host = self.settings.host
-        port = await self.port.listen(host, self.settings.port, ssl=context, ssl_handshake_timeout=HANDSHAKE)
+        port = await self.port.listen(host, self.settings.port, context)
         address = (self.settings.announced or f"{host}:{port}").rpartition(":")[::2]
         tell = self.recorders.post(entry_key(self.name, ADDRESS, *address), None)
         owed = handover.hand_over(self), handover.heal(self), self.mend(), self.tell_past()
