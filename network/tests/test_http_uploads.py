@@ -10,7 +10,7 @@ import shutil
 import threading
 import time
 import unittest
-from typing import Any, Optional
+from typing import Any, Iterable, Optional
 from unittest import mock
 
 from guard_case import GuardCase
@@ -331,6 +331,31 @@ class Refused(UploadCase):
             for number in range(6):
                 self.assertEqual((await self.begin(b"x", end=True, **bob))[0], 200 if number else 201)
             self.assertLessEqual(len(list(self.folder.glob("tokens.uploads/*/told"))), 4)
+
+    async def test_uploads_whose_replies_were_lost_leave_their_places_soon(self) -> None:
+        """Nobody knows where they are, so none of them is gone on with or ended."""
+        await self.start()
+        paths = [(await self.begin(b"x" * (number == 3)))[1]["location"] for number in range(unfinished.OF_ONE)]
+
+        def ages(seconds: float, numbers: Iterable[int]) -> None:
+            for number in numbers:
+                about = self.folder / "tokens.uploads" / paths[number].rpartition("/")[2] / "about"
+                os.utime(about, (time.time() - seconds, time.time() - seconds))
+
+        ages(unfinished.UNHEARD - 30, range(8))
+        self.assertEqual((await self.begin())[0], 429)
+        ages(unfinished.UNHEARD + 1, range(5))
+        for _ in range(4):
+            self.assertEqual((await self.begin())[0], 201)
+        self.assertEqual((await self.begin())[0], 429)  # one has a byte, and who began the others may go on still
+        found = [(await self.ask("HEAD", path))[0] for path in paths]
+        self.assertEqual(found, [404, 404, 404, 200, 404, 200, 200, 200])
+        ages(unfinished.UNHEARD + 1, [6])
+        name = paths[6].rpartition("/")[2]
+        with unfinished.Unfinished(self.folder / "tokens.uploads").lock("address 127.0.0.1", name) as lock:
+            self.assertIsNotNone(lock)
+            self.assertEqual((await self.begin())[0], 429)  # somebody is at it
+        self.assertEqual((await self.begin())[0], 201)
 
     async def test_a_share_pays_for_what_came(self) -> None:
         alice = self.token("alice", bytes=3_000, blobs=9)

@@ -24,6 +24,7 @@ from .problems import Problem
 ALL, OF_ONE = 64, 8  # uploads that are not finished, and of one who sends
 FINISHED = 256  # uploads that are known once they are finished
 LULL = 600  # seconds without a byte after which one of many uploads gives its place to who has fewer
+UNHEARD = 120  # seconds after which one that never had a byte gives its place to the next one of who began it
 IDLE, KNOWN = 86_400, 3_600  # seconds without a byte until an upload is dropped; for which a finished one is known
 RECORD = NAME + 1
 STRANGER, HOLDER = "a", "b"  # what the names begin with of uploads of an address, and of a token
@@ -170,9 +171,12 @@ class Unfinished:
     def create(self, owner: str, about: dict[str, Any]) -> Upload:
         """Begins an upload, unless there are too many; who began it is part of its name."""
         mine, known = mark_of(owner), self.sweep()
-        if sum(name.startswith(mine) for name in known) >= OF_ONE:
-            text = f"{OF_ONE} uploads are not finished: go on with one of them, or end one with DELETE"
-            raise Problem(429, text, {"Retry-After": "60"})
+        own = {name: touched for name, touched in known.items() if name.startswith(mine)}
+        if len(own) >= OF_ONE:
+            if not self.drop_unheard(own):
+                text = f"{OF_ONE} uploads are not finished: go on with one of them, or end one with DELETE"
+                raise Problem(429, text, {"Retry-After": "60"})
+            known = self.sweep()
         strangers = {name: touched for name, touched in known.items() if name.startswith(STRANGER)}
         is_half = mine.startswith(STRANGER) and len(strangers) >= ALL // 2
         others = strangers if is_half else known if len(known) >= ALL else {}
@@ -194,10 +198,21 @@ class Unfinished:
         counts = collections.Counter(name[: len(mine)] for name in known)
         owner, most = counts.most_common(1)[0]
         name = min((it for it in known if it.startswith(owner)), key=lambda it: known[it])
-        if most <= counts[mine] + 1 or time.time() < known[name] + LULL:
-            return False
+        return most > counts[mine] + 1 and time.time() >= known[name] + LULL and self.end(name)
+
+    def drop_unheard(self, own: dict[str, float]) -> bool:
+        """Drops someone's upload that was begun a while ago, and to which no byte ever came: perhaps the reply that
+        told its place was lost, and nobody can go on with it or end it."""
+        for name, touched in own.items():
+            with contextlib.suppress(Problem):  # it has just gone
+                if time.time() >= touched + UNHEARD and self.find(name).offset == 0 and self.end(name):
+                    return True
+        return False
+
+    def end(self, name: str) -> bool:
+        """Drops an upload, unless somebody is at it; whether it is no more."""
         with contextlib.suppress(OSError), open(self.folder / name / "about", "rb") as lock:
-            fcntl.flock(lock, fcntl.LOCK_EX | fcntl.LOCK_NB)  # unless somebody is at it
+            fcntl.flock(lock, fcntl.LOCK_EX | fcntl.LOCK_NB)
             shutil.rmtree(self.folder / name, ignore_errors=True)
         return not (self.folder / name).exists()
 
