@@ -4,6 +4,7 @@ import base64
 import contextlib
 import io
 import random
+import tempfile
 import unittest
 from unittest import mock
 
@@ -142,7 +143,8 @@ class Impatient(KeptCase):
 
 
 class Steps(unittest.IsolatedAsyncioTestCase):
-    """Keepers over an etcd in memory, each call of which fails in turn, with recorders that end at any step."""
+    """Keepers over an etcd in memory, each call of which fails in turn, with recorders that end at any step. Some have
+    their state in files."""
 
     async def asyncSetUp(self) -> None:
         asyncio.get_running_loop().set_debug(False)
@@ -154,10 +156,13 @@ class Steps(unittest.IsolatedAsyncioTestCase):
 
     async def go(self, memory: Memory, drawn: random.Random, plan: bool) -> None:
         made, tasks = list[recorder.Recorder](), list["asyncio.Task[None]"]()
+        folder = self.enterContext(tempfile.TemporaryDirectory())
 
         def start(count: int) -> None:
             for _ in range(count):
-                made.append(recorder.Recorder(memory))
+                state = State(drawn.choice(["", f"{folder}/{len(made)}"]))
+                self.addCleanup(state.close)
+                made.append(recorder.Recorder(memory, state))
                 tasks.extend(map(asyncio.create_task, (made[-1].run(), Keeper(made[-1], 0.0).run())))
 
         start(2)
@@ -183,7 +188,8 @@ class Steps(unittest.IsolatedAsyncioTestCase):
         finally:
             for task in tasks:
                 task.cancel()
-            await asyncio.gather(*tasks, return_exceptions=True)
+            said = await asyncio.gather(*tasks, return_exceptions=True)
+        self.assertEqual([it for it in said if not isinstance(it, asyncio.CancelledError)], [])
         fresh, whole = recorder.Recorder(memory), State()
         memory.plan = {}
         await fresh.catch_up()

@@ -1,4 +1,5 @@
 """The rules of the ledger, against the lines that the proved core gives of the same entries."""
+import asyncio
 import contextlib
 import io
 import json
@@ -151,7 +152,7 @@ class Rules(unittest.TestCase):
                 self.assertEqual(+ledger.posted, {"y": 1})
             kept.save(Chain(1, bytes(32)))
             taken = State()
-            taken.take([zlib.compress(it) for it in kept.written()])
+            asyncio.run(taken.take([zlib.compress(it) for it in kept.written()]))
             self.same(kept.ledger, taken.ledger)
             self.assertEqual(taken.ledger.blobs.posters(), {"y": 1})
             kept.close()
@@ -222,7 +223,7 @@ class Rules(unittest.TestCase):
                         each.save(chain)
                     others.append(State())
                     pieces = [zlib.compress(it) for it in whole.written()]
-                    others[-1].take(pieces)
+                    asyncio.run(others[-1].take(pieces))
                     self.assertGreater(len(pieces), 1)
                     if place % 10 == 9:
                         for each in others:
@@ -243,7 +244,7 @@ class Rules(unittest.TestCase):
         with self.assertRaisesRegex(ValueError, "a piece of the checkpoint is torn"):
             checkpoint.state_of([pieces[0][:-9]])
         self.assertNotEqual(checkpoint.state_of(pieces), checkpoint.state_of(pieces * 2))
-        one.take(pieces)
+        asyncio.run(one.take(pieces))
         self.assertEqual(one.blobs.over(9), [bytes.fromhex(names[0])])
         self.same(one.ledger, other.ledger)
 

@@ -73,6 +73,8 @@ class Network(View):
     async def __aenter__(self) -> "Network":
         self.task = asyncio.create_task(self.follow())
         heard = await self.until(lambda _: self.caught_up, 20)
+        while not heard and self.state.entering:  # a checkpoint, which may take long
+            heard = await self.until(lambda _: self.caught_up, 20)
         if not heard and not (self.chain and await self.until(lambda _: self.caught_up, 60)):  # there is much to hear
             await self.__aexit__()
             raise Unreachable(f"no recorder tells the ledger: {self.recorders.said}")

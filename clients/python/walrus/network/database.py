@@ -1,8 +1,11 @@
 """A database in SQLite that one process has at a time."""
+import asyncio
+import concurrent.futures
 import contextlib
 import fcntl
 import sqlite3
 import sys
+from typing import Callable, Optional
 
 
 class Database:
@@ -12,10 +15,11 @@ class Database:
 
     def __init__(self, name: str):
         self.name, self.fault = name, ""
+        self.working: Optional["concurrent.futures.Future[object]"] = None  # what a thread does over the connection
         with contextlib.ExitStack() as opened:
             if name:
                 fcntl.flock(opened.enter_context(open(f"{name}.lock", "ab")), fcntl.LOCK_EX | fcntl.LOCK_NB)
-            base = sqlite3.connect(name, isolation_level=None, timeout=self.seconds)
+            base = sqlite3.connect(name, isolation_level=None, timeout=self.seconds, check_same_thread=False)
             self.base = opened.enter_context(contextlib.closing(base))
             self.base.execute("PRAGMA journal_mode = WAL")
             self.open_tables()
@@ -30,5 +34,13 @@ class Database:
             print(f"the disk does not take {self.name}: {fault}; it is tried again", file=sys.stderr, flush=True)
         self.fault = str(fault)
 
+    async def aside(self, work: Callable[[], object]) -> None:
+        """Has a thread do what takes long over the connection, which nobody else uses meanwhile, and `close` waits."""
+        pool = concurrent.futures.ThreadPoolExecutor(1, "database")
+        self.working = pool.submit(work)
+        pool.shutdown(wait=False)
+        await asyncio.wrap_future(self.working)
+
     def close(self) -> None:
+        concurrent.futures.wait([self.working] if self.working else [])
         self.opened.close()

@@ -168,7 +168,7 @@ class Recorders:
             if ledger not in ("", told["ledger"]) or chain and begun.place == place and chain != begun:
                 raise Parted(f"the ledger's first {place} entries are others than were heard before: {PARTED}")
             pieces = [base64.b64decode(json.loads(await read())["piece"]) for _ in range(told.get("pieces", 0))]
-            if pieces and state_of(pieces) != told["state"]:
+            if pieces and await asyncio.to_thread(state_of, pieces) != told["state"]:
                 raise ConnectionError("a recorder's checkpoint is not what was written")
             chain, ledger = begun, told["ledger"]
             yield News(chain, [], head, ledger, pieces)
@@ -228,9 +228,9 @@ class View:
         state = self.state
         if (seconds := self.silence()) > AWAY:
             self.absence = seconds, time.monotonic(), self.recorders.said
-        state.identity, state.entering = news.ledger, True
         if news.pieces:  # which stand for what was heard
-            state.take(news.pieces)
+            await state.take(news.pieces)
+        state.identity, state.entering = news.ledger, True
         await self.apply(news.entries)
         self.head, self.heard_at, state.entering = news.head, time.monotonic(), False
         if self.chain != news.chain or not state.whole:

@@ -170,9 +170,9 @@ class Recorder:
             raise Broken(f"etcd has neither the entries behind place {place} nor a checkpoint behind it")
         with contextlib.suppress(Gone):  # another one stands for it meanwhile
             pieces = [await self.etcd.piece(mark.place, number) for number in range(mark.pieces)]
-            if state_of(pieces) != mark.state:
+            if await asyncio.to_thread(state_of, pieces) != mark.state:
                 raise Broken(f"the checkpoint of place {mark.place} in etcd is not what was written")
-            self.state.take(pieces)
+            await self.state.take(pieces)
             self.recent.clear()
             self.size = 0
             await self.forget(mark.place)
@@ -207,8 +207,10 @@ class Recorder:
         return int(row[0]) if row else None
 
     async def forget(self, place: int) -> None:
-        """Forgets the places up to one, part by part, as others wait meanwhile."""
+        """Forgets the places up to one, part by part, as others wait meanwhile; `take` does so behind a checkpoint."""
         for first in range(256):
+            if self.state.entering:
+                break
             part = bytes([first]), bytes([first]) + b"\xff" * 16
             self.base.execute("DELETE FROM places WHERE digest BETWEEN ? AND ? AND place <= ?", (*part, place))
             await asyncio.sleep(0)

@@ -27,6 +27,7 @@ CREATE TABLE IF NOT EXISTS entries (place INTEGER PRIMARY KEY, text TEXT, epoch 
 CREATE TABLE IF NOT EXISTS told (one INTEGER PRIMARY KEY CHECK (one = 1), value TEXT);
 CREATE TABLE IF NOT EXISTS places (digest BLOB PRIMARY KEY, place INTEGER) WITHOUT ROWID; -- of entries, at a recorder
 """
+TELL = "INSERT OR REPLACE INTO told VALUES (1, ?)"
 # What a ledger says beside its blobs, and how that is made of what a file says.
 FORMS: dict[str, Callable[[Any], Any]] = dict.fromkeys(("faults", "epoch", "revision", "concentrated"), int)
 FORMS |= {"now": tuple, "next": tuple, "calendar": tuple, "ready": frozenset, "expelled": frozenset}
@@ -137,21 +138,62 @@ class State(Database):
             self.base.execute(words, (DROPPED, self.ledger.epoch - self.tail))
         else:
             self.blobs.drop(self.blobs.over(DROPPED))
-        self.base.execute("INSERT OR REPLACE INTO told VALUES (1, ?)", (json.dumps(self.fields()),))
+        self.base.execute(TELL, (json.dumps(self.fields()),))
         self.base.execute("COMMIT")
         self.base.execute("BEGIN IMMEDIATE")
         self.saved = self.ledger.epoch
 
-    def take(self, pieces: Iterable[bytes]) -> None:
-        """Has what a checkpoint says in place of all before."""
-        told: dict[str, Any] = {}
-        self.base.execute("PRAGMA cache_spill = ON")
-        self.blobs.take(checkpoint.read(pieces, told))
-        self.put(told)
-        self.base.execute("DELETE FROM entries")
+    async def take(self, pieces: Iterable[bytes]) -> None:
+        """Has what a checkpoint says in place of all before; where that cannot be, what was saved before stays. A
+        thread puts it into the file, and others read by a connection of their own meanwhile, which has what was saved
+        before until all of it is there. Without a file, or where a node may drop rows meanwhile, it is put there at
+        once. Who is cancelled can only close what is `entering` then."""
+        self.settle()
+        self.entering, fault, base = True, None, self.base
+        base.execute("ROLLBACK")  # of nothing, or of what the disk does not take
+        reader = sqlite3.connect(self.name, isolation_level=None) if self.name and not self.tail else None
+        try:
+            if reader:
+                reader.executescript("PRAGMA query_only = ON; BEGIN; SELECT * FROM told")
+                self.blobs.base = reader
+                self.fall_back()
+                await self.aside(lambda: self.replace(pieces))
+                reader.execute("COMMIT")
+            else:
+                self.replace(pieces)
+        except Exception as it:  # the disk is full, or these pieces are no checkpoint
+            fault = it
+            if base.in_transaction:
+                base.execute("ROLLBACK")
+        self.fall_back()
+        if reader:
+            with contextlib.suppress(sqlite3.Error):  # it stays in SQLite's log, which the next commit else empties
+                await self.aside(lambda: base.execute("PRAGMA wal_checkpoint(PASSIVE)").fetchall())
+            self.blobs.base = base
+            reader.close()
+        base.execute("PRAGMA cache_spill = OFF")
+        base.execute("BEGIN IMMEDIATE")
+        self.entering = False
+        if fault:
+            raise fault
+
+    def replace(self, pieces: Iterable[bytes]) -> None:
+        """Puts what a checkpoint says into the database in place of all that is there."""
+        told, base = dict[str, Any](), self.base
+        base.execute("PRAGMA cache_spill = ON")
+        base.execute("BEGIN IMMEDIATE")
+        Blobs(base).take(checkpoint.read(pieces, told))
+        base.execute("DELETE FROM entries")
+        base.execute(TELL, (json.dumps(told),))
+        with contextlib.closing(State()) as other:
+            other.put(told)  # which raises where the next start could not read it
+        base.execute("COMMIT")
+
+    def fall_back(self) -> None:
+        """Has what is in the database alone."""
+        self.blobs.forget()
+        self.load()
         self.fresh.clear()
-        self.commit()
-        self.base.execute("PRAGMA cache_spill = OFF")
 
     def written(self) -> Iterator[bytes]:
         """A checkpoint of what was entered, piece by piece, whatever is saved meanwhile."""
@@ -170,9 +212,11 @@ class State(Database):
     @property
     def whole(self) -> bool:
         """Whether the disk has all that was entered."""
-        return not self.fresh
+        return not self.fresh and not self.entering
 
     def close(self) -> None:
         with contextlib.suppress(sqlite3.Error):
             self.settle()
+        if self.blobs.base is not self.base:
+            self.blobs.base.close()
         super().close()
