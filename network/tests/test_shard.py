@@ -2,6 +2,7 @@
 import asyncio
 import contextlib
 import ctypes
+import io
 import os
 import pathlib
 import random
@@ -1087,6 +1088,58 @@ class Slow(unittest.IsolatedAsyncioTestCase):
         self.assertFalse(await self.put(1))
         with self.assertRaisesRegex(OSError, "is not synced"):
             await asyncio.wait_for(node.failed, 60)
+
+    async def test_what_is_staged_while_others_are_synced_shares_a_commit_and_a_sync(self) -> None:
+        first = self.put(1)
+        await self.begun(1)
+        ran = list[str]()
+        self.store.base.set_trace_callback(ran.append)
+        later = list["asyncio.Future[bool]"]()
+        for number in range(2, 6):
+            later.append(self.put(number))
+            await asyncio.sleep(0.01)  # longer than what waits is left
+        self.assertNotIn("COMMIT", ran)
+        self.goes_on.release()
+        await self.begun(2)
+        self.goes_on.release()
+        self.assertEqual(await asyncio.wait_for(asyncio.gather(first, *later), 60), [True] * 5)
+        self.assertEqual((ran.count("COMMIT"), len(self.syncs)), (1, 2))
+
+    async def test_what_is_committed_is_synced_though_what_is_staged_behind_it_is_lost(self) -> None:
+        first = self.put(1)
+        await self.begun(1)
+        second = self.put(2)
+        self.assertTrue(self.store.flush())
+        third, base = self.put(3), self.store.base
+
+        def execute(words: str, *values: Any) -> sqlite3.Cursor:
+            if words == "COMMIT":
+                raise sqlite3.OperationalError("database or disk is full")
+            return base.execute(words, *values)
+
+        refusing = types.SimpleNamespace(execute=execute, in_transaction=True)
+        with mock.patch.object(self.store, "base", refusing), contextlib.redirect_stderr(io.StringIO()):
+            self.goes_on.release()
+            self.assertEqual((await first, await third), (True, False))
+        self.goes_on.release()
+        self.assertTrue(await asyncio.wait_for(second, 60))
+        self.assertEqual(len(self.syncs), 2)
+
+    async def test_who_waits_as_the_store_is_closed_is_told(self) -> None:
+        store = Store(self.folder / "b.db", fail=self.told.append)
+        store.begin(0, 0)
+        first = store.written()
+        assert first
+        await self.begun(1)
+        store.begin(0, 1)
+        second = asyncio.create_task(store.durable())
+        await asyncio.sleep(0)
+        self.goes_on.release()
+        store.close()
+        self.assertEqual(await asyncio.wait_for(asyncio.gather(first, second), 60), [False, False])
+        again = Store(self.folder / "b.db")
+        self.assertEqual((again.holding(0, 0), again.holding(0, 1)), (1, 2))
+        again.close()
 
 
 GO_OVER = """

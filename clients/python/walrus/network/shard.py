@@ -222,8 +222,10 @@ class Shard:
             names = await asyncio.shield(files) if files else {}
             self.must_serve()
             if parts is not None and self.store.losses == judged.losses:
+                wrong = self.store.wrong(self.holding, identifier)
                 for part, payload in parts.items():
-                    self.store.put(self.holding, self.epoch, identifier, part, payload, names.pop(part, None))
+                    file, old = names.pop(part, None), part in wrong
+                    self.store.put(self.holding, self.epoch, identifier, part, payload, file, old)
                 reply = self.note(judged)
                 if self.store.losses == judged.losses:
                     return reply

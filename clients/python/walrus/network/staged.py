@@ -6,7 +6,9 @@ import errno
 import functools
 import os
 import pathlib
+import queue
 import sqlite3
+import threading
 from typing import Any, Callable, Iterable, Optional, TypeVar
 
 from .database import Database
@@ -21,8 +23,9 @@ SOON, LATER = 0.002, 0.5  # seconds until what waits is committed: what a reply 
 
 class Staged(Database):
     """A database. What is staged is committed together, soon, and is on the disk once a thread has synced SQLite's log:
-    so a slow disk holds up nobody else. What cannot be committed is lost. Behind a sync that failed nobody knows what
-    the disk has: nothing is said to be there any more, and `fail` is told, which ends the node."""
+    so a slow disk holds up nobody else, and what is staged meanwhile shares the next commit and sync. What cannot be
+    committed is lost. Behind a sync that failed nobody knows what the disk has: nothing is said to be there any more,
+    and `fail` is told, which ends the node."""
 
     seconds = 5.0  # in which others wait too
 
@@ -33,8 +36,8 @@ class Staged(Database):
         self.named, self.dropped = list[str](), list[str]()  # files that what is staged names, and no longer names
         self.committed = list[tuple[Written, list[str]]]()  # what the next sync is for, and the files that go then
         self.last: Optional[Written] = None  # of what was committed last
-        self.syncing: Optional["asyncio.Task[None]"] = None
-        self.failed: Optional[OSError] = None  # how a sync failed
+        self.syncing = list[tuple[Written, list[str]]]()  # what is being synced
+        self.syncs = queue.SimpleQueue[Optional[asyncio.AbstractEventLoop]]()  # that are to be made, and who is told
         try:
             super().__init__(str(self.path))
         except BlockingIOError:
@@ -42,6 +45,8 @@ class Staged(Database):
             raise OSError(f"another process runs over {self.path}: {words}") from None
         self.log = self.opened.enter_context(open(f"{self.path}-wal", "rb"))  # by which each fault is told once
         self.pool = concurrent.futures.ThreadPoolExecutor(THREADS, "disk")  # asyncio's own looks names up, perhaps long
+        self.syncer = threading.Thread(target=self.sync, name="sync", daemon=True)  # which costs less than a pool
+        self.syncer.start()
 
     def open_tables(self) -> None:
         """Finds whole pages, and the folder of files or makes it; a fault in here closes the database again."""
@@ -62,7 +67,7 @@ class Staged(Database):
                 self.base.execute("BEGIN IMMEDIATE")
                 loop = asyncio.get_running_loop()
                 self.pending = loop.create_future()
-                self.flushed = loop.call_later(LATER, self.flush)
+                self.flushed = loop.call_later(LATER, self.commit_soon)
             return self.base.execute(words, values)
         except sqlite3.Error as fault:
             self.lose(fault)
@@ -108,32 +113,45 @@ class Staged(Database):
     def flush(self) -> bool:
         """The same, and has it come to the disk."""
         done = self.commit()
-        if not self.syncing or self.syncing.done():
-            self.syncing = asyncio.create_task(self.sync())
+        if self.committed and not self.syncing:
+            self.syncing, self.committed = self.committed, []
+            self.syncs.put(asyncio.get_running_loop())
         return done
 
-    async def sync(self) -> None:
-        """Has the disk keep what is committed, and says so; what is committed meanwhile comes next."""
-        while self.committed:
-            some, self.committed = self.committed, []
+    def commit_soon(self) -> None:
+        """Flushes what has waited for long enough; while others are synced it waits for the end of that."""
+        if not self.syncing:
+            self.flush()
+
+    def sync(self) -> None:
+        """Has the disk keep what is committed, in a thread of its own, for as long as the database is open."""
+        fault: Optional[OSError] = None
+        while loop := self.syncs.get():
             try:
-                if not self.failed:
-                    await asyncio.get_running_loop().run_in_executor(self.pool, os.fdatasync, self.log)
-            except OSError as fault:
-                words = f"the log of {self.path} is not synced: {fault.strerror}; look at the disk before another start"
-                self.failed = OSError(fault.errno, words)
-            for written, dropped in some:
-                written.set_result(not self.failed)
-                self.abandon(() if self.failed else dropped)
-        if self.failed:
-            self.fail(self.failed)
+                if not fault:
+                    os.fdatasync(self.log)
+            except OSError as it:
+                words = f"the log of {self.path} is not synced: {it.strerror}; look at the disk before another start"
+                fault = OSError(it.errno, words)
+            loop.call_soon_threadsafe(self.synced, fault)
+
+    def synced(self, fault: Optional[OSError]) -> None:
+        """Says whether the disk keeps what was synced; what was committed or due meanwhile comes next."""
+        some, self.syncing = self.syncing, []
+        for written, dropped in some:
+            written.set_result(not fault)
+            self.abandon(() if fault else dropped)
+        if fault:
+            self.fail(fault)
+        if self.committed or self.pending and self.flushed.when() <= asyncio.get_running_loop().time():
+            self.flush()
 
     def written(self) -> Optional[Written]:
         """Whether what was staged so far comes to the disk, which is tried soon; nothing where nothing was."""
         loop = asyncio.get_running_loop()
         if self.pending and self.flushed.when() > loop.time() + SOON:
             self.flushed.cancel()
-            self.flushed = loop.call_later(SOON, self.flush)
+            self.flushed = loop.call_later(SOON, self.commit_soon)
         return self.pending or self.last
 
     async def durable(self) -> bool:
@@ -165,7 +183,10 @@ class Staged(Database):
 
     def close(self) -> None:
         self.commit()  # which SQLite syncs as it closes
-        if self.syncing:
-            self.syncing.cancel()
+        waiting, self.committed, self.syncing = self.syncing + self.committed, [], []
+        self.syncs.put(None)
+        self.syncer.join()
         self.pool.shutdown()
         super().close()
+        for written, _ in waiting:
+            written.set_result(False)  # as SQLite does not say whether it could

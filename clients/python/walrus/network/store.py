@@ -128,10 +128,21 @@ class Store(Staged):
         words = "SELECT part FROM held WHERE holding = ? AND identifier = ? AND wrong"
         return {row[0] for row in self.base.execute(words, (holding, identifier))}
 
-    def put(self, holding: int, epoch: int, identifier: bytes, part: int, payload: Data, file: Optional[str]) -> None:
-        """Stages a part that a shard said it stored, whose content may be in a file; in place of a wrong one."""
+    def put(
+        self,
+        holding: int,
+        epoch: int,
+        identifier: bytes,
+        part: int,
+        payload: Data,
+        file: Optional[str],
+        old: bool = True,
+    ) -> None:
+        """Stages a part that a shard said it stored, whose content may be in a file; in place of a wrong one, where
+        there may be such an `old` one."""
         self.named += [file] if file else []
-        since = self.drop("holding = ? AND identifier = ? AND part = ? AND wrong", holding, identifier, part)
+        wrong = "holding = ? AND identifier = ? AND part = ? AND wrong"
+        since = self.drop(wrong, holding, identifier, part) if old else []
         words = "INSERT INTO contents (payload, file) VALUES (?, ?)"
         content = self.stage(words, b"" if file else payload, file).lastrowid
         words = "INSERT INTO held VALUES (?, ?, ?, ?, NULL, 0, ?, ?)"
