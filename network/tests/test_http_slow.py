@@ -170,7 +170,9 @@ class Slow(GatewayCase):
         self.enterContext(mock.patch.object(peers.Seat, "exchange", counted))
         self.gateway.reader.cache.entries.clear()
         self.assertTrue((await self.get(name))[2] == data)
-        self.assertGreaterEqual(asked.total(), 2 * 41)  # f+1 shards for each of 40 pieces and their list
+        async with asyncio.timeout(ENOUGH):
+            while asked.total() < 2 * 41:  # f+1 shards for each of 40 pieces and their list
+                await asyncio.sleep(0.01)
         self.assertLessEqual(asked["node-2"], 1 + reading.AHEAD)
 
     @contextlib.asynccontextmanager
