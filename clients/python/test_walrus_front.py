@@ -15,7 +15,6 @@ from unittest import mock
 import example_tools
 import liars
 from walrus import client, frames, front as walrus_front, loop, port as walrus_port
-from walrus.wire import Wire
 
 SLOW = 30.0  # seconds in which what must end does, on a busy machine
 loop.wait_without_threads()
@@ -332,27 +331,6 @@ class Connections(unittest.IsolatedAsyncioTestCase):
         self.assertEqual((await shard.ask(client.write_frame(client.Read(bytes(32)))))[0].end, client.Answer(0, 0, 1))
 
 
-class LeavingTransport(asyncio.Transport):
-    """A connection over TLS: once its client has left, nobody knows from where it was."""
-
-    has_left = False
-
-    def get_extra_info(self, name: str, default: object = None) -> object:
-        return ("192.0.2.7", 999) if name == "peername" and not self.has_left else default
-
-    def set_write_buffer_limits(self, high: int | None = None, low: int | None = None) -> None:
-        pass
-
-    def write(self, data: bytes | bytearray | memoryview) -> None:
-        pass
-
-    def is_closing(self) -> bool:
-        return self.has_left
-
-    def abort(self) -> None:
-        pass
-
-
 class Leaving(unittest.IsolatedAsyncioTestCase):
     async def test_who_has_left_waits_for_a_turn_among_those_of_its_address(self):
         asyncio.get_running_loop().set_debug(False)  # which takes long
@@ -361,16 +339,12 @@ class Leaving(unittest.IsolatedAsyncioTestCase):
             return walrus_port.Said([b""])
 
         port = walrus_port.Port(reply, client.Shape(1), walrus_port.Bounds())
-        port.say, transport, wire = list[str]().append, LeavingTransport(), Wire(port.connect)
-        wire.connection_made(transport)
-        await asyncio.sleep(0)
-        self.assertEqual(len(port.connections), 1)
-        transport.has_left, request = True, client.envelope(client.write_frame(client.Read(bytes(32))))
-        wire.get_buffer(-1)[: len(request)] = request
-        wire.buffer_updated(len(request))
-        wire.eof_received()
+        port.say, (left, connection) = list[str]().append, socket.socketpair()
+        with left:
+            left.sendall(client.envelope(client.write_frame(client.Read(bytes(32)))))
+        connection.setblocking(False)
         with mock.patch.object(port.turns, "acquire", wraps=port.turns.acquire) as acquire:
-            await wire.task
+            await port.connect(connection, ("192.0.2.7", 999))
         acquire.assert_awaited_once_with("192.0.2.7")
 
 

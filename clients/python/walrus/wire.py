@@ -181,13 +181,18 @@ async def connect(host: str, port: int, **words: Any) -> Wire:
 
 
 def bound(host: str, port: int) -> list[socket.socket]:
-    """Sockets that listen, one for each address that a host has here."""
+    """Sockets that listen, one for each address of a host, but for those of a kind that this system lacks."""
     made = list[socket.socket]()
     try:
         found = socket.getaddrinfo(host or None, port, type=socket.SOCK_STREAM, flags=socket.AI_PASSIVE)
         for family, _, _, _, address in dict.fromkeys(found):  # as a name may stand for one of them twice
-            made.append(socket.create_server(address, family=family, backlog=1024))
-            made[-1].setblocking(False)
+            try:
+                made.append(socket.create_server(address, family=family, backlog=1024))
+            except OSError as fault:
+                if fault.errno != errno.EAFNOSUPPORT or len(found) == 1:
+                    raise
+            else:
+                made[-1].setblocking(False)
     except OSError:
         for listening in made:
             listening.close()
