@@ -4,7 +4,7 @@
 use std::alloc::{AllocError, Global};
 use std::test::Fail;
 use wal_erasure::solve_regions;
-use wal_fft::{evaluate, extend_regions, restore, scratch_size, skew};
+use wal_fft::{PointRange, evaluate, extend_regions, restore, scratch_size, skew};
 use wal_gf::Gf;
 use wal_kernel::{add_region, add_scaled};
 
@@ -87,7 +87,7 @@ const VALUES: [u8; 16] = [
 #[test]
 fn values_at_the_second_block(rt: HostRuntime) {
     let mut runs = COEFFICIENTS;
-    evaluate(&mut runs, 1, 3, 1, 8, 16);
+    evaluate(&mut runs, 1, 3, 1, PointRange { from: 8, to: 16 });
     let there = runs == VALUES;
     restore(&mut runs, 1, 3, 1, 8);
     assert!(rt; there && runs == COEFFICIENTS);

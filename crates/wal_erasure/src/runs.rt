@@ -4,6 +4,7 @@ ghost use Rattle.std.specs.Prelude.{◌≡◌, ◌+◌, ◌*◌, ◌%◌, ◌<�
 ghost use Rattle.wal_code.specs.Codeword.{Distinct};
 ghost use Rattle.wal_erasure.specs.inside.Run.{IsProduct, IsCopy, ArePut, AreTaken, AreCopied};
 
+use wal_fft::Strip;
 use wal_gf::Gf;
 use wal_kernel::add_scaled;
 
@@ -17,57 +18,53 @@ fn put_product(target: &mut [u8], c: Gf, source: &[u8])
     add_scaled(target, c, source);
 }
 
-/// Puts at each known point the words from `start` on of its region, times the point's factor, and
-/// zeros at all others.
+/// Puts at each known point the strip's words of its region, times the point's factor, and zeros at
+/// all others.
 pub(crate) fn put_known(
     known: &[u16],
     factors: &[Gf],
     regions: &[u8],
-    words: usize,
-    start: usize,
-    width: usize,
-    strip: &mut [u8],
+    strip: Strip,
+    runs: &mut [u8],
 )
     requires distinct { Distinct known.now }
     requires below { All (λ p. p < length factors.now) known.now }
-    requires regions { length known.now * (2 * words) ≤ length regions.now }
-    requires within { start + width ≤ words }
-    requires strip { length factors.now * (2 * width) ≤ length strip.old }
-    ensures { ArePut words start width known.now
-        (length known.now) factors.now regions.now strip.new }
+    requires regions { length known.now * (2 * strip.words) ≤ length regions.now }
+    requires within { strip.start + strip.width ≤ strip.words }
+    requires runs { length factors.now * (2 * strip.width) ≤ length runs.old }
+    ensures { ArePut strip.words strip.start strip.width known.now
+        (length known.now) factors.now regions.now runs.new }
 {
-    strip.fill(0);
+    runs.fill(0);
     for place in 0..known.len() {
         let point = known[place] as usize;
-        let from = 2 * (words * place + start);
-        let at = 2 * width * point;
-        let target = &mut strip[at..at + 2 * width];
-        put_product(target, factors[point], &regions[from..from + 2 * width]);
+        let from = 2 * (strip.words * place + strip.start);
+        let at = 2 * strip.width * point;
+        let source = &regions[from..from + 2 * strip.width];
+        put_product(&mut runs[at..at + 2 * strip.width], factors[point], source);
     }
 }
 
-/// Makes the words from `start` on of the first regions those of the strip, times the point's
-/// factor.
+/// Makes the strip's words of the first regions those of the runs, times the point's factor.
 pub(crate) fn take_wanted(
-    strip: &[u8],
+    runs: &[u8],
     factors: &[Gf],
-    words: usize,
-    start: usize,
-    width: usize,
+    strip: Strip,
     wanted: usize,
     regions: &mut [u8],
 )
     requires factors { wanted ≤ length factors.now }
-    requires regions { wanted * (2 * words) ≤ length regions.old }
-    requires within { start + width ≤ words }
-    requires strip { wanted * (2 * width) ≤ length strip.now }
-    ensures { AreTaken words start width wanted factors.now strip.now regions.old regions.new }
+    requires regions { wanted * (2 * strip.words) ≤ length regions.old }
+    requires within { strip.start + strip.width ≤ strip.words }
+    requires runs { wanted * (2 * strip.width) ≤ length runs.now }
+    ensures { AreTaken strip.words strip.start strip.width wanted
+        factors.now runs.now regions.old regions.new }
 {
     for place in 0..wanted {
-        let to = 2 * (words * place + start);
-        let at = 2 * width * place;
-        let target = &mut regions[to..to + 2 * width];
-        put_product(target, factors[place], &strip[at..at + 2 * width]);
+        let to = 2 * (strip.words * place + strip.start);
+        let at = 2 * strip.width * place;
+        let target = &mut regions[to..to + 2 * strip.width];
+        put_product(target, factors[place], &runs[at..at + 2 * strip.width]);
     }
 }
 

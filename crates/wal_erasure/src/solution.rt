@@ -9,22 +9,19 @@ ghost use Rattle.wal_erasure.specs.inside.Run.{AreSolved};
 use crate::derivative::derive;
 use crate::locator::{ALL_POINTS, fill_factors};
 use crate::runs::{copy_known, put_known, take_wanted};
-use wal_fft::{evaluate, level_of, points, restore, strip_width};
+use wal_fft::{PointRange, Strip, evaluate, level_of, points, restore, strip_width};
 use wal_gf::Gf;
 
-/// Solves the words from `start` on of the missing regions, as many as the strip has words in a
-/// run.
+/// Solves the strip's words of the missing regions, in runs of them.
 fn solve_strip(
     known: &[u16],
     factors: &[Gf],
     level: usize,
     wanted: usize,
-    words: usize,
-    start: usize,
-    width: usize,
+    strip: Strip,
     sources: &[u8],
     targets: &mut [u8],
-    strip: &mut [u8],
+    runs: &mut [u8],
 )
     requires distinct { Distinct known.now }
     requires below { All (λ p. p < 2 ^ level) known.now }
@@ -32,18 +29,22 @@ fn solve_strip(
     requires count { length factors.now ≡ 2 ^ level }
     requires factors { AreFactors known.now (2 ^ level) (2 ^ level) factors.now }
     requires enough { wanted ≤ 2 ^ level }
-    requires sources { length sources.now ≡ length known.now * (2 * words) }
-    requires targets { length targets.old ≡ wanted * (2 * words) }
-    requires within { start + width ≤ words }
-    requires strip { length strip.old ≡ 2 ^ level * (2 * width) }
-    ensures { AreSolved words start (start + width) wanted
+    requires sources { length sources.now ≡ length known.now * (2 * strip.words) }
+    requires targets { length targets.old ≡ wanted * (2 * strip.words) }
+    requires within { strip.start + strip.width ≤ strip.words }
+    requires runs { length runs.old ≡ 2 ^ level * (2 * strip.width) }
+    ensures { AreSolved strip.words strip.start (strip.start + strip.width) wanted
         known.now sources.now targets.old targets.new }
 {
-    put_known(known, factors, sources, words, start, width, strip);
-    restore(strip, width, level, 0, points(level));
-    derive(strip, width, level);
-    evaluate(strip, width, level, 0, 0, wanted);
-    take_wanted(strip, factors, words, start, width, wanted, targets);
+    put_known(known, factors, sources, strip, runs);
+    restore(runs, strip.width, level, 0, points(level));
+    derive(runs, strip.width, level);
+    let first = PointRange {
+        from: 0,
+        to: wanted,
+    };
+    evaluate(runs, strip.width, level, 0, first);
+    take_wanted(runs, factors, strip, wanted, targets);
 }
 
 /// Solves the missing regions, a strip of all of them at a time.
@@ -73,10 +74,13 @@ fn solve_missing(
     let mut start = 0;
     while start < words {
         let width = strip_width(room, count, words - start);
-        let strip = &mut scratch[..count * (2 * width)];
-        solve_strip(
-            known, factors, level, wanted, words, start, width, sources, targets, strip,
-        );
+        let runs = &mut scratch[..count * (2 * width)];
+        let strip = Strip {
+            words,
+            start,
+            width,
+        };
+        solve_strip(known, factors, level, wanted, strip, sources, targets, runs);
         start += width;
     }
 }

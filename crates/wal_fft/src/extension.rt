@@ -6,8 +6,8 @@ ghost use Rattle.wal_kernel.specs.Region.{region, word_at};
 ghost use Rattle.wal_fft.specs.inside.Strip.{IsExtendedStrip};
 
 use crate::levels::{level_of, points};
-use crate::strips::{gather, scatter, strip_width};
-use crate::transform::{evaluate, restore};
+use crate::strips::{Strip, gather, scatter, strip_width};
+use crate::transform::{PointRange, evaluate, restore};
 
 /// A size of scratch for so many regions of `size` bytes: 256 bytes of each, and no less than 32
 /// KiB, but no more than the regions have.
@@ -20,29 +20,32 @@ pub fn scratch_size(total: u16, size: usize) -> usize
     fast.min(points(level) * size.min(32768)).max(2048)
 }
 
-/// Extends the words from `start` on of the regions, as many as the strip has words in a run.
+/// Extends the strip's words of the regions, in runs of them.
 fn extend_strip(
     known: usize,
     total: usize,
-    words: usize,
-    start: usize,
     level: usize,
-    width: usize,
+    strip: Strip,
     regions: &mut [u8],
-    strip: &mut [u8],
+    runs: &mut [u8],
 )
     requires fewer { known ≤ total }
     requires level { level ≤ 10 }
     requires enough { total ≤ 2 ^ level }
-    requires regions { length regions.old ≡ total * (2 * words) }
-    requires within { start + width ≤ words }
-    requires strip { length strip.old ≡ 2 ^ level * (2 * width) }
-    ensures { IsExtendedStrip words start (start + width) known total regions.old regions.new }
+    requires regions { length regions.old ≡ total * (2 * strip.words) }
+    requires within { strip.start + strip.width ≤ strip.words }
+    requires runs { length runs.old ≡ 2 ^ level * (2 * strip.width) }
+    ensures { IsExtendedStrip strip.words strip.start (strip.start + strip.width) known total
+        regions.old regions.new }
 {
-    gather(regions, words, start, width, known, strip);
-    restore(strip, width, level, 0, known);
-    evaluate(strip, width, level, 0, known, total);
-    scatter(strip, words, start, width, known, total, regions);
+    gather(regions, strip, known, runs);
+    restore(runs, strip.width, level, 0, known);
+    let others = PointRange {
+        from: known,
+        to: total,
+    };
+    evaluate(runs, strip.width, level, 0, others);
+    scatter(runs, strip, known, total, regions);
 }
 
 /// Fills the regions from `known` on, so that the words at each place of the regions are a
@@ -66,8 +69,13 @@ pub fn extend_regions(known: u16, total: u16, size: usize, buffer: &mut [u8], sc
     let mut start = 0;
     while start < words {
         let width = strip_width(room, count, words - start);
-        let strip = &mut scratch[..count * (2 * width)];
-        extend_strip(known, total, words, start, level, width, buffer, strip);
+        let runs = &mut scratch[..count * (2 * width)];
+        let strip = Strip {
+            words,
+            start,
+            width,
+        };
+        extend_strip(known, total, level, strip, buffer, runs);
         start += width;
     }
 }

@@ -14,6 +14,6 @@ mod transform;
 pub use extension::{extend_regions, scratch_size};
 pub use levels::{half, level_of, points};
 pub use skews::skew;
-pub use strips::strip_width;
+pub use strips::{Strip, strip_width};
 pub use sums::add_product;
-pub use transform::{evaluate, restore};
+pub use transform::{PointRange, evaluate, restore};

@@ -9,29 +9,39 @@ ghost use Rattle.wal_matrix.specs.Columns.{block_of_columns, row_of_columns};
 use crate::transposition::copy_column;
 use std::alloc::{AllocError, Global};
 
-/// Appends a row of a block: symbol `row` of each of the `given` columns, which have `rows` symbols
-/// each and lie one after the other, and zeros up to the end of the row of `width` symbols.
+/// How the symbols of a block lie, row by row.
+#[derive(Clone, Copy)]
+struct Layout {
+    /// How many rows the block has, and so how many symbols a column.
+    rows: usize,
+    /// How many symbols a row has.
+    width: usize,
+    /// The bytes of a symbol.
+    size: usize,
+}
+
+/// Appends a row of a block: symbol `row` of each of the `given` columns, which lie one after the
+/// other, and zeros up to the end of the row.
 fn add_row_of_columns(
     block: &mut Vec<u8>,
+    layout: Layout,
     columns: &[u8],
     given: usize,
-    rows: usize,
-    width: usize,
-    size: usize,
     row: usize,
 ) -> Result<(), AllocError>
-    requires filled { 0 < size }
-    requires place { row < rows }
-    requires fewer { given ≤ width }
-    requires columns { given * rows * size ≤ length columns.now }
-    requires fits { vec_len block.old + width * size < 2 ^ 32 }
-    ensures { OnOk result (block.new.items
-        ≡ block.old.items ++ row_of_columns rows width size columns.now given row) }
+    requires filled { 0 < layout.size }
+    requires place { row < layout.rows }
+    requires fewer { given ≤ layout.width }
+    requires columns { given * layout.rows * layout.size ≤ length columns.now }
+    requires fits { vec_len block.old + layout.width * layout.size < 2 ^ 32 }
+    ensures { OnOk result (block.new.items ≡ block.old.items
+        ++ row_of_columns layout.rows layout.width layout.size columns.now given row) }
 {
     let place = block.len();
-    let end = place + given * size;
-    block.resize(place + width * size, 0)?;
-    copy_column(columns, given, rows, size, row, &mut block[place..end]);
+    let end = place + given * layout.size;
+    block.resize(place + layout.width * layout.size, 0)?;
+    let front = &mut block[place..end];
+    copy_column(columns, given, layout.rows, layout.size, row, front);
     Ok(())
 }
 
@@ -64,10 +74,10 @@ pub fn block_of_columns(
 {
     let rows = f as usize + 1;
     let width = 2 * f as usize + 1;
-    let given = given as usize;
+    let layout = Layout { rows, width, size };
     let mut block = Vec::with_capacity(alloc, rows * width * size)?;
     for row in 0..rows {
-        add_row_of_columns(&mut block, columns, given, rows, width, size, row)?;
+        add_row_of_columns(&mut block, layout, columns, given as usize, row)?;
     }
     Ok(block)
 }

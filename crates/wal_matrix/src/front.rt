@@ -8,7 +8,7 @@ ghost use Rattle.wal_matrix.specs.Matrix.{IsExtended, symbol};
 ghost use Rattle.wal_matrix.specs.Front.{AreColumns, AreRedundant, IsFrontOf};
 ghost use Rattle.wal_matrix.specs.inside.Front.{ArePut};
 
-use crate::rows::add_row;
+use crate::rows::{Code, add_row};
 use crate::transposition::region;
 use std::alloc::{AllocError, Global};
 use std::marker::Model;
@@ -159,19 +159,16 @@ fn redundant_rows(
     let columns = 2 * f + 1;
     let shards = 3 * f + 1;
     let width = columns as usize * size;
+    let code = Code {
+        known: columns,
+        total: shards,
+        size,
+    };
     let mut row = Vec::with_capacity(alloc, shards as usize * size)?;
     let mut kept = Vec::with_capacity(alloc, (f as usize + 1) * f as usize * size)?;
     for index in 0..f as usize + 1 {
         row.clear();
-        add_row(
-            &mut row,
-            bytes,
-            index * width,
-            columns,
-            shards,
-            size,
-            scratch,
-        )?;
+        add_row(&mut row, bytes, index * width, code, scratch)?;
         keep_row(&row, width, &mut kept)?;
     }
     Ok(kept)

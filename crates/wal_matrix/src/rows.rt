@@ -10,6 +10,17 @@ ghost use Rattle.wal_matrix.specs.inside.Row.{laid_row, IsRowFrom};
 use std::alloc::{AllocError, Global};
 use wal_fft::{extend_regions, scratch_size};
 
+/// The code of a row.
+#[derive(Clone, Copy)]
+pub(crate) struct Code {
+    /// How many first symbols of a codeword determine the others.
+    pub(crate) known: u16,
+    /// How many symbols a codeword has.
+    pub(crate) total: u16,
+    /// The bytes of a symbol.
+    pub(crate) size: usize,
+}
+
 /// Appends at most `width` bytes of the blob, from `start` on, and zeros to the end of the row of
 /// `run` bytes.
 fn lay_row(
@@ -34,24 +45,20 @@ fn lay_row(
 }
 
 /// Extends the row that begins at this place.
-fn extend_row(
-    cells: &mut [u8],
-    place: usize,
-    known: u16,
-    total: u16,
-    size: usize,
-    scratch: &mut [u8],
-)
-    requires fewer { known ≤ total }
-    requires few { total ≤ 1000 }
-    requires even { size % 2 ≡ 0 }
-    requires row { length cells.old ≡ place + total * size }
+fn extend_row(cells: &mut [u8], place: usize, code: Code, scratch: &mut [u8])
+    requires fewer { code.known ≤ code.total }
+    requires few { code.total ≤ 1000 }
+    requires even { code.size % 2 ≡ 0 }
+    requires row { length cells.old ≡ place + code.total * code.size }
     requires scratch { 2048 ≤ length scratch.old }
-    ensures kept { take (place + known * size) cells.new ≡ take (place + known * size) cells.old }
-    ensures codeword { (w : ℕ) → 2 * w < size
-        → IsCodeword known total (λ c. word_at (region size (drop place cells.new) c) w) }
+    ensures kept { take (place + code.known * code.size) cells.new
+        ≡ take (place + code.known * code.size) cells.old }
+    ensures codeword { (w : ℕ) → 2 * w < code.size
+        → IsCodeword code.known code.total
+        (λ c. word_at (region code.size (drop place cells.new) c) w) }
 {
-    extend_regions(known, total, size, &mut cells[place..], scratch);
+    let row = &mut cells[place..];
+    extend_regions(code.known, code.total, code.size, row, scratch);
 }
 
 /// Appends the row that begins with the bytes of the blob from `start` on.
@@ -59,31 +66,25 @@ pub(crate) fn add_row(
     cells: &mut Vec<u8>,
     bytes: &[u8],
     start: usize,
-    known: u16,
-    total: u16,
-    size: usize,
+    code: Code,
     scratch: &mut [u8],
 ) -> Result<(), AllocError>
-    requires fewer { known ≤ total }
-    requires few { total ≤ 1000 }
-    requires even { size % 2 ≡ 0 }
-    requires fits { vec_len cells.old + total * size < 2 ^ 32 }
-    requires place { start + known * size < 2 ^ 32 }
+    requires fewer { code.known ≤ code.total }
+    requires few { code.total ≤ 1000 }
+    requires even { code.size % 2 ≡ 0 }
+    requires fits { vec_len cells.old + code.total * code.size < 2 ^ 32 }
+    requires place { start + code.known * code.size < 2 ^ 32 }
     requires scratch { 2048 ≤ length scratch.old }
-    ensures long { OnOk result (vec_len cells.new ≡ vec_len cells.old + total * size) }
+    ensures long { OnOk result (vec_len cells.new ≡ vec_len cells.old + code.total * code.size) }
     ensures kept { OnOk result (take (vec_len cells.old) cells.new.items ≡ cells.old.items) }
-    ensures row { OnOk result
-        (IsRowFrom known total size bytes.now start (drop (vec_len cells.old) cells.new.items)) }
+    ensures row { OnOk result (IsRowFrom code.known code.total code.size bytes.now start
+        (drop (vec_len cells.old) cells.new.items)) }
 {
     let place = cells.len();
-    lay_row(
-        cells,
-        bytes,
-        start,
-        known as usize * size,
-        total as usize * size,
-    )?;
-    extend_row(cells, place, known, total, size, scratch);
+    let width = code.known as usize * code.size;
+    let run = code.total as usize * code.size;
+    lay_row(cells, bytes, start, width, run)?;
+    extend_row(cells, place, code, scratch);
     Ok(())
 }
 
@@ -108,17 +109,14 @@ fn first_rows(
     let shards = 3 * f + 1;
     let width = columns as usize * size;
     let run = shards as usize * size;
+    let code = Code {
+        known: columns,
+        total: shards,
+        size,
+    };
     let mut cells = Vec::with_capacity(alloc, shards as usize * run)?;
     for row in 0..f as usize + 1 {
-        add_row(
-            &mut cells,
-            bytes,
-            row * width,
-            columns,
-            shards,
-            size,
-            scratch,
-        )?;
+        add_row(&mut cells, bytes, row * width, code, scratch)?;
     }
     Ok(cells)
 }

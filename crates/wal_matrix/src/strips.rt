@@ -30,29 +30,32 @@ impl Model for Strips {
     ghost invariant = { λ v. 2048 ≤ length v.scratch.items };
 }
 
-/// Copies the strips of the source symbols of a row.
-fn put_sources(
-    bytes: &[u8],
-    faults: usize,
+/// The part of each symbol that a strip holds.
+#[derive(Clone, Copy)]
+struct Cut {
+    /// The bytes of a symbol.
     size: usize,
-    row: usize,
+    /// The bytes of a symbol that come before the part.
     from: usize,
+    /// The bytes of the part.
     long: usize,
-    cells: &mut [u8],
-)
+}
+
+/// Copies the strips of the source symbols of a row.
+fn put_sources(bytes: &[u8], faults: usize, cut: Cut, row: usize, cells: &mut [u8])
     requires few { faults ≤ 333 }
-    requires fits { shard_count faults * shard_count faults * size < 2 ^ 32 }
+    requires fits { shard_count faults * shard_count faults * cut.size < 2 ^ 32 }
     requires row { row < row_count faults }
-    requires within { from + long ≤ size }
-    requires room { column_count faults * long ≤ length cells.old }
+    requires within { cut.from + cut.long ≤ cut.size }
+    requires room { column_count faults * cut.long ≤ length cells.old }
     ensures long { length cells.new ≡ length cells.old }
-    ensures sources { AreSources faults size bytes.now row
-        from long (column_count faults) cells.new }
+    ensures sources { AreSources faults cut.size bytes.now row
+        cut.from cut.long (column_count faults) cells.new }
 {
     let columns = 2 * faults + 1;
     for column in 0..columns {
-        let start = (row * columns + column) * size + from;
-        let part = &mut cells[column * long..(column + 1) * long];
+        let start = (row * columns + column) * cut.size + cut.from;
+        let part = &mut cells[column * cut.long..(column + 1) * cut.long];
         put_bytes(bytes, start, part);
     }
 }
@@ -72,57 +75,41 @@ fn extend_sources(faults: u16, long: usize, cells: &mut [u8], scratch: &mut [u8]
 }
 
 /// Fills the strips of the symbols of one of the first rows.
-fn fill_row(
-    bytes: &[u8],
-    faults: u16,
-    size: usize,
-    row: usize,
-    from: usize,
-    long: usize,
-    cells: &mut [u8],
-    scratch: &mut [u8],
-)
+fn fill_row(bytes: &[u8], faults: u16, cut: Cut, row: usize, cells: &mut [u8], scratch: &mut [u8])
     requires few { faults ≤ 333 }
-    requires size { size ≡ symbol_size faults (length bytes.now) }
-    requires fits { shard_count faults * shard_count faults * size < 2 ^ 32 }
+    requires size { cut.size ≡ symbol_size faults (length bytes.now) }
+    requires fits { shard_count faults * shard_count faults * cut.size < 2 ^ 32 }
     requires row { row < row_count faults }
-    requires even { long % 2 ≡ 0 }
-    requires even_from { from % 2 ≡ 0 }
-    requires within { from + long ≤ size }
-    requires room { length cells.old ≡ shard_count faults * long }
+    requires even { cut.long % 2 ≡ 0 }
+    requires even_from { cut.from % 2 ≡ 0 }
+    requires within { cut.from + cut.long ≤ cut.size }
+    requires room { length cells.old ≡ shard_count faults * cut.long }
     requires scratch { 2048 ≤ length scratch.old }
     ensures long { length cells.new ≡ length cells.old }
-    ensures row { IsRowStrip faults size bytes.now row from long cells.new }
+    ensures row { IsRowStrip faults cut.size bytes.now row cut.from cut.long cells.new }
 {
-    put_sources(bytes, faults as usize, size, row, from, long, cells);
-    extend_sources(faults, long, cells, scratch);
+    put_sources(bytes, faults as usize, cut, row, cells);
+    extend_sources(faults, cut.long, cells, scratch);
 }
 
 /// Fills the strips of the symbols of the first `f + 1` rows.
-fn fill_rows(
-    bytes: &[u8],
-    faults: u16,
-    size: usize,
-    from: usize,
-    long: usize,
-    strip: &mut [u8],
-    scratch: &mut [u8],
-)
+fn fill_rows(bytes: &[u8], faults: u16, cut: Cut, strip: &mut [u8], scratch: &mut [u8])
     requires few { faults ≤ 333 }
-    requires size { size ≡ symbol_size faults (length bytes.now) }
-    requires fits { shard_count faults * shard_count faults * size < 2 ^ 32 }
-    requires even { long % 2 ≡ 0 }
-    requires even_from { from % 2 ≡ 0 }
-    requires within { from + long ≤ size }
-    requires room { length strip.old ≡ shard_count faults * (shard_count faults * long) }
+    requires size { cut.size ≡ symbol_size faults (length bytes.now) }
+    requires fits { shard_count faults * shard_count faults * cut.size < 2 ^ 32 }
+    requires even { cut.long % 2 ≡ 0 }
+    requires even_from { cut.from % 2 ≡ 0 }
+    requires within { cut.from + cut.long ≤ cut.size }
+    requires room { length strip.old ≡ shard_count faults * (shard_count faults * cut.long) }
     requires scratch { 2048 ≤ length scratch.old }
     ensures long { length strip.new ≡ length strip.old }
-    ensures rows { AreRowStrips faults size bytes.now (row_count faults) from long strip.new }
+    ensures rows { AreRowStrips faults cut.size bytes.now (row_count faults)
+        cut.from cut.long strip.new }
 {
-    let run = (3 * faults as usize + 1) * long;
+    let run = (3 * faults as usize + 1) * cut.long;
     for row in 0..faults as usize + 1 {
         let cells = &mut strip[row * run..(row + 1) * run];
-        fill_row(bytes, faults, size, row, from, long, cells, scratch);
+        fill_row(bytes, faults, cut, row, cells, scratch);
     }
 }
 
@@ -174,8 +161,12 @@ impl Strips {
             bytes.now from long strip.new }
     {
         let faults = self.shape.f() as u16;
-        let size = self.shape.symbol_size() as usize;
-        fill_rows(bytes, faults, size, from, long, strip, &mut self.scratch);
+        let cut = Cut {
+            size: self.shape.symbol_size() as usize,
+            from,
+            long,
+        };
+        fill_rows(bytes, faults, cut, strip, &mut self.scratch);
         extend_rows(faults, long, strip, &mut self.scratch);
     }
 }

@@ -10,8 +10,8 @@ evaluate-requires-clause-points c = omega (arith, pow_mono c.requires.level)
 
 pub returns : goal.returns
 returns c =
-    strip_solved c.args.words c.args.start c.args.width c.args.wanted c.args.level c.args.known.now c.args.factors.now c.args.sources.now
-    c.put_known.new.strip c.restore.new.buffer c.derive.new.buffer c.evaluate.new.buffer c.args.targets.now c.take_wanted.new.regions
+    strip_solved c.args.strip.words c.args.strip.start c.args.strip.width c.args.wanted c.args.level c.args.known.now c.args.factors.now c.args.sources.now
+    c.put_known.new.runs c.restore.new.buffer c.derive.new.buffer c.evaluate.new.buffer c.args.targets.now c.take_wanted.new.regions
     record {
       few = c.requires.level;
       distinct = c.requires.distinct;

@@ -10,8 +10,8 @@ evaluate-requires-clause-points c = omega (arith, pow_mono c.requires.level)
 
 pub returns : goal.returns
 returns c =
-    strip_codewords c.args.words c.args.start c.args.width c.args.known c.args.total c.args.level c.args.regions.now
-    c.gather.new.strip c.restore.new.buffer c.evaluate.new.buffer c.scatter.new.regions
+    strip_codewords c.args.strip.words c.args.strip.start c.args.strip.width c.args.known c.args.total c.args.level c.args.regions.now
+    c.gather.new.runs c.restore.new.buffer c.evaluate.new.buffer c.scatter.new.regions
     record {
       level_few = c.requires.level;
       few = omega (arith, c.requires.enough, pow_mono c.requires.level);

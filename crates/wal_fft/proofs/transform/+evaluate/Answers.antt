@@ -2,7 +2,7 @@ use Rattle.wal_fft.proofs.Common.{◌≡◌, ◌-◌, ◌*◌, ◌^◌, ◌<◌,
 use Rattle.wal_fft.proofs.Blocks.{halved}
 use Rattle.wal_fft.proofs.Steps.{one_point, none_wanted, evaluated}
 use Rattle.wal_fft.proofs.transform.+evaluate.Goals as goal
-use Rattle.wal_fft.proofs.transform.+evaluate.Goals.{then-start-points-via-then-start-points, then-start-points-via-else-start-points+then-to-start}
+use Rattle.wal_fft.proofs.transform.+evaluate.Goals.{then-start-points-via-then-start-points, then-start-points-via-else-start-points+then-wanted-start}
 
 pub returns-then-level-eq0 : goal.returns-then-level-eq0
 returns-then-level-eq0 t c w l i below after before = one_point (lane c.args.width c.args.buffer.now w) _ c.if-level-eq0.true below
@@ -18,7 +18,7 @@ returns-then-start-points t c =
     none_wanted _ _ _ (omega arith) c.half-points.ensures
     (elim c.then-start-points.branch [
       | then-start-points-via-then-start-points w ↦ inl w.if-start-points.true
-      | then-start-points-via-else-start-points+then-to-start w ↦ inr w.if-to-start.true
+      | then-start-points-via-else-start-points+then-wanted-start w ↦ inr w.if-wanted-start.true
     ])
 
 pub overflow_mul-points-3 : goal.overflow_mul-points-3

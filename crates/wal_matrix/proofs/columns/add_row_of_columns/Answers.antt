@@ -7,9 +7,9 @@ use Rattle.wal_matrix.proofs.columns.add_row_of_columns.Goals as goal
 pub returns : goal.returns
 returns c =
     let old = c.args.block.now.items in
-    let width = c.args.width * c.args.size in
+    let width = c.args.layout.width * c.args.layout.size in
     let place = c.len-place.result in
-    let k = place + c.args.given * c.args.size - place in
+    let k = place + c.args.given * c.args.layout.size - place in
     let laid = c.deref_mut.result.now in
     let at : place ≡ length old = search rules in
     let len : vec_len c.args.block.now ≡ length old = search rules in
@@ -17,5 +17,5 @@ returns c =
     let filled : laid ≡ old ++ replicate width 0 =
     cc (c.deref_mut.ensures.value, c.in_ok-resize.ensures.items, take_all (place + width) old (omega (arith, at)), left) in
     let piece = c.copy_column.new.into in
-    let row = row_added c.args.rows c.args.width c.args.size place k old c.args.columns.now laid piece c.args.given c.args.row c.requires.fewer at (omega arith) filled c.copy_column.ensures in
+    let row = row_added c.args.layout.rows c.args.layout.width c.args.layout.size place k old c.args.columns.now laid piece c.args.given c.args.row c.requires.fewer at (omega arith) filled c.copy_column.ensures in
     take_at (put_mid place k laid piece) _ _ (search rules) ∙ row

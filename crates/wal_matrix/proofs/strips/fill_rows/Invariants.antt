@@ -4,5 +4,5 @@ use Rattle.wal_matrix.proofs.strips.fill_rows.Given as goal
 abbrev pub invariant-loop-row : goal.invariant-loop-row
 invariant-loop-row l = record {
   long : length l.strip ≡ length l.fn.strip;
-  rows : AreRowStrips l.faults l.size l.bytes l.row l.from l.long l.strip;
+  rows : AreRowStrips l.faults l.cut.size l.bytes l.row l.cut.from l.cut.long l.strip;
 }

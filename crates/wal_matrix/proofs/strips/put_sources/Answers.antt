@@ -11,17 +11,17 @@ put_bytes-requires c =
     record {
       place = omega (
         arith,
-        source_place c.args.faults c.args.size c.args.row column c.requires.row below,
+        source_place c.args.faults c.args.cut.size c.args.row column c.requires.row below,
         c.requires.within,
         c.requires.fits,
-        length-take ((column + 1) * c.args.long - column * c.args.long) (drop (column * c.args.long) c.loop-column.cells),
+        length-take ((column + 1) * c.args.cut.long - column * c.args.cut.long) (drop (column * c.args.cut.long) c.loop-column.cells),
       );
     }
 
 pub loop-column-preserved : goal.loop-column-preserved
 loop-column-preserved c =
     let column = c.loop-column.column in
-    let long = c.args.long in
+    let long = c.args.cut.long in
     let old = c.loop-column.cells in
     let part = c.put_bytes.new.out in
     let below : column < column_count c.args.faults = omega (arith, c.loop-column-test.true, c.loop-column.auto.column-end) in
@@ -31,6 +31,6 @@ loop-column-preserved c =
     let size : length part ≡ long = c.put_bytes.ensures.long ∙ whole in
     record {
       long = (search rules);
-      sources = sources_more c.args.faults c.args.size c.args.row c.args.from long column _ c.args.bytes.now old part room size
+      sources = sources_more c.args.faults c.args.cut.size c.args.row c.args.cut.from long column _ c.args.bytes.now old part room size
           (λ k hk. c.put_bytes.ensures.bytes k (omega (arith, whole))) c.loop-column.invariant.sources;
     }
