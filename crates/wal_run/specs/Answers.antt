@@ -9,13 +9,8 @@ use Rattle.wal_words.specs.declared.task.Service.{Service}
 use Rattle.wal_words.specs.Task.{IsTask, NoTask}
 use Rattle.wal_run.specs.Around.{Around}
 use Rattle.wal_run.specs.Command.{IsResult, IsTaken, IsTooLong, MayLeave, MayOwe, TakesAtMost, TakesInput}
-use Rattle.wal_run.specs.Commands.{command_of}
+use Rattle.wal_run.specs.Commands.{command_of, usage_text}
 use Rattle.wal_run.specs.Serving.{EndsServing, IsServiceResult}
-
--- the line that says which commands there are
-abbrev pub usage_text : List ℕ
-usage_text =
-    codes "usage: walrus id F | encode F | read ID | recover ID AXIS INDEX | check ID | serve F SHARD | replay | sample NUMBER | image BYTES | unpack | bundle F | member ID K | challenge ID SHARD BEACON COUNT | verify ID SHARD BEACON COUNT | gateway CAPACITY\n"
 
 -- the line for an input beyond the limit
 abbrev pub too_long_text : List ℕ

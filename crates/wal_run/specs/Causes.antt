@@ -15,10 +15,10 @@ use Rattle.wal_words.specs.declared.task.Task.TheVariants.{Serve}
 use Rattle.wal_words.specs.Task.{IsTask, NoTask}
 use Rattle.wal_run.specs.Around.{Around}
 use Rattle.wal_run.specs.Command.{Command, IsClash, IsFrontOf, IsFrontUpToClash, IsLacking, IsRejection, IsTaken, IsTooLong, IsUnreadable, MayOwe, TakesAtMost, TakesInput}
-use Rattle.wal_run.specs.Commands.{command_of}
+use Rattle.wal_run.specs.Commands.{command_of, usage_text}
 use Rattle.wal_run.specs.SameText.{IsPlaceOf, Place, SameText}
 use Rattle.wal_run.specs.Serving.{answering, at_start, serve_limit}
-use Rattle.wal_run.specs.Answers.{Answers, Completes, IsAnswered, too_long_text, usage_text}
+use Rattle.wal_run.specs.Answers.{Answers, Completes, IsAnswered, too_long_text}
 
 -- the words ask for a task, the input of its command was taken, and the whole text was written that
 -- tells the cause

@@ -1,5 +1,5 @@
--- The command of each task.
-use Rattle.std.specs.Prelude.{ℕ, List}
+-- The command of each task, and the line that says which commands there are.
+use Rattle.std.specs.Prelude.{ℕ, List, codes}
 use Rattle.wal_words.specs.declared.task.Task.{Task}
 use Rattle.wal_words.specs.declared.task.Task.TheVariants.{Whole, Read, Serve, Sample}
 use Rattle.wal_words.specs.declared.task.WholeTask.{WholeTask}
@@ -41,3 +41,8 @@ command_of digest (Whole task) = whole_command digest task
 command_of digest (Read id) = reading digest id
 command_of digest (Sample number) = sampling digest number
 command_of digest (Serve service) = bare 0 nothing
+
+-- the line that says which commands there are
+abbrev pub usage_text : List ℕ
+usage_text =
+    codes "usage: walrus id F | encode F | read ID | recover ID AXIS INDEX | check ID | serve F SHARD | replay | sample NUMBER | image BYTES | unpack | bundle F | member ID K | challenge ID SHARD BEACON COUNT | verify ID SHARD BEACON COUNT | gateway CAPACITY\n"

@@ -29,12 +29,12 @@ pub use Rattle.wal_journal.specs.Record.{AreWholeRecords, records, spelling, fie
 pub use Rattle.wal_port.specs.Faults.{Rose}
 pub use Rattle.wal_reader.specs.Carried.{same_axis, claims_in, claim_for, IsFirstProof}
 pub use Rattle.wal_reader.specs.Outcome.{IsMetadataIn, IsOutcome, Collects, Decides, GivesSliver, IndexedSliver}
-pub use Rattle.wal_run.specs.Answers.{Ends, whole, no_memory_for_words, no_memory, broke_off, source_failed, sink_failed, cut_off, serving_ended, Answers, usage, too_long, done, usage_text}
+pub use Rattle.wal_run.specs.Answers.{Ends, whole, no_memory_for_words, no_memory, broke_off, source_failed, sink_failed, cut_off, serving_ended, Answers, usage, too_long, done}
 pub use Rattle.wal_run.specs.Around.{Around}
 pub use Rattle.wal_run.specs.Causes.{Causes, HasOneAnswer, IsComplete, IsExact, IsUsage, ShowsCause}
 pub use Rattle.wal_run.specs.Checking.{verdict_text, checking}
 pub use Rattle.wal_run.specs.Command.{bare, nothing, Recorded, Command, Grammar, IsTaken, IsTakenWhole, MayLeave, TakenBy, TakesInput, Content, HasNone, IsFault, IsLacking, IsRejection, IsUnreadable, Misspells, Spelled, Spells, bytes, envelopes_of, schedule, ClashesBehind, HasTwoMetadata, IsResult, envelopes, success, rejection, lacking, unreadable, collision}
-pub use Rattle.wal_run.specs.Commands.{command_of}
+pub use Rattle.wal_run.specs.Commands.{command_of, usage_text}
 pub use Rattle.wal_run.specs.Lines.{collision_text}
 pub use Rattle.wal_run.specs.Serving.{EndsServing, at_start, serve_limit}
 pub use Rattle.wal_serve.specs.Answers.{AnswersPut, AnswersRead, IsReplied, IsReplyOutcome, AnswersRequest}

@@ -8,7 +8,7 @@ use Rattle.wal_words.specs.declared.task.WholeTask.{WholeTask}
 use Rattle.wal_words.specs.declared.task.WholeTask.TheVariants.{Identify, Encode, Recover, Check, Replay, Image, Unpack, Bundle, Member, Challenge, Verify, Gateway}
 use Rattle.wal_words.specs.Task.{IsTask, NoTask}
 use Rattle.wal_shard.specs.Replying as shard
-use Rattle.wal_run.specs.Answers.{usage_text}
+use Rattle.wal_run.specs.Commands.{usage_text}
 use Rattle.wal_run.specs.Serving.{serve_limit}
 use Rattle.walrus_c.specs.Words.{AreWords, AreNoWords}
 use Rattle.walrus_c.specs.Call.{Comes}

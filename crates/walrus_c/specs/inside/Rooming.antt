@@ -2,7 +2,7 @@
 use Rattle.std.specs.Prelude.{◌≡◌, ℕ, List, length}
 use Rattle.wal_words.specs.declared.task.Task.{Task}
 use Rattle.wal_words.specs.Task.{IsTask, NoTask}
-use Rattle.wal_run.specs.Answers.{usage_text}
+use Rattle.wal_run.specs.Commands.{usage_text}
 use Rattle.walrus_c.specs.Room.{no_memory_told, room_of}
 
 -- what is told for words and an input of so many bytes: of the one task for which they ask, or the
