@@ -88,6 +88,12 @@ class UploadCase(GuardCase):
             while unfinished.Upload(folder).offset < size:
                 await asyncio.sleep(0.02)
 
+    def age(self, seconds: float, paths: Iterable[str]) -> None:
+        """Has nothing have come to uploads for so long."""
+        for path in paths:
+            about = self.folder / "tokens.uploads" / path.rpartition("/")[2] / "about"
+            os.utime(about, (time.time() - seconds, time.time() - seconds))
+
     def on_disk(self) -> int:
         return sum(path.stat().st_size for path in self.folder.glob("tokens.uploads/*/*.piece"))
 
@@ -337,25 +343,38 @@ class Refused(UploadCase):
         await self.start()
         paths = [(await self.begin(b"x" * (number == 3)))[1]["location"] for number in range(unfinished.OF_ONE)]
 
-        def ages(seconds: float, numbers: Iterable[int]) -> None:
-            for number in numbers:
-                about = self.folder / "tokens.uploads" / paths[number].rpartition("/")[2] / "about"
-                os.utime(about, (time.time() - seconds, time.time() - seconds))
-
-        ages(unfinished.UNHEARD - 30, range(8))
+        self.age(unfinished.UNHEARD - 30, paths)
         self.assertEqual((await self.begin())[0], 429)
-        ages(unfinished.UNHEARD + 1, range(5))
+        self.age(unfinished.UNHEARD + 1, paths[:5])
         for _ in range(4):
             self.assertEqual((await self.begin())[0], 201)
         self.assertEqual((await self.begin())[0], 429)  # one has a byte, and who began the others may go on still
         found = [(await self.ask("HEAD", path))[0] for path in paths]
         self.assertEqual(found, [404, 404, 404, 200, 404, 200, 200, 200])
-        ages(unfinished.UNHEARD + 1, [6])
+        self.age(unfinished.UNHEARD + 1, paths[6:7])
         name = paths[6].rpartition("/")[2]
         with unfinished.Unfinished(self.folder / "tokens.uploads").lock("address 127.0.0.1", name) as lock:
             self.assertIsNotNone(lock)
             self.assertEqual((await self.begin())[0], 429)  # somebody is at it
         self.assertEqual((await self.begin())[0], 201)
+
+    async def test_uploads_that_had_bytes_leave_their_places_to_their_client_s_next(self) -> None:
+        """Else who sends a file with each POST, and hears no reply to eight of them, can store nothing for a day."""
+        alice, bob = self.token("alice"), self.token("bob")
+        await self.start()
+        paths = [(await self.begin(b"x", **alice))[1]["location"] for _ in range(unfinished.OF_ONE)]
+        other = (await self.begin(b"x", **bob))[1]["location"]
+        self.age(unfinished.LULL - 30, paths)
+        self.age(unfinished.LULL + 99, [other])
+        self.assertEqual((await self.begin(b"x", **alice))[0], 429)  # who began these may go on still
+        self.age(unfinished.LULL + 1, [paths[2]])
+        self.age(unfinished.LULL + 9, [paths[5]])
+        self.assertEqual((await self.begin(b"x", **alice))[0], 201)
+        found = [(await self.ask("HEAD", path, headers=alice))[0] for path in paths]
+        self.assertEqual(found, [200] * 5 + [404] + [200] * 2)  # nothing came to it for longest
+        self.assertEqual((await self.go_on(paths[2], 1, b"y", **alice))[0], 204)
+        self.assertEqual((await self.begin(b"x", **alice))[0], 429)  # something came to all
+        self.assertEqual(await self.offset(other, **bob), 1)
 
     async def test_a_share_pays_for_what_came(self) -> None:
         alice = self.token("alice", bytes=3_000, blobs=9)

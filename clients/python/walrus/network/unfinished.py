@@ -23,8 +23,8 @@ from .problems import Problem
 
 ALL, OF_ONE = 64, 8  # uploads that are not finished, and of one who sends
 FINISHED = 256  # uploads that are known once they are finished
-LULL = 600  # seconds without a byte after which one of many uploads gives its place to who has fewer
-UNHEARD = 120  # seconds after which one that never had a byte gives its place to the next one of who began it
+LULL = 600  # seconds without a byte after which an upload may have to give its place to another one
+UNHEARD = 120  # the same for one that never had a byte, where the next one is of who began it
 IDLE, KNOWN = 86_400, 3_600  # seconds without a byte until an upload is dropped; for which a finished one is known
 RECORD = NAME + 1
 STRANGER, HOLDER = "a", "b"  # what the names begin with of uploads of an address, and of a token
@@ -173,8 +173,9 @@ class Unfinished:
         mine, known = mark_of(owner), self.sweep()
         own = {name: touched for name, touched in known.items() if name.startswith(mine)}
         if len(own) >= OF_ONE:
-            if not self.drop_unheard(own):
+            if not self.drop_idle(own):
                 text = f"{OF_ONE} uploads are not finished: go on with one of them, or end one with DELETE"
+                text += f", or come again when nothing has come to one for {LULL // 60} minutes"
                 raise Problem(429, text, {"Retry-After": "60"})
             known = self.sweep()
         strangers = {name: touched for name, touched in known.items() if name.startswith(STRANGER)}
@@ -200,13 +201,16 @@ class Unfinished:
         name = min((it for it in known if it.startswith(owner)), key=lambda it: known[it])
         return most > counts[mine] + 1 and time.time() >= known[name] + LULL and self.end(name)
 
-    def drop_unheard(self, own: dict[str, float]) -> bool:
-        """Drops someone's upload that was begun a while ago, and to which no byte ever came: perhaps the reply that
-        told its place was lost, and nobody can go on with it or end it."""
-        for name, touched in own.items():
-            with contextlib.suppress(Problem):  # it has just gone
-                if time.time() >= touched + UNHEARD and self.find(name).offset == 0 and self.end(name):
-                    return True
+    def drop_idle(self, own: dict[str, float]) -> bool:
+        """Drops that one of someone's uploads to which nothing came for longest, if that is a while; first one that
+        never had a byte. Perhaps the reply that told its place was lost, and nobody can go on with it or end it."""
+        now, oldest_first = time.time(), sorted(own, key=own.__getitem__)
+        for lull in (UNHEARD, LULL):
+            for name in oldest_first:
+                with contextlib.suppress(Problem):  # it has just gone
+                    may_go = now >= own[name] + lull and (lull == LULL or self.find(name).offset == 0)
+                    if may_go and self.end(name):
+                        return True
         return False
 
     def end(self, name: str) -> bool:
