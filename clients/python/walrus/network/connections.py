@@ -11,7 +11,7 @@ import ssl
 import sys
 from typing import Any, Callable, Optional, cast
 
-from aiohttp import http_exceptions, web
+from aiohttp import http_exceptions, streams, web
 
 from ..fairness import key_of
 from .entries import NAME
@@ -21,6 +21,7 @@ MALFORMED = b"HTTP/1.1 400 Bad Request\r\nContent-Length: 0\r\nConnection: close
 GRACE, LEAST = 60.0, 32_768  # seconds in which a reply is taken, and bytes of it for which there is a second more
 FIELDS, WAITING, AHEAD = 64, 64, 65_536  # fields of a request's head; what a client has sent before it is answered:
 # requests, and bytes of their heads, and of their bodies
+STEP, PARTS = 16_384, 1_024  # bytes that are taken at once, but of a body of a known length; its parts that wait
 
 
 class Connection(web.RequestHandler):
@@ -34,6 +35,7 @@ class Connection(web.RequestHandler):
         words |= {"keepalive_timeout": 30, "lingering_time": 2, "auto_decompress": False, "max_headers": FIELDS}
         super().__init__(server, loop=loop, **words)
         self.server, self.most, self.each, self.peer = server, most, each, ""
+        self.body, self.length = streams.EMPTY_PAYLOAD, 0  # of the last request; as long as was told, if that was
 
     def whom(self, transport: asyncio.BaseTransport) -> tuple[str, float]:
         """Whom a connection is from, and how many these may have."""
@@ -55,13 +57,35 @@ class Connection(web.RequestHandler):
             del self.each[self.peer]  # so that only who is connected is known
 
     def data_received(self, data: bytes) -> None:
+        """Takes what comes step by step, so that of what is too much little is taken."""
+        while data and self.transport and not self.transport.is_closing():
+            size = max(STEP, self.length - self.body.total_bytes)
+            self.take(data[:size])
+            data = data[size:]
+
+    def take(self, data: bytes) -> None:
+        """Takes some of what comes. What is malformed, or too much, ends the connection."""
         try:
             super().data_received(data)
         except ValueError:
             cast(asyncio.Transport, self.transport).write(MALFORMED)
             self.force_close()
+        self.look()
         if self.is_ahead() and self.transport:
             self.transport.abort()
+
+    def look(self) -> None:
+        """Notes whose body comes. What waits to be read of a body becomes one part, where it came in many: each takes
+        48 bytes of memory, also a chunk of one byte. No more of it is taken before somebody has read that."""
+        if self._messages:
+            head, self.body = self._messages[-1]
+            self.length = int(getattr(head, "headers", {}).get("Content-Length", 0))
+        for body in {self.body, *(body for _, body in self._messages)}:
+            if len(getattr(body, "_buffer", ())) > PARTS and not body.exception():
+                body.unread_data(body.read_nowait())
+                self.pause_reading()
+        if self.body.is_eof():
+            self.resume_reading()  # for what comes behind it, also where nobody reads it
 
     def is_ahead(self) -> bool:
         """Whether a client has sent more than may wait while it is answered: requests, their heads, whole bodies of
@@ -80,7 +104,10 @@ class Connection(web.RequestHandler):
         self.first.cancel()
         if transport := self.transport:
             self.first = asyncio.get_running_loop().call_later(seconds, transport.abort)
-        return await super().finish_response(request, resp, *words)
+        asyncio.get_running_loop().call_soon(self.look)  # at what came behind a wish for another protocol
+        ended = await super().finish_response(request, resp, *words)
+        self.look()
+        return ended
 
     def handle_error(self, request: web.BaseRequest, status: int = 500, exc: Any = None, message: Any = None) -> Any:
         """Text that cannot be encoded again, which aiohttp would answer with, is the client's."""
