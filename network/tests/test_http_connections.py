@@ -1,13 +1,19 @@
-"""What comes on the connections of a gateway before anything is answered: bodies in small chunks."""
+"""What comes on connections of gateways and recorders before anything is answered: handshakes, and bodies in pieces."""
 import asyncio
+import collections
 import os
+import ssl
 import tracemalloc
 import unittest
-from typing import Any
+from typing import Any, Callable
 from unittest import mock
 
 from aiohttp import streams, web
 from guard_case import GuardCase
+from walrus.network import connections
+from walrus.network.certificates import make_authority
+from walrus.network.connections import Server
+from walrus.network.local import make_certificate
 
 
 class Coming(GuardCase):
@@ -34,11 +40,14 @@ class Coming(GuardCase):
         assert self.gateway.runner and self.gateway.runner.server
         return self.gateway.runner.server.connections
 
+    async def until(self, holds: Callable[[], object]) -> None:
+        async with asyncio.timeout(60):
+            while not holds():
+                await asyncio.sleep(0.01)
+
     async def paused(self, count: int) -> None:
         """Waits until so many connections take no more."""
-        async with asyncio.timeout(60):
-            while sum(it._reading_paused for it in self.served()) < count:
-                await asyncio.sleep(0.01)
+        await self.until(lambda: sum(it._reading_paused for it in self.served()) == count)
 
 
 class Bodies(Coming):
@@ -59,9 +68,7 @@ class Bodies(Coming):
             self.assertLess(sum(it.size for it in found.traces), 3 * 150_000)
             for _, writer in opened:
                 writer.transport.abort()
-            async with asyncio.timeout(60):
-                while self.served():
-                    await asyncio.sleep(0.01)
+            await self.until(lambda: not self.served())
 
     async def test_a_file_in_chunks_of_a_byte_comes_whole(self) -> None:
         await self.start()
@@ -86,6 +93,53 @@ class Bodies(Coming):
         reader, writer = await self.connect(unread + self.head("GET /livez", "Connection: close"))
         async with asyncio.timeout(20):
             self.assertEqual((await reader.read()).count(b"HTTP/1.1 200 OK"), 2)
+
+
+class Handshakes(Coming):
+    """A gateway over TLS, and recorders, at which clients come from several addresses of this machine."""
+
+    async def start_tls(self, seconds: float) -> None:
+        """Starts the gateway, which waits for a handshake for so long."""
+        make_authority(self.folder / "authority-web")
+        await make_certificate(self.folder, "web", by="authority-web")
+        with mock.patch.object(connections, "HANDSHAKE", seconds):
+            await self.start(tls_certificate=str(self.folder / "web.crt"), tls_key=str(self.folder / "web.key"))
+
+    async def come(self, host: str, port: int) -> tuple[asyncio.StreamReader, asyncio.StreamWriter]:
+        reader, writer = await asyncio.open_connection("127.0.0.1", port, local_addr=(host, 0))
+        self.addCleanup(writer.transport.abort)
+        return reader, writer
+
+    async def check(self, served: Server, context: ssl.SSLContext, asked: bytes) -> None:
+        """Of who completes no handshake few wait, and who comes from elsewhere completes his."""
+        served.most, port = 8, served.listening[0].getsockname()[1]
+        reader, early = await self.come("127.0.0.4", port)
+        opened = [await self.come("127.0.0.2", port) for _ in range(30)]
+        await self.until(lambda: sum(it.at_eof() or bool(it.exception()) for it, _ in opened) == 23)
+        self.assertEqual(collections.Counter(served.coming.values()), {"127.0.0.2": 7, "127.0.0.4": 1})
+        await early.start_tls(context, server_hostname="127.0.0.1")
+        early.write(asked)
+        async with asyncio.timeout(60):
+            self.assertIn(b" 200 OK", await reader.readline())
+        self.assertEqual(collections.Counter(served.coming.values()), {"127.0.0.2": 7})
+
+    async def test_at_a_gateway_few_of_an_address_wait(self) -> None:
+        await self.start_tls(60.0)
+        trusting = ssl.create_default_context(cafile=str(self.folder / "authority-web.crt"))
+        await self.check(self.gateway, trusting, self.head("GET /livez"))
+
+    async def test_at_a_recorder_few_of_an_address_wait(self) -> None:
+        self.port = 0
+        await self.check(self.services[0], self.context("publisher"), self.head("GET /v1/status"))
+
+    async def test_of_a_handshake_that_does_not_come_nothing_is_left(self) -> None:
+        await self.start_tls(0.3)
+        opened = [await self.come("127.0.0.2", self.port) for _ in range(4)]
+        opened[0][1].write(b"GET / HTTP/1.1\r\n\r\n")
+        opened[1][1].write_eof()
+        opened[2][1].transport.abort()
+        await self.until(lambda: opened[3][0].at_eof() and not self.gateway.coming)
+        self.assertEqual((self.served(), self.gateway.each), ([], {}))
 
 
 if __name__ == "__main__":

@@ -67,8 +67,7 @@ class Slow(GatewayCase):
         names = [(await self.put(DRAWN.randbytes(4_000_000)))["blobId"] for _ in range(SLOW)]
         small = (await self.put(b"small"))["blobId"]
         before, _ = usage_of(os.getpid())
-        assert self.gateway.server
-        for listener in self.gateway.server.sockets:
+        for listener in self.gateway.listening:
             listener.setsockopt(socket.SOL_SOCKET, socket.SO_SNDBUF, 16 * STEP)  # so that little is taken by the system
         readers = [await asyncio.open_connection("127.0.0.1", self.port, limit=2 * STEP) for _ in names]
         for _, writer in readers:

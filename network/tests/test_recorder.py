@@ -219,7 +219,7 @@ class Adversary(LedgerCase):
 
     async def test_who_follows_and_reads_nothing_is_let_go_and_holds_up_nobody(self) -> None:
         for service in self.services:
-            for listening in service.server.sockets if service.server else ():
+            for listening in service.listening:
                 listening.setsockopt(socket.SOL_SOCKET, socket.SO_SNDBUF, 4_096)  # what the system holds for a client
         host, _, port = self.local.told()["recorders"][0].rpartition(":")
         user, texts = self.user("publisher", 0), [registration("publisher", number) for number in range(6_000)]

@@ -7,16 +7,19 @@ import itertools
 import logging
 import math
 import os
+import socket
 import ssl
 import sys
-from typing import Any, Callable, Optional, cast
+from typing import Any, Awaitable, Callable, Optional, cast
 
 from aiohttp import http_exceptions, streams, web
 
 from ..fairness import key_of
+from ..port import HANDSHAKE, MANY
+from ..wire import accept, bound
 from .entries import NAME
 
-FIRST, HANDSHAKE, EACH = 30.0, 5.0, 300  # seconds for a first request and for TLS; connections of one address
+FIRST, EACH = 30.0, 300  # seconds for a first request; connections of one address
 MALFORMED = b"HTTP/1.1 400 Bad Request\r\nContent-Length: 0\r\nConnection: close\r\n\r\n"
 GRACE, LEAST = 60.0, 32_768  # seconds in which a reply is taken, and bytes of it for which there is a second more
 FIELDS, WAITING, AHEAD = 64, 64, 65_536  # fields of a request's head; what a client has sent before it is answered:
@@ -139,33 +142,60 @@ class Named(Connection):
 
 
 class Server:
-    """A service over HTTP, whose connections count as `connect` makes them."""
+    """A service over HTTP, whose connections count as `connect` makes them. Those whose TLS handshake is not done count
+    apart, by address, from the moment that they are accepted."""
 
-    runner: Optional[web.AppRunner] = None
-    server: Optional[asyncio.AbstractServer] = None
+    most: int  # handshakes that may be under way
+    shake_hands: Callable[[socket.socket], Awaitable[Any]]  # has a connection be served once its handshake is done
+
+    def __init__(self) -> None:
+        self.runner: Optional[web.AppRunner] = None
+        self.listening, self.accepting = list[socket.socket](), list["asyncio.Task[None]"]()
+        self.coming = dict["asyncio.Task[Any]", str]()  # from where handshakes are, by the tasks that see to them
 
     def connect(self, server: web.Server) -> Connection:
         """What serves a new connection; one too many is ended, and later one that says nothing."""
         raise NotImplementedError
 
-    async def serve(self, app: web.Application, host: str, port: int, context: Optional[ssl.SSLContext]) -> int:
-        """Answers from here on; the port."""
+    async def serve(
+        self, app: web.Application, host: str, port: int, most: int, context: Optional[ssl.SSLContext] = None
+    ) -> int:
+        """Answers from here on, over TLS if so told; the port. At most so many handshakes are under way."""
         logging.getLogger("aiohttp.server").addFilter(is_own_fault)
         self.runner = web.AppRunner(app)
         await self.runner.setup()
         assert self.runner.server
-        made, words = functools.partial(self.connect, self.runner.server), {
-            "backlog": 1024
-        }  # type: Any, dict[str, Any]
-        if context:
-            words |= {"ssl": context, "ssl_handshake_timeout": HANDSHAKE}
-        self.server = await asyncio.get_running_loop().create_server(made, host, port, **words)
-        return int(self.server.sockets[0].getsockname()[1])
+        made = functools.partial(self.connect, self.runner.server)
+        tls: dict[str, Any] = {"ssl": context, "ssl_handshake_timeout": HANDSHAKE} if context else {}
+        accepted = asyncio.get_running_loop().connect_accepted_socket
+        self.most, self.shake_hands = most, functools.partial(accepted, made, **tls)
+        self.listening = bound(host, port)
+        self.accepting = [asyncio.create_task(accept(it, self.come)) for it in self.listening]
+        return int(self.listening[0].getsockname()[1])
+
+    async def come(self, connection: socket.socket, address: tuple[Any, ...]) -> None:
+        """Sees to the handshake of a connection. Where there are too many, that one ends which waits longest, first of
+        those from where many are."""
+        task = asyncio.current_task()
+        assert task
+        if len(self.coming) >= self.most:
+            counts = collections.Counter(self.coming.values())
+            first = min(self.coming, key=lambda it: counts[self.coming[it]] <= self.most // MANY)
+            del self.coming[first]
+            first.cancel()
+        self.coming[task] = key_of(str(address[0]))
+        try:
+            with contextlib.suppress(asyncio.CancelledError, OSError):  # it gives way, or there is no TLS with it
+                await self.shake_hands(connection)
+        finally:
+            self.coming.pop(task, None)
 
     async def end(self, seconds: float) -> None:
         """Answers no more; what is under way has so long."""
-        if self.server:
-            self.server.close()
+        for tasks in (self.accepting, self.coming):
+            for task in tasks:
+                task.cancel()
+            await asyncio.gather(*tasks, return_exceptions=True)
         if self.runner and self.runner.server:
             await self.runner.server.shutdown(seconds)
             await self.runner.cleanup()

@@ -78,6 +78,7 @@ class Gateway(Server):
     """The HTTP service over one user's view of the network in a folder."""
 
     def __init__(self, network: Network, folder: pathlib.Path, options: Optional[Options] = None):
+        super().__init__()
         self.network, self.options = network, options or Options()
         options = self.options
         self.reader = Reader(network, options)
@@ -123,7 +124,8 @@ class Gateway(Server):
         app.add_routes([web.get("/livez", self.livez), web.get("/readyz", self.readyz)])
         app.add_routes([web.get("/v1/rights", self.rights)])
         app.add_routes([web.get(path, self.page) for path in PAGES])
-        return await self.serve(app, host, port, self.certificate.context if self.certificate else None)
+        context = self.certificate.context if self.certificate else None
+        return await self.serve(app, host, port, self.options.connections, context)
 
     async def close(self) -> None:
         await self.end(5)

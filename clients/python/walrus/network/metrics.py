@@ -92,6 +92,7 @@ class Numbers(Server):
     """What answers with numbers, over a few connections: who opens many takes no descriptor that a node needs."""
 
     def __init__(self) -> None:
+        super().__init__()
         self.each = collections.Counter[str]()
 
     def connect(self, server: web.Server) -> Counted:
@@ -111,5 +112,5 @@ async def serve(place: str, tell: Any) -> Server:
     app = web.Application()
     app.router.add_get("/metrics", answer)
     made = Numbers()
-    await made.serve(app, host.strip("[]") or "127.0.0.1", int(port), None)
+    await made.serve(app, host.strip("[]") or "127.0.0.1", int(port), CONNECTIONS)
     return made

@@ -47,7 +47,7 @@ class Service(Server):
         context = ssl.create_default_context(ssl.Purpose.CLIENT_AUTH, cafile=self.settings.authority)
         context.verify_mode = ssl.CERT_REQUIRED
         context.load_cert_chain(self.settings.certificate, self.settings.key)
-        return await self.serve(app, self.settings.host, self.settings.port, context)
+        return await self.serve(app, self.settings.host, self.settings.port, CONNECTIONS, context)
 
     def routes(self) -> list[web.RouteDef]:
         entries = "/v1/entries"
