@@ -1,6 +1,7 @@
-"""What comes on connections of gateways and recorders before anything is answered: handshakes, and bodies in pieces."""
+"""What comes at gateways and recorders before anything is answered: handshakes, heads and bodies, in small pieces."""
 import asyncio
 import collections
+import contextlib
 import os
 import ssl
 import tracemalloc
@@ -93,6 +94,37 @@ class Bodies(Coming):
         reader, writer = await self.connect(unread + self.head("GET /livez", "Connection: close"))
         async with asyncio.timeout(20):
             self.assertEqual((await reader.read()).count(b"HTTP/1.1 200 OK"), 2)
+
+
+class Heads(Coming):
+    async def test_a_head_that_stays_half_sent_ends_soon(self) -> None:
+        self.enterContext(mock.patch.object(connections, "FIRST", 0.5))
+        await self.start()
+        whole = self.head("GET /livez")
+        for said in (whole[:-2], whole + whole[:-2], b"G", whole + b"G"):
+            reader, _ = await self.connect(said)
+            async with asyncio.timeout(20):
+                self.assertEqual((await reader.read()).count(b" 200 OK"), said.startswith(whole))
+        await self.until(lambda: not self.gateway.each)
+
+    async def test_a_head_that_stays_half_sent_takes_little(self) -> None:
+        """Else each connection takes a megabyte with the fields of one, and what comes behind a body as much."""
+        await self.start(requests=0)
+        self.enterContext(mock.patch.object(self.gateway.reader, "answer", self.wait))
+        asked, field = f"GET /v1/blobs/{'0' * 64}", b"H: " + b"h" * 8_000 + b"\r\n"
+        chunked = self.head(asked, "Transfer-Encoding: chunked") + b"1\r\nx\r\n0\r\n"
+        for said in (self.head(asked)[:-2], self.head(asked) + self.head(asked)[:-2], chunked):
+            reader, writer = await self.connect(said)
+            await asyncio.sleep(0.1)
+            for _ in range(12):
+                writer.write(field)
+            async with asyncio.timeout(20):
+                with contextlib.suppress(ConnectionError):
+                    self.assertEqual(await reader.read(), b"")
+        await self.until(lambda: not self.served())
+        self.goes_on.set()
+        reader, _ = await self.connect(self.head("GET /livez", "Connection: close")[:-2] + field * 7 + b"\r\n")
+        self.assertIn(b" 200 OK", await reader.readline())  # such a head is taken
 
 
 class Handshakes(Coming):

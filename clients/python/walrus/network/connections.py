@@ -19,7 +19,7 @@ from ..port import HANDSHAKE, MANY
 from ..wire import accept, bound
 from .entries import NAME
 
-FIRST, EACH = 30.0, 300  # seconds for a first request; connections of one address
+FIRST, EACH = 30.0, 300  # seconds for a request's head, from the reply before it; connections of one address
 MALFORMED = b"HTTP/1.1 400 Bad Request\r\nContent-Length: 0\r\nConnection: close\r\n\r\n"
 GRACE, LEAST = 60.0, 32_768  # seconds in which a reply is taken, and bytes of it for which there is a second more
 FIELDS, WAITING, AHEAD = 64, 64, 65_536  # fields of a request's head; what a client has sent before it is answered:
@@ -35,10 +35,11 @@ class Connection(web.RequestHandler):
 
     def __init__(self, server: web.Server, most: int, each: "collections.Counter[str]", **words: Any):
         loop = asyncio.get_running_loop()
-        words |= {"keepalive_timeout": 30, "lingering_time": 2, "auto_decompress": False, "max_headers": FIELDS}
+        words |= {"keepalive_timeout": FIRST, "lingering_time": 2, "auto_decompress": False, "max_headers": FIELDS}
         super().__init__(server, loop=loop, **words)
         self.server, self.most, self.each, self.peer = server, most, each, ""
         self.body, self.length = streams.EMPTY_PAYLOAD, 0  # of the last request; as long as was told, if that was
+        self.half = 0  # bytes of a head that came in part, or of the lines behind a body
 
     def whom(self, transport: asyncio.BaseTransport) -> tuple[str, float]:
         """Whom a connection is from, and how many these may have."""
@@ -68,11 +69,14 @@ class Connection(web.RequestHandler):
 
     def take(self, data: bytes) -> None:
         """Takes some of what comes. What is malformed, or too much, ends the connection."""
+        before = len(self._messages), self.body.total_bytes
         try:
             super().data_received(data)
         except ValueError:
             cast(asyncio.Transport, self.transport).write(MALFORMED)
             self.force_close()
+        is_half = before == (len(self._messages), self.body.total_bytes)
+        self.half = self.half + len(data) if is_half else 0
         self.look()
         if self.is_ahead() and self.transport:
             self.transport.abort()
@@ -91,11 +95,11 @@ class Connection(web.RequestHandler):
             self.resume_reading()  # for what comes behind it, also where nobody reads it
 
     def is_ahead(self) -> bool:
-        """Whether a client has sent more than may wait while it is answered: requests, their heads, whole bodies of
-        these behind the first one, or what follows one for another protocol. aiohttp has no bound, and no public way to
-        see it."""
+        """Whether a client has sent more than may wait while it is answered: requests, their heads, also one that is
+        not whole, whole bodies of these behind the first one, or what follows one for another protocol. aiohttp has no
+        bound, and no public way to see it."""
         fields = (field for head, _ in self._messages for field in getattr(head, "raw_headers", ()))
-        heads = sum(map(len, itertools.chain.from_iterable(fields)))
+        heads = max(self.half, sum(map(len, itertools.chain.from_iterable(fields))))
         bodies = sum(getattr(body, "total_bytes", 0) for _, body in itertools.islice(self._messages, 1, None))
         return len(self._messages) > WAITING or heads > AHEAD or bodies + len(self._message_tail) > AHEAD
 
