@@ -1,6 +1,7 @@
 """Who would harm others at a gateway: one who takes all places, has much computed for little, or holds what is read."""
 import asyncio
 import collections
+import concurrent.futures
 import contextlib
 import gc
 import hashlib
@@ -361,6 +362,34 @@ class Harm(GuardCase):
             told = await asyncio.gather(*(self.ask("GET", path) for _ in range(4)))
         self.assertEqual([status for status, _, _ in told], [200] * 4)
         self.assertEqual(found, [1] * 4)  # of one who asks one at a time
+
+    async def test_long_lists_leave_the_threads_that_encode_to_stores(self) -> None:
+        self.token("anyone")
+        askers = [self.token(it) for it in ("alice", "bob")]
+        self.network = await self.enterAsyncContext(Network(self.folder, kept=True))
+        await self.start()
+        made = manifest_of(*(Place(f"{it:05}", "a/b", 0, b"") for it in range(10)))
+        path, running, goes_on = f"/v1/folders/{self.keep(made)}/", list[int](), threading.Event()
+        self.addCleanup(goes_on.set)
+        encoding = concurrent.futures.ThreadPoolExecutor(2)
+        self.addCleanup(encoding.shutdown)
+        self.enterContext(mock.patch.object(self.network.walrus, "pool", encoding))
+        self.assertEqual((await self.ask("GET", path))[0], 200)  # the manifest is known from here on
+
+        def wait(*_: object) -> Any:
+            running.append(threading.get_ident())
+            goes_on.wait(60)
+            raise problems.Problem(503, "it has waited")
+
+        self.enterContext(mock.patch.object(folders, "listing", wait))
+        self.enterContext(mock.patch.object(listing, "ending_of", wait))
+        asked = [asyncio.create_task(self.ask("GET", it, headers=by)) for it in (path, "/v1/blobs") for by in askers]
+        async with asyncio.timeout(60):
+            while len(running) < 4:
+                await asyncio.sleep(0.01)
+            await asyncio.get_running_loop().run_in_executor(encoding, int)
+        goes_on.set()
+        self.assertEqual([status for status, _, _ in await asyncio.gather(*asked)], [503] * 4)
 
     async def test_a_list_that_goes_over_all_blobs_holds_up_nobody(self) -> None:
         self.network, ran = await self.enterAsyncContext(Network(self.folder, kept=True)), list[str]()

@@ -16,7 +16,7 @@ from .manifest import Manifest, Place, Wrong, as_path, kind_told, label_of, show
 from .problems import Problem
 from .publishing import Publisher, named
 from .reading import FOREVER, Reader
-from .shelf import Shelf
+from .shelf import LISTS, Shelf
 from .turns import Turns, owner_of
 
 OPEN = {"X-Content-Type-Options": "nosniff", "Referrer-Policy": "no-referrer"}
@@ -124,10 +124,9 @@ class Folders:
         if place := manifest.find(f"{path}index.html" if is_folder else path):
             return await self.send(request, place, headers)
         if is_folder and manifest.has(path):
-            pool = self.reader.network.walrus.pool
             async with self.listings.take(owner_of(request)):  # a long one takes a while, beside what others ask
                 made = asyncio.get_running_loop().run_in_executor
-                return await made(pool, listing, request, name, manifest, path, headers)
+                return await made(LISTS, listing, request, name, manifest, path, headers)
         if manifest.has(f"{path}/") and not is_folder:
             return moved(raw.rpartition("/")[2], request)
         raise Problem(404, "the folder has no such file")

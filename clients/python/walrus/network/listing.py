@@ -11,7 +11,7 @@ from .groups import all_of
 from .problems import Problem, as_json
 from .reading import Reader
 from .shares import Charge
-from .shelf import TOGETHER, Shelf
+from .shelf import LISTS, TOGETHER, Shelf
 from .turns import Turns, owner_of
 
 PAGE, AT_ONCE = 1_000, 2  # blobs of a list that are told at once; lists that are made at once
@@ -78,4 +78,4 @@ async def ending(network: Network, after: bytes, last: int) -> list[bytes]:
     state, run = network.state, asyncio.get_running_loop().run_in_executor
     if not state.name or not (state.whole or state.settle()):
         return state.blobs.ending(after, last, PAGE + 1)
-    return await run(network.walrus.pool, ending_of, state.name, after, state.ledger.epoch, last, PAGE + 1)
+    return await run(LISTS, ending_of, state.name, after, state.ledger.epoch, last, PAGE + 1)

@@ -1,6 +1,7 @@
 """Manifests that were read and checked, kept for who asks next. What a liar wrote costs its reading once."""
 import asyncio
 import collections
+import concurrent.futures
 import dataclasses
 import functools
 import mmap
@@ -18,6 +19,8 @@ MOST, ROOM, SLIGHT = 128, 67_108_864, 65_536  # manifests that are kept, their b
 WAITING = 8  # who have one read at once, of which one is
 TOGETHER = 1_024  # blobs or files that are gone through before others have their turn
 NO_FOLDER = "the blob is no folder: read it under /v1/blobs"
+LISTS = concurrent.futures.ThreadPoolExecutor(5, "lists")  # of folders and of blobs, two of each, and one manifest that
+# is read: these take seconds, in which blobs are encoded by other threads
 
 
 @dataclasses.dataclass(frozen=True)
@@ -78,8 +81,7 @@ class Shelf:
     async def made(self, name: bytes) -> Manifest:
         data = await self.read(name)
         try:
-            pool = self.reader.network.walrus.pool
-            return await asyncio.get_running_loop().run_in_executor(pool, Manifest, data)
+            return await asyncio.get_running_loop().run_in_executor(LISTS, Manifest, data)
         except Foreign:
             raise Problem(404, NO_FOLDER, manifest=False) from None
         except Wrong as fault:
