@@ -7,6 +7,7 @@ import os
 import pathlib
 import re
 import shutil
+import tempfile
 import threading
 import time
 import unittest
@@ -496,6 +497,38 @@ class Refused(UploadCase):
         self.assertEqual(self.used("alice"), (500, 1))
         self.assertEqual((await self.go_on(path, 500, bytes(600), end=True, **alice))[0], 201)
         self.assertEqual(self.used("alice"), (1_100, 3))
+
+
+class Clocks(unittest.TestCase):
+    """Uploads at gateways whose clock jumps by a month."""
+
+    def test_a_jump_drops_nothing_young_and_keeps_nothing_for_ever(self) -> None:
+        folder, month, day = pathlib.Path(self.enterContext(tempfile.TemporaryDirectory())), 30 * 86_400, 86_400
+        kept, usual, begun = unfinished.Unfinished(folder), time.time, unfinished.BEGUN
+        young = kept.create("token a", {"until": 9, "epoch": 0, "length": None})
+        for ahead in (month, -month):
+            with mock.patch.object(time, "time", lambda: usual() + ahead):
+                self.assertEqual([*kept.sweep()], [young.folder.name])
+                young.touch()
+        self.assertEqual([*kept.sweep()], [young.folder.name])
+        for ahead in (month, -month, 0):  # of gateways that start meanwhile
+            with mock.patch.object(unfinished, "BEGUN", begun + ahead):
+                started = unfinished.Unfinished(folder)
+                self.assertEqual([*started.sweep()], [young.folder.name])
+                started.find(young.folder.name).touch()
+        os.utime(young.folder / "about", (usual() + month, usual() + month))
+        self.assertEqual([*kept.sweep()], [young.folder.name])
+        with mock.patch.object(unfinished, "BEGUN", begun + day + 60):  # when so much has passed
+            self.assertEqual([*kept.sweep()], [])
+
+    def test_what_is_over_when_a_gateway_starts_goes_an_hour_later(self) -> None:
+        folder = pathlib.Path(self.enterContext(tempfile.TemporaryDirectory()))
+        old = unfinished.Unfinished(folder).create("token a", {"until": 9, "epoch": 0, "length": None})
+        os.utime(old.folder / "about", (time.time() - 90_000, time.time() - 90_000))
+        started = unfinished.Unfinished(folder)
+        for passed, left in ((unfinished.LATER - 60, 1), (unfinished.LATER + 60, 0)):
+            with mock.patch.object(unfinished, "BEGUN", unfinished.BEGUN + passed):
+                self.assertEqual(len(started.sweep()), left)
 
 
 if __name__ == "__main__":

@@ -26,10 +26,28 @@ FINISHED = 256  # uploads that are known once they are finished
 LULL = 600  # seconds without a byte after which an upload may have to give its place to another one
 UNHEARD = 120  # the same for one that never had a byte, where the next one is of who began it
 IDLE, KNOWN = 86_400, 3_600  # seconds without a byte until an upload is dropped; for which a finished one is known
+LATER = 3_600  # seconds for which one is kept that seems to be over when a gateway starts
 RECORD = NAME + 1
+BEGUN = time.time() - time.monotonic()  # by how much the clock was ahead of the monotonic one at the start
 STRANGER, HOLDER = "a", "b"  # what the names begin with of uploads of an address, and of a token
 FULL = "the gateway has too little room on its disk for what comes: try again later, what has come of an upload stays"
 GONE = "there is no such upload, or it was dropped: begin it again, and what is certified is not stored again"
+
+
+def now() -> float:
+    """The time of day, but by a clock that nobody sets while this process runs: else uploads that are young would seem
+    old when the clock jumps."""
+    return BEGUN + time.monotonic()
+
+
+def touched(folder: str) -> float:
+    """When something last came to an upload. What seems to have come later than now came under another time of day: it
+    counts from now on."""
+    about = f"{folder}/about"
+    path = about if os.path.exists(about) else folder
+    if (found := os.stat(path).st_mtime) > now():
+        os.utime(path, (now(), now()))
+    return min(found, now())
 
 
 class Upload:
@@ -132,7 +150,7 @@ class Upload:
 
     def touch(self) -> None:
         """Has it be kept for as long again."""
-        os.utime(self.folder / "about")
+        os.utime(self.folder / "about", (now(), now()))
 
 
 def written_at(path: pathlib.Path, place: int, data: memoryview, reserve: float) -> None:
@@ -148,22 +166,25 @@ class Unfinished:
 
     def __init__(self, folder: pathlib.Path, reserve: float = 0.0):
         self.folder, self.reserve = folder, reserve
+        for path in folder.glob("*"):  # what seems to be over may have come under another time of day
+            with contextlib.suppress(FileNotFoundError):
+                if now() > touched(str(path)) + IDLE:
+                    os.utime(path / "about", (now() - IDLE + LATER, now() - IDLE + LATER))
         self.sweep()
 
     def sweep(self) -> dict[str, float]:
         """Drops uploads of which nothing came for long; of those that are not finished, when something came last."""
-        found, done, now = dict[str, float](), list[tuple[float, str]](), time.time()
+        found, done = dict[str, float](), list[tuple[float, str]]()
         for name in os.listdir(self.folder) if self.folder.exists() else []:
             path = f"{self.folder}/{name}"
             with contextlib.suppress(FileNotFoundError):
-                finished = os.path.exists(f"{path}/told")
-                touched = os.stat(f"{path}/about" if os.path.exists(f"{path}/about") else path).st_mtime
-                if now > touched + (KNOWN if finished else IDLE):
+                finished, last = os.path.exists(f"{path}/told"), touched(path)
+                if now() > last + (KNOWN if finished else IDLE):
                     shutil.rmtree(path, ignore_errors=True)
                 elif finished:
-                    done.append((touched, name))
+                    done.append((last, name))
                 else:
-                    found[name] = touched
+                    found[name] = last
         for _, name in sorted(done)[: max(0, len(done) - FINISHED)]:
             shutil.rmtree(self.folder / name, ignore_errors=True)
         return found
@@ -171,14 +192,14 @@ class Unfinished:
     def create(self, owner: str, about: dict[str, Any]) -> Upload:
         """Begins an upload, unless there are too many; who began it is part of its name."""
         mine, known = mark_of(owner), self.sweep()
-        own = {name: touched for name, touched in known.items() if name.startswith(mine)}
+        own = {name: last for name, last in known.items() if name.startswith(mine)}
         if len(own) >= OF_ONE:
             if not self.drop_idle(own):
                 text = f"{OF_ONE} uploads are not finished: go on with one of them, or end one with DELETE"
                 text += f", or come again when nothing has come to one for {LULL // 60} minutes"
                 raise Problem(429, text, {"Retry-After": "60"})
             known = self.sweep()
-        strangers = {name: touched for name, touched in known.items() if name.startswith(STRANGER)}
+        strangers = {name: last for name, last in known.items() if name.startswith(STRANGER)}
         is_half = mine.startswith(STRANGER) and len(strangers) >= ALL // 2
         others = strangers if is_half else known if len(known) >= ALL else {}
         if others and not self.make_place(mine, others):
@@ -192,23 +213,25 @@ class Unfinished:
         except BaseException:
             shutil.rmtree(made, ignore_errors=True)  # or it would have a place, and nobody know of it
             raise
-        return self.find(made.name)
+        upload = self.find(made.name)
+        upload.touch()
+        return upload
 
     def make_place(self, mine: str, known: dict[str, float]) -> bool:
         """Drops an upload of who has most of them, if nothing came to it for a while and who comes has fewer."""
         counts = collections.Counter(name[: len(mine)] for name in known)
         owner, most = counts.most_common(1)[0]
         name = min((it for it in known if it.startswith(owner)), key=lambda it: known[it])
-        return most > counts[mine] + 1 and time.time() >= known[name] + LULL and self.end(name)
+        return most > counts[mine] + 1 and now() >= known[name] + LULL and self.end(name)
 
     def drop_idle(self, own: dict[str, float]) -> bool:
         """Drops that one of someone's uploads to which nothing came for longest, if that is a while; first one that
         never had a byte. Perhaps the reply that told its place was lost, and nobody can go on with it or end it."""
-        now, oldest_first = time.time(), sorted(own, key=own.__getitem__)
+        oldest_first = sorted(own, key=own.__getitem__)
         for lull in (UNHEARD, LULL):
             for name in oldest_first:
                 with contextlib.suppress(Problem):  # it has just gone
-                    may_go = now >= own[name] + lull and (lull == LULL or self.find(name).offset == 0)
+                    may_go = now() >= own[name] + lull and (lull == LULL or self.find(name).offset == 0)
                     if may_go and self.end(name):
                         return True
         return False
