@@ -117,12 +117,12 @@ class Places(unittest.IsolatedAsyncioTestCase):
                 await asyncio.sleep(0)
 
         task = asyncio.create_task(others())
-        await made.forget(990)
+        await made.state.forget_places(990)
         task.cancel()
         self.assertGreater(len(turns), 200)
-        self.assertEqual([made.place_of(text) for text in texts], [None] * 990 + [*range(991, 1_001)])
-        await made.forget(5_000)
-        self.assertIsNone(made.place_of(texts[-1]))
+        self.assertEqual([made.state.place_of(text) for text in texts], [None] * 990 + [*range(991, 1_001)])
+        await made.state.forget_places(5_000)
+        self.assertIsNone(made.state.place_of(texts[-1]))
         made.state.close()
 
     async def test_a_recorder_goes_on_in_the_midst_of_a_batch(self) -> None:

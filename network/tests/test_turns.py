@@ -101,17 +101,17 @@ class Turns(unittest.IsolatedAsyncioTestCase):
         [mark] = self.etcd.marked
         await self.etcd.put_mark(mark._replace(dropped=True), mark)
         await self.etcd.drop(mark)
-        seen, forget = list[Any](), late.forget
+        seen, forget = list[Any](), late.state.forget_places
 
         async def watched(place: int) -> None:
             seen.append((place, late.chain, late.size, [*late.recent], await late.behind(mark.place)))
             await forget(place)
 
         self.assertGreater(late.size, 0)
-        with mock.patch.object(late, "forget", watched):
+        with mock.patch.object(late.state, "forget_places", watched):
             await late.catch_up()
         self.assertEqual(seen, [(mark.place, mark.chain, 0, [], [])])
-        self.assertEqual((late.ledger.epoch, late.place_of(registration("x", 1))), (1, None))
+        self.assertEqual((late.ledger.epoch, late.state.place_of(registration("x", 1))), (1, None))
 
     async def test_a_recorder_that_has_not_read_up_to_a_checkpoint_does_not_say_that_all_nodes_have(self) -> None:
         ahead, late = await self.recorder(FOUNDED, *turn(1)), Recorder(self.etcd)
@@ -304,7 +304,7 @@ class Turns(unittest.IsolatedAsyncioTestCase):
                 self.assertTrue(await made.step(Batch(made.chain, texts)))
             self.assertIn("database or disk is full", said.getvalue())
             self.assertEqual((kept.whole, made.ledger.posted["x"]), (False, 200))
-            self.assertEqual([made.place_of(it) for it in texts], [*range(1, 202)])
+            self.assertEqual([made.state.place_of(it) for it in texts], [*range(1, 202)])
 
     async def test_a_batch_that_is_longer_than_what_waits_for_a_follower_is_told_all_the_same(self) -> None:
         made = await self.recorder(FOUNDED, registration("x", 1), registration("x", 2))

@@ -45,7 +45,7 @@ class Keeper:
             await self.etcd.put_mark(mark._replace(dropped=True), mark)
         if mark and mark.dropped and mark.place > self.dropped:
             await self.etcd.drop(mark)  # each recorder does so, as who has put the mark may have ended behind it
-            await recorder.forget(mark.place)
+            await recorder.state.forget_places(mark.place)
             self.dropped = mark.place
         if now > recorder.appended + IDLE:
             size, used = await self.etcd.sizes()

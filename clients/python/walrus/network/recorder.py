@@ -5,7 +5,6 @@ etcd: one of them wins a place, and the others go on behind it."""
 import asyncio
 import collections
 import contextlib
-import hashlib
 import itertools
 import json
 import secrets
@@ -33,16 +32,12 @@ class Broken(Exception):
     """The ledger in etcd is another one than this recorder has read, which it must not go on with unseen."""
 
 
-def digest(text: str) -> bytes:
-    return hashlib.sha256(text.encode()).digest()[:16]
-
-
 class Recorder:
     """The ledger as etcd has it, with the places of what counts as long as it is there, and what waits for a place."""
 
     def __init__(self, etcd: Etcd, state: Optional[State] = None) -> None:
         self.etcd, self.state = etcd, state or State()
-        self.ledger, self.base, self.state.apply = self.state.ledger, self.state.base, self.apply
+        self.ledger, self.state.apply = self.state.ledger, self.apply
         self.waiting = dict[Taken, str]()
         self.recent, self.size = collections.deque[Batch](), 0  # batches for followers, and their bytes
         self.seen, self.fault = float("-inf"), ""  # when etcd was asked last; what it did not do
@@ -175,7 +170,7 @@ class Recorder:
             await self.state.take(pieces)
             self.recent.clear()
             self.size = 0
-            await self.forget(mark.place)
+            await self.state.forget_places(mark.place)
 
     def enter(self, batch: Batch, own: bool = False) -> None:
         """Enters a batch that etcd has, or what of it was not entered yet, or that this recorder has just appended."""
@@ -198,22 +193,8 @@ class Recorder:
         """Enters an entry, and notes its place if it counts."""
         word = self.ledger.apply(entry)
         if word and not refusal(word):
-            self.base.execute("INSERT OR REPLACE INTO places VALUES (?, ?)", (digest(entry.key), entry.revision))
+            self.state.note_place(entry)
         return word
-
-    def place_of(self, text: str) -> Optional[int]:
-        """The place of an entry that counted."""
-        row = self.base.execute("SELECT place FROM places WHERE digest = ?", (digest(text),)).fetchone()
-        return int(row[0]) if row else None
-
-    async def forget(self, place: int) -> None:
-        """Forgets the places up to one, part by part, as others wait meanwhile; `take` does so behind a checkpoint."""
-        for first in range(256):
-            if self.state.entering:
-                break
-            part = bytes([first]), bytes([first]) + b"\xff" * 16
-            self.base.execute("DELETE FROM places WHERE digest BETWEEN ? AND ? AND place <= ?", (*part, place))
-            await asyncio.sleep(0)
 
     def judge(self) -> tuple[dict[Taken, Answer], Optional[Batch]]:
         """What is answered to what waits if what counts of it is appended now, as one batch. The first entry of each
@@ -224,7 +205,7 @@ class Recorder:
         waiting.sort(key=lambda it: next(numbers[it[1].partition("/")[0]]))
         for (taken, _), text in zip(waiting, fitting((text for _, text in waiting[:TOGETHER]), MOST_BATCH)):
             entry = Entry(self.chain.place + len(places) + 1, text)
-            if place := places.get(text) or self.ledger.stands(entry) and self.place_of(text):
+            if place := places.get(text) or self.ledger.stands(entry) and self.state.place_of(text):
                 answers[taken] = place
             elif reason := fork.refused(entry):
                 answers[taken] = Refused(reason)

@@ -1,7 +1,9 @@
 """What a ledger has come to, in SQLite: its blobs by identifier, and how far it was heard; a start goes on there."""
+import asyncio
 import collections
 import contextlib
 import copy
+import hashlib
 import json
 import pathlib
 import sqlite3
@@ -33,6 +35,10 @@ FORMS: dict[str, Callable[[Any], Any]] = dict.fromkeys(("faults", "epoch", "revi
 FORMS |= {"now": tuple, "next": tuple, "calendar": tuple, "ready": frozenset, "expelled": frozenset}
 FORMS |= {"posted": collections.Counter, "shares": dict}
 FORMS |= {"addresses": lambda told: {name: (host, port) for name, (host, port) in dict(told).items()}, "past": dict}
+
+
+def short_digest(text: str) -> bytes:
+    return hashlib.sha256(text.encode()).digest()[:16]
 
 
 class State(Database):
@@ -208,6 +214,25 @@ class State(Database):
         self.settle()
         words = "SELECT place, text FROM entries WHERE place > ? AND epoch > ? ORDER BY place LIMIT ?"
         return [Entry(*row) for row in self.base.execute(words, (after, self.ledger.epoch - self.tail, count))]
+
+    def note_place(self, entry: Entry) -> None:
+        """Notes the place of an entry that counts, at a recorder, for who posts it again."""
+        self.base.execute("INSERT OR REPLACE INTO places VALUES (?, ?)", (short_digest(entry.key), entry.revision))
+
+    def place_of(self, text: str) -> Optional[int]:
+        """The place of an entry that counted."""
+        row = self.base.execute("SELECT place FROM places WHERE digest = ?", (short_digest(text),)).fetchone()
+        return int(row[0]) if row else None
+
+    async def forget_places(self, place: int) -> None:
+        """Forgets the places up to one, part by part, as others wait meanwhile; a recorder that takes a checkpoint does
+        so behind it."""
+        for first in range(256):
+            if self.entering:
+                break
+            part = bytes([first]), bytes([first]) + b"\xff" * 16
+            self.base.execute("DELETE FROM places WHERE digest BETWEEN ? AND ? AND place <= ?", (*part, place))
+            await asyncio.sleep(0)
 
     @property
     def whole(self) -> bool:
