@@ -58,18 +58,16 @@ class Bodies(Coming):
         self.enterContext(mock.patch.object(self.gateway.reader, "answer", self.wait))
         asked, chunked = f"GET /v1/blobs/{'0' * 64}", "Transfer-Encoding: chunked"
         behind = self.head(asked) + self.head("PUT /v1/blobs?epochs=1", chunked)
-        for said in (self.head(asked, chunked), behind):
+        for count, said in ((3, self.head(asked, chunked)), (6, behind)):
             tracemalloc.start()
             try:
-                opened = [await self.connect(said + b"1\r\nx\r\n" * 40_000) for _ in range(3)]
-                await self.paused(3)
+                for _ in range(3):
+                    await self.connect(said + b"1\r\nx\r\n" * 40_000)
+                await self.paused(count)
                 found = tracemalloc.take_snapshot().filter_traces([tracemalloc.Filter(True, streams.__file__)])
             finally:
                 tracemalloc.stop()
             self.assertLess(sum(it.size for it in found.traces), 3 * 150_000)
-            for _, writer in opened:
-                writer.transport.abort()
-            await self.until(lambda: not self.served())
 
     async def test_a_file_in_chunks_of_a_byte_comes_whole(self) -> None:
         await self.start()
@@ -142,9 +140,9 @@ class Handshakes(Coming):
         self.addCleanup(writer.transport.abort)
         return reader, writer
 
-    async def check(self, served: Server, context: ssl.SSLContext, asked: bytes) -> None:
+    async def check(self, served: Server, port: int, context: ssl.SSLContext, asked: bytes) -> None:
         """Of who completes no handshake few wait, and who comes from elsewhere completes his."""
-        served.most, port = 8, served.listening[0].getsockname()[1]
+        served.most = 8
         reader, early = await self.come("127.0.0.4", port)
         opened = [await self.come("127.0.0.2", port) for _ in range(30)]
         await self.until(lambda: sum(it.at_eof() or bool(it.exception()) for it, _ in opened) == 23)
@@ -158,11 +156,11 @@ class Handshakes(Coming):
     async def test_at_a_gateway_few_of_an_address_wait(self) -> None:
         await self.start_tls(60.0)
         trusting = ssl.create_default_context(cafile=str(self.folder / "authority-web.crt"))
-        await self.check(self.gateway, trusting, self.head("GET /livez"))
+        await self.check(self.gateway, self.port, trusting, self.head("GET /livez"))
 
     async def test_at_a_recorder_few_of_an_address_wait(self) -> None:
-        self.port = 0
-        await self.check(self.services[0], self.context("publisher"), self.head("GET /v1/status"))
+        self.port = int(self.local.told()["recorders"][0].rpartition(":")[2])
+        await self.check(self.services[0], self.port, self.context("publisher"), self.head("GET /v1/status"))
 
     async def test_of_a_handshake_that_does_not_come_nothing_is_left(self) -> None:
         await self.start_tls(0.3)
