@@ -7,9 +7,7 @@ import asyncio
 import mmap
 import os
 import pathlib
-import subprocess
 import sys
-import tempfile
 import threading
 import unittest
 from unittest import mock
@@ -18,14 +16,13 @@ TOP = pathlib.Path(__file__).resolve().parents[2]
 sys.path[:0] = [str(TOP / "tests"), str(TOP / "clients" / "python")]
 
 import walrus  # noqa: E402
-from walrus import Code, client as walrus_client, engines, library as walrus_library  # noqa: E402
+from walrus import Code, engines  # noqa: E402
 from walrus.engines import BUILT, PROGRAM  # noqa: E402
 from worked import ELEVEN, FALSE, HONEST, PRIMARY, SECOND, SECONDARY, SIX_WORDS, envelope, ladder  # noqa: E402
 
 LIBRARIES = [pathlib.Path(os.environ["WALRUS_LIBRARY"])] if os.environ.get("WALRUS_LIBRARY") else []
 LIBRARIES = [place for place in LIBRARIES or [TOP / built for built in BUILT] if place.exists()]
 PROGRAMS = [os.environ["WALRUS"]] if os.environ.get("WALRUS") else [str(TOP / PROGRAM)] * (TOP / PROGRAM).exists()
-DEBIAN = pathlib.Path("/usr/bin/python3")
 BEACON = bytes(range(32))
 SECONDS = 120  # of a process, on a busy machine
 
@@ -277,20 +274,6 @@ class WithLibrary(Calls, unittest.TestCase):
         walrus.use(walrus.Library(LIBRARIES[0]))
         cls.addClassCleanup(walrus.use, None)
 
-    def test_small_client_over_the_library(self) -> None:
-        """What the small client has the program do, the library does in its process."""
-        found = walrus_library.find(str(LIBRARIES[0]))
-        self.assertIsInstance(found, walrus_library.InProcess)
-        made = asyncio.run(found.encode(SIX_WORDS, 1, 2))
-        self.assertEqual((made.identifier, made.metadata), (SECOND.id, SECOND.metadata))
-        self.assertEqual(made.slivers[1][1], SECOND.sliver(SECONDARY, 2))
-        parts = [SIX_WORDS[:5], memoryview(SIX_WORDS)[5:]]
-        self.assertEqual(asyncio.run(found.output("id", 1, data=parts)), HONEST.id.hex().encode() + b"\n")
-        with self.assertRaises(walrus_client.Refused) as caught:
-            asyncio.run(found.output("read", SECOND.id.hex(), data=b""))
-        self.assertEqual((caught.exception.status, caught.exception.text), (4, b"no metadata\n"))
-        self.assertEqual((type(caught.exception), caught.exception.code), (walrus_client.TooFew, Code.NO_METADATA))
-
     def test_memory_with_gaps(self) -> None:
         with self.assertRaises(BufferError):
             walrus.identifier(memoryview(SIX_WORDS)[::2], 1)
@@ -302,49 +285,6 @@ class WithProgram(Calls, unittest.TestCase):
     def setUpClass(cls) -> None:
         walrus.use(walrus.Program(PROGRAMS[0]))
         cls.addClassCleanup(walrus.use, None)
-
-
-class Finding(unittest.TestCase):
-    def said(self, python: pathlib.Path, code: str, **variables: str) -> str:
-        """What Python prints in a folder that is nowhere near, with no variables of ours but these."""
-        kept = {name: value for name, value in os.environ.items() if not name.startswith(("WALRUS", "PYTHON"))}
-        kept |= {"PATH": "/usr/bin:/bin", **variables}
-        ran = subprocess.run([python, "-c", code], env=kept, capture_output=True, text=True, timeout=SECONDS, cwd="/")
-        self.assertEqual(ran.returncode, 0, ran.stderr)
-        return ran.stdout.strip()
-
-    def test_what_is_no_library_and_no_program(self) -> None:
-        with tempfile.NamedTemporaryFile(suffix=".so") as file:
-            with self.assertRaisesRegex(walrus.NotFound, "is not the library walrus"):
-                walrus_library.find(file.name)
-            with self.assertRaisesRegex(walrus.NotFound, "is not the library walrus"):
-                walrus.Library(file.name)
-            with self.assertRaisesRegex(walrus.NotFound, "is no program"):
-                walrus.Program(file.name)
-
-    @unittest.skipUnless(DEBIAN.exists() and LIBRARIES + PROGRAMS, "Debian's Python or what is built is not here")
-    def test_which_paths_name_a_library(self) -> None:
-        named = ["libwalrus.so", "/usr/lib/libwalrus.so.0", "out/walrus", "walrus.sock", "/opt/a.so/walrus"]
-        self.assertEqual([*map(walrus_library.is_library, named)], [True, True, False, False, False])
-
-    def test_pip_installs_it(self) -> None:
-        """Into a virtual environment, from the checkout and without a network; the wheel carries the library."""
-        with tempfile.TemporaryDirectory() as folder:
-            made = subprocess.run([DEBIAN, "-m", "venv", folder], capture_output=True, text=True, timeout=SECONDS)
-            if made.returncode:
-                self.skipTest("Debian's python3-venv is not here")
-            python = pathlib.Path(folder, "bin", "python")
-            words = [python, "-m", "pip", "install", "--quiet", "--no-index", TOP / "clients" / "python"]
-            named = {"WALRUS_LIBRARY": str(LIBRARIES[0].resolve())} if LIBRARIES else {}
-            subprocess.run(words, env={**os.environ, **named}, check=True, timeout=SECONDS, capture_output=True)
-            code = f"import walrus; print(walrus.engine(), walrus.identifier({SIX_WORDS!r}, 1).hex())"
-            if LIBRARIES:
-                where, name = self.said(python, code).split()
-                self.assertTrue(where.startswith(f"Library('{os.path.realpath(folder)}/lib/"), where)
-            else:
-                where, name = self.said(python, code, WALRUS=os.path.abspath(PROGRAMS[0])).split()
-                self.assertEqual(where, f"Program({os.path.abspath(PROGRAMS[0])!r})")
-            self.assertEqual(name, HONEST.id.hex())
 
 
 if __name__ == "__main__":
