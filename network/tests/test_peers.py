@@ -8,7 +8,7 @@ from unittest import mock
 import harness  # noqa: F401
 from walrus import client, kinds
 from walrus.frames import answer
-from walrus.network.peers import LARGE, Seat
+from walrus.network.peers import LANES, LARGE, Seat
 
 
 class Wire:
@@ -73,6 +73,26 @@ class Storing(unittest.IsolatedAsyncioTestCase):
         for wire in self.wires:
             wire.takes.set()
         self.assertEqual(await asyncio.gather(*large), [""] * 3)
+
+    async def test_who_gives_up_before_it_is_his_turn_leaves_nothing_behind(self) -> None:
+        """Else what anybody may ask of a node that hangs would wait for it without end."""
+        asked = client.write_frame(client.Read(bytes(32)))
+        for _ in range(5):
+            asking = [asyncio.create_task(self.seat.ask(asked)) for _ in range(20)]
+            await self.turns()
+            for it in asking:
+                it.cancel()
+            await self.turns()
+        self.assertEqual((len(self.seat.exchanges), len(self.wires)), (LANES, LANES))
+        last = asyncio.create_task(self.seat.ask(asked))
+        for count in (LANES, LANES + 1):
+            await self.turns()
+            self.assertEqual((len(self.wires), last.done()), (count, False))
+            for wire in self.wires:
+                wire.takes.set()
+        self.assertEqual(len(await last), 1)
+        await self.turns()
+        self.assertEqual((len(self.seat.exchanges), len(self.wires), self.seat.late), (0, LANES + 1, False))
 
     async def test_what_a_shard_says_is_told(self) -> None:
         with mock.patch.object(self.seat, "connection", mock.AsyncMock(return_value=(wire := Wire(kinds.UNVERIFIED)))):

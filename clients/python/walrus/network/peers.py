@@ -39,29 +39,41 @@ class Seat(client.Shard):
             wire.transport.abort()  # it ended between two requests
         return await self.peers.connect(self.name)
 
+    async def ask(self, *requests: client.Request) -> list[client.Reply]:
+        """As of any shard. An exchange that has begun goes on where nobody waits any more, so that it is known when a
+        late shard answers again; who gives up before it is his turn asks nothing."""
+        await self.turns.acquire()
+        task = asyncio.create_task(self.exchange(requests))
+        self.exchanges.add(task)
+        task.add_done_callback(self.exchanged)
+        return await asyncio.shield(task)
+
+    def exchanged(self, task: "asyncio.Task[list[client.Reply]]") -> None:
+        super().exchanged(task)
+        self.turns.release()
+
     async def exchange(self, requests: Sequence[client.Request]) -> list[client.Reply]:
-        async with self.turns:
-            if self.fault:
-                raise ConnectionError(self.fault)
-            begun, wire = time.monotonic(), None
-            try:
-                async with asyncio.timeout(self.seconds):
-                    wire = await self.connection()
-                    if len(requests) == 1:  # it is answered once all of it came
-                        await self.send(wire, requests)
-                        replies = await self.hear(wire, requests)
-                    else:
-                        replies, _ = await asyncio.gather(self.hear(wire, requests), self.send(wire, requests))
-            except (EOFError, OSError, ValueError) as error:
-                raise ConnectionError(client.fault_in_words(error, self.seconds)) from None
-            else:
-                self.idle.append(wire)
-                wire = None
-            finally:
-                if wire:
-                    wire.transport.abort()
-            self.took, self.late = max(time.monotonic() - begun, 0.9 * self.took), False
-            return replies
+        if self.fault:
+            raise ConnectionError(self.fault)
+        begun, wire = time.monotonic(), None
+        try:
+            async with asyncio.timeout(self.seconds):
+                wire = await self.connection()
+                if len(requests) == 1:  # it is answered once all of it came
+                    await self.send(wire, requests)
+                    replies = await self.hear(wire, requests)
+                else:
+                    replies, _ = await asyncio.gather(self.hear(wire, requests), self.send(wire, requests))
+        except (EOFError, OSError, ValueError) as error:
+            raise ConnectionError(client.fault_in_words(error, self.seconds)) from None
+        else:
+            self.idle.append(wire)
+            wire = None
+        finally:
+            if wire:
+                wire.transport.abort()
+        self.took, self.late = max(time.monotonic() - begun, 0.9 * self.took), False
+        return replies
 
     async def store(self, request: list[client.Data]) -> str:
         """Has a blob stored that comes whole; what the shard says where it is not. Who waits no more for it lets go of
@@ -70,6 +82,7 @@ class Seat(client.Shard):
             async with contextlib.AsyncExitStack() as stack:
                 if sum(map(len, request)) >= LARGE:
                     await stack.enter_async_context(self.large)
+                await stack.enter_async_context(self.turns)
                 [reply] = await self.exchange([request])
         except ConnectionError as error:
             return str(error)
