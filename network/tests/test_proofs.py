@@ -4,12 +4,13 @@ import asyncio
 import struct
 import types
 import unittest
+import weakref
 from typing import Any, Sequence
 from unittest import mock
 
 import harness  # noqa: F401  # which says where walrus is
-from walrus import client, frames, shapes, wire
-from walrus.network import recovery
+from walrus import audit, bundles, client, frames, shapes, wire
+from walrus.network import page, recovery
 from walrus.network.heads import Lengths
 
 LENGTH, SYMBOL = 3_000_000, 500_000  # bytes of a blob, and of one of its symbols at f = 1
@@ -158,6 +159,91 @@ class Reading(ProofCase):
             await client.fetch(shards, NAME, self.walrus)  # type: ignore[arg-type]
         self.assertEqual((caught.exception.held, caught.exception.needed), (1, 2))
         self.assertEqual((self.memory.count(PROOF), self.walrus.checked), (2, [2, 2]))
+
+    async def test_of_who_is_asked_for_a_proof_one_is_in_memory_and_nothing_else(self) -> None:
+        told = [[METADATA, sliver(0), proof(b"true"), DONE], [METADATA, proof(b"false"), proof(b"false"), DONE]]
+        for order, asked in ((told, 1), (told[::-1], 2)):
+            self.memory.clear()
+            shards = await self.shards([*order, [DONE], [DONE]])
+            with self.assertRaises(client.BadlyEncoded):
+                await client.fetch(shards, NAME, self.walrus)  # type: ignore[arg-type]
+            self.assertEqual((self.memory.count(PROOF), self.memory.count(40 + 3 * SYMBOL)), (asked, 0))
+
+
+class Asking(ProofCase):
+    """One shard that is asked for several symbols, of a column or for a challenge, and has a proof in their place."""
+
+    async def replies(self, *behind: bytes, ends: bool = True) -> client.Shard:
+        """A shard that replies with the metadata, these, the opening that is asked for, if it gives any, and an end."""
+
+        async def answer(reader: Any, writer: Any) -> None:
+            while True:
+                try:
+                    _, asked = await client.take_envelope(reader, 99)
+                except EOFError:
+                    return writer.close()
+                for payload in (METADATA, *behind):
+                    writer.write(client.envelope(payload))
+                opened = (bytes([client.OPENING]) + asked[1:] + struct.pack(">HI", 0, SYMBOL)).ljust(36 + 71 + SYMBOL)
+                if not ends:
+                    return writer.write(client.envelope(opened)[: SYMBOL // 2])
+                writer.write(client.envelope(opened) + client.envelope(DONE))
+
+        server = await asyncio.start_server(answer, "127.0.0.1", 0)
+        self.addCleanup(server.close)
+        return await self.enterAsyncContext(Shard(0, server.sockets[0].getsockname()[1]))
+
+    async def test_the_holder_of_a_column_has_memory_for_what_it_is_asked_for(self) -> None:
+        columns = bundles.Columns([await self.replies(proof(b"false"))], NAME, self.walrus)  # type: ignore[arg-type]
+        await columns.hear_holder(0)
+        self.assertEqual((len(columns.slivers[0]), self.memory.count(36 + 71 + SYMBOL)), (2 * SYMBOL, 2))
+        self.assertNotIn(PROOF, self.memory)
+
+    async def test_of_a_holder_that_drips_nothing_is_in_memory_once_nobody_waits(self) -> None:
+        self.enterContext(mock.patch("walrus.shards.LEAST", 0.3))
+        self.enterContext(mock.patch("walrus.shards.MOST", 0.3))
+        made, mapped = list["weakref.ref[Any]"](), wire.buffers.mapped
+
+        def noted(size: int) -> Any:
+            made.append(weakref.ref(found := mapped(size)))
+            return found
+
+        self.enterContext(mock.patch.object(wire.buffers, "mapped", noted))
+        shard = await self.replies(ends=False)
+        columns = bundles.Columns([shard], NAME, self.walrus)  # type: ignore[arg-type]
+        await columns.hear_holder(0)
+        self.assertEqual((columns.said, shard.late, len(shard.exchanges)), ({0: "it is late"}, True, 1))
+        self.assertEqual([found[:].strip(b"\0") for it in made if (found := it())], [b""])
+        with mock.patch.object(shard, "ask", side_effect=AssertionError("a late shard is asked first")):
+            await columns.hear_holder(0)
+
+    async def test_no_column_waits_for_another_shard_that_is_silent(self) -> None:
+        self.enterContext(mock.patch("walrus.shards.LEAST", 0.3))
+        self.enterContext(mock.patch("walrus.shards.MOST", 0.3))
+        told = [[METADATA, opening(number), DONE] for number in range(4)]
+        shards = await self.shards([[DONE], [], *told[2:]])
+        columns = bundles.Columns(shards, NAME, self.walrus)  # type: ignore[arg-type]
+        async with asyncio.timeout(30):  # a shard may take 60 s
+            await columns.recover(0)
+        self.assertEqual((self.walrus.ran, [*columns.metadata], self.asked), (["recover"], [METADATA], [1, 2, 3]))
+        shards[0].late = True  # so it is not known whether it holds its column
+        shards[2].fault = shards[3].fault = "gone"
+        with self.assertRaises(client.TooFew):
+            async with asyncio.timeout(5):
+                await bundles.Columns(shards[::2], NAME, self.walrus).recover(0)  # type: ignore[arg-type]
+        self.assertEqual(self.asked, [1, 2, 3, 0])
+
+    async def test_a_challenge_has_memory_for_what_is_asked_for(self) -> None:
+        shard = await self.replies(proof(b"false"))
+        await audit.audit(shard, NAME, bytes(32), 4, self.walrus)  # type: ignore[arg-type]
+        asked = len({audit.draw(bytes(32), NAME, 4, 0, it) for it in range(4)})
+        self.assertEqual(self.memory.count(36 + 71 + SYMBOL), asked)
+        self.assertNotIn(PROOF, self.memory)
+        [other] = await self.shards([[METADATA, sliver(0), proof(b"true"), DONE]])
+        self.memory.clear()
+        watch: Any = types.SimpleNamespace(network=types.SimpleNamespace(walrus=self.walrus))
+        self.assertTrue(await page.Watch.proves(watch, other, NAME))  # type: ignore[arg-type]
+        self.assertEqual([it for it in self.memory if it >= SYMBOL], [PROOF])
 
 
 class Recovering(ProofCase):

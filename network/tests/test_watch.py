@@ -14,7 +14,9 @@ from walrus import audit, client
 from walrus.network import page
 from walrus.network.client import Network
 from walrus.network.ledger import OPERATOR, Entry, Ledger, entry_key
+from walrus.network.pieces import Memory
 from walrus.network.problems import Problem
+from walrus.network.turns import ASKING
 from walrus.network.waiting import Waiting
 
 NAME = bytes(range(32))
@@ -41,7 +43,8 @@ class Challenges(unittest.IsolatedAsyncioTestCase):
         self.enterContext(mock.patch.object(page.Watch, "ask", self.ask))
         self.enterContext(mock.patch.object(page.Watch, "seat", lambda *_: types.SimpleNamespace(number=0)))
         self.enterContext(mock.patch.object(page.Watch, "proves", mock.AsyncMock(return_value=False)))
-        self.watch = page.Watch(network, pathlib.Path("authority"), 0.0001, 0.0001, 60)
+        self.memory = Memory(4 * page.need_of(1))
+        self.watch = page.Watch(network, self.memory, pathlib.Path("authority"), 0.0001, 0.0001, 60)
         self.watch.peers = mock.AsyncMock()
         self.addAsyncCleanup(self.watch.close)
 
@@ -76,6 +79,28 @@ class Challenges(unittest.IsolatedAsyncioTestCase):
         self.assertEqual([it.partition(":")[0] for it in lines], ["a challenge fails"] * count)
         self.assertEqual(lines[-1], "a challenge fails: ZeroDivisionError: unforeseen")
 
+    async def test_of_one_who_has_nodes_challenged_few_challenges_are_under_way_within_the_memory(self) -> None:
+        await self.watch.close()
+        running, goes_on = list[str](), asyncio.Semaphore(0)
+
+        async def challenged(*_: object) -> audit.Audit:
+            running.append(ASKING.get())
+            await goes_on.acquire()
+            return audit.Audit(True, "accept")
+
+        async def challenge(whom: str) -> None:
+            ASKING.set(whom)
+            await self.watch.challenge(NAME, "a")
+
+        with mock.patch.object(audit, "audit", challenged):
+            tasks = [asyncio.create_task(challenge(whom)) for whom in ("a",) * 9 + ("b", "c", "d")]
+            await settled()
+            self.assertEqual((running, self.memory.taken), (["a", "a", "b", "c"], self.memory.size))
+            for _ in tasks:
+                goes_on.release()
+            await asyncio.gather(*tasks)
+        self.assertEqual((len(running), self.memory.taken, self.watch.held["held"]), (12, 0, 12))
+
     async def test_nodes_are_asked_while_a_blob_is_long_in_coming_and_whatever_it_comes_to(self) -> None:
         learned, goes_on = list[object](), asyncio.Event()
 
@@ -85,7 +110,7 @@ class Challenges(unittest.IsolatedAsyncioTestCase):
             raise RuntimeError("can't start new thread")
 
         sorter: Any = types.SimpleNamespace(learn=learn, files=list)
-        watch = page.Watch(self.watch.network, pathlib.Path("authority"), 0.0001, 0, 60, sorter)
+        watch = page.Watch(self.watch.network, self.memory, pathlib.Path("authority"), 0.0001, 0, 60, sorter)
         watch.peers = mock.AsyncMock()
         self.addAsyncCleanup(watch.close)
         await self.watch.close()

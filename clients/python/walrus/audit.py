@@ -16,7 +16,9 @@ from typing import NamedTuple
 
 from . import client, library, loop
 from .client import DONE, METADATA, MOST_FAULTS, OPENING, Symbol
+from .envelopes import parts
 from .files import read_address, read_identifier
+from .shards import Asked
 
 LARGEST_INPUT = 134_217_728  # bytes that `walrus verify` takes
 MOST_DRAWS, BATCH = 1_000, 16  # draws of an audit; symbols that are asked for in one deadline
@@ -50,7 +52,7 @@ async def audit(shard: client.Shard, identifier: bytes, beacon: bytes, count: in
     metadata, openings = dict[bytes, None](), dict[Symbol, bytes]()  # each once; an opening by what was asked
     for some in batches(list(dict.fromkeys(drawn))):
         try:
-            replies = await shard.ask(*[client.write_frame(symbol) for symbol in some])
+            replies = await shard.ask(*Asked.each([client.write_frame(symbol) for symbol in some]))
         except ConnectionError as error:
             return Audit(False, str(error))
         for symbol, reply in zip(some, replies):
@@ -62,7 +64,7 @@ async def audit(shard: client.Shard, identifier: bytes, beacon: bytes, count: in
     if sum(len(payload) + client.HEAD.size for payload in shown) > LARGEST_INPUT:
         return Audit(False, f"the answer to {count} draws has more than {LARGEST_INPUT:,} bytes: draw fewer")
     words = "verify", identifier.hex(), shard.number, beacon.hex(), count
-    status, text = await walrus.run(*words, data=b"".join(map(client.envelope, shown)))
+    status, text = await walrus.run(*words, data=parts(shown))
     return Audit(status == 0, text.decode("ascii", "replace").strip() or f"walrus ended with status {status}")
 
 

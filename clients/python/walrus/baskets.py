@@ -54,9 +54,11 @@ class Basket:
         except BaseException:
             self.empty(place)
             raise
-        if place.memory is None:
-            return PASSED if self.is_closed or size == self.size else OFFERED if size in self.proofs else b""
-        return place.memory.toreadonly()
+        return self.instead(size) if place.memory is None else place.memory.toreadonly()
+
+    def instead(self, size: int) -> Data:
+        """What stands for a payload of so many bytes that was read past."""
+        return PASSED if self.is_closed or size == self.size else OFFERED if size in self.proofs else b""
 
     def place(self, stream: wire.Wire, size: int) -> Place:
         """A place for a payload; one without memory, where there is none for it."""
@@ -95,7 +97,7 @@ class Basket:
 
     def empty(self, place: Place) -> None:
         """Has the memory of a place for others."""
-        if place.memory is not None and place.came < self.size:
+        if place.memory is not None and place.came < len(place.memory):
             place.wire.divert()
         place.memory = None
 
@@ -124,11 +126,32 @@ class Basket:
 
 
 class Sieve(Basket):
-    """Memory of its own for each large payload of the length that is wanted. All others are read past, so that who lies
-    takes no more memory than who gives what is asked for."""
+    """Memory of its own for each large payload that is wanted, which are so many of one length, or else proofs. All
+    others are read past, so that who lies takes no more memory than who gives what is asked for."""
 
-    def __init__(self) -> None:
-        super().__init__(0)
+    def __init__(self, count: int, is_for_proofs: bool = False) -> None:
+        super().__init__(count)
+        self.is_for_proofs = is_for_proofs
 
     def place(self, stream: wire.Wire, size: int) -> Place:
-        return Place(stream, wire.filling(wire.memory(size)) if size == self.size else None)
+        wanted = size in self.proofs if self.is_for_proofs else size == self.size
+        if self.is_closed or not wanted or not self.count:
+            return Place(stream)
+        self.count -= 1
+        self.places.append(Place(stream, wire.filling(wire.memory(size))))
+        return self.places[-1]
+
+    async def receive(self, stream: wire.Wire, size: int) -> Data:
+        try:
+            return await super().receive(stream, size)
+        finally:
+            self.places = [it for it in self.places if it.wire is not stream]  # what came is who asked for it's alone
+
+    def empty(self, place: Place) -> None:
+        memory = place.memory
+        super().empty(place)
+        if memory is not None and isinstance(memory.obj, mmap.mmap):  # which who reads has still
+            memory.obj.madvise(mmap.MADV_DONTNEED)
+
+    def instead(self, size: int) -> Data:
+        return OFFERED if size in self.proofs else b""

@@ -5,14 +5,17 @@ holds it gives it a symbol at a time; where that shard is lost or lies, openings
 says which column it wants next, and verifies all that was heard."""
 import asyncio
 import collections
+import contextlib
 import itertools
 import struct
 from collections.abc import Sequence
 
 from . import client
 from .client import METADATA, OPENING, SECOND_METADATA, SLIVER
-from .codes import BADLY_ENCODED, Code, numbers_of
+from .codes import Code, numbers_of
+from .envelopes import parts
 from .executable import refusal
+from .shards import Asked
 
 COUNT, ENTRY = struct.Struct(">H"), struct.Struct(">HI")  # of the index: how many; a member's first column and length
 
@@ -114,13 +117,17 @@ class Columns:
         number = self.holder(column)
         self.tried.add((column, number))
         rows = range(self.shape.symbols[client.SECONDARY])
-        requests = [client.write_frame(client.Symbol(self.identifier, client.PRIMARY, row)) for row in rows]
+        symbols = [client.write_frame(client.Symbol(self.identifier, client.PRIMARY, row)) for row in rows]
         if number not in self.shards:
             return
-        shard = self.shards[number]
+        shard, requests = self.shards[number], Asked.each(symbols)
+        if shard.late:  # it is asked where the others are not enough
+            self.said[number] = "it is late"
+            return
         try:
-            async with asyncio.timeout(client.patience_for([shard])):
-                replies = await shard.ask(*requests)
+            with contextlib.closing(requests[0].basket):  # where it gives nothing in time, no memory waits for it
+                async with asyncio.timeout(client.patience_for([shard])):
+                    replies = await shard.ask(*requests)
         except ConnectionError as error:
             self.said[number] = str(error)
             return
@@ -136,21 +143,19 @@ class Columns:
             self.slivers[column] = b"".join(symbol for _, symbol in opened)
 
     async def recover(self, column: int) -> None:
-        """Recovers a column from openings of the others; raises `Refused` where too few of them hold."""
+        """Recovers a column from openings of f+1 others, or of its holder where that was late; raises `Refused` where
+        too few of them hold."""
         self.recovered.add(column)
-        asked = client.write_frame(client.Symbol(self.identifier, client.SECONDARY, column))
-        others = [shard for number, shard in self.shards.items() if number != self.holder(column)]
-        openings = list[bytes]()
-        for number, kept, words in await asyncio.gather(*[client.listen(shard, asked) for shard in others]):
-            self.said[number] = words
-            self.metadata.update([kept[METADATA]] if METADATA in kept else [])
-            openings += [kept[OPENING]] if OPENING in kept else []
-        data = b"".join(map(client.envelope, [*self.metadata, *openings]))
-        status, text = await self.walrus.run("recover", self.identifier.hex(), "secondary", column, data=data)
-        if (code := self.walrus.code(status, text)) in BADLY_ENCODED:
-            raise client.BadlyEncoded(status, b"the bundle was badly encoded", self.said, code)
+        others = [it for it in self.shards.values() if it.late or it.number != self.holder(column)]
+        target = client.Symbol(self.identifier, client.SECONDARY, column)
+        words = "recover", self.identifier.hex(), "secondary", column
+        try:
+            status, text = await client.collect(others, target, self.walrus, *words, told=self.metadata)
+        except client.Refused as fault:
+            raise refusal(fault.status, fault.text, self.said | fault.said, fault.code) from None
         if status:
-            raise refusal(status, text, self.said, code)
+            code = self.walrus.code(status, text)
+            raise client.BadlyEncoded(status, b"the bundle was badly encoded", self.said, code)
         self.slivers[column] = client.split(text)[0][1][40:]
 
     async def find(self, column: int, number: int) -> bool:
@@ -164,11 +169,13 @@ class Columns:
             return False
         return True
 
-    def stream(self) -> bytes:
-        """What `walrus member` is given: metadata and the slivers that the columns are."""
-        front = bytes([SLIVER]) + self.identifier + bytes([client.SECONDARY])
-        slivers = [front + struct.pack(">HI", column, len(data)) + data for column, data in self.slivers.items()]
-        return b"".join(map(client.envelope, [*self.metadata, *slivers]))
+    def stream(self) -> list[client.Data]:
+        """What `walrus member` is given, in parts: metadata and the slivers that the columns are."""
+        front, told = bytes([SLIVER]) + self.identifier + bytes([client.SECONDARY]), parts(self.metadata)
+        for column, data in self.slivers.items():
+            head = front + struct.pack(">HI", column, len(data))
+            told += [client.HEAD.pack(client.MARK, 0, len(head) + len(data)) + head, data]
+        return told
 
 
 async def fetch_member(shards: client.Shards, identifier: bytes, number: int, walrus: client.Walrus) -> bytes:

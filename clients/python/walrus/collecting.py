@@ -1,11 +1,14 @@
 """Replies of shards to one request: no more are collected than the program `walrus` needs to make something of them."""
 
 import asyncio
+import collections
 import contextlib
 import random
-from typing import Union
+from typing import Optional, Union
 
+from .baskets import Basket
 from .codes import BADLY_ENCODED, Code
+from .envelopes import parts
 from .executable import TooFew, Walrus, refusal
 from .frames import write_frame
 from .kinds import METADATA, PROOF, SECONDARY, Read, Symbol
@@ -24,8 +27,12 @@ class Listening:
     def ask(self, count: int) -> None:
         """Asks so many further shards."""
         for shard in self.left[: max(0, count)]:
-            self.pending[asyncio.create_task(listen(shard, self.request))] = shard
+            self.pending[asyncio.create_task(listen(shard, self.asked()))] = shard
         del self.left[: max(0, count)]
+
+    def asked(self) -> bytes:
+        """What the next shard is asked."""
+        return self.request
 
     async def next(self) -> list[tuple[int, dict[int, bytes], str]]:
         """What some of them say; nothing where those that were asked are late."""
@@ -52,20 +59,53 @@ class Listening:
         await asyncio.gather(*self.pending, return_exceptions=True)
 
 
-async def collect(shards: Shards, request: Union[Read, Symbol], walrus: Walrus, *words: object) -> tuple[int, bytes]:
+class Proving(Listening):
+    """Shards of which each is asked for a proof, in memory of its own: of all else that is long nothing is kept."""
+
+    def __init__(self, shards: Shards, request: bytes) -> None:
+        super().__init__(shards, request)
+        self.sieves = list[Basket]()
+
+    def asked(self) -> bytes:
+        made = Asked.for_proof(self.request)
+        self.sieves.append(made.basket)
+        return made
+
+    async def end(self) -> None:
+        await super().end()
+        for sieve in self.sieves:
+            sieve.close()
+
+
+async def collect(
+    shards: Shards,
+    request: Union[Read, Symbol],
+    walrus: Walrus,
+    *words: object,
+    told: Optional["collections.Counter[bytes]"] = None,
+) -> tuple[int, bytes]:
     """What the program makes of replies to a request: status 0 or 3, and its text; else `Refused` is raised. No more
     shards are asked than are needed, and others once one is late or of no use. The program runs once enough was heard,
     and again once more can be enough. Where all of it is too little, a proof of bad encoding will do: status 3, and the
     proof in an envelope. Long ones are asked for then, of the next one where one is late or shows nothing, and of f+1
-    shards at once at most: so who lies takes little memory and little time."""
+    shards at once at most: so who lies takes little memory and little time. The metadata that are heard come to `told`.
+    """
     needed = shape_of(shards).symbols[getattr(request, "axis", SECONDARY)]
     asked = Asked.of(write_frame(request), needed, len(shards))
     with contextlib.closing(asked.basket):
-        return await gather(shards, asked, needed, request, walrus, *words)
+        return await gather(
+            shards, asked, needed, request, walrus, *words, told=collections.Counter() if told is None else told
+        )
 
 
 async def gather(
-    shards: Shards, asked: Asked, needed: int, request: Union[Read, Symbol], walrus: Walrus, *words: object
+    shards: Shards,
+    asked: Asked,
+    needed: int,
+    request: Union[Read, Symbol],
+    walrus: Walrus,
+    *words: object,
+    told: "collections.Counter[bytes]",
 ) -> tuple[int, bytes]:
     """The same, of a request for which so many replies are needed first."""
     count, patience, said, listening = 0, 1, dict[int, str](), Listening(shards, asked)
@@ -82,6 +122,7 @@ async def gather(
                 if PROVES in kept:
                     del kept[PROVES]
                     offers.add(number)
+                told.update([kept[METADATA]] if METADATA in kept else [])
                 if PROOF in kept:
                     proofs[kept.pop(PROOF)] = kept.get(METADATA, b"")
                     asked.basket.want(needed + len(proofs))
@@ -106,7 +147,7 @@ async def gather(
     for kept in [{PROOF: proof, METADATA: metadata} for proof, metadata in proofs.items()]:
         if await proves(kept, request.identifier, walrus):
             return 3, envelope(kept[PROOF])
-    offering = Listening([it for it in shards if it.number in offers], bytes(asked))
+    offering = Proving([it for it in shards if it.number in offers], bytes(asked))
     try:
         while not offering.is_over():
             offering.ask(len(offering.pending) <= shards[0].shape.faults)
@@ -120,5 +161,5 @@ async def gather(
 
 async def proves(kept: dict[int, bytes], identifier: bytes, walrus: Walrus) -> bool:
     """Whether what was heard of a shard has a proof that the blob was badly encoded."""
-    data = b"".join(envelope(kept[kind]) for kind in (METADATA, PROOF) if kind in kept)
+    data = parts(kept[kind] for kind in (METADATA, PROOF) if kind in kept)
     return PROOF in kept and walrus.code(*await walrus.run("check", identifier.hex(), data=data)) is Code.INCONSISTENT

@@ -12,7 +12,7 @@ from .baskets import OFFERED, PASSED, Basket, Sieve
 from .kinds import DONE, KINDS, METADATA, SECOND_METADATA, Answer, Clash, Fault, in_words
 from .shapes import Shape, name_of
 from .streams import Sink, Source, Streams, take_envelope, write_in_slices
-from .wire import Data
+from .wire import LARGE, Data
 
 SECONDS = 10.0  # a deadline for what is asked at once
 LONGEST_REPLY = 4  # the frames of a reply, with the last answer
@@ -30,6 +30,7 @@ class Asked(bytes):
     """The payload of a request to several shards, whose replies are wanted together."""
 
     basket: Basket
+    is_for_proof = False
 
     @classmethod
     def of(cls, payload: bytes, count: int, most: int) -> "Asked":
@@ -42,15 +43,30 @@ class Asked(bytes):
     @classmethod
     def alone(cls, payload: bytes) -> "Asked":
         """A request whose reply is wanted in memory of its own."""
+        return cls.each([payload])[0]
+
+    @classmethod
+    def each(cls, payloads: Sequence[bytes]) -> list["Asked"]:
+        """Requests to one shard for symbols of one blob, each of whose replies is wanted in memory of its own."""
+        asked, sieve = [cls(payload) for payload in payloads], Sieve(len(payloads))
+        for it in asked:
+            it.basket = sieve
+        return asked
+
+    @classmethod
+    def for_proof(cls, payload: bytes) -> "Asked":
+        """A request of whose reply a proof that the blob was badly encoded is wanted, and nothing else that is long."""
         made = cls(payload)
-        made.basket = Sieve()
+        made.basket, made.is_for_proof = Sieve(1, True), True
         return made
 
     def hear(self, shape: Shape, payload: bytes) -> None:
-        """Has the lengths of what may come once the blob's own metadata did."""
+        """Has the lengths of what may come once the blob's own metadata did, if any of it is long."""
         is_metadata = payload[:1] in (bytes([METADATA]), bytes([SECOND_METADATA])) and shape.allows(payload)
-        if not self.basket.size and is_metadata and name_of(payload) == self[1:33]:
-            self.basket.size, self.basket.proofs = shape.lengths_of(payload, self)
+        if not self.basket.size and is_metadata:
+            size, proofs = shape.lengths_of(payload, self)
+            if max(size, *proofs) >= LARGE and name_of(payload) == self[1:33]:
+                self.basket.size, self.basket.proofs = size, proofs
 
 
 class Failed(Exception):

@@ -89,8 +89,8 @@ class Gateway(Server):
         self.uploads = Uploads(self.publisher)
         self.announcer = Announcer(network, self.reader.memory)
         self.reader.rejected = self.announcer.hear
-        sorter = Sorter(self.reader)
-        self.watch = Watch(network, network.authority, options.probe, options.challenge, options.stale, sorter)
+        sorter, memory = Sorter(self.reader), self.reader.memory
+        self.watch = Watch(network, memory, network.authority, options.probe, options.challenge, options.stale, sorter)
         self.watch.announced, self.times = self.announcer.findings, Times()
         self.requests: "collections.Counter[str]" = collections.Counter()
         tokens = pathlib.Path(options.tokens or folder / "tokens.json")

@@ -19,13 +19,16 @@ from .follower import AWAY
 from .groups import all_of
 from .ledger import ACK, ATTEST
 from .peers import FIGURES, Peers, Seat
+from .pieces import LEAST, Memory
 from .problems import NO_BLOB, Problem
 from .sorting import Sorter
 from .times import Times
+from .turns import ASKING, Turns
 
 RECENT, FINDINGS, FRESH, LOOKED = 100, 10, 0.5, 2_000  # files and challenges that are told; seconds
 # for which what is told will do; blobs among which files are looked for
-DRAWS = 4  # symbols that a challenge draws
+DRAWS, CHALLENGES = 4, 8  # symbols that a challenge draws; challenges at once
+TIMES = 3  # what a challenge takes, in the bytes that a node may show
 FIGURE_NAMES = {  # of a node, as they are told
     "held": ("blobs", "bytes", "wrong"),
     "ledger": ("place",),
@@ -41,6 +44,12 @@ Finding = dict[str, Any]  # of a challenge: `blob`, `node`, whether it `holds` a
 
 
 Figures = dict[str, dict[str, float]]  # of a node, by what they are of and by name
+
+
+def need_of(faults: int) -> int:
+    """The memory that a challenge takes: for the symbols, or else for a proof."""
+    shape = client.Shape(faults)
+    return LEAST + TIMES * max(DRAWS * shape.widest, shape.longest)
 
 
 def is_figure(value: Any) -> bool:
@@ -62,6 +71,7 @@ class Watch:
     def __init__(
         self,
         network: Network,
+        memory: Memory,
         authority: pathlib.Path,
         pause: float,
         challenges: float,
@@ -69,6 +79,7 @@ class Watch:
         sorter: Optional[Sorter] = None,
     ):
         self.network, self.pause, self.between, self.stale, self.sorter = network, pause, challenges, stale, sorter
+        self.memory, self.turns = memory, Turns(CHALLENGES)
         self.peers = Peers(network.ledger, authority, 10)  # so that no long transfer stands before what is asked here
         self.faults, self.figures = dict[str, str](), dict[str, Figures]()
         self.findings: "collections.deque[Finding]" = collections.deque(maxlen=FINDINGS)
@@ -156,14 +167,15 @@ class Watch:
         seat = self.seat(name, self.network.ledger.home_epoch(identifier))
         if seat is None:
             raise Problem(404, "no node of this name has a shard in the committee that answers for the blob")
-        held, said = await audit.audit(seat, identifier, DRAWN.randbytes(32), DRAWS, self.network.walrus)
-        said = (
-            f"{DRAWS} drawn symbols of shard {seat.number} lead to the blob's root"
-            if held
-            else f"{DRAWS} symbols were drawn: {said}"
-        )
-        if not held and await self.proves(seat, identifier):
-            held, said = True, "it holds a proof that the blob was badly encoded"
+        async with self.turns.take(ASKING.get()), self.memory.share(need_of(self.network.ledger.faults)):
+            held, said = await audit.audit(seat, identifier, DRAWN.randbytes(32), DRAWS, self.network.walrus)
+            said = (
+                f"{DRAWS} drawn symbols of shard {seat.number} lead to the blob's root"
+                if held
+                else f"{DRAWS} symbols were drawn: {said}"
+            )
+            if not held and await self.proves(seat, identifier):
+                held, said = True, "it holds a proof that the blob was badly encoded"
         found = {"blob": identifier.hex(), "node": name, "holds": held, "said": said, "time": round(time.time(), 3)}
         self.findings.appendleft(found)
         self.held["held" if held else "lacking"] += 1
@@ -171,7 +183,7 @@ class Watch:
 
     async def proves(self, seat: Seat, identifier: bytes) -> bool:
         """Whether a shard gives a proof of bad encoding, which it may hold in place of slivers."""
-        _, kept, _ = await client.listen(seat, client.write_frame(client.Read(identifier)))
+        _, kept, _ = await client.listen(seat, Asked.for_proof(client.write_frame(client.Read(identifier))))
         return await client.proves(kept, identifier, self.network.walrus)
 
     def blob(self, identifier: bytes) -> dict[str, Any]:

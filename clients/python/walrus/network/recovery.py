@@ -48,7 +48,7 @@ class Once(client.Shard):
         self.asked: Optional["asyncio.Task[list[client.Reply]]"] = None
 
     async def ask(self, *requests: client.Request) -> list[client.Reply]:
-        if not isinstance(requests[0], Asked):
+        if not isinstance(requests[0], Asked) or requests[0].is_for_proof:
             return await self.seat.ask(*requests)
         if not self.asked:
             self.sent = [*self.wanted]
