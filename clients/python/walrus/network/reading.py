@@ -41,7 +41,7 @@ class Reader:
         self.bytes, self.lengths = collections.Counter[str](), Lengths(network)
         self.rejected: Callable[[bytes], None] = lambda identifier: None  # is told what was badly encoded
         self.sendings = Turns(options.connections, max(1, options.room // client.LARGEST_BLOB // PARTS))
-        self.together = Together(self.sendings)  # who sends one piece often holds it once
+        self.together = Together(self.sendings, self.sendings.each // PARTS)  # who sends one piece often holds it once
         self.sums: "collections.OrderedDict[bytes, bytes]" = collections.OrderedDict()
 
     def must_stand(self, name: bytes) -> None:
@@ -210,10 +210,8 @@ class Reader:
         self.read_ahead(itertools.islice(file.pieces(*span), 1, AHEAD))
         following = itertools.islice(file.pieces(*span), AHEAD, None)
         for name, size, start, end in file.pieces(*span):
-            async with contextlib.AsyncExitStack() as stack:
-                if size > SLICE:  # who takes it slowly keeps it from being dropped
-                    await stack.enter_async_context(self.together.take(owner, name))
-                blob = await stack.enter_async_context(self.blob(name, size))
+            taking = self.together.take(owner, name, size <= SLICE)  # who is slow with it keeps it from being dropped
+            async with taking, self.blob(name, size) as blob:
                 self.read_ahead(itertools.islice(following, 1))
                 for place in range(start, end, SLICE):
                     behind = min(place + SLICE, end)

@@ -1,5 +1,6 @@
 """Places for what takes long: so many at once, of which one who asks has a part, so that nobody has them all."""
 import asyncio
+import collections
 import contextlib
 import contextvars
 import dataclasses
@@ -51,15 +52,26 @@ class Group:
 
 
 class Together:
-    """Places of which those of one owner who want the same have one together."""
+    """Places of which those of one owner who want the same have one together. What is small needs no place, as long as
+    one owner has at most `few` of that at once: so nobody is held up who takes it at once, and it costs little."""
 
-    def __init__(self, turns: Turns):
+    def __init__(self, turns: Turns, few: int = 0):
         self.turns, self.groups = turns, dict[tuple[str, bytes], Group]()
+        self.few, self.small = few, collections.Counter[str]()
 
     @contextlib.asynccontextmanager
-    async def take(self, owner: str, name: bytes) -> AsyncIterator[None]:
+    async def take(self, owner: str, name: bytes, is_small: bool = False) -> AsyncIterator[None]:
         """Has a part in a place while it runs; raises `TimeoutError` where none becomes free for long, or too many have
         one."""
+        if is_small and self.small[owner] < self.few:
+            self.small[owner] += 1
+            try:
+                yield
+            finally:
+                self.small[owner] -= 1
+                if not self.small[owner]:
+                    del self.small[owner]
+            return
         group = self.groups.setdefault((owner, name), Group())
         if group.users >= MOST:
             raise TimeoutError
