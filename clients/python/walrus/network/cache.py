@@ -107,6 +107,6 @@ def cost_of(blob: bytes) -> int:
 
 
 def afresh(fault: client.Refused) -> client.Refused:
-    """The same fault without the calls that it came through: with one that is kept they would stay, and all that was
-    read."""
-    return type(fault)(fault.status, fault.text, fault.said, fault.code)
+    """The same fault without the calls that it came through, and what each shard had said: with one that is kept they
+    would stay, and all that was read."""
+    return type(fault)(fault.status, fault.text, {}, fault.code)

@@ -122,6 +122,7 @@ class Folders:
             raise Problem(404, "the folder has no such file: its names are UTF-8") from None
         is_folder = not path or path.endswith("/")
         if place := manifest.find(f"{path}index.html" if is_folder else path):
+            del manifest  # which may be long: who takes a file of it slowly does not keep it
             return await self.send(request, place, headers)
         if is_folder and manifest.has(path):
             async with self.listings.take(owner_of(request)):  # a long one takes a while, beside what others ask

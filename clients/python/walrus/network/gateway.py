@@ -6,6 +6,7 @@ import ctypes
 import mimetypes
 import pathlib
 import signal
+from asyncio import sslproto
 from typing import Any, Awaitable, Callable, Optional, Union
 
 from aiohttp import hdrs, web
@@ -34,6 +35,7 @@ from .uploads import Uploads
 
 __all__ = ["Gateway", "Options", "ending", "serve"]
 MMAP_THRESHOLD = -3  # an option of the C library's mallopt
+sslproto.SSLProtocol.max_size = 65_536  # as at nodes
 FRESH = {**ALONE, "Cache-Control": "no-store"}
 POLICY = "default-src 'none'; style-src 'self'; script-src 'self'; connect-src 'self'; frame-ancestors 'none'"
 POLICY += "; form-action 'none'; base-uri 'none'"
