@@ -1,4 +1,6 @@
-"""A node that lies, keeps short contents in files, waits for long, or tells odd figures, as its environment says."""
+"""A node that lies, is silent, keeps short contents in files, waits for long, or tells odd figures, as its environment
+says."""
+import asyncio
 import json
 import os
 import pathlib
@@ -7,7 +9,7 @@ import sys
 
 sys.path.insert(0, str(pathlib.Path(__file__).resolve().parents[2] / "clients" / "python"))
 
-from walrus.network import figures, follower, intake, node, shard  # noqa: E402
+from walrus.network import figures, follower, handover, intake, node, shard  # noqa: E402
 
 
 class Liar(node.Node):
@@ -28,10 +30,22 @@ class Liar(node.Node):
         return altered if self.drawn.random() < 0.8 else reply[-1:]
 
 
+class Silent(node.Node):
+    """Stores and is read, and gives no symbol: whoever asks waits. It does nothing for a handover."""
+
+    async def route(self, number: int, request: bytes) -> list[bytes]:
+        if request[:1] == b"\x21":
+            await asyncio.Event().wait()
+        return await super().route(number, request)
+
+
 shard.SMALL = int(os.environ.get("ODD_SMALL", shard.SMALL))  # so that short contents are files too
 if "ODD_PATIENCE" in os.environ:  # seconds for which what was asked of it waits for the ledger
     intake.HEARD = float(os.environ["ODD_PATIENCE"])
     follower.Recorders.post.__defaults__ = (intake.HEARD,)
 if "ODD_FIGURES" in os.environ:
     figures.NodePort.figures = lambda port: json.loads(os.environ["ODD_FIGURES"])  # type: ignore[method-assign]
-sys.exit(node.main(Liar if "ODD_LIES" in os.environ else node.Node))
+kind = Liar if "ODD_LIES" in os.environ else node.Node
+if "ODD_SILENT" in os.environ:
+    kind, handover.hand_over = Silent, lambda _: asyncio.Event().wait()  # type: ignore[assignment]
+sys.exit(node.main(kind))

@@ -184,6 +184,28 @@ class Story(NetworkCase):
             await self.reads_all(network)
         await self.check()
 
+    async def test_a_silent_node_stops_no_turn_of_the_epoch(self) -> None:
+        """Though another one was away while blobs were stored that the silent one has acknowledged."""
+        await self.local.start_ledger()
+        for name in FOUR:
+            await self.local.add_node(name)
+        async with self.local.network(ledger.OPERATOR) as operator, self.local.network() as network:
+            await operator.begin(1, FOUR)
+            self.faulty = {"node-1"}
+            for name in FOUR:
+                await self.local.start_node(name, ODD if name in self.faulty else [], {"ODD_SILENT": "1"})
+            await self.store(network)
+            await self.local.end("node-3", kill=True)
+            for size in (0, 100, 3_000, 100_000):
+                await self.store(network, size)
+            await self.store(network, 900, form=2)
+            await self.local.start_node("node-3")
+            await operator.begin(1, FOUR)
+            self.assertTrue(await network.until(lambda it: it.epoch == 1, 60), self.logs())
+            self.assertEqual(network.ledger.now, tuple(FOUR))
+            await self.reads_all(network)
+        await self.check()
+
 
 if __name__ == "__main__":
     unittest.main()

@@ -21,11 +21,12 @@ from unittest import mock
 
 from harness import lacking
 
+import example_tools
 from walrus import client, kinds, shards
 from walrus.frames import METADATA, PRIMARY, SECONDARY, answer, code_of
 from walrus.network import handover, judge, recovery, scrub, shard
 from walrus.network.judge import Busy, Judges, Unjudged
-from walrus.network.ledger import OPERATOR, Entry, Ledger, entry_key
+from walrus.network.ledger import ATTEST, OPERATOR, Entry, Ledger, entry_key
 from walrus.network.local import find_program
 from walrus.network.node import Node
 from walrus.network.store import Store
@@ -585,6 +586,8 @@ class NodeCase(ShardCase):
     async def asyncSetUp(self) -> None:
         await super().asyncSetUp()
         self.drawn, self.others = random.Random(5), dict[bytes, client.Encoded]()
+        self.proofs = dict[bytes, bytes]()  # what the others have of a blob in place of slivers
+        self.silence = asyncio.Event()  # for whose end those wait who are silent
         self.seats = [Other(self, number) for number in range(4)]
         self.enterContext(mock.patch.object(random, "sample", lambda found, count: [*found]))
         self.enterContext(mock.patch("walrus.shards.LEAST", 99.0))  # nobody is late, however slow this machine is
@@ -636,21 +639,25 @@ class Other(client.Shard):
     def __init__(self, case: NodeCase, number: int):
         super().__init__(number, 1)
         self.case, self.name, self.asked = case, "abcd"[number], list[int]()
-        self.fails = self.clashes = False
+        self.fails = self.clashes = self.silent = False
 
     async def ask(self, *requests: bytes) -> list[client.Reply]:
         self.asked.append(len(requests))
+        if self.silent:
+            await self.case.silence.wait()
         if self.fails:
             raise ConnectionError("it is told to fail")
         if self.clashes:
             return [client.Reply({}, client.Clash(b"\x31\x01a\x01b"))]  # which ends its reply, whatever was asked
         encoded = self.case.others[requests[0][1:33]]
         told = [client.write_frame(client.RegisterEntry(encoded.identifier, 9)), encoded.metadata]
-        told, count = [*told, *encoded.slivers[self.number], *requests], len(requests)
+        proof = self.case.proofs.get(encoded.identifier)
+        told += [proof] if proof else encoded.slivers[self.number]
+        told, count = [*told, *requests], len(requests)
         said = await asyncio.to_thread(judge.judge, self.case.judges.engine, 1, self.number, told)
         return [
             client.Reply(
-                {self.shape.keeps(it, request, self.number): it for it in reply[:-1]},
+                {self.shape.keeps(it, request, self.number): bytes(it) for it in reply[:-1]},
                 client.Answer(*struct.unpack(">BII", reply[-1][1:])),
             )
             for request, reply in zip(requests, said[-count:])
@@ -663,8 +670,8 @@ class Recovery(NodeCase):
         name, node = await self.lacks(LARGE), self.node({0: {0: self.shard}})
         self.assertEqual(await recovery.settle(node, 0, [name]), 0)
         self.assertTrue(self.shard.settled(name))
-        # of the first one the metadata came; then three openings of one sliver, and two of the other with these
-        self.assertEqual([seat.asked for seat in self.seats], [[1], [2], [2], [1]])
+        # of the first one the metadata came; then two openings of each sliver, and the third of one is its own
+        self.assertEqual([seat.asked for seat in self.seats], [[1], [2], [2], []])
         progress = node.progress
         self.assertEqual((progress.of, progress.blobs, progress.bytes), (1, 1, 5 * 500), progress)
         self.assertEqual(progress.of_bytes, progress.bytes)
@@ -681,8 +688,44 @@ class Recovery(NodeCase):
             setattr(self.seats[number], how, True)
             async with asyncio.timeout(60):
                 left = await recovery.settle(self.node({0: {0: self.shard}}), 0, [name])
-            self.assertEqual((left, self.shard.lacks(name)), (1, [PRIMARY]))  # which takes all three of them
+            self.assertEqual((left, self.shard.lacks(name)), (0, []))  # by two of three, and its own symbol
             setattr(self.seats[number], how, False)
+
+    async def test_a_shard_that_another_node_had_before_counts_itself_in_place_of_that_one(self) -> None:
+        self.seats[0].name, self.seats[3].fails = "e", True
+        name = await self.lacks(700)
+        self.assertEqual(await recovery.settle(self.node({0: {0: self.shard}}), 0, [name]), 0)
+
+    async def test_each_sliver_that_is_there_has_a_symbol_of_the_other_one(self) -> None:
+        assert self.store
+        name = await self.lacks(700)
+        self.seats[1].fails = self.seats[2].fails = True
+        self.assertEqual(await recovery.settle(self.node({0: {0: self.shard}}), 0, [name]), 1)
+        self.assertEqual(self.shard.lacks(name), [PRIMARY, SECONDARY])
+        self.seats[1].fails = False
+        self.assertEqual(await recovery.settle(self.node({0: {0: self.shard}}), 0, [name]), 0)
+        self.store.mark(self.shard.holding, name, SECONDARY, True)
+        self.seats[1].fails = True
+        self.assertEqual(await recovery.settle(self.node({0: {0: self.shard}}), 0, [name]), 0)
+
+    async def test_who_is_silent_holds_up_nothing_that_the_others_have(self) -> None:
+        """Slivers, and a proof of bad encoding, for which as many are heard as there are."""
+        self.enterContext(mock.patch("walrus.shards.LEAST", 2.0))
+        self.enterContext(mock.patch("walrus.shards.MOST", 2.0))
+        bad = await example_tools.encode_badly(self.walrus)
+        name = bad.identifier
+        self.apply("x", "register", name.hex(), 9)
+        for poster in "bcd":
+            self.apply(poster, "ack", 0, name.hex())
+        self.others[name] = bad
+        target = client.Symbol(name, client.SECONDARY, 2)  # a row that is false
+        _, self.proofs[name] = await client.recover([self.seats[1], self.seats[3]], target, self.walrus)
+        names = [await self.lacks(LARGE) for _ in range(2 * recovery.LANES)]
+        self.seats[1].asked, self.seats[1].silent = [], True
+        async with asyncio.timeout(60):
+            self.assertEqual(await recovery.settle(self.node({0: {0: self.shard}}), 0, [*names, name]), 0)
+        self.assertTrue(self.shard.vouches(ATTEST, name))
+        self.assertLessEqual(len(self.seats[1].asked), recovery.LANES)  # of the first ones
 
     async def test_certified_blobs_come_first_and_of_these_large_ones(self) -> None:
         names = [await self.lacks(size, certified) for size, certified in ((900, False), (90, True), (900, True))]

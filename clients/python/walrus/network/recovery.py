@@ -61,6 +61,21 @@ class Once(client.Shard):
         return [replies[self.sent.index(it)] for it in requests]  # type: ignore[arg-type]
 
 
+class Own(client.Shard):
+    """The shard that recovers. One of its slivers has a symbol of the other one, which counts as any other does: with f
+    silent shards no more than 2f others are left, and a primary sliver takes 2f+1."""
+
+    def __init__(self, shard: Shard):
+        super().__init__(shard.number, shard.ledger.faults)
+        self.shard = shard
+
+    async def ask(self, *requests: client.Request) -> list[client.Reply]:
+        [request] = map(bytes, requests)  # type: ignore[arg-type]
+        *found, end = await self.shard.answer(request)
+        kept = {kind: bytes(it) for it in found if (kind := self.shape.keeps(it, request, self.number))}
+        return [client.Reply(kept, frames.read_frame(end))]
+
+
 @contextlib.asynccontextmanager
 async def passing(who: str, what: str, seconds: float = 0) -> AsyncIterator[None]:
     """Says what the system or others let fail, such as where no descriptor is left, and waits: it is tried again. What
@@ -128,6 +143,16 @@ def sides(node: "Node") -> list[Sequence[Seat]]:
     return [node.peers.seats(it, node.ledger.faults) for it in (node.ledger.now, node.ledger.next) if it]
 
 
+def rounds(node: "Node", own: int) -> list[list[Seat]]:
+    """The shards beside the node's own one that are asked for a blob, one side after the other. Those that were late
+    are left out at first if enough others are there: so who says nothing holds up nothing that the others have, such
+    as a proof of bad encoding, for which all of them are heard."""
+    whole = [[it for it in side if (it.name, it.number) != (node.name, own)] for side in sides(node)]
+    prompt = [[it for it in side if not it.late] for side in whole]
+    enough = 2 * node.ledger.faults  # beside the own one
+    return [some for some, side in zip(prompt, whole) if enough <= len(some) < len(side)] + whole
+
+
 async def find_metadata(node: "Node", shard: Shard, identifier: bytes) -> bytes:
     """A blob's metadata, which the shard holds from here on; nothing where nobody has it."""
 
@@ -163,13 +188,16 @@ async def fill(node: "Node", shard: Shard, identifier: bytes) -> None:
     counts = [shape.symbols[it - PRIMARY] for it in lacks]  # of symbols that come, and of which a sliver is made
     size = (sum(counts) + max(counts, default=0)) * (shape.symbol_of(metadata) + 1_024)
     async with node.repairs.take(size, None):
-        for side in sides(node):
+        for side in rounds(node, own):
             wanted = {part: client.write_frame(targets[part]) for part in lacks & {*shard.lacks(identifier)}}
-            others = [Once(it, wanted.values()) for it in side if (it.name, it.number) != (node.name, own)]
+            others = [Once(it, wanted.values()) for it in side]
             for part in sorted(wanted, reverse=True):  # the secondary sliver first, for which few symbols will do
+                asked: list[client.Shard] = [*others]
+                if PRIMARY + SECONDARY - part not in shard.lacks(identifier):  # the other one, once it is there
+                    asked = [*(it for it in others if it.number != own), Own(shard)]  # not who had its number
                 with contextlib.suppress(client.Refused):
                     if not shard.settled(identifier):
-                        found = client.recover(others, targets[part], node.judges)  # type: ignore[arg-type]
+                        found = client.recover(asked, targets[part], node.judges)  # type: ignore[arg-type]
                         await shard.put((await found)[1], True)  # of which nothing is in memory then
                 del wanted[part]
                 for it in others:
