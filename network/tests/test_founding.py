@@ -2,10 +2,13 @@
 import asyncio
 import contextlib
 import datetime
+import fnmatch
 import io
 import json
 import os
 import pathlib
+import re
+import shlex
 import shutil
 import socket
 import ssl
@@ -16,7 +19,7 @@ import unittest
 from unittest import mock
 
 import harness  # noqa: F401
-from walrus.network import certificates, commands, configuration, dates, entries, notify, operators
+from walrus.network import TOP, certificates, commands, configuration, dates, entries, notify, operators
 from walrus.network.checking import check
 from walrus.network.founding import must_fit, owners_of
 from walrus.network.ledger import Entry, Ledger
@@ -103,6 +106,18 @@ class Found(FoundingCase):
             return False
         finally:
             thread.join()
+
+    async def test_each_unit_that_the_manual_names_is_one_that_is_made(self) -> None:
+        await self.found()
+        plan = json.loads((self.folder / "network.json").read_text())
+        services = {re.sub("@.*", "@NAME", it) for services in plan["hosts"].values() for it in services}
+        made = {it.name.replace("@", "@NAME").removesuffix(".service") for it in self.folder.glob("hosts/*/units/*")}
+        self.assertEqual(services, made)
+        text = (TOP / "network" / "OPERATING.md").read_text()
+        words = [it for line in re.findall(r"systemctl ([^`&;\n]+)", text) for it in shlex.split(line)]
+        named = [re.sub("@[^*]+", "@NAME", it) for it in words if it.startswith("walrus-")]
+        self.assertGreater(len(named), 10)
+        self.assertEqual([it for it in named if not fnmatch.filter(made, it)], [])
 
     async def test_what_makes_no_network_is_refused_and_leaves_nothing(self) -> None:
         faults = {"--faults": 1, "--ledger": "alpha"}

@@ -1,5 +1,6 @@
 """etcd is restored from a snapshot older than what the network has heard, and the ledger is made whole again."""
 import asyncio
+import contextlib
 import os
 import shutil
 import subprocess
@@ -9,10 +10,13 @@ from typing import Any
 from unittest import mock
 
 from ledger_case import FOUNDED, FOUR, LedgerCase, Memory, registration
-from walrus.network.entries import ACK, Entry, entry_key
+from walrus.network.entries import ACK, Chain, Entry, entry_key
+from walrus.network.etcd import Batch, Failed
 from walrus.network.follower import View
-from walrus.network.recorder import Recorder
+from walrus.network.recorder import Broken, Recorder
+from walrus.network.recording import etcd_of
 from walrus.network.restoring import Restoring
+from walrus.network.settings import RecorderSettings
 from walrus.network.state import State
 
 NODES = FOUR.split(",")
@@ -42,6 +46,19 @@ class Agreed(unittest.IsolatedAsyncioTestCase):
             self.assertEqual("".join(service.agreed()), agreed, told)
         service.hears("stranger", ["a"])
         self.assertNotIn("stranger", service.tails)
+        service.tails.clear()
+        made.state.chain = Chain(1, b"all up to there")
+        told = {"after": 1, "entries": ["a"]}
+        for name, digest in zip([*NODES, "stranger"], (b"all up to there", b"another one", None, b"another one", b"x")):
+            body = told | ({} if digest is None else {"digest": digest.hex()})
+            request = mock.MagicMock(json=mock.AsyncMock(return_value=body))
+            request.__getitem__.return_value = name
+            await service.hear(request)
+        self.assertEqual((service.tails, service.others), ({NODES[0]: ["a"], NODES[2]: ["a"]}, {NODES[1], NODES[3]}))
+        with self.assertRaisesRegex(Broken, "other entries up to place 1 than"):
+            await service.restore(60)
+        service.others.remove(NODES[1])
+        self.assertFalse(service.enough([*service.others]))  # one that lies
         made.ledger.now = ("a", "a", "a", "b")  # a node of more than f shards is believed alone
         service.tails = {"a": ["x"], "b": ["y"]}
         self.assertEqual(service.agreed(), ["x"])
@@ -84,6 +101,16 @@ class Restored(LedgerCase):
         ran = subprocess.run(["etcdctl", *tls, *words], cwd=self.folder, env=environment, capture_output=True)
         self.assertEqual(ran.returncode, 0, ran.stderr)
 
+    async def fall_back(self) -> None:
+        """Ends all recorders, and has etcd begin again with the snapshot."""
+        for name in ("recorder-0", "recorder-1", "etcd"):
+            await self.local.end(name, kill=True)
+        shutil.rmtree(self.folder / "etcd")
+        peer = self.local.told()["etcd"]["etcd"][1]
+        words = ["--name=etcd", "--data-dir=etcd", f"--initial-cluster=etcd={peer}"]
+        self.etcdctl("snapshot", "restore", "snapshot", *words, f"--initial-advertise-peer-urls={peer}")
+        await self.local.start_etcd()
+
     async def restore(self) -> str:
         words = [sys.executable, "-m", "walrus.network", "restore", str(self.folder / "recorder-0.toml")]
         path = os.pathsep.join(sys.path)
@@ -98,13 +125,7 @@ class Restored(LedgerCase):
         self.etcdctl("snapshot", "save", "snapshot")
         await self.upload(30, 1_300)
         chain, written = self.views["node-0"].chain, [*self.views["node-0"].state.written()]
-        for name in ("recorder-0", "recorder-1", "etcd"):
-            await self.local.end(name, kill=True)
-        shutil.rmtree(self.folder / "etcd")
-        peer = self.local.told()["etcd"]["etcd"][1]
-        words = ["--name=etcd", "--data-dir=etcd", f"--initial-cluster=etcd={peer}"]
-        self.etcdctl("snapshot", "restore", "snapshot", *words, f"--initial-advertise-peer-urls={peer}")
-        await self.local.start_etcd()
+        await self.fall_back()
         said = await self.restore()
         self.assertRegex(said, "the ledger ends at place 121: nodes are asked")
         self.assertRegex(said, f"{chain.place - 121} entries are back; the ledger ends at place {chain.place}")
@@ -114,6 +135,26 @@ class Restored(LedgerCase):
             self.assertEqual((view.chain, [*view.state.written()]), (chain, written))
             self.assertEqual(view.ledger.blobs.counts()["certified"], 1_300)
         await self.upload(1_300, 1_301)
+        self.assertEqual([it.lost for it in self.views.values()], [None] * 4)
+
+    async def test_behind_what_a_recorder_has_appended_to_the_snapshot_nothing_is_appended(self) -> None:
+        await self.upload(0, 3)
+        self.etcdctl("snapshot", "save", "snapshot")
+        await self.upload(3, 9)
+        await self.fall_back()
+        settings = RecorderSettings.read(self.folder / "recorder-0.toml")
+        stray = Recorder(etcd_of(settings))  # it has no state, and so adopts what it finds
+        self.addAsyncCleanup(stray.etcd.aclose)
+        self.addCleanup(stray.state.close)
+        async with asyncio.timeout(60):
+            while not stray.chain.place:
+                with contextlib.suppress(Failed):  # etcd has just been started
+                    await stray.catch_up()
+                await asyncio.sleep(0.1)
+        self.assertTrue(await stray.step(Batch(stray.chain, [registration("stray", 99)])))
+        said = await self.restore()
+        self.assertRegex(said, f"not restored: etcd has other entries up to place {stray.chain.place} than the nodes")
+        self.assertTrue(await stray.step())  # it ends there still
         self.assertEqual([it.lost for it in self.views.values()], [None] * 4)
 
 

@@ -71,6 +71,7 @@ class Recorders:
         self.waiting: list[tuple[str, "asyncio.Future[int]"]] = []
         self.sending: Optional["asyncio.Task[None]"] = None
         self.tail: Callable[[int, int], list[Entry]] = lambda place, count: []  # of the ledger, which is kept
+        self.digest: Callable[[int], str] = lambda place: ""  # of all up to a place of that, if it is known
 
     async def aclose(self) -> None:
         if self.sending:
@@ -158,7 +159,8 @@ class Recorders:
             told = json.loads(await read())
             if "tail" in told:  # the ledger is being restored: it is told what is kept of it, or a part
                 entries = self.tail(place := told["tail"], 4 * MOST)
-                body = {"after": entries[0].revision - 1 if entries else place}
+                after = entries[0].revision - 1 if entries else place
+                body = {"after": after, "digest": self.digest(after)}
                 await self.ask("tail", body | {"entries": fitting((it.key for it in entries), MOST_BYTES)})
                 raise Unreachable(told["error"])
             if said.status != 200:
@@ -187,7 +189,7 @@ class View:
 
     def __init__(self, recorders: Recorders, state: Optional[State] = None):
         self.recorders, self.state, self.waiting = recorders, state or State(), Waiting()
-        self.ledger, recorders.tail = self.state.ledger, self.state.entries
+        self.ledger, recorders.tail, recorders.digest = self.state.ledger, self.state.entries, self.state.digest
         self.head, self.heard_at = -1, time.monotonic()  # where the ledger ended; when a recorder said something
         self.absence = 0.0, 0.0, ""  # the last one longer than `AWAY`: for how long it was, until when, and why
         self.lost: Optional[Exception] = None  # what has ended following for good

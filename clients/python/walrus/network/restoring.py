@@ -1,5 +1,6 @@
 """Makes a ledger whole again that was restored from a snapshot of etcd: nodes are asked for the entries that they have
-heard behind it, and those on which the nodes of f+1 shards agree are appended again. No recorder runs meanwhile."""
+heard behind it, and those on which the nodes of f+1 shards agree are appended again. No recorder runs meanwhile, and
+none has run over the older ledger: nodes tell the digest of what they have heard up to its end."""
 import asyncio
 import collections
 import sys
@@ -15,6 +16,8 @@ from .recording import Service, etcd_of, wrong
 from .settings import RecorderSettings
 
 NOTHING = "the ledger is being restored: nothing is taken, and nothing told"
+OTHER = "etcd has other entries up to place {} than the nodes have heard, as a recorder has run over it meanwhile: "
+OTHER += "stop all recorders, and restore the snapshot at all members of etcd once more (network/OPERATING.md)"
 
 
 class Restoring(Service):
@@ -24,6 +27,7 @@ class Restoring(Service):
         super().__init__(recorder, settings)
         self.tails: dict[str, list[str]] = {}  # what each node has behind the ledger's end, or a piece of it
         self.short: dict[str, int] = {}  # nodes that have not kept what comes next, and from where on they have
+        self.others = set[str]()  # nodes that have heard another ledger up to that end
         self.told, self.progress = asyncio.Event(), time.monotonic()
 
     def routes(self) -> list[web.RouteDef]:
@@ -42,11 +46,14 @@ class Restoring(Service):
         return web.json_response({"error": NOTHING, "tail": end}, status=409)
 
     async def hear(self, request: web.Request) -> web.Response:
-        """Takes what a node has behind the ledger's end."""
-        told = await request.json()
-        if told["after"] == self.recorder.chain.place:
+        """Takes what a node has behind the ledger's end, unless it has heard something else up to there."""
+        told, end = await request.json(), self.recorder.chain
+        if told["after"] == end.place and told.get("digest") not in (None, "", end.digest.hex()):
+            self.others |= {request["name"]} & {*self.recorder.ledger.nodes}
+            self.told.set()
+        elif told["after"] == end.place:
             self.hears(request["name"], [it for it in told["entries"] if isinstance(it, str)])
-        elif told["after"] > self.recorder.chain.place:
+        elif told["after"] > end.place:
             self.short[request["name"]] = told["after"]
         return web.json_response({})
 
@@ -79,6 +86,8 @@ class Restoring(Service):
         """Appends what is agreed on until all nodes have told all, or none has told more for so long; how much."""
         recorder, count = self.recorder, 0
         while time.monotonic() < self.progress + seconds:
+            if self.enough([*self.others]):  # else those who say so may lie
+                raise Broken(OTHER.format(recorder.chain.place))
             if entries := self.agreed():
                 batch = Batch(recorder.chain, entries)
                 if not await recorder.step(batch):
@@ -86,7 +95,7 @@ class Restoring(Service):
                 count, self.progress = count + len(entries), time.monotonic()
                 self.tails.clear()
                 print(f"{count} entries are there again, up to place {recorder.chain.place}", flush=True)
-            elif {*recorder.ledger.nodes} <= {*self.tails}:
+            elif {*recorder.ledger.nodes} <= {*self.tails, *self.others}:
                 break
             self.told.clear()
             await asyncio.wait([asyncio.create_task(self.told.wait())], timeout=1)
@@ -105,7 +114,9 @@ async def serve(settings: RecorderSettings, seconds: float) -> int:
         await asyncio.wait([working, asyncio.create_task(told.wait())], return_when=asyncio.FIRST_COMPLETED)
         count: Optional[int] = working.result() if working.done() else None
         for name in recorder.ledger.nodes:
-            if name not in service.tails:
+            if name in service.others:
+                print(f"{name} has heard other entries than etcd has")
+            elif name not in service.tails:
                 first = service.short.get(name)
                 print(f"{name} {f'has kept nothing before place {first}' if first else 'was not heard at the end'}")
         print(f"{count or 0} entries are back; the ledger ends at place {recorder.chain.place}")

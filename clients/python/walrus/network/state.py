@@ -26,6 +26,7 @@ TABLES = """
 PRAGMA synchronous = NORMAL;
 PRAGMA cache_spill = OFF;
 CREATE TABLE IF NOT EXISTS entries (place INTEGER PRIMARY KEY, text TEXT, epoch INTEGER);
+CREATE TABLE IF NOT EXISTS digests (place INTEGER PRIMARY KEY, digest BLOB); -- of all up to some of those places
 CREATE TABLE IF NOT EXISTS told (one INTEGER PRIMARY KEY CHECK (one = 1), value TEXT);
 CREATE TABLE IF NOT EXISTS places (digest BLOB PRIMARY KEY, place INTEGER) WITHOUT ROWID; -- of entries, at a recorder
 """
@@ -142,12 +143,18 @@ class State(Database):
             self.base.executemany("INSERT OR REPLACE INTO entries VALUES (?, ?, ?)", rows)
             words = "DELETE FROM entries WHERE place < (SELECT min(place) FROM entries) + ? AND epoch <= ?"
             self.base.execute(words, (DROPPED, self.ledger.epoch - self.tail))
+            self.note(self.chain or Chain(0, b""))
+            self.base.execute("DELETE FROM digests WHERE place < (SELECT min(place) FROM entries) - 1")
         else:
             self.blobs.drop(self.blobs.over(DROPPED))
         self.base.execute(TELL, (json.dumps(self.fields()),))
         self.base.execute("COMMIT")
         self.base.execute("BEGIN IMMEDIATE")
         self.saved = self.ledger.epoch
+
+    def note(self, chain: Chain) -> None:
+        """Keeps the digest of a place."""
+        self.base.execute("INSERT OR REPLACE INTO digests VALUES (?, ?)", (chain.place, chain.digest))
 
     async def take(self, pieces: Iterable[bytes]) -> None:
         """Has what a checkpoint says in place of all before; where that cannot be, what was saved before stays. A
@@ -190,9 +197,11 @@ class State(Database):
         base.execute("BEGIN IMMEDIATE")
         Blobs(base).take(checkpoint.read(pieces, told))
         base.execute("DELETE FROM entries")
+        base.execute("DELETE FROM digests")
         base.execute(TELL, (json.dumps(told),))
         with contextlib.closing(State()) as other:
             other.put(told)  # which raises where the next start could not read it
+        self.note(Chain(told["place"], bytes.fromhex(told["digest"])))
         base.execute("COMMIT")
 
     def fall_back(self) -> None:
