@@ -25,6 +25,7 @@ from walrus.network.founding import must_fit, owners_of
 from walrus.network.ledger import Entry, Ledger
 from walrus.network.machine import Place, Unfounded
 from walrus.network.settings import GatewaySettings, Settings
+from walrus.network.transfers import Failure
 
 THREE = ["alpha=alpha:31500*2", "beta=beta:31500", "gamma=gamma:31500"]
 
@@ -198,6 +199,16 @@ class Changed(FoundingCase):
         self.assertFalse((self.folder / "hosts" / "office").exists())
         with self.assertRaisesRegex(Unfounded, "gamma is no node"):
             await self.says("remove", self.folder, "gamma")
+
+    async def test_nobody_is_told_to_expel_the_operator_and_nobody_can(self) -> None:
+        await self.found()
+        self.assertIn("; if its key may be known, expel it", await self.says("remove", self.folder, "gate"))
+        said = await self.says("remove", self.folder, "operator")
+        self.assertRegex(said, "^operator is forgotten, which was at users: add --user operator makes another one; ")
+        self.assertNotIn("expel", said)
+        await self.says("add", self.folder, "--user", "operator")
+        with self.assertRaisesRegex(Failure, "operator cannot be expelled: no epoch could begin any more"):
+            await self.says("expel", self.folder / "users" / "operator", "operator")
 
     async def test_an_authority_that_ends_soon_is_renewed_and_what_it_signed_stays_signed(self) -> None:
         await self.found("--days", 20)

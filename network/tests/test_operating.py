@@ -5,6 +5,7 @@ import contextlib
 import io
 import os
 import pathlib
+import shutil
 import ssl
 import unittest
 from typing import Any
@@ -14,7 +15,9 @@ import harness
 from ledger_case import LedgerCase
 from walrus import client, frames
 from walrus.network import operating
-from walrus.network.entries import ADDRESS, entry_key
+from walrus.network.entries import ADDRESS, OPERATOR, entry_key
+from walrus.network.follower import Recorders, Unreachable
+from walrus.network.local import Local
 from walrus.network.transfers import Failure
 
 NODES = ["node-0", "node-1", "node-2", "node-3"]
@@ -110,6 +113,33 @@ class Handover(LedgerCase):
         with self.assertRaises(Failure) as caught:
             await operating.begin(argparse.Namespace(folder=self.folder, json=False))
         return str(caught.exception.args[0])
+
+
+class Anew(LedgerCase):
+    apart = True
+
+    async def test_certificates_of_other_authorities_void_all_that_were_signed_before(self) -> None:
+        """What the manual says about an operator's key that may be known."""
+        other, known = Local(self.folder / "other"), self.folder / "known"
+        other.members, other.recorders = self.local.members, self.local.recorders
+        other.folder.mkdir()
+        await other.found()
+        shutil.copytree(self.folder / "users", known)
+        for name in ("recorder-0", "recorder-1", "etcd"):
+            await self.local.end(name)
+        for path in [*other.folder.rglob("*.crt"), *other.folder.rglob("*.key")]:
+            shutil.copyfile(path, self.folder / path.relative_to(other.folder))
+        await self.local.start_etcd()
+        for name in ("recorder-0", "recorder-1"):
+            await self.local.start_recorder(name)
+        words = str(self.folder / "authority.crt"), str(known / "operator.crt"), str(known / "operator.key")
+        thief = Recorders(self.local.told()["recorders"], *words)
+        self.addAsyncCleanup(thief.aclose)
+        with self.assertRaisesRegex(Unreachable, "takes no such certificate"):
+            await thief.post(entry_key(OPERATOR, "share", "thief", 1), 5)
+        await self.user(OPERATOR).post(entry_key(OPERATOR, "share", "printer", 2))
+        async with self.following(self.user("publisher")) as view:
+            self.assertEqual((view.ledger.shares, view.ledger.now), ({"printer": 2}, tuple(NODES)))
 
 
 if __name__ == "__main__":

@@ -133,7 +133,10 @@ async def begin(words: argparse.Namespace) -> int:
 
 
 async def post(words: argparse.Namespace) -> int:
-    """Gives a name another share, or expels it."""
+    """Gives a name another share, or expels it; not the operator, as then no entry of an operator would count again."""
+    if words.command == "expel" and words.name == OPERATOR:
+        text = "no epoch could begin any more, and that cannot be undone"
+        raise Failure(f"{OPERATOR} cannot be expelled: {text} (network/OPERATING.md)", 2)
     fields = [words.name, words.blobs] if words.command == "share" else [words.name]
     text = f"{words.name} may register {words.blobs} blobs" if words.command == "share" else f"{words.name} is expelled"
     async with Network(words.folder, OPERATOR) as network:

@@ -6,6 +6,7 @@ from . import exposure, gateway, node, operating, recording, restoring, up
 from .certificates import AUTHORITY_DAYS, DAYS
 from .checking import check
 from .client import Access
+from .entries import OPERATOR
 from .exposure import Options
 from .founding import GATEWAY_PORT, Founding, found
 from .machine import Place
@@ -13,6 +14,8 @@ from .settings import GatewaySettings, RecorderSettings, Settings
 from .transfers import Failure
 
 Add = Callable[..., argparse.ArgumentParser]
+LEAKED = "add --user operator makes another one; its certificate counts until it ends, and if its key may be known, "
+LEAKED += "all need certificates of other authorities (network/OPERATING.md, The ledger)"
 
 
 def add_words(add: Add) -> None:
@@ -133,7 +136,8 @@ async def remove(words: argparse.Namespace) -> int:
     made = Founding(words.folder)
     for name in words.names:
         where = made.remove(name)
-        print(f"{name} is forgotten, which was at {where}: stop it there; if its key may be known, expel it")
+        known = LEAKED if name == OPERATOR else "stop it there; if its key may be known, expel it"
+        print(f"{name} is forgotten, which was at {where}: {known}")
     made.save()
     return 0
 
