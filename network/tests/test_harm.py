@@ -20,7 +20,7 @@ from walrus.network import certificates, figures, recovery, scrub, state
 from walrus.network.entries import Chain, Entry
 from walrus.network.figures import NodePort
 from walrus.network.follower import News, Recorders, View
-from walrus.network.node import Node
+from walrus.network.node import Node, mend_of
 from walrus.network.peers import FIGURES
 from walrus.network.scrub import Scrub
 from walrus.network.settings import Settings
@@ -220,6 +220,18 @@ class Figures(TurnCase):
             told.due = 0.0
             await told.count()
             self.assertEqual(told.held, held)
+
+
+class Torn(unittest.TestCase):
+    def test_of_a_node_s_two_databases_the_one_is_named_that_is_torn(self) -> None:
+        settings: Any = types.SimpleNamespace(database="/x/a.db")
+        state = mock.Mock()
+        state.name = "/x/a.ledger"
+        node: Any = types.SimpleNamespace(state=state)
+        for running in (node, None):
+            self.assertRegex(mend_of(settings, running), "^the database /x/a.db is torn: move it away and start")
+        state.must_be_whole.side_effect = sqlite3.DatabaseError("its pages do not fit together")
+        self.assertRegex(mend_of(settings, node), "^the copy of the ledger /x/a.ledger is torn: start the node again")
 
 
 class Halves(TurnCase):

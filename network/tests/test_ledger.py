@@ -281,7 +281,10 @@ class Rules(unittest.TestCase):
             kept.close()
             whole = path.read_bytes()
             garbage, older = whole[:4096] + b"\xa5" * (len(whole) - 4096), whole[:60] + bytes(4) + whole[64:]
-            for torn in (b"no database" * 500, garbage, older):
+            with contextlib.closing(sqlite3.connect(path)) as base:  # a page that no start reads for its rows
+                [(page,)] = base.execute("SELECT rootpage FROM sqlite_master WHERE name = 'blobs'")
+            front, rest = whole[: 4096 * (page - 1)], whole[4096 * page :]  # noqa: E203
+            for torn in (b"no database" * 500, garbage, older, front + b"\xa5" * 4096 + rest):
                 path.write_bytes(torn)
                 kept = State.open(str(path))
                 self.assertEqual((kept.name, kept.chain, kept.ledger.now), (str(path), None, ()))

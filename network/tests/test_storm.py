@@ -210,7 +210,7 @@ class Storm(NetworkCase):
                         file.write(self.drawn.randbytes(60))
             with self.assertRaises(RuntimeError) as caught:
                 await self.start(LIAR)
-            self.assertIn(TORN, str(caught.exception))
+            self.assertIn(TORN.format(self.folder / f"{LIAR}.db"), str(caught.exception))
             for torn in self.folder.glob(f"{LIAR}.db*"):
                 torn.unlink()
             await self.start(LIAR)

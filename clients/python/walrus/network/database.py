@@ -28,6 +28,11 @@ class Database:
     def open_tables(self) -> None:
         """Finds the tables, or makes them."""
 
+    def must_be_whole(self) -> None:
+        """Raises where pages are not as they were written."""
+        if self.base.execute("PRAGMA quick_check(1)").fetchone() != ("ok",):
+            raise sqlite3.DatabaseError("its pages do not fit together")
+
     def tell(self, fault: Exception) -> None:
         """Says what the disk does not take, once until it takes something again."""
         if str(fault) != self.fault:

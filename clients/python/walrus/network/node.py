@@ -251,6 +251,16 @@ class Node(View):
         self.state.close()
 
 
+def mend_of(settings: Settings, node: Optional[Node]) -> str:
+    """What is to be done about a torn database: the copy of the ledger, or else that of the parts."""
+    if node:
+        try:
+            node.state.must_be_whole()
+        except sqlite3.Error:
+            return f"the copy of the ledger {node.state.name} is torn: start the node again, and it is made anew"
+    return TORN.format(settings.database)
+
+
 async def serve(settings: Settings, kind: type[Node] = Node) -> int:
     """Runs a node until it is told to end, or must."""
     node, end = None, "cannot start"  # type: Optional[Node], str
@@ -267,7 +277,7 @@ async def serve(settings: Settings, kind: type[Node] = Node) -> int:
         known = isinstance(fault, (sqlite3.Error, UnicodeDecodeError, Clash, OSError))
         said = str(fault) if known else f"{type(fault).__name__}: {fault}"
         torn = type(fault) in (sqlite3.DatabaseError, UnicodeDecodeError) or "file format" in str(fault)
-        advice = f"; {TORN}" if torn else ""
+        advice = f"; {mend_of(settings, node)}" if torn else ""
         print(f"{settings.name}: {end}: {said}{advice}", file=sys.stderr, flush=True)
         return 1
     finally:

@@ -200,8 +200,10 @@ async def serve(settings: RecorderSettings) -> int:
         for task in done:
             task.result()
         return 0
-    except (Broken, OSError, sqlite3.OperationalError) as fault:
+    except (Broken, OSError, sqlite3.Error) as fault:
         told = f": restore it (network/OPERATING.md), or remove {settings.state}" if isinstance(fault, Broken) else ""
+        if type(fault) is sqlite3.DatabaseError:
+            told = f": {settings.state} is torn, and a start makes it anew"
         print(f"{settings.name} must stop: {fault}{told}", file=sys.stderr, flush=True)
         return 1
     finally:

@@ -14,7 +14,8 @@ from typing import Any, Callable, Iterable, Optional, TypeVar
 from .database import Database
 from .files import Files
 
-TORN = "the database is torn: move it away and start the node without it, and the others fill it (network/OPERATING.md)"
+TORN = "the database {} is torn: move it away and start the node without it, and the others fill it "
+TORN += "(network/OPERATING.md)"
 THREADS = 4  # for what takes long on the disk
 Result = TypeVar("Result")
 Written = asyncio.Future[bool]  # whether what was staged together came to the disk
@@ -56,8 +57,7 @@ class Staged(Database):
             )
         self.base.execute("PRAGMA synchronous = NORMAL")
         self.base.text_factory = functools.partial(str, encoding="utf-8", errors="replace")
-        if self.base.execute("PRAGMA quick_check(1)").fetchone() != ("ok",):
-            raise sqlite3.DatabaseError("its pages do not fit together")
+        self.must_be_whole()
         self.files = Files(self.path.with_suffix(".parts"))
 
     def stage(self, words: str, *values: object) -> sqlite3.Cursor:

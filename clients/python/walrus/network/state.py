@@ -58,6 +58,7 @@ class State(Database):
         [(version,)] = self.base.execute("PRAGMA user_version")
         if version != VERSION and self.base.execute("SELECT 1 FROM sqlite_master").fetchone():
             raise ValueError("its tables are of another version")
+        self.must_be_whole()  # before there is memory for many pages, which this would fill
         self.base.executescript(f"PRAGMA cache_size = -{self.pages}; PRAGMA user_version = {VERSION};{TABLES}")
         self.blobs = Blobs(self.base)
         self.ledger, self.saved = Ledger(self.blobs), 0  # the epoch that was saved
