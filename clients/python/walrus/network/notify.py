@@ -1,5 +1,6 @@
 """What a service manager is told: that a service is ready, and again and again that it lives."""
 import asyncio
+import contextlib
 import os
 import socket
 
@@ -13,11 +14,17 @@ def notify(text: str) -> None:
             manager.sendall(text.encode())
 
 
+def alive() -> None:
+    """Has the watchdog of the service manager see that this process goes on."""
+    with contextlib.suppress(OSError):
+        notify("WATCHDOG=1")
+
+
 def beat() -> None:
-    """Has the watchdog of the service manager see from here on that the event loop turns."""
+    """Has it see from here on that the event loop turns."""
     microseconds = int(os.environ.get("WATCHDOG_USEC", "0"))
     if microseconds:
-        notify("WATCHDOG=1")
+        alive()
         asyncio.get_running_loop().call_later(microseconds / 3e6, beat)
 
 

@@ -15,12 +15,14 @@ from .blobs import ALL, Blobs
 from .database import Database
 from .entries import Chain, Entry
 from .ledger import Ledger
+from .notify import alive
 
 EACH, LATER = 0.5, 1.0  # seconds between two commits, and if the disk is full
 REST = 10  # times as long as it took to enter again what a full disk did not take, until it is tried again
 PAGES = 32_768  # KiB of the database that are kept in memory
 VERSION = 2  # of the tables
 DROPPED = 1_000  # rows of what is over that go with a commit
+STEPS = 1_000_000  # of SQLite's machine, which take some tenths of a second, until the service manager is told again
 TORN = sqlite3.SQLITE_CORRUPT, sqlite3.SQLITE_NOTADB, sqlite3.SQLITE_ERROR  # a database that is none, or another's
 TABLES = """
 PRAGMA synchronous = NORMAL;
@@ -174,6 +176,7 @@ class State(Database):
                 await self.aside(lambda: self.replace(pieces))
                 reader.execute("COMMIT")
             else:
+                base.set_progress_handler(alive, STEPS)  # as the loop, which says so else, stands still for as long
                 self.replace(pieces)
         except Exception as it:  # the disk is full, or these pieces are no checkpoint
             fault = it
@@ -185,6 +188,7 @@ class State(Database):
                 await self.aside(lambda: base.execute("PRAGMA wal_checkpoint(PASSIVE)").fetchall())
             self.blobs.base = base
             reader.close()
+        base.set_progress_handler(None, 0)
         base.execute("PRAGMA cache_spill = OFF")
         base.execute("BEGIN IMMEDIATE")
         self.entering = False
