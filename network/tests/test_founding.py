@@ -200,6 +200,13 @@ class Changed(FoundingCase):
         with self.assertRaisesRegex(Unfounded, "gamma is no node"):
             await self.says("remove", self.folder, "gamma")
 
+    async def test_a_node_goes_alone_whose_name_begins_that_of_another_one(self) -> None:
+        await self.found()
+        await self.says("add", self.folder, "delta=delta:31500", "delta.b=delta:31501")
+        await self.says("remove", self.folder, "delta")
+        left = {path.name for path in (self.folder / "hosts" / "delta").glob("delta*")}
+        self.assertEqual(left, {f"delta.b.{end}" for end in ("toml", "crt", "key")})
+
     async def test_nobody_is_told_to_expel_the_operator_and_nobody_can(self) -> None:
         await self.found()
         self.assertIn("; if its key may be known, expel it", await self.says("remove", self.folder, "gate"))

@@ -3,6 +3,7 @@ import asyncio
 import contextlib
 import ctypes
 import io
+import json
 import os
 import pathlib
 import random
@@ -845,6 +846,28 @@ class Recovery(NodeCase):
         ends = [begun for begun, _ in read[1:]] + [now]
         for (begun, size), end in zip(read, ends):
             self.assertGreaterEqual(end - begun, max(size, scrub.LEAST) / 1_000 - 1e-6)  # until the next one is read
+
+    async def test_a_scrub_that_ended_while_the_clock_was_ahead_keeps_none_from_beginning(self) -> None:
+        assert self.store
+        node, now, begun = self.node({0: {0: self.shard}}), time.time(), asyncio.Event()
+        node.settings = types.SimpleNamespace(scrub=1.0, scrub_rate=1_000)
+        done = scrub.Scrub(node)
+        done.figures.ended = now + 365 * scrub.DAY
+        done.note()
+
+        async def scrubbing() -> None:
+            begun.set()
+            await asyncio.Event().wait()
+
+        clock = types.SimpleNamespace(monotonic=time.monotonic, time=lambda: now)
+        with mock.patch.multiple(scrub, LOOKED=0.01, time=clock), mock.patch.object(done, "scrub", scrubbing):
+            task = asyncio.create_task(done.run())
+            await asyncio.sleep(0.1)
+            self.assertFalse(begun.is_set())
+            self.assertEqual(json.loads(self.store.state("scrub"))["ended"], now)  # for the next start too
+            now += 1.01 * scrub.DAY
+            await asyncio.wait_for(begun.wait(), 30)
+            task.cancel()
 
     async def test_a_scrub_drops_what_the_whole_ledger_no_longer_has(self) -> None:
         """Such as what expired by a checkpoint behind which the node was killed."""

@@ -109,8 +109,8 @@ class Founding:
             if name in self.plan[kind]:
                 host = str(self.plan[kind].pop(name)[0])
                 self.plan["hosts"][host].remove(f"walrus-{kind.removesuffix('s')}@{name}")
-                for path in (self.folder / "hosts" / host).glob(f"{name}.*"):
-                    path.unlink()
+                for end in ("toml", "crt", "key"):  # and not all that begins so, as a name may have dots
+                    (self.folder / "hosts" / host / f"{name}.{end}").unlink(missing_ok=True)
                 if not self.plan["hosts"][host]:
                     del self.plan["hosts"][host]
                     shutil.rmtree(self.folder / "hosts" / host)

@@ -56,6 +56,9 @@ class Scrub:
     async def run(self) -> None:
         """Scrubs when told so, and whenever it is time to: never of itself where no days are set."""
         while True:
+            if self.figures.ended > time.time():  # as the clock was ahead then
+                self.figures.ended = time.time()
+                self.note()
             due = self.figures.ended + (self.node.settings.scrub or math.inf) * DAY
             if not self.figures.running and not self.now.is_set() and time.time() < due:
                 with contextlib.suppress(TimeoutError):
