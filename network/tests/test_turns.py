@@ -17,10 +17,10 @@ import aiohttp
 from ledger_case import FOUNDED, LedgerCase, Memory, registration
 from test_checkpoints import turn
 
-from walrus.network import recording, state
+from walrus.network import keeping, recording, state
 from walrus.network.checkpoint import Mark, read, written
 from walrus.network.client import Network
-from walrus.network.etcd import Batch
+from walrus.network.etcd import Batch, Failed
 from walrus.network.follower import News, View
 from walrus.network.keeping import Keeper
 from walrus.network.recorder import Recorder
@@ -121,6 +121,26 @@ class Turns(unittest.IsolatedAsyncioTestCase):
             await Keeper(made, 99.0).look()
             self.assertEqual([it.dropped for it in self.etcd.marked], [False])
         self.assertNotEqual(ahead.ledger.nodes, [])
+
+    async def test_a_piece_that_etcd_does_not_take_at_once_is_put_again_in_its_place(self) -> None:
+        made = await self.recorder(FOUNDED, *turn(1), *(registration("x", number) for number in range(20)))
+        self.assertTrue(made.state.settle())
+        tried, put = list[int](), self.etcd.put_piece
+
+        async def slow(place: int, number: int, piece: bytes) -> None:
+            tried.append(number)
+            if tried.count(number) == 1:
+                raise Failed("it does not hear it in time")
+            await put(place, number, piece)
+            if tried.count(number) == 2:
+                raise Failed("it does not answer in time")
+
+        self.enterContext(mock.patch.multiple(keeping, PAUSE=0.0, TRIES=3))
+        with mock.patch.object(self.etcd, "put_piece", slow), mock.patch.object(state.checkpoint, "LONGEST", 300):
+            await Keeper(made, 0.0).write(None)
+        [mark] = self.etcd.marked
+        self.assertGreater(mark.pieces, 5)
+        self.assertEqual({*self.etcd.pieces}, {(mark.place, number) for number in range(mark.pieces)})
 
     async def test_others_are_answered_while_a_checkpoint_is_written_and_while_it_is_taken(self) -> None:
         """They have all of it or nothing. Each row waits for a turn of the loop."""

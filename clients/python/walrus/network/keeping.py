@@ -2,6 +2,7 @@
 
 Several recorders may do so at once: whoever has the same ledger writes the same."""
 import asyncio
+import contextlib
 import hashlib
 import sqlite3
 import sys
@@ -14,6 +15,7 @@ from .etcd import Failed
 from .recorder import Recorder
 
 PAUSE, IDLE = 5.0, 30.0  # seconds between two looks; without an entry, until etcd gives back what it has free
+TRIES = 10  # to put a piece of a checkpoint
 SLACK = 67_108_864  # bytes that etcd may have free
 
 
@@ -73,7 +75,16 @@ class Keeper:
             return b""
 
         while packed := await asyncio.to_thread(pack):
-            await self.etcd.put_piece(chain.place, count, packed)
+            await self.put_piece(chain.place, count, packed)
             count += 1
         mark = Mark(chain.place, epoch, chain.digest.hex(), digest.hexdigest(), count, time.time())
         await self.etcd.put_mark(mark, before)
+
+    async def put_piece(self, place: int, number: int, piece: bytes) -> None:
+        """Puts a piece of a checkpoint, also while etcd is slow: one that is begun anew has another place, and all that
+        was put of this one would lie beside it until a later one is over."""
+        for _ in range(TRIES - 1):
+            with contextlib.suppress(Failed):
+                return await self.etcd.put_piece(place, number, piece)
+            await asyncio.sleep(PAUSE)
+        await self.etcd.put_piece(place, number, piece)
