@@ -20,6 +20,7 @@ from test_checkpoints import turn
 from walrus.network import keeping, recording, state
 from walrus.network.checkpoint import Mark, read, written
 from walrus.network.client import Network
+from walrus.network.entries import Chain
 from walrus.network.etcd import Batch, Failed
 from walrus.network.follower import News, View
 from walrus.network.keeping import Keeper
@@ -286,6 +287,35 @@ class Turns(unittest.IsolatedAsyncioTestCase):
                         self.assertEqual((len(made.ledger.blobs), made.chain, made.whole), (0, None, True))
                     await made.take(map(zlib.compress, pieces))
                     self.assertEqual(([*made.written()], len(made.ledger.blobs)), (pieces, 2))
+
+    async def test_a_checkpoint_that_a_full_disk_does_not_take_is_taken_once_it_does(self) -> None:
+        """Else a node or a recorder ends by it, or forgets what the disk did not take before."""
+        heard = [FOUNDED, registration("x", 1), registration("y", 2)]
+        ahead = await self.recorder(*heard)
+        self.assertTrue(await ahead.step(Batch(ahead.chain, [registration("y", it) for it in range(3, 500)])))
+        pieces, born = [*map(zlib.compress, ahead.state.written())], Chain(0, bytes.fromhex(ahead.state.identity))
+        self.enterContext(mock.patch.object(state, "LATER", 0.05))
+        for name, tail in (("recorder", 0), ("node", 2)):
+            folder = self.enterContext(tempfile.TemporaryDirectory())
+            with self.subTest(name=name), contextlib.redirect_stderr(io.StringIO()) as said:
+                made = State(f"{folder}/{name}", tail)
+                self.addCleanup(made.close)
+                view = View(mock.Mock(), made)
+                for texts, chain in ((heard[:2], born), (heard[2:], born.behind(heard[:2]))):
+                    news = News(chain.behind(texts), chain.followed(texts), 3, ahead.state.identity)
+                    await view.enter(news)
+                    made.again = time.monotonic() + 60  # the disk takes the first of this, and not the rest
+                made.base.execute("PRAGMA max_page_count = 1")  # no more than it has
+                news = News(ahead.chain, [], ahead.chain.place, ahead.state.identity, pieces)
+                entering = asyncio.create_task(view.enter(news))
+                while not entering.done() and (made.entering or not said.getvalue()):
+                    await asyncio.sleep(0.001)
+                self.assertIn("database or disk is full", said.getvalue())
+                self.assertEqual((entering.done(), view.chain, made.whole), (False, born.behind(heard), False))
+                self.assertEqual(len(made.ledger.blobs), 2)
+                made.base.execute("PRAGMA max_page_count = 100000")
+                await asyncio.wait_for(entering, 60)
+                self.assertEqual(([*made.written()], made.whole), ([*ahead.state.written()], True))
 
     async def test_a_follower_is_told_parts_of_a_batch_s_size_each_with_a_deadline_of_its_own(self) -> None:
         made, told = await self.recorder(FOUNDED), list[bytes]()

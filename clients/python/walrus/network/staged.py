@@ -45,6 +45,8 @@ class Staged(Database):
             words = "end that one first, or name another database"
             raise OSError(f"another process runs over {self.path}: {words}") from None
         self.log = self.opened.enter_context(open(f"{self.path}-wal", "rb"))  # by which each fault is told once
+        os.fsync(self.log)  # what is found there may have been committed by a process that was killed before it synced
+        self.files.sync(self.path.parent)  # which has the log
         self.pool = concurrent.futures.ThreadPoolExecutor(THREADS, "disk")  # asyncio's own looks names up, perhaps long
         self.syncer = threading.Thread(target=self.sync, name="sync", daemon=True)  # which costs less than a pool
         self.syncer.start()

@@ -8,7 +8,7 @@ import json
 import pathlib
 import sqlite3
 import time
-from typing import Any, Callable, Iterable, Iterator, Optional
+from typing import Any, Callable, Collection, Iterable, Iterator, Optional
 
 from . import checkpoint
 from .blobs import ALL, Blobs
@@ -130,13 +130,17 @@ class State(Database):
             if self.base.in_transaction:  # SQLite has done so where COMMIT failed
                 self.base.execute("ROLLBACK")
             self.base.execute("BEGIN IMMEDIATE")
-            self.blobs.forget()
-            self.load()
-            for entry in self.fresh:
-                self.apply(entry)
-            self.chain, took = chain, time.monotonic() - begun
-            self.again = time.monotonic() + max(LATER, REST * took)
+            self.enter_again(chain)
+            self.again = time.monotonic() + max(LATER, REST * (time.monotonic() - begun))
         return self.whole
+
+    def enter_again(self, chain: Optional[Chain]) -> None:
+        """Has what is in the database, and what was entered up to there and the disk does not have yet."""
+        self.blobs.forget()
+        self.load()
+        for entry in self.fresh:
+            self.apply(entry)
+        self.chain = chain
 
     def commit(self) -> None:
         """Has the disk take what was entered; some of what is over goes with it."""
@@ -159,13 +163,24 @@ class State(Database):
         """Keeps the digest of a place."""
         self.base.execute("INSERT OR REPLACE INTO digests VALUES (?, ?)", (chain.place, chain.digest))
 
-    async def take(self, pieces: Iterable[bytes]) -> None:
-        """Has what a checkpoint says in place of all before; where that cannot be, what was saved before stays. A
-        thread puts it into the file, and others read by a connection of their own meanwhile, which has what was saved
-        before until all of it is there. Without a file, or where a node may drop rows meanwhile, it is put there at
-        once. Who is cancelled can only close what is `entering` then."""
+    async def take(self, pieces: Collection[bytes]) -> None:
+        """Has what a checkpoint says in place of all before, once the disk takes it."""
+        while True:
+            try:
+                return await self.take_now(pieces)
+            except sqlite3.OperationalError as fault:  # as `open` tells those of a full disk
+                if getattr(fault, "sqlite_errorcode", sqlite3.SQLITE_FULL) & 0xFF in TORN:
+                    raise
+                self.tell(fault)
+            await asyncio.sleep(LATER)
+
+    async def take_now(self, pieces: Iterable[bytes]) -> None:
+        """Does so; where that cannot be, all is as it was. A thread puts it into the file, and others read by a
+        connection of their own meanwhile, which has what was saved before until all of it is there. Without a file, or
+        where a node may drop rows meanwhile, it is put there at once. Who is cancelled can only close what is
+        `entering` then."""
         self.settle()
-        self.entering, fault, base = True, None, self.base
+        self.entering, fault, base, fresh, chain = True, None, self.base, [*self.fresh], self.chain
         base.execute("ROLLBACK")  # of nothing, or of what the disk does not take
         reader = sqlite3.connect(self.name, isolation_level=None) if self.name and not self.tail else None
         try:
@@ -193,6 +208,8 @@ class State(Database):
         base.execute("BEGIN IMMEDIATE")
         self.entering = False
         if fault:
+            self.fresh += fresh
+            self.enter_again(chain)
             raise fault
 
     def replace(self, pieces: Iterable[bytes]) -> None:
@@ -228,6 +245,15 @@ class State(Database):
         self.settle()
         words = "SELECT place, text FROM entries WHERE place > ? AND epoch > ? ORDER BY place LIMIT ?"
         return [Entry(*row) for row in self.base.execute(words, (after, self.ledger.epoch - self.tail, count))]
+
+    def digest(self, place: int) -> str:
+        """The digest of all up to a place of the tail, in digits; nothing if it is not known."""
+        words = "SELECT place, digest FROM digests WHERE place <= ? ORDER BY place DESC LIMIT 1"
+        if not (row := self.base.execute(words, (place,)).fetchone()):
+            return ""
+        words = "SELECT text FROM entries WHERE place > ? AND place <= ? ORDER BY place"
+        chain = Chain(*row).behind(text for text, in self.base.execute(words, (row[0], place)))
+        return chain.digest.hex() if chain.place == place else ""
 
     def note_place(self, entry: Entry) -> None:
         """Notes the place of an entry that counts, at a recorder, for who posts it again."""
