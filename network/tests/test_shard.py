@@ -305,7 +305,7 @@ class Disk(ShardCase):
     async def test_the_lengths_of_replies_are_those_that_the_metadata_of_a_blob_tells_and_no_other(self) -> None:
         shape = client.Shape(1)
         other, _, _ = await self.put(bytes(5_000))
-        metadata, primary, _ = await self.put(bytes(range(250)) * 12)
+        metadata, primary, _ = await self.put(bytes(range(250)) * 1_200)
         for request in (client.Read(primary[1:33]), client.Symbol(primary[1:33], client.PRIMARY, 2)):
             asked = shards.Asked.of(client.write_frame(request), 2, 4)
             for false in (b"", other, metadata[:-1], metadata[:-1] + bytes([metadata[-1] ^ 1]), primary):
