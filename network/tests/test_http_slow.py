@@ -110,24 +110,29 @@ class Slow(GatewayCase):
         and who reads asks it once at most, until others are asked in its place."""
         for name in ("LEAST", "MOST"):  # so that no other node is taken for late
             self.enterContext(mock.patch(f"walrus.shards.{name}", 20.0))
-        exchange, wait, ended = peers.Seat.exchange, asyncio.wait, list[object]()
+        exchange, store, wait, ended = peers.Seat.exchange, peers.Seat.store, asyncio.wait, list[object]()
         storing, reads, graces = set["asyncio.Task[Any] | None"](), 0, 0
+
+        def is_useless(seat: peers.Seat) -> bool:
+            return seat.name == useless and seat.peers is self.network.peers
 
         async def watched(seat: peers.Seat, requests: Sequence[client.Request]) -> list[client.Reply]:
             nonlocal reads
-            if seat.name != useless or seat.peers is not self.network.peers:
-                return await exchange(seat, requests)
-            storing.update([asyncio.current_task()] if isinstance(requests[0], list) else [])
-            reads += requests[0][:1] == bytes([client.READ])
+            reads += is_useless(seat) and requests[0][:1] == bytes([client.READ])
             said = await exchange(seat, requests)
-            ended.append(said)
+            ended.extend([said] if is_useless(seat) else [])
             return said
+
+        async def stored(seat: peers.Seat, request: list[client.Data]) -> str:
+            storing.update([asyncio.current_task()] if is_useless(seat) else [])  # it may wait for its turn there, too
+            return await store(seat, request)
 
         async def waited(tasks: Any, **words: Any) -> Any:
             nonlocal graces
             graces += bool(words.get("timeout") and storing & {*tasks})
             return await wait(tasks, **words)
 
+        self.enterContext(mock.patch.object(peers.Seat, "store", stored))
         with mock.patch.object(peers.Seat, "exchange", watched), mock.patch.object(asyncio, "wait", waited):
             for _ in range(6):
                 data = DRAWN.randbytes(9_000)
