@@ -12,14 +12,15 @@ use Rattle.wal_recover.specs.declared.outcome.Recovered.TheVariants.{Sliver}
 -- there is none those of the sliver that the openings give
 abbrev pub IsColumn : (List ℕ → List ℕ) → List ℕ → BlobMetadata → List (List ℕ) → ℕ → List ℕ
     → Type 0
-IsColumn digest id m payloads j bytes =
-    IsFirstHeldSliver digest id m Secondary j payloads bytes
-    ⊎ (NoHeldSliver digest id m Secondary j payloads
-    × OpeningsComeTo digest m Secondary j (openings_in id Secondary j payloads) (Sliver bytes))
+IsColumn digest id metadata payloads j bytes =
+    IsFirstHeldSliver digest id metadata Secondary j payloads bytes
+    ⊎ (NoHeldSliver digest id metadata Secondary j payloads
+    × OpeningsComeTo digest metadata Secondary j
+    (openings_in id Secondary j payloads) (Sliver bytes))
 
 -- these are the bytes of column j of a matrix
 abbrev pub IsOwnColumn : ℕ → ℕ → List ℕ → ℕ → List ℕ → Type 0
-IsOwnColumn f s e j bytes = bytes ≡ secondary_of f s e j
+IsOwnColumn f size extended j bytes = bytes ≡ secondary_of f size extended j
 
 -- a column is missing
 abbrev pub IsMissing : (ℕ → List ℕ → Type 0) → ℕ → Type 0

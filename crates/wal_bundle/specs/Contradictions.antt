@@ -41,49 +41,51 @@ pub record ContradictsBundle (digest : List ℕ → List ℕ) (shape : BlobShape
 
 -- payloads tell two different members of one identifier and number
 pub record AreContraryMembers (digest : List ℕ → List ℕ)
-    (id : List ℕ) (k : ℕ) (a b : List (List ℕ)) : Type 0 where
+    (id : List ℕ) (k : ℕ) (one other : List (List ℕ)) : Type 0 where
   pub left : List ℕ
   pub right : List ℕ
-  pub left_told : IsMember digest id k a (Member left)
-  pub right_told : IsMember digest id k b (Member right)
+  pub left_told : IsMember digest id k one (Member left)
+  pub right_told : IsMember digest id k other (Member right)
   pub differ : left ≢ right
 
 -- columns below n are the same wherever both are there
 abbrev pub AgreeBelow : ℕ → (ℕ → List ℕ → Type 0) → (ℕ → List ℕ → Type 0) → Type 0
-AgreeBelow n A B = (j : ℕ) → j < n → (x y : List ℕ) → A j x → B j y → x ≡ y
+AgreeBelow n A B = (j : ℕ) → j < n → (one other : List ℕ) → A j one → B j other → one ≡ other
 
 -- left and right are digested for the two columns of the first index at which both are there and
 -- differ
 abbrev pub AreDigestedForColumns : (List ℕ → List ℕ) → ℕ → (ℕ → List ℕ → Type 0)
     → (ℕ → List ℕ → Type 0) → List ℕ → List ℕ → Type 0
 AreDigestedForColumns digest f A B left right =
-    (j : ℕ) × (x : List ℕ) × (y : List ℕ) × AgreeBelow j A B × A j x × B j y
-    × AreDigestedForSlivers digest f Secondary x y left right
+    (j : ℕ) × (one : List ℕ) × (other : List ℕ) × AgreeBelow j A B × A j one × B j other
+    × AreDigestedForSlivers digest f Secondary one other left right
 
 -- left and right are digested for the bundle's metadata and that of the payloads, or where these
 -- are one for the first column that the payloads show and that is not the bundle's own
 abbrev pub AreDigestedForBundle : (List ℕ → List ℕ) → BlobShape → List (List ℕ) → List ℕ
     → List (List ℕ) → List ℕ → List ℕ → Type 0
 AreDigestedForBundle digest shape members id payloads left right =
-    (bytes : List ℕ) × (e : List ℕ) × (m : BlobMetadata) × IsBundle shape.f members bytes
-    × IsExtended shape.f bytes e × IsMetadataIn digest id payloads m
-    × (AreDigestedFor digest (metadata_over digest shape e) m left right
-    ⊎ (metadata_over digest shape e ≡ m)
-    × AreDigestedForColumns digest m.f (IsColumn digest id m payloads)
-    (IsOwnColumn shape.f (symbol_size shape.f shape.length) e) left right)
+    (bytes : List ℕ) × (extended : List ℕ) × (metadata : BlobMetadata)
+    × IsBundle shape.f members bytes
+    × IsExtended shape.f bytes extended × IsMetadataIn digest id payloads metadata
+    × (AreDigestedFor digest (metadata_over digest shape extended) metadata left right
+    ⊎ (metadata_over digest shape extended ≡ metadata)
+    × AreDigestedForColumns digest metadata.f (IsColumn digest id metadata payloads)
+    (IsOwnColumn shape.f (symbol_size shape.f shape.length) extended) left right)
 
 -- left and right are digested for the metadata of two lists of payloads, or where these are one for
 -- the first columns of one index that they show and that differ
 abbrev pub AreDigestedForMembers : (List ℕ → List ℕ) → List ℕ → List (List ℕ) → List (List ℕ)
     → List ℕ → List ℕ → Type 0
-AreDigestedForMembers digest id a b left right =
-    (m : BlobMetadata) × (n : BlobMetadata) × IsMetadataIn digest id a m
-    × IsMetadataIn digest id b n
-    × (AreDigestedFor digest m n left right
-    ⊎ (m ≡ n)
-    × AreDigestedForColumns digest m.f (IsColumn digest id m a) (IsColumn digest id n b) left right)
+AreDigestedForMembers digest id first second left right =
+    (metadata : BlobMetadata) × (other : BlobMetadata) × IsMetadataIn digest id first metadata
+    × IsMetadataIn digest id second other
+    × (AreDigestedFor digest metadata other left right
+    ⊎ (metadata ≡ other)
+    × AreDigestedForColumns digest metadata.f (IsColumn digest id metadata first)
+    (IsColumn digest id other second) left right)
 
 -- one answer; the texts of two collisions are not compared
 abbrev pub SameMemberAnswer : MemberAnswer → MemberAnswer → Type 0
-SameMemberAnswer (Collision a) (Collision b) = Unit {0}
-SameMemberAnswer a b = a ≡ b
+SameMemberAnswer (Collision one) (Collision other) = Unit {0}
+SameMemberAnswer one other = one ≡ other

@@ -11,9 +11,9 @@ use Rattle.wal_matrix.specs.Columns.{block_of_columns}
 use Rattle.wal_bundle.specs.declared.answer.BundleError.{BundleError}
 use Rattle.wal_bundle.specs.declared.answer.BundleError.TheVariants.{BadFaults, Memory, TooLong, TooMany}
 
--- the bytes of a column, for symbols of s bytes
+-- the bytes of a column, for symbols of this size
 abbrev pub column_bytes : ℕ → ℕ → ℕ
-column_bytes f s = row_count f * s
+column_bytes f symbol_size = row_count f * symbol_size
 
 -- the columns of `size` bytes that so many bytes need
 unfoldable pub columns_for : ℕ → ℕ → ℕ
@@ -40,16 +40,17 @@ first_column size lengths k =
 unfoldable pub used_columns : ℕ → List ℕ → ℕ
 used_columns size lengths = index_columns size (length lengths) + member_columns size lengths
 
--- the columns that are used are among those of the source block, for symbols of s bytes
+-- the columns that are used are among those of the source block, for symbols of this size
 abbrev pub ColumnsFit : ℕ → List ℕ → ℕ → Type 0
-ColumnsFit f lengths s = used_columns (column_bytes f s) lengths ≤ column_count f
+ColumnsFit f lengths symbol_size =
+    used_columns (column_bytes f symbol_size) lengths ≤ column_count f
 
--- s is the least even number, at least 2, for which they are
-pub record IsBundleSize (f : ℕ) (lengths : List ℕ) (s : ℕ) : Type 0 where
-  pub even : s % 2 ≡ 0
-  pub positive : 2 ≤ s
-  pub room : ColumnsFit f lengths s
-  pub least : (t : ℕ) → t % 2 ≡ 0 → 2 ≤ t → ColumnsFit f lengths t → s ≤ t
+-- the size is the least even number, at least 2, for which they are
+pub record IsBundleSize (f : ℕ) (lengths : List ℕ) (symbol_size : ℕ) : Type 0 where
+  pub even : symbol_size % 2 ≡ 0
+  pub positive : 2 ≤ symbol_size
+  pub room : ColumnsFit f lengths symbol_size
+  pub least : (less : ℕ) → less % 2 ≡ 0 → 2 ≤ less → ColumnsFit f lengths less → symbol_size ≤ less
 
 -- the entry of member k: its first column, and its length
 unfoldable pub entry_text : ℕ → List ℕ → ℕ → List ℕ
@@ -80,11 +81,11 @@ columns_text size members =
     whole_columns size (index_text size (lengths_of members))
     ++ flat_map (whole_columns size) members
 
--- the bundle for symbols of s bytes: the source block that has these columns, row by row
+-- the bundle for symbols of this size: the source block that has these columns, row by row
 unfoldable pub bundle_text : ℕ → ℕ → List (List ℕ) → List ℕ
-bundle_text f s members =
-    block_of_columns f s (columns_text (column_bytes f s) members)
-    (used_columns (column_bytes f s) (lengths_of members))
+bundle_text f symbol_size members =
+    block_of_columns f symbol_size (columns_text (column_bytes f symbol_size) members)
+    (used_columns (column_bytes f symbol_size) (lengths_of members))
 
 -- these bytes are the bundle of the members, of which there are at most twice as many as faults
 pub record IsBundle (f : ℕ) (members : List (List ℕ)) (bytes : List ℕ) : Type 0 where
@@ -104,5 +105,6 @@ Bundles f members (Err TooMany) = (1 ≤ f) × (f ≤ 333) × (2 * f < length me
 -- the bundle would be longer than a blob may be
 Bundles f members (Err TooLong) =
     (1 ≤ f) × (f ≤ 333) × (length members ≤ 2 * f)
-    × (s : ℕ) × IsBundleSize f (lengths_of members) s × (most_bytes < cell_count f * s)
+    × (symbol_size : ℕ) × IsBundleSize f (lengths_of members) symbol_size
+    × (most_bytes < cell_count f * symbol_size)
 Bundles f members (Err Memory) = Unit {0}

@@ -5,10 +5,10 @@ use Rattle.wal_shape.specs.Spelling.{number_text}
 use Rattle.wal_shape.specs.ProofReading.{axis_of}
 use Rattle.wal_challenge.specs.declared.drawing.Draw.{Draw}
 
--- the text of draw d of a shard, of 69 bytes: the byte 4, the beacon, the identifier, and the shard
--- and d in two bytes each
+-- the text of one draw of a shard, of 69 bytes: the byte 4, the beacon, the identifier, and the
+-- numbers of the shard and of the draw in two bytes each
 abbrev pub draw_text : List ℕ → List ℕ → ℕ → ℕ → List ℕ
-draw_text beacon id shard d = 4 ∷ (beacon ++ id ++ number_text w16 shard ++ number_text w16 d)
+draw_text beacon id shard draw = 4 ∷ (beacon ++ id ++ number_text w16 shard ++ number_text w16 draw)
 
 -- the draw that a digest stands for: the lowest bit of byte 0 is the axis, and bytes 3 and 4 as a
 -- number, modulo n, are the place
@@ -18,6 +18,6 @@ draw_in n digits = record {
   place = from_be_bytes w16 (take 2 (drop 3 digits)) % n;
 }
 
--- draw d of a shard of n, for the blob of this identifier
+-- one draw of a shard of n, for the blob of this identifier
 abbrev pub drawn : (List ℕ → List ℕ) → List ℕ → List ℕ → ℕ → ℕ → ℕ → Draw
-drawn digest beacon id n shard d = draw_in n (digest (draw_text beacon id shard d))
+drawn digest beacon id n shard draw = draw_in n (digest (draw_text beacon id shard draw))

@@ -15,62 +15,67 @@ use Rattle.wal_challenge.specs.declared.drawing.Draw.{Draw}
 use Rattle.wal_challenge.specs.Answer.{draw_of, drawn_index}
 
 -- the claim answers the draw: its target is the sliver of the crossing axis whose index is the
--- drawn place, its cross is the shard's own sliver of the drawn axis, and m commits it
-pub record AnswersDraw (digest : List ℕ → List ℕ) (m : BlobMetadata)
+-- drawn place, its cross is the shard's own sliver of the drawn axis, and the metadata commits it
+pub record AnswersDraw (digest : List ℕ → List ℕ) (metadata : BlobMetadata)
     (shard : ℕ) (draw : Draw) (claim : Claim) : Type 0 where
   pub axis : claim.axis ≡ crossing draw.axis
   pub index : claim.index ≡ draw.place
-  pub cross : claim.opening.cross ≡ drawn_index m shard draw
-  pub holds : HoldsOpening digest m claim.axis claim.index claim.opening
+  pub cross : claim.opening.cross ≡ drawn_index metadata shard draw
+  pub holds : HoldsOpening digest metadata claim.axis claim.index claim.opening
 
 -- each of the first claims answers its own draw
 abbrev pub FirstAnswer : (List ℕ → List ℕ) → BlobMetadata → List ℕ → ℕ → List Claim → ℕ → Type 0
-FirstAnswer digest m beacon shard claims count =
-    (d : ℕ) (claim : Claim) → d < count → slice_get claims d ≡ Some claim
-    → AnswersDraw digest m shard (draw_of digest m beacon shard d) claim
+FirstAnswer digest metadata beacon shard claims count =
+    (draw : ℕ) (claim : Claim) → draw < count → slice_get claims draw ≡ Some claim
+    → AnswersDraw digest metadata shard (draw_of digest metadata beacon shard draw) claim
 
--- claim d is the first that does not answer its draw
-pub record IsFirstWrong (digest : List ℕ → List ℕ) (m : BlobMetadata)
-    (beacon : List ℕ) (shard : ℕ) (claims : List Claim) (d : ℕ) : Type 0 where
-  pub before : FirstAnswer digest m beacon shard claims d
+-- this claim is the first that does not answer its draw
+pub record IsFirstWrong (digest : List ℕ → List ℕ) (metadata : BlobMetadata)
+    (beacon : List ℕ) (shard : ℕ) (claims : List Claim) (draw : ℕ) : Type 0 where
+  pub before : FirstAnswer digest metadata beacon shard claims draw
   pub claim : Claim
-  pub there : slice_get claims d ≡ Some claim
-  pub wrong : AnswersDraw digest m shard (draw_of digest m beacon shard d) claim → ⊥
+  pub there : slice_get claims draw ≡ Some claim
+  pub wrong : AnswersDraw digest metadata shard (draw_of digest metadata beacon shard draw) claim
+      → ⊥
 
 -- what claims in answer to so many draws come to; of these cases one applies
 abbrev pub AnswersComeTo : (List ℕ → List ℕ) → BlobMetadata → List ℕ → ℕ → ℕ → List Claim
     → AnswerVerdict → Type 0
 -- there are k of them, and k is another number
-AnswersComeTo digest m beacon shard count claims (WrongCount k) = (length claims ≡ k) × (k ≢ count)
--- the first that does not answer its draw is claim d
-AnswersComeTo digest m beacon shard count claims (Wrong d) =
-    (length claims ≡ count) × IsFirstWrong digest m beacon shard claims d
+AnswersComeTo digest metadata beacon shard count claims (WrongCount k) =
+    (length claims ≡ k) × (k ≢ count)
+-- the first that does not answer its draw has this number
+AnswersComeTo digest metadata beacon shard count claims (Wrong draw) =
+    (length claims ≡ count) × IsFirstWrong digest metadata beacon shard claims draw
 -- each answers its draw
-AnswersComeTo digest m beacon shard count claims Accepted =
-    (length claims ≡ count) × FirstAnswer digest m beacon shard claims count
+AnswersComeTo digest metadata beacon shard count claims Accepted =
+    (length claims ≡ count) × FirstAnswer digest metadata beacon shard claims count
 
--- the claim that an opening is of the target of draw d
+-- the claim that an opening is of the target of this draw
 abbrev pub claim_of : (List ℕ → List ℕ) → BlobMetadata → List ℕ → ℕ → ℕ → Opening → Claim
-claim_of digest m beacon shard d o =
+claim_of digest metadata beacon shard draw shown =
     record {
-      axis = crossing (draw_of digest m beacon shard d).axis;
-      index = (draw_of digest m beacon shard d).place;
-      opening = o;
+      axis = crossing (draw_of digest metadata beacon shard draw).axis;
+      index = (draw_of digest metadata beacon shard draw).place;
+      opening = shown;
     }
 
--- the claims that openings are of the targets of draw d and of those after it
+-- the claims that openings are of the targets of this draw and of those after it
 abbrev pub claims_from : (List ℕ → List ℕ) → BlobMetadata → List ℕ → ℕ → ℕ → List Opening
     → List Claim
-claims_from digest m beacon shard d [] = []
-claims_from digest m beacon shard d (o ∷ openings) =
-    claim_of digest m beacon shard d o ∷ claims_from digest m beacon shard (d + 1) openings
+claims_from digest metadata beacon shard draw [] = []
+claims_from digest metadata beacon shard draw (opening ∷ openings) =
+    claim_of digest metadata beacon shard draw opening
+    ∷ claims_from digest metadata beacon shard (draw + 1) openings
 
--- the claim's symbol is that of the matrix e at the drawn place of the shard's own row or column
+-- the claim's symbol is that of the matrix at the drawn place of the shard's own row or column
 abbrev pub HasDrawnSymbol : BlobMetadata → List ℕ → ℕ → Draw → Claim → Type 0
-HasDrawnSymbol m e shard draw claim =
+HasDrawnSymbol metadata coded shard draw claim =
     claim.opening.symbol
-    ≡ region (symbol_size m.f m.length)
-    (line_of draw.axis m.f (symbol_size m.f m.length) e (drawn_index m shard draw)) draw.place
+    ≡ region (symbol_size metadata.f metadata.length)
+    (line_of draw.axis metadata.f (symbol_size metadata.f metadata.length)
+    coded (drawn_index metadata shard draw))
+    draw.place
 
 -- the metadata of these bytes commits the claim's opening, whose symbol is not the one that their
 -- matrix has there
@@ -90,17 +95,18 @@ pub record IsFalseClaim (digest : List ℕ → List ℕ) (shape : BlobShape)
 abbrev pub AreDigestedForClaim : (List ℕ → List ℕ) → BlobShape → List ℕ → Claim → List ℕ → List ℕ
     → Type 0
 AreDigestedForClaim digest shape bytes claim left right =
-    (e : List ℕ) × IsExtended shape.f bytes e
-    × (let s = symbol_size shape.f shape.length in
-    let line = line_of (crossing claim.axis) shape.f s e claim.opening.cross in
+    (coded : List ℕ) × IsExtended shape.f bytes coded
+    × (let width = symbol_size shape.f shape.length in
+    let line = line_of (crossing claim.axis) shape.f width coded claim.opening.cross in
     MeetOnPaths digest claim.index claim.opening.symbol claim.opening.path
-    (region s line claim.index) (path_over digest s line claim.index) left right)
+    (region width line claim.index) (path_over digest width line claim.index) left right)
 
--- where m is the metadata of the blob whose matrix is e: each claim shows the drawn symbol of the
+-- for the metadata of the blob with this matrix: each claim shows the drawn symbol of the
 -- matrix, or is false
 abbrev pub AreOwnOrFalse : (List ℕ → List ℕ) → BlobMetadata → List ℕ → ℕ → List Claim → List ℕ
     → List ℕ → Type 0
-AreOwnOrFalse digest m beacon shard claims blob e =
-    (d : ℕ) (claim : Claim) → slice_get claims d ≡ Some claim
-    → HasDrawnSymbol m e shard (draw_of digest m beacon shard d) claim
-    ⊎ IsFalseClaim digest (record { format = m.format; f = m.f; length = length blob }) blob claim
+AreOwnOrFalse digest metadata beacon shard claims blob coded =
+    (draw : ℕ) (claim : Claim) → slice_get claims draw ≡ Some claim
+    → HasDrawnSymbol metadata coded shard (draw_of digest metadata beacon shard draw) claim
+    ⊎ IsFalseClaim digest
+    (record { format = metadata.format; f = metadata.f; length = length blob }) blob claim

@@ -18,6 +18,7 @@ codeword-word k n c m h i l = rw (h.values i l) (evaluate-lt h.coefficients i h.
 
 -- ---- codewords as polynomials over the field of words
 
+-- a function of words as one of elements
 abbrev pub function : (ℕ → ℕ) → Element → Element
 function c x = element_of (c x.0)
 

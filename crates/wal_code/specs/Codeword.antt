@@ -6,14 +6,14 @@ use Rattle.wal_gf.specs.Polynomial.{evaluate}
 
 -- no point stands twice
 abbrev pub Distinct : List ℕ → Type 0
-Distinct known = AllPairs (λ p q. p ≢ q) known
+Distinct known = AllPairs (λ point other. point ≢ other) known
 
--- at each index below n, c has the value of one polynomial with at most k coefficients
-pub record IsCodeword (k n : ℕ) (c : ℕ → ℕ) : Type 0 where
+-- at each index below n, the symbol is the value of one polynomial with at most k coefficients
+pub record IsCodeword (k n : ℕ) (symbol_at : ℕ → ℕ) : Type 0 where
   pub coefficients : List ℕ
   pub few : length coefficients ≤ k
   pub words : All IsWord coefficients
-  pub values : (i : ℕ) → i < n → c i ≡ evaluate coefficients i
+  pub values : (i : ℕ) → i < n → symbol_at i ≡ evaluate coefficients i
 
 -- out is the codeword of n words that begins with these words, with one coefficient for each of
 -- them
@@ -30,25 +30,28 @@ pub record PassesThrough (known values coefficients : List ℕ) : Type 0 where
   pub there : (i : ℕ) → i < length known
       → evaluate coefficients (slice_index known i) ≡ slice_index values i
 
--- (w + q) / (p + q), or 1 where q is p
+-- (at + other) / (point + other), or 1 where other is point
 unfoldable pub factor : ℕ → ℕ → ℕ → ℕ
-factor p w q = cond (p == q) 1 (times (bit_xor w q) (inverse (bit_xor p q)))
+factor point at other =
+    cond (point == other) 1 (times (bit_xor at other) (inverse (bit_xor point other)))
 
--- the product of (w + q) / (p + q) over the known points q other than p
+-- the product of (at + other) / (point + other) over the other known points
 unfoldable pub coefficient : List ℕ → ℕ → ℕ → ℕ
-coefficient [] p w = 1
-coefficient (q ∷ known) p w = times (factor p w q) (coefficient known p w)
+coefficient [] point at = 1
+coefficient (other ∷ known) point at = times (factor point at other) (coefficient known point at)
 
--- the sum over the known points of the coefficient at w times the value at the point's place
+-- the sum over the known points of the coefficient at a point times the value at the point's place
 abbrev pub combination : List ℕ → (ℕ → ℕ) → ℕ → ℕ
-combination known value w =
-    xor_below (length known) (λ i. times (coefficient known (slice_index known i) w) (value i))
+combination known value at =
+    xor_below (length known) (λ i. times (coefficient known (slice_index known i) at) (value i))
 
--- the coefficients at w give each polynomial's value there from its values at the known points
+-- the coefficients at a point give each polynomial's value there from its values at the known
+-- points
 abbrev pub Interpolates : List ℕ → ℕ → Type 0
-Interpolates known w =
+Interpolates known at =
     (coefficients : List ℕ) → length coefficients ≤ length known → All IsWord coefficients →
-    evaluate coefficients w ≡ combination known (λ i. evaluate coefficients (slice_index known i)) w
+    evaluate coefficients at
+    ≡ combination known (λ i. evaluate coefficients (slice_index known i)) at
 
 -- what a table of coefficients is for: the known points and the wanted ones
 pub record Places : Type 0 where

@@ -4,11 +4,11 @@ use Rattle.wal_gf.specs.Field.{times, inverse}
 use Rattle.wal_gf.specs.declared.Gf.{Gf}
 use Rattle.wal_code.specs.Codeword.{coefficient}
 
--- the product of w + q over the known points q other than p
+-- the product of wanted + other over the other known points
 unfoldable pub product_of_others : List ℕ → ℕ → ℕ → ℕ
-product_of_others [] p w = 1
-product_of_others (q ∷ known) p w =
-    times (cond (p == q) 1 (bit_xor w q)) (product_of_others known p w)
+product_of_others [] point wanted = 1
+product_of_others (other ∷ known) point wanted =
+    times (cond (point == other) 1 (bit_xor wanted other)) (product_of_others known point wanted)
 
 -- the word of the element at a place
 abbrev pub element_at : List Gf → ℕ → ℕ
@@ -21,7 +21,8 @@ AreScales known scales =
     element_at scales i
     ≡ inverse (product_of_others known (slice_index known i) (slice_index known i))
 
--- at each place, the coefficient of the point at w
+-- at each place, the coefficient of the point at the wanted one
 abbrev pub AreWeights : List ℕ → ℕ → List Gf → Type 0
-AreWeights known w weights =
-    (i : ℕ) → i < length known → element_at weights i ≡ coefficient known (slice_index known i) w
+AreWeights known wanted weights =
+    (i : ℕ) → i < length known
+    → element_at weights i ≡ coefficient known (slice_index known i) wanted

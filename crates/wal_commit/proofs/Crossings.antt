@@ -6,6 +6,7 @@ use Rattle.wal_commit.proofs.HonestOpenings.{path_to_symbol, root_of_line}
 pub some : (n s long : ℕ) → 1 ≤ n → long ≡ n * s → s ≤ long
 some n s long many e = let room : 1 * s ≤ n * s = mul-le-mul_right s many in omega (arith, room)
 
+-- a line of n symbols is at most as long as one of a thousand
 pub within : (n s long : ℕ) → n ≤ 1000 → long ≡ n * s → long ≤ 1000 * s
 within n s long few e = let room : n * s ≤ 1000 * s = mul-le-mul_right s few in omega (arith, room)
 

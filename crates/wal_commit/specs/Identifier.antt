@@ -12,34 +12,36 @@ use Rattle.wal_tree.specs.Path.{MeetInTrees}
 use Rattle.wal_tree.specs.Tree.{root_over}
 use Rattle.wal_matrix.specs.Matrix.{IsExtended, row_of, column_of}
 
--- the metadata of a blob of this shape whose extended matrix is e: its numbers, the root over the
+-- the metadata of a blob of this shape with this extended matrix: its numbers, the root over the
 -- symbols of each row, and the root over those of each column
 unfoldable pub metadata_over : (List ℕ → List ℕ) → BlobShape → List ℕ → BlobMetadata
-metadata_over digest shape e =
+metadata_over digest shape extended =
     let n = shard_count shape.f in
-    let s = symbol_size shape.f shape.length in
+    let size = symbol_size shape.f shape.length in
     record {
       format = shape.format;
       f = shape.f;
       length = shape.length;
-      primary = map (λ i. root_over digest s (row_of n s e i)) (range_with_len 0 n);
-      secondary = map (λ j. root_over digest s (column_of n s e j)) (range_with_len 0 n);
+      primary = map (λ i. root_over digest size (row_of n size extended i)) (range_with_len 0 n);
+      secondary =
+          map (λ j. root_over digest size (column_of n size extended j)) (range_with_len 0 n);
     }
 
--- m is the metadata of these bytes, in this format and for f faults
+-- this is the metadata of these bytes, in this format and for f faults
 abbrev pub IsMetadataOf : (List ℕ → List ℕ) → Format → ℕ → List ℕ → BlobMetadata → Type 0
-IsMetadataOf digest format f bytes m =
-    (e : List ℕ) × IsExtended f bytes e
-    × (m ≡ metadata_over digest (record { format = format; f = f; length = length bytes }) e)
+IsMetadataOf digest format f bytes metadata =
+    (extended : List ℕ) × IsExtended f bytes extended
+    × (metadata
+    ≡ metadata_over digest (record { format = format; f = f; length = length bytes }) extended)
     × IsShape f (length bytes)
 
 -- for each shard the roots of the two slivers that it holds
 abbrev pub held_pairs : BlobMetadata → List ℕ
-held_pairs m = pairs_text m.primary (held_order m.format m.secondary)
+held_pairs metadata = pairs_text metadata.primary (held_order metadata.format metadata.secondary)
 
 -- the root over these pairs, a leaf for each shard
 abbrev pub pair_root : (List ℕ → List ℕ) → BlobMetadata → List ℕ
-pair_root digest m = root_over digest 64 (held_pairs m)
+pair_root digest metadata = root_over digest 64 (held_pairs metadata)
 
 -- the byte that an identifier's text begins with
 abbrev pub identifier_tag : Format → ℕ
@@ -53,29 +55,32 @@ head_text format f length = format_text format ++ number_text w16 f ++ number_te
 -- the text of the identifier of a metadata: what stands before the pairs, and the root over the
 -- pairs in their place
 abbrev pub identifier_text : (List ℕ → List ℕ) → BlobMetadata → List ℕ
-identifier_text digest m =
-    identifier_tag m.format ∷ (head_text m.format m.f m.length ++ pair_root digest m)
+identifier_text digest metadata =
+    identifier_tag metadata.format
+    ∷ (head_text metadata.format metadata.f metadata.length ++ pair_root digest metadata)
 
 -- the identifier of a metadata
 unfoldable pub identifier_of : (List ℕ → List ℕ) → BlobMetadata → List ℕ
-identifier_of digest m = digest (identifier_text digest m)
+identifier_of digest metadata = digest (identifier_text digest metadata)
 
--- left and right are the texts of the identifiers of a and b, where these differ, and else those
+-- left and right are the texts of the two identifiers, where these differ, and else those
 -- that meet in the trees over the pairs
 abbrev pub AreDigestedFor : (List ℕ → List ℕ) → BlobMetadata → BlobMetadata → List ℕ → List ℕ
     → Type 0
-AreDigestedFor digest a b left right =
-    ((identifier_text digest a ≢ identifier_text digest b) × (left ≡ identifier_text digest a)
-    × (right ≡ identifier_text digest b))
-    ⊎ ((identifier_text digest a ≡ identifier_text digest b)
-    × MeetInTrees digest 64 (held_pairs a) (held_pairs b) left right)
+AreDigestedFor digest one other left right =
+    ((identifier_text digest one ≢ identifier_text digest other)
+    × (left ≡ identifier_text digest one)
+    × (right ≡ identifier_text digest other))
+    ⊎ ((identifier_text digest one ≡ identifier_text digest other)
+    × MeetInTrees digest 64 (held_pairs one) (held_pairs other) left right)
 
--- id commits to the metadata m
-pub record Commits (digest : List ℕ → List ℕ) (id : List ℕ) (m : BlobMetadata) : Type 0 where
-  pub fit : IsMetadata m
-  pub identifier : id ≡ identifier_of digest m
+-- the identifier commits to the metadata
+pub record Commits (digest : List ℕ → List ℕ) (id : List ℕ) (metadata : BlobMetadata) : Type 0 where
+  pub fit : IsMetadata metadata
+  pub identifier : id ≡ identifier_of digest metadata
 
 -- id is the identifier of these bytes, in this format and for f faults
 abbrev pub IsIdentifierOf : (List ℕ → List ℕ) → Format → ℕ → List ℕ → List ℕ → Type 0
 IsIdentifierOf digest format f bytes id =
-    (m : BlobMetadata) × IsMetadataOf digest format f bytes m × Commits digest id m
+    (metadata : BlobMetadata) × IsMetadataOf digest format f bytes metadata
+    × Commits digest id metadata

@@ -23,10 +23,13 @@ pub record IsFit (f epoch : ℕ) : Type 0 where
 
 -- `create`, by its answer
 abbrev pub Creates : ℕ → ℕ → List ℕ → List ℕ → ℕ → Result ServingState CreateError → Type 0
-Creates f epoch owners faulty room (Ok s) =
+Creates f epoch owners faulty room (Ok serving) =
     IsFit f epoch × (is_committee (committee_size f) owners faulty ≡ true)
-    × (s ≡ record {
-      ledger = record { log = record { f = f; first = epoch; owners = owners; entries = [] }; spare = room };
+    × (serving ≡ record {
+      ledger = record {
+        log = record { f = f; first = epoch; owners = owners; entries = [] };
+        spare = room;
+      };
       faulty = faulty;
     })
 Creates f epoch owners faulty room (Err creating.BadFaults) = is_fault_count f ≡ false
@@ -51,28 +54,31 @@ pub record MayBegin (log : Log) (owners faulty stays : List ℕ) : Type 0 where
 -- that stay
 abbrev pub Begins : ServingState → List ℕ → List ℕ → List ℕ
     → Result MovingState (ServingState × BeginError) → Type 0
-Begins s owners faulty stays (Ok m) =
-    MayBegin s.ledger.log owners faulty stays × (0 < s.ledger.spare)
-    × (m ≡ record {
-      ledger = takes_in s.ledger (Begin owners);
-      faulty_now = s.faulty;
+Begins serving owners faulty stays (Ok moving) =
+    MayBegin serving.ledger.log owners faulty stays × (0 < serving.ledger.spare)
+    × (moving ≡ record {
+      ledger = takes_in serving.ledger (Begin owners);
+      faulty_now = serving.faulty;
       faulty_next = faulty;
       stays = stays;
     })
-Begins s owners faulty stays (Err (same, beginning.LastEpoch)) =
-    (reading s.ledger.log ≡ 65535) × (same ≡ s)
-Begins s owners faulty stays (Err (same, beginning.BadCommittee)) =
-    (reading s.ledger.log < 65535) × (is_next_committee s.ledger.log owners faulty stays ≡ false)
-    × (same ≡ s)
-Begins s owners faulty stays (Err (same, beginning.NoRoom)) =
-    MayBegin s.ledger.log owners faulty stays × (s.ledger.spare ≡ 0) × (same ≡ s)
+Begins serving owners faulty stays (Err (same, beginning.LastEpoch)) =
+    (reading serving.ledger.log ≡ 65535) × (same ≡ serving)
+Begins serving owners faulty stays (Err (same, beginning.BadCommittee)) =
+    (reading serving.ledger.log < 65535)
+    × (is_next_committee serving.ledger.log owners faulty stays ≡ false)
+    × (same ≡ serving)
+Begins serving owners faulty stays (Err (same, beginning.NoRoom)) =
+    MayBegin serving.ledger.log owners faulty stays × (serving.ledger.spare ≡ 0) × (same ≡ serving)
 
 -- `finish`, by its answer
 abbrev pub FinishesEpoch : MovingState → Result ServingState (MovingState × FinishError) → Type 0
-FinishesEpoch m (Ok s) =
-    (quorum_size m.ledger.log.f ≤ ready_total m.ledger.log) × (0 < m.ledger.spare)
-    × (s ≡ record { ledger = takes_in m.ledger Finish; faulty = m.faulty_next })
-FinishesEpoch m (Err (same, finishing.Waiting ready)) =
-    (ready ≡ ready_total m.ledger.log) × (ready < quorum_size m.ledger.log.f) × (same ≡ m)
-FinishesEpoch m (Err (same, finishing.NoRoom)) =
-    (quorum_size m.ledger.log.f ≤ ready_total m.ledger.log) × (m.ledger.spare ≡ 0) × (same ≡ m)
+FinishesEpoch moving (Ok serving) =
+    (quorum_size moving.ledger.log.f ≤ ready_total moving.ledger.log) × (0 < moving.ledger.spare)
+    × (serving ≡ record { ledger = takes_in moving.ledger Finish; faulty = moving.faulty_next })
+FinishesEpoch moving (Err (same, finishing.Waiting ready)) =
+    (ready ≡ ready_total moving.ledger.log) × (ready < quorum_size moving.ledger.log.f)
+    × (same ≡ moving)
+FinishesEpoch moving (Err (same, finishing.NoRoom)) =
+    (quorum_size moving.ledger.log.f ≤ ready_total moving.ledger.log) × (moving.ledger.spare ≡ 0)
+    × (same ≡ moving)

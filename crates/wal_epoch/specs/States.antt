@@ -22,14 +22,14 @@ pub record MovingState : Type 0 where
 
 -- the faulty shards of a side
 abbrev pub faulty_of : Side → MovingState → List ℕ
-faulty_of Now s = s.faulty_now
-faulty_of Next s = s.faulty_next
+faulty_of Now moving = moving.faulty_now
+faulty_of Next moving = moving.faulty_next
 
 -- whether a shard takes what it holds into the next epoch
 abbrev pub is_carried_in : MovingState → ℕ → Bool
-is_carried_in m shard =
-    is_carried (owners_of Now m.ledger.log) m.faulty_now
-    (owners_of Next m.ledger.log) m.faulty_next m.stays shard
+is_carried_in moving shard =
+    is_carried (owners_of Now moving.ledger.log) moving.faulty_now
+    (owners_of Next moving.ledger.log) moving.faulty_next moving.stays shard
 
 -- the ledger serves, the list is of its committee and closed by its owners, and the ledger is
 -- lawful

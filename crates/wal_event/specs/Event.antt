@@ -70,10 +70,10 @@ abbrev pub event_fits : ℕ → Event → Bool
 event_fits f event = nat_le 1 f && (nat_le f 333 && within (shard_count f) event)
 
 -- a schedule is in range
-pub record IsSchedule (s : Schedule) : Type 0 where
-  pub least : 1 ≤ s.f
-  pub most : s.f ≤ 333
-  pub epoch_most : s.epoch ≤ 65535
-  pub committee : IsTrue (is_committee (shard_count s.f) s.owners s.faulty)
-  pub count : length s.events ≤ 65536
-  pub each : AllByRecursion (λ event. IsEventWithin (shard_count s.f) event) s.events
+pub record IsSchedule (schedule : Schedule) : Type 0 where
+  pub least : 1 ≤ schedule.f
+  pub most : schedule.f ≤ 333
+  pub epoch_most : schedule.epoch ≤ 65535
+  pub committee : IsTrue (is_committee (shard_count schedule.f) schedule.owners schedule.faulty)
+  pub count : length schedule.events ≤ 65536
+  pub each : AllByRecursion (λ event. IsEventWithin (shard_count schedule.f) event) schedule.events

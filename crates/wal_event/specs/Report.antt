@@ -37,7 +37,7 @@ use Rattle.wal_event.specs.declared.line.Line.TheVariants.{Register, Write, Send
 -- bytes in lower-case digits, and a dash where there are none
 abbrev pub hex_text : List ℕ → List ℕ
 hex_text [] = codes "-"
-hex_text (b ∷ bytes) = encode_lower (b ∷ bytes)
+hex_text (byte ∷ bytes) = encode_lower (byte ∷ bytes)
 
 -- an identifier in 64 lower-case digits
 abbrev pub id_text : BlobId → List ℕ

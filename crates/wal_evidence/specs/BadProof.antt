@@ -15,65 +15,69 @@ use Rattle.wal_evidence.specs.declared.proof.ProofVerdict.TheVariants.{WrongCoun
 
 -- the crosses of openings
 abbrev pub crosses_of : List Opening → List ℕ
-crosses_of openings = map (λ o. o.cross) openings
+crosses_of openings = map (λ shown. shown.cross) openings
 
 -- the symbols of openings, one after the other
 abbrev pub symbols_of : List Opening → List ℕ
-symbols_of openings = flat_map (λ o. o.symbol) openings
+symbols_of openings = flat_map (λ shown. shown.symbol) openings
 
 -- the codeword of an axis that has the openings' symbols at their crosses
 abbrev pub IsLineThrough : BlobMetadata → Axis → List Opening → List ℕ → Type 0
-IsLineThrough m axis openings word =
-    IsWordThrough axis m.f (symbol_size m.f m.length)
+IsLineThrough metadata axis openings word =
+    IsWordThrough axis metadata.f (symbol_size metadata.f metadata.length)
     (crosses_of openings) (symbols_of openings) word
 
 -- as many openings of distinct crosses as a sliver of the axis has symbols, each of which holds
-pub record AreEnough (digest : List ℕ → List ℕ) (m : BlobMetadata)
+pub record AreEnough (digest : List ℕ → List ℕ) (metadata : BlobMetadata)
     (axis : Axis) (index : ℕ) (openings : List Opening) : Type 0 where
-  pub count : length openings ≡ sliver_symbols axis m.f
+  pub count : length openings ≡ sliver_symbols axis metadata.f
   pub distinct : Distinct (crosses_of openings)
-  pub held : All (HoldsOpening digest m axis index) openings
+  pub held : All (HoldsOpening digest metadata axis index) openings
 
--- the root over a codeword is the one that m has for this axis and index
+-- the root over a codeword is the one that the metadata has for this axis and index
 abbrev pub HasRoot : (List ℕ → List ℕ) → BlobMetadata → Axis → ℕ → List ℕ → Type 0
-HasRoot digest m axis index word =
-    slice_get (roots_of axis m) index ≡ Some (root_over digest (symbol_size m.f m.length) word)
+HasRoot digest metadata axis index word =
+    slice_get (roots_of axis metadata) index
+    ≡ Some (root_over digest (symbol_size metadata.f metadata.length) word)
 
 -- there are enough openings, and this is the codeword through them
-pub record ShowLine (digest : List ℕ → List ℕ) (m : BlobMetadata) (axis : Axis)
+pub record ShowLine (digest : List ℕ → List ℕ) (metadata : BlobMetadata) (axis : Axis)
     (index : ℕ) (openings : List Opening) (word : List ℕ) : Type 0 where
-  pub enough : AreEnough digest m axis index openings
-  pub through : IsLineThrough m axis openings word
+  pub enough : AreEnough digest metadata axis index openings
+  pub through : IsLineThrough metadata axis openings word
 
 -- a proof shows a codeword with another root than m's
 pub record IsBadProof (digest : List ℕ → List ℕ)
-    (m : BlobMetadata) (p : EncodingProof) : Type 0 where
+    (metadata : BlobMetadata) (proof : EncodingProof) : Type 0 where
   pub word : List ℕ
-  pub line : ShowLine digest m p.axis p.index p.openings word
-  pub root : HasRoot digest m p.axis p.index word → ⊥
+  pub line : ShowLine digest metadata proof.axis proof.index proof.openings word
+  pub root : HasRoot digest metadata proof.axis proof.index word → ⊥
 
--- it shows one with m's root
+-- it shows one with the metadata's root
 pub record IsConsistent (digest : List ℕ → List ℕ)
-    (m : BlobMetadata) (p : EncodingProof) : Type 0 where
+    (metadata : BlobMetadata) (proof : EncodingProof) : Type 0 where
   pub word : List ℕ
-  pub line : ShowLine digest m p.axis p.index p.openings word
-  pub root : HasRoot digest m p.axis p.index word
+  pub line : ShowLine digest metadata proof.axis proof.index proof.openings word
+  pub root : HasRoot digest metadata proof.axis proof.index word
 
 -- the opening at this place is the first that does not hold
-pub record IsFirstBad (digest : List ℕ → List ℕ) (m : BlobMetadata)
-    (p : EncodingProof) (place : ℕ) : Type 0 where
-  pub before : All (HoldsOpening digest m p.axis p.index) (take place p.openings)
+pub record IsFirstBad (digest : List ℕ → List ℕ) (metadata : BlobMetadata)
+    (proof : EncodingProof) (place : ℕ) : Type 0 where
+  pub before : All (HoldsOpening digest metadata proof.axis proof.index) (take place proof.openings)
   pub opening : Opening
-  pub there : slice_get p.openings place ≡ Some opening
-  pub bad : HoldsOpening digest m p.axis p.index opening → ⊥
+  pub there : slice_get proof.openings place ≡ Some opening
+  pub bad : HoldsOpening digest metadata proof.axis proof.index opening → ⊥
 
 -- what a check comes to; of these cases one applies
 abbrev pub Checks : (List ℕ → List ℕ) → BlobMetadata → EncodingProof → ProofVerdict → Type 0
-Checks digest m p WrongCount = length p.openings ≢ sliver_symbols p.axis m.f
-Checks digest m p Repeated =
-    (length p.openings ≡ sliver_symbols p.axis m.f) × (Distinct (crosses_of p.openings) → ⊥)
-Checks digest m p (BadOpening place) =
-    (length p.openings ≡ sliver_symbols p.axis m.f) × Distinct (crosses_of p.openings)
-    × IsFirstBad digest m p place
-Checks digest m p Consistent = IsConsistent digest m p
-Checks digest m p Inconsistent = IsBadProof digest m p
+Checks digest metadata proof WrongCount =
+    length proof.openings ≢ sliver_symbols proof.axis metadata.f
+Checks digest metadata proof Repeated =
+    (length proof.openings ≡ sliver_symbols proof.axis metadata.f)
+    × (Distinct (crosses_of proof.openings) → ⊥)
+Checks digest metadata proof (BadOpening place) =
+    (length proof.openings ≡ sliver_symbols proof.axis metadata.f)
+    × Distinct (crosses_of proof.openings)
+    × IsFirstBad digest metadata proof place
+Checks digest metadata proof Consistent = IsConsistent digest metadata proof
+Checks digest metadata proof Inconsistent = IsBadProof digest metadata proof

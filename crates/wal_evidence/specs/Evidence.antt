@@ -19,64 +19,76 @@ use Rattle.wal_evidence.specs.declared.evidence.Verdict.TheVariants.{Bytes, Reje
 
 -- the bytes of a primary sliver
 abbrev pub sliver_bytes : BlobMetadata → ℕ
-sliver_bytes m = column_count m.f * symbol_size m.f m.length
+sliver_bytes metadata = column_count metadata.f * symbol_size metadata.f metadata.length
 
 -- as many primary slivers as the source block has rows, one after the other, of distinct indices,
--- and m commits each
+-- and the metadata commits each
 pub record AreHeld (digest : List ℕ → List ℕ)
-    (m : BlobMetadata) (indices joined : List ℕ) : Type 0 where
-  pub count : length indices ≡ row_count m.f
+    (metadata : BlobMetadata) (indices joined : List ℕ) : Type 0 where
+  pub count : length indices ≡ row_count metadata.f
   pub distinct : Distinct indices
-  pub size : length joined ≡ row_count m.f * sliver_bytes m
+  pub size : length joined ≡ row_count metadata.f * sliver_bytes metadata
   pub held : (k : ℕ) → k < length indices
-      → HoldsSliver digest m Primary (slice_index indices k) (region (sliver_bytes m) joined k)
+      → HoldsSliver digest metadata Primary (slice_index indices k)
+      (region (sliver_bytes metadata) joined k)
 
--- a blob is given where the identifier that m commits is its identifier, and is rejected else
+-- a blob is given where the identifier that the metadata commits is its identifier, and is rejected
+-- else
 abbrev pub IsVerdictOn : (List ℕ → List ℕ) → BlobMetadata → List ℕ → Verdict → Type 0
-IsVerdictOn digest m blob (Bytes bytes) =
-    (bytes ≡ blob) × IsIdentifierOf digest m.format m.f blob (identifier_of digest m)
-IsVerdictOn digest m blob Reject =
-    IsIdentifierOf digest m.format m.f blob (identifier_of digest m) → ⊥
+IsVerdictOn digest metadata blob (Bytes bytes) =
+    (bytes ≡ blob)
+    × IsIdentifierOf digest metadata.format metadata.f blob (identifier_of digest metadata)
+IsVerdictOn digest metadata blob Reject =
+    IsIdentifierOf digest metadata.format metadata.f blob (identifier_of digest metadata) → ⊥
 
 -- the verdict on the blob of the matrix through these slivers: the first bytes of its source block
 abbrev pub Judges : (List ℕ → List ℕ) → BlobMetadata → List ℕ → List ℕ → Verdict → Type 0
-Judges digest m indices joined verdict =
-    (e : List ℕ) × IsMatrixThrough m.f (symbol_size m.f m.length) indices joined e
-    × IsVerdictOn digest m (take m.length (source_of m.f (symbol_size m.f m.length) e)) verdict
+Judges digest metadata indices joined verdict =
+    (extended : List ℕ)
+    × IsMatrixThrough metadata.f (symbol_size metadata.f metadata.length) indices joined extended
+    × IsVerdictOn digest metadata
+    (take metadata.length (source_of metadata.f (symbol_size metadata.f metadata.length) extended))
+    verdict
 
 -- what the evidence rests on holds for this metadata
 abbrev pub IsHeldBy : (List ℕ → List ℕ) → BlobMetadata → Basis → Type 0
-IsHeldBy digest m (Slivers indices joined) = AreHeld digest m indices joined
-IsHeldBy digest m (Proof p) = IsBadProof digest m p
+IsHeldBy digest metadata (Slivers indices joined) = AreHeld digest metadata indices joined
+IsHeldBy digest metadata (Proof proof) = IsBadProof digest metadata proof
 
 -- the verdict that it leads to
 abbrev pub IsJudgedBy : (List ℕ → List ℕ) → BlobMetadata → Basis → Verdict → Type 0
-IsJudgedBy digest m (Slivers indices joined) verdict = Judges digest m indices joined verdict
-IsJudgedBy digest m (Proof p) verdict = verdict ≡ Reject
+IsJudgedBy digest metadata (Slivers indices joined) verdict =
+    Judges digest metadata indices joined verdict
+IsJudgedBy digest metadata (Proof proof) verdict = verdict ≡ Reject
 
 -- evidence for an identifier: a metadata that it commits, and a basis that holds for that metadata
-pub record IsEvidence (digest : List ℕ → List ℕ) (id : List ℕ) (e : Evidence) : Type 0 where
-  pub committed : Commits digest id e.metadata
-  pub held : IsHeldBy digest e.metadata e.basis
+pub record IsEvidence (digest : List ℕ → List ℕ) (id : List ℕ) (evidence : Evidence) : Type 0 where
+  pub committed : Commits digest id evidence.metadata
+  pub held : IsHeldBy digest evidence.metadata evidence.basis
 
--- e is the extended matrix of this blob, and m its metadata
+-- the extended matrix of this blob, and its metadata
 abbrev pub CommitsMatrix : (List ℕ → List ℕ) → BlobMetadata → List ℕ → List ℕ → Type 0
-CommitsMatrix digest m blob e =
-    IsExtended m.f blob e
-    × (m ≡ metadata_over digest (record { format = m.format; f = m.f; length = length blob }) e)
+CommitsMatrix digest metadata blob extended =
+    IsExtended metadata.f blob extended
+    × (metadata ≡ metadata_over digest
+    (record { format = metadata.format; f = metadata.f; length = length blob }) extended)
 
--- one of the slivers is not that of the matrix e, though m commits both under one root; or one of
--- the openings has not the symbol of the matrix, though it holds
+-- one of the slivers is not that of the matrix, though the metadata commits both under one root; or
+-- one of the openings has not the symbol of the matrix, though it holds
 abbrev pub HasFalseSliver : (List ℕ → List ℕ) → BlobMetadata → List ℕ → Basis → Type 0
-HasFalseSliver digest m e (Slivers indices joined) =
+HasFalseSliver digest metadata extended (Slivers indices joined) =
     (k : ℕ) × (k < length indices)
-    × (region (sliver_bytes m) joined k
-    ≢ primary_of m.f (symbol_size m.f m.length) e (slice_index indices k))
-    × HoldsSliver digest m Primary (slice_index indices k) (region (sliver_bytes m) joined k)
-    × HoldsSliver digest m Primary (slice_index indices k)
-    (primary_of m.f (symbol_size m.f m.length) e (slice_index indices k))
-HasFalseSliver digest m e (Proof p) =
-    (k : ℕ) × (o : Opening) × (slice_get p.openings k ≡ Some o)
-    × (o.symbol ≢ region (symbol_size m.f m.length)
-    (line_of p.axis m.f (symbol_size m.f m.length) e p.index) o.cross)
-    × HoldsOpening digest m p.axis p.index o
+    × (region (sliver_bytes metadata) joined k
+    ≢ primary_of metadata.f (symbol_size metadata.f metadata.length)
+    extended (slice_index indices k))
+    × HoldsSliver digest metadata Primary (slice_index indices k)
+    (region (sliver_bytes metadata) joined k)
+    × HoldsSliver digest metadata Primary (slice_index indices k)
+    (primary_of metadata.f (symbol_size metadata.f metadata.length)
+    extended (slice_index indices k))
+HasFalseSliver digest metadata extended (Proof proof) =
+    (k : ℕ) × (opening : Opening) × (slice_get proof.openings k ≡ Some opening)
+    × (opening.symbol ≢ region (symbol_size metadata.f metadata.length)
+    (line_of proof.axis metadata.f (symbol_size metadata.f metadata.length) extended proof.index)
+    opening.cross)
+    × HoldsOpening digest metadata proof.axis proof.index opening

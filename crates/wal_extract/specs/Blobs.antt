@@ -6,29 +6,32 @@ use Rattle.wal_matrix.specs.Matrix.{IsExtended, row_of}
 use Rattle.wal_commit.specs.Identifier.{AreDigestedFor, IsIdentifierOf, metadata_over}
 
 -- these bytes have one identifier, each in the format and for the faults of its shape
-pub record HaveOneIdentifier (digest : List ℕ → List ℕ) (a_shape : BlobShape)
-    (a : List ℕ) (b_shape : BlobShape) (b : List ℕ) : Type 0 where
+pub record HaveOneIdentifier (digest : List ℕ → List ℕ) (one_shape : BlobShape)
+    (one : List ℕ) (other_shape : BlobShape) (other : List ℕ) : Type 0 where
   pub id : List ℕ
-  pub left : IsIdentifierOf digest a_shape.format a_shape.f a id
-  pub right : IsIdentifierOf digest b_shape.format b_shape.f b id
+  pub left : IsIdentifierOf digest one_shape.format one_shape.f one id
+  pub right : IsIdentifierOf digest other_shape.format other_shape.f other id
 
 -- left and right are the texts that meet in the trees over the first row in which two matrices of
 -- this shape differ
 abbrev pub AreDigestedForRows : (List ℕ → List ℕ) → BlobShape → List ℕ → List ℕ → List ℕ → List ℕ
     → Type 0
-AreDigestedForRows digest shape x y left right =
+AreDigestedForRows digest shape extended other_extended left right =
     let n = shard_count shape.f in
-    let s = symbol_size shape.f shape.length in
-    (index : ℕ) × (index < n) × ((i : ℕ) → i < index → row_of n s x i ≡ row_of n s y i)
-    × MeetInTrees digest s (row_of n s x index) (row_of n s y index) left right
+    let size = symbol_size shape.f shape.length in
+    (index : ℕ) × (index < n)
+    × ((i : ℕ) → i < index → row_of n size extended i ≡ row_of n size other_extended i)
+    × MeetInTrees digest size (row_of n size extended index)
+    (row_of n size other_extended index) left right
 
 -- left and right are digested for the metadata of the two blobs, or where these are one for the
 -- first row in which their matrices differ
 abbrev pub AreDigestedForBlobs : (List ℕ → List ℕ) → BlobShape → List ℕ → BlobShape → List ℕ
     → List ℕ → List ℕ → Type 0
-AreDigestedForBlobs digest a_shape a b_shape b left right =
-    (x : List ℕ) × (y : List ℕ) × IsExtended a_shape.f a x × IsExtended b_shape.f b y
-    × (AreDigestedFor digest (metadata_over digest a_shape x)
-    (metadata_over digest b_shape y) left right
-    ⊎ (metadata_over digest a_shape x ≡ metadata_over digest b_shape y)
-    × AreDigestedForRows digest a_shape x y left right)
+AreDigestedForBlobs digest one_shape one other_shape other left right =
+    (extended : List ℕ) × (other_extended : List ℕ) × IsExtended one_shape.f one extended
+    × IsExtended other_shape.f other other_extended
+    × (AreDigestedFor digest (metadata_over digest one_shape extended)
+    (metadata_over digest other_shape other_extended) left right
+    ⊎ (metadata_over digest one_shape extended ≡ metadata_over digest other_shape other_extended)
+    × AreDigestedForRows digest one_shape extended other_extended left right)

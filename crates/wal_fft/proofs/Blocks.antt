@@ -26,6 +26,7 @@ pub record IsHalved (level points width whole index : ℕ) : Type 0 where
   pub lower : (2 * index + 1) * 2 ^ (level - 1) ≤ 1024
   pub upper : (2 * index + 1 + 1) * 2 ^ (level - 1) ≤ 1024
 
+-- a block of 2^level runs is two of half as many
 pub halved : {level points width whole index : ℕ} → 0 < level → points ≡ 2 ^ (level - 1) → whole ≡ 2 ^ level * (2 * width)
     → (index + 1) * 2 ^ level ≤ 1024 → IsHalved level points width whole index
 halved {level} {points} {width} {whole} {index} above same long within =

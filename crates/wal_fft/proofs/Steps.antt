@@ -19,6 +19,7 @@ upper_start index j u = rw (pow-suc 2 j) (omega arith)
 undone : {a b : ℕ} (c : ℕ) → a ≡ bit_xor b c → b ≡ bit_xor a c
 undone {a} {b} c e = cc (xor_zero_r b, xor_self c, xor_assoc b c c)
 
+-- what was added once more is as it was
 pub turned : {f : ℕ → ℕ} {old new : List ℕ} → WasAdded f 0 old new → WasAdded f 0 new old
 turned h = record {
   long = sym h.long;
@@ -91,6 +92,7 @@ pub record Evaluates (width j index from to : ℕ) (low high low_sum high_sum lo
   pub in_low : AreValues width j (2 * index) from to low_sum low_values
   pub in_high : AreValues width j (2 * index + 1) from to high_sum high_values
 
+-- the values at one level from those of both halves
 pub evaluated : {width level j index from to : ℕ} {low high low_sum high_sum low_values high_values : List ℕ} → suc j ≡ level
     → Evaluates width j index from to low high low_sum high_sum low_values high_values
     → AreValues width level index from to (low ++ high) (low_values ++ high_values)

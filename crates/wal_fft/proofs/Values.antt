@@ -2,6 +2,7 @@
 use Rattle.wal_fft.proofs.Common.{◌≡◌, ℕ, zero, suc, ◌+◌, ◌*◌, ◌^◌, ◌<◌, bit_xor, refl, sym, ap, ap₂, ◌∙◌, arith, lit<, pow-suc, xor_assoc, xor_self, xor_comm, xor_lt, times, xor_middle, times-xor_left, times-xor_right, times-lt, times-zero, one-times, times_left_comm, skew, value}
 use Rattle.wal_fft.proofs.SkewLaws.{skew-lt, skew-low, skew-high}
 
+-- all values of a function are words
 abbrev pub AreWords : (ℕ → ℕ) → Type 0
 AreWords c = (i : ℕ) → c i < 65536
 

@@ -30,39 +30,40 @@ entry j i = slice_index table (10 * j + i)
 unfoldable pub skew : ℕ → ℕ → ℕ
 skew j x = xor_below 10 (λ i. bit_at x i * entry j i)
 
--- the value at x of the polynomial with 2^j coefficients c 0, c 1, .. in the basis above
+-- the value at x of the polynomial with these 2^j coefficients in the basis above
 unfoldable pub value : ℕ → (ℕ → ℕ) → ℕ → ℕ
-value zero c x = c 0
-value (suc j) c x = bit_xor (value j c x) (times (skew j x) (value j (λ i. c (2 ^ j + i)) x))
+value zero coefficients x = coefficients 0
+value (suc j) coefficients x =
+    bit_xor (value j coefficients x) (times (skew j x) (value j (λ i. coefficients (2 ^ j + i)) x))
 
--- word w of the k-th of runs of `width` words
+-- one word of the k-th of runs of `width` words
 abbrev pub lane : ℕ → List ℕ → ℕ → ℕ → ℕ
-lane width bytes w k = word_at bytes (width * k + w)
+lane width bytes word k = word_at bytes (width * k + word)
 
 -- At each word place, new has the values at the points from `from` to below `to` among those of
 -- this block, of the polynomial whose coefficients old has. Block `index` has the points from
 -- index * 2^level on, 2^level of them.
 abbrev pub AreValues : ℕ → ℕ → ℕ → ℕ → ℕ → List ℕ → List ℕ → Type 0
 AreValues width level index from to old new =
-    (w : ℕ) → w < width → (i : ℕ) → i < 2 ^ level → from ≤ index * 2 ^ level + i
+    (word : ℕ) → word < width → (i : ℕ) → i < 2 ^ level → from ≤ index * 2 ^ level + i
     → index * 2 ^ level + i < to
-    → lane width new w i ≡ value level (lane width old w) (index * 2 ^ level + i)
+    → lane width new word i ≡ value level (lane width old word) (index * 2 ^ level + i)
 
 -- At each word place, new has coefficients of which old has the values at the first `known` points
 -- of this block, and from `known` on the coefficients are those that old has.
 pub record AreCoefficients (width level index known : ℕ) (old new : List ℕ) : Type 0 where
-  pub values : (w : ℕ) → w < width → (i : ℕ) → i < known
-      → lane width old w i ≡ value level (lane width new w) (index * 2 ^ level + i)
-  pub others : (w : ℕ) → w < width → (i : ℕ) → known ≤ i → i < 2 ^ level
-      → lane width new w i ≡ lane width old w i
+  pub values : (word : ℕ) → word < width → (i : ℕ) → i < known
+      → lane width old word i ≡ value level (lane width new word) (index * 2 ^ level + i)
+  pub others : (word : ℕ) → word < width → (i : ℕ) → known ≤ i → i < 2 ^ level
+      → lane width new word i ≡ lane width old word i
 
 -- f was added to each word from `from` on
 pub record WasAdded (f : ℕ → ℕ) (from : ℕ) (old new : List ℕ) : Type 0 where
   pub long : length new ≡ length old
-  pub kept : (p : ℕ) → p < from → word_at new p ≡ word_at old p
-  pub added : (p : ℕ) → from ≤ p → 2 * p + 1 < length old
-      → word_at new p ≡ bit_xor (word_at old p) (f p)
+  pub kept : (place : ℕ) → place < from → word_at new place ≡ word_at old place
+  pub added : (place : ℕ) → from ≤ place → 2 * place + 1 < length old
+      → word_at new place ≡ bit_xor (word_at old place) (f place)
 
--- c times each word of the source
+-- a factor times each word of the source
 abbrev pub scaled : ℕ → List ℕ → ℕ → ℕ
-scaled c source p = times c (word_at source p)
+scaled coefficients source place = times coefficients (word_at source place)

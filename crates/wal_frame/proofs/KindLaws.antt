@@ -74,6 +74,7 @@ module _ {A X : Type 0} (c : Codec IsPlaceBelow A) (parts : A → X) (frame : X 
 
 -- ---- slivers, openings and symbols
 
+-- the codec of a sliver: its target, its size, and its bytes
 abbrev pub sliver : Codec IsPlaceBelow ((Target × ℕ) × List ℕ)
 sliver = both (both target (λ t. number wide32 36 most_bytes (omega arith)) behind_target) (λ x. run x.1 0)
     (λ x fits. omega arith)
@@ -93,6 +94,7 @@ sliver_is =
       rw fits.1,
     )) (omega arith)
 
+-- the codec of an opening: its target, and what it shows
 abbrev pub opened : Codec IsPlaceBelow (Target × single.Opening)
 opened = both target (λ t. opening 36) behind_target
 
@@ -205,6 +207,7 @@ proof_parts : (id : List ℕ) (p : EncodingProof)
 unfolding proof_text
 proof_parts id p = rw (← axis_text p.axis) (simp append_assoc)
 
+-- the codec of a proof: its target, its size, and its openings
 abbrev pub proof : Codec IsPlaceBelow ((Target × ℕ) × List single.Opening)
 proof =
     both (both target (λ t. number wide16 36 1000 (omega arith)) behind_target) (λ x. openings x.1 38)
@@ -257,6 +260,7 @@ proof_behind t os rest size h =
 
 -- ---- identifiers, answers, texts and entries
 
+-- the codec of an identifier
 abbrev pub name : Codec IsPlaceBelow (List ℕ)
 name = run 32 1
 
@@ -266,6 +270,7 @@ pub name_is : (kind : ℕ) (frame : List ℕ → Frame)
 unfolding name_at
 name_is kind frame spells = whole_made name (λ id. id) frame kind spells (omega arith)
 
+-- the codec of an answer: its code and two numbers
 abbrev pub answer : Codec IsPlaceBelow ((ℕ × ℕ) × ℕ)
 answer =
     both (both (byte 1 15 (omega arith)) (λ code. number wide32 2 4294967295 (omega arith)) (λ code le. omega arith))
@@ -282,6 +287,7 @@ answer_is =
       refl,
     )) (omega arith)
 
+-- the codec of two texts with one digest
 abbrev pub clash : Codec IsPlaceBelow (List ℕ × List ℕ)
 clash = both (text 1) (λ left. text (2 + length left)) (λ left most. omega arith)
 
@@ -293,6 +299,7 @@ unfolding clash_at
 clash_is = whole clash 0x31 clash_of (λ x fits. (record { left_most = fits.0; right_most = fits.1 }, refl))
     (omega arith)
 
+-- the codec of a registration: the identifier, and until when
 abbrev pub register : Codec IsPlaceBelow (List ℕ × ℕ)
 register = both (run 32 1) (λ id. number wide32 33 65536 (omega arith)) (λ id len. omega (arith, len))
 
@@ -303,9 +310,11 @@ pub register_is : (bytes : List ℕ) → Outcome (0x40 ∷ bytes) (register_at b
 unfolding register_at
 register_is = whole register 0x40 register_of (λ x fits. (fits, refl)) (omega arith)
 
+-- the number of a shard, and an identifier
 abbrev pub Entry : Type 0
 Entry = ℕ × List ℕ
 
+-- the codec of an entry that a shard makes
 abbrev pub entry : Codec IsPlaceBelow Entry
 entry = both (number wide16 1 999 (omega arith)) (λ shard. run 32 0) (λ shard le. omega arith)
 
@@ -334,6 +343,7 @@ pub faults_same : (place : ℕ) (bytes : List ℕ)
 unfolding faults_at
 faults_same place bytes = refl
 
+-- the codec of f
 abbrev pub faults : ℕ → Codec IsPlaceBelow ℕ
 faults place = named (faults_value place) (faults_at place) (faults_same place)
 

@@ -39,6 +39,7 @@ begins_of bytes e h =
       rest = cc c.1;
     }
 
+-- an envelope takes seven bytes and its payload from a stream
 pub shorter : (bytes : List ℕ) (e : List ℕ × List ℕ) → envelope_at bytes ≡ Some e → length bytes ≡ 7 + length e.0 + length e.1
 shorter bytes e h =
     let b = begins_of bytes e h in

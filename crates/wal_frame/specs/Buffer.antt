@@ -8,4 +8,4 @@ pub record Buffer : Type 0 where
 
 -- the buffer behind which a text was written
 abbrev pub appended : Buffer → List ℕ → Buffer
-appended b text = record { bytes = b.bytes ++ text; spare = b.spare - length text }
+appended buffer text = record { bytes = buffer.bytes ++ text; spare = buffer.spare - length text }

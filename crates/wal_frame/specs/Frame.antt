@@ -52,10 +52,10 @@ pub record IsTarget (id : List ℕ) (index : ℕ) : Type 0 where
   pub index_most : index ≤ 999
 
 -- a code, and two numbers of four bytes
-pub record IsAnswerFrame (code a b : ℕ) : Type 0 where
+pub record IsAnswerFrame (code first second : ℕ) : Type 0 where
   pub code_most : code ≤ 15
-  pub a_fits : a < 2 ^ 32
-  pub b_fits : b < 2 ^ 32
+  pub a_fits : first < 2 ^ 32
+  pub b_fits : second < 2 ^ 32
 
 -- two texts that are no longer than any that a digest is taken of
 pub record AreTexts (left right : List ℕ) : Type 0 where
@@ -64,16 +64,16 @@ pub record AreTexts (left right : List ℕ) : Type 0 where
 
 -- the frames that have a spelling
 abbrev pub IsFrame : Frame → Type 0
-IsFrame (Metadata m) = IsMetadata m
+IsFrame (Metadata metadata) = IsMetadata metadata
 IsFrame (Sliver id axis index bytes) = IsSliver id index bytes
-IsFrame (Opening id axis index o) = IsTarget id index × IsBody o
-IsFrame (Proof id p) = IsId id × IsProof p
+IsFrame (Opening id axis index opening) = IsTarget id index × IsBody opening
+IsFrame (Proof id proof) = IsId id × IsProof proof
 IsFrame (Read id) = IsId id
 IsFrame (Symbol id axis index) = IsTarget id index
 IsFrame (Ack id) = IsId id
 IsFrame (Attest id) = IsId id
 IsFrame (Forget id) = IsId id
-IsFrame (Answer code a b) = IsAnswerFrame code a b
+IsFrame (Answer code first second) = IsAnswerFrame code first second
 IsFrame (Clash left right) = AreTexts left right
 IsFrame (RegisterEntry id until) = IsId id × (until ≤ 65536)
 IsFrame (AckEntry shard id) = IsTarget id shard
@@ -86,7 +86,7 @@ metadata_kind Two = 0x14
 
 -- a frame that carries a metadata
 abbrev pub metadata_frame : BlobMetadata → List ℕ
-metadata_frame m = metadata_kind m.format ∷ metadata_text m
+metadata_frame metadata = metadata_kind metadata.format ∷ metadata_text metadata
 
 -- the blob's identifier, and the axis and index of a sliver
 abbrev pub target_text : List ℕ → Axis → ℕ → List ℕ
@@ -106,16 +106,17 @@ sliver_frame id axis index bytes =
 
 -- the one spelling of a frame
 abbrev pub frame_text : Frame → List ℕ
-frame_text (Metadata m) = metadata_frame m
+frame_text (Metadata metadata) = metadata_frame metadata
 frame_text (Sliver id axis index bytes) = sliver_frame id axis index bytes
-frame_text (Opening id axis index o) = 0x12 ∷ (target_text id axis index ++ body_text o)
-frame_text (Proof id p) = 0x13 ∷ (id ++ proof_text p)
+frame_text (Opening id axis index opening) = 0x12 ∷ (target_text id axis index ++ body_text opening)
+frame_text (Proof id proof) = 0x13 ∷ (id ++ proof_text proof)
 frame_text (Read id) = 0x20 ∷ id
 frame_text (Symbol id axis index) = 0x21 ∷ target_text id axis index
 frame_text (Ack id) = 0x22 ∷ id
 frame_text (Attest id) = 0x23 ∷ id
 frame_text (Forget id) = 0x24 ∷ id
-frame_text (Answer code a b) = 0x30 ∷ (code ∷ [] ++ number_text w32 a ++ number_text w32 b)
+frame_text (Answer code first second) =
+    0x30 ∷ (code ∷ [] ++ number_text w32 first ++ number_text w32 second)
 frame_text (Clash left right) = 0x31 ∷ (length left ∷ left ++ length right ∷ right)
 frame_text (RegisterEntry id until) = 0x40 ∷ (id ++ number_text w32 until)
 frame_text (AckEntry shard id) = 0x41 ∷ (number_text w16 shard ++ id)

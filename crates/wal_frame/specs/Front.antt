@@ -14,12 +14,12 @@ BeginsNone bytes =
 -- no bytes, or a front of an envelope that is not all there
 abbrev pub IsPart : List ℕ → Type 0
 IsPart [] = ⊤
-IsPart (b ∷ bytes) = (b ≡ 0x57) × BeginsNone (b ∷ bytes)
+IsPart (byte ∷ bytes) = (byte ≡ 0x57) × BeginsNone (byte ∷ bytes)
 
 -- a byte that begins no envelope
 abbrev pub IsWrong : List ℕ → Type 0
 IsWrong [] = ⊥
-IsWrong (b ∷ bytes) = b ≡ 0x57 → ⊥
+IsWrong (byte ∷ bytes) = byte ≡ 0x57 → ⊥
 
 -- the bytes begin so
 abbrev pub BeginsWith : Envelope → List ℕ → Type 0
@@ -36,6 +36,7 @@ whole_in Wrong = None
 
 -- it is this whole envelope
 abbrev pub IsWhole : Envelope → ℕ → List ℕ → List ℕ → Type 0
-IsWhole (Whole sender payload rest) s p r = (sender ≡ s) × (payload.now ≡ p) × (rest.now ≡ r)
-IsWhole Part s p r = ⊥
-IsWhole Wrong s p r = ⊥
+IsWhole (Whole sender payload rest) who bytes after =
+    (sender ≡ who) × (payload.now ≡ bytes) × (rest.now ≡ after)
+IsWhole Part who bytes after = ⊥
+IsWhole Wrong who bytes after = ⊥

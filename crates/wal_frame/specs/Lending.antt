@@ -8,28 +8,34 @@ use Rattle.wal_frame.specs.Buffer.{Buffer, appended}
 
 -- bytes that were written to: as many as before
 abbrev pub written : List ℕ → List ℕ → List ℕ
-written old w = take (length old) (w ++ drop (length w) old)
+written old given = take (length old) (given ++ drop (length given) old)
 
 -- bytes whose last ones, from a place on, were written to
 abbrev pub written_from : ℕ → List ℕ → List ℕ → List ℕ
-written_from start old w = written old (take start old ++ (w ++ drop (length w) (drop start old)))
+written_from start old given =
+    written old (take start old ++ (given ++ drop (length given) (drop start old)))
 
 -- a buffer whose last bytes were written to
 abbrev pub written_last : Buffer → ℕ → List ℕ → Buffer
-written_last b size w =
-    record { bytes = written_from (length b.bytes - size) b.bytes w; spare = b.spare }
+written_last buffer size given =
+    record {
+      bytes = written_from (length buffer.bytes - size) buffer.bytes given;
+      spare = buffer.spare;
+    }
 
 -- a buffer with an envelope whose payload is zero bytes
 abbrev pub with_zeros : Buffer → ℕ → ℕ → Buffer
-with_zeros b sender size =
-    appended (appended b (0x57 ∷ (number_text w16 sender ++ number_text w32 size)))
+with_zeros buffer sender size =
+    appended (appended buffer (0x57 ∷ (number_text w16 sender ++ number_text w32 size)))
     (replicate size 0)
 
 -- the last bytes that were written are lent
 abbrev pub LendsTail : MutBor Buffer → ℕ → MutBor (List ℕ) → Fml
-LendsTail s size r = Lends out.the_row (Array u8 0) s r (written_last s.now size)
+LendsTail buffer size room =
+    Lends out.the_row (Array u8 0) buffer room (written_last buffer.now size)
 
 -- the buffer ends with an envelope whose payload is what was written
 abbrev pub LendsPayload : MutBor Buffer → ℕ → ℕ → MutBor (List ℕ) → Fml
-LendsPayload s sender size r =
-    Lends out.the_row (Array u8 0) s r (written_last (with_zeros s.now sender size) size)
+LendsPayload buffer sender size room =
+    Lends out.the_row (Array u8 0) buffer room
+    (written_last (with_zeros buffer.now sender size) size)

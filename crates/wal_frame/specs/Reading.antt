@@ -31,7 +31,7 @@ fault_from start (field.BadField place) = BadField (start + place)
 
 abbrev pub from_place : {A : Type 0} → ℕ → Result A BodyFault → Result A FrameError
 from_place start (Ok x) = Ok x
-from_place start (Err e) = Err (fault_from start e)
+from_place start (Err fault) = Err (fault_from start fault)
 
 -- the fault of a field whose place is counted from the kind is the frame's
 abbrev pub frame_fault : BodyFault → FrameError
@@ -40,11 +40,11 @@ frame_fault (field.BadField place) = BadField place
 
 abbrev pub in_frame : {A : Type 0} → Result A BodyFault → Result A FrameError
 in_frame (Ok x) = Ok x
-in_frame (Err e) = Err (frame_fault e)
+in_frame (Err fault) = Err (frame_fault fault)
 
 -- a number of at most `most`, in a field at this place, and the bytes after it
 abbrev pub field_at : Width → ℕ → ℕ → List ℕ → Result (ℕ × List ℕ) FrameError
-field_at w place most bytes = in_frame (number_at w place most bytes)
+field_at width place most bytes = in_frame (number_at width place most bytes)
 
 -- n bytes, and the bytes after them
 abbrev pub bytes_at : ℕ → List ℕ → Result (List ℕ × List ℕ) FrameError
@@ -193,7 +193,7 @@ entry_at bytes = do
 -- a frame that is made of what was read
 abbrev pub made : {A : Type 0} → (A → Frame) → Result A FrameError → Result Frame FrameError
 made frame (Ok x) = Ok (frame x)
-made frame (Err e) = Err e
+made frame (Err fault) = Err fault
 
 -- the request, answer or entry of this kind, or the first fault
 unfoldable pub request_at : ℕ → List ℕ → Result Frame FrameError
@@ -206,8 +206,8 @@ request_at kind bytes =
     else (if kind == 0x30 then answer_at bytes
     else (if kind == 0x31 then clash_at bytes
     else (if kind == 0x40 then register_at bytes
-    else (if kind == 0x41 then made (λ e. AckEntry e.0 e.1) (entry_at bytes)
-    else (if kind == 0x42 then made (λ e. AttestEntry e.0 e.1) (entry_at bytes)
+    else (if kind == 0x41 then made (λ fault. AckEntry fault.0 fault.1) (entry_at bytes)
+    else (if kind == 0x42 then made (λ fault. AttestEntry fault.0 fault.1) (entry_at bytes)
     else Err BadKind)))))))))
 
 -- the frame of this kind, or the first fault

@@ -10,17 +10,17 @@ use Rattle.wal_frame.specs.Frame.{Frame, Metadata, Sliver, Opening, Proof, Read,
 
 -- the frame that is lent
 abbrev pub frame_shown : FrameRef → Frame
-frame_shown (lent.Metadata m) = Metadata (metadata_shown m)
+frame_shown (lent.Metadata metadata) = Metadata (metadata_shown metadata)
 frame_shown (lent.Sliver id sliver) = Sliver id.0 sliver.axis sliver.index sliver.bytes.now
 frame_shown (lent.Opening id axis index opening) = Opening id.0 axis index (opening_shown opening)
 frame_shown (lent.Proof id body) = Proof id.0 (proof_shown body)
-frame_shown (lent.Metadata2 m) = Metadata (metadata_shown m)
+frame_shown (lent.Metadata2 metadata) = Metadata (metadata_shown metadata)
 frame_shown (lent.Read id) = Read id.0
 frame_shown (lent.Symbol id axis index) = Symbol id.0 axis index
 frame_shown (lent.Ack id) = Ack id.0
 frame_shown (lent.Attest id) = Attest id.0
 frame_shown (lent.Forget id) = Forget id.0
-frame_shown (lent.Answer code a b) = Answer code a b
+frame_shown (lent.Answer code first second) = Answer code first second
 frame_shown (lent.Clash left right) = Clash left.now right.now
 frame_shown (lent.RegisterEntry id until) = RegisterEntry id.0 until
 frame_shown (lent.AckEntry shard id) = AckEntry shard id.0
@@ -28,17 +28,17 @@ frame_shown (lent.AttestEntry shard id) = AttestEntry shard id.0
 
 -- the variant of a metadata is that of its format
 abbrev pub IsLentKind : FrameRef → Type 0
-IsLentKind (lent.Metadata m) = (metadata_shown m).format ≡ One
+IsLentKind (lent.Metadata metadata) = (metadata_shown metadata).format ≡ One
 IsLentKind (lent.Sliver id sliver) = ⊤
 IsLentKind (lent.Opening id axis index opening) = ⊤
 IsLentKind (lent.Proof id body) = ⊤
-IsLentKind (lent.Metadata2 m) = (metadata_shown m).format ≡ Two
+IsLentKind (lent.Metadata2 metadata) = (metadata_shown metadata).format ≡ Two
 IsLentKind (lent.Read id) = ⊤
 IsLentKind (lent.Symbol id axis index) = ⊤
 IsLentKind (lent.Ack id) = ⊤
 IsLentKind (lent.Attest id) = ⊤
 IsLentKind (lent.Forget id) = ⊤
-IsLentKind (lent.Answer code a b) = ⊤
+IsLentKind (lent.Answer code first second) = ⊤
 IsLentKind (lent.Clash left right) = ⊤
 IsLentKind (lent.RegisterEntry id until) = ⊤
 IsLentKind (lent.AckEntry shard id) = ⊤

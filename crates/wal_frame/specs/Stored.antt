@@ -8,14 +8,14 @@ use Rattle.wal_frame.specs.Frame.{Frame, Metadata, Sliver, Proof}
 
 -- the part that a frame carries, if it carries one
 abbrev pub stored_part : Frame → Option Part
-stored_part (Metadata m) = Some parts.Metadata
+stored_part (Metadata metadata) = Some parts.Metadata
 stored_part (Sliver id axis index bytes) = Some (sliver_part axis)
-stored_part (Proof id p) = Some parts.Proof
+stored_part (Proof id proof) = Some parts.Proof
 stored_part _ = None
 
 -- the bytes in which it is stored
 abbrev pub stored_bytes : Frame → List ℕ
-stored_bytes (Metadata m) = metadata_text m
+stored_bytes (Metadata metadata) = metadata_text metadata
 stored_bytes (Sliver id axis index bytes) = bytes
-stored_bytes (Proof id p) = proof_text p
+stored_bytes (Proof id proof) = proof_text proof
 stored_bytes _ = []

@@ -33,13 +33,13 @@ behind payloads n (Err place) = Err (n + place)
 abbrev pub front_of : Option (List ℕ × List ℕ) → (List ℕ → Result (List (List ℕ)) ℕ)
     → Result (List (List ℕ)) ℕ
 front_of None others = Err 0
-front_of (Some e) others = behind (e.0 ∷ []) (7 + length e.0) (others e.1)
+front_of (Some pair) others = behind (pair.0 ∷ []) (7 + length pair.0) (others pair.1)
 
 -- the payloads of a stream of at most n envelopes, or the place where no whole envelope begins
 unfoldable pub payloads_in : ℕ → List ℕ → Result (List (List ℕ)) ℕ
 payloads_in n [] = Ok []
-payloads_in zero (b ∷ bytes) = Err 0
-payloads_in (suc n) (b ∷ bytes) = front_of (envelope_at (b ∷ bytes)) (payloads_in n)
+payloads_in zero (second ∷ bytes) = Err 0
+payloads_in (suc n) (second ∷ bytes) = front_of (envelope_at (second ∷ bytes)) (payloads_in n)
 
 -- the payloads of a stream, or the place where no whole envelope begins
 abbrev pub stream_of : List ℕ → Result (List (List ℕ)) ℕ
@@ -47,8 +47,8 @@ stream_of bytes = payloads_in (length bytes) bytes
 
 -- what is said of the place of a malformed stream
 abbrev pub IfMalformed : SplitError → (ℕ → Type 0) → Type 0
-IfMalformed (Malformed place) p = p place
-IfMalformed Memory p = ⊤
+IfMalformed (Malformed place) IsSaid = IsSaid place
+IfMalformed Memory IsSaid = ⊤
 
 -- what splitting returned is what the stream has, unless memory ran out
 abbrev pub Splits : Result (List (List ℕ)) SplitError → Result (List (List ℕ)) ℕ → Type 0

@@ -58,15 +58,18 @@ found_of from size (read.Collision clash) = Collision clash
 
 -- these bytes as a blob of the metadata
 abbrev pub blob_with : BlobMetadata → List ℕ → CheckedBlob
-blob_with m bytes =
-    record { shape = record { format = m.format; f = m.f; length = m.length }; bytes = bytes }
+blob_with metadata bytes =
+    record {
+      shape = record { format = metadata.format; f = metadata.f; length = metadata.length };
+      bytes = bytes;
+    }
 
 -- what a read with this outcome leaves of the list: the blob enters it, and anything else leaves it
 -- as it was
 abbrev pub Leaves : (List ℕ → List ℕ) → Cache → Get → Outcome → Cache → Type 0
 Leaves digest old get (read.Bytes bytes) new =
-    (m : BlobMetadata) × IsMetadataIn digest get.id.0 get.payloads m
-    × (new ≡ entered old get.id (blob_with m bytes))
+    (metadata : BlobMetadata) × IsMetadataIn digest get.id.0 get.payloads metadata
+    × (new ≡ entered old get.id (blob_with metadata bytes))
 Leaves digest old get read.Reject new = new ≡ old
 Leaves digest old get (read.Short have need) new = new ≡ old
 Leaves digest old get read.NoMetadata new = new ≡ old

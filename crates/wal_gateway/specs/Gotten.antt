@@ -7,19 +7,19 @@ use Rattle.wal_gateway.specs.Getting.{AnswersGet, AnswersAll, Cache, Get}
 
 -- the same is found; the texts of two collisions are not compared
 abbrev pub SameFound : Found → Found → Type 0
-SameFound (Collision a) (Collision b) = Unit {0}
-SameFound a b = a ≡ b
+SameFound (Collision one) (Collision other) = Unit {0}
+SameFound one other = one ≡ other
 
 -- both are hits or both are misses, and the same is found
 abbrev pub SameGetAnswer : GetAnswer → GetAnswer → Type 0
-SameGetAnswer a b = (a.hit ≡ b.hit) × SameFound a.found b.found
+SameGetAnswer one other = (one.hit ≡ other.hit) × SameFound one.found other.found
 
 -- as many answers, each the same
 abbrev pub SameAnswers : List GetAnswer → List GetAnswer → Type 0
 SameAnswers [] [] = Unit {0}
-SameAnswers (a ∷ more) (b ∷ others) = SameGetAnswer a b × SameAnswers more others
-SameAnswers [] (b ∷ others) = ⊥
-SameAnswers (a ∷ more) [] = ⊥
+SameAnswers (one ∷ more) (other ∷ others) = SameGetAnswer one other × SameAnswers more others
+SameAnswers [] (answer ∷ others) = ⊥
+SameAnswers (answer ∷ more) [] = ⊥
 
 -- a get has no other answer, and leaves no other list
 abbrev pub IsOnlyAnswer : (List ℕ → List ℕ) → Cache → Get → GetAnswer → Cache → Type 0

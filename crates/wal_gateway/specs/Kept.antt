@@ -35,19 +35,19 @@ pub record IsSoundCache (digest : List ℕ → List ℕ) (cache : Cache) : Type 
 
 -- evidence for an identifier in the list that does not lead to the bytes of the blob there
 pub record ContradictsKept (digest : List ℕ → List ℕ)
-    (cache : Cache) (id : BlobId) (e : Evidence) : Type 0 where
+    (cache : Cache) (id : BlobId) (shown : Evidence) : Type 0 where
   pub blob : CheckedBlob
   pub kept : kept_blob cache id ≡ Some blob
-  pub evidence : IsEvidence digest id.0 e
-  pub other : IsJudgedBy digest e.metadata e.basis (Bytes blob.bytes) → ⊥
+  pub evidence : IsEvidence digest id.0 shown
+  pub other : IsJudgedBy digest shown.metadata shown.basis (Bytes blob.bytes) → ⊥
 
 -- left and right are the texts that the blob in the list under this identifier and the evidence
 -- lead to
 abbrev pub AreDigestedForKept : (List ℕ → List ℕ) → Cache → BlobId → Evidence → List ℕ → List ℕ
     → Type 0
-AreDigestedForKept digest cache id e left right =
+AreDigestedForKept digest cache id shown left right =
     (blob : CheckedBlob) × (kept_blob cache id ≡ Some blob)
-    × AreDigestedForEvidence digest blob.shape blob.bytes e left right
+    × AreDigestedForEvidence digest blob.shape blob.bytes shown left right
 
 -- what is found is what a read of the payloads alone finds, where that is a verdict; or the read's
 -- evidence contradicts the blob in the list
@@ -55,4 +55,5 @@ abbrev pub IsFreshOrContrary : (List ℕ → List ℕ) → Cache → Get → Get
 IsFreshOrContrary digest cache get answer =
     (fresh : ReadAnswer) → IsAnswer digest get.id.0 get.payloads fresh → IsVerdict fresh.outcome →
     (answer.found ≡ found_of get.from get.size fresh.outcome)
-    ⊎ ((e : Evidence) × (fresh.evidence ≡ Some e) × ContradictsKept digest cache get.id e)
+    ⊎ ((shown : Evidence) × (fresh.evidence ≡ Some shown)
+    × ContradictsKept digest cache get.id shown)

@@ -26,13 +26,13 @@ request_of payload = cond (is_request payload) (Some (request_at payload)) None
 
 -- the get that a request is after these replies
 abbrev pub get_of : List (List ℕ) → Request → Get
-get_of replies r = asked r.id r.from r.size replies
+get_of replies request = asked request.id request.from request.size replies
 
 -- the gets of payloads, where these replies came before
 abbrev pub gets_in : List (List ℕ) → List (List ℕ) → List Get
 gets_in replies [] = []
 gets_in replies (payload ∷ payloads) =
-    option_map_or (λ r. get_of replies r ∷ gets_in [] payloads)
+    option_map_or (λ request. get_of replies request ∷ gets_in [] payloads)
     (request_of payload) (gets_in (replies ++ payload ∷ []) payloads)
 
 -- an empty list that takes so many blobs

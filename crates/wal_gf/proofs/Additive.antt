@@ -1,6 +1,7 @@
 -- Functions that keep sums of polynomials over GF(2). On polynomials of degree below n such a function is known by its values at the powers of x below the n-th.
 use Rattle.wal_gf.proofs.Common.{◌≡◌, ℕ, zero, suc, ◌+◌, ◌*◌, ◌/◌, ◌%◌, ◌^◌, ◌<◌, Bool, cond, T, bit_xor, sym, ap, ap₂, ◌∙◌, arith, zero-mul, one-mul, add-zero, zero-add, mul_comm, mod-lt, div-lt_iff_lt-mul, div-add-mod', pow_pos, pow-suc, eq-or-lt_of_le, ⊎_elim, true, false, eqb, eqb→eq, bit_at, xor_assoc, xor_self, xor_zero_l, xor_zero_r, xor_comm, xor_block, bit_at_xor, bit_at-lt, xor_below}
 
+-- a function of sums is the sum of its values
 abbrev pub IsAdditive : (ℕ → ℕ) → Type 0
 IsAdditive f = (a b : ℕ) → f (bit_xor a b) ≡ bit_xor (f a) (f b)
 

@@ -17,6 +17,7 @@ quotient-xor (suc n) a b =
 
 -- ---- the quotient times the modulus, and the remainder, are what was divided
 
+-- quotient times modulus, and the remainder, give back what was divided
 pub divided : (p : ℕ) → p < 2 ^ 32 → bit_xor (product 16 (quotient 16 p) modulus) (remainder 16 p) ≡ p
 unfolding all_below quotient product xor_below remainder cancel
 divided =
@@ -58,6 +59,7 @@ pub remainder_unique : (q r : ℕ) → q < 65536 → r < 65536 → remainder 16 
 remainder_unique q r low low' =
     rw (remainder-xor 16 (product 16 q modulus) r, multiple-left q low, word-left r low') (xor_zero_l r)
 
+-- `remainder` is division with remainder
 pub divides : DividesWithRemainder
 divides p low = (
   (remainder-lt p low, (quotient 16 p, quotient-lt p low, divided p low)),

@@ -10,6 +10,7 @@ others_apart n [] low lows apart = tt
 others_apart n (m ∷ ms) low lows apart =
     (λ e. apart.0 (sym (element_of-word n low) ∙ ap (λ (s : Element). s.0) e ∙ element_of-word m lows.0), others_apart n ms low lows.1 apart.1)
 
+-- words that differ in pairs differ in pairs as elements of the field
 pub apart : (ns : List ℕ) → AllByRecursion IsWord ns → AllPairs (λ r s. r ≢ s) ns → Apart (elements_of ns)
 unfolding Apart
 apart [] lows pairs = tt

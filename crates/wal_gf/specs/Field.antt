@@ -22,14 +22,15 @@ xor_below (suc n) f = bit_xor (xor_below n f) (f n)
 unfoldable pub product : ℕ → ℕ → ℕ → ℕ
 product n a b = xor_below n (λ i. bit_at a i * (2 ^ i * b))
 
--- p without its term of degree 16 + i: where that is there, x^i times the modulus is taken from p
+-- a polynomial without its term of degree 16 + i: if that is there, x^i times the modulus is taken
+-- from it
 unfoldable pub cancel : ℕ → ℕ → ℕ
-cancel i p = bit_xor p (bit_at p (16 + i) * (2 ^ i * modulus))
+cancel i bits = bit_xor bits (bit_at bits (16 + i) * (2 ^ i * modulus))
 
 -- what is left of a polynomial of degree below 16 + n, when it is divided by the modulus
 unfoldable pub remainder : ℕ → ℕ → ℕ
-remainder zero p = p
-remainder (suc n) p = remainder n (cancel n p)
+remainder zero bits = bits
+remainder (suc n) bits = remainder n (cancel n bits)
 
 -- the product of two elements
 unfoldable pub times : ℕ → ℕ → ℕ

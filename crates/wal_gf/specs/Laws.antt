@@ -39,15 +39,21 @@ HasInverses inverse_of =
 abbrev pub HasFewRoots : Type 0
 HasFewRoots =
     (coefficients roots : List ℕ) → All IsWord coefficients → All IsWord roots
-    → AllPairs (λ r s. r ≢ s) roots
-    → All (λ r. evaluate coefficients r ≡ 0) roots → length coefficients ≤ length roots
+    → AllPairs (λ root other. root ≢ other) roots
+    → All (λ root. evaluate coefficients root ≡ 0) roots
+    → length coefficients ≤ length roots
     → All (λ c. c ≡ 0) coefficients
 
--- r is left where p is divided by the modulus: p is q times the modulus, and r, for some q
+-- the rest that is left if the whole is divided by the modulus: the whole is some quotient times
+-- the modulus, and the rest
 abbrev pub IsLeft : ℕ → ℕ → Type 0
-IsLeft p r = IsWord r × ((q : ℕ) × IsWord q × (bit_xor (product 16 q modulus) r ≡ p))
+IsLeft whole rest =
+    IsWord rest
+    × ((quotient : ℕ) × IsWord quotient × (bit_xor (product 16 quotient modulus) rest ≡ whole))
 
 -- `remainder` is division with remainder: what it gives is left, and nothing else is
 abbrev pub DividesWithRemainder : Type 0
 DividesWithRemainder =
-    (p : ℕ) → p < 2 ^ 32 → IsLeft p (remainder 16 p) × ((r : ℕ) → IsLeft p r → r ≡ remainder 16 p)
+    (whole : ℕ) → whole < 2 ^ 32
+    → IsLeft whole (remainder 16 whole)
+    × ((rest : ℕ) → IsLeft whole rest → rest ≡ remainder 16 whole)

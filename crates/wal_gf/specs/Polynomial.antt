@@ -5,4 +5,4 @@ use Rattle.wal_gf.specs.Field.{times}
 -- the value at x of the polynomial with these coefficients
 unfoldable pub evaluate : List ℕ → ℕ → ℕ
 evaluate [] x = 0
-evaluate (c ∷ cs) x = bit_xor c (times x (evaluate cs x))
+evaluate (constant ∷ higher) x = bit_xor constant (times x (evaluate higher x))

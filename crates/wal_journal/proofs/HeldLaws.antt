@@ -78,6 +78,7 @@ put_held contents h id part (Put id' part' bytes) kind own number has lawful =
     cc (lawful.0, same, part_once part' part (sym has.part ∙ number))
 put_held contents h id part c kind own number has lawful = absurd (omega (arith, kind, has.kind))
 
+-- a record that puts a part which is held already is bad
 pub unlawful : (contents : Contents) (bytes : List ℕ) (h : Head) (id : BlobId) (part : Part) → take 38 bytes ≡ head_text h → length h.id.0 ≡ 32 → h.size < 2 ^ 32 → h.kind ≡ 1 → h.id ≡ id → h.part ≡ part_byte part
     → (part_at contents id part ≡ None → ⊥) → IsBad contents bytes
 unlawful contents bytes h id part shown long small kind own number held c next more whole lawful is =

@@ -9,8 +9,8 @@ pub record LeavesOnly {D : Type 0} (clock : D → ℕ) (since : D → ℕ → Li
   pub later : clock old ≤ clock new
   pub each : (image : List ℕ) → since new (clock old) image → P image
   -- for what began earlier
-  pub before : (t : ℕ) (image : List ℕ) → t ≤ clock old → since new t image
-      → since old t image ⊎ P image
+  pub before : (time : ℕ) (image : List ℕ) → time ≤ clock old → since new time image
+      → since old time image ⊎ P image
 
 -- an image accepts these changes, and perhaps more after them
 abbrev pub GoesOnAfter : List Call → List ℕ → Type 0

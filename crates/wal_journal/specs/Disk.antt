@@ -15,15 +15,15 @@ pub record Agrees (ranges : List (ℕ × ℕ)) (bytes image : List ℕ) : Type 0
 abbrev pub put_at : ℕ → List ℕ → List ℕ → List ℕ
 put_at at bytes old = take at old ++ bytes ++ drop (at + length bytes) old
 
--- Time goes on over a call: a crash since t may have left what it may have left before the call, or
--- what it may leave after it. A crash within the call leaves what it may leave after it, at a
--- moment that has the clock from before.
+-- Time goes on over a call: a crash since this time may have left what it may have left before the
+-- call, or what it may leave after it. A crash within the call leaves what it may leave after it,
+-- at a moment that has the clock from before.
 pub record Elapses (before after : ℕ) (past since : ℕ → List ℕ → Type 0)
     (may_leave : List ℕ → Type 0) : Type 0 where
   pub later : before ≤ after
-  pub nothing_else : (t : ℕ) (image : List ℕ) → since t image
-      → ((t ≤ before) × past t image) ⊎ ((t ≤ after) × may_leave image)
-  pub keeps : (t : ℕ) (image : List ℕ) → t ≤ before → past t image → since t image
+  pub nothing_else : (time : ℕ) (image : List ℕ) → since time image
+      → ((time ≤ before) × past time image) ⊎ ((time ≤ after) × may_leave image)
+  pub keeps : (time : ℕ) (image : List ℕ) → time ≤ before → past time image → since time image
 
 -- what a write of n bytes does to what is pending, the newest first: one that fails adds its range,
 -- or changes nothing

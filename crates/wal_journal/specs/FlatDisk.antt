@@ -4,4 +4,4 @@ use Rattle.wal_journal.specs.declared.flat_disk.FlatDisk.{FlatDisk}
 
 -- the bytes that a read gives
 abbrev pub flat_bytes : FlatDisk → List ℕ
-flat_bytes d = d.bytes.items
+flat_bytes disk = disk.bytes.items

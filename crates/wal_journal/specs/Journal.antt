@@ -16,35 +16,40 @@ use Rattle.wal_journal.specs.Disk.{Agrees}
 use Rattle.wal_journal.specs.Reading.{HadRoomForPuts}
 
 -- the disk of a journal
-abbrev pub disk_of : {D K : Type 0} {d : _} {k : _} → Journal D K d k → D
+abbrev pub disk_of : {D K : Type 0} {disk_ghosts : _} {keep_ghosts : _}
+    → Journal D K disk_ghosts keep_ghosts → D
 disk_of journal = journal.disk
 
 -- the keep of a journal, which holds what the changes on its disk make
-abbrev pub keep_of : {D K : Type 0} {d : _} {k : _} → Journal D K d k → K
+abbrev pub keep_of : {D K : Type 0} {disk_ghosts : _} {keep_ghosts : _}
+    → Journal D K disk_ghosts keep_ghosts → K
 keep_of journal = journal.keep
 
 -- where the closed gate stands
-abbrev pub tail_of : {D K : Type 0} {d : _} {k : _} → Journal D K d k → ℕ
+abbrev pub tail_of : {D K : Type 0} {disk_ghosts : _} {keep_ghosts : _}
+    → Journal D K disk_ghosts keep_ghosts → ℕ
 tail_of journal = journal.tail
 
 -- the disk after a change, however it ended
-abbrev pub disk_after : {D K : Type 0} {d : _} {k : _}
-    → Result (Journal D K d k) (ChangeRefusal D K d k) → D
+abbrev pub disk_after : {D K : Type 0} {disk_ghosts : _} {keep_ghosts : _}
+    → Result (Journal D K disk_ghosts keep_ghosts) (ChangeRefusal D K disk_ghosts keep_ghosts) → D
 disk_after (Ok journal) = journal.disk
 disk_after (Err (Kept journal why)) = journal.disk
 disk_after (Err (Stopped disk keep)) = disk
 
 -- a change was refused, since its record does not fit on the disk
-abbrev pub IsDiskFull : {D K : Type 0} {d : _} {k : _}
-    → Result (Journal D K d k) (ChangeRefusal D K d k) → Type 0
+abbrev pub IsDiskFull : {D K : Type 0} {disk_ghosts : _} {keep_ghosts : _}
+    → Result (Journal D K disk_ghosts keep_ghosts) (ChangeRefusal D K disk_ghosts keep_ghosts)
+    → Type 0
 IsDiskFull (Ok journal) = ⊥
 IsDiskFull (Err (Kept journal (DiskFull needed free))) = ⊤
 IsDiskFull (Err (Kept journal other)) = ⊥
 IsDiskFull (Err (Stopped disk keep)) = ⊥
 
 -- a change was not refused: it was made, or the disk failed while it was
-abbrev pub IsTried : {D K : Type 0} {d : _} {k : _}
-    → Result (Journal D K d k) (ChangeRefusal D K d k) → Type 0
+abbrev pub IsTried : {D K : Type 0} {disk_ghosts : _} {keep_ghosts : _}
+    → Result (Journal D K disk_ghosts keep_ghosts) (ChangeRefusal D K disk_ghosts keep_ghosts)
+    → Type 0
 IsTried (Ok journal) = ⊤
 IsTried (Err (Kept journal why)) = ⊥
 IsTried (Err (Stopped disk keep)) = ⊤
@@ -52,8 +57,9 @@ IsTried (Err (Stopped disk keep)) = ⊤
 -- a change in flight has not happened, or it has, and a keep of this limit that held this had room
 -- for it
 abbrev pub FitsEitherWay : Option ℕ → Contents → List Call → Call → List ℕ → Type 0
-FitsEitherWay limit held changes c image =
-    Accepts image changes ⊎ (HadRoomForPuts limit held (c ∷ []) × Accepts image (changes ++ c ∷ []))
+FitsEitherWay limit held changes call image =
+    Accepts image changes
+    ⊎ (HadRoomForPuts limit held (call ∷ []) × Accepts image (changes ++ call ∷ []))
 
 -- why a put is refused: more bytes are needed than are free on the disk; or, where there are as
 -- many, as the keep answers
@@ -74,14 +80,14 @@ IsDropWhy len tail other = ⊥
 -- the bytes that the records of changes take on a disk, with the gate behind them
 abbrev pub span : List Call → ℕ
 span [] = 0
-span (c ∷ changes) = length (records (c ∷ changes)) + 1
+span (call ∷ changes) = length (records (call ∷ changes)) + 1
 
 -- More changes were made: they are accepted behind the others, the keep had room for them and holds
 -- what they make, and a closed gate of value 0 stands behind the records that were written, and no
 -- other byte is.
-pub record Takes {D K : Type 0} {d : _} {k : _} (now : D → List ℕ)
-    (contents : K → Contents) (most : K → Option ℕ) (old : Journal D K d k)
-    (more : List Call) (new : Journal D K d k) : Type 0 where
+pub record Takes {D K : Type 0} {disk_ghosts : _} {keep_ghosts : _} (now : D → List ℕ)
+    (contents : K → Contents) (most : K → Option ℕ) (old : Journal D K disk_ghosts keep_ghosts)
+    (more : List Call) (new : Journal D K disk_ghosts keep_ghosts) : Type 0 where
   pub accepts : (changes : List Call) → Accepts (now old.disk) changes
       → Accepts (now new.disk) (changes ++ more)
   pub room : HadRoomForPuts (most old.keep) (contents old.keep) more
@@ -95,8 +101,10 @@ pub record Takes {D K : Type 0} {d : _} {k : _} (now : D → List ℕ)
 
 -- The disk failed: no more bytes may have changed than the records take, the bytes stand for what a
 -- crash may leave, and the keep holds what the changes make already.
-pub record Stops {D K : Type 0} {d : _} {k : _} (now : D → List ℕ) (faults : D → ℕ)
-    (contents : K → Contents) (most : K → Option ℕ) (old : Journal D K d k) (more : List Call)
+pub record Stops {D K : Type 0} {disk_ghosts : _}
+    {keep_ghosts : _} (now : D → List ℕ) (faults : D → ℕ)
+    (contents : K → Contents) (most : K → Option ℕ)
+    (old : Journal D K disk_ghosts keep_ghosts) (more : List Call)
     (Leaves : List Call → List ℕ → Type 0) (disk : D) (keep : K) : Type 0 where
   pub rose : Rose (faults old.disk) (faults disk)
   pub only : Agrees ((old.tail, span more) ∷ []) (now old.disk) (now disk)
@@ -106,15 +114,17 @@ pub record Stops {D K : Type 0} {d : _} {k : _} (now : D → List ℕ) (faults :
 
 -- How a change ends: it is made; or the journal is as before, for such a reason; or the disk
 -- failed.
-abbrev pub EndsChange : {D K : Type 0} {d : _} {k : _} → (D → List ℕ) → (D → ℕ) → (K → Contents)
-    → (K → Option ℕ) → (Why → Type 0) → Call → Journal D K d k
-    → Result (Journal D K d k) (ChangeRefusal D K d k) → Type 0
-EndsChange now faults contents limit is_why c old (Ok journal) =
-    Takes now contents limit old (c ∷ []) journal
-EndsChange now faults contents limit is_why c old (Err (Kept journal why)) =
+abbrev pub EndsChange : {D K : Type 0} {disk_ghosts : _} {keep_ghosts : _} → (D → List ℕ) → (D → ℕ)
+    → (K → Contents)
+    → (K → Option ℕ) → (Why → Type 0) → Call → Journal D K disk_ghosts keep_ghosts
+    → Result (Journal D K disk_ghosts keep_ghosts) (ChangeRefusal D K disk_ghosts keep_ghosts)
+    → Type 0
+EndsChange now faults contents limit is_why call old (Ok journal) =
+    Takes now contents limit old (call ∷ []) journal
+EndsChange now faults contents limit is_why call old (Err (Kept journal why)) =
     (journal.disk ≡ old.disk) × (journal.tail ≡ old.tail)
     × (contents journal.keep ≡ contents old.keep) × (limit journal.keep ≡ limit old.keep)
     × is_why why
-EndsChange now faults contents limit is_why c old (Err (Stopped disk keep)) =
-    Stops now faults contents limit old (c ∷ [])
-    (λ changes. FitsEitherWay (limit old.keep) (contents old.keep) changes c) disk keep
+EndsChange now faults contents limit is_why call old (Err (Stopped disk keep)) =
+    Stops now faults contents limit old (call ∷ [])
+    (λ changes. FitsEitherWay (limit old.keep) (contents old.keep) changes call) disk keep

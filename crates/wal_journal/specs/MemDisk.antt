@@ -13,23 +13,23 @@ most_past = most_bytes
 
 -- the bytes that a read gives
 abbrev pub disk_bytes : MemDisk → List ℕ
-disk_bytes d = d.bytes.items
+disk_bytes disk = disk.bytes.items
 
 -- the numbers of the calls that fail
 abbrev pub disk_fails : MemDisk → List ℕ
-disk_fails d = d.plan.fails.items
+disk_fails disk = disk.plan.fails.items
 
 -- the number of the last call that may succeed
 abbrev pub disk_most : MemDisk → ℕ
-disk_most d = d.plan.most
+disk_most disk = disk.plan.most
 
 -- how many calls there were, up to 2 ^ 64 - 1
 abbrev pub disk_calls : MemDisk → ℕ
-disk_calls d = d.plan.calls
+disk_calls disk = disk.plan.calls
 
 -- how many of them failed, up to 2 ^ 64 - 1
 abbrev pub disk_faults : MemDisk → ℕ
-disk_faults d = d.plan.faults
+disk_faults disk = disk.plan.faults
 
 -- the ranges that are pending after more steps, the newest first
 abbrev pub pending_after : List (ℕ × ℕ) → List Step → List (ℕ × ℕ)
@@ -39,33 +39,33 @@ pending_after pending (Synced ∷ steps) = pending_after [] steps
 
 -- the ranges that are pending now
 abbrev pub disk_pending : MemDisk → List (ℕ × ℕ)
-disk_pending d = pending_after [] d.steps.items
+disk_pending disk = pending_after [] disk.steps.items
 
 -- how many steps there were that wrote or synced
 abbrev pub disk_clock : MemDisk → ℕ
-disk_clock d = length d.steps.items
+disk_clock disk = length disk.steps.items
 
 -- the n bytes that stood before step k
 abbrev pub kept_at : ℕ → List ℕ → ℕ → List ℕ
 kept_at n past k = take n (drop (k * n) past)
 
--- what a crash since t may have left: what it may leave now, or what it might have left before a
--- step from t on
+-- what a crash since this time may have left: what it may leave now, or what it might have left
+-- before a step from then on
 abbrev pub LeftSince : List Step → List ℕ → List ℕ → ℕ → List ℕ → Type 0
-LeftSince steps past bytes t image =
-    ((t ≤ length steps) × Agrees (pending_after [] steps) bytes image)
-    ⊎ ((k : ℕ) × (t ≤ k) × (k < length steps)
+LeftSince steps past bytes time image =
+    ((time ≤ length steps) × Agrees (pending_after [] steps) bytes image)
+    ⊎ ((k : ℕ) × (time ≤ k) × (k < length steps)
     × Agrees (pending_after [] (take k steps)) (kept_at (length bytes) past k) image)
 
 -- what a crash since this moment may have left of a disk in memory
 abbrev pub disk_since : MemDisk → ℕ → List ℕ → Type 0
-disk_since d = LeftSince d.steps.items d.past.items d.bytes.items
+disk_since disk = LeftSince disk.steps.items disk.past.items disk.bytes.items
 
 -- what might have been left since later might have been left since before
-pub since_earlier : (steps : List Step) (past bytes : List ℕ) (image : List ℕ) (t later : ℕ)
-    → t ≤ later → LeftSince steps past bytes later image → LeftSince steps past bytes t image
-since_earlier steps past bytes image t later le (inl now) = inl (omega (arith, le, now.0), now.1)
-since_earlier steps past bytes image t later le (inr before) =
+pub since_earlier : (steps : List Step) (past bytes : List ℕ) (image : List ℕ) (time later : ℕ)
+    → time ≤ later → LeftSince steps past bytes later image → LeftSince steps past bytes time image
+since_earlier steps past bytes image time later le (inl now) = inl (omega (arith, le, now.0), now.1)
+since_earlier steps past bytes image time later le (inr before) =
     inr (before.0, omega (arith, le, before.1), before.2, before.3)
 
 -- since now, there is what may be left now

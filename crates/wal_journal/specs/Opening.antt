@@ -6,20 +6,23 @@ use Rattle.wal_journal.specs.declared.open.OpenRefusal.{OpenRefusal}
 use Rattle.wal_journal.specs.Reading.{Opens}
 
 -- the disk after the opening, however it ended
-abbrev pub opened_disk : {D K : Type 0} {d : _} {k : _} → Result (Journal D K d k) (OpenRefusal D K)
+abbrev pub opened_disk : {D K : Type 0} {disk_ghosts : _} {keep_ghosts : _}
+    → Result (Journal D K disk_ghosts keep_ghosts) (OpenRefusal D K)
     → D
 opened_disk (Ok journal) = journal.disk
 opened_disk (Err refusal) = refusal.disk
 
 -- the keep that an opening hands back, in the journal or beside the refusal
-abbrev pub opened_keep : {D K : Type 0} {d : _} {k : _} → Result (Journal D K d k) (OpenRefusal D K)
+abbrev pub opened_keep : {D K : Type 0} {disk_ghosts : _} {keep_ghosts : _}
+    → Result (Journal D K disk_ghosts keep_ghosts) (OpenRefusal D K)
     → K
 opened_keep (Ok journal) = journal.keep
 opened_keep (Err refusal) = refusal.keep
 
 -- what was read of these bytes, and why no more
-abbrev pub IsOpening : {D K : Type 0} {d : _} {k : _} → Option ℕ → Bool → (K → Contents) → List ℕ
-    → Result (Journal D K d k) (OpenRefusal D K) → Type 0
+abbrev pub IsOpening : {D K : Type 0} {disk_ghosts : _} {keep_ghosts : _} → Option ℕ → Bool
+    → (K → Contents) → List ℕ
+    → Result (Journal D K disk_ghosts keep_ghosts) (OpenRefusal D K) → Type 0
 IsOpening limit may_want contents bytes (Ok journal) =
     Opens limit may_want bytes (contents journal.keep) (Ok journal.tail)
 IsOpening limit may_want contents bytes (Err refusal) =

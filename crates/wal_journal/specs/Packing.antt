@@ -25,9 +25,9 @@ use Rattle.wal_journal.specs.Journal.{IsPutWhy, span, Takes}
 -- the identifier under which a frame's part is put: that which a metadata commits, or the one that
 -- is named
 abbrev pub carried_id : (List ℕ → List ℕ) → Frame → BlobId
-carried_id digest (Metadata m) = record { 0 = identifier_of digest m }
+carried_id digest (Metadata metadata) = record { 0 = identifier_of digest metadata }
 carried_id digest (Sliver id axis index bytes) = record { 0 = id }
-carried_id digest (Proof id p) = record { 0 = id }
+carried_id digest (Proof id proof) = record { 0 = id }
 carried_id digest _ = record { 0 = [] }
 
 -- the put of the part that a frame carries, if it carries one
@@ -38,7 +38,7 @@ put_of digest frame =
 -- the same of a payload, which may be no frame
 abbrev pub put_in : (List ℕ → List ℕ) → Result Frame FrameError → Option Call
 put_in digest (Ok frame) = put_of digest frame
-put_in digest (Err e) = None
+put_in digest (Err fault) = None
 
 -- whether a change is lawful: a part that is put is not held, and has from 1 byte to as many as a
 -- blob may have
@@ -50,8 +50,8 @@ is_lawful held (DropId id) = true
 -- a change, unless there is none or it is not lawful, and those that follow on what is held then
 abbrev pub and_more : Contents → Option Call → (Contents → List Call) → List Call
 and_more held None others = others held
-and_more held (Some c) others =
-    if is_lawful held c then c ∷ others (after_call held c) else others held
+and_more held (Some call) others =
+    if is_lawful held call then call ∷ others (after_call held call) else others held
 
 -- THE PUTS OF PAYLOADS, in order: of each part that one carries, unless such a part is held then,
 -- or no keep takes its bytes
@@ -68,9 +68,10 @@ AcceptsFront limit held changes puts image =
     × HadRoomForPuts limit held first × Accepts image (changes ++ first)
 
 -- the puts before the first one that is refused were made, and that one is refused for this reason
-pub record Refuses {D K : Type 0} {d : _} {k : _} (now : D → List ℕ)
-    (contents : K → Contents) (most : K → Option ℕ) (may_want : Bool) (old : Journal D K d k)
-    (puts : List Call) (new : Journal D K d k) (why : Why) : Type 0 where
+pub record Refuses {D K : Type 0} {disk_ghosts : _} {keep_ghosts : _} (now : D → List ℕ)
+    (contents : K → Contents) (most : K → Option ℕ)
+    (may_want : Bool) (old : Journal D K disk_ghosts keep_ghosts)
+    (puts : List Call) (new : Journal D K disk_ghosts keep_ghosts) (why : Why) : Type 0 where
   pub first : List Call
   pub id : BlobId
   pub part : Part
@@ -85,9 +86,10 @@ pub record Refuses {D K : Type 0} {d : _} {k : _} (now : D → List ℕ)
 -- The disk failed while one of the puts was made: those before it are made, and each crash leaves
 -- an image that goes on after them; it fits on the disk, the keep had room for it and holds it, and
 -- it may be made or not. No more bytes may have changed than their records take.
-pub record StopsIn {D K : Type 0} {d : _} {k : _} (now : D → List ℕ) (faults : D → ℕ)
+pub record StopsIn {D K : Type 0} {disk_ghosts : _}
+    {keep_ghosts : _} (now : D → List ℕ) (faults : D → ℕ)
     (tells : Bool) (clock : D → ℕ) (since : D → ℕ → List ℕ → Type 0)
-    (contents : K → Contents) (most : K → Option ℕ) (old : Journal D K d k)
+    (contents : K → Contents) (most : K → Option ℕ) (old : Journal D K disk_ghosts keep_ghosts)
     (puts : List Call) (disk : D) (keep : K) : Type 0 where
   pub first : List Call
   pub change : Call
@@ -106,9 +108,13 @@ pub record StopsIn {D K : Type 0} {d : _} {k : _} (now : D → List ℕ) (faults
 
 -- How packing ends: all puts are made; or those before the first that is refused; or the disk
 -- failed in one of them.
-abbrev pub Packs : {D K : Type 0} {d : _} {k : _} → (D → List ℕ) → (D → ℕ) → Bool → (D → ℕ)
-    → (D → ℕ → List ℕ → Type 0) → (K → Contents) → (K → Option ℕ) → Bool → Journal D K d k
-    → List Call → Result (Journal D K d k) (ChangeRefusal D K d k) → Type 0
+abbrev pub Packs : {D K : Type 0} {disk_ghosts : _} {keep_ghosts : _} → (D → List ℕ) → (D → ℕ)
+    → Bool → (D → ℕ)
+    → (D → ℕ → List ℕ → Type 0) → (K → Contents) → (K → Option ℕ) → Bool
+    → Journal D K disk_ghosts keep_ghosts
+    → List Call
+    → Result (Journal D K disk_ghosts keep_ghosts) (ChangeRefusal D K disk_ghosts keep_ghosts)
+    → Type 0
 Packs now faults tells clock since contents limit may_want old puts (Ok journal) =
     Takes now contents limit old puts journal
 Packs now faults tells clock since contents limit may_want old puts (Err (Kept journal why)) =

@@ -23,8 +23,8 @@ pub record ReadTo (now : List ℕ) (tail : ℕ)
 -- no lawful change, with a byte behind it, is spelled here
 abbrev pub IsBad : Contents → List ℕ → Type 0
 IsBad contents bytes =
-    (c : Call) (next : ℕ) (more : List ℕ) → IsWholeRecord c → IsLawfulCall contents c
-    → bytes ≡ spelling c ++ next ∷ more → ⊥
+    (call : Call) (next : ℕ) (more : List ℕ) → IsWholeRecord call → IsLawfulCall contents call
+    → bytes ≡ spelling call ++ next ∷ more → ⊥
 
 -- a lawful put that the keep has no room for, whose record begins here, with a byte behind it
 pub record IsFull (limit : Option ℕ) (may_want : Bool)

@@ -36,7 +36,7 @@ fields_text f = f.kind ∷ (f.id ++ (f.part ∷ (size_text (length f.bytes) ++ f
 
 -- a record without its gate
 abbrev pub spelling : Call → List ℕ
-spelling c = fields_text (fields c)
+spelling call = fields_text (fields call)
 
 -- an identifier of 32 bytes, and for a put from 1 byte to as many as a blob may have
 abbrev pub IsWholeRecord : Call → Type 0
@@ -47,12 +47,12 @@ IsWholeRecord (DropId id) = length id.0 ≡ 32
 
 abbrev pub AreWholeRecords : List Call → Type 0
 AreWholeRecords [] = ⊤
-AreWholeRecords (c ∷ changes) = IsWholeRecord c × AreWholeRecords changes
+AreWholeRecords (call ∷ changes) = IsWholeRecord call × AreWholeRecords changes
 
 -- the records of changes, each behind a gate that is open
 abbrev pub records : List Call → List ℕ
 records [] = []
-records (c ∷ changes) = 1 ∷ (spelling c ++ records changes)
+records (call ∷ changes) = 1 ∷ (spelling call ++ records changes)
 
 -- an image begins with the records of the changes in order, and a byte other than 1 follows
 pub record Stands (image : List ℕ) (changes : List Call) : Type 0 where
@@ -69,7 +69,7 @@ pub record Accepts (image : List ℕ) (changes : List Call) : Type 0 where
 
 -- a change in flight has happened, or it has not
 abbrev pub EitherWay : List Call → Call → List ℕ → Type 0
-EitherWay changes c image = Accepts image changes ⊎ Accepts image (changes ++ c ∷ [])
+EitherWay changes call image = Accepts image changes ⊎ Accepts image (changes ++ call ∷ [])
 
 -- an image stands for one list of changes at most
 abbrev pub StandsOnce : Type 0

@@ -131,6 +131,7 @@ sum₄ : (f : ℕ → ℕ) → IsAdditive f → (a b c d : ℕ) → f (bit_xor a
 sum₄ f keeps a b c d =
     keeps a (bit_xor b (bit_xor c d)) ∙ ap (bit_xor (f a)) (keeps b (bit_xor c d) ∙ ap (bit_xor (f b)) (keeps c d))
 
+-- the multiples of an additive function from those of the powers of two
 pub multiples : (f : ℕ → ℕ) → f 0 ≡ 0 → IsAdditive f → (c at_1 at_2 at_4 at_8 : ℕ) (v : List ℕ) → c < 65536
     → HasLanes 32 v (λ k. bit_xor (k % 2 * at_1) (bit_xor (k / 2 % 2 * at_2) (bit_xor (k / 4 % 2 * at_4) (k / 8 % 2 * at_8))))
     → at_1 ≡ f c → at_2 ≡ f (times c 2) → at_4 ≡ f (times (times c 2) 2) → at_8 ≡ f (times (times (times c 2) 2) 2)

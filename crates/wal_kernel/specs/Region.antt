@@ -10,11 +10,11 @@ word_at bytes i = slice_index bytes (2 * i) * 256 + slice_index bytes (2 * i + 1
 abbrev pub region : ℕ → List ℕ → ℕ → List ℕ
 region size bytes i = take size (drop (size * i) bytes)
 
--- new is old plus c times source, word by word
-pub record IsScaledSum (c : ℕ) (old source new : List ℕ) : Type 0 where
+-- new is old plus the factor times source, word by word
+pub record IsScaledSum (factor : ℕ) (old source new : List ℕ) : Type 0 where
   pub same_length : length new ≡ length old
   pub words : (i : ℕ) → 2 * i + 1 < length old
-      → word_at new i ≡ bit_xor (word_at old i) (times c (word_at source i))
+      → word_at new i ≡ bit_xor (word_at old i) (times factor (word_at source i))
 
 -- new is old plus source, byte by byte and so word by word
 pub record IsSum (old source new : List ℕ) : Type 0 where

@@ -20,6 +20,7 @@ HasLanes-zip2 op {a} {b} {f} {g} h h' = record {
   each = λ k l. get_or-zip2 op a b k 0 0 0 (omega (arith, h.long)) (omega (arith, h'.long)) ∙ ap₂ op (h.each k l) (h'.each k l);
 }
 
+-- each lane of a vector is itself
 pub own : (v : List ℕ) (k : ℕ) → k < 8 → slice_index v k ≡ slice_index v k
 own v k l = refl
 

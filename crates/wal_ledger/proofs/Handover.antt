@@ -46,6 +46,7 @@ pub record Anew (w r : ℕ) (old own : List Entry) : Type 0 where
   pub expired : until_among old ≤ r
   pub made : All (λ x. x.epoch ≡ w) own
 
+-- own entries grew, or began anew
 abbrev pub Carried : ℕ → ℕ → List Entry → List Entry → Type 0
 Carried w r old own = Grown w r old own ⊎ Anew w r old own
 

@@ -52,6 +52,7 @@ pub data Owned (log : Log) (b : Body) (id : BlobId) (own : List Entry) : Type 0 
   -- they begin anew
   anew : own ≡ entry_in log b ∷ [] → names id b ≡ true → is_register b ≡ true → until_of log id ≤ reading log → Owned log b id own
 
+-- what an entry adds to the entries of an identifier
 pub owned : (log : Log) (b : Body) (id : BlobId) → Owned log b id (own_entries (entered log b) id)
 owned log b id = subst (Owned log b id) (sym pushed) (by (names id b) refl (is_fresh history b) refl)
   where

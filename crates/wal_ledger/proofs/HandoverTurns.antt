@@ -28,6 +28,7 @@ pub record Begun (old new : Log) (owners : List ℕ) : Type 0 where
   pub none_ready : (s : ℕ) → ready_shards new s ≡ false
   pub orderly : IsOrderly new
 
+-- what an orderly log is after a handover has begun
 pub begun : (log : Log) (owners : List ℕ) → IsOrderly log → is_moving log ≡ false → Begun log (entered log (Begin owners)) owners
 begun log owners orderly serving =
     let new : Log = entered log (Begin owners) in
@@ -83,6 +84,7 @@ pub record Finished (old new : Log) : Type 0 where
   pub certified : (id : BlobId) → IsCertified new id → MustHold old id ⊎ (quorum_size old.f ≤ signer_count old id Holds (writing old))
   pub orderly : IsOrderly new
 
+-- what an orderly log is after a handover was finished
 pub finished : (log : Log) → IsOrderly log → is_moving log ≡ true → Finished log (entered log Finish)
 finished log orderly moving =
     let new : Log = entered log Finish in

@@ -50,6 +50,7 @@ one_place ids ns i j ascends lt within same =
     ) in
     both_ways (id_eq x x) (id_tied x x Less tied) (id_itself x)
 
+-- two places of a table in ascending order have different rows
 pub apart : (ids : List BlobId) (ns : List ℕ) (place j : ℕ) → Ascends (ids_of ids ns) → place < length ns → j < length ns → j ≢ place → get_or ns j 0 ≢ get_or ns place 0
 apart ids ns place j ascends within lt other same = elim (cases_lt j place) [
   | inl below ↦ one_place ids ns j place ascends below within same
@@ -156,6 +157,7 @@ pub record Wakes (ids : List BlobId) (rows : List Row) (order live new : List �
   pub table : IsTable ids rows order new
   pub lives : ids_of ids new ≡ insert_key id_cmp (ids_of ids live) id
 
+-- a row that was retired is live again
 pub wakes : (ids xs : List BlobId) (rows : List Row) (order live new : List ℕ) (place number : ℕ) (id : BlobId) → IsTable ids rows order live
     → IsInsertionPoint (ids_of ids live) id place → xs ≡ ids → number < length xs → id_of xs number ≡ id → new ≡ insert live place number → Wakes ids rows order live new id
 wakes ids xs rows order live new place number id t gap xs_are below stands new_are =
@@ -257,6 +259,7 @@ pub record Pushed (ids xs : List BlobId) (rows rs : List Row) (order ns live : L
   pub rows_are : (q : BlobId) → row_beside (ids_of xs ns) (map (row_of rs) ns) q ≡ cond (id_eq id q) row (row_beside (ids_of ids order) (map (row_of rows) order) q)
   pub live_stays : ids_of xs live ≡ ids_of ids live
 
+-- a table with one more row at its place
 pub pushed : (ids xs : List BlobId) (rows rs : List Row) (order ns live : List ℕ) (place number : ℕ) (id : BlobId) (row : Row) → IsTable ids rows order live → IsInsertionPoint (ids_of ids order) id place → number ≡ length ids
     → xs ≡ ids ++ id ∷ [] → rs ≡ rows ++ row ∷ [] → ns ≡ insert order place number → Pushed ids xs rows rs order ns live id row
 pushed ids xs rows rs order ns live place number id row t gap is xs_are rs_are ns_are =

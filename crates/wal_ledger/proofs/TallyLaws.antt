@@ -72,6 +72,7 @@ pub record Walks (entries : List Entry) (links : List ℕ) (kind : Kind) (link :
   pub below : get_or links (link - 1) 0 < link
   pub same : (owners : List ℕ) (s : ℕ) (d : Entry) → has_neighbour owners shards s ≡ (signs_for owners kind s (get_or entries (link - 1) d).body || has_neighbour owners rest s)
 
+-- what a chain of entries leads past
 pub walks : (entries : List Entry) (links : List ℕ) (kind : Kind) (link : ℕ) (shards : List ℕ) → 0 < link → Chain entries links kind link shards → Walks entries links kind link shards
 walks entries links kind link [] pos chain = absurd (omega arith)
 walks entries links kind link (t ∷ shards) pos (before, (l, rest)) =

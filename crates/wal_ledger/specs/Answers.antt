@@ -112,4 +112,5 @@ pub record IsCertificate (log : Log) (id : BlobId) (epoch count : ℕ) : Type 0 
   pub live : is_live log id ≡ true
   pub counted : count ≡ signer_count log id Holds epoch
   pub quorum : quorum_size log.f ≤ count
-  pub least : (e : ℕ) → e < epoch → signer_count log id Holds e < quorum_size log.f
+  pub least : (earlier : ℕ) → earlier < epoch
+      → signer_count log id Holds earlier < quorum_size log.f

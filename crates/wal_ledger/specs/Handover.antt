@@ -6,14 +6,14 @@ use Rattle.wal_ledger.specs.Ledger.{Log, phase, reading, writing, names, is_begi
 
 -- an entry that names an identifier was made in this epoch
 abbrev pub IsMadeIn : ℕ → Entry → Type 0
-IsMadeIn epoch x = (id : BlobId) → names id x.body ≡ true → x.epoch ≡ epoch
+IsMadeIn epoch entry = (id : BlobId) → names id entry.body ≡ true → entry.epoch ≡ epoch
 
 -- an entry was made in this epoch, unless it is a Begin
 abbrev pub IsMadeSince : ℕ → Entry → Type 0
-IsMadeSince epoch x = is_begin x.body ≡ false → x.epoch ≡ epoch
+IsMadeSince epoch entry = is_begin entry.body ≡ false → entry.epoch ≡ epoch
 
 -- what was entered before the last Begin has at most the reading epoch, and what was entered of
 -- identifiers since then has the writing epoch
 pub record IsDated (log : Log) : Type 0 where
-  pub earlier : All (λ x. x.epoch ≤ reading log) (phase log).before
+  pub earlier : All (λ entry. entry.epoch ≤ reading log) (phase log).before
   pub later : All (IsMadeIn (writing log)) (phase log).since

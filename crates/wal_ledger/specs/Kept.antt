@@ -35,10 +35,10 @@ pub record IsLawful (log : Log) : Type 0 where
   pub paused : is_moving log ≡ true → (phase_in (phase log).before).finishes ≡ (phase log).finishes
   pub brings : is_moving log ≡ true → HasBrought log
   pub within : All (IsWithin log.first (writing log)) log.entries
-  pub none_ahead : All (λ x. x.epoch ≤ writing log) log.entries
+  pub none_ahead : All (λ entry. entry.epoch ≤ writing log) log.entries
   pub since_begin : All (IsMadeSince (writing log)) (phase log).since
   pub dated : is_moving log ≡ true → IsDated log
-  pub members : All (λ x. IsOfCommittee (committee_size log.f) x.body) log.entries
+  pub members : All (λ entry. IsOfCommittee (committee_size log.f) entry.body) log.entries
 
 -- a call between two changes of the epoch leaves these
 pub record SameEpoch (old new : Log) : Type 0 where

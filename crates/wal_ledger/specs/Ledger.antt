@@ -32,15 +32,20 @@ pub record Phase : Type 0 where
 
 -- the phase after one more entry
 abbrev pub phase_after : Body → Entry → Phase → Phase
-phase_after (Begin owners) x p =
-    record p { brought = p.brought ++ owners ∷ []; before = p.before ++ p.since; since = x ∷ [] }
-phase_after Finish x p = record p { finishes = p.finishes + 1; since = p.since ++ x ∷ [] }
-phase_after _ x p = record p { since = p.since ++ x ∷ [] }
+phase_after (Begin owners) entry stage =
+    record stage {
+      brought = stage.brought ++ owners ∷ [];
+      before = stage.before ++ stage.since;
+      since = entry ∷ [];
+    }
+phase_after Finish entry stage =
+    record stage { finishes = stage.finishes + 1; since = stage.since ++ entry ∷ [] }
+phase_after _ entry stage = record stage { since = stage.since ++ entry ∷ [] }
 
 -- where the changes of epochs stand after these entries
 abbrev pub phase_in : List Entry → Phase
 phase_in entries =
-    fold (λ p x. phase_after x.body x p)
+    fold (λ so_far entry. phase_after entry.body entry so_far)
     (record { finishes = 0; brought = []; before = []; since = [] }) entries
 
 -- where they stand in a ledger
@@ -102,7 +107,7 @@ until_in _ = 0
 
 -- the greatest `until` among entries, or 0
 abbrev pub until_among : List Entry → ℕ
-until_among entries = fold (λ most x. max most (until_in x.body)) 0 entries
+until_among entries = fold (λ most entry. max most (until_in entry.body)) 0 entries
 
 -- the reading epoch so far, and an identifier's own entries so far
 pub record History : Type 0 where
@@ -111,13 +116,14 @@ pub record History : Type 0 where
 
 -- a registration of an identifier that isn't live is fresh, and its own entries begin anew
 abbrev pub is_fresh : History → Body → Bool
-is_fresh c body = is_register body && nat_le (until_among c.own) c.epoch
+is_fresh history body = is_register body && nat_le (until_among history.own) history.epoch
 
 -- the identifier's history after one more entry
 abbrev pub history_after : BlobId → History → Entry → History
-history_after id c x = record {
-  epoch = c.epoch + cond (is_finish x.body) 1 0;
-  own = cond (names id x.body) (cond (is_fresh c x.body) (x ∷ []) (c.own ++ x ∷ [])) c.own;
+history_after id history entry = record {
+  epoch = history.epoch + cond (is_finish entry.body) 1 0;
+  own = cond (names id entry.body)
+      (cond (is_fresh history entry.body) (entry ∷ []) (history.own ++ entry ∷ [])) history.own;
 }
 
 -- what these entries make of an identifier
@@ -138,19 +144,19 @@ is_live log id = nat_lt (reading log) (until_of log id)
 
 -- whether one node runs both shards
 abbrev pub same_node : List ℕ → ℕ → ℕ → Bool
-same_node owners s t = nat_eq (node_of owners s) (node_of owners t)
+same_node owners shard other = nat_eq (node_of owners shard) (node_of owners other)
 
 -- whether an entry says, by a shard of this shard's node, that the node holds the blob, or that the
 -- blob is invalid
 abbrev pub signs_for : List ℕ → Kind → ℕ → Body → Bool
-signs_for owners Holds shard (Ack s id) = same_node owners s shard
-signs_for owners Denies shard (Attest s id) = same_node owners s shard
+signs_for owners Holds shard (Ack signer id) = same_node owners signer shard
+signs_for owners Denies shard (Attest signer id) = same_node owners signer shard
 signs_for owners _ _ _ = false
 
 -- whether a shard's node has an entry of a kind and an epoch among entries
 abbrev pub is_signer_among : List ℕ → List Entry → Kind → ℕ → ℕ → Bool
 is_signer_among owners entries kind epoch shard =
-    list_any (λ x. nat_eq x.epoch epoch && signs_for owners kind shard x.body) entries
+    list_any (λ entry. nat_eq entry.epoch epoch && signs_for owners kind shard entry.body) entries
 
 -- the shards whose node has one among an identifier's own entries, as a set: by the owners of that
 -- epoch
@@ -194,13 +200,14 @@ pub record MustHold (log : Log) (id : BlobId) : Type 0 where
 
 -- whether an entry says, by a shard of this shard's node, that the node is ready
 abbrev pub readies : List ℕ → ℕ → Body → Bool
-readies owners shard (Ready s) = same_node owners s shard
+readies owners shard (Ready signer) = same_node owners signer shard
 readies owners shard _ = false
 
 -- the shards of the next committee whose node has said so since the last Begin, as a set, and how
 -- many they are
 abbrev pub ready_shards : Log → (ℕ → Bool)
-ready_shards log shard = list_any (λ x. readies (owners_of Next log) shard x.body) (phase log).since
+ready_shards log shard =
+    list_any (λ entry. readies (owners_of Next log) shard entry.body) (phase log).since
 
 -- how many shards of the next committee are ready
 abbrev pub ready_total : Log → ℕ
@@ -213,7 +220,7 @@ with_registered ids _ = ids
 
 -- all identifiers that these entries register
 abbrev pub registered : List Entry → List BlobId
-registered entries = fold (λ ids x. with_registered ids x.body) [] entries
+registered entries = fold (λ ids entry. with_registered ids entry.body) [] entries
 
 -- the live ones
 abbrev pub live_ids : Log → List BlobId
@@ -231,4 +238,4 @@ pub record LedgerState : Type 0 where
 
 -- after one more entry, one less fits
 abbrev pub takes_in : LedgerState → Body → LedgerState
-takes_in s body = record { log = entered s.log body; spare = s.spare - 1 }
+takes_in ledger body = record { log = entered ledger.log body; spare = ledger.spare - 1 }

@@ -9,9 +9,10 @@ use Rattle.wal_ledger.specs.Ledger.{Log, phase, writing, is_moving, cut, own_ent
 -- epoch was live and signed so before the last Begin, and what was live then still is
 pub record IsOrderly (log : Log) : Type 0 where
   pub turns : length (phase log).brought ≡ (phase log).finishes + cond (is_moving log) 1 0
-  pub epochs : (id : BlobId) → All (λ x. x.epoch ≤ writing log) (own_entries log id)
-  pub old : is_moving log ≡ true → (id : BlobId) (kind : Kind) (e s : ℕ) → is_live log id ≡ true
-      → signers log id kind e s ≡ true → e ≢ writing log
-      → (is_live (cut log) id ≡ true) × (signers (cut log) id kind e s ≡ true)
+  pub epochs : (id : BlobId) → All (λ entry. entry.epoch ≤ writing log) (own_entries log id)
+  pub old : is_moving log ≡ true → (id : BlobId) (kind : Kind) (epoch shard : ℕ)
+      → is_live log id ≡ true
+      → signers log id kind epoch shard ≡ true → epoch ≢ writing log
+      → (is_live (cut log) id ≡ true) × (signers (cut log) id kind epoch shard ≡ true)
   pub lives : is_moving log ≡ true → (id : BlobId) → is_live (cut log) id ≡ true
       → is_live log id ≡ true

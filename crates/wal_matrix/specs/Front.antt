@@ -4,10 +4,11 @@ use Rattle.wal_shape.specs.Shape.{BlobShape, shard_count, row_count, column_coun
 use Rattle.wal_matrix.specs.Matrix.{symbol, IsExtended}
 
 -- the redundant symbols of the first rows of the bytes' extended matrix, row by row
-pub record AreRedundant (f s : ℕ) (bytes kept : List ℕ) : Type 0 where
-  pub long : length kept ≡ row_count f * f * s
-  pub symbols : (e : List ℕ) → IsExtended f bytes e → (r k : ℕ) → r < row_count f → k < f
-      → symbol f s kept r k ≡ symbol (shard_count f) s e r (column_count f + k)
+pub record AreRedundant (f size : ℕ) (bytes kept : List ℕ) : Type 0 where
+  pub long : length kept ≡ row_count f * f * size
+  pub symbols : (extended : List ℕ) → IsExtended f bytes extended → (row k : ℕ) → row < row_count f
+      → k < f
+      → symbol f size kept row k ≡ symbol (shard_count f) size extended row (column_count f + k)
 
 -- what is kept: the shape, and the redundant symbols
 pub record FrontState : Type 0 where
@@ -22,6 +23,7 @@ pub record IsFrontOf (bytes : List ℕ) (front : FrontState) : Type 0 where
 
 -- the block has `count` columns of the bytes' extended matrix, from column `first` on, row by row
 abbrev pub AreColumns : ℕ → ℕ → List ℕ → ℕ → ℕ → List ℕ → Type 0
-AreColumns f s bytes first count block =
-    (e : List ℕ) → IsExtended f bytes e → (r k : ℕ) → r < shard_count f → k < count
-    → symbol count s block r k ≡ symbol (shard_count f) s e r (first + k)
+AreColumns f size bytes first count block =
+    (extended : List ℕ) → IsExtended f bytes extended → (row k : ℕ) → row < shard_count f
+    → k < count
+    → symbol count size block row k ≡ symbol (shard_count f) size extended row (first + k)

@@ -6,15 +6,16 @@ use Rattle.wal_matrix.specs.contracts.work.Work.{the_row}
 
 -- a buffer that was written to: as many bytes as before
 abbrev pub written : List ℕ → List ℕ → List ℕ
-written old w = take (length old) (w ++ drop (length w) old)
+written old given = take (length old) (given ++ drop (length given) old)
 
 -- the tools end with what is left in the buffer
 abbrev pub LendsRoom : MutBor Work → MutBor (List ℕ) → Fml
-LendsRoom s r =
-    Lends the_row (Array u8 0) s r (λ w. record { f = s.now.f; loaded = written s.now.loaded w })
+LendsRoom work room =
+    Lends the_row (Array u8 0) work room
+    (λ given. record { f = work.now.f; loaded = written work.now.loaded given })
 
 -- the tools end with what is left in the buffer of this size
 abbrev pub LendsLoaded : MutBor Work → ℕ → MutBor (List ℕ) → Fml
-LendsLoaded s size r =
-    Lends the_row (Array u8 0) s r
-    (λ w. record { f = s.now.f; loaded = written (replicate size 0) w })
+LendsLoaded work size room =
+    Lends the_row (Array u8 0) work room
+    (λ given. record { f = work.now.f; loaded = written (replicate size 0) given })

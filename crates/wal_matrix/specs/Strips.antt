@@ -6,6 +6,8 @@ use Rattle.wal_matrix.specs.Matrix.{symbol, IsExtended}
 -- of each symbol of the bytes' extended matrix the strip holds `long` bytes from `from` on, row by
 -- row
 abbrev pub IsMatrixStrip : ℕ → ℕ → List ℕ → ℕ → ℕ → List ℕ → Type 0
-IsMatrixStrip f s bytes from long strip =
-    (e : List ℕ) → IsExtended f bytes e → (r c : ℕ) → r < shard_count f → c < shard_count f
-    → symbol (shard_count f) long strip r c ≡ take long (drop from (symbol (shard_count f) s e r c))
+IsMatrixStrip f size bytes from long strip =
+    (extended : List ℕ) → IsExtended f bytes extended → (row column : ℕ) → row < shard_count f
+    → column < shard_count f
+    → symbol (shard_count f) long strip row column
+    ≡ take long (drop from (symbol (shard_count f) size extended row column))

@@ -5,13 +5,13 @@ use Rattle.wal_kernel.specs.Region.{region}
 use Rattle.wal_shape.specs.Shape.{row_count, column_count}
 use Rattle.wal_matrix.specs.Matrix.{IsCodedMatrix, primary_of}
 
--- e is a matrix of codewords in both directions, and its rows at these indices begin with the
+-- a matrix of codewords in both directions, and its rows at these indices begin with the
 -- joined primary slivers
-pub record IsMatrixThrough (f s : ℕ) (indices joined e : List ℕ) : Type 0 where
-  pub coded : IsCodedMatrix f s e
+pub record IsMatrixThrough (f size : ℕ) (indices joined extended : List ℕ) : Type 0 where
+  pub coded : IsCodedMatrix f size extended
   pub begins : (k : ℕ) → k < length indices
-      → primary_of f s e (slice_index indices k) ≡ region (column_count f * s) joined k
+      → primary_of f size extended (slice_index indices k) ≡ region (column_count f * size) joined k
 
 -- the source block, padding included: the first primary slivers
 unfoldable pub source_of : ℕ → ℕ → List ℕ → List ℕ
-source_of f s e = flat_map (primary_of f s e) (range_with_len 0 (row_count f))
+source_of f size extended = flat_map (primary_of f size extended) (range_with_len 0 (row_count f))

@@ -23,6 +23,7 @@ pub record Took (size pages : ℕ) (r : List ℕ) (free first n : ℕ) (old : Li
   pub own : IsTakenPage (states size pages r (chain size r (free - 1) n)) first
   pub long : length (page_bytes (states size pages r (chain size r (free - 1) n)) first) ≡ size
 
+-- the first of the free pages is taken
 pub took : (size pages : ℕ) (r : List ℕ) (free first n : ℕ) (seen : List PageState) → Sound size pages r free first → free ≢ 0 → n ≡ next size r first → states size pages r (chain size r free first) ≡ seen → Took size pages r free first n seen
 took size pages r free first n seen sound some read view =
     let ks : List ℕ = chain size r (free - 1) (next size r first) in
@@ -54,6 +55,7 @@ pub record Linked (size pages : ℕ) (s : List ℕ) (free k : ℕ) (old : List P
   pub room : free + 1 ≤ pages
   pub now : states size pages s (chain size s (free + 1) k) ≡ slice_set old k Free
 
+-- a page that is given back is the first of the free ones
 pub linked : (size pages : ℕ) (r s : List ℕ) (free first k : ℕ) (seen : List PageState) → 4 ≤ size → first < 2 ^ 32 → Sound size pages r free first → states size pages r (chain size r free first) ≡ seen → IsTakenPage seen k → s ≡ overwrite r (size * k) (to_be_bytes w32 first) → Linked size pages s free k seen
 linked size pages r s free first k seen large fits sound view is_taken write =
     let bytes : List ℕ = to_be_bytes w32 first in
@@ -90,6 +92,7 @@ pub record Wrote (size pages : ℕ) (s : List ℕ) (free first k at : ℕ) (byte
   pub sound : Sound size pages s free first
   pub now : states size pages s (chain size s free first) ≡ slice_set old k (Taken (overwrite (page_bytes old k) at bytes))
 
+-- bytes were written to a taken page, and nowhere else
 pub wrote : (size pages : ℕ) (r s : List ℕ) (free first k at m : ℕ) (bytes : List ℕ) (seen : List PageState) → at + length bytes ≤ size → Sound size pages r free first → states size pages r (chain size r free first) ≡ seen → IsTakenPage seen k → m ≡ size * k + at → s ≡ overwrite r m bytes → Wrote size pages s free first k at bytes seen
 wrote size pages r s free first k at m bytes seen fits sound view is_taken place write =
     let t : List ℕ = overwrite r m bytes in

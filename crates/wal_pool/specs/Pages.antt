@@ -32,5 +32,5 @@ AreWhole size pages = (k : ℕ) → IsTakenPage pages k → length (page_bytes p
 abbrev pub overwrite : List ℕ → ℕ → List ℕ → List ℕ
 overwrite [] at bytes = []
 overwrite (x ∷ xs) zero [] = x ∷ xs
-overwrite (x ∷ xs) zero (b ∷ bs) = b ∷ overwrite xs zero bs
+overwrite (x ∷ xs) zero (byte ∷ bytes) = byte ∷ overwrite xs zero bytes
 overwrite (x ∷ xs) (suc at) bytes = x ∷ overwrite xs at bytes

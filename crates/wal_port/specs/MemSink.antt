@@ -4,24 +4,24 @@ use Rattle.wal_port.specs.declared.mem_sink.MemSink.{MemSink}
 
 -- the bytes that were written
 abbrev pub sink_written : MemSink → List ℕ
-sink_written s = s.bytes.items
+sink_written sink = sink.bytes.items
 
 -- how many bytes it takes in all, at most
 abbrev pub sink_room : MemSink → ℕ
-sink_room s = s.room
+sink_room sink = sink.room
 
 -- how many bytes it takes at a call, at most
 abbrev pub sink_piece : MemSink → ℕ
-sink_piece s = s.piece
+sink_piece sink = sink.piece
 
 -- the numbers of the calls that fail
 abbrev pub sink_fails : MemSink → List ℕ
-sink_fails s = s.fails.items
+sink_fails sink = sink.fails.items
 
 -- how many calls there were, up to 2 ^ 64 - 1
 abbrev pub sink_calls : MemSink → ℕ
-sink_calls s = s.calls
+sink_calls sink = sink.calls
 
 -- how many of them failed, up to 2 ^ 64 - 1
 abbrev pub sink_faults : MemSink → ℕ
-sink_faults s = s.faults
+sink_faults sink = sink.faults

@@ -5,13 +5,13 @@ use Rattle.wal_port.specs.declared.slices.SliceSink.{SliceSink}
 
 -- the bytes that are still to come
 abbrev pub slice_left : SliceSource → List ℕ
-slice_left s = s.left.now
+slice_left source = source.left.now
 
 -- the text that was taken, of which the front stands in the room
 abbrev pub slice_text : SliceSink → List ℕ
-slice_text s = take s.count s.room.now ++ s.beyond.bytes
+slice_text sink = take sink.count sink.room.now ++ sink.beyond.bytes
 
 -- what tells the sink from others, and stands before its text: the name of the reference to its
 -- room, how many bytes have room, and which stood there first
 abbrev pub slice_mark : SliceSink → List ℕ
-slice_mark s = s.room.ghost_name ∷ length s.room.now ∷ s.first.bytes
+slice_mark sink = sink.room.ghost_name ∷ length sink.room.now ∷ sink.first.bytes

@@ -5,12 +5,15 @@ use Rattle.wal_protocol.specs.inside.Saying.{Says}
 
 -- ---- what is not impossible
 
+-- what holds is possible
 pub surely : {P : Type 0} → P → Possible P
 surely p none = none p
 
+-- what follows from the possible is possible
 pub then : {P Q : Type 0} → Possible P → (P → Possible Q) → Possible Q
 then p f none = p (λ x. f x none)
 
+-- it is not impossible that a statement holds or fails
 pub either : (P : Type 0) → Possible (P ⊎ (P → ⊥))
 either P none = none (inr (λ p. none (inl p)))
 
@@ -18,6 +21,7 @@ either P none = none (inr (λ p. none (inl p)))
 pub by_cases : {Q : Type 0} (P : Type 0) → (P → Possible Q) → ((P → ⊥) → Possible Q) → Possible Q
 by_cases P holds fails = then (either P) (λ e. ⊎_elim holds fails e)
 
+-- a Boolean is true or false
 pub truth : (b : Bool) → (b ≡ true) ⊎ (b ≡ false)
 truth true = inl refl
 truth false = inr refl
@@ -92,6 +96,7 @@ pub data Standing (w : World) (side : Side) (shard : ℕ) : Type 0 where
   ignored : IsIgnored w side shard → Standing w side shard
   correct : is_correct side w shard ≡ true → Standing w side shard
 
+-- how a shard stands on a side of the world
 pub standing : (w : World) (side : Side) (shard : ℕ) → Standing w side shard
 standing w side shard = grind (arith, absent, ignored, correct)
 

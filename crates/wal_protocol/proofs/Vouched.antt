@@ -10,6 +10,7 @@ answer_is kind log contents id (Err AckRefusal.Unregistered) is v = absurd (let 
 answer_is kind log contents id (Err AckRefusal.Expires) is v = absurd (omega (arith, is.outlasts, v.1))
 answer_is kind log contents id (Err AckRefusal.Declined) is v = sym v.1
 
+-- what a shard vouches for is a step of the world
 pub vouched : (kind : Kind) (w : World) (log : Log) (contents : Contents) (side : Side) (shard : ℕ) (id : BlobId) (r : Result (Unit {0}) AckRefusal) → log ≡ w.log → side ≡ writing_side w
     → contents ≡ contents_of (side_of side w) shard → IsOpen w.log id → Vouches kind log contents id r → is_ok r ≡ backs kind (held (side_of (writing_side w) w) shard id)
 vouched kind w log contents side shard id r same here holds is v =

@@ -6,11 +6,12 @@ use Rattle.wal_protocol.specs.Run.{is_collision}
 
 -- one line; the texts of two collisions are not compared
 abbrev pub SameLine : Line → Line → Type 0
-SameLine a b = (is_collision a ≡ is_collision b) × (is_collision a ≡ false → a ≡ b)
+SameLine first second =
+    (is_collision first ≡ is_collision second) × (is_collision first ≡ false → first ≡ second)
 
 -- and one state
 abbrev pub SameStep : Line → Line → World → World → Type 0
-SameStep a b x y = SameLine a b × (x ≡ y)
+SameStep first second new other_world = SameLine first second × (new ≡ other_world)
 
 -- the same lines up to a collision, which is the last line of both
 pub record SameUpToCollision (xs ys : List Line) : Type 0 where

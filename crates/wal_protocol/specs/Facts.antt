@@ -22,43 +22,50 @@ backed Holds parts = settled parts
 backed Denies parts = has_proof parts
 
 -- the facts of a state that every run keeps
-pub record Facts (r : Rules) (w : World) : Type 0 where
+pub record Facts (rules : Rules) (world : World) : Type 0 where
   -- the committees have 3f + 1 shards
-  pub sized_f : w.log.f ≡ r.f
-  pub sized : (side : Side) → is_present side w ≡ true
-      → length (side_of side w).shards ≡ committee_size w.log.f
+  pub sized_f : world.log.f ≡ rules.f
+  pub sized : (side : Side) → is_present side world ≡ true
+      → length (side_of side world).shards ≡ committee_size world.log.f
   -- the ledger's epochs come one after the other; no entry is of a later epoch than the writing
   -- one, and all after the last Begin are of that one
-  pub orderly : IsOrderly w.log
-  pub none_ahead : All (λ x. x.epoch ≤ writing w.log) w.log.entries
-  pub since_begin : All (IsMadeSince (writing w.log)) (phase w.log).since
+  pub orderly : IsOrderly world.log
+  pub none_ahead : All (λ payload. payload.epoch ≤ writing world.log) world.log.entries
+  pub since_begin : All (IsMadeSince (writing world.log)) (phase world.log).since
   -- all shards of one node are faulty, or none is
-  pub closed : (side : Side) (s t : ℕ) → is_present side w ≡ true → s < committee_size w.log.f
-      → t < committee_size w.log.f
-      → same_node (owners_at w.log (epoch_of side w)) s t ≡ true
-      → among (side_of side w).faulty s ≡ true → among (side_of side w).faulty t ≡ true
+  pub closed : (side : Side) (shard other : ℕ) → is_present side world ≡ true
+      → shard < committee_size world.log.f
+      → other < committee_size world.log.f
+      → same_node (owners_at world.log (epoch_of side world)) shard other ≡ true
+      → among (side_of side world).faulty shard ≡ true
+      → among (side_of side world).faulty other ≡ true
   -- what is held is sound, and first completed answers rest on something
-  pub sound : (side : Side) (s : ℕ) (id : BlobId) → r.IsSound id s (held (side_of side w) s id)
-  pub answers : (id : BlobId) (answer : First) → finmap.get w.answers id ≡ Some answer
-      → r.IsBacked id answer
+  pub sound : (side : Side) (shard : ℕ) (id : BlobId)
+      → rules.IsSound id shard (held (side_of side world) shard id)
+  pub answers : (id : BlobId) (answer : First) → finmap.get world.answers id ≡ Some answer
+      → rules.IsBacked id answer
   -- a correct shard whose node signed for a live blob, in the epoch of its committee, keeps what
   -- backs it
-  pub backs : (side : Side) (kind : Kind) (id : BlobId) (s : ℕ) → is_present side w ≡ true
-      → is_live w.log id ≡ true
-      → signers w.log id kind (epoch_of side w) s ≡ true → s < committee_size w.log.f
-      → among (side_of side w).faulty s ≡ false
-      → backed kind (held (side_of side w) s id) ≡ true
+  pub backs : (side : Side) (kind : Kind) (id : BlobId) (shard : ℕ) → is_present side world ≡ true
+      → is_live world.log id ≡ true
+      → signers world.log id kind (epoch_of side world) shard ≡ true
+      → shard < committee_size world.log.f
+      → among (side_of side world).faulty shard ≡ false
+      → backed kind (held (side_of side world) shard id) ≡ true
   -- a correct shard of the next committee that is ready is settled for all that must be held
-  pub readies : (id : BlobId) (s : ℕ) → ready_shards w.log s ≡ true → s < committee_size w.log.f
-      → among w.next.faulty s ≡ false → MustHold w.log id
-      → settled (held w.next s id) ≡ true
+  pub readies : (id : BlobId) (shard : ℕ) → ready_shards world.log shard ≡ true
+      → shard < committee_size world.log.f
+      → among world.next.faulty shard ≡ false → MustHold world.log id
+      → settled (held world.next shard id) ≡ true
   -- while each committee so far has had at most f faulty shards, so have these, and more than f
   -- correct shards of the one that serves are settled for each blob that is certified, while the
   -- epoch does not change, or was when it began to change, while it does
-  pub few_now : w.few ≡ true → length w.now.faulty ≤ w.log.f
-  pub few_next : w.few ≡ true → is_moving w.log ≡ true → length w.next.faulty ≤ w.log.f
-  pub kept_serving : w.few ≡ true → is_moving w.log ≡ false → (id : BlobId) → IsCertified w.log id
-      → w.log.f + 1 ≤ count_below (committee_size w.log.f) (settled_in w.now id)
-  pub kept_moving : w.few ≡ true → is_moving w.log ≡ true → (id : BlobId)
-      → IsCertified (cut w.log) id
-      → w.log.f + 1 ≤ count_below (committee_size w.log.f) (settled_in w.now id)
+  pub few_now : world.few ≡ true → length world.now.faulty ≤ world.log.f
+  pub few_next : world.few ≡ true → is_moving world.log ≡ true
+      → length world.next.faulty ≤ world.log.f
+  pub kept_serving : world.few ≡ true → is_moving world.log ≡ false → (id : BlobId)
+      → IsCertified world.log id
+      → world.log.f + 1 ≤ count_below (committee_size world.log.f) (settled_in world.now id)
+  pub kept_moving : world.few ≡ true → is_moving world.log ≡ true → (id : BlobId)
+      → IsCertified (cut world.log) id
+      → world.log.f + 1 ≤ count_below (committee_size world.log.f) (settled_in world.now id)

@@ -15,17 +15,17 @@ use Rattle.wal_protocol.specs.Step.{Steps}
 abbrev pub empty_committee : ℕ → List ℕ → Committee
 empty_committee f faulty = record {
   faulty = faulty;
-  shards = map (λ s. finmap.empty) (range_with_len 0 (committee_size f));
+  shards = map (λ shard. finmap.empty) (range_with_len 0 (committee_size f));
 }
 
 -- the first state: no entries, nothing held, no answers
 abbrev pub first_state : Schedule → World
-first_state s = record {
-  format = s.format;
-  log = record { f = s.f; first = s.epoch; owners = s.owners; entries = [] };
-  now = empty_committee s.f s.faulty;
+first_state schedule = record {
+  format = schedule.format;
+  log = record { f = schedule.f; first = schedule.epoch; owners = schedule.owners; entries = [] };
+  now = empty_committee schedule.f schedule.faulty;
   next = nobody;
-  few = nat_le (length s.faulty) s.f;
+  few = nat_le (length schedule.faulty) schedule.f;
   answers = finmap.empty;
 }
 
@@ -41,12 +41,12 @@ GoesOn lines = AllByRecursion (λ said. is_collision said ≡ false) lines
 -- from a state on, events give lines and lead to states, one of each for each event; after a
 -- collision no further event is taken
 abbrev pub Runs : Rules → World → List Event → List World → List Line → Type 0
-Runs r old [] [] [] = Unit {0}
-Runs r old (event ∷ events) (new ∷ states) (said ∷ lines) =
-    Steps r old event said new
-    × cond (is_collision said) ((states ≡ []) × (lines ≡ [])) (Runs r new events states lines)
-Runs r old _ _ _ = ⊥
+Runs rules old [] [] [] = Unit {0}
+Runs rules old (event ∷ events) (new ∷ states) (said ∷ lines) =
+    Steps rules old event said new
+    × cond (is_collision said) ((states ≡ []) × (lines ≡ [])) (Runs rules new events states lines)
+Runs rules old _ _ _ = ⊥
 
 -- THE RUN of a schedule: the states after the first one, and the lines
 abbrev pub IsRun : Rules → Schedule → List World → List Line → Type 0
-IsRun r schedule states lines = Runs r (first_state schedule) schedule.events states lines
+IsRun rules schedule states lines = Runs rules (first_state schedule) schedule.events states lines

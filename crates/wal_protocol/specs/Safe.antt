@@ -26,16 +26,17 @@ use Rattle.wal_protocol.specs.Run.{first_state}
 -- the line shows a completed answer for a blob: the bytes or the rejection of a read, or the bytes
 -- of an honest write
 abbrev pub Shows : Line → BlobId → Verdict → Type 0
-Shows (line.Read i word) id told = (i ≡ id) × (told_by word ≡ Some told)
-Shows (line.Write i (write_word.Stored count bytes)) id told =
-    (i ≡ id) × (told ≡ verdict.Bytes bytes)
+Shows (line.Read told_id word) id told = (told_id ≡ id) × (told_by word ≡ Some told)
+Shows (line.Write told_id (write_word.Stored count bytes)) id told =
+    (told_id ≡ id) × (told ≡ verdict.Bytes bytes)
 Shows _ id told = ⊥
 
 -- AGREE: all completed answers for one blob are the same bytes, or all are rejections
 abbrev pub Agree : List Line → Type 0
 Agree lines =
-    (a b : Line) (id : BlobId) (told other : Verdict) → Contains lines a → Contains lines b
-    → Shows a id told → Shows b id other → told ≡ other
+    (first second : Line) (id : BlobId) (told other : Verdict) → Contains lines first
+    → Contains lines second
+    → Shows first id told → Shows second id other → told ≡ other
 
 -- what holds of each step of a run: of the state before it, the event, the line, and the state
 -- after it
@@ -49,30 +50,31 @@ EachStep P old _ _ _ = Unit {0}
 -- and the root over the sliver's codeword is the one that this metadata lists for the shard
 -- (`CommitsTo`: `CommitsSliver` of wal_theorem/specs/Instance, by `HoldsSliver` of wal_commit)
 abbrev pub IsCommitted : Rules → World → Event → Line → World → Type 0
-IsCommitted r old (Recover at shard axis id replies)
-    (line.Recover s a i (recovering.Sliver bytes)) new =
-    r.CommitsTo id shard axis bytes (held (side_of at new) shard id)
-IsCommitted r old _ _ new = Unit {0}
+IsCommitted rules old (Recover at shard axis id replies)
+    (line.Recover told_shard told_axis told_id (recovering.Sliver bytes)) new =
+    rules.CommitsTo id shard axis bytes (held (side_of at new) shard id)
+IsCommitted rules old _ _ new = Unit {0}
 
 -- KEPT: while each committee so far has had at most f faulty shards (`few`, which a state of the
 -- world carries), more than f correct shards are settled for each certified blob: each holds its
 -- metadata and both slivers of its own, or its metadata and a proof against it
 abbrev pub IsKept : World → Type 0
-IsKept w = w.few ≡ true → (id : BlobId) → IsCertified w.log id → w.log.f + 1 ≤ holders w id
+IsKept world =
+    world.few ≡ true → (id : BlobId) → IsCertified world.log id → world.log.f + 1 ≤ holders world id
 
 -- the replies have the true reply of each correct shard of the home committee, besides any others,
 -- in any order; the true reply is the frames that a correct shard then sends of what it holds
 -- (`reply_payloads` in Step): its metadata, its primary sliver, its proof
 abbrev pub Hears : World → BlobId → List Reply → Type 0
-Hears w id replies =
-    let home = home_of w.log id in
-    (s : ℕ) → s < committee_size w.log.f → is_correct home w s ≡ true
-    → Contains replies (reply.True home s)
+Hears world id replies =
+    let home = home_of world.log id in
+    (shard : ℕ) → shard < committee_size world.log.f → is_correct home world shard ≡ true
+    → Contains replies (reply.True home shard)
 
 -- the line shows bytes, a rejection or a collision
 abbrev pub HasCompleted : Line → Type 0
-HasCompleted (line.Read i (reading_of.Bytes bytes)) = Unit {0}
-HasCompleted (line.Read i reading_of.Reject) = Unit {0}
+HasCompleted (line.Read id (reading_of.Bytes bytes)) = Unit {0}
+HasCompleted (line.Read id reading_of.Reject) = Unit {0}
 HasCompleted (line.Collision left right) = Unit {0}
 HasCompleted _ = ⊥
 
@@ -87,29 +89,29 @@ IsComplete old _ said new = Unit {0}
 -- proof that its blob is badly encoded (`Refutes`: `HoldsBadProof` of wal_theorem/specs/Instance,
 -- by `IsBadProof` of wal_evidence)
 abbrev pub HasRefuters : Rules → World → BlobId → Type 0
-HasRefuters r w id =
-    (refuters : ℕ → Bool) × (w.log.f + 1 ≤ count_below (committee_size w.log.f) refuters)
-    × ((s : ℕ) → s < committee_size w.log.f → refuters s ≡ true
-    → (is_correct (writing_side w) w s ≡ true)
-    × r.Refutes id (held (side_of (writing_side w) w) s id))
+HasRefuters rules world id =
+    (refuters : ℕ → Bool) × (world.log.f + 1 ≤ count_below (committee_size world.log.f) refuters)
+    × ((shard : ℕ) → shard < committee_size world.log.f → refuters shard ≡ true
+    → (is_correct (writing_side world) world shard ≡ true)
+    × rules.Refutes id (held (side_of (writing_side world) world) shard id))
 
 -- JUST: while each committee so far has had at most f faulty shards (`few`), what is declared
 -- invalid is refuted
 abbrev pub IsJust : Rules → World → Event → Line → World → Type 0
-IsJust r old (Attest shard id) (line.Attest s i (attesting.Invalid count)) new =
-    new.few ≡ true → HasRefuters r new id
-IsJust r old _ _ new = Unit {0}
+IsJust rules old (Attest shard id) (line.Attest told_shard told_id (attesting.Invalid count)) new =
+    new.few ≡ true → HasRefuters rules new id
+IsJust rules old _ _ new = Unit {0}
 
 -- THE SAFE RUN of a schedule: the states after the first one, and the lines. That each run is safe
 -- is proved in wal_theorem (`every_run`)
-pub record IsSafe (r : Rules) (schedule : Schedule)
+pub record IsSafe (rules : Rules) (schedule : Schedule)
     (states : List World) (lines : List Line) : Type 0 where
   -- two reads agree: all completed answers for one blob are the same bytes, or all are rejections;
   -- for any number of faulty shards
   pub agree : Agree lines
   -- a sliver that a correct shard recovered has the committed root, by a metadata that it holds;
   -- for any number of faulty shards
-  pub committed : EachStep (IsCommitted r) (first_state schedule) schedule.events states lines
+  pub committed : EachStep (IsCommitted rules) (first_state schedule) schedule.events states lines
   -- while no committee so far has had more than f faulty shards, more than f correct shards are
   -- settled for each certified blob
   pub kept : All IsKept (first_state schedule ∷ states)
@@ -118,37 +120,37 @@ pub record IsSafe (r : Rules) (schedule : Schedule)
   pub complete : EachStep IsComplete (first_state schedule) schedule.events states lines
   -- while that is so, a blob that is declared invalid is refuted by more than f correct shards that
   -- hold a proof against it
-  pub just : EachStep (IsJust r) (first_state schedule) schedule.events states lines
+  pub just : EachStep (IsJust rules) (first_state schedule) schedule.events states lines
 
 -- more than f settled shards of the home committee are heard; to a shard that recovers its sliver
 -- each sends its metadata, its symbol of that sliver and its proof (`IsReplyOf` in Step)
 abbrev pub HearsSettled : World → BlobId → List Reply → Type 0
-HearsSettled w id replies =
-    let home = home_of w.log id in
-    (heard : ℕ → Bool) × (w.log.f + 1 ≤ count_below (committee_size w.log.f) heard)
-    × ((s : ℕ) → s < committee_size w.log.f → heard s ≡ true
-    → (is_correct home w s ≡ true) × (settled_in (side_of home w) id s ≡ true)
-    × Contains replies (reply.True home s))
+HearsSettled world id replies =
+    let home = home_of world.log id in
+    (heard : ℕ → Bool) × (world.log.f + 1 ≤ count_below (committee_size world.log.f) heard)
+    × ((shard : ℕ) → shard < committee_size world.log.f → heard shard ≡ true
+    → (is_correct home world shard ≡ true) × (settled_in (side_of home world) id shard ≡ true)
+    × Contains replies (reply.True home shard))
 
 -- a quorum of correct shards, of either side, that hold secondary slivers are heard
 abbrev pub HearsSecondary : World → BlobId → List Reply → Type 0
-HearsSecondary w id replies =
-    (heard : ℕ → Bool) × (quorum_size w.log.f ≤ count_below (committee_size w.log.f) heard)
-    × ((s : ℕ) → s < committee_size w.log.f → heard s ≡ true
-    → (side : Side) × (is_correct side w s ≡ true)
-    × (is_some (held (side_of side w) s id).secondary ≡ true)
-    × Contains replies (reply.True side s))
+HearsSecondary world id replies =
+    (heard : ℕ → Bool) × (quorum_size world.log.f ≤ count_below (committee_size world.log.f) heard)
+    × ((shard : ℕ) → shard < committee_size world.log.f → heard shard ≡ true
+    → (side : Side) × (is_correct side world shard ≡ true)
+    × (is_some (held (side_of side world) shard id).secondary ≡ true)
+    × Contains replies (reply.True side shard))
 
 -- the line shows a sliver, or that it is badly encoded by the replies' symbols, or a collision
 abbrev pub IsDecided : Line → Type 0
-IsDecided (line.Recover s a i (recovering.Sliver bytes)) = Unit {0}
-IsDecided (line.Recover s a i recovering.Inconsistent) = Unit {0}
+IsDecided (line.Recover shard axis id (recovering.Sliver bytes)) = Unit {0}
+IsDecided (line.Recover shard axis id recovering.Inconsistent) = Unit {0}
 IsDecided (line.Collision left right) = Unit {0}
 IsDecided _ = ⊥
 
 -- or that it is so by a proof
 abbrev pub IsSettling : Line → Type 0
-IsSettling (line.Recover s a i recovering.Proof) = Unit {0}
+IsSettling (line.Recover shard axis id recovering.Proof) = Unit {0}
 IsSettling said = IsDecided said
 
 -- RECOVERIES COMPLETE: a correct shard that recovers its sliver of a live blob from enough replies

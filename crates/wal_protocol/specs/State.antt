@@ -42,55 +42,59 @@ pub record World : Type 0 where
 
 -- the committee of a side
 abbrev pub side_of : Side → World → Committee
-side_of Now w = w.now
-side_of Next w = w.next
+side_of Now world = world.now
+side_of Next world = world.next
 
 -- the world with this committee on a side
 abbrev pub with_side : Side → World → Committee → World
-with_side Now w c = record w { now = c }
-with_side Next w c = record w { next = c }
+with_side Now world committee = record world { now = committee }
+with_side Next world committee = record world { next = committee }
 
 -- the next committee is there while the epoch changes
 abbrev pub is_present : Side → World → Bool
-is_present Now w = true
-is_present Next w = is_moving w.log
+is_present Now world = true
+is_present Next world = is_moving world.log
 
 -- the epoch that a committee belongs to
 abbrev pub epoch_of : Side → World → ℕ
-epoch_of Now w = reading w.log
-epoch_of Next w = writing w.log
+epoch_of Now world = reading world.log
+epoch_of Next world = writing world.log
 
 -- the committee that takes new blobs
 abbrev pub writing_side : World → Side
-writing_side w = cond (is_moving w.log) Next Now
+writing_side world = cond (is_moving world.log) Next Now
 
 -- whether the shard of a side is there and correct
 abbrev pub is_correct : Side → World → ℕ → Bool
-is_correct side w shard = is_present side w && not (among (side_of side w).faulty shard)
+is_correct side world shard = is_present side world && not (among (side_of side world).faulty shard)
 
 -- what a shard holds, and what it holds of one blob
 abbrev pub contents_of : Committee → ℕ → Contents
-contents_of c shard = slice_index_or c.shards shard map.empty
+contents_of committee shard = slice_index_or committee.shards shard map.empty
 
 -- what a shard of a committee holds of a blob
 unfoldable pub held : Committee → ℕ → BlobId → Parts
-held c shard id = parts_at (contents_of c shard) id
+held committee shard id = parts_at (contents_of committee shard) id
 
 -- the committee once a shard holds this
 unfoldable pub with_contents : Committee → ℕ → Contents → Committee
-with_contents c shard contents = record c { shards = slice_set c.shards shard contents }
+with_contents committee shard contents =
+    record committee { shards = slice_set committee.shards shard contents }
 
 -- the world once a shard of a side does
 abbrev pub keeps : World → Side → ℕ → Contents → World
-keeps w side shard contents = with_side side w (with_contents (side_of side w) shard contents)
+keeps world side shard contents =
+    with_side side world (with_contents (side_of side world) shard contents)
 
 -- the correct shards of a committee that are settled for a blob, as a set
 abbrev pub settled_in : Committee → BlobId → (ℕ → Bool)
-settled_in c id shard = not (among c.faulty shard) && settled (held c shard id)
+settled_in committee id shard =
+    not (among committee.faulty shard) && settled (held committee shard id)
 
 -- how many correct shards of the home committee are settled for a blob
 abbrev pub holders : World → BlobId → ℕ
-holders w id = count_below (committee_size w.log.f) (settled_in (side_of (home_of w.log id) w) id)
+holders world id =
+    count_below (committee_size world.log.f) (settled_in (side_of (home_of world.log id) world) id)
 
 -- the verdict that a first completed answer gives
 abbrev pub verdict_of : First → Verdict

@@ -78,23 +78,27 @@ is_clash _ = false
 -- puts of frames to shards of a committee, in order, up to the first that finds another metadata
 -- held: whether one did
 abbrev pub PutsEach : Rules → Log → Committee → List (ℕ × Frame) → Bool → Committee → Type 0
-PutsEach r log c [] clashed new = (clashed ≡ false) × (new ≡ c)
-PutsEach r log c (p ∷ more) clashed new =
+PutsEach rules log committee [] clashed new = (clashed ≡ false) × (new ≡ committee)
+PutsEach rules log committee (letter ∷ more) clashed new =
     (answer : PutAnswer) × (contents : Contents)
-    × r.Puts log p.0 (contents_of c p.0) p.1 answer contents
-    × cond (is_clash answer) ((clashed ≡ true) × (new ≡ c))
-    (PutsEach r log (with_contents c p.0 contents) more clashed new)
+    × rules.Puts log letter.0 (contents_of committee letter.0) letter.1 answer contents
+    × cond (is_clash answer) ((clashed ≡ true) × (new ≡ committee))
+    (PutsEach rules log (with_contents committee letter.0 contents) more clashed new)
 
 -- the frames for the correct ones of these shards, in order
 abbrev pub letters : World → Side → (ℕ → List Frame) → List ℕ → List (ℕ × Frame)
-letters w side message to =
-    flat_map (λ s. cond (is_correct side w s) (map (λ frame. (s, frame)) (message s)) []) to
+letters world side message to =
+    flat_map (λ shard.
+    cond (is_correct side world shard) (map (λ frame. (shard, frame)) (message shard)) []) to
 
 -- how many correct ones of these shards hold what was sent to them
 abbrev pub stored_at : Rules → World → Side → (ℕ → List Frame) → List ℕ → BlobId → ℕ
-stored_at r w side message to id =
+stored_at rules world side message to id =
     length
-    (filter (λ s. is_correct side w s && r.has_message (message s) (held (side_of side w) s id)) to)
+    (filter
+    (λ shard. is_correct side world shard
+    && rules.has_message (message shard) (held (side_of side world) shard id))
+    to)
 
 -- a first completed answer, where there is one, gives this verdict
 abbrev pub AgreesWithFirst : finmap.FinMap id_cmp First → BlobId → Verdict → Type 0
@@ -108,98 +112,104 @@ Differs answers id told =
 
 -- AN HONEST WRITE of a blob: the honest writer's frames are put to the correct ones of these shards
 -- on the writing side, in order, up to the first put that finds another metadata held
-pub record IsWrite (r : Rules) (old : World) (blob to : List ℕ)
+pub record IsWrite (rules : Rules) (old : World) (blob to : List ℕ)
     (id : BlobId) (clashed : Bool) : Type 0 where
   pub message : ℕ → List Frame
-  pub honest : r.IsMessage old.format blob id message
+  pub honest : rules.IsMessage old.format blob id message
   pub mid : Committee
-  pub puts : PutsEach r old.log (side_of (writing_side old) old)
+  pub puts : PutsEach rules old.log (side_of (writing_side old) old)
       (letters old (writing_side old) message to) clashed mid
 
 -- it is done: its bytes are a completed answer
-pub record WriteStep (r : Rules) (old : World) (blob to : List ℕ)
+pub record WriteStep (rules : Rules) (old : World) (blob to : List ℕ)
     (id : BlobId) (count : ℕ) (new : World) : Type 0 where
-  pub write : IsWrite r old blob to id false
+  pub write : IsWrite rules old blob to id false
   pub agrees : AgreesWithFirst old.answers id (verdict.Bytes blob)
   pub state : new ≡ record (with_side (writing_side old) old write.mid) {
     answers = answered old.answers id (Written blob);
   }
-  pub counted : count ≡ stored_at r new (writing_side old) write.message to id
+  pub counted : count ≡ stored_at rules new (writing_side old) write.message to id
 
 -- it ends in a collision: a put found another metadata, or the first completed answer is another
 -- one
-pub record WriteCollides (r : Rules) (old : World) (blob to : List ℕ) (new : World) : Type 0 where
+pub record WriteCollides (rules : Rules) (old : World)
+    (blob to : List ℕ) (new : World) : Type 0 where
   pub id : BlobId
   pub clashed : Bool
-  pub write : IsWrite r old blob to id clashed
+  pub write : IsWrite rules old blob to id clashed
   pub differs : clashed ≡ false → Differs old.answers id (verdict.Bytes blob)
   pub state : new ≡ with_side (writing_side old) old write.mid
 
 -- the shard of a side is there and faulty
 abbrev pub IsIgnored : World → Side → ℕ → Type 0
-IsIgnored w side shard = (is_present side w ≡ true) × (among (side_of side w).faulty shard ≡ true)
+IsIgnored world side shard =
+    (is_present side world ≡ true) × (among (side_of side world).faulty shard ≡ true)
 
 -- what the put of the frame that these bytes are comes to
 abbrev pub IsPut : Rules → World → Side → ℕ → List ℕ → PutAnswer → Frame → Contents → Type 0
-IsPut r old side shard bytes answer frame contents =
-    (is_correct side old shard ≡ true) × r.IsPutFrame bytes frame
-    × r.Puts old.log shard (contents_of (side_of side old) shard) frame answer contents
+IsPut rules old side shard bytes answer frame contents =
+    (is_correct side old shard ≡ true) × rules.IsPutFrame bytes frame
+    × rules.Puts old.log shard (contents_of (side_of side old) shard) frame answer contents
 
 -- it is refused
 abbrev pub Refused : Rules → World → Side → ℕ → List ℕ → PutAnswer → World → Type 0
-Refused r old side shard bytes answer new =
-    (frame : Frame) × (contents : Contents) × IsPut r old side shard bytes answer frame contents
+Refused rules old side shard bytes answer new =
+    (frame : Frame) × (contents : Contents) × IsPut rules old side shard bytes answer frame contents
     × (new ≡ old)
 
 -- BYTES SENT to a shard: it takes only what verifies
 abbrev pub SendStep : Rules → World → Side → ℕ → List ℕ → SendWord → World → Type 0
-SendStep r old side shard bytes sending.Absent new = (is_present side old ≡ false) × (new ≡ old)
-SendStep r old side shard bytes sending.Ignored new = IsIgnored old side shard × (new ≡ old)
-SendStep r old side shard bytes sending.Malformed new =
-    (is_correct side old shard ≡ true) × ((frame : Frame) → r.IsPutFrame bytes frame → ⊥)
+SendStep rules old side shard bytes sending.Absent new = (is_present side old ≡ false) × (new ≡ old)
+SendStep rules old side shard bytes sending.Ignored new = IsIgnored old side shard × (new ≡ old)
+SendStep rules old side shard bytes sending.Malformed new =
+    (is_correct side old shard ≡ true) × ((frame : Frame) → rules.IsPutFrame bytes frame → ⊥)
     × (new ≡ old)
-SendStep r old side shard bytes sending.Unregistered new =
-    Refused r old side shard bytes putting.Unregistered new
-SendStep r old side shard bytes sending.NoMetadata new =
-    Refused r old side shard bytes putting.NoMetadata new
-SendStep r old side shard bytes sending.Unverified new =
-    Refused r old side shard bytes putting.Unverified new
-SendStep r old side shard bytes sending.Held new = Refused r old side shard bytes putting.Held new
-SendStep r old side shard bytes sending.Stored new =
+SendStep rules old side shard bytes sending.Unregistered new =
+    Refused rules old side shard bytes putting.Unregistered new
+SendStep rules old side shard bytes sending.NoMetadata new =
+    Refused rules old side shard bytes putting.NoMetadata new
+SendStep rules old side shard bytes sending.Unverified new =
+    Refused rules old side shard bytes putting.Unverified new
+SendStep rules old side shard bytes sending.Held new =
+    Refused rules old side shard bytes putting.Held new
+SendStep rules old side shard bytes sending.Stored new =
     (frame : Frame) × (contents : Contents)
-    × IsPut r old side shard bytes putting.Stored frame contents
+    × IsPut rules old side shard bytes putting.Stored frame contents
     × (new ≡ keeps old side shard contents)
 
 -- one that ends in a collision: another metadata of the identifier is held
 abbrev pub SendCollides : Rules → World → Side → ℕ → List ℕ → World → Type 0
-SendCollides r old side shard bytes new =
+SendCollides rules old side shard bytes new =
     (frame : Frame) × (contents : Contents) × (answer : PutAnswer) × (is_clash answer ≡ true)
-    × IsPut r old side shard bytes answer frame contents × (new ≡ old)
+    × IsPut rules old side shard bytes answer frame contents × (new ≡ old)
 
 -- every shard of this one's node, by these owners, passes
 abbrev pub NodeAll : World → List ℕ → ℕ → (ℕ → Type 0) → Type 0
-NodeAll w owners shard P =
-    (s : ℕ) → s < committee_size w.log.f → same_node owners shard s ≡ true → P s
+NodeAll world owners shard P =
+    (told_shard : ℕ) → told_shard < committee_size world.log.f
+    → same_node owners shard told_shard ≡ true → P told_shard
 
 -- the node of the shard may say so: the shard is faulty, or each shard of its node holds what backs
 -- it
 abbrev pub MayPost : World → Kind → ℕ → BlobId → Type 0
-MayPost w kind shard id =
-    is_correct (writing_side w) w shard ≡ true
-    → NodeAll w (owners_of Next w.log) shard
-    (λ s. backs kind (held (side_of (writing_side w) w) s id) ≡ true)
+MayPost world kind shard id =
+    is_correct (writing_side world) world shard ≡ true
+    → NodeAll world (owners_of Next world.log) shard
+    (λ told_shard. backs kind (held (side_of (writing_side world) world) told_shard id) ≡ true)
 
 -- the shard is correct, and some shard of its node does not
 abbrev pub Declines : World → Kind → ℕ → BlobId → Type 0
-Declines w kind shard id =
-    (is_correct (writing_side w) w shard ≡ true)
-    × (s : ℕ) × (s < committee_size w.log.f) × (same_node (owners_of Next w.log) shard s ≡ true)
-    × (backs kind (held (side_of (writing_side w) w) s id) ≡ false)
+Declines world kind shard id =
+    (is_correct (writing_side world) world shard ≡ true)
+    × (told_shard : ℕ) × (told_shard < committee_size world.log.f)
+    × (same_node (owners_of Next world.log) shard told_shard ≡ true)
+    × (backs kind (held (side_of (writing_side world) world) told_shard id) ≡ false)
 
 -- it said so before
 abbrev pub SaidBefore : World → Kind → ℕ → BlobId → Type 0
-SaidBefore w kind shard id =
-    IsOpen w.log id × MayPost w kind shard id × (signers w.log id kind (writing w.log) shard ≡ true)
+SaidBefore world kind shard id =
+    IsOpen world.log id × MayPost world kind shard id
+    × (signers world.log id kind (writing world.log) shard ≡ true)
 
 -- it says so now, and so many shards are then of nodes that did
 pub record ClaimStep (old : World) (kind : Kind) (shard : ℕ)
@@ -237,32 +247,34 @@ AttestStep old shard id (attesting.Invalid count) new =
 
 -- the payloads of a reply to a reader: nothing from a shard that is absent or faulty
 abbrev pub reply_payloads : Rules → World → BlobId → Reply → List (List ℕ)
-reply_payloads r w id (reply.True side shard) =
-    cond (is_correct side w shard) (r.read_reply id shard (held (side_of side w) shard id)) []
-reply_payloads r w id (reply.Bytes bytes) = bytes ∷ []
+reply_payloads rules world id (reply.True side shard) =
+    cond (is_correct side world shard)
+    (rules.read_reply id shard (held (side_of side world) shard id)) []
+reply_payloads rules world id (reply.Bytes bytes) = bytes ∷ []
 
 -- those of all replies, in order
 abbrev pub read_payloads : Rules → World → BlobId → List Reply → List (List ℕ)
-read_payloads r w id replies = flat_map (reply_payloads r w id) replies
+read_payloads rules world id replies = flat_map (reply_payloads rules world id) replies
 
 -- a read completes: it agrees with the first completed answer, or is it
-pub record ReadCompletes (r : Rules) (old : World) (id : BlobId) (replies : List Reply)
+pub record ReadCompletes (rules : Rules) (old : World) (id : BlobId) (replies : List Reply)
     (word : ReadWord) (told : Verdict) (new : World) : Type 0 where
   pub evidence : Evidence
-  pub reads : r.Reads id (read_payloads r old id replies) word (Some evidence)
+  pub reads : rules.Reads id (read_payloads rules old id replies) word (Some evidence)
   pub agrees : AgreesWithFirst old.answers id told
   pub state : new ≡ record old { answers = answered old.answers id (Judged evidence told) }
 
 -- A READ of these replies
 abbrev pub ReadStep : Rules → World → BlobId → List Reply → ReadWord → World → Type 0
-ReadStep r old id replies (reading_of.Bytes bytes) new =
-    ReadCompletes r old id replies (reading_of.Bytes bytes) (verdict.Bytes bytes) new
-ReadStep r old id replies reading_of.Reject new =
-    ReadCompletes r old id replies reading_of.Reject verdict.Reject new
-ReadStep r old id replies (reading_of.Short have need) new =
-    r.Reads id (read_payloads r old id replies) (reading_of.Short have need) None × (new ≡ old)
-ReadStep r old id replies reading_of.NoMetadata new =
-    r.Reads id (read_payloads r old id replies) reading_of.NoMetadata None × (new ≡ old)
+ReadStep rules old id replies (reading_of.Bytes bytes) new =
+    ReadCompletes rules old id replies (reading_of.Bytes bytes) (verdict.Bytes bytes) new
+ReadStep rules old id replies reading_of.Reject new =
+    ReadCompletes rules old id replies reading_of.Reject verdict.Reject new
+ReadStep rules old id replies (reading_of.Short have need) new =
+    rules.Reads id (read_payloads rules old id replies) (reading_of.Short have need) None
+    × (new ≡ old)
+ReadStep rules old id replies reading_of.NoMetadata new =
+    rules.Reads id (read_payloads rules old id replies) reading_of.NoMetadata None × (new ≡ old)
 
 -- the verdict that a completed read shows
 abbrev pub told_by : ReadWord → Option Verdict
@@ -272,80 +284,84 @@ told_by _ = None
 
 -- one that ends in a collision: two metadata differ, or the verdict is not that of the first
 -- completed answer
-pub data ReadCollides (r : Rules) (old : World) (id : BlobId) (replies : List Reply) : Type 0 where
-  two_metadata : r.HasTwoMetadata id (read_payloads r old id replies)
-      → ReadCollides r old id replies
+pub data ReadCollides (rules : Rules) (old : World)
+    (id : BlobId) (replies : List Reply) : Type 0 where
+  two_metadata : rules.HasTwoMetadata id (read_payloads rules old id replies)
+      → ReadCollides rules old id replies
   other_answer : (word : ReadWord) (told : Verdict) (evidence : Evidence)
-      → r.Reads id (read_payloads r old id replies) word (Some evidence) → told_by word ≡ Some told
-      → Differs old.answers id told → ReadCollides r old id replies
+      → rules.Reads id (read_payloads rules old id replies) word (Some evidence)
+      → told_by word ≡ Some told
+      → Differs old.answers id told → ReadCollides rules old id replies
 
 -- the payloads of a reply to a shard that recovers its sliver of an axis
 abbrev pub IsReplyOf : Rules → World → BlobId → Axis → ℕ → Reply → List (List ℕ) → Type 0
-IsReplyOf r w id axis shard (reply.True side s) payloads =
-    cond (is_correct side w s)
-    (r.IsSymbolReply id s (held (side_of side w) s id) axis shard payloads) (payloads ≡ [])
-IsReplyOf r w id axis shard (reply.Bytes bytes) payloads = payloads ≡ bytes ∷ []
+IsReplyOf rules world id axis shard (reply.True side told_shard) payloads =
+    cond (is_correct side world told_shard)
+    (rules.IsSymbolReply id told_shard
+    (held (side_of side world) told_shard id) axis shard payloads)
+    (payloads ≡ [])
+IsReplyOf rules world id axis shard (reply.Bytes bytes) payloads = payloads ≡ bytes ∷ []
 
 -- those of all replies, in order
 abbrev pub AreReplies : Rules → World → BlobId → Axis → ℕ → List Reply → List (List ℕ) → Type 0
-AreReplies r w id axis shard [] payloads = payloads ≡ []
-AreReplies r w id axis shard (one ∷ more) payloads =
-    (first : List (List ℕ)) × (rest : List (List ℕ)) × IsReplyOf r w id axis shard one first
-    × AreReplies r w id axis shard more rest × (payloads ≡ first ++ rest)
+AreReplies rules world id axis shard [] payloads = payloads ≡ []
+AreReplies rules world id axis shard (one ∷ more) payloads =
+    (first : List (List ℕ)) × (rest : List (List ℕ)) × IsReplyOf rules world id axis shard one first
+    × AreReplies rules world id axis shard more rest × (payloads ≡ first ++ rest)
 
 -- the recovery runs: the shard is correct, the identifier is live, and no two metadata differ
-pub record RecoveryRuns (r : Rules) (old : World) (side : Side) (shard : ℕ) (axis : Axis)
+pub record RecoveryRuns (rules : Rules) (old : World) (side : Side) (shard : ℕ) (axis : Axis)
     (id : BlobId) (replies : List Reply) (word : RecoverWord) (contents : Contents) : Type 0 where
   pub correct : is_correct side old shard ≡ true
   pub live : is_live old.log id ≡ true
   pub payloads : List (List ℕ)
-  pub replied : AreReplies r old id axis shard replies payloads
-  pub one_metadata : r.ContradictsHeld id (held (side_of side old) shard id) payloads → ⊥
-  pub recovers : r.Recovers id shard axis
+  pub replied : AreReplies rules old id axis shard replies payloads
+  pub one_metadata : rules.ContradictsHeld id (held (side_of side old) shard id) payloads → ⊥
+  pub recovers : rules.Recovers id shard axis
       (contents_of (side_of side old) shard) payloads word contents
 
 -- and the shard keeps what it found
 abbrev pub Gains : Rules → World → Side → ℕ → Axis → BlobId → List Reply → RecoverWord → World
     → Type 0
-Gains r old side shard axis id replies word new =
-    (contents : Contents) × RecoveryRuns r old side shard axis id replies word contents
+Gains rules old side shard axis id replies word new =
+    (contents : Contents) × RecoveryRuns rules old side shard axis id replies word contents
     × (new ≡ keeps old side shard contents)
 
 -- or there is nothing to keep
 abbrev pub Lacks : Rules → World → Side → ℕ → Axis → BlobId → List Reply → RecoverWord → World
     → Type 0
-Lacks r old side shard axis id replies word new =
-    (contents : Contents) × RecoveryRuns r old side shard axis id replies word contents
+Lacks rules old side shard axis id replies word new =
+    (contents : Contents) × RecoveryRuns rules old side shard axis id replies word contents
     × (new ≡ old)
 
 -- A RECOVERY by a shard of a side, of its sliver of an axis
 abbrev pub RecoverStep : Rules → World → Side → ℕ → Axis → BlobId → List Reply → RecoverWord → World
     → Type 0
-RecoverStep r old side shard axis id replies recovering.Absent new =
+RecoverStep rules old side shard axis id replies recovering.Absent new =
     (is_present side old ≡ false) × (new ≡ old)
-RecoverStep r old side shard axis id replies recovering.Ignored new =
+RecoverStep rules old side shard axis id replies recovering.Ignored new =
     IsIgnored old side shard × (new ≡ old)
-RecoverStep r old side shard axis id replies recovering.Unregistered new =
+RecoverStep rules old side shard axis id replies recovering.Unregistered new =
     (is_correct side old shard ≡ true) × (is_live old.log id ≡ false) × (new ≡ old)
-RecoverStep r old side shard axis id replies recovering.NoMetadata new =
-    Lacks r old side shard axis id replies recovering.NoMetadata new
-RecoverStep r old side shard axis id replies (recovering.Short have need) new =
-    Lacks r old side shard axis id replies (recovering.Short have need) new
-RecoverStep r old side shard axis id replies (recovering.Sliver bytes) new =
-    Gains r old side shard axis id replies (recovering.Sliver bytes) new
-RecoverStep r old side shard axis id replies recovering.Inconsistent new =
-    Gains r old side shard axis id replies recovering.Inconsistent new
-RecoverStep r old side shard axis id replies recovering.Proof new =
-    Gains r old side shard axis id replies recovering.Proof new
+RecoverStep rules old side shard axis id replies recovering.NoMetadata new =
+    Lacks rules old side shard axis id replies recovering.NoMetadata new
+RecoverStep rules old side shard axis id replies (recovering.Short have need) new =
+    Lacks rules old side shard axis id replies (recovering.Short have need) new
+RecoverStep rules old side shard axis id replies (recovering.Sliver bytes) new =
+    Gains rules old side shard axis id replies (recovering.Sliver bytes) new
+RecoverStep rules old side shard axis id replies recovering.Inconsistent new =
+    Gains rules old side shard axis id replies recovering.Inconsistent new
+RecoverStep rules old side shard axis id replies recovering.Proof new =
+    Gains rules old side shard axis id replies recovering.Proof new
 
 -- one that ends in a collision: two metadata differ, among the replies and what the shard holds
-pub record RecoverCollides (r : Rules) (old : World) (side : Side) (shard : ℕ)
+pub record RecoverCollides (rules : Rules) (old : World) (side : Side) (shard : ℕ)
     (axis : Axis) (id : BlobId) (replies : List Reply) : Type 0 where
   pub correct : is_correct side old shard ≡ true
   pub live : is_live old.log id ≡ true
   pub payloads : List (List ℕ)
-  pub replied : AreReplies r old id axis shard replies payloads
-  pub two_metadata : r.ContradictsHeld id (held (side_of side old) shard id) payloads
+  pub replied : AreReplies rules old id axis shard replies payloads
+  pub two_metadata : rules.ContradictsHeld id (held (side_of side old) shard id) payloads
 
 -- FORGETTING by a shard of a side
 abbrev pub ForgetStep : World → Side → ℕ → BlobId → ForgetWord → World → Type 0
@@ -360,16 +376,17 @@ ForgetStep old side shard id forgetting.Done new =
 
 -- a shard is carried over where it stays, is correct on both sides and has the same node on both
 abbrev pub is_carried_over : World → List ℕ → List ℕ → List ℕ → ℕ → Bool
-is_carried_over w owners faulty stays shard =
-    is_carried (owners_of Now w.log) w.now.faulty owners faulty stays shard
+is_carried_over world owners faulty stays shard =
+    is_carried (owners_of Now world.log) world.now.faulty owners faulty stays shard
 
 -- the next committee at its beginning: carried shards have what they hold, and all others nothing
 abbrev pub next_committee : World → List ℕ → List ℕ → List ℕ → Committee
-next_committee w owners faulty stays = record {
+next_committee world owners faulty stays = record {
   faulty = faulty;
   shards = map
-      (λ s. cond (is_carried_over w owners faulty stays s) (contents_of w.now s) finmap.empty)
-      (range_with_len 0 (committee_size w.log.f));
+      (λ shard. cond (is_carried_over world owners faulty stays shard)
+      (contents_of world.now shard) finmap.empty)
+      (range_with_len 0 (committee_size world.log.f));
 }
 
 -- THE EPOCH BEGINS TO CHANGE
@@ -388,19 +405,23 @@ BeginStep old owners faulty stays (beginning.Epoch epoch) new =
 
 -- a shard of the next committee is settled for all that must be held
 abbrev pub HoldsAll : World → ℕ → Type 0
-HoldsAll w shard = (id : BlobId) → MustHold w.log id → settled (held w.next shard id) ≡ true
+HoldsAll world shard =
+    (id : BlobId) → MustHold world.log id → settled (held world.next shard id) ≡ true
 
 -- the node of the shard may say that it is ready: the shard is faulty, or each shard of its node
 -- holds all
 abbrev pub MayBeReady : World → ℕ → Type 0
-MayBeReady w shard =
-    is_correct Next w shard ≡ true → NodeAll w (owners_of Next w.log) shard (HoldsAll w)
+MayBeReady world shard =
+    is_correct Next world shard ≡ true
+    → NodeAll world (owners_of Next world.log) shard (HoldsAll world)
 
 -- the shard is correct, and some shard of its node does not hold all
 abbrev pub IsUnready : World → ℕ → Type 0
-IsUnready w shard =
-    (is_correct Next w shard ≡ true) × (s : ℕ) × (s < committee_size w.log.f)
-    × (same_node (owners_of Next w.log) shard s ≡ true) × (HoldsAll w s → ⊥)
+IsUnready world shard =
+    (is_correct Next world shard ≡ true) × (told_shard : ℕ)
+    × (told_shard < committee_size world.log.f)
+    × (same_node (owners_of Next world.log) shard told_shard ≡ true)
+    × (HoldsAll world told_shard → ⊥)
 
 -- A SHARD OF THE NEXT COMMITTEE IS READY
 abbrev pub ReadyStep : World → ℕ → ReadyWord → World → Type 0
@@ -417,7 +438,7 @@ ReadyStep old shard (readying.Counted count) new =
 
 -- a committee whose shards dropped what is no longer live
 abbrev pub after_dropping : Log → Committee → Committee
-after_dropping log c = record c { shards = map (without_dead log) c.shards }
+after_dropping log committee = record committee { shards = map (without_dead log) committee.shards }
 
 -- THE NEXT EPOCH BEGINS, once enough shards are ready: the next committee serves, and drops what is
 -- no longer live
@@ -437,44 +458,48 @@ FinishStep old (finishing.Epoch epoch) new =
 
 -- A CERTIFICATE IS ASKED FOR
 abbrev pub CertificateStep : World → BlobId → CertificateWord → Type 0
-CertificateStep w id (certifying.Certified epoch count) = IsCertificate w.log id epoch count
-CertificateStep w id (certifying.Pending count) =
-    (IsCertified w.log id → ⊥) × (count ≡ signer_count w.log id Holds (writing w.log))
+CertificateStep world id (certifying.Certified epoch count) = IsCertificate world.log id epoch count
+CertificateStep world id (certifying.Pending count) =
+    (IsCertified world.log id → ⊥) × (count ≡ signer_count world.log id Holds (writing world.log))
 
 -- the events that end in a collision
 abbrev pub CollisionStep : Rules → World → Event → World → Type 0
-CollisionStep r old (Write blob to) new = WriteCollides r old blob to new
-CollisionStep r old (Send at shard bytes) new = SendCollides r old at shard bytes new
-CollisionStep r old (Read id replies) new = ReadCollides r old id replies × (new ≡ old)
-CollisionStep r old (Recover at shard axis id replies) new =
-    RecoverCollides r old at shard axis id replies × (new ≡ old)
-CollisionStep r old _ new = ⊥
+CollisionStep rules old (Write blob to) new = WriteCollides rules old blob to new
+CollisionStep rules old (Send at shard bytes) new = SendCollides rules old at shard bytes new
+CollisionStep rules old (Read id replies) new = ReadCollides rules old id replies × (new ≡ old)
+CollisionStep rules old (Recover at shard axis id replies) new =
+    RecoverCollides rules old at shard axis id replies × (new ≡ old)
+CollisionStep rules old _ new = ⊥
 
 -- THE STEP: an event in a state gives a line, and leads to a new state
 abbrev pub Steps : Rules → World → Event → Line → World → Type 0
-Steps r old (Register id until) (line.Register i word) new =
-    (i ≡ id) × RegisterStep old id until word new
-Steps r old (Write blob to) (line.Write i (write_word.Stored count bytes)) new =
-    (bytes ≡ blob) × WriteStep r old blob to i count new
-Steps r old (Send at shard bytes) (line.Send s word) new =
-    (s ≡ shard) × SendStep r old at shard bytes word new
-Steps r old (Ack shard id) (line.Ack s i word) new =
-    (s ≡ shard) × (i ≡ id) × AckStep old shard id word new
-Steps r old (Attest shard id) (line.Attest s i word) new =
-    (s ≡ shard) × (i ≡ id) × AttestStep old shard id word new
-Steps r old (Read id replies) (line.Read i word) new = (i ≡ id) × ReadStep r old id replies word new
-Steps r old (Recover at shard axis id replies) (line.Recover s a i word) new =
-    (s ≡ shard) × (a ≡ axis) × (i ≡ id) × RecoverStep r old at shard axis id replies word new
-Steps r old (Forget at shard id) (line.Forget s i word) new =
-    (s ≡ shard) × (i ≡ id) × ForgetStep old at shard id word new
-Steps r old (Begin owners faulty stays) (line.Begin word) new =
+Steps rules old (Register id until) (line.Register told_id word) new =
+    (told_id ≡ id) × RegisterStep old id until word new
+Steps rules old (Write blob to) (line.Write told_id (write_word.Stored count bytes)) new =
+    (bytes ≡ blob) × WriteStep rules old blob to told_id count new
+Steps rules old (Send at shard bytes) (line.Send told_shard word) new =
+    (told_shard ≡ shard) × SendStep rules old at shard bytes word new
+Steps rules old (Ack shard id) (line.Ack told_shard told_id word) new =
+    (told_shard ≡ shard) × (told_id ≡ id) × AckStep old shard id word new
+Steps rules old (Attest shard id) (line.Attest told_shard told_id word) new =
+    (told_shard ≡ shard) × (told_id ≡ id) × AttestStep old shard id word new
+Steps rules old (Read id replies) (line.Read told_id word) new =
+    (told_id ≡ id) × ReadStep rules old id replies word new
+Steps rules old (Recover at shard axis id replies)
+    (line.Recover told_shard told_axis told_id word) new =
+    (told_shard ≡ shard) × (told_axis ≡ axis) × (told_id ≡ id)
+    × RecoverStep rules old at shard axis id replies word new
+Steps rules old (Forget at shard id) (line.Forget told_shard told_id word) new =
+    (told_shard ≡ shard) × (told_id ≡ id) × ForgetStep old at shard id word new
+Steps rules old (Begin owners faulty stays) (line.Begin word) new =
     BeginStep old owners faulty stays word new
-Steps r old (Ready shard) (line.Ready s word) new = (s ≡ shard) × ReadyStep old shard word new
-Steps r old Finish (line.Finish word) new = FinishStep old word new
-Steps r old (Certificate id) (line.Certificate i word) new =
-    (i ≡ id) × CertificateStep old id word × (new ≡ old)
-Steps r old (Holders id) (line.Holders i (holders_word.Count count)) new =
-    (i ≡ id) × (count ≡ holders old id) × (new ≡ old)
-Steps r old event (line.Collision left right) new =
-    r.IsCollision left right × CollisionStep r old event new
-Steps r old event _ new = ⊥
+Steps rules old (Ready shard) (line.Ready told_shard word) new =
+    (told_shard ≡ shard) × ReadyStep old shard word new
+Steps rules old Finish (line.Finish word) new = FinishStep old word new
+Steps rules old (Certificate id) (line.Certificate told_id word) new =
+    (told_id ≡ id) × CertificateStep old id word × (new ≡ old)
+Steps rules old (Holders id) (line.Holders told_id (holders_word.Count count)) new =
+    (told_id ≡ id) × (count ≡ holders old id) × (new ≡ old)
+Steps rules old event (line.Collision left right) new =
+    rules.IsCollision left right × CollisionStep rules old event new
+Steps rules old event _ new = ⊥

@@ -19,7 +19,7 @@ Possible P = (P → ⊥) → ⊥
 
 -- each number is a byte's; past the end of a list 0 is read
 abbrev pub AreBytes : List ℕ → Type 0
-AreBytes text = (i : ℕ) → slice_index text i < 256
+AreBytes text = (id : ℕ) → slice_index text id < 256
 
 -- what a reply carries are bytes
 abbrev pub ReplyHasBytes : Reply → Type 0
@@ -36,8 +36,9 @@ HasBytes _ = Unit {0}
 
 -- an event in a state has a step: a line, and a new state
 abbrev pub HasStep : Rules → World → Event → Type 0
-HasStep r old event = (said : Line) × (new : World) × Steps r old event said new
+HasStep rules old event = (said : Line) × (new : World) × Steps rules old event said new
 
 -- a schedule has a run
 abbrev pub HasRun : Rules → Schedule → Type 0
-HasRun r s = (states : List World) × (lines : List Line) × IsRun r s states lines
+HasRun rules schedule =
+    (states : List World) × (lines : List Line) × IsRun rules schedule states lines

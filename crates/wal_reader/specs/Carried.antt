@@ -21,8 +21,9 @@ same_axis _ _ = false
 
 -- the opening that a frame carries, where it is one of this identifier, axis and index
 abbrev pub opening_for : List ℕ → Axis → ℕ → Result Frame FrameError → List single.Opening
-opening_for id axis index (Ok (Opening i a k o)) =
-    if pointwise nat_eq i id && (same_axis a axis && nat_eq k index) then o ∷ [] else []
+opening_for id axis index (Ok (Opening of_id along at opening)) =
+    if pointwise nat_eq of_id id && (same_axis along axis && nat_eq at index) then opening ∷ []
+    else []
 opening_for id axis index _ = []
 
 -- the openings of a sliver of this identifier that payloads carry, in order
@@ -32,8 +33,9 @@ openings_in id axis index payloads =
 
 -- the opening that a frame carries, with its target, where it is one of this identifier
 abbrev pub claim_for : List ℕ → Result Frame FrameError → List Claim
-claim_for id (Ok (Opening i a k o)) =
-    if pointwise nat_eq i id then (record { axis = a; index = k; opening = o }) ∷ [] else []
+claim_for id (Ok (Opening of_id along at shown)) =
+    if pointwise nat_eq of_id id then (record { axis = along; index = at; opening = shown }) ∷ []
+    else []
 claim_for id _ = []
 
 -- the openings of this identifier that payloads carry, with their targets, in order
@@ -57,44 +59,47 @@ IsFirst Carries payloads x =
 
 -- the payload is the frame of a proof of this identifier
 abbrev pub CarriesProof : List ℕ → List ℕ → EncodingProof → Type 0
-CarriesProof id payload p = read_of payload ≡ Ok (Proof id p)
+CarriesProof id payload proof = read_of payload ≡ Ok (Proof id proof)
 
 -- no payload carries one
 abbrev pub NoProof : List ℕ → List (List ℕ) → Type 0
 NoProof id payloads = NoneIn (CarriesProof id) payloads
 
--- p is the first one that payloads carry
+-- the proof is the first one that payloads carry
 abbrev pub IsFirstProof : List ℕ → List (List ℕ) → EncodingProof → Type 0
-IsFirstProof id payloads p = IsFirst (CarriesProof id) payloads p
+IsFirstProof id payloads proof = IsFirst (CarriesProof id) payloads proof
 
--- the payload is the frame of a proof of this identifier that is bad for m
+-- the payload is the frame of a proof of this identifier that is bad for the metadata
 abbrev pub CarriesBadProof : (List ℕ → List ℕ) → List ℕ → BlobMetadata → List ℕ → EncodingProof
     → Type 0
-CarriesBadProof digest id m payload p = CarriesProof id payload p × IsBadProof digest m p
+CarriesBadProof digest id metadata payload proof =
+    CarriesProof id payload proof × IsBadProof digest metadata proof
 
 -- no payload carries one
 abbrev pub NoBadProof : (List ℕ → List ℕ) → List ℕ → BlobMetadata → List (List ℕ) → Type 0
-NoBadProof digest id m payloads = NoneIn (CarriesBadProof digest id m) payloads
+NoBadProof digest id metadata payloads = NoneIn (CarriesBadProof digest id metadata) payloads
 
--- p is the first one that payloads carry
+-- the proof is the first one that payloads carry
 abbrev pub IsFirstBadProof : (List ℕ → List ℕ) → List ℕ → BlobMetadata → List (List ℕ)
     → EncodingProof → Type 0
-IsFirstBadProof digest id m payloads p = IsFirst (CarriesBadProof digest id m) payloads p
+IsFirstBadProof digest id metadata payloads proof =
+    IsFirst (CarriesBadProof digest id metadata) payloads proof
 
--- the payload is the frame of a sliver of this identifier, axis and index that m commits
+-- the payload is the frame of a sliver of this identifier, axis and index that the metadata commits
 abbrev pub CarriesHeldSliver : (List ℕ → List ℕ) → List ℕ → BlobMetadata → Axis → ℕ → List ℕ
     → List ℕ → Type 0
-CarriesHeldSliver digest id m axis index payload bytes =
-    (read_of payload ≡ Ok (Sliver id axis index bytes)) × HoldsSliver digest m axis index bytes
+CarriesHeldSliver digest id metadata axis index payload bytes =
+    (read_of payload ≡ Ok (Sliver id axis index bytes))
+    × HoldsSliver digest metadata axis index bytes
 
 -- no payload carries one
 abbrev pub NoHeldSliver : (List ℕ → List ℕ) → List ℕ → BlobMetadata → Axis → ℕ → List (List ℕ)
     → Type 0
-NoHeldSliver digest id m axis index payloads =
-    NoneIn (CarriesHeldSliver digest id m axis index) payloads
+NoHeldSliver digest id metadata axis index payloads =
+    NoneIn (CarriesHeldSliver digest id metadata axis index) payloads
 
 -- these are the bytes of the first one that payloads carry
 abbrev pub IsFirstHeldSliver : (List ℕ → List ℕ) → List ℕ → BlobMetadata → Axis → ℕ → List (List ℕ)
     → List ℕ → Type 0
-IsFirstHeldSliver digest id m axis index payloads bytes =
-    IsFirst (CarriesHeldSliver digest id m axis index) payloads bytes
+IsFirstHeldSliver digest id metadata axis index payloads bytes =
+    IsFirst (CarriesHeldSliver digest id metadata axis index) payloads bytes

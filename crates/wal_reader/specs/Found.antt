@@ -8,15 +8,17 @@ use Rattle.wal_reader.specs.Outcome.{AreFirstTwo, HasMetadata, IsMetadataIn}
 
 -- none, one, or two that differ
 abbrev pub Finds : (List ℕ → List ℕ) → List ℕ → List (List ℕ) → FoundMetadata → Type 0
-Finds digest id payloads Absent = (m : BlobMetadata) → HasMetadata digest id payloads m → ⊥
-Finds digest id payloads (One m) = IsMetadataIn digest id payloads (metadata_shown m)
-Finds digest id payloads (Two a b) =
-    HasMetadata digest id payloads (metadata_shown a)
-    × HasMetadata digest id payloads (metadata_shown b) × (metadata_shown a ≢ metadata_shown b)
+Finds digest id payloads Absent =
+    (metadata : BlobMetadata) → HasMetadata digest id payloads metadata → ⊥
+Finds digest id payloads (One metadata) = IsMetadataIn digest id payloads (metadata_shown metadata)
+Finds digest id payloads (Two one byte) =
+    HasMetadata digest id payloads (metadata_shown one)
+    × HasMetadata digest id payloads (metadata_shown byte)
+    × (metadata_shown one ≢ metadata_shown byte)
 
 -- of two that differ, the first one, and the first that differs from it
 abbrev pub AreFirst : (List ℕ → List ℕ) → List ℕ → List (List ℕ) → FoundMetadata → Type 0
 AreFirst digest id payloads Absent = ⊤
-AreFirst digest id payloads (One m) = ⊤
-AreFirst digest id payloads (Two a b) =
-    AreFirstTwo digest id payloads (metadata_shown a) (metadata_shown b)
+AreFirst digest id payloads (One metadata) = ⊤
+AreFirst digest id payloads (Two one byte) =
+    AreFirstTwo digest id payloads (metadata_shown one) (metadata_shown byte)

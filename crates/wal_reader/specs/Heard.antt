@@ -18,7 +18,7 @@ use Rattle.wal_reader.specs.Outcome.{AreFirstTwo, Collects, HasMetadata, IsFirst
 abbrev pub CarriesNoPart : List ℕ → List ℕ → Type 0
 CarriesNoPart id payload =
     ((index : ℕ) (bytes : List ℕ) → read_of payload ≡ Ok (Sliver id Primary index bytes) → ⊥)
-    × ((p : EncodingProof) → CarriesProof id payload p → ⊥)
+    × ((other : EncodingProof) → CarriesProof id payload other → ⊥)
 
 -- the parts are the payloads without those that carry neither
 pub data Sifts (id : List ℕ) : List (List ℕ) → List (List ℕ) → Type 0 where
@@ -33,40 +33,42 @@ pub data Sifts (id : List ℕ) : List (List ℕ) → List (List ℕ) → Type 0 
 -- the first bad proof, where there is one
 abbrev pub IsProofFound : (List ℕ → List ℕ) → List ℕ → BlobMetadata → List (List ℕ)
     → Option EncodingProof → Type 0
-IsProofFound digest id m payloads (Some p) = IsFirstBadProof digest id m payloads p
-IsProofFound digest id m payloads None = NoBadProof digest id m payloads
+IsProofFound digest id metadata payloads (Some other) =
+    IsFirstBadProof digest id metadata payloads other
+IsProofFound digest id metadata payloads None = NoBadProof digest id metadata payloads
 
 -- as many slivers are held as are needed
 abbrev pub IsEnough : Known → Type 0
-IsEnough k = length k.collected.indices.items ≡ row_count k.metadata.f
+IsEnough known = length known.collected.indices.items ≡ row_count known.metadata.f
 
 -- what is kept for a metadata: the first held slivers, and as long as they are too few, the first
 -- bad proof
 pub record HasParts (digest : List ℕ → List ℕ) (id : List ℕ)
-    (k : Known) (payloads : List (List ℕ)) : Type 0 where
-  pub f : k.work.f ≡ k.metadata.f
-  pub slivers : Collects digest id k.metadata payloads
-      k.collected.indices.items k.collected.joined.items
-  pub proof : length k.collected.indices.items < row_count k.metadata.f
-      → IsProofFound digest id k.metadata payloads k.proof
+    (known : Known) (payloads : List (List ℕ)) : Type 0 where
+  pub f : known.work.f ≡ known.metadata.f
+  pub slivers : Collects digest id known.metadata payloads
+      known.collected.indices.items known.collected.joined.items
+  pub proof : length known.collected.indices.items < row_count known.metadata.f
+      → IsProofFound digest id known.metadata payloads known.proof
 
 -- it is kept for the one metadata that the payloads carry, which is their first
 abbrev pub HasKnown : (List ℕ → List ℕ) → List ℕ → Known → List (List ℕ) → Type 0
-HasKnown digest id k payloads =
-    IsMetadataIn digest id payloads k.metadata × HasParts digest id k payloads
-    × IsFirstMetadata digest id payloads k.metadata
+HasKnown digest id known payloads =
+    IsMetadataIn digest id payloads known.metadata × HasParts digest id known payloads
+    × IsFirstMetadata digest id payloads known.metadata
 
 -- what is kept of payloads: the parts as long as there is no metadata; what is held for the one
 -- that there is; or two texts of one digest, where there are two that differ: of the first one, and
 -- the first that differs from it
 abbrev pub HasKept : (List ℕ → List ℕ) → List ℕ → Kept → List (List ℕ) → Type 0
 HasKept digest id (Waiting parts) payloads =
-    ((m : BlobMetadata) → HasMetadata digest id payloads m → ⊥) × Sifts id parts.items payloads
+    ((metadata : BlobMetadata) → HasMetadata digest id payloads metadata → ⊥)
+    × Sifts id parts.items payloads
 HasKept digest id (One k) payloads = HasKnown digest id k payloads
 HasKept digest id (Two clash) payloads =
-    (a : BlobMetadata) × (b : BlobMetadata) × AreFirstTwo digest id payloads a b
+    (one : BlobMetadata) × (other : BlobMetadata) × AreFirstTwo digest id payloads one other
     × IsCollision digest clash.left clash.right
-    × AreDigestedFor digest a b clash.left clash.right
+    × AreDigestedFor digest one other clash.left clash.right
 
 -- enough slivers are held, or two metadata differ
 abbrev pub IsSettledKept : Kept → Type 0

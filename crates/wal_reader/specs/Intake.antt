@@ -33,7 +33,7 @@ pub record IsWrongAt (place : ℕ) (stream : List ℕ) : Type 0 where
   pub wrong : IsWrong rest
 
 abbrev pub AreBytes : List ℕ → Type 0
-AreBytes bytes = All (λ b. b < 256) bytes
+AreBytes bytes = All (λ byte. byte < 256) bytes
 
 -- with any so many bytes more the part of an envelope is whole, and what was heard is as if its
 -- payload had been heard
@@ -45,20 +45,21 @@ ReadsPast digest id heard payloads missing rest =
     × (AreBytes more → HasHeard digest id heard (payloads ++ payload ∷ []))
 
 -- the part of an envelope is kept, or it is read past
-pub data KeepsPart (digest : List ℕ → List ℕ) (id : List ℕ) (i : IntakeState)
+pub data KeepsPart (digest : List ℕ → List ℕ) (id : List ℕ) (intake : IntakeState)
     (payloads : List (List ℕ)) (rest : List ℕ) : Type 0 where
-  kept : i.missing ≡ 0 → rest ≡ i.kept → KeepsPart digest id i payloads rest
-  past : 0 < i.missing → i.kept ≡ [] → ReadsPast digest id i.heard payloads i.missing rest
-      → KeepsPart digest id i payloads rest
+  kept : intake.missing ≡ 0 → rest ≡ intake.kept → KeepsPart digest id intake payloads rest
+  past : 0 < intake.missing → intake.kept ≡ []
+      → ReadsPast digest id intake.heard payloads intake.missing rest
+      → KeepsPart digest id intake payloads rest
 
 -- the stream was taken
 pub record StandsAt (digest : List ℕ → List ℕ) (id : List ℕ)
-    (i : IntakeState) (stream : List ℕ) : Type 0 where
+    (intake : IntakeState) (stream : List ℕ) : Type 0 where
   pub payloads : List (List ℕ)
   pub front : List ℕ
   pub rest : List ℕ
   pub cut : IsCut payloads front rest stream
-  pub heard : HasHeard digest id i.heard payloads
-  pub taken : length stream ≡ i.taken
-  pub place : length front ≡ i.place
-  pub keeps : KeepsPart digest id i payloads rest
+  pub heard : HasHeard digest id intake.heard payloads
+  pub taken : length stream ≡ intake.taken
+  pub place : length front ≡ intake.place
+  pub keeps : KeepsPart digest id intake payloads rest

@@ -24,43 +24,44 @@ use Rattle.wal_reader.specs.declared.outcome.Outcome.TheVariants.{Bytes, Reject,
 
 -- the payload is the frame of a metadata that id commits
 abbrev pub CarriesMetadata : (List ℕ → List ℕ) → List ℕ → BlobMetadata → List ℕ → Type 0
-CarriesMetadata digest id m payload = (read_of payload ≡ Ok (Metadata m)) × Commits digest id m
+CarriesMetadata digest id metadata payload =
+    (read_of payload ≡ Ok (Metadata metadata)) × Commits digest id metadata
 
--- the payload is the frame of a primary sliver of this identifier that m commits
+-- the payload is the frame of a primary sliver of this identifier that the metadata commits
 abbrev pub CarriesSliver : (List ℕ → List ℕ) → List ℕ → BlobMetadata → List ℕ → ℕ → List ℕ → Type 0
-CarriesSliver digest id m payload index bytes =
-    CarriesHeldSliver digest id m Primary index payload bytes
+CarriesSliver digest id metadata payload index bytes =
+    CarriesHeldSliver digest id metadata Primary index payload bytes
 
--- some payload carries the metadata m
+-- some payload carries the metadata
 abbrev pub HasMetadata : (List ℕ → List ℕ) → List ℕ → List (List ℕ) → BlobMetadata → Type 0
-HasMetadata digest id payloads m = Any (CarriesMetadata digest id m) payloads
+HasMetadata digest id payloads metadata = Any (CarriesMetadata digest id metadata) payloads
 
--- m is the one metadata that the payloads carry
+-- this is the one metadata that the payloads carry
 abbrev pub IsMetadataIn : (List ℕ → List ℕ) → List ℕ → List (List ℕ) → BlobMetadata → Type 0
-IsMetadataIn digest id payloads m =
-    HasMetadata digest id payloads m
-    × ((other : BlobMetadata) → HasMetadata digest id payloads other → other ≡ m)
+IsMetadataIn digest id payloads metadata =
+    HasMetadata digest id payloads metadata
+    × ((other : BlobMetadata) → HasMetadata digest id payloads other → other ≡ metadata)
 
--- a payload carries m, and none before it carries any
+-- a payload carries the metadata, and none before it carries any
 abbrev pub IsFirstMetadata : (List ℕ → List ℕ) → List ℕ → List (List ℕ) → BlobMetadata → Type 0
-IsFirstMetadata digest id payloads m =
+IsFirstMetadata digest id payloads metadata =
     (front : List (List ℕ)) × (payload : List ℕ) × (back : List (List ℕ))
-    × (payloads ≡ front ++ payload ∷ back) × CarriesMetadata digest id m payload
+    × (payloads ≡ front ++ payload ∷ back) × CarriesMetadata digest id metadata payload
     × ((other : BlobMetadata) → HasMetadata digest id front other → ⊥)
 
--- a payload carries this other one, and none before it carries any but m
+-- a payload carries this other one, and none before it carries any but the first
 abbrev pub IsFirstOther : (List ℕ → List ℕ) → List ℕ → List (List ℕ) → BlobMetadata → BlobMetadata
     → Type 0
-IsFirstOther digest id payloads m other =
+IsFirstOther digest id payloads metadata other =
     (front : List (List ℕ)) × (payload : List ℕ) × (back : List (List ℕ))
     × (payloads ≡ front ++ payload ∷ back) × CarriesMetadata digest id other payload
-    × (other ≢ m) × ((x : BlobMetadata) → HasMetadata digest id front x → x ≡ m)
+    × (other ≢ metadata) × ((one : BlobMetadata) → HasMetadata digest id front one → one ≡ metadata)
 
--- a is the first metadata that payloads carry, and b the first that differs from it
+-- one is the first metadata that payloads carry, and other the first that differs from it
 abbrev pub AreFirstTwo : (List ℕ → List ℕ) → List ℕ → List (List ℕ) → BlobMetadata → BlobMetadata
     → Type 0
-AreFirstTwo digest id payloads a b =
-    IsFirstMetadata digest id payloads a × IsFirstOther digest id payloads a b
+AreFirstTwo digest id payloads one other =
+    IsFirstMetadata digest id payloads one × IsFirstOther digest id payloads one other
 
 -- the index and the bytes of a sliver
 pub record IndexedSliver : Type 0 where
@@ -69,48 +70,52 @@ pub record IndexedSliver : Type 0 where
 
 -- a payload gives the primary sliver that it carries
 abbrev pub GivesSliver : (List ℕ → List ℕ) → List ℕ → BlobMetadata → List ℕ → IndexedSliver → Type 0
-GivesSliver digest id m payload s = CarriesSliver digest id m payload s.index s.bytes
+GivesSliver digest id metadata payload sliver =
+    CarriesSliver digest id metadata payload sliver.index sliver.bytes
 
 -- the indices and the bytes, one after the other, of the held primary slivers in the payloads, in
 -- order, the first of each index, up to as many as the source block has rows
 abbrev pub Collects : (List ℕ → List ℕ) → List ℕ → BlobMetadata → List (List ℕ) → List ℕ → List ℕ
     → Type 0
-Collects digest id m payloads indices joined =
+Collects digest id metadata payloads indices joined =
     (slivers : List IndexedSliver)
-    × TakesFirst (GivesSliver digest id m) (λ s. s.index) (row_count m.f) payloads slivers
-    × (indices ≡ map (λ s. s.index) slivers) × (joined ≡ flat_map (λ s. s.bytes) slivers)
+    × TakesFirst (GivesSliver digest id metadata)
+    (λ sliver. sliver.index) (row_count metadata.f) payloads slivers
+    × (indices ≡ map (λ sliver. sliver.index) slivers)
+    × (joined ≡ flat_map (λ sliver. sliver.bytes) slivers)
 
 -- the payloads lead to a verdict: they have as many held slivers as the source block has rows
 abbrev pub Decides : (List ℕ → List ℕ) → List ℕ → List (List ℕ) → Verdict → Type 0
 Decides digest id payloads verdict =
-    (m : BlobMetadata) × IsMetadataIn digest id payloads m
-    × (indices : List ℕ) × (joined : List ℕ) × Collects digest id m payloads indices joined
-    × (length indices ≡ row_count m.f)
-    × Judges digest m indices joined verdict
+    (metadata : BlobMetadata) × IsMetadataIn digest id payloads metadata
+    × (indices : List ℕ) × (joined : List ℕ) × Collects digest id metadata payloads indices joined
+    × (length indices ≡ row_count metadata.f)
+    × Judges digest metadata indices joined verdict
 
--- the payloads hold so many slivers of m, fewer than the source block has rows
+-- the payloads hold so many slivers of the metadata, fewer than the source block has rows
 abbrev pub HoldsFew : (List ℕ → List ℕ) → List ℕ → BlobMetadata → List (List ℕ) → ℕ → Type 0
-HoldsFew digest id m payloads have =
-    (indices : List ℕ) × (joined : List ℕ) × Collects digest id m payloads indices joined
-    × (have ≡ length indices) × (have < row_count m.f)
+HoldsFew digest id metadata payloads have =
+    (indices : List ℕ) × (joined : List ℕ) × Collects digest id metadata payloads indices joined
+    × (have ≡ length indices) × (have < row_count metadata.f)
 
 -- the payloads carry one metadata, fewer slivers than it needs, and a proof that is bad for it
 abbrev pub Refutes : (List ℕ → List ℕ) → List ℕ → List (List ℕ) → Type 0
 Refutes digest id payloads =
-    (m : BlobMetadata) × IsMetadataIn digest id payloads m × (have : ℕ)
-    × HoldsFew digest id m payloads have
-    × (p : EncodingProof) × IsFirstBadProof digest id m payloads p
+    (metadata : BlobMetadata) × IsMetadataIn digest id payloads metadata × (have : ℕ)
+    × HoldsFew digest id metadata payloads have
+    × (proof : EncodingProof) × IsFirstBadProof digest id metadata payloads proof
 
 -- what a read comes to; of these cases one applies
 abbrev pub IsOutcome : (List ℕ → List ℕ) → List ℕ → List (List ℕ) → Outcome → Type 0
 -- two metadata of the identifier differ, the first one and the first that differs from it, and two
 -- texts collide, each digested for its own
 IsOutcome digest id payloads (Collision clash) =
-    (a : BlobMetadata) × (b : BlobMetadata) × AreFirstTwo digest id payloads a b
+    (one : BlobMetadata) × (other : BlobMetadata) × AreFirstTwo digest id payloads one other
     × IsCollision digest clash.left clash.right
-    × AreDigestedFor digest a b clash.left clash.right
+    × AreDigestedFor digest one other clash.left clash.right
 -- there is no metadata of the identifier
-IsOutcome digest id payloads NoMetadata = (m : BlobMetadata) → HasMetadata digest id payloads m → ⊥
+IsOutcome digest id payloads NoMetadata =
+    (metadata : BlobMetadata) → HasMetadata digest id payloads metadata → ⊥
 -- there is one, and enough slivers are held
 IsOutcome digest id payloads (Bytes bytes) = Decides digest id payloads (told.Bytes bytes)
 -- the same, or fewer are held, and there is a bad proof
@@ -118,25 +123,28 @@ IsOutcome digest id payloads Reject =
     Decides digest id payloads told.Reject ⊎ Refutes digest id payloads
 -- there is one, fewer slivers are held, and there is no bad proof
 IsOutcome digest id payloads (Short have need) =
-    (m : BlobMetadata) × IsMetadataIn digest id payloads m × HoldsFew digest id m payloads have
-    × (need ≡ row_count m.f)
-    × NoBadProof digest id m payloads
+    (metadata : BlobMetadata) × IsMetadataIn digest id payloads metadata
+    × HoldsFew digest id metadata payloads have
+    × (need ≡ row_count metadata.f)
+    × NoBadProof digest id metadata payloads
 
 -- the basis is the slivers that the payloads carry, or where fewer are held than are needed the
 -- first proof that is bad
 abbrev pub IsDrawnFrom : (List ℕ → List ℕ) → List ℕ → List (List ℕ) → BlobMetadata → Basis → Type 0
-IsDrawnFrom digest id payloads m (Slivers indices joined) =
-    Collects digest id m payloads indices joined
-IsDrawnFrom digest id payloads m (Proof p) =
-    (have : ℕ) × HoldsFew digest id m payloads have × IsFirstBadProof digest id m payloads p
+IsDrawnFrom digest id payloads metadata (Slivers indices joined) =
+    Collects digest id metadata payloads indices joined
+IsDrawnFrom digest id payloads metadata (Proof proof) =
+    (have : ℕ) × HoldsFew digest id metadata payloads have
+    × IsFirstBadProof digest id metadata payloads proof
 
 -- evidence for the identifier that is drawn from the payloads and leads to this verdict
 abbrev pub IsEvidenceFor : (List ℕ → List ℕ) → List ℕ → List (List ℕ) → Verdict → Option Evidence
     → Type 0
 IsEvidenceFor digest id payloads verdict evidence =
-    (e : Evidence) × (evidence ≡ Some e) × IsEvidence digest id e
-    × IsJudgedBy digest e.metadata e.basis verdict
-    × IsMetadataIn digest id payloads e.metadata × IsDrawnFrom digest id payloads e.metadata e.basis
+    (shown : Evidence) × (evidence ≡ Some shown) × IsEvidence digest id shown
+    × IsJudgedBy digest shown.metadata shown.basis verdict
+    × IsMetadataIn digest id payloads shown.metadata
+    × IsDrawnFrom digest id payloads shown.metadata shown.basis
 
 -- the evidence of an outcome, which is there exactly for a verdict
 abbrev pub HasEvidence : (List ℕ → List ℕ) → List ℕ → List (List ℕ) → Outcome → Option Evidence
@@ -151,14 +159,15 @@ HasEvidence digest id payloads (Collision clash) evidence = evidence ≡ None
 
 -- some payload carries a held sliver of this index
 abbrev pub HasSliver : (List ℕ → List ℕ) → List ℕ → BlobMetadata → List (List ℕ) → ℕ → Type 0
-HasSliver digest id m payloads index =
-    Any (λ payload. (bytes : List ℕ) × CarriesSliver digest id m payload index bytes) payloads
+HasSliver digest id metadata payloads index =
+    Any (λ payload. (bytes : List ℕ) × CarriesSliver digest id metadata payload index bytes)
+    payloads
 
 -- the payloads carry held slivers of as many indices as the source block has rows
 abbrev pub HasEnough : (List ℕ → List ℕ) → List ℕ → BlobMetadata → List (List ℕ) → Type 0
-HasEnough digest id m payloads =
-    (indices : List ℕ) × Distinct indices × (length indices ≡ row_count m.f)
-    × All (HasSliver digest id m payloads) indices
+HasEnough digest id metadata payloads =
+    (indices : List ℕ) × Distinct indices × (length indices ≡ row_count metadata.f)
+    × All (HasSliver digest id metadata payloads) indices
 
 -- a verdict
 abbrev pub IsVerdict : Outcome → Type 0
@@ -170,8 +179,8 @@ IsVerdict (Collision clash) = ⊥
 
 -- one outcome; the texts of two collisions are not compared
 abbrev pub SameOutcome : Outcome → Outcome → Type 0
-SameOutcome (Collision a) (Collision b) = Unit {0}
-SameOutcome o p = o ≡ p
+SameOutcome (Collision one) (Collision byte) = Unit {0}
+SameOutcome one other = one ≡ other
 
 -- no other outcome is that of the payloads
 abbrev pub IsOnlyOutcome : (List ℕ → List ℕ) → List ℕ → List (List ℕ) → Outcome → Type 0

@@ -6,11 +6,12 @@ use Rattle.wal_reader.specs.Outcome.{HasEnough, HasMetadata, IsMetadataIn}
 -- two metadata of the identifier differ
 abbrev pub HasTwo : (List ℕ → List ℕ) → List ℕ → List (List ℕ) → Type 0
 HasTwo digest id payloads =
-    (a : BlobMetadata) × (b : BlobMetadata) × HasMetadata digest id payloads a
-    × HasMetadata digest id payloads b × (a ≢ b)
+    (one : BlobMetadata) × (other : BlobMetadata) × HasMetadata digest id payloads one
+    × HasMetadata digest id payloads other × (one ≢ other)
 
 -- two metadata differ, or there is one with enough slivers
 abbrev pub IsSettled : (List ℕ → List ℕ) → List ℕ → List (List ℕ) → Type 0
 IsSettled digest id payloads =
     HasTwo digest id payloads
-    ⊎ ((m : BlobMetadata) × IsMetadataIn digest id payloads m × HasEnough digest id m payloads)
+    ⊎ ((metadata : BlobMetadata) × IsMetadataIn digest id payloads metadata
+    × HasEnough digest id metadata payloads)

@@ -18,16 +18,16 @@ pub record ReaderState : Type 0 where
 
 -- the pieces so far make this stream, and none was refused
 abbrev pub StandsFor : (List ℕ → List ℕ) → List ℕ → ReaderState → List ℕ → Type 0
-StandsFor digest id r stream = (r.failed ≡ None) × StandsAt digest id r.intake stream
+StandsFor digest id reader stream = (reader.failed ≡ None) × StandsAt digest id reader.intake stream
 
 -- no piece was refused, and nothing but a metadata can matter
 abbrev pub IsSettledReader : ReaderState → Type 0
-IsSettledReader r = (r.failed ≡ None) × IsSettledState r.intake.heard
+IsSettledReader reader = (reader.failed ≡ None) × IsSettledState reader.intake.heard
 
 -- why a piece was refused, if it was
 abbrev pub fault_of : Result (Unit {0}) FeedError → Option FeedError
 fault_of (Ok done) = None
-fault_of (Err e) = Some e
+fault_of (Err fault) = Some fault
 
 -- what comes of a piece that makes this stream: the reader stands for it, and it is right so far;
 -- or its cause is there
@@ -53,8 +53,8 @@ pub record IsStreamRead (digest : List ℕ → List ℕ)
   pub payloads : List (List ℕ)
   pub whole : IsStream payloads stream
   pub is : IsAnswer digest id payloads answer
-  pub enough : (m : BlobMetadata) → IsMetadataIn digest id payloads m
-      → HasEnough digest id m payloads → IsVerdict answer.outcome
+  pub enough : (metadata : BlobMetadata) → IsMetadataIn digest id payloads metadata
+      → HasEnough digest id metadata payloads → IsVerdict answer.outcome
 
 -- what comes of the whole stream: an answer, or the place where it is cut, or memory ran out, where
 -- it is not cut

@@ -15,39 +15,44 @@ use Rattle.wal_recover.specs.declared.outcome.Recovered.TheVariants.{Inconsisten
 
 -- an opening gives itself, where it holds
 abbrev pub GivesOpening : (List ℕ → List ℕ) → BlobMetadata → Axis → ℕ → Opening → Opening → Type 0
-GivesOpening digest m axis index o given = (given ≡ o) × HoldsOpening digest m axis index o
+GivesOpening digest metadata axis index opening given =
+    (given ≡ opening) × HoldsOpening digest metadata axis index opening
 
 -- the openings that hold, in order, the first of each cross, up to `most`
 abbrev pub Takes : (List ℕ → List ℕ) → BlobMetadata → Axis → ℕ → List Opening → ℕ → List Opening
     → Type 0
-Takes digest m axis index openings most taken =
-    TakesFirst (GivesOpening digest m axis index) (λ o. o.cross) most openings taken
+Takes digest metadata axis index openings most taken =
+    TakesFirst (GivesOpening digest metadata axis index)
+    (λ opening. opening.cross) most openings taken
 
 -- what the openings that were taken come to; of these cases one applies
 abbrev pub TakenComeTo : (List ℕ → List ℕ) → BlobMetadata → Axis → ℕ → List Opening → Recovered
     → Type 0
 -- there are fewer than a sliver has symbols
-TakenComeTo digest m axis index taken (Short count) =
-    (count ≡ length taken) × (count < sliver_symbols axis m.f)
--- the codeword through them has m's root, and the sliver begins it
-TakenComeTo digest m axis index taken (Sliver bytes) =
-    (word : List ℕ) × ShowLine digest m axis index taken word × HasRoot digest m axis index word
-    × (bytes ≡ take (sliver_symbols axis m.f * symbol_size m.f m.length) word)
+TakenComeTo digest metadata axis index taken (Short count) =
+    (count ≡ length taken) × (count < sliver_symbols axis metadata.f)
+-- the codeword through them has the metadata's root, and the sliver begins it
+TakenComeTo digest metadata axis index taken (Sliver bytes) =
+    (word : List ℕ) × ShowLine digest metadata axis index taken word
+    × HasRoot digest metadata axis index word
+    × (bytes ≡ take (sliver_symbols axis metadata.f * symbol_size metadata.f metadata.length) word)
 -- it has another root, and they are a proof of bad encoding
-TakenComeTo digest m axis index taken (Inconsistent p) =
-    (p ≡ record { axis = axis; index = index; openings = taken }) × IsBadProof digest m p
+TakenComeTo digest metadata axis index taken (Inconsistent proof) =
+    (proof ≡ record { axis = axis; index = index; openings = taken })
+    × IsBadProof digest metadata proof
 
 -- what a list of openings comes to
-pub record OpeningsComeTo (digest : List ℕ → List ℕ) (m : BlobMetadata) (axis : Axis)
+pub record OpeningsComeTo (digest : List ℕ → List ℕ) (metadata : BlobMetadata) (axis : Axis)
     (index : ℕ) (openings : List Opening) (outcome : Recovered) : Type 0 where
   pub taken : List Opening
-  pub takes : Takes digest m axis index openings (sliver_symbols axis m.f) taken
-  pub comes : TakenComeTo digest m axis index taken outcome
+  pub takes : Takes digest metadata axis index openings (sliver_symbols axis metadata.f) taken
+  pub comes : TakenComeTo digest metadata axis index taken outcome
 
 -- these are the crosses of what is taken from the list, in order
 abbrev pub AreCrosses : (List ℕ → List ℕ) → BlobMetadata → Axis → ℕ → List Opening → List ℕ → Type 0
-AreCrosses digest m axis index openings crosses =
-    (taken : List Opening) × Takes digest m axis index openings (sliver_symbols axis m.f) taken
+AreCrosses digest metadata axis index openings crosses =
+    (taken : List Opening)
+    × Takes digest metadata axis index openings (sliver_symbols axis metadata.f) taken
     × (crosses ≡ crosses_of taken)
 
 -- as many as a sliver has symbols for a sliver or a proof, and as many as there are for want of
@@ -55,22 +60,25 @@ AreCrosses digest m axis index openings crosses =
 abbrev pub IsCount : Axis → ℕ → Recovered → ℕ → Type 0
 IsCount axis f (Short count) n = n ≡ count
 IsCount axis f (Sliver bytes) n = n ≡ sliver_symbols axis f
-IsCount axis f (Inconsistent p) n = n ≡ sliver_symbols axis f
+IsCount axis f (Inconsistent proof) n = n ≡ sliver_symbols axis f
 
--- a recovered sliver is the one that m commits
+-- a recovered sliver is the one that the metadata commits
 abbrev pub HasCommittedSliver : (List ℕ → List ℕ) → BlobMetadata → Axis → ℕ → Recovered → Type 0
-HasCommittedSliver digest m axis index (Short count) = Unit {0}
-HasCommittedSliver digest m axis index (Sliver bytes) = HoldsSliver digest m axis index bytes
-HasCommittedSliver digest m axis index (Inconsistent p) = Unit {0}
+HasCommittedSliver digest metadata axis index (Short count) = Unit {0}
+HasCommittedSliver digest metadata axis index (Sliver bytes) =
+    HoldsSliver digest metadata axis index bytes
+HasCommittedSliver digest metadata axis index (Inconsistent proof) = Unit {0}
 
--- where m is the metadata of the matrix e: a recovered sliver is the matrix's own, or another one
--- that m commits at its place; and of openings that prove bad encoding one holds and has not the
--- symbol of the matrix
+-- for the metadata of a matrix: a recovered sliver is the matrix's own, or another one
+-- that the metadata commits at its place; and of openings that prove bad encoding one holds and has
+-- not the symbol of the matrix
 abbrev pub IsOwnOrFalse : (List ℕ → List ℕ) → BlobMetadata → Axis → ℕ → List ℕ → Recovered → Type 0
-IsOwnOrFalse digest m axis index e (Short count) = Unit {0}
-IsOwnOrFalse digest m axis index e (Sliver bytes) =
-    (bytes ≡ sliver_of axis m.f (symbol_size m.f m.length) e index)
-    ⊎ ((bytes ≢ sliver_of axis m.f (symbol_size m.f m.length) e index)
-    × HoldsSliver digest m axis index bytes
-    × HoldsSliver digest m axis index (sliver_of axis m.f (symbol_size m.f m.length) e index))
-IsOwnOrFalse digest m axis index e (Inconsistent p) = HasFalseSliver digest m e (Proof p)
+IsOwnOrFalse digest metadata axis index extended (Short count) = Unit {0}
+IsOwnOrFalse digest metadata axis index extended (Sliver bytes) =
+    (bytes ≡ sliver_of axis metadata.f (symbol_size metadata.f metadata.length) extended index)
+    ⊎ ((bytes ≢ sliver_of axis metadata.f (symbol_size metadata.f metadata.length) extended index)
+    × HoldsSliver digest metadata axis index bytes
+    × HoldsSliver digest metadata axis index
+    (sliver_of axis metadata.f (symbol_size metadata.f metadata.length) extended index))
+IsOwnOrFalse digest metadata axis index extended (Inconsistent proof) =
+    HasFalseSliver digest metadata extended (Proof proof)

@@ -12,12 +12,14 @@ one_identifier digest format f blob i j a b =
     let matrix = extended_unique f blob a.1.0 b.1.0 a.1.3.1 a.1.1 b.1.1 in
     rw (a.2.identifier, b.2.identifier, a.1.2, b.1.2, matrix) refl
 
+-- `id` has one result
 pub identified : (digest : List ℕ → List ℕ) (f : ℕ) (format : Format) → Determined digest (identifying digest f format)
 identified digest f format input blob spells _ _ _ _ (succeeds x (i, of_i, x_is)) (succeeds y (j, of_j, y_is)) =
     same _ _ _ _ refl (cc (x_is, y_is, one_identifier digest format f blob i j of_i of_j))
 identified digest f format input blob spells s x t y a b =
     let so = told_so digest (identifying digest f format) blob in absurd (grind (arith, so s x a, so t y b))
 
+-- `encode` has one result
 pub encoded : (digest : List ℕ → List ℕ) (f : ℕ) (format : Format) → f ≤ 333 → Determined digest (encoding digest f format)
 encoded digest f format few input blob spells _ _ _ _ (succeeds x (e, of_e, x_is)) (succeeds y (d, of_d, y_is)) =
     same _ _ _ _ refl (cc (x_is, y_is, extended_unique f blob e d few of_e of_d))

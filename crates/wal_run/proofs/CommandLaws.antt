@@ -39,6 +39,7 @@ SameAt place s x t y = (s ≡ t) × SameText place s x y
 abbrev pub Same : ℕ → List ℕ → ℕ → List ℕ → Type 0
 Same s x t y = SameAt line s x t y
 
+-- equal statuses and texts are the same result
 pub same : (s t : ℕ) (x y : List ℕ) → s ≡ t → x ≡ y → Same s x t y
 same s t x y status text = (status, inl text)
 

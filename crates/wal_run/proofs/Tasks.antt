@@ -57,6 +57,7 @@ whole_once digest (Gateway capacity) range = fetched_once digest capacity
 bare_once : (digest : List ℕ → List ℕ) → Determined digest (bare 0 nothing)
 bare_once digest input content spells s x t y told other = grind arith
 
+-- each task in range has one result
 pub determined : (digest : List ℕ → List ℕ) (task : Task) → IsInRange task → Determined digest (command_of digest task)
 determined digest (Whole task) range = whole_once digest task range
 determined digest (Read id) range = read_once digest id

@@ -47,40 +47,47 @@ pub data Completes (digest : List ℕ → List ℕ)
 
 -- the whole text of the answer was written
 abbrev pub IsAnswered : (List ℕ → List ℕ) → List (List ℕ) → Around → ℕ → Type 0
-IsAnswered digest words a status =
-    (text : List ℕ) × Completes digest words a.left a.after status text × Appends a.old a.new text
+IsAnswered digest words around status =
+    (text : List ℕ) × Completes digest words around.left around.after status text
+    × Appends around.old around.new text
 
 -- how a run ends: what it had to write, and what stands in the sink
-pub data Ends (digest : List ℕ → List ℕ) (words : List (List ℕ)) (a : Around) : ℕ → Type 0 where
+pub data Ends (digest : List ℕ → List ℕ) (words : List (List ℕ)) (around : Around) : ℕ
+    → Type 0 where
   -- the whole text of the answer was written
-  whole : (status : ℕ) (text : List ℕ) → Answers digest words a.left a.after status text
-      → Appends a.old a.new text → Ends digest words a status
+  whole : (status : ℕ) (text : List ℕ) → Answers digest words around.left around.after status text
+      → Appends around.old around.new text → Ends digest words around status
   -- memory ran out while the words were read, and nothing was taken
-  no_memory_for_words : Keeps a.left a.after → Keeps a.old a.new → Ends digest words a 5
+  no_memory_for_words : Keeps around.left around.after → Keeps around.old around.new
+      → Ends digest words around 5
   -- memory ran out, and nothing was written
   no_memory : (task : Task) → IsTask words task
-      → TakesAtMost a.left a.after (command_of digest task).limit → Keeps a.old a.new
-      → Ends digest words a 5
+      → TakesAtMost around.left around.after (command_of digest task).limit
+      → Keeps around.old around.new
+      → Ends digest words around 5
   -- memory ran out, and what the command may leave then was written
   broke_off : (task : Task) → IsTask words task → (input : List ℕ)
-      → IsTaken (command_of digest task) a.left a.after input
+      → IsTaken (command_of digest task) around.left around.after input
       → (text : List ℕ) → MayLeave digest (command_of digest task) input text
-      → Appends a.old a.new text → Ends digest words a 5
+      → Appends around.old around.new text → Ends digest words around 5
   -- the source failed, and nothing was written
   source_failed : (task : Task) → IsTask words task → TakesInput (command_of digest task).grammar
-      → TakesAtMost a.left a.after (command_of digest task).limit → a.SourceRose → Keeps a.old a.new
-      → Ends digest words a 6
+      → TakesAtMost around.left around.after (command_of digest task).limit → around.SourceRose
+      → Keeps around.old around.new
+      → Ends digest words around 6
   -- the sink failed, and a part of the text of the answer was written
-  sink_failed : (status : ℕ) (text : List ℕ) → Answers digest words a.left a.after status text
-      → a.SinkRose → AppendsPart a.old a.new text
-      → Ends digest words a 7
+  sink_failed : (status : ℕ) (text : List ℕ)
+      → Answers digest words around.left around.after status text
+      → around.SinkRose → AppendsPart around.old around.new text
+      → Ends digest words around 7
   -- the sink failed before the answer was known, and a part of what the command may have been
   -- writing was written
   cut_off : (task : Task) → IsTask words task → (input : List ℕ)
-      → IsTaken (command_of digest task) a.left a.after input
-      → (text : List ℕ) → MayOwe digest (command_of digest task) input text → a.SinkRose
-      → AppendsPart a.old a.new text → Ends digest words a 7
+      → IsTaken (command_of digest task) around.left around.after input
+      → (text : List ℕ) → MayOwe digest (command_of digest task) input text → around.SinkRose
+      → AppendsPart around.old around.new text → Ends digest words around 7
   -- serving a shard ended, by a fault or without
   serving_ended : (service : Service) → IsTask words (Serve service) → (status : ℕ)
-      → EndsServing digest service a.left a.after a.SourceRose a.old a.new a.SinkRose status
-      → Ends digest words a status
+      → EndsServing digest service around.left around.after
+      around.SourceRose around.old around.new around.SinkRose status
+      → Ends digest words around status

@@ -19,11 +19,11 @@ pub record Around : Type 1 where
 
 -- of a source and a sink, before and after
 abbrev pub seen : {S K : Type 0} → source.Ghosts S → S → S → sink.Ghosts K → K → K → Around
-seen s before after k old new = record {
-  left = s.left before;
-  after = s.left after;
-  SourceRose = Rose (s.faults before) (s.faults after);
-  old = k.written old;
-  new = k.written new;
-  SinkRose = Rose (k.faults old) (k.faults new);
+seen source_ghosts before after sink_ghosts old new = record {
+  left = source_ghosts.left before;
+  after = source_ghosts.left after;
+  SourceRose = Rose (source_ghosts.faults before) (source_ghosts.faults after);
+  old = sink_ghosts.written old;
+  new = sink_ghosts.written new;
+  SinkRose = Rose (sink_ghosts.faults old) (sink_ghosts.faults new);
 }

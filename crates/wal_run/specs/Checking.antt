@@ -21,10 +21,12 @@ verdict_text Inconsistent = codes "inconsistent\n"
 abbrev pub checking : (List ℕ → List ℕ) → BlobId → Command
 checking digest id = record (bare 134217728 (envelopes_of id)) {
   -- that the blob was encoded badly
-  Rejects = λ r text. (p : EncodingProof) × IsFirstProof id.0 r.payloads p
-      × IsBadProof digest r.metadata p × (text ≡ codes "inconsistent\n");
+  Rejects = λ recorded text. (proof : EncodingProof) × IsFirstProof id.0 recorded.payloads proof
+      × IsBadProof digest recorded.metadata proof × (text ≡ codes "inconsistent\n");
   -- there is none, or it shows nothing, for this reason
-  Lacks = λ r text. (NoProof id.0 r.payloads × (text ≡ codes "no proof\n"))
-      ⊎ ((p : EncodingProof) × IsFirstProof id.0 r.payloads p × (v : ProofVerdict)
-      × Checks digest r.metadata p v × (v ≢ Inconsistent) × (text ≡ verdict_text v));
+  Lacks = λ recorded text. (NoProof id.0 recorded.payloads × (text ≡ codes "no proof\n"))
+      ⊎ ((proof : EncodingProof) × IsFirstProof id.0 recorded.payloads proof
+      × (verdict : ProofVerdict)
+      × Checks digest recorded.metadata proof verdict × (verdict ≢ Inconsistent)
+      × (text ≡ verdict_text verdict));
 }

@@ -45,12 +45,12 @@ Content schedule = Schedule
 Content nothing = ⊤
 
 -- the input spells this
-abbrev pub Spells : (List ℕ → List ℕ) → (g : Grammar) → List ℕ → Content g → Type 0
+abbrev pub Spells : (List ℕ → List ℕ) → (spelling : Grammar) → List ℕ → Content spelling → Type 0
 Spells digest bytes input content = content ≡ input
 Spells digest envelopes input payloads = IsStream payloads input
-Spells digest (envelopes_of id) input r =
-    IsStream r.payloads input × IsMetadataIn digest id.0 r.payloads r.metadata
-Spells digest schedule input s = IsRead input (Ok s)
+Spells digest (envelopes_of id) input content =
+    IsStream content.payloads input × IsMetadataIn digest id.0 content.payloads content.metadata
+Spells digest schedule input content = IsRead input (Ok content)
 Spells digest nothing input content = input ≡ []
 
 -- ---- an input that spells nothing, by the status that tells it
@@ -71,7 +71,8 @@ BreaksAt input text = (place : ℕ) × IsMalformed place input × (text ≡ malf
 abbrev pub Misspells : Grammar → List ℕ → List ℕ → Type 0
 Misspells envelopes input text = BreaksAt input text
 Misspells (envelopes_of id) input text = BreaksAt input text
-Misspells schedule input text = (e : ScheduleError) × IsRead input (Err e) × IsFault e text
+Misspells schedule input text =
+    (fault : ScheduleError) × IsRead input (Err fault) × IsFault fault text
 Misspells bytes input text = ⊥
 Misspells nothing input text = ⊥
 
@@ -79,7 +80,7 @@ Misspells nothing input text = ⊥
 abbrev pub HasNone : (List ℕ → List ℕ) → Grammar → List ℕ → List ℕ → Type 0
 HasNone digest (envelopes_of id) input text =
     (payloads : List (List ℕ)) × IsStream payloads input
-    × ((m : BlobMetadata) → HasMetadata digest id.0 payloads m → ⊥)
+    × ((other : BlobMetadata) → HasMetadata digest id.0 payloads other → ⊥)
     × (text ≡ codes "no metadata\n")
 HasNone digest bytes input text = ⊥
 HasNone digest envelopes input text = ⊥
@@ -90,9 +91,10 @@ HasNone digest nothing input text = ⊥
 -- each text is digested for its own
 abbrev pub HasTwoMetadata : (List ℕ → List ℕ) → Grammar → List ℕ → List ℕ → List ℕ → Type 0
 HasTwoMetadata digest (envelopes_of id) input left right =
-    (payloads : List (List ℕ)) × IsStream payloads input × (a : BlobMetadata) × (b : BlobMetadata)
-    × AreFirstTwo digest id.0 payloads a b
-    × AreDigestedFor digest a b left right
+    (payloads : List (List ℕ)) × IsStream payloads input × (one : BlobMetadata)
+    × (other : BlobMetadata)
+    × AreFirstTwo digest id.0 payloads one other
+    × AreDigestedFor digest one other left right
 HasTwoMetadata digest bytes input left right = ⊥
 HasTwoMetadata digest envelopes input left right = ⊥
 HasTwoMetadata digest schedule input left right = ⊥
@@ -143,53 +145,62 @@ bare limit grammar = record {
 -- ---- its result for an input
 
 -- the input spells something of which this is true
-abbrev pub Spelled : (List ℕ → List ℕ) → (c : Command) → List ℕ → (Content c.grammar → Type 0)
+abbrev pub Spelled : (List ℕ → List ℕ) → (command : Command) → List ℕ
+    → (Content command.grammar → Type 0)
     → Type 0
-Spelled digest c input Is =
-    (content : Content c.grammar) × Spells digest c.grammar input content × Is content
+Spelled digest command input Is =
+    (content : Content command.grammar) × Spells digest command.grammar input content × Is content
 
 -- the input comes to an answer with this text
 abbrev pub IsSuccess : (List ℕ → List ℕ) → Command → List ℕ → List ℕ → Type 0
-IsSuccess digest c input text = Spelled digest c input (λ content. c.Succeeds content text)
+IsSuccess digest command input text =
+    Spelled digest command input (λ content. command.Succeeds content text)
 
 -- the input comes to a rejection with this text
 abbrev pub IsRejection : (List ℕ → List ℕ) → Command → List ℕ → List ℕ → Type 0
-IsRejection digest c input text = Spelled digest c input (λ content. c.Rejects content text)
+IsRejection digest command input text =
+    Spelled digest command input (λ content. command.Rejects content text)
 
 -- the input lacks something that the command needs, and this text says what
 abbrev pub IsLacking : (List ℕ → List ℕ) → Command → List ℕ → List ℕ → Type 0
-IsLacking digest c input text =
-    HasNone digest c.grammar input text ⊎ Spelled digest c input (λ content. c.Lacks content text)
+IsLacking digest command input text =
+    HasNone digest command.grammar input text
+    ⊎ Spelled digest command input (λ content. command.Lacks content text)
 
 -- the input is not spelled as the grammar says, or what it spells cannot be read, and this text
 -- says where
 abbrev pub IsUnreadable : (List ℕ → List ℕ) → Command → List ℕ → List ℕ → Type 0
-IsUnreadable digest c input text =
-    Misspells c.grammar input text ⊎ Spelled digest c input (λ content. c.Misreads content text)
+IsUnreadable digest command input text =
+    Misspells command.grammar input text
+    ⊎ Spelled digest command input (λ content. command.Misreads content text)
 
 -- two texts collide, and this stands before them: nothing where two metadata differ
 abbrev pub ClashesBehind : (List ℕ → List ℕ) → List ℕ → List ℕ → Command → List ℕ → List ℕ → Type 0
-ClashesBehind digest left right c input front =
-    (HasTwoMetadata digest c.grammar input left right × (front ≡ []))
-    ⊎ Spelled digest c input (λ content. c.Collides content left right front)
+ClashesBehind digest left right command input front =
+    (HasTwoMetadata digest command.grammar input left right × (front ≡ []))
+    ⊎ Spelled digest command input (λ content. command.Collides content left right front)
 
 -- the text ends with the line of the two texts
 pub record IsClash (digest : List ℕ → List ℕ) (left right : List ℕ)
-    (c : Command) (input text : List ℕ) : Type 0 where
+    (command : Command) (input text : List ℕ) : Type 0 where
   pub front : List ℕ
-  pub clashes : ClashesBehind digest left right c input front
+  pub clashes : ClashesBehind digest left right command input front
   pub whole : text ≡ front ++ collision_text left right
 
 -- THE STATUS AND THE TEXT for an input, a row for each status
-pub data IsResult (digest : List ℕ → List ℕ) (c : Command) (input : List ℕ) : ℕ → List ℕ
+pub data IsResult (digest : List ℕ → List ℕ) (command : Command) (input : List ℕ) : ℕ → List ℕ
     → Type 0 where
-  success : (text : List ℕ) → IsSuccess digest c input text → IsResult digest c input 0 text
-  rejection : (text : List ℕ) → IsRejection digest c input text → IsResult digest c input 3 text
-  lacking : (text : List ℕ) → IsLacking digest c input text → IsResult digest c input 4 text
-  unreadable : (text : List ℕ) → IsUnreadable digest c input text → IsResult digest c input 8 text
+  success : (text : List ℕ) → IsSuccess digest command input text
+      → IsResult digest command input 0 text
+  rejection : (text : List ℕ) → IsRejection digest command input text
+      → IsResult digest command input 3 text
+  lacking : (text : List ℕ) → IsLacking digest command input text
+      → IsResult digest command input 4 text
+  unreadable : (text : List ℕ) → IsUnreadable digest command input text
+      → IsResult digest command input 8 text
   collision : (left right text : List ℕ) → IsCollision digest left right
-      → IsClash digest left right c input text
-      → IsResult digest c input 10 text
+      → IsClash digest left right command input text
+      → IsResult digest command input 10 text
 
 -- the text is a front of the other
 abbrev pub IsFrontOf : List ℕ → List ℕ → Type 0
@@ -203,15 +214,16 @@ IsFrontUpToClash place status text whole =
 
 -- what it may leave written, which is a front of the result
 abbrev pub MayLeave : (List ℕ → List ℕ) → Command → List ℕ → List ℕ → Type 0
-MayLeave digest c input text =
-    Spelled digest c input (λ content. c.Leaves content text)
-    × ((status : ℕ) (whole : List ℕ) → IsResult digest c input status whole → IsFrontOf text whole)
+MayLeave digest command input text =
+    Spelled digest command input (λ content. command.Leaves content text)
+    × ((status : ℕ) (whole : List ℕ) → IsResult digest command input status whole
+    → IsFrontOf text whole)
 
 -- what it may have been writing, which is a front of the result up to a collision
 abbrev pub MayOwe : (List ℕ → List ℕ) → Command → List ℕ → List ℕ → Type 0
-MayOwe digest c input text =
-    Spelled digest c input (λ content. c.Owes content text)
-    × ((status : ℕ) (whole : List ℕ) → IsResult digest c input status whole
+MayOwe digest command input text =
+    Spelled digest command input (λ content. command.Owes content text)
+    × ((status : ℕ) (whole : List ℕ) → IsResult digest command input status whole
     → IsFrontUpToClash line status text whole)
 
 -- ---- how its input is taken
@@ -249,14 +261,14 @@ TakenBy schedule limit left after input = IsTakenWhole limit left after input
 
 -- all of the source was taken, and it is this input
 abbrev pub IsTaken : Command → Option (List ℕ) → Option (List ℕ) → List ℕ → Type 0
-IsTaken c left after input = TakenBy c.grammar c.limit left after input
+IsTaken command left after input = TakenBy command.grammar command.limit left after input
 
 -- the source has more bytes than the limit, of which the limit and one were taken
-pub record IsTooLong (c : Command) (left after : Option (List ℕ)) : Type 0 where
-  pub takes : TakesInput c.grammar
+pub record IsTooLong (command : Command) (left after : Option (List ℕ)) : Type 0 where
+  pub takes : TakesInput command.grammar
   pub input : List ℕ
   pub told : IsAllOf left input
-  pub past : c.limit < length input
+  pub past : command.limit < length input
   pub taken : List ℕ
   pub consumed : Consumes left after taken
-  pub count : length taken ≡ c.limit + 1
+  pub count : length taken ≡ command.limit + 1

@@ -8,6 +8,7 @@ use Rattle.wal_run.specs.Envelope.{encoded_text}
 -- all envelopes of the blob's extended matrix
 abbrev pub encoding : (List ℕ → List ℕ) → ℕ → Format → Command
 encoding digest f format = record (bare most_input bytes) {
-  Succeeds = λ blob text. (e : List ℕ) × IsExtended f blob e
-      × (text ≡ encoded_text digest (record { format = format; f = f; length = length blob }) e);
+  Succeeds = λ blob text. (extended : List ℕ) × IsExtended f blob extended
+      × (text
+      ≡ encoded_text digest (record { format = format; f = f; length = length blob }) extended);
 }

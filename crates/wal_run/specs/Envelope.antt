@@ -10,21 +10,22 @@ use Rattle.wal_commit.specs.Identifier.{metadata_over, identifier_of}
 
 -- the envelopes of one shard: its primary and its secondary sliver
 unfoldable pub shard_text : List ℕ → BlobShape → List ℕ → ℕ → List ℕ
-shard_text id shape e shard =
-    let s = symbol_size shape.f shape.length in
+shard_text id shape extended shard =
+    let status = symbol_size shape.f shape.length in
     let primary = held_index shape.format shape.f Primary shard in
     let secondary = held_index shape.format shape.f Secondary shard in
-    envelope shard (sliver_frame id Primary primary (primary_of shape.f s e primary))
-    ++ envelope shard (sliver_frame id Secondary secondary (secondary_of shape.f s e secondary))
+    envelope shard (sliver_frame id Primary primary (primary_of shape.f status extended primary))
+    ++ envelope shard
+    (sliver_frame id Secondary secondary (secondary_of shape.f status extended secondary))
 
 -- the envelope of the metadata from sender 0, and then those of each shard in turn
 abbrev pub all_envelopes : List ℕ → BlobMetadata → BlobShape → List ℕ → List ℕ
-all_envelopes id m shape e =
-    envelope 0 (metadata_frame m)
-    ++ flat_map (shard_text id shape e) (range_with_len 0 (shard_count shape.f))
+all_envelopes id metadata shape extended =
+    envelope 0 (metadata_frame metadata)
+    ++ flat_map (shard_text id shape extended) (range_with_len 0 (shard_count shape.f))
 
--- all envelopes of a blob of this shape whose extended matrix is e
+-- all envelopes of a blob of this shape, by its extended matrix
 abbrev pub encoded_text : (List ℕ → List ℕ) → BlobShape → List ℕ → List ℕ
-encoded_text digest shape e =
-    let m = metadata_over digest shape e in
-    all_envelopes (identifier_of digest m) m shape e
+encoded_text digest shape extended =
+    let metadata = metadata_over digest shape extended in
+    all_envelopes (identifier_of digest metadata) metadata shape extended

@@ -11,37 +11,38 @@ use Rattle.wal_run.specs.Around.{Around}
 use Rattle.wal_run.specs.Replaying.{IsReport}
 
 -- the words ask for `replay`, and neither count of faults rose
-pub record AsksToReplay (words : List (List ℕ)) (a : Around) : Type 0 where
+pub record AsksToReplay (words : List (List ℕ)) (around : Around) : Type 0 where
   pub asked : IsTask words (Whole Replay)
-  pub no_read_fault : ¬ a.SourceRose
-  pub no_write_fault : ¬ a.SinkRose
+  pub no_read_fault : ¬ around.SourceRose
+  pub no_write_fault : ¬ around.SinkRose
 
 -- the source tells its bytes, and these spell the schedule within the limit
-pub record TellsSchedule (a : Around) (s : Schedule) : Type 0 where
+pub record TellsSchedule (around : Around) (schedule : Schedule) : Type 0 where
   pub input : List ℕ
-  pub tells : a.left ≡ Some input
+  pub tells : around.left ≡ Some input
   pub within : length input ≤ most_input
-  pub spells : IsRead input (Ok s)
+  pub spells : IsRead input (Ok schedule)
 
 -- whatever the source tells: an input was taken to its end, within the limit, and it spells the
 -- schedule
-pub record TakesSchedule (a : Around) (s : Schedule) : Type 0 where
+pub record TakesSchedule (around : Around) (schedule : Schedule) : Type 0 where
   pub input : List ℕ
-  pub taken : IsTakenWhole most_input a.left a.after input
-  pub spells : IsRead input (Ok s)
+  pub taken : IsTakenWhole most_input around.left around.after input
+  pub spells : IsRead input (Ok schedule)
 
 -- every schedule is replayed as a safe run: whatever faulty shards and writers send, two completed
 -- reads of a blob agree, and every sliver that is recovered has the committed root, or two texts
 -- with one digest are shown; while no committee has more than f faulty shards, the run keeps what
 -- is certified, declares invalid only what is, and its reads complete
 pub record Headline (digest : List ℕ → List ℕ)
-    (words : List (List ℕ)) (a : Around) (status : ℕ) : Type 0 where
+    (words : List (List ℕ)) (around : Around) (status : ℕ) : Type 0 where
   -- where the source tells its bytes, the status is 0, 10 or 5, and the report is that of the
   -- schedule that they spell
-  pub of_told : AsksToReplay words a → (s : Schedule) → TellsSchedule a s
-      → (text : List ℕ) × IsReport digest s status text × Appends a.old a.new text
+  pub of_told : AsksToReplay words around → (schedule : Schedule) → TellsSchedule around schedule
+      → (text : List ℕ) × IsReport digest schedule status text × Appends around.old around.new text
   -- over any source, the program's own too, status 0 and 10 come of an input alone that spells a
   -- schedule, of which the report is
-  pub of_any : AsksToReplay words a → (status ≡ 0) ⊎ (status ≡ 10)
-      → (s : Schedule) × TakesSchedule a s × (text : List ℕ) × IsReport digest s status text
-      × Appends a.old a.new text
+  pub of_any : AsksToReplay words around → (status ≡ 0) ⊎ (status ≡ 10)
+      → (schedule : Schedule) × TakesSchedule around schedule × (text : List ℕ)
+      × IsReport digest schedule status text
+      × Appends around.old around.new text

@@ -9,7 +9,7 @@ use Rattle.wal_run.specs.Lines.{number_text}
 -- the bytes that the record of a change and the gate behind it need, of which the first gate is
 -- there already
 abbrev pub room_of : Call → ℕ
-room_of c = 1 + length (spelling c)
+room_of call = 1 + length (spelling call)
 
 -- the bytes of a disk behind the closed gate, where the records of these changes stand on it
 abbrev pub room_behind : ℕ → List Call → ℕ
@@ -19,9 +19,10 @@ room_behind size changes = size - length (records changes) - 1
 -- does not fit, and what is free
 abbrev pub image_from : ℕ → List Call → List Call → Result (List ℕ) (ℕ × ℕ)
 image_from size first [] = Ok (records first ++ 0 ∷ [])
-image_from size first (c ∷ rest) =
-    if nat_lt (room_behind size first) (room_of c) then Err (room_of c, room_behind size first)
-    else image_from size (first ++ c ∷ []) rest
+image_from size first (call ∷ rest) =
+    if nat_lt (room_behind size first) (room_of call)
+    then Err (room_of call, room_behind size first)
+    else image_from size (first ++ call ∷ []) rest
 
 -- THE IMAGE of changes on a disk of so many bytes, up to and with the closed gate
 abbrev pub image_of : ℕ → List Call → Result (List ℕ) (ℕ × ℕ)

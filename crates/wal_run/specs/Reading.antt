@@ -13,13 +13,14 @@ use Rattle.wal_run.specs.Lines.{short_text}
 abbrev pub reading : (List ℕ → List ℕ) → BlobId → Command
 reading digest id = record (bare 134217728 (envelopes_of id)) {
   -- the blob as it is
-  Succeeds = λ r text. IsOutcome digest id.0 r.payloads (Bytes text);
+  Succeeds = λ recorded text. IsOutcome digest id.0 recorded.payloads (Bytes text);
   -- a rejection, with its evidence in the payloads
-  Rejects = λ r text. (e : Evidence) × IsOutcome digest id.0 r.payloads Reject
-      × HasEvidence digest id.0 r.payloads Reject (Some e)
+  Rejects = λ recorded text. (evidence : Evidence) × IsOutcome digest id.0 recorded.payloads Reject
+      × HasEvidence digest id.0 recorded.payloads Reject (Some evidence)
       × (text ≡ codes "reject\n");
   -- held slivers: there are so many, and no bad proof
-  Lacks = λ r text. (have : ℕ) × HoldsFew digest id.0 r.metadata r.payloads have
-      × NoBadProof digest id.0 r.metadata r.payloads
-      × (text ≡ short_text have (row_count r.metadata.f));
+  Lacks = λ recorded text. (have : ℕ)
+      × HoldsFew digest id.0 recorded.metadata recorded.payloads have
+      × NoBadProof digest id.0 recorded.metadata recorded.payloads
+      × (text ≡ short_text have (row_count recorded.metadata.f));
 }

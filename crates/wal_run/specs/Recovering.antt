@@ -19,24 +19,26 @@ proof_of axis index openings = record { axis = axis; index = index; openings = o
 
 -- the openings of the sliver that are taken: held ones of distinct crosses, in order
 abbrev pub TakesOpenings : (List ℕ → List ℕ) → BlobId → Axis → ℕ → Recorded → List Opening → Type 0
-TakesOpenings digest id axis index r taken =
-    Takes digest r.metadata axis index (openings_in id.0 axis index r.payloads)
-    (sliver_symbols axis r.metadata.f) taken
+TakesOpenings digest id axis index recorded taken =
+    Takes digest recorded.metadata axis index (openings_in id.0 axis index recorded.payloads)
+    (sliver_symbols axis recorded.metadata.f) taken
 
 -- what the openings come to, each from the sender of the index
 abbrev pub recovering : (List ℕ → List ℕ) → BlobId → Axis → ℕ → Command
 recovering digest id axis index = record (bare 134217728 (envelopes_of id)) {
   -- the envelope of the sliver
-  Succeeds = λ r text. (sliver : List ℕ)
-      × OpeningsComeTo digest r.metadata axis index
-      (openings_in id.0 axis index r.payloads) (Sliver sliver)
+  Succeeds = λ recorded text. (sliver : List ℕ)
+      × OpeningsComeTo digest recorded.metadata axis index
+      (openings_in id.0 axis index recorded.payloads) (Sliver sliver)
       × (text ≡ envelope index (sliver_frame id.0 axis index sliver));
   -- the openings that were taken are a proof of bad encoding, and its envelope
-  Rejects = λ r text. (taken : List Opening) × TakesOpenings digest id axis index r taken
-      × IsBadProof digest r.metadata (proof_of axis index taken)
+  Rejects = λ recorded text. (taken : List Opening)
+      × TakesOpenings digest id axis index recorded taken
+      × IsBadProof digest recorded.metadata (proof_of axis index taken)
       × (text ≡ envelope index (frame_text (Proof id.0 (proof_of axis index taken))));
   -- held openings of distinct crosses: there are so many
-  Lacks = λ r text. (taken : List Opening) × TakesOpenings digest id axis index r taken
-      × (length taken < sliver_symbols axis r.metadata.f)
-      × (text ≡ short_text (length taken) (sliver_symbols axis r.metadata.f));
+  Lacks = λ recorded text. (taken : List Opening)
+      × TakesOpenings digest id axis index recorded taken
+      × (length taken < sliver_symbols axis recorded.metadata.f)
+      × (text ≡ short_text (length taken) (sliver_symbols axis recorded.metadata.f));
 }

@@ -19,11 +19,16 @@ own_nodes f = range_with_len 0 (committee_size f)
 
 -- the state at the start: the shard holds nothing, and the ledger has no entries, at epoch 0
 abbrev pub at_start : Service → ServedState
-at_start s = record {
-  shard = record { f = s.faults; index = s.shard; contents = map.empty; limit = Some s.pages };
+at_start service = record {
+  shard = record {
+    f = service.faults;
+    index = service.shard;
+    contents = map.empty;
+    limit = Some service.pages;
+  };
   ledger = record {
-    log = record { f = s.faults; first = 0; owners = own_nodes s.faults; entries = [] };
-    spare = 2 * s.blobs;
+    log = record { f = service.faults; first = 0; owners = own_nodes service.faults; entries = [] };
+    spare = 2 * service.blobs;
   };
 }
 
@@ -47,21 +52,22 @@ end_status (Collision clash) = 10
 -- the status and the text where no fault ended serving: the answers to the whole envelopes of what
 -- was taken, which were steps of the world
 abbrev pub IsServiceResult : (List ℕ → List ℕ) → Service → List ℕ → Type 0 → ℕ → List ℕ → Type 0
-IsServiceResult digest s taken AtEnd status text =
+IsServiceResult digest service taken AtEnd status text =
     (frames : List (List ℕ)) × (state : ServedState) × (end : ServeEnd)
-    × Serves (answering digest) (desk_room s.faults)
-    serve_limit (at_start s) taken AtEnd ⊥ ⊥ frames state end
-    × IsReached digest false (desk_room s.faults) serve_limit (at_start s) taken frames state end
-    × (status ≡ end_status end) × (text ≡ sent s.shard frames)
+    × Serves (answering digest) (desk_room service.faults)
+    serve_limit (at_start service) taken AtEnd ⊥ ⊥ frames state end
+    × IsReached digest false (desk_room service.faults)
+    serve_limit (at_start service) taken frames state end
+    × (status ≡ end_status end) × (text ≡ sent service.shard frames)
 
 -- how serving ended, by a fault or without: what was taken, answered and written, and that it was
 -- steps of the world
 abbrev pub EndsServing : (List ℕ → List ℕ) → Service → Option (List ℕ) → Option (List ℕ) → Type 0
     → Option (List ℕ) → Option (List ℕ) → Type 0 → ℕ → Type 0
-EndsServing digest s left after SourceRose old new SinkRose status =
+EndsServing digest service left after SourceRose old new SinkRose status =
     (state : ServedState) × (end : ServeEnd)
-    × (run : IsServed (answering digest) (desk_room s.faults) serve_limit
-    s.shard (at_start s) state left after SourceRose old new SinkRose end)
-    × IsReached digest false (desk_room s.faults)
-    serve_limit (at_start s) run.taken run.frames state end
+    × (run : IsServed (answering digest) (desk_room service.faults) serve_limit
+    service.shard (at_start service) state left after SourceRose old new SinkRose end)
+    × IsReached digest false (desk_room service.faults)
+    serve_limit (at_start service) run.taken run.frames state end
     × (status ≡ end_status end)

@@ -10,12 +10,13 @@ use Rattle.wal_run.specs.Lines.{number_text}
 abbrev pub unbundling : (List ℕ → List ℕ) → BlobId → ℕ → Command
 unbundling digest id k = record (bare 134217728 (envelopes_of id)) {
   -- the member as it is
-  Succeeds = λ r text. IsMember digest id.0 k r.payloads (Member text);
+  Succeeds = λ recorded text. IsMember digest id.0 k recorded.payloads (Member text);
   -- the index is none
-  Rejects = λ r text. IsMember digest id.0 k r.payloads BadIndex × (text ≡ codes "bad index\n");
+  Rejects = λ recorded text. IsMember digest id.0 k recorded.payloads BadIndex
+      × (text ≡ codes "bad index\n");
   -- a column that is needed, or a member of this number
-  Lacks = λ r text. ((j : ℕ) × IsMember digest id.0 k r.payloads (Missing j)
+  Lacks = λ recorded text. ((j : ℕ) × IsMember digest id.0 k recorded.payloads (Missing j)
       × (text ≡ number_text (codes "missing column ") j))
-      ⊎ ((count : ℕ) × IsMember digest id.0 k r.payloads (NoMember count)
+      ⊎ ((count : ℕ) × IsMember digest id.0 k recorded.payloads (NoMember count)
       × (text ≡ number_text (codes "no member of ") count));
 }

@@ -13,25 +13,28 @@ use Rattle.wal_run.specs.Challenging.{HasShard, LacksShard}
 abbrev pub verdict_text : ℕ → AnswerVerdict → List ℕ
 verdict_text count (WrongCount k) =
     codes "wrong count " ++ decimal k ++ number_text (codes " of ") count
-verdict_text count (Wrong d) = number_text (codes "wrong ") d
+verdict_text count (Wrong draw) = number_text (codes "wrong ") draw
 verdict_text count Accepted = codes "accepted\n"
 
 -- the openings of the identifier that the payloads carry, in order, come to this verdict
 abbrev pub ClaimsCome : (List ℕ → List ℕ) → Audit → Recorded → AnswerVerdict → Type 0
-ClaimsCome digest a r verdict =
-    AnswersComeTo digest r.metadata a.beacon a.shard a.count (claims_in a.id.0 r.payloads) verdict
+ClaimsCome digest audit recorded verdict =
+    AnswersComeTo digest recorded.metadata audit.beacon audit.shard
+    audit.count (claims_in audit.id.0 recorded.payloads) verdict
 
 -- what they come to
 abbrev pub verifying : (List ℕ → List ℕ) → Audit → Command
-verifying digest a = record (bare 134217728 (envelopes_of a.id)) {
+verifying digest audit = record (bare 134217728 (envelopes_of audit.id)) {
   -- each answers its draw
-  Succeeds = λ r text. HasShard a r × ClaimsCome digest a r Accepted × (text ≡ codes "accepted\n");
+  Succeeds = λ recorded text. HasShard audit recorded × ClaimsCome digest audit recorded Accepted
+      × (text ≡ codes "accepted\n");
   -- the first that does not is this one
-  Rejects = λ r text. HasShard a r × (d : ℕ) × ClaimsCome digest a r (Wrong d)
-      × (text ≡ number_text (codes "wrong ") d);
+  Rejects = λ recorded text. HasShard audit recorded × (draw : ℕ)
+      × ClaimsCome digest audit recorded (Wrong draw)
+      × (text ≡ number_text (codes "wrong ") draw);
   -- there is no such shard, or there are so many openings, which is another number than that of the
   -- draws
-  Lacks = λ r text. LacksShard a r text
-      ⊎ (HasShard a r × (k : ℕ) × ClaimsCome digest a r (WrongCount k)
-      × (text ≡ verdict_text a.count (WrongCount k)));
+  Lacks = λ recorded text. LacksShard audit recorded text
+      ⊎ (HasShard audit recorded × (k : ℕ) × ClaimsCome digest audit recorded (WrongCount k)
+      × (text ≡ verdict_text audit.count (WrongCount k)));
 }

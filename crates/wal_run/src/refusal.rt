@@ -2,6 +2,7 @@
 
 ghost use Rattle.std.specs.Prelude.{◌≡◌, ◌++◌, IfOk, OnOk};
 ghost use Rattle.wal_run.specs.Checking.{verdict_text};
+ghost use Rattle.wal_run.specs.declared.refusal.Refusal.TheVariants.{DiskFull, WrongCount};
 ghost use Rattle.wal_run.specs.inside.Checking.{verdict_status};
 ghost use Rattle.wal_run.specs.inside.Refusals.{refusal_status, refusal_text};
 
@@ -130,6 +131,28 @@ pub fn status_of(refusal: &Refusal) -> u8
     }
 }
 
+/// Appends how many answers there were, and for how many draws.
+fn add_wrong_count(line: &mut Vec<u8>, have: usize, draws: u16) -> Result<(), AllocError>
+    ensures { OnOk result (line.new.items
+        ≡ line.old.items ++ refusal_text (WrongCount have draws)) }
+{
+    add_numbers(
+        line,
+        b"wrong count ",
+        have as u64,
+        b" of ",
+        u64::from(draws),
+    )
+}
+
+/// Appends how many bytes were needed on a disk, and how many are free.
+fn add_disk_full(line: &mut Vec<u8>, needed: u64, free: u64) -> Result<(), AllocError>
+    ensures { OnOk result (line.new.items
+        ≡ line.old.items ++ refusal_text (DiskFull needed free)) }
+{
+    add_numbers(line, b"disk full needed ", needed, b" free ", free)
+}
+
 /// Appends the line of a refusal.
 fn add_refusal(alloc: Global, line: &mut Vec<u8>, refusal: &Refusal) -> Result<(), AllocError>
     ensures { OnOk result (line.new.items ≡ line.old.items ++ refusal_text refusal.now) }
@@ -145,22 +168,12 @@ fn add_refusal(alloc: Global, line: &mut Vec<u8>, refusal: &Refusal) -> Result<(
         Refusal::NoPrimary => line.extend_from_slice(b"no primary\n"),
         Refusal::NoSecondary => line.extend_from_slice(b"no secondary\n"),
         Refusal::Short { have, need } => add_short(line, *have, *need),
-        Refusal::WrongCount { have, draws } => {
-            add_numbers(
-                line,
-                b"wrong count ",
-                *have as u64,
-                b" of ",
-                u64::from(*draws),
-            )
-        }
+        Refusal::WrongCount { have, draws } => add_wrong_count(line, *have, *draws),
         Refusal::MissingColumn(j) => add_number(line, b"missing column ", u64::from(*j)),
         Refusal::NoMember(count) => add_number(line, b"no member of ", u64::from(*count)),
         Refusal::TooManyMembers => line.extend_from_slice(b"too many members\n"),
         Refusal::BundleTooLong => line.extend_from_slice(b"bundle too long\n"),
-        Refusal::DiskFull { needed, free } => {
-            add_numbers(line, b"disk full needed ", *needed, b" free ", *free)
-        }
+        Refusal::DiskFull { needed, free } => add_disk_full(line, *needed, *free),
         Refusal::Memory => Ok(()),
         Refusal::Malformed(place) => add_number(line, b"malformed at ", *place),
         Refusal::NotJson => line.extend_from_slice(b"not json\n"),

@@ -15,7 +15,7 @@ use Rattle.wal_shape.specs.declared.metadata.BlobId.{BlobId}
 infixl 10 ◌>>=◌
 abbrev pub ◌>>=◌ : {A B : Type 0} → Option A → (A → Option B) → Option B
 None >>= f = None
-(Some x) >>= f = f x
+(Some first) >>= f = f first
 
 -- the value, where it passes the test
 abbrev pub given : {A : Type 0} → Bool → A → Option A
@@ -28,39 +28,39 @@ keys_in (Some members) = members_len members
 
 -- the number of keys of a value that is an object, else 0
 abbrev pub key_count : Data → ℕ
-key_count d = keys_in (as_object d)
+key_count value = keys_in (as_object value)
 
 -- the value, where the object has this number of keys: as each of them was found, it has no others
 abbrev pub with_keys : {A : Type 0} → ℕ → Data → A → Option A
-with_keys count d x = given (key_count d == count) x
+with_keys count value x = given (key_count value == count) x
 
 -- a whole number of at most `most`
 abbrev pub whole_of : ℕ → Data → Option ℕ
-whole_of most d = do
-  number ← as_number d
+whole_of most value = do
+  number ← as_number value
   n ← as_u64 number
   given (nat_le n most) n
 
 -- a whole number of at most `most` under a key
 abbrev pub whole_at : ℕ → List ℕ → Data → Option ℕ
-whole_at most key d = do
-  value ← get key d
+whole_at most key json = do
+  value ← get key json
   whole_of most value
 
 -- the number of a shard
 abbrev pub shard_at : Data → Option ℕ
-shard_at d = whole_at 65535 (codes "shard") d
+shard_at value = whole_at 65535 (codes "shard") value
 
 -- a text under a key
 abbrev pub text_at : List ℕ → Data → Option (List ℕ)
-text_at key d = do
-  value ← get key d
+text_at key json = do
+  value ← get key json
   as_str value
 
 -- bytes in hexadecimal digits of either case
 abbrev pub bytes_at : List ℕ → Data → Option (List ℕ)
-bytes_at key d = do
-  text ← text_at key d
+bytes_at key value = do
+  text ← text_at key value
   result_ok (decode_of text)
 
 -- an identifier of these bytes
@@ -69,41 +69,42 @@ to_id bytes = record { 0 = bytes }
 
 -- an identifier in 64 hexadecimal digits
 abbrev pub id_at : Data → Option BlobId
-id_at d = do
-  text ← text_at (codes "id") d
+id_at value = do
+  text ← text_at (codes "id") value
   bytes ← result_ok (decode_sized text 32)
   Some (to_id bytes)
 
 -- one of two things, each with its name
 abbrev pub either_at : {A : Type 0} → List ℕ → List ℕ → A → List ℕ → A → Data → Option A
-either_at key left a right b d = do
-  text ← text_at key d
-  if bytes_eq text left then Some a else (if bytes_eq text right then Some b else None)
+either_at key left one right other value = do
+  text ← text_at key value
+  if bytes_eq text left then Some one else (if bytes_eq text right then Some other else None)
 
 -- a side, by its word
 abbrev pub side_at : Data → Option Side
-side_at d = either_at (codes "at") (codes "now") Now (codes "next") Next d
+side_at value = either_at (codes "at") (codes "now") Now (codes "next") Next value
 
 -- an axis, by its word
 abbrev pub axis_at : Data → Option Axis
-axis_at d = either_at (codes "axis") (codes "primary") Primary (codes "secondary") Secondary d
+axis_at value =
+    either_at (codes "axis") (codes "primary") Primary (codes "secondary") Secondary value
 
 -- numbers of 16 bits, one after the other
 abbrev pub numbers_of : Items → Option (List ℕ)
 numbers_of no_items = Some []
-numbers_of (item d ds) = do
-  x ← whole_of 65535 d
-  xs ← numbers_of ds
+numbers_of (item value values) = do
+  x ← whole_of 65535 value
+  xs ← numbers_of values
   Some (x ∷ xs)
 
 -- a list under a key
 abbrev pub items_at : List ℕ → Data → Option Items
-items_at key d = do
-  value ← get key d
+items_at key json = do
+  value ← get key json
   as_array value
 
 -- a list of numbers of 16 bits under a key
 abbrev pub list_at : List ℕ → Data → Option (List ℕ)
-list_at key d = do
-  items ← items_at key d
+list_at key value = do
+  items ← items_at key value
   numbers_of items

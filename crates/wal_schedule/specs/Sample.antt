@@ -17,31 +17,32 @@ use Rattle.wal_schedule.specs.declared.drawn.SampleBlob.{SampleBlob}
 
 -- the state of the generator after one draw
 unfoldable pub next_state : ℕ → ℕ
-next_state x = (x * 6364136223846793005 + 1442695040888963407) % 2 ^ 64
+next_state state = (state * 6364136223846793005 + 1442695040888963407) % 2 ^ 64
 
 -- the state after k draws
 unfoldable pub state_after : ℕ → ℕ → ℕ
-state_after x zero = x
-state_after x (suc k) = next_state (state_after x k)
+state_after state zero = state
+state_after state (suc k) = next_state (state_after state k)
 
 -- the k-th draw from this state, counted from 1
 abbrev pub drawn : ℕ → ℕ → ℕ
-drawn x k = state_after x k / 2 ^ 33
+drawn state k = state_after state k / 2 ^ 33
 
--- the state before blob b is drawn, where it is x before the first one
+-- the state before the blob of this number is drawn, from the state before the first one
 unfoldable pub state_before : ℕ → ℕ → ℕ
-state_before x zero = x
-state_before x (suc b) = state_after (state_before x b) (8 * b + 7)
+state_before state zero = state
+state_before state (suc number) = state_after (state_before state number) (8 * number + 7)
 
--- blob b, of 8 (b + 1) bytes: b, and then bytes that are drawn from this state
+-- the blob of this number, of 8 (number + 1) bytes: its number, and then bytes that are drawn from
+-- this state
 abbrev pub blob_from : ℕ → ℕ → List ℕ
-blob_from x b = b ∷ map (λ k. drawn x k % 256) (range_with_len 1 (8 * b + 7))
+blob_from state number = number ∷ map (λ k. drawn state k % 256) (range_with_len 1 (8 * number + 7))
 
 -- the first blobs are those that are drawn one after the other, and have their identifiers
-pub record AreBlobs (digest : List ℕ → List ℕ) (x count : ℕ)
+pub record AreBlobs (digest : List ℕ → List ℕ) (state count : ℕ)
     (blobs : List SampleBlob) : Type 0 where
   pub bytes : map (λ blob. blob.bytes) blobs
-      ≡ map (λ b. blob_from (state_before x b) b) (range_with_len 0 count)
+      ≡ map (λ number. blob_from (state_before state number) number) (range_with_len 0 count)
   pub identified : AllByRecursion (λ blob. IsIdentifierOf digest One 2 blob.bytes blob.id.0) blobs
 
 -- the seven shards
@@ -54,13 +55,13 @@ everyone_but shard = remove everyone shard
 
 -- the true replies of all shards of the present committee
 abbrev pub truths : List Reply
-truths = map (λ s. reply.True Now s) everyone
+truths = map (λ shard. reply.True Now shard) everyone
 
 -- a blob is registered, written to all, acknowledged by all and read
 abbrev pub stored_events : SampleBlob → List Event
 stored_events blob =
     Register blob.id 10 ∷ Write blob.bytes everyone
-    ∷ (map (λ s. Ack s blob.id) everyone ++ Read blob.id truths ∷ [])
+    ∷ (map (λ shard. Ack shard blob.id) everyone ++ Read blob.id truths ∷ [])
 
 -- a shard of the next committee recovers its slivers of this axis
 abbrev pub recovered_by : Axis → List SampleBlob → ℕ → List Event
@@ -86,7 +87,7 @@ abbrev pub later_events : List SampleBlob → ℕ → ℕ → List Event
 later_events blobs faulty leaving =
     Begin everyone (faulty ∷ []) (everyone_but leaving)
     ∷ (recovered_events Secondary blobs ++ recovered_events Primary blobs
-    ++ map (λ s. Ready s) everyone ++ Finish ∷ flat_map asked_events blobs)
+    ++ map (λ shard. Ready shard) everyone ++ Finish ∷ flat_map asked_events blobs)
 
 -- the schedule of these blobs and these three shards: the one that is faulty first, the one that is
 -- faulty later, and the one that does not stay
@@ -103,8 +104,8 @@ sample_with blobs first later leaving = record {
 -- the schedule is the sample of a number: the first draw is for the faulty shard, then blob after
 -- blob is drawn, and the next two draws are for the shards of the change
 abbrev pub IsSample : (List ℕ → List ℕ) → ℕ → Schedule → Type 0
-IsSample digest number s =
+IsSample digest number schedule =
     (blobs : List SampleBlob) × AreBlobs digest (state_after number 1) 32 blobs
-    × (s ≡ sample_with blobs (drawn number 1 % 7)
+    × (schedule ≡ sample_with blobs (drawn number 1 % 7)
     (drawn (state_before (state_after number 1) 32) 1 % 7)
     (drawn (state_before (state_after number 1) 32) 2 % 7))

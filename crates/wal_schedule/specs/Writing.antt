@@ -94,11 +94,13 @@ events_data events = array (items_of (map event_data events))
 
 -- the value that is written for a schedule
 abbrev pub schedule_data : Schedule → Data
-schedule_data s =
-    object (member (codes "epoch") (number_data s.epoch)
-    (member (codes "events") (events_data s.events) (member (codes "f") (number_data s.f)
-    (member (codes "faulty") (list_data s.faulty) (member (codes "format")
-    (format_data s.format) (member (codes "owners") (list_data s.owners) no_members))))))
+schedule_data schedule =
+    object (member (codes "epoch") (number_data schedule.epoch)
+    (member (codes "events") (events_data schedule.events)
+    (member (codes "f") (number_data schedule.f)
+    (member (codes "faulty") (list_data schedule.faulty) (member (codes "format")
+    (format_data schedule.format)
+    (member (codes "owners") (list_data schedule.owners) no_members))))))
 
 -- an identifier is 32 bytes
 pub record IsId (id : BlobId) : Type 0 where

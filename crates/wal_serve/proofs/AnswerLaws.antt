@@ -113,6 +113,7 @@ vouched_not kind s lent id why r lends vouches is =
     let own = subst (λ (l : LedgerState). Vouches kind l.log s.shard.contents id (Err why)) lends vouches in
     entry_row (Vouched kind s id) s r s.ledger (rw is (unbacked why own))
 
+-- what the shard vouches for is answered so
 pub vouched : (kind : Kind) (s : ServedState) (lent new : LedgerState) (id : BlobId) (own : ℕ) (r : Reply) → lent ≡ s.ledger → own ≡ s.shard.index
     → Vouches kind lent.log s.shard.contents id (Ok tt) → ClaimEntered kind s.ledger own id r new
     → AnswersEntry (Vouched kind s id) s (reply_text r ∷ []) None (with_ledger s new)

@@ -62,6 +62,7 @@ begins_later {p} {q} s t {x} {y} one is also l = record {
       omega (arith, l.within, ap length one, ap length is, ap length also, length-append (envelope s p) x, length-append (envelope t q) y);
 }
 
+-- of two streams at the front of the same bytes, one begins with the other
 pub compared : (ps qs : List (List ℕ)) (front rest other behind : List ℕ) → IsStream ps front → IsStream qs other → front ++ rest ≡ other ++ behind
     → Compared ps front rest qs other behind
 compared [] [] front rest other behind is also all =

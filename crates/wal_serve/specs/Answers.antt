@@ -36,26 +36,28 @@ AnswersPut digest may_want frame old frames clash new =
 abbrev pub AnswersEntry : (Reply → LedgerState → Type 0) → ServedState → List (List ℕ)
     → Option MetaClash → ServedState → Type 0
 AnswersEntry Makes old frames clash new =
-    (r : Reply) × (ledger : LedgerState) × Makes r ledger × IsReplyOutcome (Ok r) frames clash
+    (reply : Reply) × (ledger : LedgerState) × Makes reply ledger
+    × IsReplyOutcome (Ok reply) frames clash
     × (new ≡ with_ledger old ledger)
 
 -- a request to forget the slivers of a blob
 abbrev pub AnswersForget : BlobId → ServedState → List (List ℕ) → Option MetaClash → ServedState
     → Type 0
 AnswersForget id old frames clash new =
-    (r : Reply) × (contents : Contents) × Forgets old.ledger.log old.shard.contents id r contents
-    × IsReplyOutcome (Ok r) frames clash × (new ≡ holding old contents)
+    (reply : Reply) × (contents : Contents)
+    × Forgets old.ledger.log old.shard.contents id reply contents
+    × IsReplyOutcome (Ok reply) frames clash × (new ≡ holding old contents)
 
 -- what is answered to each frame: the state before, the frames, the two texts where they end
 -- serving, and the state after
 abbrev pub AnswersFrame : (List ℕ → List ℕ) → Bool → Frame → ServedState → List (List ℕ)
     → Option MetaClash → ServedState → Type 0
-AnswersFrame digest may_want (Metadata m) old frames clash new =
-    AnswersPut digest may_want (Metadata m) old frames clash new
+AnswersFrame digest may_want (Metadata metadata) old frames clash new =
+    AnswersPut digest may_want (Metadata metadata) old frames clash new
 AnswersFrame digest may_want (Sliver id axis index bytes) old frames clash new =
     AnswersPut digest may_want (Sliver id axis index bytes) old frames clash new
-AnswersFrame digest may_want (Proof id p) old frames clash new =
-    AnswersPut digest may_want (Proof id p) old frames clash new
+AnswersFrame digest may_want (Proof id proof) old frames clash new =
+    AnswersPut digest may_want (Proof id proof) old frames clash new
 AnswersFrame digest may_want (Read id) old frames clash new =
     IsReplied (read_reply_of id old.shard.index (parts_at old.shard.contents (named id)))
     frames clash
@@ -77,9 +79,9 @@ AnswersFrame digest may_want (AckEntry shard id) old frames clash new =
     AnswersEntry (Entered Holds old.ledger shard (named id)) old frames clash new
 AnswersFrame digest may_want (AttestEntry shard id) old frames clash new =
     AnswersEntry (Entered Denies old.ledger shard (named id)) old frames clash new
-AnswersFrame digest may_want (Opening id axis index o) old frames clash new =
+AnswersFrame digest may_want (Opening id axis index opening) old frames clash new =
     IsReplyOutcome (Ok no_request) frames clash × (new ≡ old)
-AnswersFrame digest may_want (Answer code a b) old frames clash new =
+AnswersFrame digest may_want (Answer code first second) old frames clash new =
     IsReplyOutcome (Ok no_request) frames clash × (new ≡ old)
 AnswersFrame digest may_want (Clash left right) old frames clash new =
     IsReplyOutcome (Ok no_request) frames clash × (new ≡ old)

@@ -19,11 +19,11 @@ use Rattle.wal_serve.specs.declared.reply.Reply.{Reply}
 
 -- a reply of this code and these numbers
 abbrev pub reply : ℕ → ℕ → ℕ → Reply
-reply code a b = record { code = code; a = a; b = b }
+reply code first second = record { code = code; a = first; b = second }
 
 -- what was asked is done; a is the resulting `until`, or the number of frames, or 0
 abbrev pub done : ℕ → Reply
-done a = reply 0 a 0
+done first = reply 0 first 0
 
 -- a refusal without numbers
 abbrev pub refused : ℕ → Reply
@@ -89,14 +89,14 @@ attest_reply (attesting.Invalid count) = reply 14 count 0
 
 -- what the ledger's `register` answered, whose epoch isn't changing
 abbrev pub IsRegisterReply : RegisterAnswer → Reply → Type 0
-IsRegisterReply (registering.Registered until) r = r ≡ done until
-IsRegisterReply registering.Past r = r ≡ refused 15
-IsRegisterReply registering.NoRoom r = r ≡ refused 10
-IsRegisterReply registering.MovingExtension r = ⊥
+IsRegisterReply (registering.Registered until) answer = answer ≡ done until
+IsRegisterReply registering.Past answer = answer ≡ refused 15
+IsRegisterReply registering.NoRoom answer = answer ≡ refused 10
+IsRegisterReply registering.MovingExtension answer = ⊥
 
 -- a reply as a frame, and two texts of one digest as a frame
 abbrev pub reply_text : Reply → List ℕ
-reply_text r = frame_text (Answer r.code r.a r.b)
+reply_text answer = frame_text (Answer answer.code answer.a answer.b)
 
 -- the frame with two texts of one digest
 abbrev pub clash_text : MetaClash → List ℕ
@@ -104,10 +104,10 @@ clash_text clash = frame_text (Clash clash.left clash.right)
 
 -- the one frame that is answered
 abbrev pub outcome_text : Result Reply MetaClash → List ℕ
-outcome_text (Ok r) = reply_text r
+outcome_text (Ok answer) = reply_text answer
 outcome_text (Err clash) = clash_text clash
 
 -- two texts of one digest end serving
 abbrev pub clash_in : Result Reply MetaClash → Option MetaClash
-clash_in (Ok r) = None
+clash_in (Ok answer) = None
 clash_in (Err clash) = Some clash

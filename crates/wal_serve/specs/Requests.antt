@@ -33,30 +33,30 @@ IsPutRequest digest may_want shard log frame outcome new =
 
 -- a registration is the ledger's
 abbrev pub Registered : LedgerState → BlobId → ℕ → Reply → LedgerState → Type 0
-Registered old id until r new =
-    (answer : RegisterAnswer) × Registers old id until answer new × IsRegisterReply answer r
+Registered old id until reply new =
+    (answer : RegisterAnswer) × Registers old id until answer new × IsRegisterReply answer reply
 
 -- that a shard holds a blob, or that a blob is badly encoded, is the ledger's
 abbrev pub ClaimEntered : Kind → LedgerState → ℕ → BlobId → Reply → LedgerState → Type 0
-ClaimEntered Holds old shard id r new =
-    (answer : AckAnswer) × Acks old shard id answer new × (r ≡ ack_reply answer)
-ClaimEntered Denies old shard id r new =
-    (answer : AttestAnswer) × Attests old shard id answer new × (r ≡ attest_reply answer)
+ClaimEntered Holds old shard id reply new =
+    (answer : AckAnswer) × Acks old shard id answer new × (reply ≡ ack_reply answer)
+ClaimEntered Denies old shard id reply new =
+    (answer : AttestAnswer) × Attests old shard id answer new × (reply ≡ attest_reply answer)
 
 -- the shard acknowledges or attests where what it holds backs that, and then the ledger is asked
 pub data Vouched (kind : Kind) (old : ServedState) (id : BlobId) : Reply → LedgerState
     → Type 0 where
   unbacked : (why : AckRefusal) → Vouches kind old.ledger.log old.shard.contents id (Err why)
       → Vouched kind old id (refusal_reply why) old.ledger
-  asked : (r : Reply) (new : LedgerState)
+  asked : (reply : Reply) (new : LedgerState)
       → Vouches kind old.ledger.log old.shard.contents id (Ok tt)
-      → ClaimEntered kind old.ledger old.shard.index id r new → Vouched kind old id r new
+      → ClaimEntered kind old.ledger old.shard.index id reply new → Vouched kind old id reply new
 
 -- an entry of a shard of the committee is the ledger's
 pub data Entered (kind : Kind) (old : LedgerState) (shard : ℕ) (id : BlobId) : Reply → LedgerState
     → Type 0 where
-  of_committee : (r : Reply) (new : LedgerState) → shard < committee_size old.log.f
-      → ClaimEntered kind old shard id r new → Entered kind old shard id r new
+  of_committee : (reply : Reply) (new : LedgerState) → shard < committee_size old.log.f
+      → ClaimEntered kind old shard id reply new → Entered kind old shard id reply new
   of_none : (shard < committee_size old.log.f → ⊥) → Entered kind old shard id no_shard old
 
 -- the slivers of a blob go where they may

@@ -14,11 +14,13 @@ desk_room f = 38 + column_count f * (symbol_size f most_bytes + 327)
 -- the frames that must have room at a shard of a committee of f: a metadata, of whatever f; a
 -- sliver that a metadata of f commits; and a proof that is bad for one
 abbrev pub MayVerify : (List ℕ → List ℕ) → ℕ → Frame → Type 0
-MayVerify digest f (Metadata m) = ⊤
+MayVerify digest f (Metadata metadata) = ⊤
 MayVerify digest f (Sliver id axis index bytes) =
-    (m : BlobMetadata) × IsMetadata m × (m.f ≡ f) × HoldsSliver digest m axis index bytes
-MayVerify digest f (Proof id q) =
-    (m : BlobMetadata) × IsMetadata m × (m.f ≡ f) × IsBadProof digest m q
+    (metadata : BlobMetadata) × IsMetadata metadata × (metadata.f ≡ f)
+    × HoldsSliver digest metadata axis index bytes
+MayVerify digest f (Proof id proof) =
+    (metadata : BlobMetadata) × IsMetadata metadata × (metadata.f ≡ f)
+    × IsBadProof digest metadata proof
 MayVerify digest f _ = ⊥
 
 -- the requests that carry no part of a blob

@@ -18,11 +18,12 @@ state_of shard serving = record { shard = shard; ledger = serving.ledger }
 
 -- the same, but for the ledger
 abbrev pub with_ledger : ServedState → LedgerState → ServedState
-with_ledger s ledger = record { shard = s.shard; ledger = ledger }
+with_ledger state ledger = record { shard = state.shard; ledger = ledger }
 
 -- the same, but for what the shard holds
 abbrev pub holding : ServedState → Contents → ServedState
-holding s contents = record { shard = with_contents s.shard contents; ledger = s.ledger }
+holding state contents =
+    record { shard = with_contents state.shard contents; ledger = state.ledger }
 
 -- the identifier of these bytes
 abbrev pub named : List ℕ → BlobId

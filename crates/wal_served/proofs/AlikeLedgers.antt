@@ -4,6 +4,7 @@ use Rattle.wal_served.proofs.Replies.{Reply, as_claim, of_claim, claim_plain}
 
 -- ---- names
 
+-- identifiers that differ are told apart
 pub apart : (q id : BlobId) → (q ≡ id → ⊥) → id_eq q id ≡ false
 apart q id other = grind (arith, id_same q id)
 

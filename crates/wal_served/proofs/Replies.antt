@@ -5,6 +5,7 @@ use Rattle.wal_served.proofs.Common.{◌≡◌, ℕ, true, false, List, [], ◌�
 abbrev domain_of : {A B : Type 0} → (A → B) → Type 0
 domain_of {A = A} f = A
 
+-- the answers that `reply_text` spells
 abbrev pub Reply : Type 0
 Reply = domain_of reply_text
 

@@ -36,10 +36,10 @@ use Rattle.wal_served.specs.Steps.{TellsWant}
 -- the identifier that a frame is about: of a metadata its own, of what names one that one, and of
 -- an answer none
 abbrev pub about : (List ℕ → List ℕ) → Frame → Option BlobId
-about digest (Metadata m) = Some (put_id digest (Metadata m))
+about digest (Metadata other) = Some (put_id digest (Metadata other))
 about digest (Sliver id axis index bytes) = Some (named id)
-about digest (Opening id axis index o) = Some (named id)
-about digest (Proof id p) = Some (named id)
+about digest (Opening id axis index opening) = Some (named id)
+about digest (Proof id other) = Some (named id)
 about digest (Read id) = Some (named id)
 about digest (Symbol id axis index) = Some (named id)
 about digest (Ack id) = Some (named id)
@@ -48,7 +48,7 @@ about digest (Forget id) = Some (named id)
 about digest (RegisterEntry id until) = Some (named id)
 about digest (AckEntry shard id) = Some (named id)
 about digest (AttestEntry shard id) = Some (named id)
-about digest (Answer code a b) = None
+about digest (Answer code first second) = None
 about digest (Clash left right) = None
 
 -- the one that what was read is about; what is no frame is about none
@@ -129,9 +129,10 @@ abbrev pub cost_with : Contents → BlobId → ℕ
 cost_with contents id = cost contents + cond (map_of.contains_key contents id) 0 1
 
 -- there is room for so many pages of parts of an identifier, and for so many entries
-pub record RoomFor (id : BlobId) (s : ServedState) (pages entries : ℕ) : Type 0 where
-  pub pages_fit : IfSome s.shard.limit (λ most. cost_with s.shard.contents id + pages ≤ most)
-  pub entries_fit : entries ≤ s.ledger.spare
+pub record RoomFor (id : BlobId) (state : ServedState) (pages entries : ℕ) : Type 0 where
+  pub pages_fit : IfSome state.shard.limit
+      (λ most. cost_with state.shard.contents id + pages ≤ most)
+  pub entries_fit : entries ≤ state.ledger.spare
 
 -- ---- THE FIRST LAW: alike states answer alike, and are alike then
 
@@ -204,13 +205,13 @@ turns table room fresh _ _ _ _
 -- the envelopes in which it came, the frames that were answered, and the two texts, where the last
 -- one ended serving
 abbrev pub bytes_of : List Turn → List ℕ
-bytes_of all = flat_map (λ t. envelope t.sender t.payload) all
+bytes_of all = flat_map (λ turn. envelope turn.sender turn.payload) all
 
 abbrev pub frames_of : List Turn → List (List ℕ)
-frames_of all = flat_map (λ t. t.answered) all
+frames_of all = flat_map (λ turn. turn.answered) all
 
 abbrev pub clash_of : List Turn → Option MetaClash
-clash_of all = fold (λ (c : Option MetaClash) (t : Turn). t.clash) None all
+clash_of all = fold (λ (collided : Option MetaClash) (turn : Turn). turn.clash) None all
 
 -- a choice of payloads: all that regard the identifier, none that regards another one, and of those
 -- that regard none any
@@ -221,14 +222,14 @@ pub record Chooses (digest : List ℕ → List ℕ) (id : BlobId) (keeps : List 
 
 -- what is left of all that was served
 abbrev pub left_of : (List ℕ → Bool) → List Turn → List Turn
-left_of keeps all = filter (λ t. keeps t.payload) all
+left_of keeps all = filter (λ turn. keeps turn.payload) all
 
 -- the pages of the parts that were stored, and how many entries were made
 abbrev pub stored_pages : List Turn → ℕ
-stored_pages all = sum_by (λ t. taken_pages t.payload t.answered) all
+stored_pages all = sum_by (λ turn. taken_pages turn.payload turn.answered) all
 
 abbrev pub made_entries : List Turn → ℕ
-made_entries all = sum_by (λ t. taken_entries t.payload t.answered) all
+made_entries all = sum_by (λ turn. taken_entries turn.payload turn.answered) all
 
 -- a state that is alike at the identifier serves what is left, and answers it exactly as before,
 -- where there is room for what was stored and entered of it and no answer to it told of want of
@@ -242,7 +243,7 @@ ServesWhatIsLeft digest =
     → let left = left_of keeps
     (turns (AnswersRequest digest may_want) room one taken frames clash state served) in
     Chooses digest id keeps → AlikeAt id one other
-    → All (λ (t : Turn). TellsWant t.answered → ⊥) left
+    → All (λ (turn : Turn). TellsWant turn.answered → ⊥) left
     → RoomFor id other (stored_pages left) (made_entries left)
     → (then : ServedState)
     × Served (AnswersRequest digest also) room other
@@ -279,9 +280,9 @@ ReadsRestOn digest =
 -- ---- THE FIFTH LAW: entries and parts may be fed in another order
 
 -- nothing is held under the identifier, and nothing of it is entered
-pub record HasNothing (id : BlobId) (s : ServedState) : Type 0 where
-  pub parts : parts_at s.shard.contents id ≡ no_parts
-  pub entries : own_entries s.ledger.log id ≡ []
+pub record HasNothing (id : BlobId) (state : ServedState) : Type 0 where
+  pub parts : parts_at state.shard.contents id ≡ no_parts
+  pub entries : own_entries state.ledger.log id ≡ []
 
 -- the request that makes an entry
 abbrev pub entry_frame : Body → Option Frame
@@ -296,42 +297,44 @@ frame_payload (Some frame) = frame_text frame ∷ []
 frame_payload None = []
 
 abbrev pub entry_payloads : List Entry → List (List ℕ)
-entry_payloads entries = flat_map (λ x. frame_payload (entry_frame x.body)) entries
+entry_payloads entries = flat_map (λ entry. frame_payload (entry_frame entry.body)) entries
 
 -- the payload of a held sliver, by the index that the held metadata gives it
 abbrev pub sliver_payload : List ℕ → ℕ → Parts → Axis → List (List ℕ)
-sliver_payload id shard p axis =
-    let m = spelled_metadata (unwrap_or p.metadata []) in
-    payload_if (part_of p (sliver_part axis))
-    (λ bytes. sliver_frame id axis (held_index m.format m.f axis shard) bytes)
+sliver_payload id shard held axis =
+    let metadata = spelled_metadata (unwrap_or held.metadata []) in
+    payload_if (part_of held (sliver_part axis))
+    (λ bytes. sliver_frame id axis (held_index metadata.format metadata.f axis shard) bytes)
 
 -- the pages of the parts
 abbrev pub pages_of : Parts → ℕ
-pages_of p = part_cost p.metadata + part_cost p.primary + part_cost p.secondary + part_cost p.proof
+pages_of held =
+    part_cost held.metadata + part_cost held.primary + part_cost held.secondary
+    + part_cost held.proof
 
 -- the payloads of the held ones of metadata, primary sliver, secondary sliver and proof, in this
 -- order
 abbrev pub part_payloads : List ℕ → ℕ → Parts → List (List ℕ)
-part_payloads id shard p =
-    metadata_reply p
-    ++ (sliver_payload id shard p axes.Primary
-    ++ (sliver_payload id shard p axes.Secondary ++ proof_reply id p))
+part_payloads id shard held =
+    metadata_reply held
+    ++ (sliver_payload id shard held axes.Primary
+    ++ (sliver_payload id shard held axes.Secondary ++ proof_reply id held))
 
 -- the entries of an identifier in their order, and then its parts
 abbrev pub kept_payloads : BlobId → ServedState → List (List ℕ)
-kept_payloads id s =
-    entry_payloads (own_entries s.ledger.log id)
-    ++ part_payloads id.0 s.shard.index (parts_at s.shard.contents id)
+kept_payloads id state =
+    entry_payloads (own_entries state.ledger.log id)
+    ++ part_payloads id.0 state.shard.index (parts_at state.shard.contents id)
 
 -- a desk of a committee, with room for every frame that can verify
-pub record IsPlaced (id : BlobId) (room : ℕ) (s : ServedState) : Type 0 where
+pub record IsPlaced (id : BlobId) (room : ℕ) (state : ServedState) : Type 0 where
   pub named_by : IsId id.0
-  pub some : 1 ≤ s.shard.f
-  pub few : s.shard.f ≤ 333
-  pub one : s.ledger.log.f ≡ s.shard.f
-  pub place : s.shard.index < committee_size s.shard.f
-  pub serves : is_moving s.ledger.log ≡ false
-  pub enough : desk_room s.shard.f ≤ room
+  pub some : 1 ≤ state.shard.f
+  pub few : state.shard.f ≤ 333
+  pub one : state.ledger.log.f ≡ state.shard.f
+  pub place : state.shard.index < committee_size state.shard.f
+  pub serves : is_moving state.ledger.log ≡ false
+  pub enough : desk_room state.shard.f ≤ room
   pub fits : room < 2 ^ 32
 
 -- a shard that has nothing of the identifier and room for all that another one kept of it: fed with

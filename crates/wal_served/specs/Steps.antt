@@ -46,7 +46,7 @@ use Rattle.wal_serve.specs.Serving.{Served, Serves, none, more}
 
 -- the shards of the committee but this one
 abbrev pub others : ℕ → ℕ → List ℕ
-others f own = filter (λ s. not (nat_eq s own)) (range_with_len 0 (committee_size f))
+others f own = filter (λ shard. not (nat_eq shard own)) (range_with_len 0 (committee_size f))
 
 -- the committee in which this shard alone is correct, and holds this
 abbrev pub alone : ℕ → ℕ → Contents → Committee
@@ -56,19 +56,20 @@ alone f own contents = with_contents (empty_committee f (others f own)) own cont
 -- alone correct: the format in which blobs are written and the first completed answers, which no
 -- request touches, are those of any world
 abbrev pub world_of : World → ServedState → World
-world_of w s = record w {
-  log = s.ledger.log;
-  now = alone s.shard.f s.shard.index s.shard.contents;
+world_of world state = record world {
+  log = state.ledger.log;
+  now = alone state.shard.f state.shard.index state.shard.contents;
   next = nobody;
 }
 
 -- a shard of the ledger's committee, whose epoch isn't changing, and each shard has a node of its
 -- own
-pub record IsDesk (s : ServedState) : Type 0 where
-  pub place : s.shard.index < committee_size s.shard.f
-  pub faults : s.ledger.log.f ≡ s.shard.f
-  pub serves : is_moving s.ledger.log ≡ false
-  pub owners : (t : ℕ) → t < committee_size s.shard.f → node_of (owners_of Now s.ledger.log) t ≡ t
+pub record IsDesk (state : ServedState) : Type 0 where
+  pub place : state.shard.index < committee_size state.shard.f
+  pub faults : state.ledger.log.f ≡ state.shard.f
+  pub serves : is_moving state.ledger.log ≡ false
+  pub owners : (turn : ℕ) → turn < committee_size state.shard.f
+      → node_of (owners_of Now state.ledger.log) turn ≡ turn
 
 -- ---- what a payload is
 
@@ -89,9 +90,9 @@ entry_of f own shard claim =
 -- this shard, what is asked of it is its own acknowledgement, attestation or forgetting, and
 -- entries are the ledger's
 abbrev pub frame_meaning : ℕ → ℕ → List ℕ → Frame → Meaning
-frame_meaning f own payload (Metadata m) = an_event (event.Send Now own payload)
+frame_meaning f own payload (Metadata metadata) = an_event (event.Send Now own payload)
 frame_meaning f own payload (Sliver id axis index bytes) = an_event (event.Send Now own payload)
-frame_meaning f own payload (Proof id p) = an_event (event.Send Now own payload)
+frame_meaning f own payload (Proof id proof) = an_event (event.Send Now own payload)
 frame_meaning f own payload (Ack id) = an_event (event.Ack own (named id))
 frame_meaning f own payload (Attest id) = an_event (event.Attest own (named id))
 frame_meaning f own payload (Forget id) = an_event (event.Forget Now own (named id))
@@ -114,7 +115,7 @@ meaning f own payload = read_meaning f own payload (read_of payload)
 
 -- an answer of this code and these numbers
 abbrev pub answer_text : ℕ → ℕ → ℕ → List ℕ
-answer_text code a b = frame_text (Answer code a b)
+answer_text code first second = frame_text (Answer code first second)
 
 -- the answer to each word of a registration, which tells the resulting `until`; while the epoch
 -- does not change none is refused for that
@@ -183,11 +184,11 @@ TellsClash (Some texts) said = said ≡ of_line.Collision texts.left texts.right
 
 -- the world takes a step, whose line is what was answered, and a collision exactly where two texts
 -- end serving, of these texts
-pub record TakesStep (digest : List ℕ → List ℕ) (old : ServedState) (e : Event)
+pub record TakesStep (digest : List ℕ → List ℕ) (old : ServedState) (happening : Event)
     (frames : List (List ℕ)) (clash : Option MetaClash) (new : ServedState) : Type 0 where
   pub line : Line
-  pub steps : (w : World)
-      → Steps (rules_of digest old.shard.f) (world_of w old) e line (world_of w new)
+  pub steps : (world : World)
+      → Steps (rules_of digest old.shard.f) (world_of world old) happening line (world_of world new)
   pub told : IsTold line frames
   pub ends : TellsClash clash line
 
@@ -210,16 +211,16 @@ pub record LacksRoom (old : ServedState) (frames : List (List ℕ))
 -- of this very shard leaves the shard as it is; and else nothing changes
 abbrev pub Does : (List ℕ → List ℕ) → ServedState → Meaning → List (List ℕ) → Option MetaClash
     → ServedState → Type 0
-Does digest old (an_event e) frames clash new =
-    TakesStep digest old e frames clash new ⊎ LacksRoom old frames clash new
+Does digest old (an_event happening) frames clash new =
+    TakesStep digest old happening frames clash new ⊎ LacksRoom old frames clash new
 Does digest old own_entry frames clash new = (new.shard ≡ old.shard) × (clash ≡ None)
 Does digest old no_event frames clash new = (new ≡ old) × (clash ≡ None)
 
 -- a shard asks for symbols of its sliver by the index that held metadata gives it; where nothing is
 -- held any index is one
 pub data AsksFor (parts : Parts) (axis : Axis) (index shard : ℕ) : Type 0 where
-  by_metadata : (m : BlobMetadata) → HoldsMetadata parts m
-      → index ≡ held_index m.format m.f axis shard → AsksFor parts axis index shard
+  by_metadata : (metadata : BlobMetadata) → HoldsMetadata parts metadata
+      → index ≡ held_index metadata.format metadata.f axis shard → AsksFor parts axis index shard
   of_nothing : parts.metadata ≡ None → parts.proof ≡ None → AsksFor parts axis index shard
 
 -- what is asked of what is held has the true reply of the world's shard, and then the number of its
@@ -227,15 +228,16 @@ pub data AsksFor (parts : Parts) (axis : Axis) (index shard : ℕ) : Type 0 wher
 abbrev pub RepliesTruly : (List ℕ → List ℕ) → ServedState → Result Frame FrameError → List (List ℕ)
     → Option MetaClash → Type 0
 RepliesTruly digest old (Ok (Read id)) frames clash =
-    (w : World)
+    (world : World)
     → IsReplied
-    (reply_payloads (rules_of digest old.shard.f) (world_of w old)
+    (reply_payloads (rules_of digest old.shard.f) (world_of world old)
     (named id) (said_by.True Now old.shard.index))
     frames clash
 RepliesTruly digest old (Ok (Symbol id axis index)) frames clash =
     (payloads : List (List ℕ)) × IsReplied payloads frames clash
-    × ((w : World) (shard : ℕ) → AsksFor (parts_at old.shard.contents (named id)) axis index shard
-    → IsReplyOf (rules_of digest old.shard.f) (world_of w old)
+    × ((world : World) (shard : ℕ)
+    → AsksFor (parts_at old.shard.contents (named id)) axis index shard
+    → IsReplyOf (rules_of digest old.shard.f) (world_of world old)
     (named id) axis shard (said_by.True Now old.shard.index) payloads)
 RepliesTruly digest old _ frames clash = ⊤
 
@@ -250,7 +252,8 @@ pub record Stepped (digest : List ℕ → List ℕ) (may_want : Bool)
   pub answers : AnswersRequest digest may_want old payload frames clash new
   pub does : Does digest old (meaning old.shard.f old.shard.index payload) frames clash new
   pub replies : RepliesTruly digest old (read_of payload) frames clash
-  pub refused : (code a b : ℕ) → frames ≡ answer_text code a b ∷ [] → IsRefused code → new ≡ old
+  pub refused : (code first second : ℕ) → frames ≡ answer_text code first second ∷ []
+      → IsRefused code → new ≡ old
   pub place : SamePlace old.shard new.shard
 
 -- EVERY REQUEST: what the table of requests has for a payload is this, where each shard has a node
@@ -286,43 +289,46 @@ exchanges digest may_want room fresh _ _ _ _
 
 -- the event that a payload is, if it is one, with the frames that were answered
 abbrev pub event_if : Meaning → List (List ℕ) → List (Event × List (List ℕ))
-event_if (an_event e) frames = (e, frames) ∷ []
+event_if (an_event happening) frames = (happening, frames) ∷ []
 event_if _ frames = []
 
 -- the events of payloads with the frames that were answered to each, in order: one that is longer
 -- than the room is none
 abbrev pub events_of : ℕ → ℕ → ℕ → List Exchange → List (Event × List (List ℕ))
 events_of room f own all =
-    flat_map (λ a. cond (nat_lt room (length a.0)) [] (event_if (meaning f own a.0) a.1)) all
+    flat_map
+    (λ first. cond (nat_lt room (length first.0)) [] (event_if (meaning f own first.0) first.1)) all
 
 -- no payload that is looked at is an entry of the very shard that serves
 abbrev pub NoOwnEntry : ℕ → ℕ → ℕ → List Exchange → Type 0
 NoOwnEntry room f own all =
-    (a : Exchange) → Contains all a → length a.0 ≤ room → meaning f own a.0 ≢ own_entry
+    (exchange : Exchange) → Contains all exchange → length exchange.0 ≤ room
+    → meaning f own exchange.0 ≢ own_entry
 
 -- all that is answered is one frame that tells of want of room
 abbrev pub TellsWant : List (List ℕ) → Type 0
 TellsWant frames =
-    (code : ℕ) × (a : ℕ) × (b : ℕ) × IsWant code × (frames ≡ answer_text code a b ∷ [])
+    (code : ℕ) × (first : ℕ) × (second : ℕ) × IsWant code
+    × (frames ≡ answer_text code first second ∷ [])
 
 -- events in order and their lines: those are left out whose answer tells of want of room, and to
 -- each other one its line was answered, which never tells of that
 pub data AreOf : List Event → List Line → List (Event × List (List ℕ)) → Type 0 where
   nothing : AreOf [] [] []
   with_next : (some : List Event) (lines : List Line) (all : List (Event × List (List ℕ)))
-      (e : Event) (said : Line) (frames : List (List ℕ))
+      (happening : Event) (said : Line) (frames : List (List ℕ))
       → AreOf some lines all
       → IsTold said frames → (TellsWant frames → ⊥)
-      → AreOf (some ++ e ∷ []) (lines ++ said ∷ []) (all ++ (e, frames) ∷ [])
+      → AreOf (some ++ happening ∷ []) (lines ++ said ∷ []) (all ++ (happening, frames) ∷ [])
   without_next : (some : List Event) (lines : List Line)
-      (all : List (Event × List (List ℕ))) (e : Event) (frames : List (List ℕ))
+      (all : List (Event × List (List ℕ))) (happening : Event) (frames : List (List ℕ))
       → AreOf some lines all
-      → TellsWant frames → AreOf some lines (all ++ (e, frames) ∷ [])
+      → TellsWant frames → AreOf some lines (all ++ (happening, frames) ∷ [])
 
 -- the world at the end of a run
 abbrev pub last_world : World → List World → World
-last_world w [] = w
-last_world w (next ∷ states) = last_world next states
+last_world world [] = world
+last_world world (next ∷ states) = last_world next states
 
 -- the last line is the collision of the two texts that end serving, and no other is a collision;
 -- where serving goes on, none is
@@ -333,15 +339,15 @@ StopsBy (Some texts) lines =
 
 -- A RUN OF THE WORLD from one state to the other, of these events in their order but those whose
 -- answer tells of want of room, and each of its lines was answered to its event
-pub record IsRunTo (digest : List ℕ → List ℕ) (w : World)
+pub record IsRunTo (digest : List ℕ → List ℕ) (world : World)
     (fresh : ServedState) (all : List (Event × List (List ℕ)))
     (clash : Option MetaClash) (state : ServedState) : Type 0 where
   pub events : List Event
   pub states : List World
   pub lines : List Line
   pub answered : AreOf events lines all
-  pub run : Runs (rules_of digest fresh.shard.f) (world_of w fresh) events states lines
-  pub ends : last_world (world_of w fresh) states ≡ world_of w state
+  pub run : Runs (rules_of digest fresh.shard.f) (world_of world fresh) events states lines
+  pub ends : last_world (world_of world fresh) states ≡ world_of world state
   pub stops : StopsBy clash lines
 
 -- what was served is a run of the events that the payloads are, where none is an entry of the very
@@ -350,8 +356,8 @@ abbrev pub IsServedRun : (List ℕ → List ℕ) → ℕ → ServedState → Lis
     → ServedState → Type 0
 IsServedRun digest room fresh all clash state =
     NoOwnEntry room fresh.shard.f fresh.shard.index all
-    → (w : World)
-    → IsRunTo digest w fresh (events_of room fresh.shard.f fresh.shard.index all) clash state
+    → (world : World)
+    → IsRunTo digest world fresh (events_of room fresh.shard.f fresh.shard.index all) clash state
 
 -- at each place of what was served, what was served so far is such a run, to the state there: so it
 -- is one up to the first entry of the very shard that serves, whatever comes behind

@@ -2,6 +2,7 @@
 use Rattle.wal_shape.proofs.Common.{◌≡◌, ℕ, ◌+◌, ◌≤◌, Bool, true, false, not, List, [], ◌++◌, length, Result, Ok, Err, refl, sym, ap, ◌∙◌, append_assoc, arith, ⊤, length-append, ◌>>=◌}
 use Rattle.wal_shape.proofs.Numbers.{IsBytes}
 
+-- equal results hold equal values
 pub ok_is : {A E : Type 0} (x y : A) → ◌≡◌ {A = Result A E} (Ok x) (Ok y) → x ≡ y
 ok_is x y e = cc
 

@@ -33,6 +33,7 @@ one_byte (b ∷ c ∷ bytes) len fits = absurd (omega arith)
 pub byte_text : (n : ℕ) → n < 256 → n ∷ [] ≡ to_be_bytes w8 n
 byte_text n lt = let small : n ≡ n % 256 = omega arith in ap (λ (k : ℕ). k ∷ []) small
 
+-- eight bits hold the numbers below 2^8
 pub wide8 : IsWide w8 (2 ^ 8)
 wide8 = record {
   some = omega arith;
@@ -42,6 +43,7 @@ wide8 = record {
   below = λ bytes fits. fits 0;
 }
 
+-- sixteen bits hold the numbers below 2^16
 pub wide16 : IsWide w16 (2 ^ 16)
 wide16 = record {
   some = omega arith;
@@ -51,6 +53,7 @@ wide16 = record {
   below = λ bytes fits. omega (arith, fits 0, fits 1);
 }
 
+-- and thirty-two those below 2^32
 pub wide32 : IsWide w32 (2 ^ 32)
 wide32 = record {
   some = omega arith;
@@ -60,6 +63,7 @@ wide32 = record {
   below = λ bytes fits. omega (arith, fits 0, fits 1, fits 2, fits 3);
 }
 
+-- and sixty-four those below 2^64
 pub wide64 : IsWide w64 (2 ^ 64)
 wide64 = record {
   some = omega arith;

@@ -11,7 +11,7 @@ use Rattle.wal_shape.specs.FieldReading.{◌>>=◌, number_at, run_at}
 -- what a reference shows of the bytes that it was read from: the opening, and the bytes after its
 -- body
 abbrev pub body_seen : List ℕ → BodyRef → Opening × List ℕ
-body_seen bytes b = (opening_shown b.opening, drop b.size bytes)
+body_seen bytes body = (opening_shown body.opening, drop body.size bytes)
 
 -- the opening that the bytes begin with, and the bytes after its body
 unfoldable pub body_at : List ℕ → Result (Opening × List ℕ) BodyFault

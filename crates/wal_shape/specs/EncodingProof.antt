@@ -12,7 +12,7 @@ pub record EncodingProof : Type 0 where
   pub openings : List Opening
 
 -- the proofs that have a spelling
-pub record IsProof (p : EncodingProof) : Type 0 where
-  pub index : p.index ≤ 999
-  pub count : length p.openings ≤ 1000
-  pub bodies : AllByRecursion IsBody p.openings
+pub record IsProof (proof : EncodingProof) : Type 0 where
+  pub index : proof.index ≤ 999
+  pub count : length proof.openings ≤ 1000
+  pub bodies : AllByRecursion IsBody proof.openings

@@ -8,19 +8,20 @@ use Rattle.wal_shape.specs.declared.body.BodyFault.TheVariants.{Truncated, BadFi
 infixl 10 ◌>>=◌
 abbrev pub ◌>>=◌ : {A B E : Type 0} → Result A E → (A → Result B E) → Result B E
 (Ok x) >>= f = f x
-(Err e) >>= f = Err e
+(Err fault) >>= f = Err fault
 
 -- what a function returned, seen by view, is what is read
 abbrev pub Gives : {X Y E : Type 0} → (X → Y) → Result X E → Result Y E → Type 0
 Gives view (Ok x) read = read ≡ Ok (view x)
-Gives view (Err e) read = read ≡ Err e
+Gives view (Err fault) read = read ≡ Err fault
 
 -- a number of at most `most`, in a field at this place, and the bytes after it
 abbrev pub number_at : Width → ℕ → ℕ → List ℕ → Result (ℕ × List ℕ) BodyFault
-number_at w place most bytes =
-    if nat_lt (length bytes) (byte_len w) then Err Truncated
-    else (if nat_lt most (from_be_bytes w (take (byte_len w) bytes)) then Err (BadField place)
-    else Ok (from_be_bytes w (take (byte_len w) bytes), drop (byte_len w) bytes))
+number_at width place most bytes =
+    if nat_lt (length bytes) (byte_len width) then Err Truncated
+    else
+    (if nat_lt most (from_be_bytes width (take (byte_len width) bytes)) then Err (BadField place)
+    else Ok (from_be_bytes width (take (byte_len width) bytes), drop (byte_len width) bytes))
 
 -- n bytes, and the bytes after them
 abbrev pub run_at : ℕ → List ℕ → Result (List ℕ × List ℕ) BodyFault

@@ -7,8 +7,8 @@ use Rattle.wal_shape.specs.declared.metadata.BlobId.{BlobId}
 
 -- two identifiers have the same bytes
 abbrev pub id_eq : BlobId → BlobId → Bool
-id_eq a b = pointwise nat_eq a.0 b.0
+id_eq one other = pointwise nat_eq one.0 other.0
 
 -- the order of identifiers, by their bytes from the first on
 abbrev pub id_cmp : BlobId → BlobId → Ordering
-id_cmp a b = slice_cmp nat_cmp a.0 b.0
+id_cmp one other = slice_cmp nat_cmp one.0 other.0

@@ -5,4 +5,4 @@ use Rattle.wal_shape.specs.MetadataReading.{spelled_metadata}
 
 -- the metadata that the lent bytes spell
 unfoldable pub metadata_shown : MetaRef → BlobMetadata
-metadata_shown m = spelled_metadata m.bytes.now
+metadata_shown metadata = spelled_metadata metadata.bytes.now

@@ -22,15 +22,15 @@ pub record AreRoots (n : ℕ) (roots : List (List ℕ)) : Type 0 where
   pub size : AllByRecursion (λ root. length root ≡ 32) roots
 
 -- a fit shape with one root for each shard and axis
-pub record IsMetadata (m : BlobMetadata) : Type 0 where
-  pub shape : IsShape m.f m.length
-  pub primary : AreRoots (shard_count m.f) m.primary
-  pub secondary : AreRoots (shard_count m.f) m.secondary
+pub record IsMetadata (metadata : BlobMetadata) : Type 0 where
+  pub shape : IsShape metadata.f metadata.length
+  pub primary : AreRoots (shard_count metadata.f) metadata.primary
+  pub secondary : AreRoots (shard_count metadata.f) metadata.secondary
 
 -- the roots of an axis
 abbrev pub roots_of : Axis → BlobMetadata → List (List ℕ)
-roots_of Primary m = m.primary
-roots_of Secondary m = m.secondary
+roots_of Primary metadata = metadata.primary
+roots_of Secondary metadata = metadata.secondary
 
 -- the index of the sliver of an axis that a shard holds: the shard's own number, but in format two
 -- the secondary slivers are held in the opposite order

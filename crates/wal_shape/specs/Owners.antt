@@ -13,12 +13,12 @@ is_ascending n numbers = ascends_from 0 n numbers
 
 -- what holds of each number below n
 abbrev pub every_below : ℕ → (ℕ → Bool) → Bool
-every_below zero p = true
-every_below (suc n) p = every_below n p && p n
+every_below zero counts = true
+every_below (suc n) counts = every_below n counts && counts n
 
 -- whether a list has a shard
 abbrev pub among : List ℕ → ℕ → Bool
-among shards shard = list_any (λ s. nat_eq s shard) shards
+among shards shard = list_any (λ other. nat_eq other shard) shards
 
 -- owners are the node of each of n shards, by the shard's number, and there are at most n nodes
 abbrev pub are_owners : ℕ → List ℕ → Bool
@@ -31,7 +31,7 @@ node_of owners shard = slice_index owners shard
 -- whether a list has a shard of the node that runs this one
 abbrev pub has_neighbour : List ℕ → List ℕ → ℕ → Bool
 has_neighbour owners shards shard =
-    list_any (λ s. nat_eq (node_of owners s) (node_of owners shard)) shards
+    list_any (λ other. nat_eq (node_of owners other) (node_of owners shard)) shards
 
 -- a list of shards is closed: with a shard it has every shard of the same node
 abbrev pub is_closed : List ℕ → List ℕ → Bool

@@ -16,8 +16,8 @@ axis_of (suc n) = Secondary
 -- an opening that was read, and the others that stand behind it
 abbrev pub with_others : Result (Opening × List ℕ) BodyFault → (List ℕ → List Opening)
     → List Opening
-with_others (Ok x) others = x.0 ∷ others x.1
-with_others (Err e) others = []
+with_others (Ok pair) others = pair.0 ∷ others pair.1
+with_others (Err fault) others = []
 
 -- the openings of n bodies, up to the first that cannot be read
 unfoldable pub openings_in : ℕ → List ℕ → List Opening

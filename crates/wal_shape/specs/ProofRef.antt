@@ -5,4 +5,4 @@ use Rattle.wal_shape.specs.ProofReading.{proof_of}
 
 -- the proof that the lent bytes spell
 unfoldable pub proof_shown : ProofRef → EncodingProof
-proof_shown p = proof_of p.head p.bytes.now
+proof_shown proof = proof_of proof.head proof.bytes.now

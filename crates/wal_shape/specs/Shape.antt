@@ -44,12 +44,12 @@ cell_count f = row_count f * column_count f
 unfoldable pub symbol_size : ℕ → ℕ → ℕ
 symbol_size f length = 2 * max 1 (div_ceil length (2 * cell_count f))
 
--- s is the least even number, at least 2, for which the source block has room for the blob
-pub record IsSymbolSize (f length s : ℕ) : Type 0 where
-  pub even : s % 2 ≡ 0
-  pub positive : 2 ≤ s
-  pub room : length ≤ cell_count f * s
-  pub least : (t : ℕ) → t % 2 ≡ 0 → 2 ≤ t → length ≤ cell_count f * t → s ≤ t
+-- the size is the least even number, at least 2, for which the source block has room for the blob
+pub record IsSymbolSize (f length size : ℕ) : Type 0 where
+  pub even : size % 2 ≡ 0
+  pub positive : 2 ≤ size
+  pub room : length ≤ cell_count f * size
+  pub least : (less : ℕ) → less % 2 ≡ 0 → 2 ≤ less → length ≤ cell_count f * less → size ≤ less
 
 -- the symbols of a sliver: a primary one is a row, and a secondary one a column
 abbrev pub sliver_symbols : Axis → ℕ → ℕ

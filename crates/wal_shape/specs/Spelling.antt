@@ -13,7 +13,7 @@ use Rattle.wal_shape.specs.EncodingProof.{EncodingProof}
 
 -- a number in the bytes of its width
 abbrev pub number_text : Width → ℕ → List ℕ
-number_text w n = to_be_bytes w n
+number_text width n = to_be_bytes width n
 
 -- the version that format two begins with
 abbrev pub format_text : Format → List ℕ
@@ -23,15 +23,15 @@ format_text Two = 2 ∷ []
 -- a primary and a secondary root of each shard in turn
 unfoldable pub pairs_text : List (List ℕ) → List (List ℕ) → List ℕ
 pairs_text [] secondary = []
-pairs_text (p ∷ primary) [] = []
-pairs_text (p ∷ primary) (s ∷ secondary) = p ++ s ++ pairs_text primary secondary
+pairs_text (one ∷ primary) [] = []
+pairs_text (one ∷ primary) (other ∷ secondary) = one ++ other ++ pairs_text primary secondary
 
 -- the format, f in two bytes, the length in eight, and the roots of the two slivers that each shard
 -- holds
 unfoldable pub metadata_text : BlobMetadata → List ℕ
-metadata_text m =
-    format_text m.format ++ number_text w16 m.f ++ number_text w64 m.length
-    ++ pairs_text m.primary (held_order m.format m.secondary)
+metadata_text metadata =
+    format_text metadata.format ++ number_text w16 metadata.f ++ number_text w64 metadata.length
+    ++ pairs_text metadata.primary (held_order metadata.format metadata.secondary)
 
 -- the number of bytes of the spelling of metadata
 abbrev pub text_size : Format → ℕ → ℕ
@@ -41,9 +41,9 @@ text_size Two f = 11 + 64 * shard_count f
 -- an opening body: the cross, the symbol behind its size, and the path behind the number of its
 -- digests
 unfoldable pub body_text : Opening → List ℕ
-body_text o =
-    number_text w16 o.cross ++ number_text w32 (length o.symbol) ++ o.symbol
-    ++ number_text w8 (length o.path / 32) ++ o.path
+body_text opening =
+    number_text w16 opening.cross ++ number_text w32 (length opening.symbol) ++ opening.symbol
+    ++ number_text w8 (length opening.path / 32) ++ opening.path
 
 -- the number of an axis
 abbrev pub axis_number : Axis → ℕ
@@ -52,6 +52,6 @@ axis_number Secondary = 1
 
 -- the axis, the index and the number of openings, and each opening's body
 unfoldable pub proof_text : EncodingProof → List ℕ
-proof_text p =
-    number_text w8 (axis_number p.axis) ++ number_text w16 p.index
-    ++ number_text w16 (length p.openings) ++ flat_map body_text p.openings
+proof_text proof =
+    number_text w8 (axis_number proof.axis) ++ number_text w16 proof.index
+    ++ number_text w16 (length proof.openings) ++ flat_map body_text proof.openings

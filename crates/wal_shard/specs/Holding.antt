@@ -17,34 +17,38 @@ use Rattle.wal_frame.specs.Frame as frame
 use Rattle.wal_frame.specs.Frame.{frame_text, metadata_frame, sliver_frame}
 
 -- the parts hold this metadata
-pub record HoldsMetadata (p : Parts) (m : BlobMetadata) : Type 0 where
-  pub fit : IsMetadata m
-  pub spelled : p.metadata ≡ Some (metadata_text m)
+pub record HoldsMetadata (parts : Parts) (other : BlobMetadata) : Type 0 where
+  pub fit : IsMetadata other
+  pub spelled : parts.metadata ≡ Some (metadata_text other)
 
 -- whether metadata and both slivers are held
 abbrev pub settled_by_slivers : Parts → Bool
-settled_by_slivers p = is_some p.metadata && (is_some p.primary && is_some p.secondary)
+settled_by_slivers parts =
+    is_some parts.metadata && (is_some parts.primary && is_some parts.secondary)
 
 -- whether a proof is held
 abbrev pub has_proof : Parts → Bool
-has_proof p = is_some p.metadata && is_some p.proof
+has_proof parts = is_some parts.metadata && is_some parts.proof
 
 -- whether the identifier is settled: by slivers, or by a proof
 abbrev pub settled : Parts → Bool
-settled p = settled_by_slivers p || has_proof p
+settled parts = settled_by_slivers parts || has_proof parts
 
 -- what a shard may hold under an identifier: a metadata of f that the identifier commits; and only
 -- beside one, slivers of the shard's own indices that it commits, and a proof that is bad for it
 pub record IsSound (digest : List ℕ → List ℕ) (f : ℕ)
-    (id : List ℕ) (shard : ℕ) (p : Parts) : Type 0 where
-  pub metadata : (bytes : List ℕ) → p.metadata ≡ Some bytes
-      → (m : BlobMetadata) × HoldsMetadata p m × Commits digest id m × (m.f ≡ f)
-  pub alone : p.metadata ≡ None → (p.primary ≡ None) × (p.secondary ≡ None) × (p.proof ≡ None)
-  pub slivers : (axis : Axis) (m : BlobMetadata) (bytes : List ℕ) → HoldsMetadata p m
-      → part_of p (sliver_part axis) ≡ Some bytes
-      → HoldsSliver digest m axis (held_index m.format m.f axis shard) bytes
-  pub proof : (m : BlobMetadata) (bytes : List ℕ) → HoldsMetadata p m → p.proof ≡ Some bytes
-      → (q : EncodingProof) × IsProof q × (bytes ≡ proof_text q) × IsBadProof digest m q
+    (id : List ℕ) (shard : ℕ) (parts : Parts) : Type 0 where
+  pub metadata : (bytes : List ℕ) → parts.metadata ≡ Some bytes
+      → (other : BlobMetadata) × HoldsMetadata parts other × Commits digest id other × (other.f ≡ f)
+  pub alone : parts.metadata ≡ None
+      → (parts.primary ≡ None) × (parts.secondary ≡ None) × (parts.proof ≡ None)
+  pub slivers : (axis : Axis) (other : BlobMetadata) (bytes : List ℕ) → HoldsMetadata parts other
+      → part_of parts (sliver_part axis) ≡ Some bytes
+      → HoldsSliver digest other axis (held_index other.format other.f axis shard) bytes
+  pub proof : (other : BlobMetadata) (bytes : List ℕ) → HoldsMetadata parts other
+      → parts.proof ≡ Some bytes
+      → (held_proof : EncodingProof) × IsProof held_proof × (bytes ≡ proof_text held_proof)
+      × IsBadProof digest other held_proof
 
 -- one payload where a part is held, and none where it is not
 abbrev pub payload_if : Option (List ℕ) → (List ℕ → List ℕ) → List (List ℕ)
@@ -53,40 +57,43 @@ payload_if (Some bytes) payload = payload bytes ∷ []
 
 -- the frame of held metadata, and of a held proof
 abbrev pub metadata_reply : Parts → List (List ℕ)
-metadata_reply p = payload_if p.metadata (λ bytes. metadata_frame (spelled_metadata bytes))
+metadata_reply parts = payload_if parts.metadata (λ bytes. metadata_frame (spelled_metadata bytes))
 
 -- the frame of a held primary sliver
 abbrev pub primary_reply : List ℕ → ℕ → Parts → List (List ℕ)
-primary_reply id shard p = payload_if p.primary (λ bytes. sliver_frame id axes.Primary shard bytes)
+primary_reply id shard parts =
+    payload_if parts.primary (λ bytes. sliver_frame id axes.Primary shard bytes)
 
 abbrev pub proof_reply : List ℕ → Parts → List (List ℕ)
-proof_reply id p = payload_if p.proof (λ bytes. 0x13 ∷ (id ++ bytes))
+proof_reply id parts = payload_if parts.proof (λ bytes. 0x13 ∷ (id ++ bytes))
 
 -- what a shard answers to a read: the frames of the held ones of metadata, primary sliver and
 -- proof, in this order
 abbrev pub read_reply_of : List ℕ → ℕ → Parts → List (List ℕ)
-read_reply_of id shard p =
-    metadata_reply p ++ (primary_reply id shard p ++ proof_reply id p)
+read_reply_of id shard parts =
+    metadata_reply parts ++ (primary_reply id shard parts ++ proof_reply id parts)
 
 -- the frame of the opening of the target that the shard's crossing sliver gives, where that is held
 -- and the index is a shard's
 pub data OpeningReply (digest : List ℕ → List ℕ) (id : List ℕ)
-    (shard : ℕ) (p : Parts) (axis : Axis) (index : ℕ) : List (List ℕ)
+    (shard : ℕ) (parts : Parts) (axis : Axis) (index : ℕ) : List (List ℕ)
     → Type 0 where
-  given : (m : BlobMetadata) (sliver : List ℕ) (o : Opening) → HoldsMetadata p m
-      → part_of p (sliver_part (crossing axis)) ≡ Some sliver
-      → index < shard_count m.f → o.cross ≡ held_index m.format m.f (crossing axis) shard
-      → IsOpeningOf digest m axis index sliver o
-      → OpeningReply digest id shard p axis index (frame_text (frame.Opening id axis index o) ∷ [])
-  not_held : part_of p (sliver_part (crossing axis)) ≡ None
-      → OpeningReply digest id shard p axis index []
-  no_shard : (m : BlobMetadata) → HoldsMetadata p m → (index < shard_count m.f → ⊥)
-      → OpeningReply digest id shard p axis index []
+  given : (other : BlobMetadata) (sliver : List ℕ) (opening : Opening) → HoldsMetadata parts other
+      → part_of parts (sliver_part (crossing axis)) ≡ Some sliver
+      → index < shard_count other.f
+      → opening.cross ≡ held_index other.format other.f (crossing axis) shard
+      → IsOpeningOf digest other axis index sliver opening
+      → OpeningReply digest id shard parts axis index
+      (frame_text (frame.Opening id axis index opening) ∷ [])
+  not_held : part_of parts (sliver_part (crossing axis)) ≡ None
+      → OpeningReply digest id shard parts axis index []
+  no_shard : (other : BlobMetadata) → HoldsMetadata parts other → (index < shard_count other.f → ⊥)
+      → OpeningReply digest id shard parts axis index []
 
 -- what a shard answers to a request for symbols of a sliver: the frame of the held metadata, that
 -- opening, and the held proof
 abbrev pub SymbolReplies : (List ℕ → List ℕ) → List ℕ → ℕ → Parts → Axis → ℕ → List (List ℕ)
     → Type 0
-SymbolReplies digest id shard p axis index payloads =
-    (opening : List (List ℕ)) × OpeningReply digest id shard p axis index opening
-    × (payloads ≡ metadata_reply p ++ (opening ++ proof_reply id p))
+SymbolReplies digest id shard parts axis index payloads =
+    (opening : List (List ℕ)) × OpeningReply digest id shard parts axis index opening
+    × (payloads ≡ metadata_reply parts ++ (opening ++ proof_reply id parts))

@@ -18,14 +18,16 @@ kept contents id part bytes =
 
 -- the metadata and the sliver are kept, each where none is held
 abbrev pub kept_sliver : Contents → BlobId → BlobMetadata → Axis → List ℕ → Contents
-kept_sliver contents id m axis bytes =
-    kept (kept contents id parts.Metadata (metadata_text m)) id (sliver_part axis) bytes
+kept_sliver contents id metadata axis bytes =
+    kept (kept contents id parts.Metadata (metadata_text metadata)) id (sliver_part axis) bytes
 
 -- the metadata and the proof are kept, each where none is held
 abbrev pub kept_proof : Contents → BlobId → BlobMetadata → EncodingProof → Contents
-kept_proof contents id m p =
-    kept (kept contents id parts.Metadata (metadata_text m)) id parts.Proof (proof_text p)
+kept_proof contents id metadata proof =
+    kept (kept contents id parts.Metadata (metadata_text metadata))
+    id parts.Proof (proof_text proof)
 
 -- what is held after want of memory: what was held before, or with the metadata
 abbrev pub IsKeptInPart : Contents → BlobId → BlobMetadata → Contents → Type 0
-IsKeptInPart old id m new = (new ≡ old) ⊎ (new ≡ kept old id parts.Metadata (metadata_text m))
+IsKeptInPart old id metadata new =
+    (new ≡ old) ⊎ (new ≡ kept old id parts.Metadata (metadata_text metadata))

@@ -21,17 +21,17 @@ use Rattle.wal_shard.specs.Holding.{HoldsMetadata}
 
 -- the frames that can be put
 abbrev pub CanBePut : Frame → Type 0
-CanBePut (Metadata m) = Unit {0}
+CanBePut (Metadata metadata) = Unit {0}
 CanBePut (Sliver id axis index bytes) = Unit {0}
-CanBePut (Proof id p) = Unit {0}
+CanBePut (Proof id proof) = Unit {0}
 CanBePut _ = ⊥
 
 -- the identifier under which a frame is put: that which a metadata commits, or the one that is
 -- named
 abbrev pub put_id : (List ℕ → List ℕ) → Frame → BlobId
-put_id digest (Metadata m) = record { 0 = identifier_of digest m }
+put_id digest (Metadata metadata) = record { 0 = identifier_of digest metadata }
 put_id digest (Sliver id axis index bytes) = record { 0 = id }
-put_id digest (Proof id p) = record { 0 = id }
+put_id digest (Proof id proof) = record { 0 = id }
 put_id digest _ = record { 0 = [] }
 
 -- which part it is; what carries none is never stored
@@ -40,23 +40,25 @@ put_part frame = unwrap_or (stored_part frame) parts.Metadata
 
 -- slivers and proofs rest on held metadata
 abbrev pub RestsOnMetadata : Frame → Type 0
-RestsOnMetadata (Metadata m) = ⊥
+RestsOnMetadata (Metadata metadata) = ⊥
 RestsOnMetadata _ = Unit {0}
 
 -- a metadata has the shard's f; a sliver is one of the shard's own indices and the held metadata
 -- commits it; a proof is bad for it
 abbrev pub Verifies : (List ℕ → List ℕ) → ℕ → ℕ → Parts → Frame → Type 0
-Verifies digest f shard p (Metadata m) = m.f ≡ f
-Verifies digest f shard p (Sliver id axis index bytes) =
-    (m : BlobMetadata) × HoldsMetadata p m × (index ≡ held_index m.format m.f axis shard)
-    × HoldsSliver digest m axis index bytes
-Verifies digest f shard p (Proof id q) =
-    (m : BlobMetadata) × HoldsMetadata p m × IsBadProof digest m q
-Verifies digest f shard p _ = ⊥
+Verifies digest f shard held (Metadata metadata) = metadata.f ≡ f
+Verifies digest f shard held (Sliver id axis index bytes) =
+    (metadata : BlobMetadata) × HoldsMetadata held metadata
+    × (index ≡ held_index metadata.format metadata.f axis shard)
+    × HoldsSliver digest metadata axis index bytes
+Verifies digest f shard held (Proof id proof) =
+    (metadata : BlobMetadata) × HoldsMetadata held metadata × IsBadProof digest metadata proof
+Verifies digest f shard held _ = ⊥
 
 -- the part is held: a metadata, where it is the same one
 abbrev pub IsHeldIn : Contents → BlobId → Frame → Type 0
-IsHeldIn contents id (Metadata m) = part_at contents id parts.Metadata ≡ Some (metadata_text m)
+IsHeldIn contents id (Metadata metadata) =
+    part_at contents id parts.Metadata ≡ Some (metadata_text metadata)
 IsHeldIn contents id frame = IsSome (part_at contents id (put_part frame))
 
 -- the shard and the ledger that a frame is put to: f, the shard's number, the limit of its pages,
@@ -68,56 +70,59 @@ pub record PutDesk : Type 0 where
   pub log : Log
 
 -- the identifier is live, and the frame verifies over what is held under it
-pub record IsAccepted (digest : List ℕ → List ℕ) (d : PutDesk)
+pub record IsAccepted (digest : List ℕ → List ℕ) (desk : PutDesk)
     (old : Contents) (frame : Frame) : Type 0 where
-  pub live : is_live d.log (put_id digest frame) ≡ true
-  pub verified : Verifies digest d.f d.shard (parts_at old (put_id digest frame)) frame
+  pub live : is_live desk.log (put_id digest frame) ≡ true
+  pub verified : Verifies digest desk.f desk.shard (parts_at old (put_id digest frame)) frame
 
 -- `put`, by its answer, of which the first case that applies is given: what was held, the frame,
 -- and what is held then
 abbrev pub Puts : (List ℕ → List ℕ) → PutDesk → Contents → Frame → PutAnswer → Contents → Type 0
-Puts digest d old frame Unregistered new =
-    (is_live d.log (put_id digest frame) ≡ false) × (new ≡ old)
-Puts digest d old frame NoMetadata new =
-    (is_live d.log (put_id digest frame) ≡ true) × RestsOnMetadata frame
+Puts digest desk old frame Unregistered new =
+    (is_live desk.log (put_id digest frame) ≡ false) × (new ≡ old)
+Puts digest desk old frame NoMetadata new =
+    (is_live desk.log (put_id digest frame) ≡ true) × RestsOnMetadata frame
     × (part_at old (put_id digest frame) parts.Metadata ≡ None) × (new ≡ old)
-Puts digest d old frame Unverified new =
-    (is_live d.log (put_id digest frame) ≡ true)
+Puts digest desk old frame Unverified new =
+    (is_live desk.log (put_id digest frame) ≡ true)
     × (RestsOnMetadata frame → IsSome (part_at old (put_id digest frame) parts.Metadata))
-    × (Verifies digest d.f d.shard (parts_at old (put_id digest frame)) frame → ⊥) × (new ≡ old)
-Puts digest d old frame (OtherMetadata clash) new =
-    IsAccepted digest d old frame × (m : BlobMetadata) × (other : List ℕ) × (frame ≡ Metadata m)
-    × (part_at old (put_id digest frame) parts.Metadata ≡ Some other) × (other ≢ metadata_text m)
+    × (Verifies digest desk.f desk.shard (parts_at old (put_id digest frame)) frame → ⊥)
+    × (new ≡ old)
+Puts digest desk old frame (OtherMetadata clash) new =
+    IsAccepted digest desk old frame × (metadata : BlobMetadata) × (other : List ℕ)
+    × (frame ≡ Metadata metadata)
+    × (part_at old (put_id digest frame) parts.Metadata ≡ Some other)
+    × (other ≢ metadata_text metadata)
     × IsCollision digest clash.left clash.right × (new ≡ old)
-Puts digest d old frame Held new =
-    IsAccepted digest d old frame × IsHeldIn old (put_id digest frame) frame × (new ≡ old)
-Puts digest d old frame (Full needed free) new =
-    IsAccepted digest d old frame × (part_at old (put_id digest frame) (put_part frame) ≡ None)
-    × (free_of d.limit old ≡ Some free)
+Puts digest desk old frame Held new =
+    IsAccepted digest desk old frame × IsHeldIn old (put_id digest frame) frame × (new ≡ old)
+Puts digest desk old frame (Full needed free) new =
+    IsAccepted digest desk old frame × (part_at old (put_id digest frame) (put_part frame) ≡ None)
+    × (free_of desk.limit old ≡ Some free)
     × (needed ≡ needed_for old (put_id digest frame) (stored_bytes frame)) × (free < needed)
     × (new ≡ old)
-Puts digest d old frame Stored new =
-    IsAccepted digest d old frame × (part_at old (put_id digest frame) (put_part frame) ≡ None)
-    × HasRoom (free_of d.limit old) (needed_for old (put_id digest frame) (stored_bytes frame))
+Puts digest desk old frame Stored new =
+    IsAccepted digest desk old frame × (part_at old (put_id digest frame) (put_part frame) ≡ None)
+    × HasRoom (free_of desk.limit old) (needed_for old (put_id digest frame) (stored_bytes frame))
     × (new ≡ with_bytes old (put_id digest frame) (put_part frame) (stored_bytes frame))
 -- no case of the definition: a keep may want memory, and then nothing changes
-Puts digest d old frame Memory new = ⊥
+Puts digest desk old frame Memory new = ⊥
 
 -- the same, where the keep may answer that it wants memory in place of storing or of having no room
 abbrev pub PutsOrWants : (List ℕ → List ℕ) → Bool → PutDesk → Contents → Frame → PutAnswer
     → Contents → Type 0
-PutsOrWants digest may_want d old frame Memory new =
-    (may_want ≡ true) × IsAccepted digest d old frame
+PutsOrWants digest may_want desk old frame Memory new =
+    (may_want ≡ true) × IsAccepted digest desk old frame
     × (part_at old (put_id digest frame) (put_part frame) ≡ None) × (new ≡ old)
-PutsOrWants digest may_want d old frame answer new = Puts digest d old frame answer new
+PutsOrWants digest may_want desk old frame answer new = Puts digest desk old frame answer new
 
 -- the texts of an answer, if there are any, are digested for the metadata that is put and for the
 -- one that is held
 abbrev pub ShowsTexts : (List ℕ → List ℕ) → Contents → Frame → PutAnswer → Type 0
 ShowsTexts digest old frame (OtherMetadata clash) =
-    (m : BlobMetadata) × (held : BlobMetadata) × (frame ≡ Metadata m)
+    (metadata : BlobMetadata) × (held : BlobMetadata) × (frame ≡ Metadata metadata)
     × HoldsMetadata (parts_at old (put_id digest frame)) held
-    × AreDigestedFor digest m held clash.left clash.right
+    × AreDigestedFor digest metadata held clash.left clash.right
 ShowsTexts digest old frame _ = Unit {0}
 
 -- what storing a part comes to that isn't held, by the answer
@@ -133,10 +138,10 @@ Stores limit may_want old id part bytes _ new = ⊥
 
 -- what is made of a metadata beside the one that is held
 abbrev pub Compares : (List ℕ → List ℕ) → Option (List ℕ) → BlobMetadata → PutAnswer → Type 0
-Compares digest old m Held = old ≡ Some (metadata_text m)
-Compares digest old m (OtherMetadata clash) =
-    (other : List ℕ) × (old ≡ Some other) × (other ≢ metadata_text m)
+Compares digest old metadata Held = old ≡ Some (metadata_text metadata)
+Compares digest old metadata (OtherMetadata clash) =
+    (other : List ℕ) × (old ≡ Some other) × (other ≢ metadata_text metadata)
     × IsCollision digest clash.left clash.right
     × (held : BlobMetadata) × IsMetadata held × (other ≡ metadata_text held)
-    × AreDigestedFor digest m held clash.left clash.right
-Compares digest old m _ = ⊥
+    × AreDigestedFor digest metadata held clash.left clash.right
+Compares digest old metadata _ = ⊥

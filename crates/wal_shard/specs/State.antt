@@ -20,7 +20,7 @@ pub record ShardState : Type 0 where
 
 -- the same shard, but for what it holds
 abbrev pub with_contents : ShardState → Contents → ShardState
-with_contents s contents = record s { contents = contents }
+with_contents state contents = record state { contents = contents }
 
 -- the shard beside a ledger
 abbrev pub desk_of : ℕ → ℕ → Option ℕ → Log → PutDesk
@@ -28,7 +28,7 @@ desk_of f index limit log = record { f = f; shard = index; limit = limit; log = 
 
 -- what a put is judged by: the shard and its ledger
 abbrev pub desk : ShardState → Log → PutDesk
-desk s log = desk_of s.f s.index s.limit log
+desk state log = desk_of state.f state.index state.limit log
 
 -- a number of faults, and the number of a shard of that committee
 abbrev pub IsPlace : ℕ → ℕ → Type 0
@@ -41,7 +41,7 @@ AreSound digest f index contents =
 
 -- the metadata that is held: of the committee's f, and the identifier commits it
 pub record IsOwnMetadata (digest : List ℕ → List ℕ) (f : ℕ)
-    (id : List ℕ) (p : Parts) (m : BlobMetadata) : Type 0 where
-  pub held : HoldsMetadata p m
-  pub commits : Commits digest id m
-  pub faults : m.f ≡ f
+    (id : List ℕ) (parts : Parts) (metadata : BlobMetadata) : Type 0 where
+  pub held : HoldsMetadata parts metadata
+  pub commits : Commits digest id metadata
+  pub faults : metadata.f ≡ f

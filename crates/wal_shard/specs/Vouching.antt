@@ -16,8 +16,8 @@ use Rattle.wal_shard.specs.Holding.{settled_by_slivers, has_proof, settled}
 
 -- whether what is held backs an acknowledgement, or an attestation
 abbrev pub backs : Kind → Parts → Bool
-backs Holds p = settled_by_slivers p
-backs Denies p = has_proof p
+backs Holds held = settled_by_slivers held
+backs Denies held = has_proof held
 
 -- `acknowledge` and `attest`, by their answer
 abbrev pub Vouches : Kind → Log → Contents → BlobId → Result (Unit {0}) AckRefusal → Type 0

@@ -194,6 +194,7 @@ in_order ids i j x y sorted lt at_i at_j =
     let less = Less-from_sorted id_cmp ids i j x sorted lt (slice_get_within ids j y at_j) in
     cc (less, get_or_from_slice_get ids i x x at_i, get_or_from_slice_get ids j y x at_j)
 
+-- the identifier at a place is that of the row there
 pub id_at : (rows : List Row) (m : ℕ) (d : Row) → m < length rows → slice_get (ids_of rows) m ≡ Some (get_or rows m d).id
 id_at rows m d lt = cc (slice_get-map (λ (r : Row). r.id) rows m, slice_get-get_or rows m d lt)
 

@@ -40,6 +40,7 @@ pub record Written (size : ℕ) (old new : List PageState) (n : ℕ) (bytes : Li
   pub front : take (length bytes) (page_bytes new n) ≡ bytes
   pub long : length (page_bytes new n) ≡ size
 
+-- a free page is taken, and written from its start
 pub written : (size : ℕ) (old mid new : List PageState) (n : ℕ) (bytes : List ℕ) → slice_get old n ≡ Some Free → mid ≡ slice_set old n (Taken (page_bytes mid n)) → length (page_bytes mid n) ≡ size → new ≡ slice_set mid n (Taken (overwrite (page_bytes mid n) 0 bytes)) → length bytes ≤ size → Written size old new n bytes
 written size old mid new n bytes free taken long write fits =
     let w : List ℕ = overwrite (page_bytes mid n) 0 bytes in

@@ -64,7 +64,7 @@ is_bytes (Some held) bytes = pointwise nat_eq held bytes
 
 -- whether this metadata is held, or a sliver of this axis
 abbrev pub has_frame : Parts → Frame → Bool
-has_frame parts (Metadata m) = is_bytes parts.metadata (metadata_text m)
+has_frame parts (Metadata metadata) = is_bytes parts.metadata (metadata_text metadata)
 has_frame parts (Sliver id axis index bytes) = is_some (part_of parts (sliver_part axis))
 has_frame parts _ = false
 
@@ -80,8 +80,9 @@ pub data SymbolReply (digest : List ℕ → List ℕ) (id : BlobId) (helper : �
     (parts : Parts) (axis : Axis) (shard : ℕ) : List (List ℕ)
     → Type 0 where
   silent : parts.metadata ≡ None → SymbolReply digest id helper parts axis shard []
-  replies : (m : BlobMetadata) (payloads : List (List ℕ)) → HoldsMetadata parts m
-      → SymbolReplies digest id.0 helper parts axis (held_index m.format m.f axis shard) payloads
+  replies : (metadata : BlobMetadata) (payloads : List (List ℕ)) → HoldsMetadata parts metadata
+      → SymbolReplies digest id.0 helper parts axis
+      (held_index metadata.format metadata.f axis shard) payloads
       → SymbolReply digest id helper parts axis shard payloads
 
 -- the outcome that a word tells
@@ -100,58 +101,64 @@ ReadsTo digest id payloads word evidence =
 
 -- ---- recoveries
 
--- m is a metadata of the identifier among the payloads, or what a shard holds as the blob's
+-- a metadata of the identifier among the payloads, or what a shard holds as the blob's
 -- metadata
 abbrev pub Knows : (List ℕ → List ℕ) → BlobId → Parts → List (List ℕ) → BlobMetadata → Type 0
-Knows digest id parts payloads m = HasMetadata digest id.0 payloads m ⊎ HoldsMetadata parts m
+Knows digest id parts payloads metadata =
+    HasMetadata digest id.0 payloads metadata ⊎ HoldsMetadata parts metadata
 
 -- two of them differ
 abbrev pub KnowsTwo : (List ℕ → List ℕ) → BlobId → Parts → List (List ℕ) → Type 0
 KnowsTwo digest id parts payloads =
-    (a : BlobMetadata) × (b : BlobMetadata) × Knows digest id parts payloads a
-    × Knows digest id parts payloads b × (a ≢ b)
+    (one : BlobMetadata) × (other : BlobMetadata) × Knows digest id parts payloads one
+    × Knows digest id parts payloads other × (one ≢ other)
 
--- m is the only one, and has the committee's f
+-- this metadata is the only one, and has the committee's f
 pub record IsKnown (digest : List ℕ → List ℕ) (f : ℕ) (id : BlobId)
-    (parts : Parts) (payloads : List (List ℕ)) (m : BlobMetadata) : Type 0 where
-  pub known : Knows digest id parts payloads m
-  pub only : (other : BlobMetadata) → Knows digest id parts payloads other → other ≡ m
-  pub faults : m.f ≡ f
+    (parts : Parts) (payloads : List (List ℕ)) (metadata : BlobMetadata) : Type 0 where
+  pub known : Knows digest id parts payloads metadata
+  pub only : (other : BlobMetadata) → Knows digest id parts payloads other → other ≡ metadata
+  pub faults : metadata.f ≡ f
 
 -- what all openings of the shard's own sliver come to by this metadata
 abbrev pub OwnOpeningsComeTo : (List ℕ → List ℕ) → BlobId → ℕ → Axis → List (List ℕ) → BlobMetadata
     → Recovered → Type 0
-OwnOpeningsComeTo digest id shard axis payloads m found =
-    let index = held_index m.format m.f axis shard in
-    OpeningsComeTo digest m axis index (openings_in id.0 axis index payloads) found
+OwnOpeningsComeTo digest id shard axis payloads metadata found =
+    let index = held_index metadata.format metadata.f axis shard in
+    OpeningsComeTo digest metadata axis index (openings_in id.0 axis index payloads) found
 
 -- what a recovery comes to, and what the shard holds then: a part that is held stays
 abbrev pub RecoversTo : (List ℕ → List ℕ) → ℕ → BlobId → ℕ → Axis → Contents → List (List ℕ)
     → RecoverWord → Contents → Type 0
 -- no metadata is known that has the committee's f
 RecoversTo digest f id shard axis old payloads recovering.NoMetadata new =
-    ((m : BlobMetadata) → Knows digest id (parts_at old id) payloads m → m.f ≢ f) × (new ≡ old)
+    ((metadata : BlobMetadata) → Knows digest id (parts_at old id) payloads metadata
+    → metadata.f ≢ f)
+    × (new ≡ old)
 -- the openings give the sliver
 RecoversTo digest f id shard axis old payloads (recovering.Sliver bytes) new =
-    (m : BlobMetadata) × IsKnown digest f id (parts_at old id) payloads m
-    × OwnOpeningsComeTo digest id shard axis payloads m (recovered.Sliver bytes)
-    × (new ≡ kept_sliver old id m axis bytes)
+    (metadata : BlobMetadata) × IsKnown digest f id (parts_at old id) payloads metadata
+    × OwnOpeningsComeTo digest id shard axis payloads metadata (recovered.Sliver bytes)
+    × (new ≡ kept_sliver old id metadata axis bytes)
 -- they are a proof of bad encoding
 RecoversTo digest f id shard axis old payloads recovering.Inconsistent new =
-    (m : BlobMetadata) × IsKnown digest f id (parts_at old id) payloads m × (p : EncodingProof)
-    × OwnOpeningsComeTo digest id shard axis payloads m (recovered.Inconsistent p)
-    × (new ≡ kept_proof old id m p)
+    (metadata : BlobMetadata) × IsKnown digest f id (parts_at old id) payloads metadata
+    × (proof : EncodingProof)
+    × OwnOpeningsComeTo digest id shard axis payloads metadata (recovered.Inconsistent proof)
+    × (new ≡ kept_proof old id metadata proof)
 -- they are too few, and the first bad proof among the payloads is taken
 RecoversTo digest f id shard axis old payloads recovering.Proof new =
-    (m : BlobMetadata) × IsKnown digest f id (parts_at old id) payloads m × (have : ℕ)
-    × OwnOpeningsComeTo digest id shard axis payloads m (recovered.Short have) × (p : EncodingProof)
-    × IsFirstBadProof digest id.0 m payloads p
-    × (new ≡ kept_proof old id m p)
+    (metadata : BlobMetadata) × IsKnown digest f id (parts_at old id) payloads metadata × (have : ℕ)
+    × OwnOpeningsComeTo digest id shard axis payloads metadata (recovered.Short have)
+    × (proof : EncodingProof)
+    × IsFirstBadProof digest id.0 metadata payloads proof
+    × (new ≡ kept_proof old id metadata proof)
 -- they are too few, and there is none
 RecoversTo digest f id shard axis old payloads (recovering.Short have need) new =
-    (m : BlobMetadata) × IsKnown digest f id (parts_at old id) payloads m
-    × OwnOpeningsComeTo digest id shard axis payloads m (recovered.Short have)
-    × NoBadProof digest id.0 m payloads × (need ≡ sliver_symbols axis m.f) × (new ≡ old)
+    (metadata : BlobMetadata) × IsKnown digest f id (parts_at old id) payloads metadata
+    × OwnOpeningsComeTo digest id shard axis payloads metadata (recovered.Short have)
+    × NoBadProof digest id.0 metadata payloads × (need ≡ sliver_symbols axis metadata.f)
+    × (new ≡ old)
 -- all else is no recovery
 RecoversTo digest f id shard axis old payloads _ new = ⊥
 
@@ -166,21 +173,21 @@ IsBackedBy digest f id (Written bytes) =
 
 -- a metadata is held that the identifier commits
 pub record HoldsCommitted (digest : List ℕ → List ℕ) (id : BlobId)
-    (parts : Parts) (m : BlobMetadata) : Type 0 where
-  pub held : HoldsMetadata parts m
-  pub committed : Commits digest id.0 m
+    (parts : Parts) (metadata : BlobMetadata) : Type 0 where
+  pub held : HoldsMetadata parts metadata
+  pub committed : Commits digest id.0 metadata
 
 -- and by it these bytes are the shard's sliver of the axis
 abbrev pub CommitsSliver : (List ℕ → List ℕ) → BlobId → ℕ → Axis → List ℕ → Parts → Type 0
 CommitsSliver digest id shard axis bytes parts =
-    (m : BlobMetadata) × HoldsCommitted digest id parts m
-    × HoldsSliver digest m axis (held_index m.format m.f axis shard) bytes
+    (metadata : BlobMetadata) × HoldsCommitted digest id parts metadata
+    × HoldsSliver digest metadata axis (held_index metadata.format metadata.f axis shard) bytes
 
 -- and a proof that its blob is badly encoded
 abbrev pub HoldsBadProof : (List ℕ → List ℕ) → BlobId → Parts → Type 0
 HoldsBadProof digest id parts =
-    (m : BlobMetadata) × HoldsCommitted digest id parts m × (p : EncodingProof)
-    × (parts.proof ≡ Some (proof_text p)) × IsBadProof digest m p
+    (metadata : BlobMetadata) × HoldsCommitted digest id parts metadata × (proof : EncodingProof)
+    × (parts.proof ≡ Some (proof_text proof)) × IsBadProof digest metadata proof
 
 -- THE RULES, for a digest and a number of faults
 abbrev pub rules_of : (List ℕ → List ℕ) → ℕ → Rules

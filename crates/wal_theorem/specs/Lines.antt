@@ -24,7 +24,7 @@ pub record AreLines (digest : List ℕ → List ℕ)
 
 -- the schedule of its first events
 abbrev pub front_of : Schedule → ℕ → Schedule
-front_of s count = record s { events = take count s.events }
+front_of schedule count = record schedule { events = take count schedule.events }
 
 -- the lines of a schedule's first events
 pub record AreFirstLines (digest : List ℕ → List ℕ)

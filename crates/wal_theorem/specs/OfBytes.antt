@@ -20,7 +20,7 @@ IsOfBytes parts = (part : Part) (text : List ℕ) → part_of parts part ≡ Som
 -- a proof is spelled in bytes
 abbrev pub BasisOfBytes : Basis → Type 0
 BasisOfBytes (Slivers indices joined) = Unit {0}
-BasisOfBytes (Proof p) = AreBytes (proof_text p)
+BasisOfBytes (Proof proof) = AreBytes (proof_text proof)
 
 -- the metadata and the proof of a read's evidence are spelled in bytes
 abbrev pub FirstOfBytes : First → Type 0
@@ -30,7 +30,8 @@ FirstOfBytes (Written bytes) = Unit {0}
 
 -- all that is held is bytes, and so are the metadata and the proofs that first completed answers
 -- rest on
-pub record WorldOfBytes (w : World) : Type 0 where
-  pub parts : (side : Side) (s : ℕ) (id : BlobId) → IsOfBytes (held (side_of side w) s id)
-  pub answers : (id : BlobId) (answer : First) → map.get w.answers id ≡ Some answer
+pub record WorldOfBytes (world : World) : Type 0 where
+  pub parts : (side : Side) (shard : ℕ) (id : BlobId)
+      → IsOfBytes (held (side_of side world) shard id)
+  pub answers : (id : BlobId) (answer : First) → map.get world.answers id ≡ Some answer
       → FirstOfBytes answer

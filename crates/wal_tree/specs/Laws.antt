@@ -27,18 +27,18 @@ All-bytes_high_first (suc count) n =
     All-cons IsByte (byte_at count n) (bytes_high_first count n)
     (byte_at-byte count n) (All-bytes_high_first count n)
 
-All-digest_bytes : (h : List ℕ) (n : ℕ) → All IsByte (digest_bytes h n)
+All-digest_bytes : (words : List ℕ) (n : ℕ) → All IsByte (digest_bytes words n)
 unfolding digest_bytes
-All-digest_bytes h zero = All-nil IsByte
-All-digest_bytes h (suc n) =
-    All-append IsByte (digest_bytes h n) (to_be_bytes w32 (slice_index h n))
-    (All-digest_bytes h n) (All-bytes_high_first 4 (slice_index h n))
+All-digest_bytes words zero = All-nil IsByte
+All-digest_bytes words (suc n) =
+    All-append IsByte (digest_bytes words n) (to_be_bytes w32 (slice_index words n))
+    (All-digest_bytes words n) (All-bytes_high_first 4 (slice_index words n))
 
 pub sha256_bytes : (text : List ℕ) → All IsByte text → All IsByte (sha256 text)
 unfolding sha256
 sha256_bytes text bytes = All-digest_bytes (final_hash initial_hash_256 text) 8
 
-chosen : (b : Bool) (x : ℕ) → IsByte x → IsByte (if b then x else 0)
+chosen : (whether : Bool) (x : ℕ) → IsByte x → IsByte (if whether then x else 0)
 chosen true x byte = byte
 chosen false x byte = omega arith
 
@@ -54,4 +54,4 @@ pub toy32_bytes : (text : List ℕ) → All IsByte text → All IsByte (toy32 te
 unfolding toy32
 toy32_bytes text bytes =
     All-map IsByte (λ (lane : ℕ). lane_sum lane 0 text)
-    (range_with_len 0 32) (λ k d within. lane_sum-byte _ 0 text bytes)
+    (range_with_len 0 32) (λ k index within. lane_sum-byte _ 0 text bytes)

@@ -26,11 +26,11 @@ height count = height_within count count
 -- the siblings of this place and of those above it, from the leaf upwards, within this many levels
 abbrev pub path_within : (List ℕ → List ℕ) → ℕ → ℕ → List (List ℕ) → List (List ℕ)
 path_within digest levels place [] = []
-path_within digest levels place (a ∷ []) = []
-path_within digest zero place (a ∷ (b ∷ more)) = []
-path_within digest (suc levels) place (a ∷ (b ∷ more)) =
-    slice_index_or (a ∷ (b ∷ more)) (beside place) empty_entry
-    ∷ path_within digest levels (place / 2) (pair_up digest (a ∷ (b ∷ more)))
+path_within digest levels place (first ∷ []) = []
+path_within digest zero place (first ∷ (second ∷ more)) = []
+path_within digest (suc levels) place (first ∷ (second ∷ more)) =
+    slice_index_or (first ∷ (second ∷ more)) (beside place) empty_entry
+    ∷ path_within digest levels (place / 2) (pair_up digest (first ∷ (second ∷ more)))
 
 -- the siblings from the leaf at this place to the root over these entries
 unfoldable pub path_of : (List ℕ → List ℕ) → List (List ℕ) → ℕ → List (List ℕ)
@@ -69,17 +69,17 @@ abbrev pub parent_text : ℕ → List ℕ → List ℕ → List ℕ
 parent_text place entry sibling =
     1 ∷ (if place % 2 == 0 then entry ++ sibling else sibling ++ entry)
 
--- of the texts that are digested on the ways up from x and y, at one place and along these
+-- of the texts that are digested on the ways up from two entries, at one place and along these
 -- siblings, left and right are those of the lowest level at which the digests agree
 abbrev pub MeetAbove : (List ℕ → List ℕ) → ℕ → List ℕ → List (List ℕ) → List ℕ → List (List ℕ)
     → List ℕ → List ℕ → Type 0
-MeetAbove digest place x (s ∷ more_x) y (t ∷ more_y) left right =
-    ((digest x ≡ digest y) × (left ≡ x) × (right ≡ y))
-    ⊎ ((digest x ≢ digest y)
-    × MeetAbove digest (place / 2) (parent_text place (digest x) s)
-    more_x (parent_text place (digest y) t) more_y left right)
-MeetAbove digest place x siblings_x y siblings_y left right =
-    (digest x ≡ digest y) × (left ≡ x) × (right ≡ y)
+MeetAbove digest place one (sibling ∷ more_one) other (other_sibling ∷ more_other) left right =
+    ((digest one ≡ digest other) × (left ≡ one) × (right ≡ other))
+    ⊎ ((digest one ≢ digest other)
+    × MeetAbove digest (place / 2) (parent_text place (digest one) sibling)
+    more_one (parent_text place (digest other) other_sibling) more_other left right)
+MeetAbove digest place one siblings_x other siblings_y left right =
+    (digest one ≡ digest other) × (left ≡ one) × (right ≡ other)
 
 -- left and right are the texts of two leaves with these contents, at one place, where their digests
 -- agree, and else those of the lowest level of their paths at which the digests agree
@@ -92,8 +92,10 @@ MeetOnPaths digest place content_a path_a content_b path_b left right =
 -- left and right are the texts in which the paths of the first piece of `size` bytes that differs
 -- in two contents meet
 abbrev pub MeetInTrees : (List ℕ → List ℕ) → ℕ → List ℕ → List ℕ → List ℕ → List ℕ → Type 0
-MeetInTrees digest size a b left right =
-    (place : ℕ) × (place < length a / size) × (take (place * size) a ≡ take (place * size) b)
-    × (take size (drop (place * size) a) ≢ take size (drop (place * size) b))
-    × MeetOnPaths digest place (take size (drop (place * size) a)) (path_over digest size a place)
-    (take size (drop (place * size) b)) (path_over digest size b place) left right
+MeetInTrees digest size first second left right =
+    (place : ℕ) × (place < length first / size)
+    × (take (place * size) first ≡ take (place * size) second)
+    × (take size (drop (place * size) first) ≢ take size (drop (place * size) second))
+    × MeetOnPaths digest place (take size (drop (place * size) first))
+    (path_over digest size first place)
+    (take size (drop (place * size) second)) (path_over digest size second place) left right

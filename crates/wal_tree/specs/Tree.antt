@@ -18,17 +18,17 @@ empty_entry = replicate 32 0
 -- empty entry
 abbrev pub pair_up : (List ℕ → List ℕ) → List (List ℕ) → List (List ℕ)
 pair_up digest [] = []
-pair_up digest (a ∷ []) = node digest a empty_entry ∷ []
-pair_up digest (a ∷ (b ∷ more)) = node digest a b ∷ pair_up digest more
+pair_up digest (first ∷ []) = node digest first empty_entry ∷ []
+pair_up digest (first ∷ (second ∷ more)) = node digest first second ∷ pair_up digest more
 
 -- the one entry that is left when levels are paired until one has a single entry, within this many
 -- levels
 abbrev pub root_within : (List ℕ → List ℕ) → ℕ → List (List ℕ) → List ℕ
 root_within digest levels [] = empty_entry
-root_within digest levels (a ∷ []) = a
-root_within digest zero (a ∷ (b ∷ more)) = empty_entry
-root_within digest (suc levels) (a ∷ (b ∷ more)) =
-    root_within digest levels (pair_up digest (a ∷ (b ∷ more)))
+root_within digest levels (first ∷ []) = first
+root_within digest zero (first ∷ (second ∷ more)) = empty_entry
+root_within digest (suc levels) (first ∷ (second ∷ more)) =
+    root_within digest levels (pair_up digest (first ∷ (second ∷ more)))
 
 -- the root over these leaf digests; there are never more levels than leaves
 unfoldable pub root_of : (List ℕ → List ℕ) → List (List ℕ) → List ℕ

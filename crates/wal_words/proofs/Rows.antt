@@ -160,6 +160,7 @@ pub simple : is_simple program ≡ true
 unfolding clap_on_literals
 simple = refl
 
+-- the table of words is simple, and no word stands twice
 pub free : is_simple_and_free program ≡ true
 unfolding clap_on_literals
 free = refl

@@ -18,7 +18,7 @@ option_rule name = record (new_rule name) { long = Some name }
 abbrev pub program : App
 program =
     with_rule (with_rule (with_rule (with_rule
-    (on_top (λ s. record s { no_binary_name = true }) (new_app (codes "walrus")))
+    (on_top (λ settings. record settings { no_binary_name = true }) (new_app (codes "walrus")))
     values_rule) (option_rule (codes "blobs"))) (option_rule (codes "pages")))
     (option_rule (codes "format"))
 

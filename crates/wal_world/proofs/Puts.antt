@@ -4,6 +4,7 @@ use Rattle.wal_event.specs.declared.line.SendWord.{SendWord}
 use Rattle.wal_event.specs.declared.line.SendWord.TheVariants as sending
 use Rattle.wal_world.proofs.Placing.{keeps_same, shard_at}
 
+-- what holds anyway holds of a success
 pub on_ok : {A E P : Type 0} (r : Result A E) → P → OnOk r P
 on_ok (Ok x) p = p
 on_ok (Err e) p = tt

@@ -10,6 +10,7 @@ use Rattle.wal_world.proofs.Placing.{keeps_same, placed_at, places_network, plac
 
 -- ---- what a shard holds as metadata
 
+-- what a shard holds as metadata: its own, or none
 pub own_is : (digest : List ℕ → List ℕ) (f : ℕ) (id : List ℕ) (p : Parts) (o : Option BlobMetadata) → IfSome o (λ m. IsOwnMetadata digest f id p m) → IfNone o (p.metadata ≡ None)
     → IsHeldMetadata digest f id p o
 own_is digest f id p (Some m) a b = a

@@ -39,19 +39,19 @@ holders_in _ = None
 
 -- the summary of these lines; the sum of the bytes stays at the last number of 64 bits, and the
 -- least number of holders is 0 where no line tells one
-pub record IsSummary (lines : List Line) (s : Summary) : Type 0 where
-  pub events : s.events ≡ length lines
-  pub certified : s.certified ≡ distinct_count id_eq (filter_map certified_in lines)
-  pub reads : s.reads ≡ length (filter_map bytes_in lines)
-  pub bytes : s.bytes ≡ min (sum_by length (filter_map bytes_in lines)) (2 ^ 64 - 1)
-  pub recovered : s.recovered ≡ length (filter_map sliver_in lines)
-  pub least_holders : s.least_holders ≡ unwrap_or (reduce min (filter_map holders_in lines)) 0
+pub record IsSummary (lines : List Line) (summary : Summary) : Type 0 where
+  pub events : summary.events ≡ length lines
+  pub certified : summary.certified ≡ distinct_count id_eq (filter_map certified_in lines)
+  pub reads : summary.reads ≡ length (filter_map bytes_in lines)
+  pub bytes : summary.bytes ≡ min (sum_by length (filter_map bytes_in lines)) (2 ^ 64 - 1)
+  pub recovered : summary.recovered ≡ length (filter_map sliver_in lines)
+  pub least_holders : summary.least_holders ≡ unwrap_or (reduce min (filter_map holders_in lines)) 0
 
 -- what the run of a schedule comes to: the summary of its lines, none of which is a collision, or
 -- the collision with which it ends
 abbrev pub IsSummed : (List ℕ → List ℕ) → Schedule → Summed → Type 0
 IsSummed digest schedule (summed.Whole summary) =
     (lines : List Line) × AreLines digest schedule lines × GoesOn lines × IsSummary lines summary
-IsSummed digest schedule (summed.Collision c) =
+IsSummed digest schedule (summed.Collision collision) =
     (lines : List Line) × AreLines digest schedule lines × (ends : EndsInCollision lines)
-    × (ends.said ≡ line.Collision c.left c.right)
+    × (ends.said ≡ line.Collision collision.left collision.right)

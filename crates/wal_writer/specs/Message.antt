@@ -12,14 +12,15 @@ use Rattle.wal_frame.specs.Frame.{Frame, Metadata, Sliver}
 
 -- the frame of the sliver of an axis that a shard holds
 abbrev pub sliver_for : BlobMetadata → List ℕ → List ℕ → Axis → ℕ → Frame
-sliver_for m id e axis shard =
-    let index = held_index m.format m.f axis shard in
-    Sliver id axis index (sliver_of axis m.f (symbol_size m.f m.length) e index)
+sliver_for other id extended axis shard =
+    let index = held_index other.format other.f axis shard in
+    Sliver id axis index (sliver_of axis other.f (symbol_size other.f other.length) extended index)
 
 -- an honest writer's frames for a shard: the metadata, and the two slivers that it holds
 abbrev pub message_to : BlobMetadata → List ℕ → List ℕ → ℕ → List Frame
-message_to m id e shard =
-    Metadata m ∷ sliver_for m id e Primary shard ∷ sliver_for m id e Secondary shard ∷ []
+message_to other id extended shard =
+    Metadata other ∷ sliver_for other id extended Primary shard
+    ∷ sliver_for other id extended Secondary shard ∷ []
 
 -- the identifier of a blob, and those frames
 pub record IsMessageOf (digest : List ℕ → List ℕ) (f : ℕ) (format : Format)
@@ -38,4 +39,4 @@ pub record Written : Type 0 where
 
 -- the frames for each shard
 abbrev pub messages_of : Written → ℕ → List Frame
-messages_of w shard = message_to w.metadata w.id.0 w.cells shard
+messages_of written shard = message_to written.metadata written.id.0 written.cells shard

@@ -69,6 +69,7 @@ made digest size_is size payloads =
     image_made size [] (puts_of digest no_contents payloads) (omega arith)
     (puts_short digest size_is no_contents payloads)
 
+-- what `image` writes is in range
 pub imaged : (digest : List ℕ → List ℕ) → ((text : List ℕ) → length (digest text) ≡ 32) → (size : ℕ) (input : List ℕ)
     → size ≤ 134217728
     → Tells digest (imaging digest size) input (max size 272)

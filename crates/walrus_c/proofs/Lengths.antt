@@ -129,6 +129,7 @@ IsWithin n (Read id) = (length id ≡ 32) × (33 ≤ n)
 IsWithin n (Symbol id axis index) = (length id ≡ 32) × (33 ≤ n)
 IsWithin n other = ⊤
 
+-- if a frame was read, it has at most n bytes
 abbrev pub Reads : ℕ → Result Frame FrameError → Type 0
 Reads n r = (x : Frame) → r ≡ Ok x → IsWithin n x
 
@@ -203,6 +204,7 @@ Shows c misreads content text = c.Misreads content text
 Shows c leaves content text = c.Leaves content text
 Shows c (collides left right) content front = c.Collides content left right front
 
+-- what is written: the two texts of a collision behind what came before, and else the text
 abbrev pub told : Kind → List ℕ → List ℕ
 told (collides left right) front = front ++ collision_text left right
 told other text = text

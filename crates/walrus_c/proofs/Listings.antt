@@ -163,6 +163,7 @@ contents_long : (held : Contents) → length (contents_text held) ≡ all_lines 
 unfolding all_lines
 contents_long held = listed_long held (fin.entries held) (each_found (fin.entries held) (fin.entries_sorted held))
 
+-- what `unpack` lists is in range
 pub unpacked : (digest : List ℕ → List ℕ) (input : List ℕ) → length input ≤ 134217728
     → Tells digest unpacking input (max (2 * min (length input) 134217728) 272)
 unpacked digest input within succeeds image is text (changes, accepts, told) =

@@ -234,6 +234,7 @@ module _ (digest : List ℕ → List ℕ) (size_is : (text : List ℕ) → lengt
 
 -- ---- A bundle, and a member of one
 
+-- what `bundle` writes is in range
 pub bundled : (digest : List ℕ → List ℕ) (f : ℕ) (input : List ℕ) → Tells digest (bundling f) input most_bytes
 bundled digest f input succeeds members spells text made = made.3
 bundled digest f input lacks members spells text (inl many) = omega (arith, ap length many.1)
@@ -314,6 +315,7 @@ Fits n (Short have need) = (have ≤ 334) × (need ≤ 334)
 Fits n NoMetadata = Unit {0}
 Fits n (Collision clash) = (length clash.left ≤ 65) × (length clash.right ≤ 65)
 
+-- the answer to a get has room: it tells of at most n bytes
 abbrev pub Answered : ℕ → GetAnswer → Type 0
 Answered n answer = Fits n answer.found
 

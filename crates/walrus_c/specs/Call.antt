@@ -36,8 +36,8 @@ pub record Comes (digest : List ℕ → List ℕ) (words : List (List ℕ))
   pub ends : Ends digest words (around input rest before text) status
   -- THE HEADLINE: the text is the report of a safe run of the schedule, whatever faulty shards and
   -- writers send
-  pub headline : (s : Schedule) → IsTask words (Whole Replay) → length input ≤ most_input
-      → IsRead input (Ok s) → IsReport digest s status text
+  pub headline : (schedule : Schedule) → IsTask words (Whole Replay) → length input ≤ most_input
+      → IsRead input (Ok schedule) → IsReport digest schedule status text
   -- what the status shows, by the table of causes
   pub causes : Causes digest words (around input rest before text) status
   -- whatever answer the words and the input have was told, or a front of it for want of memory

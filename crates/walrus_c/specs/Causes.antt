@@ -44,149 +44,164 @@ use Rattle.walrus_c.specs.Call.{Comes, around}
 
 -- the words ask for a task, which took this input
 pub record Took (digest : List ℕ → List ℕ) (words : List (List ℕ))
-    (a : Around) (input : List ℕ) : Type 0 where
+    (streams : Around) (input : List ℕ) : Type 0 where
   pub asked : Task
   pub is_task : IsTask words asked
-  pub taken : IsTaken (command_of digest asked) a.left a.after input
+  pub taken : IsTaken (command_of digest asked) streams.left streams.after input
 
 -- the words ask for this task, and what it took spells something of which this is true
-pub record Found (digest : List ℕ → List ℕ) (words : List (List ℕ)) (a : Around)
+pub record Found (digest : List ℕ → List ℕ) (words : List (List ℕ)) (streams : Around)
     (task : Task) (Is : Content (command_of digest task).grammar → Type 0) : Type 0 where
   pub is_task : IsTask words task
   pub input : List ℕ
-  pub taken : IsTaken (command_of digest task) a.left a.after input
+  pub taken : IsTaken (command_of digest task) streams.left streams.after input
   pub spelled : Spelled digest (command_of digest task) input Is
 
 -- the first proof of the identifier has this verdict
 abbrev pub ProofIs : (List ℕ → List ℕ) → BlobId → ProofVerdict → Recorded → Type 0
-ProofIs digest id v r =
-    (p : EncodingProof) × IsFirstProof id.0 r.payloads p × Checks digest r.metadata p v
+ProofIs digest id judged recorded =
+    (proof : EncodingProof) × IsFirstProof id.0 recorded.payloads proof
+    × Checks digest recorded.metadata proof judged
 
 -- the payloads answer this on member k
 abbrev pub MemberIs : (List ℕ → List ℕ) → BlobId → ℕ → MemberAnswer → Recorded → Type 0
-MemberIs digest id k answer r = IsMember digest id.0 k r.payloads answer
+MemberIs digest id k answer recorded = IsMember digest id.0 k recorded.payloads answer
 
 -- THE TABLE
-pub data Shows (digest : List ℕ → List ℕ) (words : List (List ℕ)) (a : Around) : ℕ → Type 0 where
+pub data Shows (digest : List ℕ → List ℕ) (words : List (List ℕ)) (streams : Around) : ℕ
+    → Type 0 where
   -- 2: the words ask for nothing
-  usage : NoTask words → Shows digest words a 201
+  usage : NoTask words → Shows digest words streams 201
   -- 3: the evidence that a blob was badly encoded, or a proof that shows it; an index that is none;
   -- the opening of a draw; a proof from openings
   reject : (id : BlobId)
-      → Found digest words a (Read id)
-      (λ r. (e : Evidence) × HasEvidence digest id.0 r.payloads Reject (Some e))
-      → Shows digest words a 301
+      → Found digest words streams (Read id)
+      (λ recorded. (evidence : Evidence)
+      × HasEvidence digest id.0 recorded.payloads Reject (Some evidence))
+      → Shows digest words streams 301
   inconsistent : (id : BlobId)
-      → Found digest words a (Whole (Check id))
-      (λ r. (p : EncodingProof) × IsFirstProof id.0 r.payloads p × IsBadProof digest r.metadata p)
-      → Shows digest words a 302
+      → Found digest words streams (Whole (Check id))
+      (λ recorded. (other : EncodingProof) × IsFirstProof id.0 recorded.payloads other
+      × IsBadProof digest recorded.metadata other)
+      → Shows digest words streams 302
   bad_index : (id : BlobId) (k : ℕ)
-      → Found digest words a (Whole (Member id k)) (MemberIs digest id k BadIndex)
-      → Shows digest words a 303
-  wrong_opening : (audit : Audit) (d : ℕ)
-      → Found digest words a (Whole (Verify audit))
-      (λ r. HasShard audit r × ClaimsCome digest audit r (answer.Wrong d))
-      → Shows digest words a 304
+      → Found digest words streams (Whole (Member id k)) (MemberIs digest id k BadIndex)
+      → Shows digest words streams 303
+  wrong_opening : (audit : Audit) (draw : ℕ)
+      → Found digest words streams (Whole (Verify audit))
+      (λ recorded. HasShard audit recorded × ClaimsCome digest audit recorded (answer.Wrong draw))
+      → Shows digest words streams 304
   proof : (id : BlobId) (axis : Axis) (index : ℕ) (openings : List Opening)
-      → Found digest words a (Whole (Recover id axis index))
-      (λ r. TakesOpenings digest id axis index r openings
-      × IsBadProof digest r.metadata (proof_of axis index openings))
-      → Shows digest words a 305
+      → Found digest words streams (Whole (Recover id axis index))
+      (λ recorded. TakesOpenings digest id axis index recorded openings
+      × IsBadProof digest recorded.metadata (proof_of axis index openings))
+      → Shows digest words streams 305
   -- 4: no metadata
-  no_metadata : (input : List ℕ) (took : Took digest words a input) (text : List ℕ)
+  no_metadata : (input : List ℕ) (took : Took digest words streams input) (text : List ℕ)
       → HasNone digest (command_of digest took.asked).grammar input text
-      → Shows digest words a 401
+      → Shows digest words streams 401
   -- so many slivers of a blob, or openings of a sliver, and no more
   too_few_slivers : (id : BlobId) (have : ℕ)
-      → Found digest words a (Read id) (λ r. HoldsFew digest id.0 r.metadata r.payloads have
-      × NoBadProof digest id.0 r.metadata r.payloads)
-      → Shows digest words a 402
+      → Found digest words streams (Read id)
+      (λ recorded. HoldsFew digest id.0 recorded.metadata recorded.payloads have
+      × NoBadProof digest id.0 recorded.metadata recorded.payloads)
+      → Shows digest words streams 402
   too_few_openings : (id : BlobId) (axis : Axis) (index : ℕ) (openings : List Opening)
-      → Found digest words a (Whole (Recover id axis index))
-      (λ r. TakesOpenings digest id axis index r openings
-      × (length openings < sliver_symbols axis r.metadata.f))
-      → Shows digest words a 402
+      → Found digest words streams (Whole (Recover id axis index))
+      (λ recorded. TakesOpenings digest id axis index recorded openings
+      × (length openings < sliver_symbols axis recorded.metadata.f))
+      → Shows digest words streams 402
   -- no proof, or one that shows nothing
-  no_proof : (id : BlobId) → Found digest words a (Whole (Check id)) (λ r. NoProof id.0 r.payloads)
-      → Shows digest words a 403
+  no_proof : (id : BlobId)
+      → Found digest words streams (Whole (Check id)) (λ recorded. NoProof id.0 recorded.payloads)
+      → Shows digest words streams 403
   proof_count : (id : BlobId)
-      → Found digest words a (Whole (Check id)) (ProofIs digest id verdict.WrongCount)
-      → Shows digest words a 404
+      → Found digest words streams (Whole (Check id)) (ProofIs digest id verdict.WrongCount)
+      → Shows digest words streams 404
   proof_repeats : (id : BlobId)
-      → Found digest words a (Whole (Check id)) (ProofIs digest id verdict.Repeated)
-      → Shows digest words a 405
+      → Found digest words streams (Whole (Check id)) (ProofIs digest id verdict.Repeated)
+      → Shows digest words streams 405
   bad_opening : (id : BlobId) (place : ℕ)
-      → Found digest words a (Whole (Check id)) (ProofIs digest id (verdict.BadOpening place))
-      → Shows digest words a 406
+      → Found digest words streams (Whole (Check id)) (ProofIs digest id (verdict.BadOpening place))
+      → Shows digest words streams 406
   consistent : (id : BlobId)
-      → Found digest words a (Whole (Check id)) (ProofIs digest id verdict.Consistent)
-      → Shows digest words a 407
+      → Found digest words streams (Whole (Check id)) (ProofIs digest id verdict.Consistent)
+      → Shows digest words streams 407
   -- records that have no room on the disk
   disk_full : (size needed free : ℕ)
-      → Found digest words a (Whole (Image size))
+      → Found digest words streams (Whole (Image size))
       (λ payloads. image_of size (puts_of digest no_contents payloads) ≡ Err (needed, free))
-      → Shows digest words a 408
+      → Shows digest words streams 408
   -- files that are no bundle
   too_many_members : (f : ℕ)
-      → Found digest words a (Whole (Bundle f)) (λ members. Bundles f members (Err bundle.TooMany))
-      → Shows digest words a 409
+      → Found digest words streams (Whole (Bundle f))
+      (λ members. Bundles f members (Err bundle.TooMany))
+      → Shows digest words streams 409
   bundle_too_long : (f : ℕ)
-      → Found digest words a (Whole (Bundle f)) (λ members. Bundles f members (Err bundle.TooLong))
-      → Shows digest words a 410
+      → Found digest words streams (Whole (Bundle f))
+      (λ members. Bundles f members (Err bundle.TooLong))
+      → Shows digest words streams 410
   -- a column that is needed, or a member of this number
   missing_column : (id : BlobId) (k j : ℕ)
-      → Found digest words a (Whole (Member id k)) (MemberIs digest id k (Missing j))
-      → Shows digest words a 411
+      → Found digest words streams (Whole (Member id k)) (MemberIs digest id k (Missing j))
+      → Shows digest words streams 411
   no_member : (id : BlobId) (k count : ℕ)
-      → Found digest words a (Whole (Member id k)) (MemberIs digest id k (NoMember count))
-      → Shows digest words a 412
+      → Found digest words streams (Whole (Member id k)) (MemberIs digest id k (NoMember count))
+      → Shows digest words streams 412
   -- a shard of this number, and its slivers
   no_shard_to_challenge : (audit : Audit)
-      → Found digest words a (Whole (Challenge audit)) (λ r. shard_count r.metadata.f ≤ audit.shard)
-      → Shows digest words a 413
+      → Found digest words streams (Whole (Challenge audit))
+      (λ recorded. shard_count recorded.metadata.f ≤ audit.shard)
+      → Shows digest words streams 413
   no_shard_to_verify : (audit : Audit)
-      → Found digest words a (Whole (Verify audit)) (λ r. shard_count r.metadata.f ≤ audit.shard)
-      → Shows digest words a 413
+      → Found digest words streams (Whole (Verify audit))
+      (λ recorded. shard_count recorded.metadata.f ≤ audit.shard)
+      → Shows digest words streams 413
   no_primary : (audit : Audit)
-      → Found digest words a (Whole (Challenge audit))
-      (λ r. HasShard audit r × HasNoSliver digest audit r Primary)
-      → Shows digest words a 414
+      → Found digest words streams (Whole (Challenge audit))
+      (λ recorded. HasShard audit recorded × HasNoSliver digest audit recorded Primary)
+      → Shows digest words streams 414
   no_secondary : (audit : Audit) (primary : List ℕ)
-      → Found digest words a (Whole (Challenge audit)) (λ r. HasShard audit r
-      × IsOwnSliver digest audit r Primary primary × HasNoSliver digest audit r Secondary)
-      → Shows digest words a 415
+      → Found digest words streams (Whole (Challenge audit)) (λ recorded. HasShard audit recorded
+      × IsOwnSliver digest audit recorded Primary primary
+      × HasNoSliver digest audit recorded Secondary)
+      → Shows digest words streams 415
   -- as many openings as draws
   draw_count : (audit : Audit) (k : ℕ)
-      → Found digest words a (Whole (Verify audit))
-      (λ r. HasShard audit r × ClaimsCome digest audit r (answer.WrongCount k))
-      → Shows digest words a 416
+      → Found digest words streams (Whole (Verify audit))
+      (λ recorded. HasShard audit recorded × ClaimsCome digest audit recorded (answer.WrongCount k))
+      → Shows digest words streams 416
   -- 5: memory ran out; 6 and 7: the source failed, the sink did
-  no_memory : Shows digest words a 501
-  source_failed : a.SourceRose → Shows digest words a 601
-  sink_failed : a.SinkRose → Shows digest words a 701
+  no_memory : Shows digest words streams 501
+  source_failed : streams.SourceRose → Shows digest words streams 601
+  sink_failed : streams.SinkRose → Shows digest words streams 701
   -- 8: the place where the input is no stream of envelopes, or no image
-  malformed : (input : List ℕ) → Took digest words a input → (place : ℕ) → IsMalformed place input
-      → Shows digest words a 801
-  no_record : (place : ℕ) → Found digest words a (Whole Unpack) (λ image. IsBrokenAt image place)
-      → Shows digest words a 801
+  malformed : (input : List ℕ) → Took digest words streams input → (place : ℕ)
+      → IsMalformed place input
+      → Shows digest words streams 801
+  no_record : (place : ℕ)
+      → Found digest words streams (Whole Unpack) (λ image. IsBrokenAt image place)
+      → Shows digest words streams 801
   -- what is no schedule
-  not_json : (input : List ℕ) → Took digest words a input → IsRead input (Err NotJson)
-      → Shows digest words a 802
-  bad_schedule : (input : List ℕ) → Took digest words a input → IsRead input (Err BadSchedule)
-      → Shows digest words a 803
-  too_many_events : (input : List ℕ) → Took digest words a input → IsRead input (Err TooMany)
-      → Shows digest words a 804
-  bad_event : (input : List ℕ) → Took digest words a input → (number : ℕ)
-      → IsRead input (Err (BadEvent number)) → Shows digest words a 805
+  not_json : (input : List ℕ) → Took digest words streams input → IsRead input (Err NotJson)
+      → Shows digest words streams 802
+  bad_schedule : (input : List ℕ) → Took digest words streams input → IsRead input (Err BadSchedule)
+      → Shows digest words streams 803
+  too_many_events : (input : List ℕ) → Took digest words streams input → IsRead input (Err TooMany)
+      → Shows digest words streams 804
+  bad_event : (input : List ℕ) → Took digest words streams input → (number : ℕ)
+      → IsRead input (Err (BadEvent number)) → Shows digest words streams 805
   -- the place where the requests to a shard are no stream
-  broken_request : (place : ℕ) → ServesUntil digest words a (Malformed place)
-      → Shows digest words a 806
+  broken_request : (place : ℕ) → ServesUntil digest words streams (Malformed place)
+      → Shows digest words streams 806
   -- 9: the input is longer than the limit
-  too_long : (task : Task) → IsTask words task → IsTooLong (command_of digest task) a.left a.after
-      → Shows digest words a 901
-  too_long_serving : ServesUntil digest words a TooLong → Shows digest words a 901
+  too_long : (task : Task) → IsTask words task
+      → IsTooLong (command_of digest task) streams.left streams.after
+      → Shows digest words streams 901
+  too_long_serving : ServesUntil digest words streams TooLong → Shows digest words streams 901
   -- 10: two texts with one digest
-  collision : (left right : List ℕ) → IsCollision digest left right → Shows digest words a 1001
+  collision : (left right : List ℕ) → IsCollision digest left right
+      → Shows digest words streams 1001
 
 -- whatever words were run over whatever input, and wrote the text with this status: unless that is
 -- 0, the code shows the cause

@@ -16,6 +16,6 @@ spelled_lengths index count = map (spelled_length index) (range_with_len 0 count
 
 -- what the columns of the index tell, whichever member is asked for
 abbrev pub TellsIndex : (ℕ → List ℕ → Type 0) → ℕ → ℕ → IndexAnswer → Type 0
-TellsIndex Column f s (Missing j) = (k : ℕ) → MissesColumn Column f s k j
-TellsIndex Column f s Bad = HasBadIndex Column f s
-TellsIndex Column f s (Lengths lengths) = HasIndex Column f s lengths.items
+TellsIndex Column f size (Missing j) = (k : ℕ) → MissesColumn Column f size k j
+TellsIndex Column f size Bad = HasBadIndex Column f size
+TellsIndex Column f size (Lengths lengths) = HasIndex Column f size lengths.items

@@ -7,9 +7,9 @@ use Rattle.wal_code.specs.Weights.{element_at}
 -- the rows stand one after the other, and each has the coefficients of its wanted point
 pub record IsTable (known wanted : List ℕ) (table : List Gf) : Type 0 where
   pub distinct : Distinct known
-  pub known_below : All (λ p. p < 1000) known
-  pub wanted_below : All (λ p. p < 1000) wanted
+  pub known_below : All (λ point. point < 1000) known
+  pub wanted_below : All (λ point. point < 1000) wanted
   pub size : length table ≡ length wanted * length known
-  pub entries : (w k : ℕ) → w < length wanted → k < length known →
-      element_at table (w * length known + k)
-      ≡ coefficient known (slice_index known k) (slice_index wanted w)
+  pub entries : (at k : ℕ) → at < length wanted → k < length known →
+      element_at table (at * length known + k)
+      ≡ coefficient known (slice_index known k) (slice_index wanted at)

@@ -2,7 +2,7 @@
 use Rattle.std.specs.Prelude.{ℕ, List, [], ◌∷◌, bit_xor}
 use Rattle.wal_gf.specs.Field.{times}
 
--- the product of w + q over the points q
+-- the product of wanted + other over the points
 unfoldable pub product_of_all : List ℕ → ℕ → ℕ
-product_of_all [] w = 1
-product_of_all (q ∷ points) w = times (bit_xor w q) (product_of_all points w)
+product_of_all [] wanted = 1
+product_of_all (other ∷ points) wanted = times (bit_xor wanted other) (product_of_all points wanted)

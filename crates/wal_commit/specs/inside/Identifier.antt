@@ -8,8 +8,9 @@ use Rattle.wal_matrix.specs.Matrix.{row_of, column_of}
 
 -- the roots of the row and of the column that a shard holds, one after the other
 abbrev pub pair_over : (List ℕ → List ℕ) → BlobShape → List ℕ → ℕ → List ℕ
-pair_over digest shape e shard =
+pair_over digest shape extended shard =
     let n = shard_count shape.f in
-    let s = symbol_size shape.f shape.length in
-    root_over digest s (row_of n s e shard)
-    ++ root_over digest s (column_of n s e (held_index shape.format shape.f Secondary shard))
+    let size = symbol_size shape.f shape.length in
+    root_over digest size (row_of n size extended shard)
+    ++ root_over digest size
+    (column_of n size extended (held_index shape.format shape.f Secondary shard))

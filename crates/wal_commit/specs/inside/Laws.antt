@@ -4,15 +4,22 @@ use Rattle.std.proofs.Common.{arith, ap, ◌∙◌, length-take, length-drop}
 use Rattle.std.proofs.Math.Nat.{mul-le-mul_right}
 use Rattle.wal_commit.specs.inside.Strips.{BlobState, IsSymbolAt, bytes_of_symbol, symbols_of}
 
-part_long : (s k count : ℕ) (e : List ℕ) → k < count → length e ≡ count * s
-    → length (take s (drop (k * s) e)) ≡ s
-part_long s k count e h long =
+part_long : (size k count : ℕ) (extended : List ℕ) → k < count → length extended ≡ count * size
+    → length (take size (drop (k * size) extended)) ≡ size
+part_long size k count extended below long =
     let next : k + 1 ≤ count = omega arith in
-    let room = mul-le-mul_right s next in
-    omega (arith, length-take s (drop (k * s) e), length-drop (k * s) e, long, room)
+    let room = mul-le-mul_right size next in
+    omega (
+      arith,
+      length-take size (drop (k * size) extended),
+      length-drop (k * size) extended,
+      long,
+      room,
+    )
 
-pub symbol_sized : (b : BlobState) (place : ℕ) (piece : List ℕ) → IsSymbolAt b place piece
-    → length piece ≡ bytes_of_symbol b
-symbol_sized b place piece is =
+pub symbol_sized : (blob : BlobState) (place : ℕ) (piece : List ℕ) → IsSymbolAt blob place piece
+    → length piece ≡ bytes_of_symbol blob
+symbol_sized blob place piece is =
     ap length is.part
-    ∙ part_long (bytes_of_symbol b) place (symbols_of b) is.matrix is.within is.extended.coded.size
+    ∙ part_long (bytes_of_symbol blob) place (symbols_of blob)
+    is.matrix is.within is.extended.coded.size

@@ -3,9 +3,11 @@ use Rattle.std.specs.Prelude.{◌≡◌, ℕ, ◌*◌, ◌<◌, List, length}
 use Rattle.wal_matrix.specs.Matrix.{symbol}
 use Rattle.wal_tree.specs.Tree.{leaf}
 
--- e is a whole matrix of n rows and n columns of symbols of s bytes, and its leaf digests are a
+-- a whole matrix of n rows and n columns of symbols of this size, and its leaf digests are a
 -- matrix of n rows and n columns of symbols of 32 bytes
-pub record AreLeafDigests (digest : List ℕ → List ℕ) (n s : ℕ) (e digests : List ℕ) : Type 0 where
-  pub whole : length e ≡ n * n * s
+pub record AreLeafDigests (digest : List ℕ → List ℕ)
+    (n size : ℕ) (extended digests : List ℕ) : Type 0 where
+  pub whole : length extended ≡ n * n * size
   pub long : length digests ≡ n * n * 32
-  pub each : (r c : ℕ) → r < n → c < n → symbol n 32 digests r c ≡ leaf digest (symbol n s e r c)
+  pub each : (row column : ℕ) → row < n → column < n
+      → symbol n 32 digests row column ≡ leaf digest (symbol n size extended row column)

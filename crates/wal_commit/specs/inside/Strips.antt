@@ -10,15 +10,15 @@ pub record BlobState : Type 0 where
 
 -- the symbols of its matrix
 abbrev pub symbols_of : BlobState → ℕ
-symbols_of b = shard_count b.shape.f * shard_count b.shape.f
+symbols_of blob = shard_count blob.shape.f * shard_count blob.shape.f
 
 -- the bytes of each
 abbrev pub bytes_of_symbol : BlobState → ℕ
-bytes_of_symbol b = symbol_size b.shape.f (length b.bytes)
+bytes_of_symbol blob = symbol_size blob.shape.f (length blob.bytes)
 
 -- the piece is the symbol at this place of the matrix
-pub record IsSymbolAt (b : BlobState) (place : ℕ) (piece : List ℕ) : Type 0 where
-  pub within : place < symbols_of b
+pub record IsSymbolAt (blob : BlobState) (place : ℕ) (piece : List ℕ) : Type 0 where
+  pub within : place < symbols_of blob
   pub matrix : List ℕ
-  pub extended : IsExtended b.shape.f b.bytes matrix
-  pub part : piece ≡ take (bytes_of_symbol b) (drop (place * bytes_of_symbol b) matrix)
+  pub extended : IsExtended blob.shape.f blob.bytes matrix
+  pub part : piece ≡ take (bytes_of_symbol blob) (drop (place * bytes_of_symbol blob) matrix)

@@ -14,20 +14,22 @@ rate j = slice_index rates j
 abbrev pub scale : ℕ → ℕ
 scale j = slice_index (30723 ∷ 4973 ∷ 60035 ∷ 613 ∷ 21230 ∷ 46348 ∷ 37670 ∷ 42719 ∷ 14201 ∷ []) j
 
--- t_j(d) / d, which is (t_j(x) + t_j(e)) / (x + e) for each x + e = d
+-- t_j(difference) / difference, which is (t_j(x) + t_j(y)) / (x + y) for each x + y = difference
 unfoldable pub slope : ℕ → ℕ → ℕ
-slope zero d = 1
-slope (suc j) d = times (scale j) (times (slope j d) (bit_xor (skew j d) 1))
+slope zero difference = 1
+slope (suc j) difference =
+    times (scale j) (times (slope j difference) (bit_xor (skew j difference) 1))
 
--- the quotient at x of a polynomial's difference from its value at e, by x + e
+-- the quotient at x of a polynomial's difference from its value at a point, by x + point
 unfoldable pub quotient : ℕ → (ℕ → ℕ) → ℕ → ℕ → ℕ
-quotient zero c e x = 0
-quotient (suc j) c e x =
-    bit_xor (bit_xor (quotient j c e x) (times (skew j e) (quotient j (λ i. c (2 ^ j + i)) e x)))
-    (times (slope j (bit_xor x e)) (value j (λ i. c (2 ^ j + i)) x))
+quotient zero coefficients point x = 0
+quotient (suc j) coefficients point x =
+    bit_xor (bit_xor (quotient j coefficients point x)
+    (times (skew j point) (quotient j (λ i. coefficients (2 ^ j + i)) point x)))
+    (times (slope j (bit_xor x point)) (value j (λ i. coefficients (2 ^ j + i)) x))
 
 -- at each word place, new has the coefficients of the derivative of the polynomial that old has
 abbrev pub AreDerived : ℕ → ℕ → List ℕ → List ℕ → Type 0
 AreDerived width level old new =
-    (w : ℕ) → w < width → (x : ℕ)
-    → value level (lane width new w) x ≡ quotient level (lane width old w) x x
+    (word : ℕ) → word < width → (x : ℕ)
+    → value level (lane width new word) x ≡ quotient level (lane width old word) x x

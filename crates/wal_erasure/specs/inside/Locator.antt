@@ -1,4 +1,4 @@
--- The locator of the missing points: the product of x + q over the points q that are not known.
+-- The locator of the missing points: the product of x + point over the points that are not known.
 use Rattle.std.specs.Prelude.{◌≡◌, ℕ, zero, suc, ◌<◌, List, [], ◌∷◌, slice_index_or, bit_xor, Bool, true, false, cond, eqb}
 use Rattle.wal_gf.specs.Field.{times, inverse}
 use Rattle.wal_gf.specs.declared.Gf.{Gf}
@@ -7,9 +7,9 @@ use Rattle.wal_code.specs.Weights.{element_at}
 -- whether a point is known
 unfoldable pub is_known : List ℕ → ℕ → Bool
 is_known [] x = false
-is_known (q ∷ known) x = cond (eqb q x) true (is_known known x)
+is_known (point ∷ known) x = cond (eqb point x) true (is_known known x)
 
--- the product of x + q over the points q below n that are not known
+-- the product of x + point over the points below n that are not known
 unfoldable pub locator : List ℕ → ℕ → ℕ → ℕ
 locator known zero x = 1
 locator known (suc n) x =
@@ -21,7 +21,8 @@ others known n x = locator (x ∷ known) n x
 
 -- marks tell at each point below n whether it is known
 abbrev pub AreMarks : List ℕ → ℕ → List Bool → Type 0
-AreMarks known n marks = (q : ℕ) → q < n → slice_index_or marks q false ≡ is_known known q
+AreMarks known n marks =
+    (point : ℕ) → point < n → slice_index_or marks point false ≡ is_known known point
 
 -- at each known point below n the product over the missing points, and at each missing one the
 -- inverse of that over the others

@@ -8,48 +8,54 @@ use Rattle.wal_code.specs.Weights.{element_at}
 use Rattle.wal_fft.specs.Transform.{lane}
 use Rattle.wal_erasure.specs.inside.Locator.{is_known}
 
--- each word is c times that of the source
+-- each word is the factor times that of the source
 abbrev pub IsProduct : ℕ → List ℕ → List ℕ → Type 0
-IsProduct c source new =
-    (w : ℕ) → 2 * w + 1 < length new → word_at new w ≡ times c (word_at source w)
+IsProduct factor source new =
+    (word : ℕ) → 2 * word + 1 < length new → word_at new word ≡ times factor (word_at source word)
 
 -- at the first `count` known points the strip has the words from `start` on of the regions of
 -- `words` words, each times the point's factor, and at all other points zeros
 pub record ArePut (words start width : ℕ) (known : List ℕ) (count : ℕ)
     (factors : List Gf) (regions strip : List ℕ) : Type 0 where
-  pub products : (w : ℕ) → w < width → (k : ℕ) → k < count
-      → lane width strip w (slice_index known k)
-      ≡ times (element_at factors (slice_index known k)) (word_at regions (words * k + (start + w)))
-  pub zeros : (w : ℕ) → w < width → (x : ℕ) → ((k : ℕ) → k < count → slice_index known k ≢ x)
-      → lane width strip w x ≡ 0
+  pub products : (word : ℕ) → word < width → (k : ℕ) → k < count
+      → lane width strip word (slice_index known k)
+      ≡ times (element_at factors (slice_index known k))
+      (word_at regions (words * k + (start + word)))
+  pub zeros : (word : ℕ) → word < width → (x : ℕ) → ((k : ℕ) → k < count → slice_index known k ≢ x)
+      → lane width strip word x ≡ 0
 
 -- the first regions have the strip's words from `start` on, each times the point's factor, and the
 -- words before them are kept
 pub record AreTaken (words start width count : ℕ)
     (factors : List Gf) (strip old new : List ℕ) : Type 0 where
-  pub products : (w : ℕ) → w < width → (i : ℕ) → i < count
-      → word_at new (words * i + (start + w)) ≡ times (element_at factors i) (lane width strip w i)
-  pub before : (i p : ℕ) → p < start → word_at new (words * i + p) ≡ word_at old (words * i + p)
+  pub products : (word : ℕ) → word < width → (i : ℕ) → i < count
+      → word_at new (words * i + (start + word))
+      ≡ times (element_at factors i) (lane width strip word i)
+  pub before : (i point : ℕ) → point < start
+      → word_at new (words * i + point) ≡ word_at old (words * i + point)
 
 -- the words from `start` to below `end` of the regions of missing points are sums of coefficients,
 -- and the words before them are kept
 pub record AreSolved (words start end wanted : ℕ) (known sources old new : List ℕ) : Type 0 where
-  pub sums : (p : ℕ) → start ≤ p → p < end → (x : ℕ) → x < wanted → is_known known x ≡ false
-      → word_at new (words * x + p) ≡ combination known (λ k. word_at sources (words * k + p)) x
-  pub before : (i p : ℕ) → p < start → word_at new (words * i + p) ≡ word_at old (words * i + p)
+  pub sums : (point : ℕ) → start ≤ point → point < end → (x : ℕ) → x < wanted
+      → is_known known x ≡ false
+      → word_at new (words * x + point)
+      ≡ combination known (λ k. word_at sources (words * k + point)) x
+  pub before : (i point : ℕ) → point < start
+      → word_at new (words * i + point) ≡ word_at old (words * i + point)
 
 -- region `to` is the source's region `from`, and the others are kept
 pub record IsCopy (words from to : ℕ) (sources old new : List ℕ) : Type 0 where
-  pub copied : (w : ℕ) → w < words
-      → word_at new (words * to + w) ≡ word_at sources (words * from + w)
-  pub kept : (x : ℕ) → x ≢ to → (w : ℕ) → w < words
-      → word_at new (words * x + w) ≡ word_at old (words * x + w)
+  pub copied : (word : ℕ) → word < words
+      → word_at new (words * to + word) ≡ word_at sources (words * from + word)
+  pub kept : (x : ℕ) → x ≢ to → (word : ℕ) → word < words
+      → word_at new (words * x + word) ≡ word_at old (words * x + word)
 
 -- the regions of the first `count` known points below `wanted` are the sources', and those of all
 -- other points are kept
 pub record AreCopied (words wanted : ℕ) (known : List ℕ)
     (count : ℕ) (sources old new : List ℕ) : Type 0 where
-  pub copied : (k : ℕ) → k < count → slice_index known k < wanted → (w : ℕ) → w < words
-      → word_at new (words * slice_index known k + w) ≡ word_at sources (words * k + w)
-  pub kept : (x : ℕ) → ((k : ℕ) → k < count → slice_index known k ≢ x) → (w : ℕ) → w < words
-      → word_at new (words * x + w) ≡ word_at old (words * x + w)
+  pub copied : (k : ℕ) → k < count → slice_index known k < wanted → (word : ℕ) → word < words
+      → word_at new (words * slice_index known k + word) ≡ word_at sources (words * k + word)
+  pub kept : (x : ℕ) → ((k : ℕ) → k < count → slice_index known k ≢ x) → (word : ℕ) → word < words
+      → word_at new (words * x + word) ≡ word_at old (words * x + word)

@@ -7,4 +7,5 @@ use Rattle.wal_frame.specs.Lending.{written_last}
 
 -- the buffer ends with its last bytes written
 abbrev pub LendsLast : MutBor Buffer → ℕ → MutBor (List ℕ) → Fml
-LendsLast s size r = Lends room.the_row (Array u8 0) s r (written_last s.now size)
+LendsLast buffer size lent =
+    Lends room.the_row (Array u8 0) buffer lent (written_last buffer.now size)

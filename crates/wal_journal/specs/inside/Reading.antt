@@ -15,23 +15,24 @@ use Rattle.wal_journal.specs.Reading.{IsBad, IsFull, HadRoomForPuts}
 
 -- the first 38 bytes behind a gate
 abbrev pub head_text : Head → List ℕ
-head_text h = h.kind ∷ (h.id.0 ++ (h.part ∷ size_text h.size))
+head_text head = head.kind ∷ (head.id.0 ++ (head.part ∷ size_text head.size))
 
 -- the change has this head
-pub record HasHead (h : Head) (c : Call) : Type 0 where
-  pub kind : h.kind ≡ (fields c).kind
-  pub id : h.id.0 ≡ (fields c).id
-  pub part : h.part ≡ (fields c).part
-  pub size : h.size ≡ length (fields c).bytes
+pub record HasHead (head : Head) (call : Call) : Type 0 where
+  pub kind : head.kind ≡ (fields call).kind
+  pub id : head.id.0 ≡ (fields call).id
+  pub part : head.part ≡ (fields call).part
+  pub size : head.size ≡ length (fields call).bytes
 
 -- the head is of this kind of change
 abbrev pub IsHead : Head → Change → Type 0
-IsHead h (read.Put id part size) =
-    (h.kind ≡ 1) × (h.id ≡ id) × (h.part ≡ part_byte part) × (h.size ≡ size) × (1 ≤ size)
+IsHead head (read.Put id part size) =
+    (head.kind ≡ 1) × (head.id ≡ id) × (head.part ≡ part_byte part) × (head.size ≡ size)
+    × (1 ≤ size)
     × (size ≤ most_bytes)
-IsHead h (read.DropPart id part) =
-    (h.kind ≡ 2) × (h.id ≡ id) × (h.part ≡ part_byte part) × (h.size ≡ 0)
-IsHead h (read.DropId id) = (h.kind ≡ 3) × (h.id ≡ id) × (h.part ≡ 0) × (h.size ≡ 0)
+IsHead head (read.DropPart id part) =
+    (head.kind ≡ 2) × (head.id ≡ id) × (head.part ≡ part_byte part) × (head.size ≡ 0)
+IsHead head (read.DropId id) = (head.kind ≡ 3) × (head.id ≡ id) × (head.part ≡ 0) × (head.size ≡ 0)
 
 -- a record that is carried out
 pub record IsNext (now : List ℕ) (tail next : ℕ) (old new : Contents) : Type 0 where

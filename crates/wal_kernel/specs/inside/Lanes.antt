@@ -4,26 +4,27 @@ use Rattle.wal_gf.specs.Field.{times}
 use Rattle.wal_kernel.specs.declared.products.Multiples.{Multiples}
 use Rattle.wal_kernel.specs.declared.products.NibbleTables.{NibbleTables}
 
--- v has n lanes, and lane k holds f k
-pub record HasLanes (n : ℕ) (v : List ℕ) (f : ℕ → ℕ) : Type 0 where
-  pub long : length v ≡ n
-  pub each : (k : ℕ) → k < n → slice_index v k ≡ f k
+-- there are n lanes, and lane k holds f k
+pub record HasLanes (n : ℕ) (values : List ℕ) (f : ℕ → ℕ) : Type 0 where
+  pub long : length values ≡ n
+  pub each : (k : ℕ) → k < n → slice_index values k ≡ f k
 
 -- the table of f at the numbers below 16, twice
 abbrev pub IsTable : (ℕ → ℕ) → List ℕ → Type 0
 IsTable f table = HasLanes 32 table (λ k. f (k % 16))
 
--- the bytes of the products of c and the numbers below 16
-pub record AreMultiples (c : ℕ) (products : Multiples) : Type 0 where
-  pub high_bytes : IsTable (λ i. times c i / 256) products.high
-  pub low_bytes : IsTable (λ i. times c i % 256) products.low
+-- the bytes of the products of the factor and the numbers below 16
+pub record AreMultiples (factor : ℕ) (products : Multiples) : Type 0 where
+  pub high_bytes : IsTable (λ i. times factor i / 256) products.high
+  pub low_bytes : IsTable (λ i. times factor i % 256) products.low
 
--- the products of c and the numbers with one nibble, for each of the four nibbles of a word
-pub record AreProducts (c : ℕ) (tables : NibbleTables) : Type 0 where
-  pub nibble0 : AreMultiples c tables.nibble0
-  pub nibble1 : AreMultiples (times c 16) tables.nibble1
-  pub nibble2 : AreMultiples (times c 256) tables.nibble2
-  pub nibble3 : AreMultiples (times c 4096) tables.nibble3
+-- the products of the factor and the numbers with one nibble, for each of the four nibbles of a
+-- word
+pub record AreProducts (factor : ℕ) (tables : NibbleTables) : Type 0 where
+  pub nibble0 : AreMultiples factor tables.nibble0
+  pub nibble1 : AreMultiples (times factor 16) tables.nibble1
+  pub nibble2 : AreMultiples (times factor 256) tables.nibble2
+  pub nibble3 : AreMultiples (times factor 4096) tables.nibble3
 
 -- the bytes of x^4 times the word of two bytes: its top four bits go out, and come back times
 -- x^12 + x^3 + x + 1

@@ -3,10 +3,10 @@ use Rattle.std.specs.Prelude.{◌≡◌, ℕ, ◌/◌, ◌%◌, ◌<◌, ◌≤�
 use Rattle.wal_gf.specs.Field.{times}
 use Rattle.wal_kernel.specs.Region.{word_at}
 
--- byte k of c times source, word by word
+-- byte k of the factor times source, word by word
 abbrev pub scaled_byte : ℕ → List ℕ → ℕ → ℕ
-scaled_byte c source k =
-    let product = times c (word_at source (k / 2)) in
+scaled_byte factor source k =
+    let product = times factor (word_at source (k / 2)) in
     if k % 2 == 0 then product / 256 else product % 256
 
 -- old is bytes, and f was added to those below end and to no other

@@ -3,25 +3,27 @@ use Rattle.std.specs.Prelude.{◌≡◌, ℕ, ◌+◌, ◌-◌, ◌*◌, ◌/◌
 use Rattle.sha2.specs.Sha256.{padding}
 use Rattle.wal_lanes.specs.declared.block.State.{State}
 
--- v has n lanes, and lane k holds f k
-pub record HasLanes (n : ℕ) (v : List ℕ) (f : ℕ → ℕ) : Type 0 where
-  pub long : length v ≡ n
-  pub each : (k : ℕ) → k < n → slice_index v k ≡ f k
+-- there are n lanes, and lane k holds f k
+pub record HasLanes (n : ℕ) (values : List ℕ) (f : ℕ → ℕ) : Type 0 where
+  pub long : length values ≡ n
+  pub each : (k : ℕ) → k < n → slice_index values k ≡ f k
 
 -- the eight words of the state in lane k
 abbrev pub lane : State → ℕ → List ℕ
-lane s k =
-    slice_index s.a k ∷ slice_index s.b k ∷ slice_index s.c k ∷ slice_index s.d k
-    ∷ slice_index s.e k ∷ slice_index s.f k ∷ slice_index s.g k ∷ slice_index s.h k ∷ []
+lane state k =
+    slice_index state.a k ∷ slice_index state.b k ∷ slice_index state.c k ∷ slice_index state.d k
+    ∷ slice_index state.e k ∷ slice_index state.f k ∷ slice_index state.g k ∷ slice_index state.h k
+    ∷ []
 
 -- the words in lane k of these vectors
 abbrev pub words_of : List (List ℕ) → ℕ → List ℕ
-words_of w k = map (λ (v : List ℕ). slice_index v k) w
+words_of vectors k = map (λ (values : List ℕ). slice_index values k) vectors
 
 -- the last one or two blocks of a padded message, of which `seen` bytes came before these, in whole
 -- blocks: what follows the whole blocks
 abbrev pub last_blocks : ℕ → List ℕ → List ℕ
-last_blocks seen m = drop (length m / 64 * 64) (m ++ padding (seen + length m))
+last_blocks seen message =
+    drop (length message / 64 * 64) (message ++ padding (seen + length message))
 
 -- how many bytes these blocks have, after a message of n bytes
 abbrev pub tail_length : ℕ → ℕ

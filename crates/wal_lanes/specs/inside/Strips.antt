@@ -14,5 +14,5 @@ pub record HasTaken (prefix : ℕ) (piece : List ℕ) (seen k : ℕ) (group : Gr
 -- the lanes of the groups, eight each, have taken `seen` bytes of the pieces, one each
 abbrev pub HaveTaken : ℕ → (ℕ → List ℕ → Type 0) → ℕ → ℕ → List Group → Type 0
 HaveTaken prefix Has count seen groups =
-    (g k : ℕ) → k < 8 → 8 * g + k < count → (piece : List ℕ) → Has (8 * g + k) piece
-    → (group : Group) → slice_get groups g ≡ Some group → HasTaken prefix piece seen k group
+    (place k : ℕ) → k < 8 → 8 * place + k < count → (piece : List ℕ) → Has (8 * place + k) piece
+    → (group : Group) → slice_get groups place ≡ Some group → HasTaken prefix piece seen k group

@@ -16,4 +16,5 @@ pub record IsLeastQuorum (f : ℕ) (owners : ℕ → List ℕ)
     (own : List Entry) (kind : Kind) (epoch count : ℕ) : Type 0 where
   pub counted : count ≡ count_among f owners own kind epoch
   pub quorum : quorum_size f ≤ count
-  pub least : (e : ℕ) → e < epoch → count_among f owners own kind e < quorum_size f
+  pub least : (earlier : ℕ) → earlier < epoch
+      → count_among f owners own kind earlier < quorum_size f

@@ -41,7 +41,7 @@ pub record IsKept (log : Log) (spare : ℕ) (links : List ℕ) (epoch : ℕ) (mo
   pub rows : (id : BlobId)
       → IsRow log.f (owners_at log) (own_entries log id) log.entries links (row_in table id)
   pub nodes : length flags ≡ committee_size log.f
-  pub ready : (s : ℕ) → s < committee_size log.f
-      → flag_of flags (node_of (owners_of Next log) s) ≡ ready_shards log s
+  pub ready : (shard : ℕ) → shard < committee_size log.f
+      → flag_of flags (node_of (owners_of Next log) shard) ≡ ready_shards log shard
   pub counted : total ≡ ready_total log
   pub alive : table.live ≡ living epoch table

@@ -42,8 +42,8 @@ tally_of Holds row = row.holds
 tally_of Denies row = row.denies
 
 abbrev pub with_tally : Kind → Tally → Row → Row
-with_tally Holds t row = record row { holds = t }
-with_tally Denies t row = record row { denies = t }
+with_tally Holds tally row = record row { holds = tally }
+with_tally Denies tally row = record row { denies = tally }
 
 -- identifiers, the row of each, those of them that are live, and how many more fit
 pub record Rows : Type 0 where
@@ -82,7 +82,7 @@ pub record IsTable (ids : List BlobId) (rows : List Row) (order live : List ℕ)
 abbrev pub row_beside : List BlobId → List Row → BlobId → Row
 row_beside [] rows id = no_row
 row_beside (i ∷ ids) [] id = no_row
-row_beside (i ∷ ids) (r ∷ rows) id = cond (id_eq i id) r (row_beside ids rows id)
+row_beside (i ∷ ids) (row ∷ rows) id = cond (id_eq i id) row (row_beside ids rows id)
 
 abbrev pub row_in : Rows → BlobId → Row
 row_in table id = row_beside table.ids table.rows id

@@ -16,8 +16,8 @@ use Rattle.wal_shape.specs.Owners.{has_neighbour}
 
 -- whether an entry says it by this very shard
 abbrev pub signs : Kind → ℕ → Body → Bool
-signs Holds shard (Ack s id) = nat_eq s shard
-signs Denies shard (Attest s id) = nat_eq s shard
+signs Holds shard (Ack signer id) = nat_eq signer shard
+signs Denies shard (Attest signer id) = nat_eq signer shard
 signs _ _ _ = false
 
 -- a link is one more than the place of an entry by which a shard signs, and that place has a link
@@ -45,30 +45,31 @@ HasChain entries links kind link = (shards : List ℕ) × Chain entries links ki
 
 -- no epoch has a quorum, or the one kept is the least
 abbrev pub HasLeast : ℕ → (ℕ → List ℕ) → List Entry → Kind → Option Quorum → Type 0
-HasLeast f owners own kind None = (e : ℕ) → count_among f owners own kind e < quorum_size f
-HasLeast f owners own kind (Some q) = IsLeastQuorum f owners own kind q.epoch q.count
+HasLeast f owners own kind None = (epoch : ℕ) → count_among f owners own kind epoch < quorum_size f
+HasLeast f owners own kind (Some quorum) = IsLeastQuorum f owners own kind quorum.epoch quorum.count
 
 -- a tally is right for own entries and the owners of each epoch: its epoch is the last in which
 -- some node signed (0 where none did), its count is how many shards these nodes run, and its link
 -- leads to each of their entries
 pub record IsTally (f : ℕ) (owners : ℕ → List ℕ) (own : List Entry) (kind : Kind)
-    (entries : List Entry) (links : List ℕ) (t : Tally) : Type 0 where
+    (entries : List Entry) (links : List ℕ) (tally : Tally) : Type 0 where
   pub shards : List ℕ
-  pub chain : Chain entries links kind t.last shards
-  pub members : (s : ℕ)
-      → has_neighbour (owners t.epoch) shards s
-      ≡ is_signer_among (owners t.epoch) own kind t.epoch s
-  pub counted : t.count ≡ count_among f owners own kind t.epoch
-  pub idle : t.count ≡ 0 → t.epoch ≡ 0
-  pub later : (e s : ℕ) → t.epoch < e → is_signer_among (owners e) own kind e s ≡ false
-  pub least : HasLeast f owners own kind t.quorum
+  pub chain : Chain entries links kind tally.last shards
+  pub members : (shard : ℕ)
+      → has_neighbour (owners tally.epoch) shards shard
+      ≡ is_signer_among (owners tally.epoch) own kind tally.epoch shard
+  pub counted : tally.count ≡ count_among f owners own kind tally.epoch
+  pub idle : tally.count ≡ 0 → tally.epoch ≡ 0
+  pub later : (epoch shard : ℕ) → tally.epoch < epoch
+      → is_signer_among (owners epoch) own kind epoch shard ≡ false
+  pub least : HasLeast f owners own kind tally.quorum
 
 -- what a tally tells of whatever it is right for
 abbrev pub Tells : Tally → (ℕ → (ℕ → List ℕ) → List Entry → Kind → Type 0) → Type 0
-Tells t Fact =
+Tells tally Fact =
     (f : ℕ) (owners : ℕ → List ℕ) (own : List Entry)
     (kind : Kind) (entries : List Entry) (links : List ℕ)
-    → IsTally f owners own kind entries links t → Fact f owners own kind
+    → IsTally f owners own kind entries links tally → Fact f owners own kind
 
 -- the tally of nothing
 abbrev pub no_tally : Tally
@@ -76,25 +77,25 @@ no_tally = record { epoch = 0; count = 0; last = 0; quorum = None }
 
 -- the link of one more entry in an epoch
 abbrev pub link_in : ℕ → Tally → ℕ
-link_in epoch t = cond (nat_eq t.epoch epoch) t.last 0
+link_in epoch tally = cond (nat_eq tally.epoch epoch) tally.last 0
 
 -- the least quorum after a count of the last epoch
 abbrev pub quorum_after : ℕ → ℕ → ℕ → Option Quorum → Option Quorum
 quorum_after f epoch count None =
     cond (nat_le (quorum_size f) count) (Some (record { epoch = epoch; count = count })) None
-quorum_after f epoch count (Some q) =
-    Some (cond (nat_eq q.epoch epoch) (record { epoch = epoch; count = count }) q)
+quorum_after f epoch count (Some quorum) =
+    Some (cond (nat_eq quorum.epoch epoch) (record { epoch = epoch; count = count }) quorum)
 
 -- the tally after one more node of so many shards signed, in the last epoch so far, by an entry at
 -- a place
 abbrev pub tally_after : ℕ → ℕ → ℕ → ℕ → Tally → Tally
-tally_after f epoch place size t =
-    let count = cond (nat_eq t.epoch epoch) t.count 0 + size in
+tally_after f epoch place size tally =
+    let count = cond (nat_eq tally.epoch epoch) tally.count 0 + size in
     record {
       epoch = epoch;
       count = count;
       last = place + 1;
-      quorum = quorum_after f epoch count t.quorum;
+      quorum = quorum_after f epoch count tally.quorum;
     }
 
 -- how many shards the node of a shard runs
@@ -104,21 +105,21 @@ node_size f owners shard = count_below (committee_size f) (same_node owners shar
 -- an entry by which a shard of a committee signs, for the first time for its node in its epoch,
 -- which is the last so far
 pub record IsFirstClaim (f first : ℕ) (owners : List ℕ) (own : List Entry)
-    (kind : Kind) (shard : ℕ) (x : Entry) : Type 0 where
+    (kind : Kind) (shard : ℕ) (made : Entry) : Type 0 where
   pub below : shard < committee_size f
-  pub signed : signs kind shard x.body ≡ true
-  pub first_time : is_signer_among owners own kind x.epoch shard ≡ false
-  pub latest : All (IsWithin first x.epoch) own
+  pub signed : signs kind shard made.body ≡ true
+  pub first_time : is_signer_among owners own kind made.epoch shard ≡ false
+  pub latest : All (IsWithin first made.epoch) own
 
 -- one tally is right where another was, after one more first claim in an epoch by a node of so many
 -- shards, entered at a place with its link
 abbrev pub Grows : ℕ → ℕ → ℕ → ℕ → Tally → Tally → Type 0
 Grows f epoch place size old new =
     (first shard : ℕ) (owners : ℕ → List ℕ) (own : List Entry)
-    (kind : Kind) (entries : List Entry) (links : List ℕ) (x : Entry)
+    (kind : Kind) (entries : List Entry) (links : List ℕ) (made : Entry)
     → IsTally f owners own kind entries links old
-    → IsFirstClaim f first (owners x.epoch) own kind shard x → x.epoch ≡ epoch
+    → IsFirstClaim f first (owners made.epoch) own kind shard made → made.epoch ≡ epoch
     → size ≡ node_size f (owners epoch) shard
     → length entries ≡ place → length links ≡ place
-    → IsTally f owners (own ++ x ∷ []) kind
-    (entries ++ x ∷ []) (links ++ link_in epoch old ∷ []) new
+    → IsTally f owners (own ++ made ∷ []) kind
+    (entries ++ made ∷ []) (links ++ link_in epoch old ∷ []) new

@@ -5,6 +5,7 @@ use Rattle.wal_matrix.specs.Matrix.{symbol, IsExtended}
 
 -- and of these columns the first so many symbols, counted row by row
 abbrev pub ArePut : ℕ → ℕ → List ℕ → ℕ → ℕ → ℕ → List ℕ → Type 0
-ArePut f s bytes first count done block =
-    (e : List ℕ) → IsExtended f bytes e → (r k : ℕ) → k < count → r * count + k < done
-    → symbol count s block r k ≡ symbol (shard_count f) s e r (first + k)
+ArePut f size bytes first count done block =
+    (extended : List ℕ) → IsExtended f bytes extended → (row k : ℕ) → k < count
+    → row * count + k < done
+    → symbol count size block row k ≡ symbol (shard_count f) size extended row (first + k)

@@ -13,5 +13,5 @@ laid_row start width run bytes =
 pub record IsRowFrom (known total size : ℕ) (bytes : List ℕ)
     (start : ℕ) (row : List ℕ) : Type 0 where
   pub begins : (k : ℕ) → k < known * size → slice_index row k ≡ slice_index bytes (start + k)
-  pub codeword : (w : ℕ) → 2 * w < size
-      → IsCodeword known total (λ c. word_at (region size row c) w)
+  pub codeword : (word : ℕ) → 2 * word < size
+      → IsCodeword known total (λ column. word_at (region size row column) word)

@@ -8,6 +8,6 @@ use Rattle.wal_kernel.specs.Region.{word_at, region}
 pub record IsWeightedSum (weight : ℕ → ℕ) (size : ℕ)
     (sources : List ℕ) (count : ℕ) (target : List ℕ) : Type 0 where
   pub long : length target ≡ size
-  pub words : (w : ℕ) → 2 * w + 1 < size
-      → word_at target w
-      ≡ xor_below count (λ k. times (weight k) (word_at (region size sources k) w))
+  pub words : (word : ℕ) → 2 * word + 1 < size
+      → word_at target word
+      ≡ xor_below count (λ k. times (weight k) (word_at (region size sources k) word))

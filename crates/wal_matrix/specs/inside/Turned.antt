@@ -7,7 +7,7 @@ use Rattle.wal_matrix.specs.Matrix.{symbol}
 -- the rows of the block, each extended from `known` symbols to `total`, are the columns of the
 -- turned one
 pub record IsTurnedExtension (lines known total size : ℕ) (block turned : List ℕ) : Type 0 where
-  pub source : (r c : ℕ) → r < lines → c < known
-      → symbol lines size turned c r ≡ symbol known size block r c
-  pub codeword : (r w : ℕ) → r < lines → 2 * w < size
-      → IsCodeword known total (λ c. word_at (symbol lines size turned c r) w)
+  pub source : (row column : ℕ) → row < lines → column < known
+      → symbol lines size turned column row ≡ symbol known size block row column
+  pub codeword : (row word : ℕ) → row < lines → 2 * word < size
+      → IsCodeword known total (λ column. word_at (symbol lines size turned column row) word)

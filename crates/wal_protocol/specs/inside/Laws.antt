@@ -24,14 +24,14 @@ use Rattle.wal_protocol.specs.Step.{told_by}
 -- each part that was held is held, with the same bytes
 abbrev pub IsAbove : Parts → Parts → Type 0
 IsAbove old new =
-    (p : Part) (bytes : List ℕ) → part_of old p ≡ Some bytes → part_of new p ≡ Some bytes
+    (part : Part) (bytes : List ℕ) → part_of old part ≡ Some bytes → part_of new part ≡ Some bytes
 
 abbrev pub AreAbove : Contents → Contents → Type 0
 AreAbove old new = (id : BlobId) → IsAbove (parts_at old id) (parts_at new id)
 
 -- all that a shard holds is sound
 abbrev pub AllSound : Rules → ℕ → Contents → Type 0
-AllSound r shard contents = (id : BlobId) → r.IsSound id shard (parts_at contents id)
+AllSound rules shard contents = (id : BlobId) → rules.IsSound id shard (parts_at contents id)
 
 -- a holding without its slivers
 abbrev pub forgotten : Parts → Parts
@@ -39,21 +39,21 @@ forgotten parts = record parts { primary = None; secondary = None }
 
 -- all of these payloads are among those
 abbrev pub AreAmong : List (List ℕ) → List (List ℕ) → Type 0
-AreAmong some payloads = (x : List ℕ) → Contains some x → Contains payloads x
+AreAmong some payloads = (payload : List ℕ) → Contains some payload → Contains payloads payload
 
 -- a shard that is sound and settled replied to a reader
-pub record RepliedTo (r : Rules) (id : BlobId) (payloads : List (List ℕ))
+pub record RepliedTo (rules : Rules) (id : BlobId) (payloads : List (List ℕ))
     (shard : ℕ) (parts : Parts) : Type 0 where
-  pub sound : r.IsSound id shard parts
+  pub sound : rules.IsSound id shard parts
   pub settles : settled parts ≡ true
-  pub replied : AreAmong (r.read_reply id shard parts) payloads
+  pub replied : AreAmong (rules.read_reply id shard parts) payloads
 
 -- a shard that is sound replied to one that recovers its sliver of an axis
-pub record Helped (r : Rules) (id : BlobId) (axis : Axis) (shard : ℕ)
+pub record Helped (rules : Rules) (id : BlobId) (axis : Axis) (shard : ℕ)
     (payloads : List (List ℕ)) (helper : ℕ) (parts : Parts) : Type 0 where
-  pub sound : r.IsSound id helper parts
+  pub sound : rules.IsSound id helper parts
   pub reply : List (List ℕ)
-  pub symbols : r.IsSymbolReply id helper parts axis shard reply
+  pub symbols : rules.IsSymbolReply id helper parts axis shard reply
   pub replied : AreAmong reply payloads
 
 -- the recovery gave a sliver or found that the symbols are inconsistent
@@ -67,65 +67,66 @@ abbrev pub IsSettledBy : RecoverWord → Type 0
 IsSettledBy recovering.Proof = Unit {0}
 IsSettledBy word = IsDecidedBy word
 
-pub record Laws (r : Rules) : Type 0 where
+pub record Laws (rules : Rules) : Type 0 where
   -- nothing is sound, and so stays what a put, a recovery or forgetting leave
-  pub nothing_sound : (id : BlobId) (shard : ℕ) → r.IsSound id shard no_parts
+  pub nothing_sound : (id : BlobId) (shard : ℕ) → rules.IsSound id shard no_parts
   pub put_sound : (log : Log) (shard : ℕ) (old new : Contents) (frame : Frame) (answer : PutAnswer)
-      → r.Puts log shard old frame answer new
-      → AllSound r shard old → AllSound r shard new
+      → rules.Puts log shard old frame answer new
+      → AllSound rules shard old → AllSound rules shard new
   pub recover_sound : (id : BlobId) (shard : ℕ) (axis : Axis)
       (old new : Contents) (payloads : List (List ℕ)) (word : RecoverWord)
-      → r.Recovers id shard axis old payloads word new
-      → (r.ContradictsHeld id (parts_at old id) payloads → ⊥) → AllSound r shard old
-      → AllSound r shard new
-  pub forget_sound : (id : BlobId) (shard : ℕ) (parts : Parts) → r.IsSound id shard parts
-      → r.IsSound id shard (forgotten parts)
+      → rules.Recovers id shard axis old payloads word new
+      → (rules.ContradictsHeld id (parts_at old id) payloads → ⊥) → AllSound rules shard old
+      → AllSound rules shard new
+  pub forget_sound : (id : BlobId) (shard : ℕ) (parts : Parts) → rules.IsSound id shard parts
+      → rules.IsSound id shard (forgotten parts)
   -- a put and a recovery leave what was held
   pub put_adds : (log : Log) (shard : ℕ) (old new : Contents) (frame : Frame) (answer : PutAnswer)
-      → r.Puts log shard old frame answer new → AreAbove old new
+      → rules.Puts log shard old frame answer new → AreAbove old new
   pub recover_adds : (id : BlobId) (shard : ℕ) (axis : Axis)
       (old new : Contents) (payloads : List (List ℕ)) (word : RecoverWord)
-      → r.Recovers id shard axis old payloads word new → AreAbove old new
+      → rules.Recovers id shard axis old payloads word new → AreAbove old new
   -- a recovered sliver is committed
   pub recover_commits : (id : BlobId) (shard : ℕ) (axis : Axis)
       (old new : Contents) (payloads : List (List ℕ)) (bytes : List ℕ)
-      → r.Recovers id shard axis old payloads (recovering.Sliver bytes) new
-      → (r.ContradictsHeld id (parts_at old id) payloads → ⊥) → AllSound r shard old
-      → r.CommitsTo id shard axis bytes (parts_at new id)
+      → rules.Recovers id shard axis old payloads (recovering.Sliver bytes) new
+      → (rules.ContradictsHeld id (parts_at old id) payloads → ⊥) → AllSound rules shard old
+      → rules.CommitsTo id shard axis bytes (parts_at new id)
   -- a sound holding with a proof refutes the blob
-  pub refutes : (id : BlobId) (shard : ℕ) (parts : Parts) → r.IsSound id shard parts
-      → has_proof parts ≡ true → r.Refutes id parts
+  pub refutes : (id : BlobId) (shard : ℕ) (parts : Parts) → rules.IsSound id shard parts
+      → has_proof parts ≡ true → rules.Refutes id parts
   -- completed reads and honest writes rest on something
   pub read_backed : (id : BlobId) (payloads : List (List ℕ))
       (word : ReadWord) (evidence : Evidence) (told : Verdict)
-      → r.Reads id payloads word (Some evidence) → told_by word ≡ Some told
-      → r.IsBacked id (Judged evidence told)
+      → rules.Reads id payloads word (Some evidence) → told_by word ≡ Some told
+      → rules.IsBacked id (Judged evidence told)
   pub write_backed : (format : Format) (blob : List ℕ) (id : BlobId) (message : ℕ → List Frame)
-      → r.IsMessage format blob id message → r.IsBacked id (Written blob)
+      → rules.IsMessage format blob id message → rules.IsBacked id (Written blob)
   -- a read that has the replies of more than f settled shards completes
   pub read_completes : (id : BlobId) (payloads : List (List ℕ))
       (word : ReadWord) (evidence : Option Evidence) (heard : ℕ → Bool)
-      → r.f + 1 ≤ count_below (committee_size r.f) heard
-      → ((s : ℕ) → s < committee_size r.f → heard s ≡ true
-      → (parts : Parts) × RepliedTo r id payloads s parts)
-      → r.Reads id payloads word evidence → (told : Verdict) × (told_by word ≡ Some told)
+      → rules.f + 1 ≤ count_below (committee_size rules.f) heard
+      → ((told_shard : ℕ) → told_shard < committee_size rules.f → heard told_shard ≡ true
+      → (parts : Parts) × RepliedTo rules id payloads told_shard parts)
+      → rules.Reads id payloads word evidence → (told : Verdict) × (told_by word ≡ Some told)
   -- a recovery of a secondary sliver that has the replies of more than f settled shards ends well
   pub secondary_recovers : (id : BlobId) (shard : ℕ) (old new : Contents)
       (payloads : List (List ℕ)) (word : RecoverWord) (heard : ℕ → Bool)
-      → r.f + 1 ≤ count_below (committee_size r.f) heard
-      → ((s : ℕ) → s < committee_size r.f → heard s ≡ true
-      → (parts : Parts) × (settled parts ≡ true) × Helped r id Secondary shard payloads s parts)
-      → shard < committee_size r.f → AllSound r shard old
-      → (r.ContradictsHeld id (parts_at old id) payloads → ⊥)
-      → r.Recovers id shard Secondary old payloads word new → IsSettledBy word
+      → rules.f + 1 ≤ count_below (committee_size rules.f) heard
+      → ((told_shard : ℕ) → told_shard < committee_size rules.f → heard told_shard ≡ true
+      → (parts : Parts) × (settled parts ≡ true)
+      × Helped rules id Secondary shard payloads told_shard parts)
+      → shard < committee_size rules.f → AllSound rules shard old
+      → (rules.ContradictsHeld id (parts_at old id) payloads → ⊥)
+      → rules.Recovers id shard Secondary old payloads word new → IsSettledBy word
   -- one of a primary sliver that has the replies of a quorum of shards with secondary slivers is
   -- decided
   pub primary_recovers : (id : BlobId) (shard : ℕ) (old new : Contents)
       (payloads : List (List ℕ)) (word : RecoverWord) (heard : ℕ → Bool)
-      → quorum_size r.f ≤ count_below (committee_size r.f) heard
-      → ((s : ℕ) → s < committee_size r.f → heard s ≡ true
+      → quorum_size rules.f ≤ count_below (committee_size rules.f) heard
+      → ((told_shard : ℕ) → told_shard < committee_size rules.f → heard told_shard ≡ true
       → (parts : Parts) × (is_some parts.secondary ≡ true)
-      × Helped r id Primary shard payloads s parts)
-      → shard < committee_size r.f → AllSound r shard old
-      → (r.ContradictsHeld id (parts_at old id) payloads → ⊥)
-      → r.Recovers id shard Primary old payloads word new → IsDecidedBy word
+      × Helped rules id Primary shard payloads told_shard parts)
+      → shard < committee_size rules.f → AllSound rules shard old
+      → (rules.ContradictsHeld id (parts_at old id) payloads → ⊥)
+      → rules.Recovers id shard Primary old payloads word new → IsDecidedBy word

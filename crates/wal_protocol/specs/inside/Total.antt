@@ -24,7 +24,7 @@ use Rattle.wal_protocol.specs.Total.{Possible, AreBytes}
 
 -- there are two texts that collide
 abbrev pub HasCollision : Rules → Type 0
-HasCollision r = (left : List ℕ) × (right : List ℕ) × r.IsCollision left right
+HasCollision rules = (left : List ℕ) × (right : List ℕ) × rules.IsCollision left right
 
 -- without a limit of pages and without want of memory, a put is not refused for either
 abbrev pub HasRoom : PutAnswer → Type 0
@@ -34,9 +34,9 @@ HasRoom _ = Unit {0}
 
 -- a put to a shard that holds what is sound has an answer
 abbrev pub IsAnswered : Rules → Log → ℕ → Frame → Type 0
-IsAnswered r log shard frame =
-    (old : Contents) → AllSound r shard old
-    → Possible ((answer : PutAnswer) × (new : Contents) × r.Puts log shard old frame answer new)
+IsAnswered rules log shard frame =
+    (old : Contents) → AllSound rules shard old
+    → Possible ((answer : PutAnswer) × (new : Contents) × rules.Puts log shard old frame answer new)
 
 -- the word of a recovery that runs
 abbrev pub IsFound : RecoverWord → Type 0
@@ -47,47 +47,52 @@ IsFound _ = Unit {0}
 
 -- what a read comes to, with evidence exactly for a verdict
 abbrev pub IsReadAs : Rules → BlobId → List (List ℕ) → ReadWord → Option Evidence → Type 0
-IsReadAs r id payloads word evidence =
-    r.Reads id payloads word evidence × (is_some evidence ≡ is_some (told_by word))
+IsReadAs rules id payloads word evidence =
+    rules.Reads id payloads word evidence × (is_some evidence ≡ is_some (told_by word))
 
-pub record Total (r : Rules) : Type 0 where
+pub record Total (rules : Rules) : Type 0 where
   -- an honest writer has a message for each blob
   pub message : (format : Format) (blob : List ℕ) → length blob ≤ most_bytes → AreBytes blob
-      → Possible ((id : BlobId) × (message : ℕ → List Frame) × r.IsMessage format blob id message)
+      → Possible
+      ((id : BlobId) × (message : ℕ → List Frame) × rules.IsMessage format blob id message)
   -- each of its frames is answered, and so are frames that are read
   pub put_message : (format : Format) (blob : List ℕ) (id : BlobId) (message : ℕ → List Frame)
-      → r.IsMessage format blob id message → (log : Log) (shard : ℕ) → shard < committee_size r.f
-      → (frame : Frame) → Contains (message shard) frame → IsAnswered r log shard frame
-  pub put_read : (bytes : List ℕ) (frame : Frame) → AreBytes bytes → r.IsPutFrame bytes frame
-      → (log : Log) (shard : ℕ) → IsAnswered r log shard frame
+      → rules.IsMessage format blob id message → (log : Log) (shard : ℕ)
+      → shard < committee_size rules.f
+      → (frame : Frame) → Contains (message shard) frame → IsAnswered rules log shard frame
+  pub put_read : (bytes : List ℕ) (frame : Frame) → AreBytes bytes → rules.IsPutFrame bytes frame
+      → (log : Log) (shard : ℕ) → IsAnswered rules log shard frame
   pub put_room : (log : Log) (shard : ℕ) (old new : Contents) (frame : Frame) (answer : PutAnswer)
-      → r.Puts log shard old frame answer new → HasRoom answer
+      → rules.Puts log shard old frame answer new → HasRoom answer
   pub put_collides : (log : Log) (shard : ℕ)
       (old new : Contents) (frame : Frame) (answer : PutAnswer)
-      → r.Puts log shard old frame answer new → is_clash answer ≡ true → HasCollision r
+      → rules.Puts log shard old frame answer new → is_clash answer ≡ true → HasCollision rules
   -- what is held and sound is replied, in bytes
-  pub read_replied : (id : BlobId) (shard : ℕ) (parts : Parts) → r.IsSound id shard parts
-      → All AreBytes (r.read_reply id shard parts)
+  pub read_replied : (id : BlobId) (shard : ℕ) (parts : Parts) → rules.IsSound id shard parts
+      → All AreBytes (rules.read_reply id shard parts)
   pub symbol_replied : (id : BlobId) (helper : ℕ) (parts : Parts) (axis : Axis) (shard : ℕ)
-      → r.IsSound id helper parts
-      → Possible ((payloads : List (List ℕ)) × r.IsSymbolReply id helper parts axis shard payloads
+      → rules.IsSound id helper parts
+      → Possible
+      ((payloads : List (List ℕ)) × rules.IsSymbolReply id helper parts axis shard payloads
       × All AreBytes payloads)
   -- payloads in which no two metadata differ come to something, and two that differ collide
   pub reads : (id : BlobId) (payloads : List (List ℕ)) → All AreBytes payloads
-      → (r.HasTwoMetadata id payloads → ⊥)
+      → (rules.HasTwoMetadata id payloads → ⊥)
       → Possible
-      ((word : ReadWord) × (evidence : Option Evidence) × IsReadAs r id payloads word evidence)
+      ((word : ReadWord) × (evidence : Option Evidence) × IsReadAs rules id payloads word evidence)
   pub two_collide : (id : BlobId) (payloads : List (List ℕ)) → All AreBytes payloads
-      → r.HasTwoMetadata id payloads → Possible (HasCollision r)
+      → rules.HasTwoMetadata id payloads → Possible (HasCollision rules)
   -- so it is of recoveries
   pub recovers : (id : BlobId) (shard : ℕ) (axis : Axis) (old : Contents) (payloads : List (List ℕ))
-      → shard < committee_size r.f → All AreBytes payloads → AllSound r shard old
-      → (r.ContradictsHeld id (parts_at old id) payloads → ⊥)
+      → shard < committee_size rules.f → All AreBytes payloads → AllSound rules shard old
+      → (rules.ContradictsHeld id (parts_at old id) payloads → ⊥)
       → Possible ((word : RecoverWord) × (new : Contents)
-      × r.Recovers id shard axis old payloads word new × IsFound word)
+      × rules.Recovers id shard axis old payloads word new × IsFound word)
   pub held_collides : (id : BlobId) (shard : ℕ) (parts : Parts) (payloads : List (List ℕ))
-      → All AreBytes payloads → r.IsSound id shard parts → r.ContradictsHeld id parts payloads
-      → Possible (HasCollision r)
+      → All AreBytes payloads → rules.IsSound id shard parts
+      → rules.ContradictsHeld id parts payloads
+      → Possible (HasCollision rules)
   -- and first answers that rest on something, with two verdicts, collide
-  pub answers_collide : (id : BlobId) (one other : First) → r.IsBacked id one → r.IsBacked id other
-      → verdict_of one ≢ verdict_of other → Possible (HasCollision r)
+  pub answers_collide : (id : BlobId) (one other : First) → rules.IsBacked id one
+      → rules.IsBacked id other
+      → verdict_of one ≢ verdict_of other → Possible (HasCollision rules)

@@ -10,13 +10,13 @@ use Rattle.wal_reader.specs.declared.errors.FeedError.TheVariants.{Malformed, To
 use Rattle.wal_reader.specs.Intake.{IntakeState, IsWrongAt, AreBytes, kept, StandsAt}
 
 abbrev pub shown : {H : Type 0} → Intake H → IntakeState
-shown i = record {
-  heard = i.heard;
-  taken = i.taken;
-  place = i.place;
-  kept = i.kept.items;
-  room = vec_capacity i.kept;
-  missing = i.missing;
+shown intake = record {
+  heard = intake.heard;
+  taken = intake.taken;
+  place = intake.place;
+  kept = intake.kept.items;
+  room = vec_capacity intake.kept;
+  missing = intake.missing;
 }
 
 -- these bytes were taken behind each stream
@@ -31,11 +31,11 @@ IsUnfinished bytes = (envelope_at bytes ≡ None) × IsPart bytes
 
 -- there is room for the longest metadata, no more bytes were taken than may be, no whole envelope
 -- is kept, and none that is read past
-pub record IsSound (i : IntakeState) : Type 0 where
-  pub room : 64019 ≤ i.room
-  pub limit : i.taken ≤ 134217728
-  pub unfinished : IsUnfinished i.kept
-  pub apart : 0 < i.missing → i.kept ≡ []
+pub record IsSound (intake : IntakeState) : Type 0 where
+  pub room : 64019 ≤ intake.room
+  pub limit : intake.taken ≤ 134217728
+  pub unfinished : IsUnfinished intake.kept
+  pub apart : 0 < intake.missing → intake.kept ≡ []
 
 -- with any so many bytes more they are an envelope of the size that its head says
 abbrev pub IsLacking : List ℕ → ℕ → Type 0
@@ -64,7 +64,7 @@ Hears digest bytes old new false = (new ≡ old) × IsUnfinished bytes
 
 -- of a metadata that is kept there is room for all
 abbrev pub HasRoom : IntakeState → Type 0
-HasRoom i = IsSettledState i.heard → 7 ≤ length i.kept → size_in i.kept ≤ 64012
+HasRoom intake = IsSettledState intake.heard → 7 ≤ length intake.kept → size_in intake.kept ≤ 64012
 
 -- some bytes of a piece were taken, and these are left
 pub record Moves (digest : List ℕ → List ℕ)

@@ -6,4 +6,5 @@ use Rattle.wal_shape.specs.Metadata.{BlobMetadata}
 -- the frame of a bad proof by as many openings as a primary sliver has symbols, each with the
 -- longest path
 abbrev pub longest_part : BlobMetadata → ℕ
-longest_part m = 38 + column_count m.f * (symbol_size m.f m.length + 327)
+longest_part metadata =
+    38 + column_count metadata.f * (symbol_size metadata.f metadata.length + 327)

@@ -15,7 +15,8 @@ told_outcome told.Reject = Reject
 
 -- the answer that evidence leads to, by the one verdict on it
 abbrev pub IsAnswerOf : (List ℕ → List ℕ) → Evidence → ReadAnswer → Type 0
-IsAnswerOf digest e answer =
-    (verdict : Verdict) × IsJudgedBy digest e.metadata e.basis verdict
-    × ((other : Verdict) → IsJudgedBy digest e.metadata e.basis other → other ≡ verdict)
-    × (answer.outcome ≡ told_outcome verdict) × (answer.evidence ≡ Some e)
+IsAnswerOf digest evidence answer =
+    (verdict : Verdict) × IsJudgedBy digest evidence.metadata evidence.basis verdict
+    × ((other : Verdict) → IsJudgedBy digest evidence.metadata evidence.basis other
+    → other ≡ verdict)
+    × (answer.outcome ≡ told_outcome verdict) × (answer.evidence ≡ Some evidence)

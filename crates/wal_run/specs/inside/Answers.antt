@@ -23,13 +23,13 @@ answer_text (Proof envelope) = envelope.bytes
 
 -- what is written of a refusal: nothing where memory ran out
 abbrev pub Refused : Refusal → ℕ → List ℕ → Type 0
-Refused refusal s text =
-    (refusal ≢ Memory) × (s ≡ refusal_status refusal) × (text ≡ refusal_text refusal)
+Refused refusal status text =
+    (refusal ≢ Memory) × (status ≡ refusal_status refusal) × (text ≡ refusal_text refusal)
 
 -- what is written of what a command has to say
 abbrev pub Tells : Result Answer Refusal → ℕ → List ℕ → Type 0
-Tells (Ok answer) s text = (s ≡ answer_status answer) × (text ≡ answer_text answer)
-Tells (Err refusal) s text = Refused refusal s text
+Tells (Ok answer) status text = (status ≡ answer_status answer) × (text ≡ answer_text answer)
+Tells (Err refusal) status text = Refused refusal status text
 
 -- a refusal tells a result, unless memory ran out
 abbrev pub Refuses : Refusal → (ℕ → List ℕ → Type 0) → Type 0
@@ -42,9 +42,10 @@ Says (Err refusal) Is = Refuses refusal Is
 
 -- the input is no stream of envelopes
 abbrev pub IsBroken : List ℕ → ℕ → List ℕ → Type 0
-IsBroken input s text = (s ≡ 8) × BreaksAt input text
+IsBroken input status text = (status ≡ 8) × BreaksAt input text
 
 -- its payloads carry no metadata of the identifier, or two that differ: what every command tells
 -- that asks for one
 abbrev pub LacksMetadata : (List ℕ → List ℕ) → BlobId → List ℕ → ℕ → List ℕ → Type 0
-LacksMetadata digest id input s text = IsResult digest (bare 0 (envelopes_of id)) input s text
+LacksMetadata digest id input status text =
+    IsResult digest (bare 0 (envelopes_of id)) input status text

@@ -7,15 +7,16 @@ use Rattle.wal_run.specs.Command.{Recorded, Content, Command}
 
 -- payloads with the one metadata that they carry
 abbrev pub recorded : List (List ℕ) → BlobMetadata → Recorded
-recorded payloads m = record { payloads = payloads; metadata = m }
+recorded payloads other = record { payloads = payloads; metadata = other }
 
 -- the same of what an input spells
-pub data Told (digest : List ℕ → List ℕ) (c : Command) (content : Content c.grammar) : ℕ → List ℕ
+pub data Told (digest : List ℕ → List ℕ) (command : Command) (content : Content command.grammar) : ℕ
+    → List ℕ
     → Type 0 where
-  succeeds : (text : List ℕ) → c.Succeeds content text → Told digest c content 0 text
-  rejects : (text : List ℕ) → c.Rejects content text → Told digest c content 3 text
-  lacks : (text : List ℕ) → c.Lacks content text → Told digest c content 4 text
-  misreads : (text : List ℕ) → c.Misreads content text → Told digest c content 8 text
+  succeeds : (text : List ℕ) → command.Succeeds content text → Told digest command content 0 text
+  rejects : (text : List ℕ) → command.Rejects content text → Told digest command content 3 text
+  lacks : (text : List ℕ) → command.Lacks content text → Told digest command content 4 text
+  misreads : (text : List ℕ) → command.Misreads content text → Told digest command content 8 text
   collides : (left right front : List ℕ) → IsCollision digest left right
-      → c.Collides content left right front
-      → Told digest c content 10 (front ++ collision_text left right)
+      → command.Collides content left right front
+      → Told digest command content 10 (front ++ collision_text left right)

@@ -20,14 +20,14 @@ GivesPiece left after Rose taken buffer (Err Memory) = ⊥
 
 -- the reader stands for the stream, or a byte of it begins no envelope, at this place
 abbrev pub Stands : (List ℕ → List ℕ) → List ℕ → ReaderState → Option ℕ → List ℕ → Type 0
-Stands digest id r None stream = StandsFor digest id r stream
-Stands digest id r (Some place) stream = IsWrongAt place stream
+Stands digest id reader None stream = StandsFor digest id reader stream
+Stands digest id reader (Some place) stream = IsWrongAt place stream
 
 -- what comes of a piece more that makes this stream
 abbrev pub FeedsOn : (List ℕ → List ℕ) → List ℕ → ReaderState → List ℕ → Result (Option ℕ) TakeError
     → Type 0
-FeedsOn digest id r stream (Ok wrong) = Stands digest id r wrong stream
-FeedsOn digest id r stream (Err e) = e ≡ Memory
+FeedsOn digest id reader stream (Ok wrong) = Stands digest id reader wrong stream
+FeedsOn digest id reader stream (Err fault) = fault ≡ Memory
 
 -- so many bytes were taken, at most
 abbrev pub TakesFew : Option (List ℕ) → Option (List ℕ) → Type 0
@@ -37,10 +37,10 @@ TakesFew left after = (taken : List ℕ) × Consumes left after taken × (length
 -- failed; or it has one byte too many; or memory ran out
 abbrev pub TakesStream : (List ℕ → List ℕ) → List ℕ → Option (List ℕ) → Option (List ℕ) → Type 0
     → ReaderState → Result (Option ℕ) TakeError → Type 0
-TakesStream digest id left after Rose r (Ok wrong) =
+TakesStream digest id left after Rose reader (Ok wrong) =
     (stream : List ℕ) × Consumes left after stream × IsAtEnd after × (length stream ≤ 134217728)
-    × Stands digest id r wrong stream
-TakesStream digest id left after Rose r (Err ReadFault) = TakesFew left after × Rose
-TakesStream digest id left after Rose r (Err TooLong) =
+    × Stands digest id reader wrong stream
+TakesStream digest id left after Rose reader (Err ReadFault) = TakesFew left after × Rose
+TakesStream digest id left after Rose reader (Err TooLong) =
     (taken : List ℕ) × Consumes left after taken × (length taken ≡ 134217729)
-TakesStream digest id left after Rose r (Err Memory) = TakesFew left after
+TakesStream digest id left after Rose reader (Err Memory) = TakesFew left after

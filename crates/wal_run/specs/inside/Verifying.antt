@@ -5,5 +5,5 @@ use Rattle.wal_challenge.specs.declared.checking.AnswerVerdict.TheVariants.{Acce
 
 abbrev pub verdict_status : AnswerVerdict → ℕ
 verdict_status (WrongCount k) = 4
-verdict_status (Wrong d) = 3
+verdict_status (Wrong draw) = 3
 verdict_status Accepted = 0

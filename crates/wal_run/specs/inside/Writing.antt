@@ -39,10 +39,12 @@ pub data Does (HasResult : ℕ → List ℕ → Type 0) (IsLeft IsOwed : List �
       → Does HasResult IsLeft IsOwed old new SinkRose 7
 
 -- the same by what the input spells
-abbrev pub DoesTold : (List ℕ → List ℕ) → (c : Command) → Content c.grammar → Option (List ℕ)
+abbrev pub DoesTold : (List ℕ → List ℕ) → (command : Command) → Content command.grammar
+    → Option (List ℕ)
     → Option (List ℕ) → Type 0 → ℕ → Type 0
-DoesTold digest c content old new SinkRose status =
-    Does (Told digest c content) (c.Leaves content) (c.Owes content) old new SinkRose status
+DoesTold digest command content old new SinkRose status =
+    Does (Told digest command content) (command.Leaves content)
+    (command.Owes content) old new SinkRose status
 
 -- what comes of writing the next piece of a text: all of it, or a front where the sink failed, or
 -- nothing where there was no memory for it

@@ -14,21 +14,21 @@ use Rattle.wal_schedule.specs.Grammar.{attest_of, forget_of, later_named, one_if
 
 -- the event of this name, where it is none of the first four
 abbrev pub held_named : ℕ → Data → List ℕ → Option Event
-held_named n d name =
-    if bytes_eq name (codes "attest") then attest_of d
-    else (if bytes_eq name (codes "read") then read_of d
-    else (if bytes_eq name (codes "recover") then recover_of d
-    else (if bytes_eq name (codes "forget") then forget_of d
-    else later_named n d name)))
+held_named n value name =
+    if bytes_eq name (codes "attest") then attest_of value
+    else (if bytes_eq name (codes "read") then read_of value
+    else (if bytes_eq name (codes "recover") then recover_of value
+    else (if bytes_eq name (codes "forget") then forget_of value
+    else later_named n value name)))
 
 -- the head of these numbers, with the lists of an object
 abbrev pub head_with : ℕ → ℕ → Format → Data → Option Head
-head_with f epoch format d = do
-  owners ← owners_at (shard_count f) d
-  faulty ← list_at (codes "faulty") d
+head_with f epoch format value = do
+  owners ← owners_at (shard_count f) value
+  faulty ← list_at (codes "faulty") value
   head ← given (nat_le 1 f && is_committee (shard_count f) owners faulty)
       (record { f = f; epoch = epoch; format = format; owners = owners; faulty = faulty })
-  with_keys (4 + one_if_has (codes "format") d + one_if_has (codes "owners") d) d head
+  with_keys (4 + one_if_has (codes "format") value + one_if_has (codes "owners") value) value head
 
 -- events, and those of the rest
 abbrev pub after : List Event → Result (List Event) ℕ → Result (List Event) ℕ
@@ -45,15 +45,15 @@ TellsEvents (Err (BadEvent number)) told = told ≡ Err number
 TellsEvents (Err Memory) told = ⊤
 
 -- the head of a schedule is in range
-pub record IsHead (h : Head) : Type 0 where
-  pub least : 1 ≤ h.f
-  pub most : h.f ≤ 333
-  pub epoch_most : h.epoch ≤ 65535
-  pub committee : IsTrue (is_committee (shard_count h.f) h.owners h.faulty)
+pub record IsHead (head : Head) : Type 0 where
+  pub least : 1 ≤ head.f
+  pub most : head.f ≤ 333
+  pub epoch_most : head.epoch ≤ 65535
+  pub committee : IsTrue (is_committee (shard_count head.f) head.owners head.faulty)
 
 -- what is read of a value, unless memory runs out
 abbrev pub Tells : Result Schedule ScheduleError → Result Schedule ScheduleError → Type 0
-Tells (Ok s) told = told ≡ Ok s
+Tells (Ok schedule) told = told ≡ Ok schedule
 Tells (Err NotJson) told = ⊥
 Tells (Err BadSchedule) told = told ≡ Err BadSchedule
 Tells (Err TooMany) told = told ≡ Err TooMany

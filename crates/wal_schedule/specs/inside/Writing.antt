@@ -8,4 +8,4 @@ use Rattle.serde_json.specs.declared.value.Value.{Value}
 -- the members of an object after a value is put under a key
 abbrev pub IsPut : List ℕ → Data → List (String Global × Value) → List (String Global × Value)
     → Type 0
-IsPut key d old new = members_view new ≡ put key d (members_view old)
+IsPut key value old new = members_view new ≡ put key value (members_view old)

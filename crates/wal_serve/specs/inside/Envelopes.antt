@@ -18,12 +18,12 @@ use Rattle.wal_serve.specs.inside.Payload.{PayloadRoom}
 pub data Lacks (left after : Option (List ℕ)) (Rose : Type 0) (most : ℕ) : Lack → List ℕ
     → Type 0 where
   nothing : Consumes left after [] → IsAtEnd after → Lacks left after Rose most Nothing []
-  wrong : (b : ℕ) → Consumes left after (b ∷ []) → (b ≡ 0x57 → ⊥) → 1 ≤ most
-      → Lacks left after Rose most Wrong (b ∷ [])
+  wrong : (second : ℕ) → Consumes left after (second ∷ []) → (second ≡ 0x57 → ⊥) → 1 ≤ most
+      → Lacks left after Rose most Wrong (second ∷ [])
   cut : (got : List ℕ) → Consumes left after got → IsPart got → 0 < length got → length got ≤ most
       → IsAtEnd after → Lacks left after Rose most Cut got
-  too_long : (got : List ℕ) (b : ℕ) → Consumes left after (got ++ b ∷ []) → IsPart got
-      → length got ≡ most → Lacks left after Rose most TooLong (got ++ b ∷ [])
+  too_long : (got : List ℕ) (second : ℕ) → Consumes left after (got ++ second ∷ []) → IsPart got
+      → length got ≡ most → Lacks left after Rose most TooLong (got ++ second ∷ [])
   failed : (got : List ℕ) → Consumes left after got → IsPart got → length got ≤ most → Rose
       → Lacks left after Rose most Failed got
 

@@ -5,5 +5,5 @@ use Rattle.wal_serve.specs.declared.reply.Reply.{Reply}
 
 -- the code of a reply is one of an answer
 abbrev pub HasCode : Result Reply MetaClash → Type 0
-HasCode (Ok r) = r.code ≤ 15
+HasCode (Ok reply) = reply.code ≤ 15
 HasCode (Err clash) = ⊤

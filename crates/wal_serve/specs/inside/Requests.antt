@@ -4,7 +4,7 @@ use Rattle.wal_frame.specs.Frame.{Frame, Opening, Answer, Clash}
 
 -- the frames that are no requests
 abbrev pub IsNoRequest : Frame → Type 0
-IsNoRequest (Opening id axis index o) = ⊤
-IsNoRequest (Answer code a b) = ⊤
+IsNoRequest (Opening id axis index opening) = ⊤
+IsNoRequest (Answer code first second) = ⊤
 IsNoRequest (Clash left right) = ⊤
 IsNoRequest _ = ⊥

@@ -10,4 +10,4 @@ answer_room f = room_of f + 17
 
 -- the room of a buffer, for what was written and for what may follow
 abbrev pub room_in : Buffer → ℕ
-room_in b = b.spare + length b.bytes
+room_in buffer = buffer.spare + length buffer.bytes

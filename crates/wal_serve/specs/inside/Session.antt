@@ -18,7 +18,7 @@ Row = ServedState → List (List ℕ) → Option MetaClash → ServedState → T
 module _ {H K : Type 0} {h : hash.Ghosts H} {k : keep.Ghosts K} where
   -- the shard of a session, and the ledger beside it
   abbrev pub served : Session H K h k → ServedState
-  served s = state_of s.shard.now s.state.now
+  served session = state_of session.shard.now session.state.now
 
   -- one frame is answered so, with this outcome
   abbrev pub Gives : Row → Session H K h k → Result Reply MetaClash → Session H K h k → Type 0

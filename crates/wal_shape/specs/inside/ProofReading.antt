@@ -20,8 +20,8 @@ head_at bytes = do
 -- what stands behind an opening that was read
 abbrev pub behind : Result (Opening × List ℕ) BodyFault → (List ℕ → Option (List ℕ))
     → Option (List ℕ)
-behind (Ok x) others = others x.1
-behind (Err e) others = None
+behind (Ok pair) others = others pair.1
+behind (Err fault) others = None
 
 -- the bytes after n bodies, if all can be read
 unfoldable pub bodies_end : ℕ → List ℕ → Option (List ℕ)
@@ -38,11 +38,11 @@ SpellProof head bytes =
 abbrev pub ended : Head → Option (List ℕ) → Option Head
 ended head None = None
 ended head (Some []) = Some head
-ended head (Some (b ∷ bytes)) = None
+ended head (Some (byte ∷ bytes)) = None
 
 abbrev pub whole_head : Result (Head × List ℕ) BodyFault → Option Head
-whole_head (Ok x) = ended x.0 (bodies_end x.0.count x.1)
-whole_head (Err e) = None
+whole_head (Ok pair) = ended pair.0 (bodies_end pair.0.count pair.1)
+whole_head (Err fault) = None
 
 -- the head of the proof that the bytes spell, if they spell one
 unfoldable pub head_in : List ℕ → Option Head

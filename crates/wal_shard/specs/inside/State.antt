@@ -11,6 +11,7 @@ abbrev pub shard_code : Coded ShardState
 shard_code =
     code_by (ℕ × (ℕ × (Contents × Option ℕ)))
     (coded× coded_ℕ (coded× coded_ℕ (coded× (map.code id_code parts_code) (coded_option coded_ℕ))))
-    (λ s. (s.f, (s.index, (s.contents, s.limit))))
-    (λ t. record { f = t.0; index = t.1.0; contents = t.1.1.0; limit = t.1.1.1 })
+    (λ state. (state.f, (state.index, (state.contents, state.limit))))
+    (λ tuple.
+    record { f = tuple.0; index = tuple.1.0; contents = tuple.1.1.0; limit = tuple.1.1.1 })
     (λ _. refl)

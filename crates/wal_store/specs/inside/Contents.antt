@@ -9,4 +9,5 @@ use Rattle.wal_store.specs.Contents.{Contents, StoreState}
 abbrev pub store_code : Coded StoreState
 store_code =
     code_by (Contents × Option ℕ) (coded× (map.code id_code parts_code) (coded_option coded_ℕ))
-    (λ s. (s.contents, s.limit)) (λ t. record { contents = t.0; limit = t.1 }) (λ _. refl)
+    (λ state. (state.contents, state.limit))
+    (λ tuple. record { contents = tuple.0; limit = tuple.1 }) (λ _. refl)

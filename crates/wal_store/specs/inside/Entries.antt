@@ -24,11 +24,11 @@ parts_in entries id = unwrap_or (found_in entries id) no_parts
 -- each holding has a part
 abbrev pub AreKept : Entries → Type 0
 AreKept [] = Unit {0}
-AreKept (e ∷ es) = (is_empty e.1 ≡ false) × AreKept es
+AreKept (entry ∷ entries) = (is_empty entry.1 ≡ false) × AreKept entries
 
 -- the pages of a list of holdings
 abbrev pub cost_in : Entries → ℕ
-cost_in entries = sum_by cost_of (map (λ e. e.1) entries)
+cost_in entries = sum_by cost_of (map (λ entry. entry.1) entries)
 
 -- the pages of the holding under an identifier
 abbrev pub cost_at : Entries → BlobId → ℕ
@@ -52,13 +52,14 @@ freed_in entries id part =
 
 -- where there is a limit, the use of it is known, and it holds
 abbrev pub InBudget : Option Budget → ℕ → Type 0
-InBudget budget cost = ForSome budget (λ b. (b.used ≡ cost) × (b.used ≤ b.limit))
+InBudget budget cost = ForSome budget (λ bytes. (bytes.used ≡ cost) × (bytes.used ≤ bytes.limit))
 
 -- whether so many pages are free
 abbrev pub room_answer : Option Budget → ℕ → Result (Unit {0}) KeepError
 room_answer None needed = Ok tt
-room_answer (Some b) needed =
-    if nat_lt (b.limit - b.used) needed then Err (Full needed (b.limit - b.used)) else Ok tt
+room_answer (Some budget) needed =
+    if nat_lt (budget.limit - budget.used) needed
+    then Err (Full needed (budget.limit - budget.used)) else Ok tt
 
 -- where a range of those past it begins
 abbrev pub past_bound : Option BlobId → Bound BlobId

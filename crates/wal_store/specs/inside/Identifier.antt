@@ -4,4 +4,6 @@ use Rattle.wal_shape.specs.declared.BlobId.{BlobId}
 
 -- an identifier is stored as its bytes
 abbrev pub id_code : Coded BlobId
-id_code = code_by (List ℕ) (coded_list coded_ℕ) (λ b. b.0) (λ l. record { 0 = l }) (λ _. refl)
+id_code =
+    code_by (List ℕ) (coded_list coded_ℕ) (λ budget. budget.0)
+    (λ list. record { 0 = list }) (λ _. refl)

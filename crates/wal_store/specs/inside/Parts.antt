@@ -9,6 +9,11 @@ parts_code =
     let part : Coded (Option (List ℕ)) = coded_option (coded_list coded_ℕ) in
     code_by (Option (List ℕ) × (Option (List ℕ) × (Option (List ℕ) × Option (List ℕ))))
     (coded× part (coded× part (coded× part part)))
-    (λ p. (p.metadata, (p.primary, (p.secondary, p.proof))))
-    (λ t. record { metadata = t.0; primary = t.1.0; secondary = t.1.1.0; proof = t.1.1.1 })
+    (λ parts. (parts.metadata, (parts.primary, (parts.secondary, parts.proof))))
+    (λ tuple. record {
+      metadata = tuple.0;
+      primary = tuple.1.0;
+      secondary = tuple.1.1.0;
+      proof = tuple.1.1.1;
+    })
     (λ _. refl)

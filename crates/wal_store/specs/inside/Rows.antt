@@ -58,11 +58,11 @@ parts_of linked row = record {
 }
 
 abbrev pub ids_of : List Row → List BlobId
-ids_of rows = map (λ r. r.id) rows
+ids_of rows = map (λ row. row.id) rows
 
 -- the holdings of a table of rows
 abbrev pub entries_of : Linked → List Row → Entries
-entries_of linked rows = map (λ r. (r.id, parts_of linked r)) rows
+entries_of linked rows = map (λ row. (row.id, parts_of linked row)) rows
 
 -- how often a row uses a page
 abbrev pub row_uses : List ℕ → ℕ → Row → ℕ
@@ -73,7 +73,7 @@ row_uses next k row =
 
 abbrev pub rows_use : List ℕ → ℕ → List Row → ℕ
 rows_use next k [] = 0
-rows_use next k (r ∷ rs) = row_uses next k r + rows_use next k rs
+rows_use next k (row ∷ rs) = row_uses next k row + rows_use next k rs
 
 -- the size of a part is that of its bytes, from 1 to what a blob may have
 abbrev pub is_sized : Option Slot → Option (List ℕ) → Bool

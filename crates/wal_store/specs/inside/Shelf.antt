@@ -9,4 +9,4 @@ token_of number (Taken bytes) = Some number
 -- the rights to the pages from a number on
 abbrev pub tokens_of : ℕ → List PageState → List (Option ℕ)
 tokens_of number [] = []
-tokens_of number (s ∷ states) = token_of number s ∷ tokens_of (suc number) states
+tokens_of number (page ∷ states) = token_of number page ∷ tokens_of (suc number) states

@@ -5,4 +5,4 @@ use Rattle.std.specs.Prelude.{ℕ, ◌+◌, ◌*◌, List, [], ◌∷◌, Option
 abbrev pub weight : List (Option (List ℕ)) → ℕ
 weight [] = 0
 weight (None ∷ more) = 2 * weight more
-weight (Some a ∷ more) = 1 + 2 * weight more
+weight (Some first ∷ more) = 1 + 2 * weight more

@@ -5,7 +5,7 @@ use Rattle.std.proofs.Common.{Global}
 -- the bytes of a column that may be there
 abbrev pub column_bytes : Option (Vec ℕ Global) → Option (List ℕ)
 column_bytes None = None
-column_bytes (Some v) = Some v.items
+column_bytes (Some vector) = Some vector.items
 
 -- a column that may be there has an entry for each row
 abbrev pub HasRows : ℕ → Option (List ℕ) → Type 0

@@ -15,11 +15,11 @@ use Rattle.wal_world.specs.Creating.{first_of}
 
 -- the state with this ledger, in which nothing is held or completed
 abbrev pub state_with : Format → ServingState → Bool → World
-state_with format s few =
+state_with format serving few =
     record {
       format = format;
-      log = s.ledger.log;
-      now = empty_committee s.ledger.log.f s.faulty;
+      log = serving.ledger.log;
+      now = empty_committee serving.ledger.log.f serving.faulty;
       next = nobody;
       few = few;
       answers = finmap.empty;
@@ -27,10 +27,10 @@ state_with format s few =
 
 -- a network with this ledger, in which nothing is held or completed
 pub record IsFresh {H : Type 0} (format : Format)
-    (s : ServingState) (few : Bool) (n : Network H) : Type 0 where
+    (serving : ServingState) (few : Bool) (n : Network H) : Type 0 where
   pub network : IsNetwork n
-  pub world : world_of n ≡ state_with format s few
-  pub spare : spare_of n ≡ s.ledger.spare
+  pub world : world_of n ≡ state_with format serving few
+  pub spare : spare_of n ≡ serving.ledger.spare
 
 -- a network in the first state, with room for so many entries
 pub record IsFirst {H : Type 0} (f epoch : ℕ) (format : Format)

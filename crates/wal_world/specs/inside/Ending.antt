@@ -15,10 +15,10 @@ use Rattle.wal_world.specs.declared.run.ReplayError.TheVariants as failing
 -- what one more event comes to, and whether its line is a collision
 abbrev pub Takes : Rules → World → Event → World → Option (List ℕ) → Option (List ℕ) → Type 0
     → Result Bool ReplayError → Type 0
-Takes r old event new before after SinkRose (Ok stops) =
-    (said : Line) × Steps r old event said new × (is_collision said ≡ stops)
+Takes rules old event new before after SinkRose (Ok stops) =
+    (said : Line) × Steps rules old event said new × (is_collision said ≡ stops)
     × Appends before after (line_text said)
-Takes r old event new before after SinkRose (Err failing.Memory) = Keeps before after
-Takes r old event new before after SinkRose (Err failing.WriteFault) =
-    (said : Line) × (then : World) × Steps r old event said then × SinkRose
+Takes rules old event new before after SinkRose (Err failing.Memory) = Keeps before after
+Takes rules old event new before after SinkRose (Err failing.WriteFault) =
+    (said : Line) × (then : World) × Steps rules old event said then × SinkRose
     × AppendsPart before after (line_text said)

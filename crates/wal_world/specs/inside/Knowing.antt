@@ -18,23 +18,25 @@ use Rattle.wal_theorem.specs.Instance.{Knows, KnowsTwo, RecoversTo}
 
 -- what a shard holds as metadata: none, or this one
 abbrev pub IsHeldMetadata : (List ℕ → List ℕ) → ℕ → List ℕ → Parts → Option BlobMetadata → Type 0
-IsHeldMetadata digest f id p None = p.metadata ≡ None
-IsHeldMetadata digest f id p (Some m) = IsOwnMetadata digest f id p m
+IsHeldMetadata digest f id parts None = parts.metadata ≡ None
+IsHeldMetadata digest f id parts (Some metadata) = IsOwnMetadata digest f id parts metadata
 
--- m is the only one that is known, and the identifier commits it; where a shard holds one, it is m
+-- this metadata is the only one that is known, and the identifier commits it; where a shard holds
+-- one, it is this
 pub record IsOnly (digest : List ℕ → List ℕ) (id : BlobId) (parts : Parts)
-    (payloads : List (List ℕ)) (m : BlobMetadata) : Type 0 where
-  pub known : Knows digest id parts payloads m
-  pub only : (other : BlobMetadata) → Knows digest id parts payloads other → other ≡ m
-  pub commits : Commits digest id.0 m
-  pub same : (bytes : List ℕ) → parts.metadata ≡ Some bytes → bytes ≡ metadata_text m
+    (payloads : List (List ℕ)) (metadata : BlobMetadata) : Type 0 where
+  pub known : Knows digest id parts payloads metadata
+  pub only : (other : BlobMetadata) → Knows digest id parts payloads other → other ≡ metadata
+  pub commits : Commits digest id.0 metadata
+  pub same : (bytes : List ℕ) → parts.metadata ≡ Some bytes → bytes ≡ metadata_text metadata
 
 -- none is known, or one, or two that differ, which give two texts with one digest
 abbrev pub AreKnown : (List ℕ → List ℕ) → BlobId → Parts → List (List ℕ) → Known → Type 0
-AreKnown digest id parts payloads Absent = (m : BlobMetadata) → Knows digest id parts payloads m → ⊥
-AreKnown digest id parts payloads (One m) = IsOnly digest id parts payloads m
-AreKnown digest id parts payloads (Two c) =
-    KnowsTwo digest id parts payloads × IsCollision digest c.left c.right
+AreKnown digest id parts payloads Absent =
+    (metadata : BlobMetadata) → Knows digest id parts payloads metadata → ⊥
+AreKnown digest id parts payloads (One moving) = IsOnly digest id parts payloads moving
+AreKnown digest id parts payloads (Two collision) =
+    KnowsTwo digest id parts payloads × IsCollision digest collision.left collision.right
 
 -- a recovery from these payloads comes to this word, and the shard keeps what it found
 abbrev pub RecoversInWorld : (List ℕ → List ℕ) → World → Side → ℕ → Axis → BlobId → List (List ℕ)

@@ -21,7 +21,7 @@ use Rattle.wal_protocol.specs.Step.{PutsEach}
 -- the frame that was read, and that which bytes are read as
 abbrev pub frame_read : Result Frame FrameError → Frame
 frame_read (Ok frame) = frame
-frame_read (Err e) = Read []
+frame_read (Err fault) = Read []
 
 abbrev pub frame_in : List ℕ → Frame
 frame_in bytes = frame_read (read_of bytes)
@@ -42,7 +42,8 @@ letters_in shard texts = map (λ text. (shard, frame_in text)) texts
 
 -- two texts with one digest are told where a put found another metadata held
 abbrev pub TellsClash : PutAnswer → Option Collision → Type 0
-TellsClash (putting.OtherMetadata clash) (Some c) = (c.left ≡ clash.left) × (c.right ≡ clash.right)
+TellsClash (putting.OtherMetadata clash) (Some collision) =
+    (collision.left ≡ clash.left) × (collision.right ≡ clash.right)
 TellsClash putting.Stored None = ⊤
 TellsClash putting.Held None = ⊤
 TellsClash putting.Unregistered None = ⊤
@@ -58,7 +59,7 @@ pub record PutsTo (digest : List ℕ → List ℕ) (old : World) (side : Side)
   pub puts : PutsEach (rules_of digest old.log.f) old.log
       (side_of side old) letters (is_some clash) mid
   pub state : new ≡ with_side side old mid
-  pub collides : IfSome clash (λ c. IsCollision digest c.left c.right)
+  pub collides : IfSome clash (λ collision. IsCollision digest collision.left collision.right)
 
 -- what the puts of the letters from here come to is what those of all of them come to from there
 abbrev pub Continues : (List ℕ → List ℕ) → World → List (ℕ × Frame) → Side → World
@@ -69,13 +70,13 @@ Continues digest old letters side here rest =
 
 -- all that is sent to a shard has a spelling
 abbrev pub AreParts : Written → ℕ → Type 0
-AreParts w shard = AllByRecursion IsFrame (messages_of w shard)
+AreParts written shard = AllByRecursion IsFrame (messages_of written shard)
 
 -- what a writer has made of a blob, for so many faults of a committee
 pub record IsStarted (digest : List ℕ → List ℕ) (f : ℕ)
-    (format : Format) (blob : List ℕ) (w : Written) : Type 0 where
+    (format : Format) (blob : List ℕ) (written : Written) : Type 0 where
   pub few : f ≤ 333
-  pub faults : w.metadata.f ≡ f
-  pub message : IsMessageOf digest f format blob w.id (messages_of w)
-  pub identifier : IsIdentifierOf digest format f blob w.id.0
-  pub parts : (shard : ℕ) → shard < committee_size f → AreParts w shard
+  pub faults : written.metadata.f ≡ f
+  pub message : IsMessageOf digest f format blob written.id (messages_of written)
+  pub identifier : IsIdentifierOf digest format f blob written.id.0
+  pub parts : (shard : ℕ) → shard < committee_size f → AreParts written shard

@@ -31,9 +31,9 @@ pub record IsLike {H : Type 0} (old new : Network H) : Type 0 where
 
 -- each first completed answer is backed
 abbrev pub AreBacked : (List ℕ → List ℕ) → World → Type 0
-AreBacked digest w =
-    (id : BlobId) (first : First) → finmap.get w.answers id ≡ Some first
-    → IsBackedBy digest w.log.f id first
+AreBacked digest world =
+    (id : BlobId) (first : First) → finmap.get world.answers id ≡ Some first
+    → IsBackedBy digest world.log.f id first
 
 -- a completed answer is the first one, or agrees with it
 abbrev pub IsAgreed : World → BlobId → First → World → Type 0
@@ -45,35 +45,37 @@ IsAgreed old id answer new =
 abbrev pub IsCompared : (List ℕ → List ℕ) → World → BlobId → First → Option Collision → World
     → Type 0
 IsCompared digest old id answer None new = IsAgreed old id answer new
-IsCompared digest old id answer (Some c) new =
-    IsCollision digest c.left c.right × Differs old.answers id (verdict_of answer) × (new ≡ old)
+IsCompared digest old id answer (Some collision) new =
+    IsCollision digest collision.left collision.right × Differs old.answers id (verdict_of answer)
+    × (new ≡ old)
 
 -- the word that is said then
 abbrev pub IsTold : (List ℕ → List ℕ) → World → BlobId → First → ReadWord → World → Taken ReadWord
     → Type 0
 IsTold digest old id answer word new (taken.Word said) = (said ≡ word) × IsAgreed old id answer new
-IsTold digest old id answer word new (taken.Collision c) =
-    IsCollision digest c.left c.right × Differs old.answers id (verdict_of answer) × (new ≡ old)
+IsTold digest old id answer word new (taken.Collision collision) =
+    IsCollision digest collision.left collision.right × Differs old.answers id (verdict_of answer)
+    × (new ≡ old)
 
 -- a read of these payloads completes
-pub record CompletesOn (r : Rules) (old : World) (id : BlobId) (payloads : List (List ℕ))
+pub record CompletesOn (rules : Rules) (old : World) (id : BlobId) (payloads : List (List ℕ))
     (word : ReadWord) (told : Verdict) (new : World) : Type 0 where
   pub evidence : Evidence
-  pub reads : r.Reads id payloads word (Some evidence)
+  pub reads : rules.Reads id payloads word (Some evidence)
   pub agreed : IsAgreed old id (Judged evidence told) new
 
 -- a read of these payloads
 abbrev pub ReadsOn : Rules → World → BlobId → List (List ℕ) → ReadWord → World → Type 0
-ReadsOn r old id payloads (reading.Bytes bytes) new =
-    CompletesOn r old id payloads (reading.Bytes bytes) (verdict.Bytes bytes) new
-ReadsOn r old id payloads reading.Reject new =
-    CompletesOn r old id payloads reading.Reject verdict.Reject new
-ReadsOn r old id payloads word new = r.Reads id payloads word None × (new ≡ old)
+ReadsOn rules old id payloads (reading.Bytes bytes) new =
+    CompletesOn rules old id payloads (reading.Bytes bytes) (verdict.Bytes bytes) new
+ReadsOn rules old id payloads reading.Reject new =
+    CompletesOn rules old id payloads reading.Reject verdict.Reject new
+ReadsOn rules old id payloads word new = rules.Reads id payloads word None × (new ≡ old)
 
 -- one that ends in a collision
-pub data CollidesOn (r : Rules) (old : World) (id : BlobId)
+pub data CollidesOn (rules : Rules) (old : World) (id : BlobId)
     (payloads : List (List ℕ)) : Type 0 where
-  both_metadata : r.HasTwoMetadata id payloads → CollidesOn r old id payloads
+  both_metadata : rules.HasTwoMetadata id payloads → CollidesOn rules old id payloads
   another_answer : (word : ReadWord) (told : Verdict) (evidence : Evidence)
-      → r.Reads id payloads word (Some evidence) → told_by word ≡ Some told
-      → Differs old.answers id told → CollidesOn r old id payloads
+      → rules.Reads id payloads word (Some evidence) → told_by word ≡ Some told
+      → Differs old.answers id told → CollidesOn rules old id payloads

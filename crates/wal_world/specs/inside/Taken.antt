@@ -11,7 +11,8 @@ use Rattle.wal_world.specs.declared.taken.Taken.TheVariants as taken
 -- a word of which this is true, or two texts with one digest, of which that is
 abbrev pub IsTaken : {W : Type 0} → (List ℕ → List ℕ) → (W → Type 0) → Type 0 → Taken W → Type 0
 IsTaken digest Says Collides (taken.Word word) = Says word
-IsTaken digest Says Collides (taken.Collision c) = IsCollision digest c.left c.right × Collides
+IsTaken digest Says Collides (taken.Collision collision) =
+    IsCollision digest collision.left collision.right × Collides
 
 -- a shard without a limit, for which there is memory, answered
 abbrev pub IsAnswered : PutAnswer → Type 0
@@ -26,6 +27,6 @@ Tells putting.Held (taken.Word sending.Held) = ⊤
 Tells putting.Unregistered (taken.Word sending.Unregistered) = ⊤
 Tells putting.NoMetadata (taken.Word sending.NoMetadata) = ⊤
 Tells putting.Unverified (taken.Word sending.Unverified) = ⊤
-Tells (putting.OtherMetadata clash) (taken.Collision c) =
-    (c.left ≡ clash.left) × (c.right ≡ clash.right)
+Tells (putting.OtherMetadata clash) (taken.Collision collision) =
+    (collision.left ≡ clash.left) × (collision.right ≡ clash.right)
 Tells _ _ = ⊥

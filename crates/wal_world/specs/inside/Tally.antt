@@ -14,13 +14,13 @@ use Rattle.wal_world.specs.Summary.{certified_in, bytes_in, sliver_in, holders_i
 use Rattle.wal_world.specs.declared.tally.Tally.{Tally}
 
 -- the tally of these lines
-pub record IsTally (lines : List Line) (t : Tally) : Type 0 where
-  pub events : t.events ≡ length lines
-  pub certified : IsFromIterResult id_cmp (filter_map certified_in lines) t.certified
-  pub reads : t.reads ≡ length (filter_map bytes_in lines)
-  pub bytes : t.bytes ≡ min (sum_by length (filter_map bytes_in lines)) (2 ^ 64 - 1)
-  pub recovered : t.recovered ≡ length (filter_map sliver_in lines)
-  pub least_holders : t.least_holders ≡ reduce min (filter_map holders_in lines)
+pub record IsTally (lines : List Line) (tally : Tally) : Type 0 where
+  pub events : tally.events ≡ length lines
+  pub certified : IsFromIterResult id_cmp (filter_map certified_in lines) tally.certified
+  pub reads : tally.reads ≡ length (filter_map bytes_in lines)
+  pub bytes : tally.bytes ≡ min (sum_by length (filter_map bytes_in lines)) (2 ^ 64 - 1)
+  pub recovered : tally.recovered ≡ length (filter_map sliver_in lines)
+  pub least_holders : tally.least_holders ≡ reduce min (filter_map holders_in lines)
 
 -- one more line was counted
 abbrev pub Counts : Line → Tally → Tally → Type 0
@@ -33,9 +33,9 @@ collision_in (line.Collision left right) = Some (record { left = left; right = r
 collision_in _ = None
 
 -- an event was taken, and its line counted
-pub record IsTallied (r : Rules) (old : World) (event : Event) (new : World)
-    (before after : Tally) (o : Option Collision) : Type 0 where
+pub record IsTallied (rules : Rules) (old : World) (event : Event) (new : World)
+    (before after : Tally) (collided : Option Collision) : Type 0 where
   pub said : Line
-  pub step : Steps r old event said new
+  pub step : Steps rules old event said new
   pub counts : Counts said before after
-  pub collision : collision_in said ≡ o
+  pub collision : collision_in said ≡ collided

@@ -30,14 +30,15 @@ pub record IsWorld {H : Type 0} (digest : List ℕ → List ℕ)
 abbrev log_code : Coded Log
 log_code =
     code_by LedgerState ledger.the_row.coded
-    (λ l. record { log = l; spare = 0 }) (λ s. s.log) (λ _. refl)
+    (λ kept. record { log = kept; spare = 0 }) (λ serving. serving.log) (λ _. refl)
 
 -- a committee is stored as the pair of its lists
 abbrev committee_code : Coded Committee
 committee_code =
     code_by (List ℕ × List Contents)
     (coded× (coded_list coded_ℕ) (coded_list (finmap.code id_code parts_code)))
-    (λ c. (c.faulty, c.shards)) (λ t. record { faulty = t.0; shards = t.1 }) (λ _. refl)
+    (λ collision. (collision.faulty, collision.shards))
+    (λ tuple. record { faulty = tuple.0; shards = tuple.1 }) (λ _. refl)
 
 -- a state is stored as the tuple of its parts
 abbrev state_code : Coded World
@@ -45,14 +46,14 @@ state_code =
     code_by (Format × (Log × (Committee × (Committee × (Bool × finmap.FinMap id_cmp First)))))
     (coded× format.the_row.coded (coded× log_code (coded× committee_code
     (coded× committee_code (coded× coded_bool (finmap.code id_code first.the_row.coded))))))
-    (λ w. (w.format, (w.log, (w.now, (w.next, (w.few, w.answers))))))
-    (λ t. record {
-      format = t.0;
-      log = t.1.0;
-      now = t.1.1.0;
-      next = t.1.1.1.0;
-      few = t.1.1.1.1.0;
-      answers = t.1.1.1.1.1;
+    (λ world. (world.format, (world.log, (world.now, (world.next, (world.few, world.answers))))))
+    (λ tuple. record {
+      format = tuple.0;
+      log = tuple.1.0;
+      now = tuple.1.1.0;
+      next = tuple.1.1.1.0;
+      few = tuple.1.1.1.1.0;
+      answers = tuple.1.1.1.1.1;
     })
     (λ _. refl)
 
@@ -61,5 +62,6 @@ abbrev pub world_code : Coded WorldState
 world_code =
     code_by (World × (ℕ × (Bool × Bool)))
     (coded× state_code (coded× coded_ℕ (coded× coded_bool coded_bool)))
-    (λ w. (w.state, (w.room, (w.dead, w.ended))))
-    (λ t. record { state = t.0; room = t.1.0; dead = t.1.1.0; ended = t.1.1.1 }) (λ _. refl)
+    (λ world. (world.state, (world.room, (world.dead, world.ended))))
+    (λ tuple. record { state = tuple.0; room = tuple.1.0; dead = tuple.1.1.0; ended = tuple.1.1.1 })
+    (λ _. refl)

@@ -5,7 +5,12 @@ use Rattle.wal_commit.specs.Identifier.{Commits}
 use Rattle.wal_writer.specs.Message.{Written}
 
 -- the matrix has the metadata's shape, and the identifier commits the metadata
-pub record IsWritten (digest : List ℕ → List ℕ) (shape : BlobShape) (w : Written) : Type 0 where
+pub record IsWritten (digest : List ℕ → List ℕ)
+    (shape : BlobShape) (written : Written) : Type 0 where
   pub shape_is : shape
-      ≡ record { format = w.metadata.format; f = w.metadata.f; length = w.metadata.length }
-  pub commits : Commits digest w.id.0 w.metadata
+      ≡ record {
+        format = written.metadata.format;
+        f = written.metadata.f;
+        length = written.metadata.length;
+      }
+  pub commits : Commits digest written.id.0 written.metadata

@@ -9,7 +9,7 @@ use Rattle.wal_words.specs.declared.task.WholeTask.TheVariants.{Challenge, Check
 abbrev pub WholeInRange : WholeTask → Type 0
 WholeInRange (Encode f format) = (1 ≤ f) × (f ≤ 333)
 WholeInRange (Image size) = size ≤ 134217728
-WholeInRange (Verify a) = a.count ≤ 1000
+WholeInRange (Verify audit) = audit.count ≤ 1000
 WholeInRange (Identify f format) = Unit {0}
 WholeInRange (Recover id axis index) = Unit {0}
 WholeInRange (Check id) = Unit {0}
@@ -17,7 +17,7 @@ WholeInRange Replay = Unit {0}
 WholeInRange Unpack = Unit {0}
 WholeInRange (Bundle f) = Unit {0}
 WholeInRange (Member id k) = Unit {0}
-WholeInRange (Challenge a) = 1 ≤ a.count
+WholeInRange (Challenge audit) = 1 ≤ audit.count
 WholeInRange (Gateway capacity) = Unit {0}
 
 -- of any
