@@ -142,6 +142,30 @@ class Impatient(KeptCase):
             self.assertEqual((view.ledger.epoch, view.ledger.past), (1, {}))
 
 
+class Short(unittest.IsolatedAsyncioTestCase):
+    async def test_where_epochs_are_short_nobody_delays_for_ever_what_is_dropped(self) -> None:
+        """One node is never past an epoch, and each epoch takes a third of the patience."""
+        memory, now = Memory(), [0.0]
+        made = recorder.Recorder(memory)
+        self.addCleanup(made.state.close)
+        self.enterContext(mock.patch.object(keeping.time, "time", lambda: now[0]))
+        keeper = Keeper(made, 30.0)
+        await made.catch_up()
+        for epoch in range(10):
+            texts = [*(turn(epoch) if epoch else [FOUNDED]), registration("publisher", epoch, 99)]
+            for text in [*texts, *(entry_key(it, "past", epoch) for it in NODES[:3])]:
+                said = made.post([text])
+                await made.append()
+                self.assertIsInstance((await said)[0], int)
+            for _ in range(2):
+                await keeper.look()
+            now[0] += 10.0
+        marks = [(it.epoch, it.dropped) for it in memory.marked]
+        self.assertEqual(marks, [(1, False), (1, True), (5, False), (5, True), (9, False)])
+        before, last = memory.marked[-2].place, memory.marked[-1].place
+        self.assertEqual((min(memory.kept), {place for place, _ in memory.pieces}), (before + 1, {before, last}))
+
+
 class Steps(unittest.IsolatedAsyncioTestCase):
     """Keepers over an etcd in memory, each call of which fails in turn, with recorders that end at any step. Some have
     their state in files."""

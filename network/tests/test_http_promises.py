@@ -11,7 +11,7 @@ from unittest import mock
 
 from folder_case import tar_of
 from guard_case import GuardCase
-from walrus.network import gathering, listing
+from walrus.network import commands, gathering, listing
 from walrus.network.ledger import OPERATOR, entry_key
 from walrus.network.page import numbers
 
@@ -80,6 +80,23 @@ class Lists(GuardCase):
         self.assertEqual(([it["blobId"] for it in told["blobs"]], told["next"]), (soon[3:], None))
         for words in ("within=0", "within=x", "within=", "after=x", f"after={'A' * 64}", "before=1"):
             self.assertEqual((await self.ask("GET", f"/v1/blobs?{words}"))[0], 400, words)
+
+    async def plan(self, *fields: int) -> None:
+        place = await self.operator.post(entry_key(OPERATOR, "calendar", *fields))
+        self.assertTrue(await self.network.until(lambda it: it.revision >= place))
+        self.gateway.watch.told = (-1.0, b"")
+
+    async def test_what_ends_after_the_last_year_is_told_without_a_date(self) -> None:
+        await self.start()
+        await self.network.register(bytes(32), 65_536)  # as anybody may
+        await self.plan(0, 29_900_000, 90 * 1_440)
+        for path, name in (("/v1/status", "recent"), ("/v1/blobs", "blobs")):
+            status, _, told = await self.ask("GET", path)
+            self.assertEqual((status, [it["ends"] for it in told[name]]), (200, [None]), path)
+        await self.plan(65_535, 0, 99_999_999)  # by which the next epoch begins long before the first year
+        status, _, told = await self.ask("GET", "/v1/status")
+        self.assertEqual((status, told["calendar"]["next"]), (200, None))
+        self.assertNotIn("planned", commands.tell_status(told))
 
 
 class Known(GuardCase):

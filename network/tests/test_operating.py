@@ -102,6 +102,26 @@ class Handover(LedgerCase):
             self.assertIn("epoch 1 is not reached" if begins else "nothing was begun", said)
             self.assertEqual(await self.epoch_begins(), begins)
 
+    async def finish(self, epoch: int) -> None:
+        """What nodes do for a handover that has begun."""
+        async with self.following(self.user("publisher")) as view:
+            self.assertTrue(await view.until(lambda it: it.moving))
+        for text in [*(entry_key(it, "ready", epoch) for it in NODES[:3]), entry_key("node-0", "finish", epoch)]:
+            await self.user(text.partition("/")[0]).post(text)
+
+    async def test_before_nodes_without_shards_are_removed_a_snapshot_is_asked_for(self) -> None:
+        for name in (*NODES, "node-4"):
+            await self.node(name)
+        words = {"json": False, "force": False, "yes": True, "concentrated": False, "seconds": 30}
+        snapshot = "; take a snapshot of the ledger before you remove nodes without shards (network/OPERATING.md)"
+        for epoch, owners, more in ((1, NODES, ""), (2, [*NODES[:3], "node-4"], snapshot)):
+            told, said = argparse.Namespace(folder=self.folder, owners=owners, **words), io.StringIO()
+            async with asyncio.TaskGroup() as group:
+                group.create_task(self.finish(epoch))
+                with contextlib.redirect_stdout(said):
+                    self.assertEqual(await operating.hand_over(told), 0)
+            self.assertEqual(said.getvalue().splitlines()[-1], f"epoch {epoch} has begun{more}")
+
     async def test_the_plan_of_a_network_begins_its_first_epoch_once_its_nodes_answer(self) -> None:
         said = await self.begin({"node-0": ["alpha", 1, 4]})
         self.assertIn("epoch 0 has begun before", said)

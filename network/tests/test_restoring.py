@@ -10,7 +10,7 @@ from typing import Any
 from unittest import mock
 
 from ledger_case import FOUNDED, FOUR, LedgerCase, Memory, registration
-from walrus.network.entries import ACK, Chain, Entry, entry_key
+from walrus.network.entries import ACK, OPERATOR, Chain, Entry, entry_key
 from walrus.network.etcd import Batch, Failed
 from walrus.network.follower import View
 from walrus.network.recorder import Broken, Recorder
@@ -44,8 +44,11 @@ class Agreed(unittest.IsolatedAsyncioTestCase):
         ):
             service.tails = {name: list(tail) for name, tail in zip(NODES, told)}
             self.assertEqual("".join(service.agreed()), agreed, told)
+        service.hears("publisher", [])
         service.hears("stranger", ["a"])
         self.assertNotIn("stranger", service.tails)
+        service.short = {"node-0": 9, "late": 9}
+        self.assertEqual(service.unbelieved(), ["late", "stranger"])
         service.tails.clear()
         made.state.chain = Chain(1, b"all up to there")
         told = {"after": 1, "entries": ["a"]}
@@ -71,7 +74,7 @@ class Restored(LedgerCase):
 
     async def asyncSetUp(self) -> None:
         await super().asyncSetUp()
-        self.views = dict[str, View]()
+        self.views, self.tasks = dict[str, View](), dict[str, "asyncio.Task[None]"]()
         for name in NODES:
             await self.newcomer(name)
             self.follow(name)
@@ -80,7 +83,7 @@ class Restored(LedgerCase):
         """Has a node follow, over what it has on its disk."""
         state = (Liar if name == "node-3" else State)(str(self.folder / f"{name}.ledger"), 2)
         self.views[name] = view = View(self.user(name), state)
-        task = asyncio.create_task(view.follow())
+        self.tasks[name] = task = asyncio.create_task(view.follow())
         self.addCleanup(state.close)
         self.addCleanup(task.cancel)
 
@@ -111,13 +114,14 @@ class Restored(LedgerCase):
         self.etcdctl("snapshot", "restore", "snapshot", *words, f"--initial-advertise-peer-urls={peer}")
         await self.local.start_etcd()
 
-    async def restore(self) -> str:
+    async def restore(self, status: int = 0) -> str:
         words = [sys.executable, "-m", "walrus.network", "restore", str(self.folder / "recorder-0.toml")]
         path = os.pathsep.join(sys.path)
         pipe: dict[str, Any] = {"stdout": subprocess.PIPE, "stderr": subprocess.STDOUT}
         environment = {**os.environ, "PYTHONPATH": path}
         ran = await asyncio.create_subprocess_exec(*words, "--seconds", "10", **pipe, env=environment)
         said, _ = await asyncio.wait_for(ran.communicate(), 60)
+        self.assertEqual(ran.returncode, status, said)
         return said.decode()
 
     async def test_all_that_was_uploaded_behind_a_snapshot_is_back(self) -> None:
@@ -152,10 +156,28 @@ class Restored(LedgerCase):
                     await stray.catch_up()
                 await asyncio.sleep(0.1)
         self.assertTrue(await stray.step(Batch(stray.chain, [registration("stray", 99)])))
-        said = await self.restore()
+        said = await self.restore(1)
         self.assertRegex(said, f"not restored: etcd has other entries up to place {stray.chain.place} than the nodes")
         self.assertTrue(await stray.step())  # it ends there still
         self.assertEqual([it.lost for it in self.views.values()], [None] * 4)
+
+    async def test_where_all_nodes_are_others_than_at_the_snapshot_that_is_said(self) -> None:
+        self.etcdctl("snapshot", "save", "snapshot")
+        later = [f"node-{number}" for number in range(4, 8)]
+        for name in later:
+            await self.newcomer(name)
+            self.follow(name)
+        await self.operator.post(entry_key(OPERATOR, "begin", 1, 1, ",".join(later)))
+        for text in [*(entry_key(it, "ready", 1) for it in later[:3]), entry_key(later[0], "finish", 1)]:
+            await self.views[text.partition("/")[0]].recorders.post(text)
+        for name in later:
+            self.assertTrue(await self.views[name].until(lambda it: it.epoch == 1))
+        for name in NODES:  # they are removed
+            self.tasks[name].cancel()
+        await self.fall_back()
+        said = await self.restore(1)
+        self.assertIn("node-0 was not heard at the end\n", said)
+        self.assertRegex(said, f"0 entries are back; .*\n{', '.join(later)} heard more than the snapshot has, ")
 
 
 if __name__ == "__main__":

@@ -62,7 +62,8 @@ def tell_figures(told: dict[str, dict[str, float]]) -> list[str]:
 
 def tell_status(told: dict[str, Any]) -> str:
     moving = f", moving to the next, {told['ready']} of {told['quorum']} shards ready" if told["moving"] else ""
-    moving += f", the next planned for {told['calendar']['next']}" if told.get("calendar") else ""
+    following = (told.get("calendar") or {}).get("next")
+    moving += f", the next planned for {following}" if following else ""
     lines = [f"epoch {told['epoch']}{moving}; " + ", ".join(f"{count} {it}" for it, count in told["blobs"].items())]
     if told["ledger"]["stale"]:
         lines.append(f"the ledger is away for {told['ledger']['away']:.0f} s: {told['ledger']['said']}")

@@ -20,11 +20,16 @@ def seconds_of(text: str) -> int:
 
 
 def date_of(ledger: Ledger, epoch: int) -> Optional[str]:
-    """When an epoch is planned to begin."""
+    """When an epoch is planned to begin; nothing without a plan, or if the plan leads beyond the year 9999, as that of
+    the last epoch may, until which anybody may register a blob."""
     minute = ledger.planned(epoch)
     if minute is None:
         return None
-    return (datetime.datetime(1970, 1, 1) + datetime.timedelta(minutes=minute)).strftime("%Y-%m-%dT%H:%MZ")
+    try:
+        date = datetime.datetime(1970, 1, 1) + datetime.timedelta(minutes=minute)
+    except OverflowError:
+        return None
+    return date.strftime("%Y-%m-%dT%H:%MZ")
 
 
 def calendar_of(ledger: Ledger) -> Optional[dict[str, Any]]:

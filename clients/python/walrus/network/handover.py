@@ -6,7 +6,8 @@ from typing import TYPE_CHECKING, Any, Iterable, Optional
 
 from .. import client
 
-from .ledger import ACK, ATTEST, entry_key
+from .follower import Refused
+from .ledger import ACK, ADDRESS, ATTEST, PAST, entry_key
 from .recovery import Lack, by_lanes, passing, settle
 
 if TYPE_CHECKING:
@@ -14,6 +15,7 @@ if TYPE_CHECKING:
 
 TOLD = 10  # blobs that are named where many are lacking
 SOON, LATEST = 0.5, 10.0  # seconds until what was lost is tried anew
+LATER = 60.0  # seconds until an address that was refused is told again
 
 
 async def survey(node: "Node") -> tuple[dict[int, dict[bytes, bool]], list[bytes]]:
@@ -94,6 +96,34 @@ async def acknowledge(node: "Node", identifiers: Iterable[bytes]) -> None:
             await node.vouch(ACK, shard, client.write_frame(client.Ack(identifier)))
 
     await by_lanes(node, [Lack(shard, it) for shard in [*side.values()][:1] for it in identifiers], vouch)
+
+
+async def tell_address(node: "Node", host: str, port: str) -> None:
+    """Tells the ledger where this node is reached. A refusal, such as of a share that is used up, does not end what
+    holds blobs: others ask where the ledger says already, and it is told again until it is taken. Who is expelled ends,
+    as it hears nothing more."""
+    said = ""
+    while True:
+        try:
+            await node.recorders.post(entry_key(node.name, ADDRESS, host, port), None)
+            return
+        except Refused as fault:
+            if str(fault) != said:
+                said = str(fault)
+                text = f"the ledger does not take the address {host}:{port}, so the one that it has stays: {said}"
+                print(f"{node.name}: {text}; it is told again later", file=sys.stderr, flush=True)
+        await asyncio.sleep(LATER)
+
+
+async def tell_past(node: "Node") -> None:
+    """Tells the ledger each epoch that is on the disk here, so that what was before may go."""
+    name, ledger = node.name, node.ledger
+    while True:
+        await node.until(lambda it: name in it.nodes and it.past.get(name, 0) < it.epoch, None)
+        try:
+            await node.recorders.post(entry_key(name, PAST, ledger.epoch), None)
+        except Refused:
+            await asyncio.sleep(1)  # the epoch changes just now
 
 
 async def hand_over(node: "Node") -> None:

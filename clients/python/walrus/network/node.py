@@ -22,7 +22,7 @@ from .groups import first_of
 from .intake import Intake
 from .judge import PARTS, Busy, Clash, Judges, Room
 from .entries import LAST_EPOCH
-from .ledger import ACK, ADDRESS, ATTEST, PAST, REGISTER, Entry, entry_key
+from .ledger import ACK, ATTEST, REGISTER, Entry, entry_key
 from .notify import ready
 from .peers import Peers
 from .recovery import Progress, passing, settle
@@ -70,12 +70,10 @@ class Node(View):
             print(f"{self.name}: the ledger is away; this serves what is on the disk", file=sys.stderr, flush=True)
         context = ssl.create_default_context(ssl.Purpose.CLIENT_AUTH)
         context.load_cert_chain(self.settings.certificate, self.settings.key)
-        host = self.settings.host
-        port = await self.port.listen(host, self.settings.port, context)
-        address = (self.settings.announced or f"{host}:{port}").rpartition(":")[::2]
-        tell = self.recorders.post(entry_key(self.name, ADDRESS, *address), None)
-        owed = handover.hand_over(self), handover.heal(self), self.mend(), self.tell_past()
-        for work in (*owed, self.scrub.run(), self.scrub.sweep_always(), tell):
+        port = await self.port.listen(self.settings.host, self.settings.port, context)
+        told = handover.tell_address(self, *self.settings.reached(port)), handover.tell_past(self)
+        owed = handover.hand_over(self), handover.heal(self), self.mend()
+        for work in (*owed, self.scrub.run(), self.scrub.sweep_always(), *told):
             self.tasks.append(asyncio.create_task(self.watched(work)))
         if self.settings.metrics:
             from . import metrics  # here alone: other nodes do not load it
@@ -94,16 +92,6 @@ class Node(View):
         """Ends the node: as it was told, or as it must."""
         if not self.failed.done():
             self.failed.set_exception(first_of(fault)) if fault else self.failed.set_result(None)
-
-    async def tell_past(self) -> None:
-        """Tells the ledger each epoch that is on the disk here, so that what was before may go."""
-        name, ledger = self.name, self.ledger
-        while True:
-            await self.until(lambda it: name in it.nodes and it.past.get(name, 0) < it.epoch, None)
-            try:
-                await self.recorders.post(entry_key(name, PAST, ledger.epoch), None)
-            except Refused:
-                await asyncio.sleep(1)  # the epoch changes just now
 
     async def mend(self) -> None:
         """Recovers at once what was found to be wrong on the disk."""

@@ -17,6 +17,7 @@ from .peers import SCRUB, Seat
 from .transfers import Failure
 
 NAMED = 20  # blobs that are named where many end
+SNAPSHOT = "; take a snapshot of the ledger before you remove nodes without shards (network/OPERATING.md)"
 
 
 def shards_of(words: list[str]) -> list[str]:
@@ -88,6 +89,7 @@ async def hand_over(words: argparse.Namespace) -> int:
         if sorted(owners) != sorted(ledger.now) and not words.concentrated:
             must_be_equal(network, owners, ledger.faults)
         ended = [it.hex() for it in ledger.blobs.ending(b"", epoch, len(ledger.blobs))]
+        leave = {*ledger.now} - {*owners}
         if not words.json:
             tell_of(network, owners, ended)
         must_agree(f"begin epoch {epoch}?", words)
@@ -97,7 +99,8 @@ async def hand_over(words: argparse.Namespace) -> int:
             cause = network.away_since(begun) or "look at its nodes' logs"
             raise Failure(f"epoch {epoch} is not reached after {words.seconds:g} s: {cause}", 1)
         told = {"epoch": epoch, "nodes": owners, "ended": ended}
-        print(json.dumps(told) if words.json else f"epoch {epoch} has begun")
+        text = f"epoch {epoch} has begun" + (SNAPSHOT if leave else "")
+        print(json.dumps(told) if words.json else text)
     return 0
 
 

@@ -18,6 +18,8 @@ from .settings import RecorderSettings
 NOTHING = "the ledger is being restored: nothing is taken, and nothing told"
 OTHER = "etcd has other entries up to place {} than the nodes have heard, as a recorder has run over it meanwhile: "
 OTHER += "stop all recorders, and restore the snapshot at all members of etcd once more (network/OPERATING.md)"
+STRANGE = "{} heard more than the snapshot has, but had no shards in it, so nothing of that is believed: "
+STRANGE += "restore a later snapshot, or start the nodes that had shards then and restore again (network/OPERATING.md)"
 
 
 class Restoring(Service):
@@ -28,6 +30,7 @@ class Restoring(Service):
         self.tails: dict[str, list[str]] = {}  # what each node has behind the ledger's end, or a piece of it
         self.short: dict[str, int] = {}  # nodes that have not kept what comes next, and from where on they have
         self.others = set[str]()  # nodes that have heard another ledger up to that end
+        self.strangers = set[str]()  # who has told a tail, and had no shards up to that end
         self.told, self.progress = asyncio.Event(), time.monotonic()
 
     def routes(self) -> list[web.RouteDef]:
@@ -61,6 +64,12 @@ class Restoring(Service):
         if name in self.recorder.ledger.nodes:
             self.tails[name] = tail
             self.told.set()
+        elif tail:
+            self.strangers.add(name)
+
+    def unbelieved(self) -> list[str]:
+        """Who has heard more, and has no shards up to the ledger's end."""
+        return sorted((self.strangers | {*self.short}) - {*self.recorder.ledger.nodes})
 
     def enough(self, names: list[str]) -> bool:
         """Whether one of these nodes at least is correct."""
@@ -119,7 +128,10 @@ async def serve(settings: RecorderSettings, seconds: float) -> int:
             elif name not in service.tails:
                 first = service.short.get(name)
                 print(f"{name} {f'has kept nothing before place {first}' if first else 'was not heard at the end'}")
-        print(f"{count or 0} entries are back; the ledger ends at place {recorder.chain.place}")
+        print(f"{count or 0} entries are back; the ledger ends at place {recorder.chain.place}", flush=True)
+        if not count and (strangers := service.unbelieved()):
+            print(STRANGE.format(", ".join(strangers)), file=sys.stderr)
+            return 1
         return 0 if count is not None else 1
     except (Broken, Failed, OSError) as fault:
         print(f"the ledger is not restored: {fault}", file=sys.stderr)

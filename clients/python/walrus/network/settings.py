@@ -37,6 +37,12 @@ class Settings:
     def read(cls, path: pathlib.Path) -> "Settings":
         return settings_of(cls, path)
 
+    def reached(self, port: int) -> tuple[str, str]:
+        """The host and the port that the ledger is told of a node that listens at this port: an IPv6 address has no
+        brackets there."""
+        host, _, told = (self.announced or f"{self.host}:{port}").rpartition(":")
+        return host.strip("[]"), told
+
 
 @dataclasses.dataclass
 class RecorderSettings:

@@ -99,7 +99,7 @@ function awayOf(ledger) {
 function show(status) {
   const silent = status.nodes.filter((it) => it.state === "silent").length;
   const nodes = `${status.nodes.length - silent} of ${status.nodes.length} nodes answer`;
-  const planned = status.calendar ? `, planned until ${status.calendar.next.slice(0, 10)}` : "";
+  const planned = status.calendar?.next ? `, planned until ${status.calendar.next.slice(0, 10)}` : "";
   tell("summary", `Epoch ${status.epoch}${planned}, ${status.shards} shards of which ${status.faults} may fail; ${nodes}.`);
   const plan = status.calendar, over = plan ? (Date.now() / 1000 - plan.since) / plan.seconds - (status.epoch - plan.epoch) : 0;
   at("epoch").hidden = !plan || status.moving;
