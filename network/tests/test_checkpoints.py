@@ -157,7 +157,7 @@ class Short(unittest.IsolatedAsyncioTestCase):
                 said = made.post([text])
                 await made.append()
                 self.assertIsInstance((await said)[0], int)
-            for _ in range(2):
+            for _ in range(3):
                 await keeper.look()
             now[0] += 10.0
         marks = [(it.epoch, it.dropped) for it in memory.marked]

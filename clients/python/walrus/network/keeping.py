@@ -38,19 +38,19 @@ class Keeper:
                 self.said = str(fault)
 
     async def look(self) -> None:
-        """Does what is to be done now. While a checkpoint waits for nodes, no other one is written: the wait would begin
+        """Does what is to be done now. While a checkpoint waits for nodes no other one is written: the wait would begin
         anew at each turn of the epoch, and not end where epochs are shorter than `patience`."""
         recorder, mark = self.recorder, await self.etcd.mark()
         now = time.monotonic()
         if mark and not mark.dropped:
             if self.is_over(mark):
                 await self.etcd.put_mark(mark._replace(dropped=True), mark)
-        elif recorder.ledger.epoch > (mark.epoch if mark else 0) and now > recorder.turned and recorder.state.settle():
-            await self.write(mark)
-        if mark and mark.dropped and mark.place > self.dropped:
+        elif mark and mark.place > self.dropped:
             await self.etcd.drop(mark)  # each recorder does so, as who has put the mark may have ended behind it
             await recorder.state.forget_places(mark.place)
             self.dropped = mark.place
+        elif recorder.ledger.epoch > (mark.epoch if mark else 0) and now > recorder.turned and recorder.state.settle():
+            await self.write(mark)
         if now > recorder.appended + IDLE:
             size, used = await self.etcd.sizes()
             if size - used > max(SLACK, used):
