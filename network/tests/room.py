@@ -52,7 +52,7 @@ def lacking() -> str:
     if os.getuid():
         return "root"
     names = [it for it in ("ip", "unshare", "nsenter", "etcd", "etcdctl") if shutil.which(it) is None]
-    files = ["/lib/systemd/systemd", "/dev/net/tun"]
+    files = ["/lib/systemd/systemd", "/lib/systemd/system/etcd.service", "/dev/net/tun"]
     names += [it for it in files if not pathlib.Path(it).exists()]
     names += [] if "overlay" in pathlib.Path("/proc/filesystems").read_text() else ["overlayfs"]
     names += [] if any(map(may_group, CGROUPS)) else ["a second version of cgroups to make groups in"]

@@ -75,6 +75,15 @@ class Handover(LedgerCase):
         self.assertIn("NODE*SHARDS", await self.hand_over("a,b", *NODES[:3]))
         self.assertFalse(await self.epoch_begins())
 
+    async def test_a_node_that_was_expelled_gets_no_shard_though_it_answers(self) -> None:
+        for name in NODES:
+            await self.node(name)
+        await self.operator.post(entry_key(OPERATOR, "expel", "node-3"))
+        for owners in ((), NODES):  # it has a shard by now
+            said = await self.hand_over(*owners, force=True)
+            self.assertRegex(said, "^node-3 would hold shards, but was expelled, .*; nothing was begun$")
+        self.assertFalse(await self.epoch_begins())
+
     async def test_a_machine_with_more_than_f_shards_needs_a_word(self) -> None:
         for name in NODES:
             await self.node(name)

@@ -47,7 +47,7 @@ class Pages(unittest.TestCase):
                 words = ["systemd-analyze", "security", "--offline=yes", "--threshold=15", unit]  # 1.5 of 10
                 self.assertEqual(subprocess.run(words, capture_output=True).returncode, 0, unit)
 
-    def test_an_install_leaves_no_service_of_debian_enabled(self) -> None:
+    def test_an_install_leaves_no_service_of_debian_enabled_or_running(self) -> None:
         with tempfile.TemporaryDirectory() as made:
             folder = pathlib.Path(made)
             for name, text in (
@@ -55,7 +55,8 @@ class Pages(unittest.TestCase):
                 ("apt-get", f"touch {folder}/enabled"),
                 (
                     "systemctl",
-                    f"case $1 in is-enabled) ls {folder} | grep -x enabled;; disable) rm {folder}/enabled;; esac",
+                    f"cd {folder}\ncase $1 in is-enabled) ls | grep -x enabled;; is-active) test -e running;;"
+                    " disable) rm enabled;; stop) rm running;; esac",
                 ),
             ):
                 (folder / name).write_text(f"#!/bin/sh\n{text}\n")
@@ -66,12 +67,18 @@ class Pages(unittest.TestCase):
                     break  # it would say that the package's services are not to be started
                 if was:
                     (folder / "enabled").touch()
+                    (folder / "running").touch()
                 if not installed:
                     (folder / "dpkg-query").write_text("#!/bin/sh\n")
                 ran = subprocess.run(words, capture_output=True, text=True, env=variables)
                 self.assertEqual((ran.returncode, ran.stderr), (0, ""))
                 self.assertEqual("etcd.service of Debian is disabled" in ran.stdout, was or not installed)
-                self.assertFalse((folder / "enabled").exists())
+                self.assertEqual([it for it in ("enabled", "running") if (folder / it).exists()], [])
+
+    def test_systemd_starts_a_service_again_however_often_it_failed(self) -> None:
+        for path in (harness.HERE.parent / "units").glob("*.service"):
+            self.assertRegex(path.read_text(), r"(?m)^StartLimitIntervalSec=0$", path.name)
+            self.assertRegex(path.read_text(), r"(?m)^Restart=(always|on-failure)$", path.name)
 
     def test_no_page_ends_processes_by_a_broad_name(self) -> None:
         pages = [*harness.HERE.parent.glob("*.md"), *(harness.HERE.parents[1] / "docs").glob("*.md")]

@@ -2,6 +2,7 @@
 import os
 import pathlib
 import re
+import stat
 from typing import Any
 
 from . import certificates
@@ -26,7 +27,7 @@ def check(path: pathlib.Path) -> tuple[str, list[str], list[str]]:
     told = {**values, **{it: located(path, values[it]) for it in kind.paths if isinstance(values.get(it), str)}}
     if faults:
         return role, faults, []
-    faults += faults_of_places(told) + faults_of_files(told)
+    faults += faults_of_places(told) + faults_of_files(told) + faults_of_keys(told)
     pairs = [("authority", "certificate", "key", told["name"])]
     pairs += [("etcd_authority", "etcd_certificate", "etcd_key", None)] if "etcd" in told else []
     soon = []
@@ -72,3 +73,17 @@ def faults_of_files(told: dict[str, Any]) -> list[str]:
             if not os.access(kept, os.W_OK) or not kept.is_dir():
                 faults.append(f"{name}: {kept} takes no files")
     return faults
+
+
+def faults_of_keys(told: dict[str, Any]) -> list[str]:
+    """Which keys anyone on this machine may read, as they come from a stick that keeps no modes."""
+    keys = [pathlib.Path(told[it]) for it in ("key", "etcd_key", "tls_key") if told.get(it)]
+    return [f"anyone on this machine may read {it}: chmod 600 {it}" for it in keys if is_open(it)]
+
+
+def is_open(path: pathlib.Path) -> bool:
+    """Whether others than the owner of a file and its group may use it."""
+    try:
+        return bool(path.stat().st_mode & stat.S_IRWXO)
+    except OSError:  # that it is not there is told elsewhere
+        return False

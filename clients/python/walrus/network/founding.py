@@ -9,6 +9,7 @@ import shutil
 from typing import Any, Iterable, Sequence
 
 from . import TOP, certificates
+from .checked import written_whole
 from .entries import LONGEST, MOST_FAULTS, NAME, OPERATOR, entry_key
 from .machine import AUTHORITY, ETCD_AUTHORITY, KEPT, Machine, Place, Unfounded
 
@@ -37,6 +38,18 @@ def must_fit(faults: int, places: Sequence[Place], concentrated: bool) -> None:
             raise Unfounded(f"{text}: use more machines, or say --concentrated")
 
 
+def write_plan(folder: pathlib.Path, plan: dict[str, Any]) -> None:
+    """Writes a plan in place of the one before, which stays if the disk does not take it."""
+    with written_whole(str(folder / PLAN)) as out:
+        out.write(json.dumps(plan, indent=1).encode())
+
+
+def remove_folder(folder: pathlib.Path) -> None:
+    """Removes a folder, where it is not gone already."""
+    if folder.exists():
+        shutil.rmtree(folder)
+
+
 class Founding:
     """The folder of who founds a network: it need not be on any of its machines."""
 
@@ -57,14 +70,13 @@ class Founding:
         folder.mkdir(parents=True, mode=0o700, exist_ok=True)
         for name in (AUTHORITY, ETCD_AUTHORITY):
             certificates.make_authority(folder / name, days)
-        (folder / PLAN).write_text(json.dumps({**plan, "hosts": {}}, indent=1))
+        write_plan(folder, {**plan, "hosts": {}})
         return cls(folder)
 
     def save(self) -> None:
         """Writes the plan, to the folders of users too."""
-        text = json.dumps(self.plan, indent=1)
         for path in [self.folder, *(self.folder / "users").glob("*")]:
-            (path / PLAN).write_text(text)
+            write_plan(path, self.plan)
 
     def machine(self, host: str, *services: str) -> Machine:
         """The machine of a host, which then runs these services too."""
@@ -78,32 +90,36 @@ class Founding:
     def nodes(self) -> list[Place]:
         return [Place(name, *it) for name, it in self.plan["nodes"].items()]
 
-    def must_be_new(self, place: Place) -> None:
-        if place.name in {*self.plan["nodes"], *self.plan["gateways"], *self.plan["users"]}:
-            raise Unfounded(f"{place.name} is there already")
+    def must_be_new(self, name: str) -> None:
+        """Raises where something has a name already, be it in another case, as TLS takes one for the other."""
+        names = [*self.plan["nodes"], *self.plan["gateways"], *self.plan["users"]]
+        if name.lower() in map(str.lower, names):
+            raise Unfounded(f"{name} is there already")
 
     def add_node(self, place: Place) -> None:
-        self.must_be_new(place)
+        self.must_be_new(place.name)
         self.plan["nodes"][place.name] = [place.host, place.port, place.shards]
         self.machine(place.host, f"walrus-node@{place.name}").node(place)
 
     def add_gateway(self, place: Place) -> None:
-        self.must_be_new(place)
+        self.must_be_new(place.name)
         self.plan["gateways"][place.name] = [place.host, place.port]
         self.machine(place.host, f"walrus-gateway@{place.name}").gateway(place)
 
     def add_user(self, name: str) -> None:
         into = self.folder / "users" / name
-        if not NAME.fullmatch(name) or name in KEPT - {OPERATOR} or name in {*self.plan["nodes"], *self.plan["users"]}:
-            raise Unfounded(f"{name} cannot be a user's name, or is there already")
+        if not NAME.fullmatch(name) or name.lower() in KEPT and name != OPERATOR:
+            raise Unfounded(f"{name} cannot be a user's name")
+        self.must_be_new(name)
         self.plan["users"].append(name)
         Machine(self.folder, into, "", "", self.plan).sign(name, name, name)
 
     def remove(self, name: str) -> str:
-        """Forgets a node, a gateway or a user, and its key; where it was."""
+        """Forgets a node, a gateway or a user, and its key; where it was. Its files may be gone already, if the plan
+        was not saved after that."""
         if name in self.plan["users"]:
             self.plan["users"].remove(name)
-            shutil.rmtree(self.folder / "users" / name)
+            remove_folder(self.folder / "users" / name)
             return "users"
         for kind in ("nodes", "gateways"):
             if name in self.plan[kind]:
@@ -113,7 +129,7 @@ class Founding:
                     (self.folder / "hosts" / host / f"{name}.{end}").unlink(missing_ok=True)
                 if not self.plan["hosts"][host]:
                     del self.plan["hosts"][host]
-                    shutil.rmtree(self.folder / "hosts" / host)
+                    remove_folder(self.folder / "hosts" / host)
                 return host
         raise Unfounded(f"{name} is no node, gateway or user of {self.folder}")
 
@@ -149,7 +165,7 @@ def found(folder: pathlib.Path, faults: int, ledger: Sequence[str], nodes: Seque
     if not recorders or len({it.host for it in recorders}) < len(recorders):
         raise Unfounded("name the machines of the ledger, each once: an odd number of them")
     names = [OPERATOR, *words.users, *(it.name for it in [*places, *gateways])]
-    if len({*names}) < len(names):
+    if len({it.lower() for it in names}) < len(names):
         raise Unfounded("each node, gateway and user has a name of its own")
     urls = {
         it.host: [f"https://127.0.0.1:{CLIENTS}", f"https://{dataclasses.replace(it, port=MEMBERS).address}"]

@@ -13,7 +13,8 @@ from .follower import NAME as RECORDER
 from .settings import GatewaySettings, RecorderSettings, Settings
 
 AUTHORITY, ETCD_AUTHORITY = "authority", "etcd-authority"
-KEPT = {OPERATOR, RECORDER, AUTHORITY, ETCD_AUTHORITY, "etcd", "units"}  # names that are no node's
+# Names that are no node's, in upper case either, as TLS takes one for the other.
+KEPT = {OPERATOR, RECORDER, AUTHORITY, ETCD_AUTHORITY, "etcd", "units"}
 PLACE = re.compile(r"(?:([^=]+)=)?(\[[0-9A-Fa-f:.]+\]|[^\[\]:*=]+)(?::(\d{1,5}))?(?:\*(\d{1,4}))?")
 ETCD = """ETCD_NAME={name}
 ETCD_DATA_DIR={state}
@@ -67,7 +68,8 @@ class Place:
             raise Unfounded(
                 f"{text}: a machine cannot be called {RECORDER}, as certificates know recorders by that name"
             )
-        if not NAME.fullmatch(place.name) or place.name in KEPT or not 0 < place.port < 65_536 or not place.shards:
+        named = NAME.fullmatch(place.name) and place.name.lower() not in KEPT
+        if not named or not 0 < place.port < 65_536 or not place.shards:
             raise Unfounded(f"{text} names nothing that can be: {place.name}, port {place.port}, {place.shards} shards")
         return place
 

@@ -42,8 +42,13 @@ def is_loopback(host: str) -> bool:
 
 
 async def must_answer(network: Network, owners: list[str], faults: int, force: bool) -> None:
-    """Raises where a name is not known to the ledger, or a node does not answer with a certificate of its name."""
+    """Raises where a name is expelled, or not known to the ledger, or a node does not answer with a certificate of its
+    name."""
     names = list(dict.fromkeys(owners))
+    expelled = [name for name in names if name in network.ledger.expelled]
+    if expelled:
+        text = f"{' and '.join(expelled)} would hold shards, but was expelled, and nothing that it posts counts"
+        raise Failure(f"{text}: give them to another node; nothing was begun", 1)
     unknown = [name for name in names if name not in network.ledger.addresses]
     if unknown:
         text = f"{' and '.join(unknown)} told the ledger no address"

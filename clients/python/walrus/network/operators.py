@@ -136,9 +136,9 @@ async def remove(words: argparse.Namespace) -> int:
     made = Founding(words.folder)
     for name in words.names:
         where = made.remove(name)
+        made.save()  # before the next name, which may be none
         known = LEAKED if name == OPERATOR else "stop it there; if its key may be known, expel it"
         print(f"{name} is forgotten, which was at {where}: {known}")
-    made.save()
     return 0
 
 
