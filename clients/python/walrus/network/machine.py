@@ -13,7 +13,7 @@ from .follower import NAME as RECORDER
 from .settings import GatewaySettings, RecorderSettings, Settings
 
 AUTHORITY, ETCD_AUTHORITY = "authority", "etcd-authority"
-# Names that are no node's, in upper case either, as TLS takes one for the other.
+# Names that no node may have, in whatever case, as TLS takes one for the other.
 KEPT = {OPERATOR, RECORDER, AUTHORITY, ETCD_AUTHORITY, "etcd", "units"}
 PLACE = re.compile(r"(?:([^=]+)=)?(\[[0-9A-Fa-f:.]+\]|[^\[\]:*=]+)(?::(\d{1,5}))?(?:\*(\d{1,4}))?")
 ETCD = """ETCD_NAME={name}

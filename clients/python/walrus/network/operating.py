@@ -47,7 +47,7 @@ async def must_answer(network: Network, owners: list[str], faults: int, force: b
     names = list(dict.fromkeys(owners))
     expelled = [name for name in names if name in network.ledger.expelled]
     if expelled:
-        text = f"{' and '.join(expelled)} would hold shards, but was expelled, and nothing that it posts counts"
+        text = f"{' and '.join(expelled)} would hold shards, but nothing counts that an expelled name posts"
         raise Failure(f"{text}: give them to another node; nothing was begun", 1)
     unknown = [name for name in names if name not in network.ledger.addresses]
     if unknown:
