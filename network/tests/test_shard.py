@@ -608,11 +608,13 @@ class NodeCase(ShardCase):
         """As much of a node as a handover needs, which keeps what it posts."""
         node = types.SimpleNamespace(name="a", store=self.store, ledger=self.ledger, sides=sides, posted=[], vouched=[])
         node.caught_up, node.judges, node.repairs = True, self.judges, judge.Room(10_000_000)
+        node.unattested = set[bytes]()
         node.peers = types.SimpleNamespace(seats=lambda owners, faults: self.seats)
         node.port = types.SimpleNamespace(shape=client.Shape(1))
 
-        async def vouch(kind: str, filled: shard.Shard, request: bytes) -> None:
+        async def vouch(kind: str, filled: shard.Shard, request: bytes) -> list[bytes]:
             node.vouched.append(request[1:33])
+            return [answer(13, 1)]
 
         async def post(key: str) -> None:
             node.posted.append(key)

@@ -8,7 +8,7 @@ from .. import client
 
 from .follower import Refused
 from .ledger import ACK, ADDRESS, ATTEST, PAST, entry_key
-from .recovery import Lack, by_lanes, passing, settle
+from .recovery import Lack, attest, by_lanes, passing, settle
 
 if TYPE_CHECKING:
     from .node import Node
@@ -50,7 +50,7 @@ async def heal(node: "Node") -> None:
     what they lacked for some time. Gives the node's word for what it was late with."""
     await node.until(lambda _: node.caught_up, None)
     clock, pause, lost = asyncio.get_running_loop().time, 0.0, None  # type: Any, float, Optional[int]
-    lacked, late = dict[int, dict[bytes, bool]](), list[bytes]()
+    lacked, late = dict[int, dict[bytes, bool]](), set[bytes]()
     while True:
         async with passing(node.name, "what is lacking is recovered later", LATEST):
             begun = clock()
@@ -62,8 +62,8 @@ async def heal(node: "Node") -> None:
             for epoch, blobs in lacks.items():
                 await settle(node, epoch, [it for it, said in blobs.items() if said or it in lacked.get(epoch, ())])
             recovered = lacks.get(node.ledger.writing_epoch, {})
-            await acknowledge(node, [*recovered, *(it for it in late if it in unsaid)])
-            lacked, late = lacks, unsaid
+            await acknowledge(node, dict.fromkeys([*recovered, *late.intersection(unsaid), *node.unattested]))
+            lacked, late = lacks, {*unsaid}
             gc.collect()  # connections whose handshake did not come, which Python would keep for long
             await asyncio.sleep(max(pause if urgent else node.settings.heal, 20 * taken))
             pause = min(max(2 * pause, SOON), LATEST) if urgent else 0.0
@@ -86,14 +86,21 @@ def tell_lost(node: "Node", vouched: list[bytes], lost: Optional[int], urgent: b
 
 
 async def acknowledge(node: "Node", identifiers: Iterable[bytes]) -> None:
-    """Posts the node's word for what all its shards of the writing committee hold, where it has not done so."""
+    """Posts the node's word for what all its shards of the writing committee hold, or for a proof that all of them hold
+    in its place, where it has not done so."""
     ledger, side = node.ledger, node.sides.get(node.ledger.writing_epoch, {})
 
     async def vouch(lack: Lack) -> None:
         shard, identifier = lack
+        node.unattested.discard(identifier)
         live = identifier in ledger.blobs and ledger.blobs[identifier].until > shard.epoch
-        if live and not ledger.voted(ACK, identifier, node.name) and shard.vouches(ACK, identifier):
+        kinds = [it for it in (ACK, ATTEST) if live and all(own.vouches(it, identifier) for own in side.values())]
+        if not kinds or ledger.voted(kinds[0], identifier, node.name):
+            return
+        if kinds[0] == ACK:
             await node.vouch(ACK, shard, client.write_frame(client.Ack(identifier)))
+        else:
+            await attest(node, shard, identifier)
 
     await by_lanes(node, [Lack(shard, it) for shard in [*side.values()][:1] for it in identifiers], vouch)
 

@@ -61,6 +61,7 @@ class Node(View):
         self.numbers: Any = None  # what tells Prometheus
         self.turned: object = None  # the committees whose shards go on here
         self.wrong: "asyncio.Queue[bytes]" = asyncio.Queue()  # blobs of which something went wrong on the disk
+        self.unattested = set[bytes]()  # blobs with a proof here that the ledger was away to hear of
 
     async def open(self) -> int:
         """Takes what the disk has, catches up with the ledger, and listens; the port."""

@@ -16,13 +16,14 @@ from .groups import several
 from .judge import Busy, Clash, name_of
 from .ledger import ACK, ATTEST
 from .peers import Seat
-from .shard import LAST, Shard
+from .shard import LAST, Shard, pages
 
 if TYPE_CHECKING:
     from .node import Node
 
+FRONT = 40  # bytes of a sliver before its symbols
 LANES, SEATS = 8, 256  # blobs that are recovered at once as far as memory goes, and connections for all of these
-PAGE = 10_000  # blobs of which it is asked at once what is held
+PAGE = 1_000  # blobs that are looked at before others have a turn
 Lack = NamedTuple("Lack", [("shard", Shard), ("identifier", bytes)])  # a blob for which a shard is not settled
 
 
@@ -91,6 +92,7 @@ async def by_lanes(node: "Node", lacks: Iterable[Lack], step: Callable[[Lack], A
     """Takes a step for each blob, several at once. What fails comes again."""
 
     async def take(lack: Lack) -> None:
+        await asyncio.sleep(0)  # others have a turn, as no step of many may have to wait for anything
         try:
             async with passing(lack.shard.title, lack.identifier.hex()):
                 await step(lack)
@@ -106,36 +108,61 @@ async def by_lanes(node: "Node", lacks: Iterable[Lack], step: Callable[[Lack], A
 async def settle(node: "Node", epoch: int, owed: Iterable[bytes]) -> int:
     """Fills the node's shards of an epoch with what they owe, certified blobs first, and of these large ones, several
     at once; how many they lack still."""
-    owed, work, sizes = sorted(owed), list[Lack](), dict[Lack, int]()
-    for shard in node.sides.get(epoch, {}).values():
-        for place in range(0, len(owed), PAGE):
-            some = owed[place : place + PAGE]  # noqa: E203
+    losses = node.store.losses
+    certified, others = await lacking(node, epoch, sorted(owed))
+    left = await recover_all(node, epoch, certified, others) if certified or others else 0
+    kept = await node.store.durable() and node.store.losses == losses
+    return left if kept else max(1, left)  # the disk has lost something that was there when it was looked at
+
+
+async def lacking(node: "Node", epoch: int, owed: Sequence[bytes]) -> tuple[list[Lack], list[Lack]]:
+    """What the node's shards of an epoch want, of certified blobs and of others. These are in order, and looked at page
+    by page."""
+    shards, certified, others = [*node.sides.get(epoch, {}).values()], list[Lack](), list[Lack]()
+    for place in range(0, len(owed), PAGE):
+        some = owed[place : place + PAGE]  # noqa: E203
+        for shard in shards:
             held = await node.store.settled(shard.holding, epoch, some[0], some[-1])
-            work += [Lack(shard, it) for it in some if it not in held and not shard.settled(it)]
-    if not work:
-        return 0 if await node.store.durable() else len(owed)
+            for it in some:
+                if it not in held and shard.wants(it):
+                    (certified if node.ledger.certificate(it) else others).append(Lack(shard, it))
+    return certified, others
+
+
+async def recover_all(node: "Node", epoch: int, certified: list[Lack], others: list[Lack]) -> int:
+    """Recovers what shards of an epoch lack; how many are lacking still."""
+    work, sizes = certified + others, dict[Lack, int]()
     if not work[0].shard.free_pages(LAST):  # what comes could not be kept
-        node.port.tell(f"{node.name}: the disk has no room for what is lacking (network/OPERATING.md)", "room")
+        tell_full(node)
         return len(work)
-    later = {it.identifier for it in work if not node.ledger.certificate(it.identifier)}
     node.progress = progress = Progress(epoch, len(work))
 
     async def measure(lack: Lack) -> None:
-        if metadata := await find_metadata(node, *lack):
+        if lack.shard.wants(lack.identifier) and (metadata := await find_metadata(node, *lack)):
             sizes[lack] = sum(node.port.shape.symbols) * node.port.shape.symbol_of(metadata)
             progress.of_bytes += sizes[lack]
 
     async def recover(lack: Lack) -> None:
         async with node.store.alone(lack.shard.holding, lack.identifier, "recover"):  # others may lack it too
-            if not lack.shard.settled(lack.identifier):
+            if lack.shard.wants(lack.identifier):
                 await fill(node, *lack)
         if lack.shard.settled(lack.identifier):
             progress.blobs, progress.bytes = progress.blobs + 1, progress.bytes + sizes.get(lack, 0)
 
-    await by_lanes(node, sorted(work, key=lambda it: it.identifier in later), measure)
-    await by_lanes(node, sorted(work, key=lambda it: (it.identifier in later, -sizes.get(it, 0))), recover)
-    left = sum(not shard.settled(it) for shard, it in work)  # what the disk lost meanwhile, too
-    return left if await node.store.durable() else len(work)
+    await by_lanes(node, work, measure)
+    for some in (certified, others):
+        some.sort(key=lambda it: sizes.get(it, 0), reverse=True)
+    await by_lanes(node, certified + others, recover)
+    left = 0
+    for place in range(0, len(work), PAGE):
+        left += sum(not shard.settled(it) for shard, it in work[place : place + PAGE])  # noqa: E203
+        await asyncio.sleep(0)
+    return left  # with what the disk lost meanwhile
+
+
+def tell_full(node: "Node") -> None:
+    """Says that there is no room for what would be recovered."""
+    node.port.tell(f"{node.name}: the disk has no room for what is lacking (network/OPERATING.md)", "room")
 
 
 def sides(node: "Node") -> list[Sequence[Seat]]:
@@ -186,8 +213,12 @@ async def fill(node: "Node", shard: Shard, identifier: bytes) -> None:
     targets = {PRIMARY: client.Symbol(identifier, 0, own), SECONDARY: client.Symbol(identifier, 1, crossing)}
     lacks = {*targets} & {*shard.lacks(identifier)}
     counts = [shape.symbols[it - PRIMARY] for it in lacks]  # of symbols that come, and of which a sliver is made
-    size = (sum(counts) + max(counts, default=0)) * (shape.symbol_of(metadata) + 1_024)
+    symbol = shape.symbol_of(metadata)
+    size = (sum(counts) + max(counts, default=0)) * (symbol + 1_024)
     async with node.repairs.take(size, None):
+        if pages(FRONT + count * symbol for count in counts) > shard.free_pages(LAST):  # it would come for nothing
+            tell_full(node)
+            return
         for side in rounds(node, own):
             wanted = {part: client.write_frame(targets[part]) for part in lacks & {*shard.lacks(identifier)}}
             others = [Once(it, wanted.values()) for it in side]
@@ -205,4 +236,11 @@ async def fill(node: "Node", shard: Shard, identifier: bytes) -> None:
             for it in others:
                 it.seat.late = it.late if it.asked else it.seat.late
     if shard.vouches(ATTEST, identifier) and not shard.vouches(ACK, identifier):
-        await node.vouch(ATTEST, shard, frames.write_frame(frames.Attest(identifier)))
+        await attest(node, shard, identifier)
+
+
+async def attest(node: "Node", shard: Shard, identifier: bytes) -> None:
+    """Has the node attest a proof. If the ledger is away, `heal` has it do so later."""
+    said = await node.vouch(ATTEST, shard, frames.write_frame(frames.Attest(identifier)))
+    if code_of(said) == client.LEDGER_AWAY[0]:
+        node.unattested.add(identifier)

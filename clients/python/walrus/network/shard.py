@@ -28,9 +28,9 @@ Parts = Mapping[int, Data]
 Writing = Optional[asyncio.Task[dict[int, str]]]  # long parts that come to files, and the names that nobody has taken
 
 
-def pages(parts: Iterable[Data]) -> int:
-    """The pages of a disk that parts take, at most."""
-    return sum(len(it) // 4096 + 1 for it in parts)
+def pages(sizes: Iterable[int]) -> int:
+    """The pages of a disk that parts of so many bytes take, at most."""
+    return sum(it // 4096 + 1 for it in sizes)
 
 
 class Past(ConnectionError):
@@ -90,6 +90,13 @@ class Shard:
         """The parts by which the shard would be settled."""
         sizes = self.store.sizes(self.holding, self.epoch, identifier)
         return [part for part in (METADATA, PRIMARY, SECONDARY) if part not in sizes and PROOF not in sizes]
+
+    def wants(self, identifier: bytes) -> bool:
+        """Whether the shard lacks parts of a blob that it may store. Once another committee is written, it takes none
+        but in place of wrong ones."""
+        if self.epoch != self.ledger.writing_epoch and not self.store.wrong(self.holding, identifier):
+            return False
+        return not self.settled(identifier)
 
     def must_serve(self) -> None:
         """Raises where its committee is none any more: of what was judged meanwhile nothing is told or kept."""
@@ -164,7 +171,7 @@ class Shard:
                 return [answer(DECLINED)]
             judged = await self.sure(identifier, payload)
             parts = {part: payload} if code_of(judged.replies[0]) == client.DONE else {}
-            fits = pages(parts.values()) <= self.free_pages(LAST if mends or part == PROOF else 1.0)
+            fits = pages(map(len, parts.values())) <= self.free_pages(LAST if mends or part == PROOF else 1.0)
             async with self.written(identifier, parts if fits else {}) as files:
                 return await self.keep(identifier, judged, parts if fits else None, files)
 
@@ -177,7 +184,8 @@ class Shard:
                 return [answer(DECLINED)]  # the next committee has begun with what was held then
             if self.store.sizes(self.holding, self.epoch, identifier) or self.store.wrong(self.holding, identifier):
                 return []
-            told, fits = entries_of(self.ledger, self.epoch, identifier), pages(requests) <= self.free_pages()
+            told = entries_of(self.ledger, self.epoch, identifier)
+            fits = pages(map(len, requests)) <= self.free_pages()
             async with self.written(identifier, parts if told and fits else {}) as files:
                 words = self.judges.engine, self.ledger.faults, self.number, told
                 judged = await self.ask(requests, 0, whole.judge, *words)
@@ -235,7 +243,7 @@ class Shard:
             if fault.errno not in WANTING:
                 raise
             self.store.tell(fault)
-        return [answer(FULL, pages(judged.requests), self.free_pages())]
+        return [answer(FULL, pages(map(len, judged.requests)), self.free_pages())]
 
     async def forget(self, request: bytes) -> list[bytes]:
         """Lets the slivers of an invalid blob go."""
