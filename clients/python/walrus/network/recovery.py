@@ -116,8 +116,8 @@ async def settle(node: "Node", epoch: int, owed: Iterable[bytes]) -> int:
 
 
 async def lacking(node: "Node", epoch: int, owed: Sequence[bytes]) -> tuple[list[Lack], list[Lack]]:
-    """What the node's shards of an epoch want, of certified blobs and of others. These are in order, and looked at page
-    by page."""
+    """What the node's shards of an epoch want of these blobs, which are in order: of certified ones, and of others. It
+    is found page by page, so that it holds up nobody else."""
     shards, certified, others = [*node.sides.get(epoch, {}).values()], list[Lack](), list[Lack]()
     for place in range(0, len(owed), PAGE):
         some = owed[place : place + PAGE]  # noqa: E203
