@@ -1012,6 +1012,7 @@ class Committees(NodeCase):
         self.store.forget(later.holding, 1, name)
         self.assertEqual([it.vouches("ack", name) for it in (self.shard, later)], [True, False])
         self.store.turn(1)
+        self.assertEqual([self.store.sweep() for _ in range(2)], [True, False])
         self.assertTrue(self.store.flush())
         self.assertEqual(self.store.counts()["blobs"], 1)
         [(left,)] = self.store.base.execute("SELECT count(*) FROM contents")

@@ -7,6 +7,8 @@ import sqlite3
 import sys
 from typing import Callable, Optional
 
+from .notify import extending
+
 
 class Database:
     """A database, or one of this object alone where no path is named."""
@@ -29,8 +31,10 @@ class Database:
         """Finds the tables, or makes them."""
 
     def must_be_whole(self) -> None:
-        """Raises where pages are not as they were written."""
-        if self.base.execute("PRAGMA quick_check(1)").fetchone() != ("ok",):
+        """Raises where pages are not as they were written. All of them are read, with the contents that they have."""
+        with extending():
+            found = self.base.execute("PRAGMA quick_check(1)").fetchone()
+        if found != ("ok",):
             raise sqlite3.DatabaseError("its pages do not fit together")
 
     def tell(self, fault: Exception) -> None:

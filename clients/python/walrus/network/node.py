@@ -198,8 +198,8 @@ class Node(View):
         return [answer(DECLINED)]  # entries are posted to the ledger, and not to a node
 
     async def vouch(self, kind: str, shard: Shard, request: bytes) -> list[bytes]:
-        """Posts the node's word once its shard would give it, by the judge, and all others of it hold as much; says
-        what the ledger made of it."""
+        """Posts the node's word once its shard would give it, by the judge, and all others of it hold as much, unless
+        the ledger has it; says what the ledger made of it."""
         ledger, identifier, losses = self.ledger, request[1:33], self.store.losses
         said = await shard.answer(request)
         if code_of(said) not in (COUNTED, COUNTED + 1):
@@ -209,19 +209,20 @@ class Node(View):
         if not await self.store.durable() or self.store.losses != losses:
             return [answer(FULL)]
         voted = functools.partial(ledger.voted, kind, identifier, self.name)
-        if not self.port.give_way():
-            return [answer(*client.LEDGER_AWAY)]  # many wait for it already
-        try:
-            await self.recorders.post(entry_key(self.name, kind, shard.epoch, identifier.hex()))
-            if not await self.until(lambda _: voted() or ledger.writing_epoch != shard.epoch, 20):
-                raise Unreachable("the ledger did not show the entry in time")
-        except Unreachable as fault:
-            self.port.tell(f"{self.name}: a word waits for the ledger: {fault}", "ledger")
-            return [answer(*client.LEDGER_AWAY)]
-        except Refused:  # the ledger is further than this node has heard: the blob or the epoch is over
-            return [answer(DECLINED)]
         if not voted():
-            return [answer(DECLINED)]  # the epoch is another one meanwhile
+            if not self.port.give_way():
+                return [answer(*client.LEDGER_AWAY)]  # many wait for it already
+            try:
+                await self.recorders.post(entry_key(self.name, kind, shard.epoch, identifier.hex()))
+                if not await self.until(lambda _: voted() or ledger.writing_epoch != shard.epoch, 20):
+                    raise Unreachable("the ledger did not show the entry in time")
+            except Unreachable as fault:
+                self.port.tell(f"{self.name}: a word waits for the ledger: {fault}", "ledger")
+                return [answer(*client.LEDGER_AWAY)]
+            except Refused:  # it was said meanwhile, or the ledger is further than this node has heard
+                pass
+        if not voted():
+            return [answer(DECLINED)]  # the blob is over, or the epoch is another one meanwhile
         count = len(ledger.blobs[identifier].votes[kind][ledger.writing_epoch])
         return [answer(COUNTED + (count >= ledger.quorum), count)]
 

@@ -3,6 +3,10 @@ import asyncio
 import contextlib
 import os
 import socket
+import threading
+from typing import Iterator
+
+EACH, MORE = 20.0, 300  # seconds: until more time is asked for again; what is left of a start from then on, at least
 
 
 def notify(text: str) -> None:
@@ -26,6 +30,26 @@ def beat() -> None:
     if microseconds:
         alive()
         asyncio.get_running_loop().call_later(microseconds / 3e6, beat)
+
+
+@contextlib.contextmanager
+def extending() -> Iterator[None]:
+    """Has a start take longer than its unit allows, by a thread, as what is done here lets the event loop stand still
+    for longer than anybody can say."""
+    over = threading.Event()
+
+    def extend() -> None:
+        while not over.wait(EACH):
+            with contextlib.suppress(OSError):
+                notify(f"EXTEND_TIMEOUT_USEC={MORE * 1_000_000}")
+
+    thread = threading.Thread(target=extend, name="extend", daemon=True)
+    thread.start()
+    try:
+        yield
+    finally:
+        over.set()
+        thread.join()
 
 
 def ready(text: str) -> None:

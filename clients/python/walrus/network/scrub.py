@@ -20,6 +20,7 @@ if TYPE_CHECKING:
 DAY, PAUSE, LOOKED = 86_400.0, 2.0, 60.0  # seconds: until what failed is tried again; until the clock is looked at
 AT_ONCE = 500  # blobs that expire in one step
 LEAST = 65_536  # bytes that a blob counts with at least, as anybody may have many small ones judged all the time
+TRIES = 30  # of a blob, such as for want of memory or of a descriptor, until it is passed over
 
 
 @dataclasses.dataclass
@@ -42,6 +43,7 @@ class Scrub:
 
     def __init__(self, node: "Node"):
         self.node, self.now, self.left = node, asyncio.Event(), asyncio.Event()
+        self.tries = 0  # of the blob behind where it stands
         told = node.store.state("scrub")
         self.figures: Figures = Figures(**json.loads(told)) if told else Figures(ended=time.time())
         if not told:
@@ -70,7 +72,8 @@ class Scrub:
                 await self.scrub()
 
     async def scrub(self) -> None:
-        """Judges all that is held, from where the scrub stands."""
+        """Judges all that is held, from where the scrub stands. It goes on behind a blob once that is judged, so that
+        one which fails is tried again, and is passed over only if it fails so often that others would wait for long."""
         figures, store = self.figures, self.node.store
         if not figures.running:
             self.figures = figures = Figures(True, begun=time.time(), ended=figures.ended)
@@ -79,20 +82,24 @@ class Scrub:
         while following := store.next(*place):
             place, begun = following, time.monotonic()
             (holding, identifier), sides = place, self.node.sides.values()
-            figures.holding, figures.after = holding, identifier.hex()
             shards = [it for side in sides for it in side.values() if it.holding == holding]
             if not shards:
                 place = holding, LAST  # what a shard held that is here no more is swept, and not read
             elif self.node.caught_up and identifier not in self.node.ledger.blobs:
                 store.expire([identifier])  # its row in the ledger was lost before it was dropped
                 await store.durable()
+            elif self.tries == TRIES:
+                told = f"the scrub passes over {identifier.hex()}, whose check failed {TRIES} times"
+                print(f"{self.node.name}: {told}", file=sys.stderr, flush=True)
             else:
+                self.tries += 1
                 size, fine = await max(shards, key=lambda it: it.epoch).check(identifier)
                 figures.blobs, figures.bytes = figures.blobs + 1, figures.bytes + size
                 figures.wrong += not fine
                 due = begun + max(size, LEAST) / self.node.settings.scrub_rate
                 await asyncio.sleep(due - time.monotonic())
-                self.note()
+            self.tries, figures.holding, figures.after = 0, holding, identifier.hex()
+            self.note()
         await self.sweep()
         figures.running, figures.ended, figures.holding, figures.after = False, time.time(), 0, ""
         self.note()
@@ -128,6 +135,6 @@ class Scrub:
             return len([*store.files.strays(lambda name: base.execute(words, (name,)).fetchone() is not None)])
 
         self.figures.swept += await store.asked(sweep_files)
-        with contextlib.suppress(sqlite3.OperationalError):
-            while store.sweep():
-                await store.durable()
+        while store.sweep():
+            if not await store.durable():
+                raise OSError("the disk does not take that parts go")

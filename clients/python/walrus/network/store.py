@@ -157,7 +157,8 @@ class Store(Staged):
         """Stages that a shard lets the slivers of a blob go, which that of the epoch before may still hold."""
         slivers = f"holding = ? AND identifier = ? AND part IN ({PRIMARY}, {SECONDARY})"
         earlier = "epoch < ? AND (SELECT count(*) FROM sides WHERE sides.holding = held.holding) > 1"
-        self.stage(f"UPDATE held SET gone = ? WHERE {slivers} AND {earlier}", epoch, holding, identifier, epoch)
+        words = f"UPDATE held SET gone = ? WHERE {slivers} AND {earlier} AND (gone IS NULL OR gone > ?)"
+        self.stage(words, epoch, holding, identifier, epoch, epoch)
         self.drop(f"{slivers} AND gone IS NULL", holding, identifier)
 
     def drop(self, where: str, *values: object) -> list[int]:
@@ -169,9 +170,9 @@ class Store(Staged):
         return [epoch for epoch, _ in rows]
 
     def turn(self, epoch: int) -> None:
-        """Stages that the committees before an epoch hold nothing more; what was theirs alone goes by and by."""
+        """Stages that the committees before an epoch hold nothing more; what was theirs alone goes by and by, as it may
+        be a lot: no later committee sees it."""
         self.stage("DELETE FROM sides WHERE epoch < ?", epoch)
-        self.drop("gone <= ?", epoch)
 
     def expire(self, expired: Sequence[bytes], before: float = float("inf")) -> None:
         """Stages that nothing is held any more of some blobs that was held before an epoch."""
@@ -179,14 +180,19 @@ class Store(Staged):
             self.drop("holding IN (SELECT holding FROM sides) AND identifier = ? AND epoch < ?", identifier, before)
 
     def sweep(self) -> bool:
-        """Stages that some parts go whose shard is no longer here; whether there are such."""
+        """Stages that some parts go that every committee here has let go, or else whose shard is no longer here;
+        whether there are such."""
+        words = "SELECT holding, identifier, part, epoch FROM held WHERE gone <= (SELECT min(epoch) FROM sides) LIMIT ?"
+        gone = self.base.execute(words, (BATCH,)).fetchall()
+        for it in gone:
+            self.drop("holding = ? AND identifier = ? AND part = ? AND epoch = ?", *it)
         words = "SELECT holding FROM holdings WHERE holding NOT IN (SELECT holding FROM sides)"
-        row = self.base.execute(words).fetchone()
+        row = None if gone else self.base.execute(words).fetchone()
         if row:
             some = f"SELECT DISTINCT identifier FROM held WHERE holding = ? LIMIT {BATCH}"
             if not self.drop(f"holding = ? AND identifier IN ({some})", row[0], row[0]):
                 self.stage("DELETE FROM holdings WHERE holding = ?", row[0])
-        return bool(row)
+        return bool(gone or row)
 
     def state(self, name: str, value: Optional[str] = None) -> str:
         """What a name stands for; staged, where it is to stand for something else."""

@@ -1,0 +1,223 @@
+"""What a node does beside its answers, where it takes long or the disk fails: it checks pages, sweeps and scrubs. And
+its word, which it says once."""
+import asyncio
+import contextlib
+import io
+import os
+import pathlib
+import socket
+import sqlite3
+import tempfile
+import threading
+import types
+import unittest
+from typing import Any
+from unittest import mock
+
+import harness  # noqa: F401  # which says where walrus is
+from ledger_case import FOUNDED, registration
+from walrus import client
+from walrus.frames import METADATA, PRIMARY, SECONDARY, answer, code_of
+from walrus.network import notify, scrub, store
+from walrus.network.database import Database
+from walrus.network.entries import ACK, Entry
+from walrus.network.follower import Refused
+from walrus.network.judge import Busy
+from walrus.network.ledger import Ledger
+from walrus.network.node import Node
+from walrus.network.scrub import Scrub
+from walrus.network.shard import DECLINED
+from walrus.network.store import Store
+
+NAMES = [bytes([number]) * 32 for number in range(10)]
+
+
+class Start(unittest.TestCase):
+    def test_a_start_has_more_time_for_as_long_as_pages_are_checked(self) -> None:
+        """Else the service manager ends it in the midst of them, and the next start too, where there are many."""
+        heard, database = list[bytes](), Database("")
+        self.addCleanup(database.close)
+        with tempfile.TemporaryDirectory() as folder, socket.socket(socket.AF_UNIX, socket.SOCK_DGRAM) as manager:
+            manager.bind(f"{folder}/notify")
+            manager.settimeout(30)
+
+            def execute(words: str) -> Any:
+                heard.extend(manager.recv(99) for _ in range(2))
+                return mock.Mock(fetchone=lambda: ("ok",))
+
+            self.enterContext(mock.patch.dict(os.environ, {"NOTIFY_SOCKET": f"{folder}/notify"}))
+            self.enterContext(mock.patch.object(notify, "EACH", 0.01))
+            with mock.patch.object(database, "base", mock.Mock(execute=execute)):
+                database.must_be_whole()
+        self.assertEqual(heard, [b"EXTEND_TIMEOUT_USEC=300000000"] * 2)
+        self.assertNotIn("extend", [it.name for it in threading.enumerate()])
+
+
+class DiskCase(unittest.IsolatedAsyncioTestCase):
+    """A disk with some blobs of one shard, and what goes over it."""
+
+    async def asyncSetUp(self) -> None:
+        asyncio.get_running_loop().set_debug(False)
+        self.said = self.enterContext(contextlib.redirect_stderr(io.StringIO()))
+        folder = self.enterContext(tempfile.TemporaryDirectory(prefix="walrus-chores-"))
+        self.store = Store(pathlib.Path(folder) / "a.db")
+        self.addCleanup(self.store.close)
+        self.store.begin(0, 0)
+        for name in NAMES:
+            for part in (METADATA, PRIMARY, SECONDARY):
+                self.store.put(1, 0, name, part, b"content", None)
+        blobs = types.SimpleNamespace(over=lambda count: [])
+        self.node: Any = types.SimpleNamespace(name="a", store=self.store, sides={}, caught_up=False)
+        self.node.ledger, self.node.settings = types.SimpleNamespace(blobs=blobs), mock.Mock(scrub=0, scrub_rate=10**9)
+        self.enterContext(mock.patch.object(scrub, "PAUSE", 0.05))
+        self.scrub = Scrub(self.node)
+
+    def held(self) -> int:
+        """How many parts there are on the disk."""
+        [(held, contents)] = self.store.base.execute("SELECT (SELECT count(*) FROM held), count(*) FROM contents")
+        self.assertEqual(held, contents)
+        return int(held)
+
+    async def until(self, holds: Any) -> None:
+        async with asyncio.timeout(30):
+            while not holds():
+                await asyncio.sleep(0.005)
+
+    def begin(self, work: Any) -> None:
+        task = asyncio.create_task(work)
+
+        async def end() -> None:
+            task.cancel()
+            await asyncio.gather(task, return_exceptions=True)
+
+        self.addAsyncCleanup(end)
+
+
+class Sweeps(DiskCase):
+    async def test_what_a_move_let_go_goes_step_by_step_behind_its_turn_and_nobody_sees_it(self) -> None:
+        """Else who has many badly encoded blobs has all nodes stand still together."""
+        self.store.begin(1, 0)
+        for name in NAMES[1:]:
+            self.store.forget(1, 1, name)
+        with mock.patch.object(store, "BATCH", 4):
+            self.assertFalse(self.store.sweep())  # as the committee of now has it still
+            self.assertEqual([len(self.store.sizes(1, epoch, NAMES[1])) for epoch in (0, 1)], [3, 1])
+            self.store.turn(1)
+            self.assertEqual(self.held(), 30)
+            self.store.begin(2, 0)
+            self.store.forget(1, 2, NAMES[1])  # anew, before it is swept
+            self.assertEqual([len(self.store.sizes(1, epoch, NAMES[1])) for epoch in (1, 2)], [1, 1])
+            self.store.put(1, 2, NAMES[2], PRIMARY, b"anew", None)
+            left = list[int]()
+            while self.store.sweep():
+                left.append(self.held())
+        self.assertEqual(left, [27, 23, 19, 15, 13])
+        self.assertEqual([len(self.store.sizes(1, 2, name)) for name in NAMES], [3, 1, 2] + [1] * 7)
+
+    async def test_what_a_full_disk_does_not_take_is_swept_later(self) -> None:
+        self.store.turn(1)  # by which the shard is here no more
+        stage, full = self.store.stage, [sqlite3.OperationalError("database or disk is full")]
+
+        def staged(words: str, *values: object) -> sqlite3.Cursor:
+            if words.startswith("DELETE") and full:
+                raise full.pop()
+            return stage(words, *values)
+
+        with mock.patch.object(self.store, "stage", staged):
+            self.begin(self.scrub.sweep_always())
+            await self.until(lambda: not self.held())
+
+    async def test_a_sweep_that_is_not_committed_waits_before_it_is_tried_again(self) -> None:
+        """Else it deletes the same over and over, and each time what others have staged is lost with it."""
+        self.store.turn(1)
+        self.assertTrue(await self.store.durable())
+        base = self.store.base
+
+        def execute(words: str, *values: Any) -> sqlite3.Cursor:
+            if words == "COMMIT":
+                raise sqlite3.OperationalError("database or disk is full")
+            return base.execute(words, *values)
+
+        refusing = types.SimpleNamespace(execute=execute, in_transaction=True)
+        swept = mock.Mock(side_effect=self.store.sweep)
+        with mock.patch.object(scrub, "PAUSE", 0.2), mock.patch.object(self.store, "sweep", swept):
+            with mock.patch.object(self.store, "base", refusing):
+                self.begin(self.scrub.sweep_always())
+                await asyncio.sleep(0.5)
+            self.assertIn(swept.call_count, (1, 2, 3))
+            await self.until(lambda: not self.held())
+
+
+class Scrubs(DiskCase):
+    async def scrubbed(self, fails: int) -> list[bytes]:
+        """The blobs that a scrub has checked, of which the second one fails so often."""
+        found = list[bytes]()
+
+        async def check(identifier: bytes) -> tuple[int, bool]:
+            if identifier == NAMES[1] and self.tried < fails:
+                self.tried += 1
+                raise Busy("9 of 9 bytes are taken")
+            found.append(identifier)
+            return 21, True
+
+        self.tried, self.node.sides = 0, {0: {0: types.SimpleNamespace(holding=1, epoch=0, check=check)}}
+        self.enterContext(mock.patch.object(scrub, "PAUSE", 0.001))
+        self.scrub.now.set()
+        self.begin(self.scrub.run())
+        await self.until(lambda: self.scrub.figures.begun and not self.scrub.figures.running)
+        return found
+
+    async def test_a_blob_whose_check_fails_is_checked_again(self) -> None:
+        self.assertEqual((await self.scrubbed(2), self.scrub.figures.blobs), (NAMES, 10))
+        self.assertNotIn("passes over", self.said.getvalue())
+
+    async def test_a_blob_whose_check_always_fails_is_named_and_holds_up_no_other(self) -> None:
+        self.assertEqual((await self.scrubbed(10**9), self.scrub.figures.blobs), ([NAMES[0], *NAMES[2:]], 9))
+        self.assertEqual(self.tried, scrub.TRIES)
+        self.assertIn(f"the scrub passes over {NAMES[1].hex()}", self.said.getvalue())
+
+
+class Words(unittest.IsolatedAsyncioTestCase):
+    async def asyncSetUp(self) -> None:
+        asyncio.get_running_loop().set_debug(False)
+        self.ledger, self.name = Ledger(), (1).to_bytes(32, "big")
+        self.enter(FOUNDED)
+        self.enter(registration("x", 1))
+        self.posted, self.waits = mock.AsyncMock(side_effect=Refused("it was said before")), True
+        self.node: Any = types.SimpleNamespace(name="node-0", ledger=self.ledger, until=mock.AsyncMock())
+        self.node.store = mock.Mock(losses=0, durable=mock.AsyncMock(return_value=True))
+        self.node.port, self.node.sides = mock.Mock(give_way=lambda: self.waits), {}
+        self.node.recorders = types.SimpleNamespace(post=self.posted)
+
+    def enter(self, text: str) -> None:
+        self.assertTrue(self.ledger.apply(Entry(self.ledger.revision + 1, text)))
+
+    def say(self, name: str) -> None:
+        self.enter(f"{name}/ack/0/{self.name.hex()}")
+
+    async def vouched(self) -> list[bytes]:
+        shard: Any = types.SimpleNamespace(epoch=0, answer=mock.AsyncMock(return_value=[answer(13, 1)]))
+        return await Node.vouch(self.node, ACK, shard, client.write_frame(client.Ack(self.name)))
+
+    async def test_who_asks_for_a_word_that_the_ledger_has_hears_it_and_nothing_is_posted(self) -> None:
+        self.waits = False
+        self.say("node-0")
+        self.assertEqual(await self.vouched(), [answer(13, 1)])
+        self.say("node-1")
+        self.say("node-2")
+        self.assertEqual(await self.vouched(), [answer(14, 3)])
+        self.posted.assert_not_awaited()
+
+    async def test_a_word_that_is_refused_as_the_ledger_has_it_meanwhile_is_said(self) -> None:
+        self.assertEqual(code_of(await self.vouched()), DECLINED)
+
+        async def post(text: str) -> None:
+            self.say("node-0")
+            raise Refused("it was said before")
+
+        self.node.recorders.post = post
+        self.assertEqual(await self.vouched(), [answer(13, 1)])
+
+
+if __name__ == "__main__":
+    unittest.main()
