@@ -66,11 +66,9 @@ class DiskCase(unittest.IsolatedAsyncioTestCase):
         for name in NAMES:
             for part in (METADATA, PRIMARY, SECONDARY):
                 self.store.put(1, 0, name, part, b"content", None)
-        blobs = types.SimpleNamespace(over=lambda count: [])
         self.node: Any = types.SimpleNamespace(name="a", store=self.store, sides={}, caught_up=False)
-        self.node.ledger, self.node.settings = types.SimpleNamespace(blobs=blobs), mock.Mock(
-            scrub=0, scrub_rate=10**9
-        )
+        self.node.ledger = types.SimpleNamespace(blobs=types.SimpleNamespace(over=lambda count: []))
+        self.node.settings = types.SimpleNamespace(scrub=0, scrub_rate=10**9)
         self.enterContext(mock.patch.object(scrub, "PAUSE", 0.05))
         self.scrub = Scrub(self.node)
 
