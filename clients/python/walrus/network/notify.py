@@ -34,8 +34,8 @@ def beat() -> None:
 
 @contextlib.contextmanager
 def extending() -> Iterator[None]:
-    """Has a start take longer than its unit allows, by a thread, as what is done here lets the event loop stand still
-    for longer than anybody can say."""
+    """Lets a start take longer than its unit says, for as long as this runs. A thread asks for that, as the event loop
+    stands still meanwhile."""
     over = threading.Event()
 
     def extend() -> None:
